@@ -1,0 +1,5 @@
+pub mod Numbers
+pub mod Runs
+pub mod Keeping
+pub mod Steps
+pub mod Readings

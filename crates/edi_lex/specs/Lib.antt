@@ -1,0 +1,11 @@
+pub mod Bytes
+pub mod Words
+pub mod Specials
+pub mod Spelling
+pub mod Order
+pub mod Symbols
+pub mod Turns
+pub mod Sound
+pub mod Machine
+pub mod Reading
+pub mod Rows

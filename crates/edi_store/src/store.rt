@@ -1,0 +1,104 @@
+//! The memory of the machine.
+
+ghost use Rattle.std.specs.Prelude.{◌≡◌, ◌+◌, ◌≤◌, ◌↔◌, IfOk, IsTrue, slice_index, slice_set};
+ghost use Rattle.edi_store.specs.Memory.{
+  IsMemory,
+  zero_words,
+  zero_memory,
+  words_at,
+  copied,
+  cleared,
+};
+
+use std::alloc::{AllocError, Global};
+use std::marker::Model;
+
+/// How many words the memory has.
+pub const MEMORY_WORDS: u32 = 65_536;
+
+/// The memory of the machine: `MEMORY_WORDS` words, which contracts see as a list. It takes all its memory when it is
+/// made.
+#[derive(Drop)]
+pub struct Store {
+    words: Vec<u16>,
+}
+
+impl Model for Store {
+    ghost use Rattle.std.specs.Prelude.{ℕ, List};
+    ghost use Rattle.edi_store.specs.Memory.{IsMemory};
+
+    ghost Value = { List ℕ };
+
+    ghost view = { λ store. store.words.items };
+
+    ghost invariant = { λ store. IsMemory store.words.items };
+}
+
+/// `n` words, each 0.
+#[tactic(auto, unfolding(crate::specs::Memory::zero_words))]
+fn zeros(alloc: Global, n: usize) -> Result<Vec<u16>, AllocError>
+    ensures exact { IfOk result (λ words. words.items ≡ zero_words n) }
+{
+    vec![in alloc; 0; n]
+}
+
+impl Store {
+    /// A memory of zeros. The only error is want of memory.
+    pub fn new(alloc: Global) -> Result<Store, AllocError>
+        ensures zero { IfOk result (λ store. store ≡ zero_memory) }
+        ensures whole { IfOk result IsMemory }
+    {
+        let words = zeros(alloc, MEMORY_WORDS as usize)?;
+        Ok(Store { words })
+    }
+
+    /// The word at `at`.
+    pub fn get(&self, at: u16) -> u16
+        ensures exact { result ≡ slice_index self.now at }
+        ensures whole { IsMemory self.now }
+    {
+        self.words[usize::from(at)]
+    }
+
+    /// Writes the word at `at`.
+    pub fn put(&mut self, at: u16, word: u16)
+        ensures exact { self.new ≡ slice_set self.old at word }
+        ensures was_whole { IsMemory self.old }
+        ensures whole { IsMemory self.new }
+    {
+        self.words[usize::from(at)] = word;
+    }
+
+    /// Writes the `n` words from `from` on to the `n` places from `to` on, as if all of them were read before the first
+    /// is written.
+    pub fn copy(&mut self, from: u32, to: u32, n: u32)
+        requires from_within { from + n ≤ MEMORY_WORDS }
+        requires to_within { to + n ≤ MEMORY_WORDS }
+        ensures exact { self.new ≡ copied self.old from to n }
+        ensures was_whole { IsMemory self.old }
+        ensures whole { IsMemory self.new }
+    {
+        self.words
+            .copy_within(from as usize..(from + n) as usize, to as usize);
+    }
+
+    /// Writes zeros to the `n` places from `at` on.
+    pub fn clear(&mut self, at: u32, n: u32)
+        requires within { at + n ≤ MEMORY_WORDS }
+        ensures exact { self.new ≡ cleared self.old at n }
+        ensures was_whole { IsMemory self.old }
+        ensures whole { IsMemory self.new }
+    {
+        self.words[at as usize..(at + n) as usize].fill(0);
+    }
+
+    /// Whether the `n` words from `a` on are those from `b` on.
+    pub fn equal(&self, a: u32, b: u32, n: u32) -> bool
+        requires a_within { a + n ≤ MEMORY_WORDS }
+        requires b_within { b + n ≤ MEMORY_WORDS }
+        ensures exact { IsTrue result ↔ (words_at self.now a n ≡ words_at self.now b n) }
+        ensures whole { IsMemory self.now }
+    {
+        self.words[a as usize..(a + n) as usize] == self.words[b as usize..(b + n) as usize]
+    }
+}

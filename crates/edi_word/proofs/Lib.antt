@@ -1,0 +1,3 @@
+pub mod IntLaws
+pub mod SetLaws
+pub mod Rows

@@ -1,0 +1,4 @@
+pub mod Integers
+pub mod Words
+pub mod Sets
+pub mod SetViews
