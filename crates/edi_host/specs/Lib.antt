@@ -1,0 +1,6 @@
+pub mod Blocks
+pub mod Files
+pub mod Forms
+pub mod Images
+pub mod Plan
+pub mod Streams

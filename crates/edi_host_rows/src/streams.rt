@@ -1,0 +1,194 @@
+//! Sources and sinks over readers and writers, and in memory.
+
+use edi_host::{
+    HostSink, HostSource, MemorySink, MemorySource, Next, PRINTER_FILE, PutEnd, Sink, Source,
+    SteadySink, SteadySource,
+};
+use std::fs::File;
+use std::io::{ErrorKind, Read, Write};
+use std::test::Fail;
+use std::{fs, io};
+
+// Gives two bytes, is interrupted, fails, gives one more byte, ends, and fails from then on.
+#[derive(Drop)]
+struct Stutter {
+    calls: u8,
+}
+
+impl Read for Stutter {
+    fn read(&mut self, buf: &mut [u8]) -> io::Result<usize> {
+        self.calls = self.calls.saturating_add(1);
+        match self.calls {
+            1 if buf.len() >= 2 => {
+                buf[0] = 65;
+                buf[1] = 66;
+                Ok(2)
+            }
+            2 => Err(io::Error::from(ErrorKind::Interrupted)),
+            4 if !buf.is_empty() => {
+                buf[0] = 67;
+                Ok(1)
+            }
+            5 => Ok(0),
+            _ => Err(io::Error::from(ErrorKind::Other)),
+        }
+    }
+}
+
+// Takes at most two bytes a call, and four in all. Its flush can fail.
+#[derive(Drop)]
+struct Narrow {
+    taken: usize,
+    flushes: bool,
+}
+
+impl Write for Narrow {
+    fn write(&mut self, buf: &[u8]) -> io::Result<usize> {
+        let count = buf.len().min(2).min(4 - self.taken.min(4));
+        self.taken = self.taken.saturating_add(count);
+        Ok(count)
+    }
+
+    fn flush(&mut self) -> io::Result<()> {
+        if self.flushes {
+            Ok(())
+        } else {
+            Err(io::Error::from(ErrorKind::Other))
+        }
+    }
+}
+
+// A file of more bytes than one read gives, an empty file, and a folder.
+#[test]
+fn source_over_a_file(rt: HostRuntime) -> Result<(), Fail> {
+    fs::write(&rt, "bytes", [3u8; 5000].as_slice())?;
+    let mut source = HostSource::new(File::open(&rt, "bytes")?);
+    for _ in 0..5000 {
+        assert_eq!(rt; source.next(), Next::Byte(3));
+    }
+    assert_eq!(rt; source.next(), Next::End);
+    fs::write(&rt, "empty", "")?;
+    assert_eq!(rt;
+        HostSource::new(File::open(&rt, "empty")?).next(),
+        Next::End
+    );
+    fs::create_dir(&rt, "folder")?;
+    assert_eq!(rt;
+        HostSource::new(File::open(&rt, "folder")?).next(),
+        Next::Failed
+    );
+    Ok(())
+}
+
+// The bytes before a fault come first, a call that is interrupted is no fault, and the end stays.
+#[test]
+fn source_over_a_reader_that_fails(rt: HostRuntime) {
+    let mut source = HostSource::new(Stutter { calls: 0 });
+    let expected = [
+        Next::Byte(65),
+        Next::Byte(66),
+        Next::Failed,
+        Next::Byte(67),
+        Next::End,
+        Next::End,
+    ];
+    for next in expected {
+        assert_eq!(rt; source.next(), next);
+    }
+}
+
+// Calls 2 and 6 are to fail; at the sixth nothing is left, so that it is the end.
+#[test]
+fn sources_in_memory(rt: HostRuntime) -> Result<(), Fail> {
+    let mut source = MemorySource::new(rt.alloc(), b"abc", &[2, 6])?;
+    assert_eq!(rt; source.bytes(), b"abc".as_slice());
+    let expected = [
+        Next::Byte(97),
+        Next::Failed,
+        Next::Byte(98),
+        Next::Byte(99),
+        Next::End,
+        Next::End,
+    ];
+    for next in expected {
+        assert_eq!(rt; source.next(), next);
+    }
+    let mut source = SteadySource::new(rt.alloc(), b"ab")?;
+    assert_eq!(rt; source.next(), Next::Byte(97));
+    assert_eq!(rt; source.bytes(), b"b".as_slice());
+    Ok(())
+}
+
+// The printer's file is made anew.
+#[test]
+fn sink_over_the_printer(rt: HostRuntime) -> Result<(), Fail> {
+    fs::write(&rt, PRINTER_FILE, "old text")?;
+    let mut sink = HostSink::printer(&rt);
+    assert_eq!(rt; fs::read(&rt, PRINTER_FILE)?.len(), 0);
+    for (piece, taken) in [("abc", 3), ("", 0), ("de", 2)] {
+        let put = sink.put(piece.as_bytes());
+        assert_eq!(rt; (put.taken, put.end), (taken, PutEnd::Ok), "{piece}");
+    }
+    assert_eq!(rt;
+        fs::read(&rt, PRINTER_FILE)?.as_slice(),
+        b"abcde".as_slice()
+    );
+    Ok(())
+}
+
+// A printer that cannot be made, and a full device.
+#[test]
+fn sinks_that_fail(rt: HostRuntime) -> Result<(), Fail> {
+    fs::create_dir(&rt, PRINTER_FILE)?;
+    let full = HostSink::new(File::create(&rt, "/dev/full")?);
+    for mut sink in [HostSink::printer(&rt), full] {
+        let put = sink.put(b"abc");
+        assert_eq!(rt; (put.taken, put.end), (0, PutEnd::Failed));
+    }
+    Ok(())
+}
+
+// A writer that takes little and then nothing, and one that cannot flush.
+#[test]
+fn sinks_over_writers(rt: HostRuntime) {
+    let mut sink = HostSink::new(Narrow {
+        taken: 0,
+        flushes: true,
+    });
+    for (piece, taken, end) in [("abc", 3, PutEnd::Ok), ("de", 1, PutEnd::Failed)] {
+        let put = sink.put(piece.as_bytes());
+        assert_eq!(rt; (put.taken, put.end), (taken, end), "{piece}");
+    }
+    let mut sink = HostSink::new(Narrow {
+        taken: 0,
+        flushes: false,
+    });
+    let put = sink.put(b"abc");
+    assert_eq!(rt; (put.taken, put.end), (3, PutEnd::Failed));
+}
+
+// Call 2 is to fail, and the third piece goes beyond the capacity.
+#[test]
+fn sinks_in_memory(rt: HostRuntime) -> Result<(), Fail> {
+    let mut sink = MemorySink::new(rt.alloc(), 5, &[2])?;
+    let puts = [
+        ("abc", 3, PutEnd::Ok),
+        ("d", 0, PutEnd::Failed),
+        ("efgh", 2, PutEnd::Failed),
+        ("", 0, PutEnd::Ok),
+        ("i", 0, PutEnd::Failed),
+    ];
+    for (piece, taken, end) in puts {
+        let put = sink.put(piece.as_bytes());
+        assert_eq!(rt; (put.taken, put.end), (taken, end), "{piece}");
+    }
+    assert_eq!(rt; sink.bytes(), b"abcef".as_slice());
+
+    let mut sink = SteadySink::new(rt.alloc(), 3)?;
+    for (piece, taken) in [("ab", 2), ("cd", 2), ("e", 1)] {
+        let put = sink.put(piece.as_bytes());
+        assert_eq!(rt; (put.taken, put.end), (taken, PutEnd::Ok), "{piece}");
+    }
+    assert_eq!(rt; sink.bytes(), b"abc".as_slice());
+    Ok(())
+}
