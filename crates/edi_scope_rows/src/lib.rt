@@ -1,0 +1,5 @@
+//! Worked examples of scopes, through every call.
+#![tactic(auto)]
+
+#[cfg(test)]
+mod tests;
