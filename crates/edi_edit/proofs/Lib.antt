@@ -1,0 +1,5 @@
+pub mod Single
+pub mod Feeds
+pub mod Back
+pub mod Pieces
+pub mod Law

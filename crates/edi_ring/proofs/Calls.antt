@@ -1,0 +1,174 @@
+-- What a call leaves behind, as its clauses say it.
+use Rattle.std.proofs.Common.{◌≡◌, ℕ, zero, suc, ◌+◌, ◌-◌, ◌<◌, ◌≤◌, inl, inr, cond, List, [], ◌∷◌, ◌++◌, length, refl, sym, ◌∙◌, ap, arith, subst, eqb, eq-eqb, get_or, set, get_or-set_same, get_or-set_other, length-set, add-one}
+use Rattle.std.specs.Prelude.{Option, Some, None, IsSome, slice_get}
+use Rattle.std.proofs.lemmas.Bool.{cases_eq, ne_eqb}
+use Rattle.std.proofs.lemmas.List.{length_push}
+use Rattle.edi_ring.specs.declared.Ends.{Ends}
+use Rattle.edi_ring.specs.Lists.{list_at, home_of, appended, without, IsSound}
+use Rattle.edi_ring.specs.Links.{lists_in, redirected, redirected_end, IsLinked, IsAmong, no_ends}
+use Rattle.edi_ring.proofs.Arrays.{IsLinked-view, IsLinked-again, lists_in-IsLinked, first-Stands, next-slice_get}
+use Rattle.edi_ring.proofs.Homes.{IsSound-IsLinked, home_of-IsLinked, length-le-nodes}
+use Rattle.edi_ring.proofs.Moves as moves
+
+-- the arrays hold these lists, in which each node has this home
+pub record Leaves (nodes count : ℕ) (next prev home : List (Option ℕ)) (ends : List Ends) (lists : List (List ℕ)) (homes : ℕ → Option ℕ) : Type 0 where
+  pub held : IsLinked next prev home ends (lists_in next ends)
+  pub exact : lists_in next ends ≡ lists
+  pub homes_are : (q : ℕ) → home_of (lists_in next ends) q ≡ homes q
+  pub sound : IsSound nodes count (lists_in next ends)
+
+leaves : (nodes count : ℕ) (next prev home : List (Option ℕ)) (ends : List Ends) (lists : List (List ℕ)) (homes : ℕ → Option ℕ)
+    → IsLinked next prev home ends lists → length home ≡ nodes → length ends ≡ count → ((q : ℕ) → get_or home q None ≡ homes q)
+    → Leaves nodes count next prev home ends lists homes
+leaves nodes count next prev home ends lists homes h wide many kept =
+    let again = IsLinked-again next prev home ends lists h in
+    record {
+      held = again;
+      exact = lists_in-IsLinked next prev home ends lists h;
+      homes_are = λ q. home_of-IsLinked next prev home ends (lists_in next ends) again q ∙ kept q;
+      sound = IsSound-IsLinked nodes count next prev home ends (lists_in next ends) again wide many;
+    }
+
+some_among : (n : ℕ) (xs : List ℕ) → IsAmong n xs → 1 ≤ length xs
+some_among n [] i = absurd i
+some_among n (x ∷ xs) i = omega arith
+
+-- past a place that a list does not have it has none
+pub none_past : (xs : List ℕ) (k i : ℕ) → slice_get xs k ≡ None → k ≤ i → slice_get xs i ≡ None
+none_past [] k i none le = refl
+none_past (x ∷ xs) zero i none le = let end : Some x ≡ None = none in absurd (cc)
+none_past (x ∷ xs) (suc k) zero none le = absurd (omega arith)
+none_past (x ∷ xs) (suc k) (suc i) none le = none_past xs k i none (omega arith)
+
+pub among_at : (xs : List ℕ) (k n : ℕ) → slice_get xs k ≡ Some n → IsAmong n xs
+among_at [] k n at_k = let end : None ≡ Some n = at_k in absurd (cc)
+among_at (x ∷ xs) zero n at_k = inl (cc)
+among_at (x ∷ xs) (suc k) n at_k = inr (among_at xs k n at_k)
+
+-- one home written
+home-set : (home : List (Option ℕ)) (node q : ℕ) (v : Option ℕ) → node < length home → get_or (set home node v) q None ≡ cond (eqb q node) v (get_or home q None)
+home-set home node q v lt =
+    elim (cases_eq q node) [
+      | inl same ↦ rw (eq-eqb q node same) (subst (λ (n : ℕ). get_or (set home node v) n None ≡ v) (sym same) (get_or-set_same home node v None lt))
+      | inr other ↦ rw (ne_eqb q node other) (get_or-set_other home node q v None other)
+    ]
+
+module _ (nodes count : ℕ) (next prev home : List (Option ℕ)) (ends : List Ends) (lists : List (List ℕ))
+    (held : IsLinked next prev home ends (lists_in next ends)) (seen : lists_in next ends ≡ lists)
+    (many : length ends ≡ count) (wide_next : length next ≡ nodes) (wide_prev : length prev ≡ nodes) (wide_home : length home ≡ nodes) where
+  pub linked : IsLinked next prev home ends lists
+  linked = IsLinked-view next prev home ends lists held seen
+
+  pub sound : IsSound nodes count lists
+  sound = IsSound-IsLinked nodes count next prev home ends lists linked wide_home many
+
+  pub home_is : (q : ℕ) → home_of lists q ≡ get_or home q None
+  home_is q = home_of-IsLinked next prev home ends lists linked q
+
+  pub first_place : (list : ℕ) → list < count → (get_or ends list no_ends).first ≡ slice_get (list_at lists list) 0
+  first_place list lt = first-Stands next prev (get_or ends list no_ends) (list_at lists list) (linked.stands list (omega (arith, many)))
+
+  pub counted : (list : ℕ) → list < count → (get_or ends list no_ends).len ≡ length (list_at lists list)
+  counted list lt = (linked.stands list (omega (arith, many))).counted
+
+  pub short : (list : ℕ) → list < count → (get_or ends list no_ends).len ≤ nodes
+  short list lt = rw (counted list lt) (length-le-nodes nodes count lists list sound)
+
+  pub place_within : (list k node : ℕ) → slice_get (list_at lists list) k ≡ Some node → node < nodes
+  place_within list k node at_k =
+      moves.in_range next prev home ends lists linked nodes wide_next wide_prev wide_home list node (among_at (list_at lists list) k node at_k)
+
+  pub next_place : (list k node : ℕ) → list < count → slice_get (list_at lists list) k ≡ Some node → get_or next node None ≡ slice_get (list_at lists list) (k + 1)
+  next_place list k node lt at_k =
+      rw add-one (next-slice_get next prev _ _ _ (list_at lists list) k node (linked.stands list (omega (arith, many))).runs at_k)
+
+  module _ (list node : ℕ) (is_list : list < count) (is_node : node < nodes) (free : home_of lists node ≡ None) where
+    abbrev e : Ends
+    e = get_or ends list no_ends
+
+    listed : list < length ends
+    listed = omega (arith, many)
+
+    nowhere : get_or home node None ≡ None
+    nowhere = sym (home_is node) ∙ free
+
+    pub last_within : (c : ℕ) → e.last ≡ Some c → c < nodes
+    last_within c k =
+        moves.in_range next prev home ends lists linked nodes wide_next wide_prev wide_home list c
+        (moves.last_in next prev home ends lists linked nodes wide_next wide_prev wide_home list node listed is_node nowhere c k)
+
+    pub push_leaves : Leaves nodes count (redirected (set next node None) e.last (Some node)) (set prev node e.last) (set home node (Some list))
+        (set ends list (record { first = redirected_end e.first e.last (Some node); last = Some node; len = e.len + 1 }))
+        (appended lists list node) (λ q. cond (eqb q node) (Some list) (home_of lists q))
+    push_leaves =
+        leaves nodes count _ _ _ _ _ _
+        (moves.IsLinked-push next prev home ends lists linked nodes wide_next wide_prev wide_home list node listed is_node nowhere)
+        (length-set home node (Some list) ∙ wide_home)
+        (length-set ends list _ ∙ many)
+        (λ q. home-set home node q (Some list) (omega (arith, wide_home)) ∙ ap (λ o. cond (eqb q node) (Some list) o) (sym (home_is q)))
+
+    -- the list with the node is no longer than there are nodes
+    pub room : e.len + 1 ≤ nodes
+    room =
+        let after = push_leaves in
+        let short = length-le-nodes nodes count (appended lists list node) list (subst (λ (seen : List (List ℕ)). IsSound nodes count seen) after.exact after.sound) in
+        let many_lists = linked.as_many in
+        let place : list_at (appended lists list node) list ≡ list_at lists list ++ node ∷ [] = get_or-set_same lists list _ [] (omega arith) in
+        let counted = (linked.stands list listed).counted in
+        omega (arith, ap length place, length_push (list_at lists list) node)
+
+  module _ (node : ℕ) (is_node : node < nodes) (listed : IsSome (home_of lists node)) where
+    pub has_home : IsSome (get_or home node None)
+    has_home = rw (home_is node) at listed
+
+    module _ (list : ℕ) (its_home : get_or home node None ≡ Some list) where
+      abbrev here : Ends
+      here = get_or ends list no_ends
+
+      abbrev following : Option ℕ
+      following = get_or next node None
+
+      abbrev preceding : Option ℕ
+      preceding = get_or prev node None
+
+      pub is_list : list < count
+      is_list = let lt = moves.is_one next prev home ends lists linked nodes wide_next wide_prev wide_home list node its_home in omega (arith, many)
+
+      pub preceding_within : (c : ℕ) → preceding ≡ Some c → c < nodes
+      preceding_within c k =
+          moves.in_range next prev home ends lists linked nodes wide_next wide_prev wide_home list c
+          (moves.preceding_in next prev home ends lists linked nodes wide_next wide_prev wide_home list node its_home c k)
+
+      pub following_within : (c : ℕ) → following ≡ Some c → c < nodes
+      following_within c k =
+          moves.in_range next prev home ends lists linked nodes wide_next wide_prev wide_home list c
+          (moves.following_in next prev home ends lists linked nodes wide_next wide_prev wide_home list node its_home c k)
+
+      pub take_leaves : Leaves nodes count (redirected next preceding following) (redirected prev following preceding) (set home node None)
+          (set ends list (record { first = redirected_end here.first preceding following; last = redirected_end here.last following preceding; len = here.len - 1 }))
+          (without lists node) (λ q. cond (eqb q node) None (home_of lists q))
+      take_leaves =
+          leaves nodes count _ _ _ _ _ _
+          (moves.IsLinked-take next prev home ends lists linked nodes wide_next wide_prev wide_home list node its_home)
+          (length-set home node None ∙ wide_home)
+          (length-set ends list _ ∙ many)
+          (λ q. home-set home node q None (omega (arith, wide_home)) ∙ ap (λ o. cond (eqb q node) None o) (sym (home_is q)))
+
+      -- the list has a node
+      pub some_there : 1 ≤ here.len
+      some_there =
+          let counted = (linked.stands list (let lt = is_list in omega (arith, many))).counted in
+          let some = some_among node (list_at lists list) (linked.held list node its_home) in omega arith
+
+-- a node taken out and put at the back of the same list is where it was
+pub homes_again : (was mid now : ℕ → Option ℕ) (list node : ℕ) → was node ≡ Some list → ((q : ℕ) → mid q ≡ cond (eqb q node) None (was q))
+    → ((q : ℕ) → now q ≡ cond (eqb q node) (Some list) (mid q)) → (q : ℕ) → now q ≡ was q
+homes_again was mid now list node here taken put q =
+    elim (cases_eq q node) [
+      | inl same ↦ rw (eq-eqb q node same) at (put q) ∙ sym here ∙ ap was (sym same)
+      | inr other ↦ rw (ne_eqb q node other) at (put q) ∙ rw (ne_eqb q node other) at (taken q)
+    ]
+
+-- a node that was taken out has no home
+pub gone : (was mid : ℕ → Option ℕ) (node : ℕ) → ((q : ℕ) → mid q ≡ cond (eqb q node) None (was q)) → mid node ≡ None
+gone was mid node taken = rw (eq-eqb node node refl) at (taken node)
