@@ -1,0 +1,33 @@
+-- How a call may end that was to have this result, on an object that tells its state.
+use Rattle.std.specs.Prelude.{◌≡◌, ℕ, ◌⊎◌, List, Option, Some, None, ⊤}
+use Rattle.edi_told.specs.Faults.{Rose}
+use Rattle.edi_calls.specs.declared.ends.CallEnd.{CallEnd}
+use Rattle.edi_calls.specs.declared.ends.CallEnd.TheVariants as end
+use Rattle.edi_calls.specs.declared.ends.Outside.{Outside}
+use Rattle.edi_calls.specs.State.{State}
+use Rattle.edi_calls.specs.Calls.{CallResult, answered, no_file, file_limit}
+
+-- after a call that an object outside failed, the input, the bytes shown, the bytes printed and the slots are each
+-- as before it or as it was to leave them; the found file and the buffer are open
+pub record IsTorn (before next after : State) : Type 0 where
+  pub input : (after.input ≡ before.input) ⊎ (after.input ≡ next.input)
+  pub shown : (after.shown ≡ before.shown) ⊎ (after.shown ≡ next.shown)
+  pub printed : (after.printed ≡ before.printed) ⊎ (after.printed ≡ next.printed)
+  pub slots : (after.slots ≡ before.slots) ⊎ (after.slots ≡ next.slots)
+  pub blocks : after.blocks ≡ before.blocks
+
+-- the call ends as its result says, or an object outside fails a call that was to be answered
+abbrev pub Meets : CallResult → CallEnd → List ℕ → State → State → Type 0
+Meets (answered words next) end.Ok answer before after = (answer ≡ words) × (after ≡ next)
+Meets (answered words next) end.OutsideFault answer before after = IsTorn before next after
+Meets no_file end.NoFile answer before after = after ≡ before
+Meets file_limit end.FileLimit answer before after = after ≡ before
+Meets _ _ answer before after = ⊥
+
+-- what has failed after a call before which nothing had: one object, at an outside fault, and its count of faults
+-- rose in this call; nothing at any other end
+abbrev pub Blames : CallEnd → Option Outside → (Outside → ℕ) → (Outside → ℕ) → Type 0
+Blames end.OutsideFault (Some outside) before now = Rose (before outside) (now outside)
+Blames end.OutsideFault None before now = ⊥
+Blames _ (Some outside) before now = ⊥
+Blames _ None before now = ⊤

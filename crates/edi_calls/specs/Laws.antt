@@ -1,0 +1,32 @@
+-- Laws of the ten calls.
+use Rattle.std.specs.Prelude.{◌≡◌, ℕ, ◌≤◌, List, [], ◌∷◌, ◌++◌, length, Some}
+use Rattle.edi_calls.specs.State.{State, IsState, title_of, find_file}
+use Rattle.edi_calls.specs.Calls.{call, close, answered, answer_words, text_file}
+
+-- input is only taken, shown and printed bytes only follow those before them, and the numbers of slots and blocks stay
+pub record GoesOn (before after : State) : Type 0 where
+  pub input : (taken : List ℕ) × (before.input ≡ taken ++ after.input)
+  pub shown : (more : List ℕ) × (after.shown ≡ before.shown ++ more)
+  pub printed : (more : List ℕ) × (after.printed ≡ before.printed ++ more)
+  pub slots : length after.slots ≡ length before.slots
+  pub blocks : after.blocks ≡ before.blocks
+
+abbrev pub EachCallGoesOn : Type 0
+EachCallGoesOn = (number : ℕ) (words answer : List ℕ) (before after : State)
+    → call number words before ≡ answered answer after → GoesOn before after
+
+-- each of the ten calls has as many answer words as the table says
+abbrev pub AnswersFit : Type 0
+AnswersFit = (number : ℕ) (words answer : List ℕ) (before after : State) → 1 ≤ number → number ≤ 10
+    → call number words before ≡ answered answer after → length answer ≡ answer_words number
+
+-- what every state keeps is kept by each call
+abbrev pub StatesStaySound : Type 0
+StatesStaySound = (number : ℕ) (words answer : List ℕ) (before after : State) → IsState before
+    → call number words before ≡ answered answer after → IsState after
+
+-- a file that was closed under a title is the text file of that title, with the bytes that were written
+abbrev pub ClosedFilesAreFound : Type 0
+ClosedFilesAreFound = (words title bytes : List ℕ) (before after : State) → IsState before → title_of words ≡ Some title
+    → before.buffer ≡ Some bytes → close words before ≡ answered (1 ∷ []) after
+    → find_file after.slots title ≡ Some (text_file title bytes)

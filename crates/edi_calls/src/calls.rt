@@ -1,0 +1,63 @@
+//! The system calls of any object that has a system.
+
+ghost use Rattle.std.specs.Prelude.{◌≡◌, ◌≢◌, ◌≤◌, ℕ, length, ◌||◌, Option, None};
+ghost use Rattle.edi_told.specs.Told.{WhereTold};
+ghost use Rattle.edi_calls.specs.declared.ends.Outside.{Outside};
+ghost use Rattle.edi_calls.specs.State.{State};
+ghost use Rattle.edi_calls.specs.Calls.{argument_words, answer_words, call};
+ghost use Rattle.edi_calls.specs.Ends.{Meets, Blames};
+
+use crate::ends::CallEnd;
+
+/// The argument words of a call, without those of its `var` parameter, and its answer words. The number is 1 to 10.
+///
+/// | Number | Call | Argument words | Answer words |
+/// |---|---|---|---|
+/// | 1 | `accept(var c: char)` | 0 | 1 |
+/// | 2 | `display(c: char)` | 1 | 0 |
+/// | 3 | `print(c: char)` | 1 | 0 |
+/// | 4 | `find(title: name; var found: bool)` | 12 | 1 |
+/// | 5 | `more(var b: bool)` | 0 | 1 |
+/// | 6 | `read(var c: char)` | 0 | 1 |
+/// | 7 | `fresh` | 0 | 0 |
+/// | 8 | `write(c: char)` | 1 | 0 |
+/// | 9 | `close(title: name; var done: bool)` | 12 | 1 |
+/// | 10 | `remove(title: name; var done: bool)` | 12 | 1 |
+pub fn words_of(number: u8) -> (usize, usize)
+    requires from { 1 ≤ number }
+    requires to { number ≤ 10 }
+    ensures arguments { result.0 ≡ argument_words number }
+    ensures answer { result.1 ≡ answer_words number }
+{
+    match number {
+        2 | 3 | 8 => (1, 0),
+        4 | 9 | 10 => (12, 1),
+        7 => (0, 0),
+        _ => (0, 1),
+    }
+}
+
+/// An object that has a system: files, a terminal and a printer.
+pub trait Calls {
+    /// The state of the system, where it is told.
+    ghost state: { Self → Option State };
+
+    /// How often each object outside has failed. A count never falls, and stands still at `u64::MAX`.
+    ghost faults: { Self → Outside → ℕ };
+
+    /// The object outside that has failed, if one has. After that no call can be made.
+    ghost failed: { Self → Option Outside };
+
+    /// Makes the system call of this number, 1 to 10. `args` and `answer` have the lengths that `words_of` gives;
+    /// `answer` takes the answer words, and is open unless the end is `Ok`.
+    fn call(&mut self, number: u8, args: &[u16], answer: &mut [u16]) -> CallEnd
+        requires from { 1 ≤ number }
+        requires to { number ≤ 10 }
+        requires arguments { length args.now ≡ argument_words number }
+        requires answers { length answer.old ≡ answer_words number }
+        requires working { failed self.old ≡ None }
+        ensures exact { WhereTold (state self.old) (state self.new)
+            (λ before after. Meets (call number args.now before) result answer.new before after) }
+        ensures later { (outside : Outside) → faults self.old outside ≤ faults self.new outside }
+        ensures blame { Blames result (failed self.new) (faults self.old) (faults self.new) };
+}

@@ -1,0 +1,68 @@
+//! Titles of files, as the words of a call spell them.
+
+ghost use Rattle.std.specs.Prelude.{◌≡◌, ◌%◌, IfOk, map, length, take};
+ghost use Rattle.std.specs.List.{list_all};
+ghost use Rattle.std.specs.Option.{option_map};
+ghost use Rattle.edi_calls.specs.State.{is_title, is_letter, is_title_character, title_of, without_blanks, character};
+
+use std::alloc::{AllocError, Global};
+
+const BLANK: u8 = 32;
+
+fn is_letter(c: u8) -> bool
+    ensures { result ≡ is_letter c }
+{
+    c.is_ascii_alphabetic()
+}
+
+fn is_title_character(c: u8) -> bool
+    ensures { result ≡ is_title_character c }
+{
+    is_letter(c) || c.is_ascii_digit() || c == b'_'
+}
+
+fn are_title_characters(characters: &[u8]) -> bool
+    ensures { result ≡ list_all is_title_character characters.now }
+{
+    characters.iter().all(|c| is_title_character(*c))
+}
+
+/// Whether these characters are a title: a letter, and after it at most 23 letters, digits and `_`.
+pub fn is_title(title: &[u8]) -> bool
+    ensures { result ≡ is_title title.now }
+{
+    let Some((first, rest)) = title.split_first() else {
+        return false;
+    };
+    is_letter(*first) && are_title_characters(rest) && rest.len() < 24
+}
+
+/// Each word as a character: the words are taken modulo 128.
+fn characters(alloc: Global, words: &[u16]) -> Result<Vec<u8>, AllocError>
+    ensures { IfOk result (λ v. v.items ≡ map character words.now) }
+{
+    words.iter().map(|word| (*word % 128) as u8).collect(alloc)
+}
+
+/// The number of characters without the blanks at the end.
+fn kept_length(title: &[u8]) -> usize
+    ensures { take result title.now ≡ without_blanks title.now }
+{
+    let mut kept = 0;
+    for (place, c) in title.iter().enumerate() {
+        if *c != BLANK {
+            kept = place + 1;
+        }
+    }
+    kept
+}
+
+/// The title that the words of a call spell, without the blanks at its end; none where they spell no title.
+pub(crate) fn title_of(alloc: Global, words: &[u16]) -> Result<Option<Vec<u8>>, AllocError>
+    ensures { IfOk result (λ title. option_map (λ v. v.items) title ≡ title_of words.now) }
+{
+    let mut title = characters(alloc, words)?;
+    let kept = kept_length(&title);
+    title.truncate(kept);
+    Ok(if is_title(&title) { Some(title) } else { None })
+}

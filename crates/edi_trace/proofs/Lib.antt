@@ -1,0 +1,5 @@
+pub mod Cuts
+pub mod Digits
+pub mod Draws
+pub mod Readings
+pub mod Writing
