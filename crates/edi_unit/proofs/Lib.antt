@@ -1,0 +1,5 @@
+pub mod Entries
+pub mod Tables
+pub mod ZeroValues
+pub mod Limits
+pub mod Example

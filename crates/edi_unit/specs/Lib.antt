@@ -1,0 +1,9 @@
+pub mod Lists
+pub mod Types
+pub mod ShapeView
+pub mod Values
+pub mod Tree
+pub mod View
+pub mod Need
+pub mod Fits
+pub mod Rows
