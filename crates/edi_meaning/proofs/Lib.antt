@@ -1,0 +1,10 @@
+pub mod Turns
+pub mod Work
+pub mod Selections
+pub mod Attempts
+pub mod Names
+pub mod Family
+pub mod Sound
+pub mod Pure
+pub mod Standstill
+pub mod Permitted

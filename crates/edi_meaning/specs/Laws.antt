@@ -1,0 +1,74 @@
+-- What is true of every program.
+use Rattle.std.specs.Prelude.{◌≡◌, ℕ, zero, suc, false, List, [], ◌∷◌, ◌++◌, Some, ⊤}
+use Rattle.edi_calls.specs.State.{State}
+use Rattle.edi_calls.specs.Choice.{Choices, listed, choice}
+use Rattle.edi_calls.specs.Names.{Name, find, with_at}
+use Rattle.edi_calls.specs.Outcome as outcome
+use Rattle.edi_calls.specs.Outcome.{Ending, Outcome}
+use Rattle.edi_calls.specs.Ready.{stays, joins}
+use Rattle.edi_unit.specs.Tree.{Clauses, ProgramUnit}
+use Rattle.edi_meaning.specs.Step.{Position, ready, at_when, Process, Processes, Stepped, went, ended, is_quiet, step, start, Led, at, over, nowhere, permitted}
+use Rattle.edi_meaning.specs.Select.{Ends, Select}
+
+-- every selection ends, after some number of steps
+abbrev pub EverySelectionEnds : Type 0
+EverySelectionEnds =
+    (unit : ProgramUnit) (system : State) (bound : ℕ) (choices : Choices) →
+    (outcome : Outcome) × Select unit system bound choices outcome
+
+-- and it ends in one way
+abbrev pub SelectionsAreDetermined : Type 0
+SelectionsAreDetermined =
+    (unit : ProgramUnit) (system : State) (bound : ℕ) (choices : Choices) (one other : Outcome) →
+    Select unit system bound choices one → Select unit system bound choices other → one ≡ other
+
+-- what an attempt of p leaves, where p stands at this `when` with this work behind it: p is ready to go on behind the
+-- `when`, so that all of the body is done; or it stands at the `when` again; or the program has ended. Nothing else
+-- happens to any process.
+abbrev pub IsWhole : Processes → Name → Process → Clauses → Position → Stepped → Type 0
+IsWhole s p q cs position (ended ending system turns) = ⊤
+IsWhole s p q cs position (went after stays quiet) =
+    (after.live ≡ with_at s.live p (record q { standing = ready })) × (quiet ≡ false)
+IsWhole s p q cs position (went after (joins ps) quiet) =
+    (after.live ≡ with_at s.live p (record q { standing = at_when cs position })) × (ps ≡ p ∷ []) × (quiet ≡ is_quiet cs)
+
+-- critical phases are whole: an attempt is one step
+abbrev pub AttemptsAreWhole : Type 0
+AttemptsAreWhole =
+    (unit : ProgramUnit) (s : Processes) (p : Name) (q : Process) (cs : Clauses) (position : Position) →
+    find s.live p ≡ Some q → q.standing ≡ at_when cs position → IsWhole s p q cs position (step unit s p)
+
+-- the first so many choices
+abbrev pub first_choices : Choices → ℕ → List ℕ
+first_choices choices zero = []
+first_choices choices (suc n) = first_choices choices n ++ choice choices (suc n) ∷ []
+
+-- the choices that a selection drew give the same selection again, and the same order of steps
+abbrev pub RecordReplays : Type 0
+RecordReplays =
+    (unit : ProgramUnit) (system : State) (bound : ℕ) (choices : Choices) (ending : Ending) (end : State) (turns drawn : ℕ) (order : List Name) →
+    Ends unit system bound choices ending end turns drawn order →
+    Ends unit system bound (listed (first_choices choices drawn)) ending end turns drawn order
+
+-- what further steps make of a state in which nothing can happen any more: they take turns, or end the program when no
+-- turn is left, and change nothing else
+abbrev pub Settled : Processes → Led → Type 0
+Settled s (at after) = (after.live ≡ s.live) × (after.world.store ≡ s.world.store) × (after.world.system ≡ s.world.system)
+Settled s (over ending system turns) = (ending ≡ outcome.turns) × (system ≡ s.world.system)
+Settled s nowhere = ⊤
+
+-- where the steps of an execution lead that ended so: to the end of the program; or, at a standstill, to a state that
+-- goes on, with this system and so many turns, and in which nothing can happen any more
+abbrev pub LeadsTo : ProgramUnit → Led → Ending → State → ℕ → Type 0
+LeadsTo unit led outcome.standstill end turns =
+    (after : Processes) × (led ≡ at after) × (after.world.system ≡ end) × (after.world.turns ≡ turns)
+    × ((names : List Name) → Settled after (permitted unit names after))
+LeadsTo unit led ending end turns = led ≡ over ending end turns
+
+-- the execution that the choices select is one of the permitted ones, with its order of steps; at a standstill no
+-- permitted continuation changes anything but the turns
+abbrev pub SelectIsPermitted : Type 0
+SelectIsPermitted =
+    (unit : ProgramUnit) (system : State) (bound : ℕ) (choices : Choices) (ending : Ending) (end : State) (turns drawn : ℕ) (order : List Name) →
+    Ends unit system bound choices ending end turns drawn order →
+    LeadsTo unit (permitted unit order (start unit system bound)) ending end turns

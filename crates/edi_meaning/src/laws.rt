@@ -1,0 +1,32 @@
+//! What is true of every program, by its meaning. The functions do nothing; their contracts are the laws, which speak of
+//! all units, system states, bounds and choices.
+
+ghost use Rattle.edi_meaning.specs.Laws.{AttemptsAreWhole, EverySelectionEnds, RecordReplays, SelectIsPermitted, SelectionsAreDetermined};
+
+/// Critical phases are executed strictly one at a time: an attempt at a `when` is one step, which leaves its process
+/// behind the whole body, or at the `when` again, and changes nothing else of any process.
+pub fn attempts_are_whole()
+    ensures law { AttemptsAreWhole }
+{}
+
+/// Each program ends, by its turns at the latest, whatever the choices.
+pub fn every_selection_ends()
+    ensures law { EverySelectionEnds }
+{}
+
+/// The choices determine the execution.
+pub fn selections_are_determined()
+    ensures law { SelectionsAreDetermined }
+{}
+
+/// The execution that the choices select is a permitted one: the steps of its processes, in the order in which they were
+/// taken, each of a process that is ready or at its `when`, lead to its end. At a standstill they lead to a state that goes
+/// on with the same system and turns, and no permitted continuation of it changes anything but the turns.
+pub fn select_is_permitted()
+    ensures law { SelectIsPermitted }
+{}
+
+/// The list of the choices that an execution drew gives the same execution again, step by step.
+pub fn record_replays()
+    ensures law { RecordReplays }
+{}

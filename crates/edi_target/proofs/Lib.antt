@@ -1,0 +1,10 @@
+pub mod Branches
+pub mod Places
+pub mod Plain
+pub mod Reading
+pub mod Sample
+pub mod Sound
+pub mod Writing
+pub mod Progress
+pub mod Stands
+pub mod Runs

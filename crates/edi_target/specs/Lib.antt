@@ -1,0 +1,12 @@
+pub mod Op
+pub mod Decode
+pub mod View
+pub mod Check
+pub mod File
+pub mod Fetch
+pub mod Memory
+pub mod Effect
+pub mod Perform
+pub mod Mach
+pub mod Laws
+pub mod Rows

@@ -1,0 +1,7 @@
+//! Worked examples of instructions and of codes.
+#![tactic(auto)]
+
+#[cfg(test)]
+mod codes;
+#[cfg(test)]
+mod instructions;
