@@ -1,0 +1,5 @@
+//! Worked examples of code files.
+#![tactic(auto)]
+
+#[cfg(test)]
+mod tests;

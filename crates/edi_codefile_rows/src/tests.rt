@@ -1,0 +1,110 @@
+use edi_codefile::{load, pack};
+use edi_target::CodeFault;
+use std::test::Fail;
+
+/// A file of version 1: a program with one parameter, the call of number 2, which it is given the character `a`.
+const FILE: [u8; 62] = [
+    0xED, 0x15, 0, 1, // mark and version
+    0, 0, 0, 15, // 15 words
+    0, 0, 0, 0, // the entry is at 0
+    1, 2, // one parameter, call 2
+    0, 0, 0, 0, 0, 0, 0, 0, 0, 0, 0, 0, 0, 0, 0, 0, 0, 0, //
+    0, 33, 0, 9, 0, 0, 0, 3, 0, 0, 0, 0, // 0: ENTRY 9 0 3 0 0
+    0, 1, 0, 97, // 6: CONST 97
+    0, 35, 0, 0, 0, 5, 0, 1, // 8: CALLP 0 5 1
+    0, 37, 0, 0, 0, 0, // 12: RETURN 0 0
+];
+
+/// The file with other bytes at these places.
+fn changed(changes: &[(usize, u8)]) -> [u8; 62] {
+    let mut file = FILE;
+    for (at, byte) in changes {
+        if let Some(place) = file.get_mut(*at) {
+            *place = *byte;
+        }
+    }
+    file
+}
+
+#[test]
+fn files_of_every_length(rt: HostRuntime) -> Result<(), Fail> {
+    for length in 0..FILE.len() {
+        let (front, _) = FILE.split_at(length);
+        let short = CodeFault::Short { at: length as u32 };
+        assert_eq!(rt;
+            load(rt.alloc(), front).err(),
+            Some(short),
+            "{length} bytes"
+        );
+    }
+    assert_eq!(rt; load(rt.alloc(), &FILE).err(), None);
+    let mut longer = FILE.to_vec(rt.alloc())?;
+    longer.push(0)?;
+    assert_eq!(rt;
+        load(rt.alloc(), &longer).err(),
+        Some(CodeFault::Over { at: 62 })
+    );
+    Ok(())
+}
+
+#[test]
+fn fields_of_the_header(rt: HostRuntime) -> Result<(), Fail> {
+    let header = |at: u32, found: u8| Some(CodeFault::Header { at, found });
+    let cases = [
+        (0, 0xEC, header(0, 0xEC)),
+        (1, 0x16, header(0, 0xED)),
+        (2, 1, header(2, 1)),
+        (3, 0, header(2, 0)),
+        (3, 2, None),
+        (3, 3, header(2, 0)),
+        (4, 1, header(4, 1)),
+        (7, 0, header(4, 0)),
+        (7, 14, Some(CodeFault::Over { at: 60 })),
+        (7, 16, Some(CodeFault::Short { at: 62 })),
+        (8, 9, header(8, 9)),
+        (11, 15, header(8, 0)),
+        (11, 6, Some(CodeFault::Jump { at: 6, target: 6 })),
+        (12, 0, header(13, 2)),
+        (12, 11, header(12, 11)),
+        (13, 0, header(13, 0)),
+        (13, 11, header(13, 11)),
+        (14, 1, header(14, 1)),
+        (31, 1, header(31, 1)),
+    ];
+    for (at, byte, fault) in cases {
+        let file = changed(&[(at, byte)]);
+        assert_eq!(rt;
+            load(rt.alloc(), &file).err(),
+            fault,
+            "byte {at} made {byte}"
+        );
+    }
+    Ok(())
+}
+
+#[test]
+fn faults_of_the_words(rt: HostRuntime) -> Result<(), Fail> {
+    // a JUMP into its own operand, and a NOT behind it
+    let jump = changed(&[(45, 28), (47, 0), (49, 7), (51, 15)]);
+    let fault = CodeFault::Jump { at: 6, target: 7 };
+    assert_eq!(rt; load(rt.alloc(), &jump).err(), Some(fault));
+    // a QUIET that leads back to 6, which only version 2 has
+    let quiet = CodeFault::Operation { at: 12, found: 44 };
+    let older = changed(&[(57, 44), (61, 6)]);
+    assert_eq!(rt; load(rt.alloc(), &older).err(), Some(quiet));
+    let newer = changed(&[(3, 2), (57, 44), (61, 6)]);
+    assert_eq!(rt; load(rt.alloc(), &newer).err(), None);
+    Ok(())
+}
+
+#[test]
+fn packed_files(rt: HostRuntime) -> Result<(), Fail> {
+    let code = load(rt.alloc(), &FILE)?;
+    let file = pack(rt.alloc(), &code)?;
+    assert_eq!(rt; file.as_slice(), changed(&[(3, 2)]).as_slice());
+    let again = load(rt.alloc(), &file)?;
+    assert_eq!(rt; again.words(), code.words());
+    assert_eq!(rt; again.entry(), 0);
+    assert_eq!(rt; again.calls(), [2].as_slice());
+    Ok(())
+}
