@@ -5,7 +5,7 @@ use Rattle.std.proofs.Math.Seq.{get_or-append_seam}
 use Rattle.std.proofs.lemmas.Bool.{cases_lt}
 use Rattle.std.specs.Prelude.{⊤, ◌%◌, slice_index}
 use Rattle.edi_calls.specs.State.{State}
-use Rattle.edi_calls.specs.Choice.{Choices, listed, choice}
+use Rattle.edi_calls.specs.Choice.{Choices, listed, choice, first_choices}
 use Rattle.edi_calls.specs.Names.{Name, find}
 use Rattle.edi_calls.specs.Outcome as outcome
 use Rattle.edi_calls.specs.Outcome.{Ending, Outcome, outcome_of}
@@ -13,7 +13,7 @@ use Rattle.edi_calls.specs.Ready.{Next, stays, joins, Taking, nobody, taking, ta
 use Rattle.edi_unit.specs.Tree.{ProgramUnit}
 use Rattle.edi_meaning.specs.Step.{Process, Processes, Stepped, went, ended, step, step_of, start}
 use Rattle.edi_meaning.specs.Select.{Selected, unfinished, finished, stepped_first, marked, is_standstill, go_on, after_next, after_step, select, select_from_start}
-use Rattle.edi_meaning.specs.Laws.{EverySelectionEnds, SelectionsAreDetermined, RecordReplays, first_choices}
+use Rattle.edi_meaning.specs.Laws.{EverySelectionEnds, SelectionsAreDetermined, RecordReplays}
 use Rattle.edi_meaning.proofs.Work.{Falls, standing_size, work_size, step_falls}
 
 -- the rest of a selection, after a step

@@ -1,7 +1,7 @@
 -- What is true of every program.
 use Rattle.std.specs.Prelude.{◌≡◌, ℕ, zero, suc, false, List, [], ◌∷◌, ◌++◌, Some, ⊤}
 use Rattle.edi_calls.specs.State.{State}
-use Rattle.edi_calls.specs.Choice.{Choices, listed, choice}
+use Rattle.edi_calls.specs.Choice.{Choices, listed, first_choices}
 use Rattle.edi_calls.specs.Names.{Name, find, with_at}
 use Rattle.edi_calls.specs.Outcome as outcome
 use Rattle.edi_calls.specs.Outcome.{Ending, Outcome}
@@ -37,11 +37,6 @@ abbrev pub AttemptsAreWhole : Type 0
 AttemptsAreWhole =
     (unit : ProgramUnit) (s : Processes) (p : Name) (q : Process) (cs : Clauses) (position : Position) →
     find s.live p ≡ Some q → q.standing ≡ at_when cs position → IsWhole s p q cs position (step unit s p)
-
--- the first so many choices
-abbrev pub first_choices : Choices → ℕ → List ℕ
-first_choices choices zero = []
-first_choices choices (suc n) = first_choices choices n ++ choice choices (suc n) ∷ []
 
 -- the choices that a selection drew give the same selection again, and the same order of steps
 abbrev pub RecordReplays : Type 0

@@ -1,10 +1,9 @@
 -- Draws, one after another.
 use Rattle.std.proofs.Common.{◌≡◌, ℕ, zero, suc, ◌+◌, ◌-◌, ◌*◌, ◌%◌, ◌^◌, ◌<◌, ◌≤◌, min, inl, inr, sym, subst, List, [], ◌∷◌, ◌++◌, length, refl, ap, ◌∙◌, arith, add-one, length-append}
-use Rattle.edi_calls.specs.Choice.{Choices, choice, generated}
+use Rattle.edi_calls.specs.Choice.{Choices, choice, first_choices, generated}
 use Rattle.std.proofs.lemmas.Bool.{cases_lt}
 use Rattle.edi_trace.specs.declared.choices.Source.{Source}
 use Rattle.edi_trace.specs.declared.choices.Source.TheVariants as source
-use Rattle.edi_trace.specs.Drawn.{first_choices}
 use Rattle.edi_trace.specs.Kept.{IsAt}
 
 -- one more step of the generator

@@ -1,11 +1,11 @@
 -- What is kept of choices, and what it stands for.
 use Rattle.std.specs.Prelude.{◌≡◌, ℕ, ◌-◌, ◌^◌, ◌<◌, ◌≤◌, min, ⊤}
 use Rattle.std.specs.Vec.{vec_capacity}
-use Rattle.edi_calls.specs.Choice.{Choices, listed, seeded, generated}
+use Rattle.edi_calls.specs.Choice.{Choices, listed, seeded, generated, first_choices}
 use Rattle.edi_trace.specs.declared.choices.Source.{Source}
 use Rattle.edi_trace.specs.declared.choices.Source.TheVariants as source
 use Rattle.edi_trace.specs.declared.choices.Choices.TheInside.{Inside}
-use Rattle.edi_trace.specs.Drawn.{Drawn, first_choices, most_kept}
+use Rattle.edi_trace.specs.Drawn.{Drawn, most_kept}
 
 -- the choices that a source stands for
 abbrev pub source_of : Source → Choices

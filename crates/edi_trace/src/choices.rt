@@ -2,8 +2,8 @@
 
 ghost use Rattle.std.specs.Prelude.{◌≡◌, ◌+◌, ◌-◌, ◌^◌, ◌<◌, ◌≤◌, [], ◌∷◌, ◌++◌, length, min, IfOk};
 ghost use Rattle.std.specs.Vec.{vec_capacity};
-ghost use Rattle.edi_calls.specs.Choice.{listed, seeded, choice};
-ghost use Rattle.edi_trace.specs.Drawn.{first_choices, most_kept};
+ghost use Rattle.edi_calls.specs.Choice.{listed, seeded, choice, first_choices};
+ghost use Rattle.edi_trace.specs.Drawn.{most_kept};
 ghost use Rattle.edi_trace.specs.Kept.{source_of, IsAt};
 
 use std::alloc::{AllocError, Global};

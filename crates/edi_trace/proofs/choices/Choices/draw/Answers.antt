@@ -1,5 +1,6 @@
 use Rattle.std.proofs.Common.{min, ap, sym, ◌∙◌, arith}
-use Rattle.edi_trace.specs.Drawn.{first_choices, most_kept}
+use Rattle.edi_calls.specs.Choice.{first_choices}
+use Rattle.edi_trace.specs.Drawn.{most_kept}
 use Rattle.edi_trace.specs.Kept.{source_of}
 use Rattle.edi_trace.proofs.Draws.{used_more, at_more}
 use Rattle.edi_trace.proofs.choices.Choices.draw.Goals as goal
