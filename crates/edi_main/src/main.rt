@@ -1,0 +1,38 @@
+//! The program `edison`: the top call over the host's files, its standard input and output.
+#![tactic(auto)]
+
+use edi_host::{HostDrive, HostFiles, HostSink, HostSource};
+use edi_top::{Status, edison};
+use std::env;
+use std::io::{self, ErrorKind, Input};
+use std::process::ExitCode;
+
+/// The words after the program's name. Where one is not UTF-8 they are no command, as no words are.
+fn words_of(rt: &HostRuntime) -> io::Result<Vec<String>> {
+    match env::args(rt) {
+        Ok(args) => Ok(args.skip(1).collect(rt.alloc())?),
+        Err(error) if error.kind() == ErrorKind::OutOfMemory => Err(error),
+        Err(_) => Ok(Vec::new(rt.alloc())),
+    }
+}
+
+fn main(rt: HostRuntime) -> ExitCode {
+    let mut printer = HostSink::printer(&rt);
+    let Ok(words) = words_of(&rt) else {
+        return ExitCode::from(Status::NoMemory.number());
+    };
+    let mut files = HostFiles::new(&rt);
+    let mut drive = HostDrive::new(&rt);
+    let mut input = HostSource::new(rt.reader());
+    let mut terminal = HostSink::new(io::writer(&rt));
+    let status = edison(
+        rt.alloc(),
+        &words,
+        &mut files,
+        &mut drive,
+        &mut input,
+        &mut terminal,
+        &mut printer,
+    );
+    ExitCode::from(status.number())
+}

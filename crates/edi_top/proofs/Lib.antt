@@ -1,0 +1,4 @@
+mod ShownLemmas
+mod TextLemmas
+mod MachineLemmas
+mod StatusLemmas

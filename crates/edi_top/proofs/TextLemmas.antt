@@ -1,0 +1,156 @@
+-- What a program's symbols are, read from the front.
+use Rattle.std.proofs.Common.{◌≡◌, ℕ, ◌≤◌, Bool, true, List, [], ◌∷◌, ◌++◌, length, false, ◌&&◌, Result, Ok, Err, refl, sym, ap, subst, ◌∙◌, arith, append_assoc}
+use Rattle.std.proofs.lemmas.List.{append-nil}
+use Rattle.std.proofs.lemmas.List.Sums.{sum_by-cons}
+use Rattle.edi_lex.specs.declared.symbol.Symbol.{Symbol}
+use Rattle.edi_lex.specs.declared.symbol.Symbol.TheVariants as is
+use Rattle.edi_lex.specs.declared.symbol.Mark.{Mark}
+use Rattle.edi_lex.specs.declared.fault.LexFault.{LexFault}
+use Rattle.edi_lex.specs.declared.fault.LexFault.TheVariants as lex
+use Rattle.edi_top.specs.declared.status.RefusalKind.{RefusalKind}
+use Rattle.edi_top.specs.declared.small.Statement.{Statement}
+use Rattle.edi_top.specs.declared.small.Statement.TheVariants.{Skip, Display}
+use Rattle.edi_top.specs.Small.{AreBytes, behind, heading, heading_end, heading_middle, heading_start, spelled, symbols, Spells}
+use Rattle.edi_lex.specs.Order.{extent, size_of}
+use Rattle.edi_lex.specs.Spelling.{are_spelled, is_spelled}
+use Rattle.edi_lex.specs.Symbols.{symbols_of, ScanGives}
+use Rattle.edi_top.specs.declared.status.RefusalKind.TheVariants.{InvalidCharacter, InvalidNumeral, TextTooLong}
+use Rattle.edi_top.specs.Verdict.{AreProgram, AreRefused, IsFault, fault_of}
+
+-- no statement begins another
+pub same_rest : (s t : Statement) (x y : List Symbol) → spelled s ++ x ≡ spelled t ++ y → x ≡ y
+same_rest Skip Skip x y e = cc
+same_rest Skip (Display d) x y e = cc
+same_rest (Display c) Skip x y e = cc
+same_rest (Display c) (Display d) x y e = cc
+
+same_statement : (s t : Statement) (x y : List Symbol) → spelled s ++ x ≡ spelled t ++ y → s ≡ t
+same_statement Skip Skip x y e = refl
+same_statement Skip (Display d) x y e = cc
+same_statement (Display c) Skip x y e = cc
+same_statement (Display c) (Display d) x y e = cc
+
+pub behind_heading : (x y : List Symbol) → heading ++ x ≡ heading ++ y → x ≡ y
+behind_heading x y e = cc
+
+-- the end of a heading whose other parts were found
+pub heading_by_parts : (all one two more : List Symbol) → all ≡ heading_start ++ one → one ≡ heading_middle ++ two → all ≡ heading ++ more → two ≡ heading_end ++ more
+heading_by_parts all one two more a b e = cc
+
+pub has_heading : (ss : List Statement) (all : List Symbol) → Spells ss all → (more : List Symbol) × (all ≡ heading ++ more)
+has_heading [] all spells = absurd spells
+has_heading (s ∷ ss) all spells = (spelled s ++ behind ss, spells)
+
+-- what is left of a program behind some of its statements
+abbrev pub IsLeft : List Symbol → Type 0
+IsLeft rest = (ts : List Statement) × (rest ≡ behind ts)
+
+-- behind the heading and the first statement
+pub left_first : (ss : List Statement) (first : Statement) (all body after : List Symbol) → Spells ss all → all ≡ heading ++ body → body ≡ spelled first ++ after → IsLeft after
+left_first [] first all body after spells h b = absurd spells
+left_first (t ∷ ts) first all body after spells h b =
+    let e : body ≡ spelled t ++ behind ts = behind_heading body (spelled t ++ behind ts) (sym h ∙ spells) in
+    (ts, same_rest first t after (behind ts) (sym b ∙ e))
+
+pub found_first : (first : Statement) (all body after : List Symbol) (ts : List Statement) → all ≡ heading ++ body → body ≡ spelled first ++ after → after ≡ behind ts → Spells (first ∷ ts) all
+found_first first all body after ts h b e = h ∙ ap (λ x. heading ++ x) (b ∙ ap (λ x. spelled first ++ x) e)
+
+-- behind a semicolon stands a statement
+pub left_next : (rest next : List Symbol) → IsLeft rest → rest ≡ is.Semicolon ∷ next → (t : Statement) × ((us : List Statement) × (next ≡ spelled t ++ behind us))
+left_next rest next left e = by_cases left.0 left.1 where
+  by_cases : (ts : List Statement) → rest ≡ behind ts → (t : Statement) × ((us : List Statement) × (next ≡ spelled t ++ behind us))
+  by_cases [] a = absurd (cc)
+  by_cases (t ∷ us) a = (t, (us, cc))
+
+-- behind the statement that was read
+pub left_after : (rest next after : List Symbol) (s : Statement) → IsLeft rest → rest ≡ is.Semicolon ∷ next → next ≡ spelled s ++ after → IsLeft after
+left_after rest next after s left a b =
+    let found = left_next rest next left a in
+    (found.1.0, same_rest s found.0 after (behind found.1.0) (sym b ∙ found.1.1))
+
+pub found_next : (items more : List Statement) (s : Statement) (all rest next after : List Symbol) → more ≡ items ++ s ∷ [] → rest ≡ is.Semicolon ∷ next → next ≡ spelled s ++ after
+    → ((ts : List Statement) → rest ≡ behind ts → Spells (items ++ ts) all) → (ts : List Statement) → after ≡ behind ts → Spells (more ++ ts) all
+found_next items more s all rest next after pushed a b found ts e =
+    let told : rest ≡ behind (s ∷ ts) = a ∙ ap (λ x. is.Semicolon ∷ x) (b ∙ ap (λ x. spelled s ++ x) e) in
+    subst (λ (l : List Statement). Spells l all) (sym (append_assoc items (s ∷ []) ts) ∙ ap (λ l. l ++ ts) (sym pushed)) (found (s ∷ ts) told)
+
+-- with no semicolon the end is left
+pub left_end : (rest : List Symbol) → IsLeft rest → ((more : List Symbol) → rest ≡ is.Semicolon ∷ more → ⊥) → rest ≡ is.End ∷ []
+left_end rest left stops = by_cases left.0 left.1 where
+  by_cases : (ts : List Statement) → rest ≡ behind ts → rest ≡ is.End ∷ []
+  by_cases [] a = a
+  by_cases (t ∷ us) a = absurd (stops (spelled t ++ behind us) a)
+
+pub none_behind : (rest : List Symbol) (after : List Mark) → rest ≡ is.End ∷ [] → rest ≡ is.End ∷ symbols after → length after ≡ 0
+none_behind rest [] a b = refl
+none_behind rest (m ∷ after) a b = cc
+
+pub found_end : (items : List Statement) (all rest : List Symbol) (after : List Mark) → rest ≡ is.End ∷ symbols after → length after ≡ 0
+    → ((ts : List Statement) → rest ≡ behind ts → Spells (items ++ ts) all) → Spells items all
+found_end items all rest [] a none found = subst (λ (l : List Statement). Spells l all) (append-nil items) (found [] a)
+found_end items all rest (m ∷ after) a none found = absurd (omega (arith, none))
+
+-- a symbol that is spelled has a size
+has_size : (s : Symbol) → is_spelled s ≡ true → 1 ≤ size_of s
+has_size (is.Chars []) e = cc
+has_size (is.Chars (c ∷ more)) e = omega arith
+has_size _ e = omega arith
+
+-- there are no more symbols than their sizes make
+pub few_marks : (marks : List Mark) → are_spelled marks ≡ true → length marks ≤ extent marks
+few_marks [] e = omega arith
+few_marks (m ∷ marks) e = omega (arith, sum_by-cons (λ (n : Mark). size_of n.symbol) m marks, has_size m.symbol (and_left (is_spelled m.symbol) (are_spelled marks) e), few_marks marks (and_right (is_spelled m.symbol) (are_spelled marks) e)) where
+  and_left : (a b : Bool) → a && b ≡ true → a ≡ true
+  and_left true b e = refl
+  and_left false b e = cc
+
+  and_right : (a b : Bool) → a && b ≡ true → b ≡ true
+  and_right true b e = e
+  and_right false b e = cc
+
+-- the fault of a text that has no symbols
+pub refused_lexically : (text : List ℕ) (fault : LexFault) → ScanGives (Err fault) (symbols_of text) → IsFault text (fault_of fault)
+refused_lexically text (lex.BadCharacter line) e = subst (λ (k : Result (List Mark × ℕ) LexFault). AreRefused k InvalidCharacter line) (sym e) (refl, refl)
+refused_lexically text (lex.BadNumeral line) e = subst (λ (k : Result (List Mark × ℕ) LexFault). AreRefused k InvalidNumeral line) (sym e) (refl, refl)
+refused_lexically text lex.TooLong e = subst (λ (k : Result (List Mark × ℕ) LexFault). AreRefused k TextTooLong 0) (sym e) (refl, refl)
+refused_lexically text lex.NoMemory e = tt
+
+pub AreBytes-push : (ss : List Statement) (s : Statement) → AreBytes ss → AreBytes (s ∷ []) → AreBytes (ss ++ s ∷ [])
+AreBytes-push [] s a b = b
+AreBytes-push (Skip ∷ ss) s a b = AreBytes-push ss s a b
+AreBytes-push (Display c ∷ ss) s a b = (a.0, AreBytes-push ss s a.1 b)
+
+-- the same symbols never spell two programs
+same_behind : (ss ts : List Statement) → behind ss ≡ behind ts → ss ≡ ts
+same_behind [] [] e = refl
+same_behind [] (t ∷ ts) e = cc
+same_behind (s ∷ ss) [] e = cc
+same_behind (s ∷ ss) (t ∷ ts) e =
+    let parts : spelled s ++ behind ss ≡ spelled t ++ behind ts = cc in
+    let first : s ≡ t = same_statement s t (behind ss) (behind ts) parts in
+    let rest : ss ≡ ts = same_behind ss ts (same_rest s t (behind ss) (behind ts) parts) in
+    cc
+
+same_spelled : (ss ts : List Statement) (all : List Symbol) → Spells ss all → Spells ts all → ss ≡ ts
+same_spelled [] ts all a b = absurd a
+same_spelled (s ∷ ss) [] all a b = absurd b
+same_spelled (s ∷ ss) (t ∷ ts) all a b =
+    let parts : spelled s ++ behind ss ≡ spelled t ++ behind ts = behind_heading (spelled s ++ behind ss) (spelled t ++ behind ts) (sym a ∙ b) in
+    let first : s ≡ t = same_statement s t (behind ss) (behind ts) parts in
+    let rest : ss ≡ ts = same_behind ss ts (same_rest s t (behind ss) (behind ts) parts) in
+    cc
+
+pub one_program : (known : Result (List Mark × ℕ) LexFault) (ss ts : List Statement) → AreProgram known ss → AreProgram known ts → ss ≡ ts
+one_program (Ok known) ss ts a b = same_spelled ss ts (symbols known.0) a b
+one_program (Err fault) ss ts a b = absurd a
+
+pub not_both : (known : Result (List Mark × ℕ) LexFault) (ss : List Statement) (kind : RefusalKind) (line : ℕ) → AreProgram known ss → AreRefused known kind line → ⊥
+not_both (Ok known) ss kind line a b = b.2 ss a
+not_both (Err fault) ss kind line a b = a
+
+pub one_refusal : (known : Result (List Mark × ℕ) LexFault) (kind kind' : RefusalKind) (line line' : ℕ) → AreRefused known kind line → AreRefused known kind' line' → (kind ≡ kind') × (line ≡ line')
+one_refusal (Err (lex.BadCharacter at)) kind kind' line line' a b = (a.0 ∙ sym b.0, a.1 ∙ sym b.1)
+one_refusal (Err (lex.BadNumeral at)) kind kind' line line' a b = (a.0 ∙ sym b.0, a.1 ∙ sym b.1)
+one_refusal (Err lex.TooLong) kind kind' line line' a b = (a.0 ∙ sym b.0, a.1 ∙ sym b.1)
+one_refusal (Err lex.NoMemory) kind kind' line line' a b = absurd a
+one_refusal (Ok known) kind kind' line line' a b = (a.0 ∙ sym b.0, a.1 ∙ sym b.1)
