@@ -5,7 +5,7 @@ use Rattle.edi_ring.specs.Lists.{list_at}
 
 -- so many nodes from this one on, each the next of the one before it
 abbrev pub walk : List (Option ℕ) → Option ℕ → ℕ → List ℕ
-walk next node zero = []
+walk next place zero = []
 walk next None (suc n) = []
 walk next (Some node) (suc n) = node ∷ walk next (slice_index_or next node None) n
 
