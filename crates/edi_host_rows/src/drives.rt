@@ -76,6 +76,7 @@ fn drive_with_a_rest(rt: HostRuntime) -> Result<(), Fail> {
 // A folder cannot be opened for reading and writing: 64 blocks of which every call fails.
 #[test]
 fn drive_that_cannot_be_opened(rt: HostRuntime) -> Result<(), Fail> {
+    let _ = fs::remove_file(&rt, DRIVE_FILE);
     fs::create_dir(&rt, DRIVE_FILE)?;
     let mut drive = HostDrive::new(&rt);
     let calls = [
@@ -92,6 +93,7 @@ fn drive_that_cannot_be_opened(rt: HostRuntime) -> Result<(), Fail> {
             "{call:?}"
         );
     }
+    fs::remove_dir(&rt, DRIVE_FILE)?;
     Ok(())
 }
 

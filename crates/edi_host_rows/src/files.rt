@@ -8,18 +8,18 @@ use std::test::Fail;
 
 #[test]
 fn files_of_the_host(rt: HostRuntime) -> Result<(), Fail> {
-    fs::create_dir(&rt, "folder")?;
+    fs::create_dir(&rt, "folder of files")?;
     let mut files = HostFiles::new(&rt);
     let calls = [
-        ("text", Fetch(9), FetchEnd::Absent, ""),
-        ("text", Keep("hello, there"), FetchEnd::Ok, ""),
-        ("text", Keep("hello"), FetchEnd::Ok, ""),
-        ("text", Fetch(9), FetchEnd::Ok, "hello"),
-        ("text", Fetch(5), FetchEnd::Ok, "hello"),
-        ("text", Fetch(3), FetchEnd::Ok, "hel"),
-        ("text", Fetch(0), FetchEnd::Ok, ""),
-        ("folder/text", Keep("deep"), FetchEnd::Ok, ""),
-        ("folder/text", Fetch(9), FetchEnd::Ok, "deep"),
+        ("text of a file", Fetch(9), FetchEnd::Absent, ""),
+        ("text of a file", Keep("hello, there"), FetchEnd::Ok, ""),
+        ("text of a file", Keep("hello"), FetchEnd::Ok, ""),
+        ("text of a file", Fetch(9), FetchEnd::Ok, "hello"),
+        ("text of a file", Fetch(5), FetchEnd::Ok, "hello"),
+        ("text of a file", Fetch(3), FetchEnd::Ok, "hel"),
+        ("text of a file", Fetch(0), FetchEnd::Ok, ""),
+        ("folder of files/text", Keep("deep"), FetchEnd::Ok, ""),
+        ("folder of files/text", Fetch(9), FetchEnd::Ok, "deep"),
         ("nothing", Keep(""), FetchEnd::Ok, ""),
         ("nothing", Fetch(9), FetchEnd::Ok, ""),
     ];

@@ -72,9 +72,9 @@ fn source_over_a_file(rt: HostRuntime) -> Result<(), Fail> {
         HostSource::new(File::open(&rt, "empty")?).next(),
         Next::End
     );
-    fs::create_dir(&rt, "folder")?;
+    fs::create_dir(&rt, "folder of bytes")?;
     assert_eq!(rt;
-        HostSource::new(File::open(&rt, "folder")?).next(),
+        HostSource::new(File::open(&rt, "folder of bytes")?).next(),
         Next::Failed
     );
     Ok(())
@@ -139,12 +139,14 @@ fn sink_over_the_printer(rt: HostRuntime) -> Result<(), Fail> {
 // A printer that cannot be made, and a full device.
 #[test]
 fn sinks_that_fail(rt: HostRuntime) -> Result<(), Fail> {
+    let _ = fs::remove_file(&rt, PRINTER_FILE);
     fs::create_dir(&rt, PRINTER_FILE)?;
     let full = HostSink::new(File::create(&rt, "/dev/full")?);
     for mut sink in [HostSink::printer(&rt), full] {
         let put = sink.put(b"abc");
         assert_eq!(rt; (put.taken, put.end), (0, PutEnd::Failed));
     }
+    fs::remove_dir(&rt, PRINTER_FILE)?;
     Ok(())
 }
 
