@@ -3,12 +3,13 @@
 use Rattle.std.proofs.Common.{◌≡◌, ℕ, suc, ◌+◌, ◌<◌, ◌≤◌, ◌⊎◌, inl, inr, false, List, [], ◌∷◌, ◌++◌, length, Option, Some, None, refl, sym, ap, ◌∙◌, arith}
 use Rattle.std.proofs.lemmas.Bool.{cases_lt}
 use Rattle.std.proofs.lemmas.List.{append-nil}
+use Rattle.edi_calls.specs.State.{State}
 use Rattle.edi_calls.specs.Names.{Name, Table, same, find, with_at, without}
 use Rattle.edi_calls.specs.Ready.{child}
 use Rattle.edi_calls.proofs.Tables.{same-or-other, find-with_at-same, find-with_at-other, find-without-same, find-without-other}
 use Rattle.edi_unit.specs.Tree.{ProgramUnit}
 use Rattle.edi_meaning.specs.Store.{Spot}
-use Rattle.edi_meaning.specs.Step.{Process, Processes, ready, child_process, with_child, with_children}
+use Rattle.edi_meaning.specs.Step.{Process, Processes, ready, child_process, with_child, with_children, start}
 use Rattle.edi_meaning.proofs.Names.{flat, below_child, not_below, deeper}
 
 some_is : {A : Type 0} {a b : A} → Some a ≡ Some b → a ≡ b
@@ -61,7 +62,7 @@ fresh_without live p fresh = record { old = λ r rq f i rest x g h. fresh.old r 
 abbrev pub Free : Table Process → Name → ℕ → ℕ → Type 0
 Free live p f k = (j : ℕ) (rest : List (ℕ × ℕ)) → k ≤ j → find live (child p f j ++ flat rest) ≡ None
 
-free_name : (live : Table Process) (p : Name) (f k j : ℕ) → k ≤ j → Free live p f k → find live (child p f j) ≡ None
+pub free_name : (live : Table Process) (p : Name) (f k j : ℕ) → k ≤ j → Free live p f k → find live (child p f j) ≡ None
 free_name live p f k j le free = ap (find live) (sym (append-nil (child p f j))) ∙ free j [] le
 
 fresh_child : (live : Table Process) (p : Name) (q : Process) (f k : ℕ) (c : Process) → find live p ≡ Some q → f ≤ q.forks → Free live p f k → c.forks ≡ 0 → Fresh live → Fresh (with_at live (child p f k) c)
@@ -96,6 +97,19 @@ free_child live p f k c free j rest le = go (same-or-other (child p f j ++ flat 
       | inr below ↦ absurd (not_below p f j below.0 below.1)
     ]
     go (inr n) = find-with_at-other live (child p f k) (child p f j ++ flat rest) c n ∙ free j rest (omega arith)
+
+-- the names of the next fork of p are free
+pub free_next : (live : Table Process) (p : Name) (q q' : Process) → find live p ≡ Some q → Fresh live → Free (with_at live p q') p (suc q.forks) 0
+free_next live p q q' found fresh j rest h = go (find (with_at live p q') (child p (suc q.forks) j ++ flat rest)) refl
+  where
+    go : (x : Option Process) → find (with_at live p q') (child p (suc q.forks) j ++ flat rest) ≡ x → find (with_at live p q') (child p (suc q.forks) j ++ flat rest) ≡ None
+    go None f = f
+    go (Some y) f = elim (same-or-other (child p (suc q.forks) j ++ flat rest) p) [
+      | inl k ↦ absurd (not_below p (suc q.forks) j rest k)
+      | inr n ↦
+          let le : suc q.forks ≤ q.forks = fresh.old p q (suc q.forks) j rest y found (sym (find-with_at-other live p (child p (suc q.forks) j ++ flat rest) q' n) ∙ f) in
+          absurd (omega arith)
+    ]
 
 -- a process that is live keeps its place in the table beside a new child
 kept_child : (live : Table Process) (p : Name) (f k : ℕ) (c : Process) (x : Name) (q : Process) → Free live p f k → find live x ≡ Some q → find (with_at live (child p f k) c) x ≡ Some q
@@ -142,3 +156,13 @@ module _ (unit : ProgramUnit) (p : Name) (f share : ℕ) (parent : Spot) where
         born = λ j h l. born_at (with_children unit p f (suc k) share parent bs s1).live p f k (length bs) c j h l (more.kept (child p f k) c (find-with_at-same s.live (child p f k) c)) refl more.born;
         only = λ x y h. only_at s.live p f k (length bs) c x y (more.only x y h);
       }
+
+-- ---- the start
+
+-- the first process stands alone
+pub start_fresh : (unit : ProgramUnit) (system : State) (bound : ℕ) → Fresh (start unit system bound).live
+start_fresh unit system bound = record { old = λ p q f i rest x g h. absurd (alone p f i rest x h) }
+  where
+    alone : (p : Name) (f i : ℕ) (rest : List (ℕ × ℕ)) (x : Process) → find (start unit system bound).live (child p f i ++ flat rest) ≡ Some x → ⊥
+    alone [] f i rest x h = absurd (cc)
+    alone (y ∷ ys) f i rest x h = absurd (cc)

@@ -1,3 +1,6 @@
+pub mod Lasting
+pub mod Local
+pub mod Own
 pub mod Turns
 pub mod Work
 pub mod Selections
@@ -8,3 +11,4 @@ pub mod Sound
 pub mod Pure
 pub mod Standstill
 pub mod Permitted
+pub mod Private

@@ -18,8 +18,7 @@ use Rattle.edi_meaning.specs.Select.{Selected, unfinished, finished, stepped_fir
 use Rattle.edi_meaning.specs.Laws.{LeadsTo, SelectIsPermitted}
 use Rattle.edi_meaning.proofs.Turns.{IsOwn}
 use Rattle.edi_meaning.proofs.Work.{Falls, standing_size, work_size, step_falls}
-use Rattle.edi_meaning.proofs.Names.{flat, not_below}
-use Rattle.edi_meaning.proofs.Family.{Fresh, fresh_changed, fresh_without, Free, Forked, forked_children}
+use Rattle.edi_meaning.proofs.Family.{Fresh, fresh_changed, fresh_without, free_name, free_next, Forked, forked_children, start_fresh}
 use Rattle.edi_meaning.proofs.Sound.{or_true, not_true, true_right, right_false, has-append, has-child, once-append, has-children, once-children, Each, EachTaken, each_next}
 use Rattle.edi_meaning.proofs.Standstill.{Idle, Marks, step_marks, idle_same, AllIdle, nothing_happens, marked_one}
 
@@ -99,19 +98,6 @@ module _ (unit : ProgramUnit) (s : Processes) (p : Name) (q : Process) (others :
     },
   )
 
-  -- later forks have free names
-  free_now : (q' : Process) → q'.forks ≡ suc q.forks → Free (with_at s.live p q') p (suc q.forks) 0
-  free_now q' e j rest h = go (find (with_at s.live p q') (child p (suc q.forks) j ++ flat rest)) refl
-    where
-      go : (x : Option Process) → find (with_at s.live p q') (child p (suc q.forks) j ++ flat rest) ≡ x → find (with_at s.live p q') (child p (suc q.forks) j ++ flat rest) ≡ None
-      go None f = f
-      go (Some y) f = elim (same-or-other (child p (suc q.forks) j ++ flat rest) p) [
-        | inl k ↦ absurd (not_below p (suc q.forks) j rest k)
-        | inr n ↦
-            let le : suc q.forks ≤ q.forks = fresh.old p q (suc q.forks) j rest y found (sym (find-with_at-other s.live p (child p (suc q.forks) j ++ flat rest) q' n) ∙ f) in
-            absurd (omega arith)
-      ]
-
   -- the others and the children stand once each, and may step
   fork_each : (q' : Process) (n : ℕ) (after : Table Process) → q'.forks ≡ suc q.forks → is_running q'.standing ≡ false → Forked (with_at s.live p q') after p (suc q.forks) 0 n → Each (May after) (others ++ children p (suc q.forks) 0 n)
   fork_each q' n after e waits fork = record {
@@ -126,7 +112,7 @@ module _ (unit : ProgramUnit) (s : Processes) (p : Name) (q : Process) (others :
       apart : (x : Name) → has others x ≡ true → (j : ℕ) × (0 ≤ j) × (j < 0 + n) × (x ≡ child p (suc q.forks) j) → ⊥
       apart x h c =
           let gone : find (with_at s.live p q') (child p (suc q.forks) c.0) ≡ None =
-          ap (find (with_at s.live p q')) (sym (append-nil (child p (suc q.forks) c.0))) ∙ free_now q' e c.0 [] (omega arith) in
+          free_name (with_at s.live p q') p (suc q.forks) 0 c.0 (omega arith) (free_next s.live p q q' found fresh) in
           let no : May (with_at s.live p q') x → ⊥ = λ m.
           let a : false ≡ true = sym (ap is_running_process (ap (find (with_at s.live p q')) c.3 ∙ gone)) ∙ m in absurd (cc) in
           no (others_changed q' x h)
@@ -171,7 +157,7 @@ module _ (unit : ProgramUnit) (s : Processes) (p : Name) (q : Process) (others :
       let s1 : Processes = back s p q' (record w { turns = n }) in
       let after : Table Process = (with_children unit p f 0 share (now (shape w.store) p) bs s1).live in
       let fork : Forked s1.live after p f 0 (length bs) =
-      forked_children unit p f share (now (shape w.store) p) bs 0 q' s1 (find-with_at-same s.live p q') (omega arith) (free_now q' refl) (fresh_changed s.live p q q' found (omega arith) fresh) in
+      forked_children unit p f share (now (shape w.store) p) bs 0 q' s1 (find-with_at-same s.live p q') (omega arith) (free_next s.live p q q' found fresh) (fresh_changed s.live p q q' found (omega arith) fresh) in
       (fork.fresh, fork_each q' (length bs) after refl refl fork)
 
   exit_sound : (w : World) → StepSound p others (exited s p w)
@@ -361,14 +347,6 @@ module _ (unit : ProgramUnit) (choices : Choices) where
           (step_sound unit s p q others g f e) (step_falls unit s p q g) (step_marks unit s p q g) ih)
 
 -- ---- the start
-
--- the first process stands alone
-start_fresh : (unit : ProgramUnit) (system : State) (bound : ℕ) → Fresh (start unit system bound).live
-start_fresh unit system bound = record { old = λ p q f i rest x g h. absurd (alone p f i rest x h) }
-  where
-    alone : (p : Name) (f i : ℕ) (rest : List (ℕ × ℕ)) (x : Process) → find (start unit system bound).live (child p f i ++ flat rest) ≡ Some x → ⊥
-    alone [] f i rest x h = absurd (cc)
-    alone (y ∷ ys) f i rest x h = absurd (cc)
 
 start_may : (unit : ProgramUnit) (system : State) (bound : ℕ) (x : Name) → has ([] ∷ []) x ≡ true → May (start unit system bound).live x
 start_may unit system bound [] h = refl

@@ -1,13 +1,14 @@
 -- What is true of every program.
-use Rattle.std.specs.Prelude.{◌≡◌, ℕ, zero, suc, false, List, [], ◌∷◌, ◌++◌, Some, ⊤}
+use Rattle.std.specs.Prelude.{◌≡◌, ◌⊎◌, ℕ, true, false, List, [], ◌∷◌, None, Some, ⊤}
 use Rattle.edi_calls.specs.State.{State}
 use Rattle.edi_calls.specs.Choice.{Choices, listed, first_choices}
 use Rattle.edi_calls.specs.Names.{Name, find, with_at}
 use Rattle.edi_calls.specs.Outcome as outcome
 use Rattle.edi_calls.specs.Outcome.{Ending, Outcome}
-use Rattle.edi_calls.specs.Ready.{stays, joins}
+use Rattle.edi_calls.specs.Ready.{child, stays, joins}
 use Rattle.edi_unit.specs.Tree.{Clauses, ProgramUnit}
-use Rattle.edi_meaning.specs.Step.{Position, ready, at_when, Process, Processes, Stepped, went, ended, is_quiet, step, start, Led, at, over, nowhere, permitted}
+use Rattle.edi_meaning.specs.Store.{instances, shape, Owns}
+use Rattle.edi_meaning.specs.Step.{Position, ready, at_when, Process, Processes, Stepped, went, ended, is_quiet, step, start, may_step, Led, at, over, nowhere, permitted}
 use Rattle.edi_meaning.specs.Select.{Ends, Select}
 
 -- every selection ends, after some number of steps
@@ -67,3 +68,33 @@ SelectIsPermitted =
     (unit : ProgramUnit) (system : State) (bound : ℕ) (choices : Choices) (ending : Ending) (end : State) (turns drawn : ℕ) (order : List Name) →
     Ends unit system bound choices ending end turns drawn order →
     LeadsTo unit (permitted unit order (start unit system bound)) ending end turns
+
+-- r is a process that a step of p from s to t has made: a child of p, by a name that no process had, and which had no
+-- instance
+pub record IsMade (s t : Processes) (p r : Name) : Type 0 where
+  pub fork : ℕ
+  pub number : ℕ
+  pub named : r ≡ child p fork number
+  pub free : find s.live r ≡ None
+  pub bare : instances s.world.store r ≡ []
+  pub process : Process
+  pub live : find t.live r ≡ Some process
+
+-- a step of p from s to t is private
+pub record IsPrivate (s t : Processes) (p : Name) : Type 0 where
+  -- the instances of a process that is neither p nor an ancestor of p are as they were, with all their cells, if p has
+  -- not made the process
+  pub cells : (r : Name) → (Owns p r → ⊥) → (instances t.world.store r ≡ instances s.world.store r) ⊎ IsMade s t p r
+  -- and of an ancestor's instances none comes or goes, and each keeps its block and its static parent
+  pub frames : (r : Name) → (r ≡ p → ⊥) → (shape t.world.store r ≡ shape s.world.store r) ⊎ IsMade s t p r
+
+abbrev pub StepIsPrivate : Processes → Name → Stepped → Type 0
+StepIsPrivate s p (went t next quiet) = IsPrivate s t p
+StepIsPrivate s p (ended ending system turns) = ⊤
+
+-- in every state that permitted steps reach from the start, a step changes no cell but those of the process itself, of
+-- its ancestors, and of the children that it makes
+abbrev pub CellsArePrivate : Type 0
+CellsArePrivate =
+    (unit : ProgramUnit) (system : State) (bound : ℕ) (names : List Name) (s : Processes) (p : Name) →
+    permitted unit names (start unit system bound) ≡ at s → may_step s p ≡ true → StepIsPrivate s p (step unit s p)

@@ -1,8 +1,9 @@
 -- The variables of all processes. Each live process has a list of instances, one for each block that it has entered
 -- and not left, the oldest first. What an instance is (its block, and the instance that its block's surroundings mean)
 -- is told apart from what its variables hold.
-use Rattle.std.specs.Prelude.{ℕ, zero, suc, ◌+◌, ◌-◌, List, [], ◌∷◌, ◌++◌, length, take, slice_get, slice_set, slice_index_or, unwrap_or, pos}
+use Rattle.std.specs.Prelude.{◌≡◌, ℕ, zero, suc, ◌+◌, ◌-◌, List, [], ◌∷◌, ◌++◌, length, take, slice_get, slice_set, slice_index_or, unwrap_or, pos}
 use Rattle.edi_calls.specs.Names.{Name, Table, find, with_at}
+use Rattle.edi_calls.specs.Ready.{parent_of}
 use Rattle.edi_unit.specs.Values.{Value, ordinal}
 use Rattle.edi_meaning.specs.Parts.{part_at, with_part}
 
@@ -145,3 +146,15 @@ grown p i store = with_at store p (instances store p ++ i ∷ [])
 
 abbrev pub shrunk : Name → Store → Store
 shrunk p store = with_at store p (take (length (instances store p) - 1) (instances store p))
+
+-- ---- whose instances a process may use
+
+-- a process with 0, its parent with 1, the parent of that with 2, and so on
+abbrev pub ancestor : ℕ → Name → Name
+ancestor zero p = p
+ancestor (suc n) p = parent_of (ancestor n p)
+
+-- the instances that p may use are its own and its ancestors': those of r, where r is p or an ancestor of p
+pub record Owns (p r : Name) : Type 0 where
+  pub generation : ℕ
+  pub is : r ≡ ancestor generation p

@@ -1,7 +1,7 @@
 //! What is true of every program, by its meaning. The functions do nothing; their contracts are the laws, which speak of
 //! all units, system states, bounds and choices.
 
-ghost use Rattle.edi_meaning.specs.Laws.{AttemptsAreWhole, EverySelectionEnds, RecordReplays, SelectIsPermitted, SelectionsAreDetermined};
+ghost use Rattle.edi_meaning.specs.Laws.{AttemptsAreWhole, CellsArePrivate, EverySelectionEnds, RecordReplays, SelectIsPermitted, SelectionsAreDetermined};
 
 /// Critical phases are executed strictly one at a time: an attempt at a `when` is one step, which leaves its process
 /// behind the whole body, or at the `when` again, and changes nothing else of any process.
@@ -29,4 +29,10 @@ pub fn select_is_permitted()
 /// The list of the choices that an execution drew gives the same execution again, step by step.
 pub fn record_replays()
     ensures law { RecordReplays }
+{}
+
+/// In every state that permitted steps reach from the start, a step changes no cell but those of the process itself, of
+/// its ancestors, and of the children that it makes; and of an ancestor's instances none comes or goes.
+pub fn cells_are_private()
+    ensures law { CellsArePrivate }
 {}

@@ -1,0 +1,319 @@
+-- A step of a process changes no cell but those of its own instances, of its ancestors', and of the children that it
+-- makes.
+use Rattle.std.proofs.Common.{◌≡◌, ℕ, zero, suc, ◌+◌, ◌-◌, ◌<◌, ◌≤◌, ◌⊎◌, inl, inr, Bool, true, false, if◌then◌else◌, List, [], ◌∷◌, ◌++◌, map, take, length, Option, Some, None, refl, sym, subst, ap, ◌∙◌, arith}
+use Rattle.std.specs.Prelude.{⊤, nat_lt}
+use Rattle.std.specs.List.{list_any}
+use Rattle.edi_calls.specs.State.{State}
+use Rattle.edi_calls.specs.Names.{Name, Table, same, find, with_at, without}
+use Rattle.edi_calls.specs.Ready.{child, parent_of}
+use Rattle.edi_calls.proofs.Tables.{same-or-other, find-with_at-same, find-with_at-other, find-without-other}
+use Rattle.edi_unit.specs.Tree.{ProgramUnit}
+use Rattle.edi_unit.specs.Values.{Value}
+use Rattle.edi_meaning.specs.Store.{Spot, Location, Cell, system_procedure, procedure, Instance, Store, instances, frames, shape, now, room, put, Owns}
+use Rattle.edi_meaning.specs.Run.{World, Run, gives, ends}
+use Rattle.edi_meaning.specs.Whole.{instance_of}
+use Rattle.edi_meaning.specs.Step.{Work, Standing, ready, at_when, waiting, Asks, goes, arrives, again, forks, leaves, Process, Processes, Stepped, went, ended, back, share_of, exceeds, most_processes, with_child, with_children, fork_taken, awaits, one_less, told, exited, local_step, kernel, step_of, step, start, is_running_process, may_step, Led, at, nowhere, onward, permitted}
+use Rattle.edi_meaning.specs.Laws.{IsMade, IsPrivate, StepIsPrivate, CellsArePrivate}
+use Rattle.edi_meaning.proofs.Lasting.{Each, Lasting}
+use Rattle.edi_meaning.proofs.Local.{Moving, local_keeps}
+use Rattle.edi_meaning.proofs.Own.{owns_self, owns_all, owns_first, owns_parent, each-append, each-take, CellOwned, InstanceOwned, Owned, slot_owned, meant_owned, calls_owned, instance_owned, instances-other, instances-gone, instances-left, owned_with, owned_without, put_owned, shape-put}
+use Rattle.edi_meaning.proofs.Family.{Fresh, fresh_changed, fresh_without, free_name, free_next, no_some, Forked, forked_children, start_fresh}
+
+-- ---- one process
+
+-- what p leaves of a store while it goes on by itself
+pub record Leaves (p : Name) (before store : Store) : Type 0 where
+  pub owned : Owned store
+  pub others : (r : Name) → (Owns p r → ⊥) → instances store r ≡ instances before r
+  pub shapes : (r : Name) → same r p ≡ false → shape store r ≡ shape before r
+
+leaves_all : (p : Name) (store : Store) → Owned store → Leaves p store store
+leaves_all p store o = record { owned = o; others = λ r n. refl; shapes = λ r n. refl }
+
+-- who is not p's is not p
+not_self : (p r : Name) → (Owns p r → ⊥) → same r p ≡ false
+not_self p r n = go (same-or-other r p)
+  where
+    go : (r ≡ p) ⊎ (same r p ≡ false) → same r p ≡ false
+    go (inl e) = absurd (n (subst (Owns p) (sym e) (owns_self p)))
+    go (inr m) = m
+
+-- a value is stored in a variable of p or of an ancestor
+leaves_put : (p : Name) (before store : Store) (l : Location) (v : Value) → Owns p l.spot.0 → Leaves p before store → Leaves p before (put store l v)
+leaves_put p before store l v o h = record {
+  owned = put_owned store l v h.owned;
+  others = λ r n. other r n (same-or-other r l.spot.0);
+  shapes = λ r n. shape-put store l v r ∙ h.shapes r n;
+}
+  where
+    other : (r : Name) → (Owns p r → ⊥) → (r ≡ l.spot.0) ⊎ (same r l.spot.0 ≡ false) → instances (put store l v) r ≡ instances before r
+    other r n (inl e) = absurd (n (subst (Owns p) (sym e) o))
+    other r n (inr m) = instances-other store l.spot.0 r _ m ∙ h.others r n
+
+-- p has other instances
+leaves_with : (p : Name) (before store : Store) (is : List Instance) → Each (InstanceOwned p) is → Leaves p before store → Leaves p before (with_at store p is)
+leaves_with p before store is k h = record {
+  owned = owned_with store p is h.owned k;
+  others = λ r n. instances-other store p r is (not_self p r n) ∙ h.others r n;
+  shapes = λ r n. ap frames (instances-other store p r is n) ∙ h.shapes r n;
+}
+
+module _ (unit : ProgramUnit) (p : Name) (size : ℕ) (before : Store) where
+  grown_leaves : (number : ℕ) (parent : Spot) (cells : List Cell) (store : Store) → Owns p parent.0 → Each (CellOwned p) cells → Leaves p before store →
+      Leaves p before (with_at store p (instances store p ++ instance_of unit p size number parent cells ∷ []))
+  grown_leaves number parent cells store c f h =
+      leaves_with p before store _ (each-append (InstanceOwned p) (instances store p) _ (h.owned.each p) (instance_owned unit p size number parent cells c f, tt)) h
+
+  shrunk_leaves : (store : Store) → Leaves p before store → Leaves p before (with_at store p (take (length (instances store p) - 1) (instances store p)))
+  shrunk_leaves store h = leaves_with p before store _ (each-take (InstanceOwned p) (length (instances store p) - 1) (instances store p) (h.owned.each p)) h
+
+  abbrev privacy : Lasting unit p size
+  privacy = record {
+    Level = Unit {0};
+    Holds = λ x w. Leaves p before w.store;
+    Ends = λ e system turns. ⊤;
+    Comes = λ l. Owns p l.spot.0;
+    Fits = CellOwned p;
+    over = λ x e w o h. tt;
+    turned = λ x n w e h. h;
+    stored = λ x l v w c h. leaves_put p before w.store l v c h;
+    replied = λ x number asked words system w e h. h;
+    called = λ x number parent cells w c f h. (tt, grown_leaves number parent cells w.store c f h, λ v k. shrunk_leaves v.store k);
+    of_slot = λ x levels variable w h. slot_owned p w.store levels variable h.owned;
+    of_part = λ l n c. c;
+    by_value = λ v. tt;
+    by_location = λ l c. c;
+    to_location = λ l c. c;
+    by_procedure = λ x c w h. meant_owned unit p size c w h.owned;
+  }
+
+  private_moves : Moving privacy tt
+  private_moves = record {
+    grows = λ number parent cells w c f h. grown_leaves number parent cells w.store c f h;
+    shrinks = λ w h. shrunk_leaves w.store h;
+    begins = λ w h. leaves_with p before w.store _ (instance_owned unit p size unit.program ([], 0) (map (λ n. procedure (system_procedure n)) unit.calls) (owns_first p) (calls_owned p unit.calls), tt) h;
+  }
+
+-- ---- all processes
+
+-- what every state keeps that permitted steps reach
+pub record Proper (s : Processes) : Type 0 where
+  pub owned : Owned s.world.store
+  pub fresh : Fresh s.live
+  -- who is not live has no instances
+  pub bare : (r : Name) → find s.live r ≡ None → instances s.world.store r ≡ []
+
+abbrev Moves : Processes → Name → Stepped → Type 0
+Moves s p (went t next quiet) = IsPrivate s t p × Proper t
+Moves s p (ended ending system turns) = ⊤
+
+if_moves : (s : Processes) (p : Name) (b : Bool) (x y : Stepped) → Moves s p x → Moves s p y → Moves s p (if b then x else y)
+if_moves s p true x y h k = h
+if_moves s p false x y h k = k
+
+-- who is not live with a new entry was not live before
+none_before : (live : Table Process) (p : Name) (q : Process) (r : Name) → find (with_at live p q) r ≡ None → find live r ≡ None
+none_before live p q r e = go (same-or-other r p)
+  where
+    go : (r ≡ p) ⊎ (same r p ≡ false) → find live r ≡ None
+    go (inl h) = absurd (no_some (find (with_at live p q) r) e (ap (find (with_at live p q)) h ∙ find-with_at-same live p q))
+    go (inr n) = sym (find-with_at-other live p r q n) ∙ e
+
+other_than : (p r : Name) → (r ≡ p → ⊥) → same r p ≡ false
+other_than p r n = go (same-or-other r p)
+  where
+    go : (r ≡ p) ⊎ (same r p ≡ false) → same r p ≡ false
+    go (inl e) = absurd (n e)
+    go (inr m) = m
+
+no_frames : (is : List Instance) → frames is ≡ [] → is ≡ []
+no_frames [] e = refl
+no_frames (i ∷ is) e = absurd (cc)
+
+-- ---- children
+
+module _ (unit : ProgramUnit) (p : Name) (f share : ℕ) (parent : Spot) (mine : Owns p parent.0) where
+  children_owned : (bs : List ℕ) (k : ℕ) (s : Processes) → Owned s.world.store → Owned (with_children unit p f k share parent bs s).world.store
+  children_owned [] k s o = o
+  children_owned (b ∷ bs) k s o =
+      children_owned bs (suc k) (with_child unit (child p f k) share parent b s)
+      (owned_with s.world.store (child p f k) _ o (instance_owned unit (child p f k) share b parent [] (owns_all (child p f k) p parent.0 (owns_parent p f k) mine) tt, tt))
+
+  -- only children have other instances
+  only_children : (bs : List ℕ) (k : ℕ) (s : Processes) (r : Name) →
+      (instances (with_children unit p f k share parent bs s).world.store r ≡ instances s.world.store r) ⊎ ((j : ℕ) × (k ≤ j) × (j < k + length bs) × (r ≡ child p f j))
+  only_children [] k s r = inl refl
+  only_children (b ∷ bs) k s r = go (only_children bs (suc k) (with_child unit (child p f k) share parent b s) r) (same-or-other r (child p f k))
+    where
+      go : (instances (with_children unit p f (suc k) share parent bs (with_child unit (child p f k) share parent b s)).world.store r ≡ instances (with_child unit (child p f k) share parent b s).world.store r) ⊎ ((j : ℕ) × (suc k ≤ j) × (j < suc k + length bs) × (r ≡ child p f j)) →
+          (r ≡ child p f k) ⊎ (same r (child p f k) ≡ false) →
+          (instances (with_children unit p f (suc k) share parent bs (with_child unit (child p f k) share parent b s)).world.store r ≡ instances s.world.store r) ⊎ ((j : ℕ) × (k ≤ j) × (j < k + suc (length bs)) × (r ≡ child p f j))
+      go (inl e) (inl h) = inr (k, omega arith, omega arith, h)
+      go (inl e) (inr n) = inl (e ∙ instances-other s.world.store (child p f k) r _ n)
+      go (inr c) n = inr (c.0, omega arith, omega arith, c.3)
+
+-- ---- a step
+
+module _ (unit : ProgramUnit) (s : Processes) (p : Name) (q : Process) (found : find s.live p ≡ Some q) (proper : Proper s) where
+  -- who is not live is not p
+  apart : (r : Name) → find s.live r ≡ None → same r p ≡ false
+  apart r e = other_than p r (λ h. no_some (find s.live r) e (ap (find s.live) h ∙ found))
+
+  still_bare : (store : Store) → Leaves p s.world.store store → (r : Name) → find s.live r ≡ None → instances store r ≡ []
+  still_bare store l r e = no_frames (instances store r) (l.shapes r (apart r e) ∙ ap frames (proper.bare r e))
+
+  back_moves : (q' : Process) (w : World) → q.forks ≤ q'.forks → Leaves p s.world.store w.store → IsPrivate s (back s p q' w) p × Proper (back s p q' w)
+  back_moves q' w le l = (
+    record { cells = λ r n. inl (l.others r n); frames = λ r n. inl (l.shapes r (other_than p r n)) },
+    record {
+      owned = l.owned;
+      fresh = fresh_changed s.live p q q' found le proper.fresh;
+      bare = λ r e. still_bare w.store l r (none_before s.live p q' r e);
+    },
+  )
+
+  -- its end, however the table of the others is then
+  gone_moves : (live : Table Process) (w : World) → Fresh live → ((r : Name) → find live r ≡ None → find (without s.live p) r ≡ None) → Leaves p s.world.store w.store →
+      IsPrivate s (record { live = live; world = record w { store = without w.store p } }) p × Proper (record { live = live; world = record w { store = without w.store p } })
+  gone_moves live w fresh was l = (
+    record {
+      cells = λ r n. inl (instances-left w.store p r (not_self p r n) ∙ l.others r n);
+      frames = λ r n. inl (ap frames (instances-left w.store p r (other_than p r n)) ∙ l.shapes r (other_than p r n));
+    },
+    record { owned = owned_without w.store p l.owned; fresh = fresh; bare = λ r e. bare r (same-or-other r p) (was r e) },
+  )
+    where
+      bare : (r : Name) → (r ≡ p) ⊎ (same r p ≡ false) → find (without s.live p) r ≡ None → instances (without w.store p) r ≡ []
+      bare r (inl h) e = ap (instances (without w.store p)) h ∙ instances-gone w.store p
+      bare r (inr n) e = instances-left w.store p r n ∙ still_bare w.store l r (sym (find-without-other s.live p r n) ∙ e)
+
+  exited_moves : (w : World) → Leaves p s.world.store w.store → Moves s p (exited s p w)
+  exited_moves w l = told_moves (parent_of p) (find (without s.live p) (parent_of p)) refl
+    where
+      alone : IsPrivate s (record { live = without s.live p; world = record w { store = without w.store p } }) p × Proper (record { live = without s.live p; world = record w { store = without w.store p } })
+      alone = gone_moves (without s.live p) w (fresh_without s.live p proper.fresh) (λ r e. e) l
+
+      less_moves : (r : Name) (y : Process) (standing : Standing) → find (without s.live p) r ≡ Some y → Moves s p (one_less (record { live = without s.live p; world = record w { store = without w.store p } }) r y standing)
+      less_moves r y ready e = alone
+      less_moves r y (at_when cs position) e = alone
+      less_moves r y (waiting n) e =
+          let y' : Process = record y { standing = awaits (n - 1) } in
+          gone_moves (with_at (without s.live p) r y') w (fresh_changed (without s.live p) r y y' e (omega arith) (fresh_without s.live p proper.fresh)) (λ x g. none_before (without s.live p) r y' x g) l
+
+      told_moves : (r : Name) (o : Option Process) → find (without s.live p) r ≡ o → Moves s p (told (record { live = without s.live p; world = record w { store = without w.store p } }) r o)
+      told_moves r None e = alone
+      told_moves r (Some y) e = less_moves r y y.standing e
+
+  fork_moves : (bs : List ℕ) (work : List Work) (w : World) (n share : ℕ) → Leaves p s.world.store w.store → Moves s p (fork_taken unit s p q bs work w n share)
+  fork_moves bs work w zero share l = tt
+  fork_moves bs work w (suc n) share l = (
+    record {
+      cells = λ r m. only_made r (instances s.world.store r) (λ is. is) (l.others r m);
+      frames = λ r m. only_made r (shape s.world.store r) frames (l.shapes r (other_than p r m));
+    },
+    record {
+      owned = children_owned unit p f share (now (shape w.store) p) (owns_self p) bs 0 s1 l.owned;
+      fresh = born.fresh;
+      bare = λ r e. bare r e (made r);
+    },
+  )
+    where
+      f : ℕ
+      f = suc q.forks
+
+      q' : Process
+      q' = record q { forks = f; work = work; standing = waiting (length bs) }
+
+      s1 : Processes
+      s1 = back s p q' (record w { turns = n })
+
+      t : Processes
+      t = with_children unit p f 0 share (now (shape w.store) p) bs s1
+
+      born : Forked s1.live t.live p f 0 (length bs)
+      born =
+          forked_children unit p f share (now (shape w.store) p) bs 0 q' s1 (find-with_at-same s.live p q') (omega arith) (free_next s.live p q q' found proper.fresh)
+          (fresh_changed s.live p q q' found (omega arith) proper.fresh)
+
+      made : (r : Name) → (instances t.world.store r ≡ instances w.store r) ⊎ IsMade s t p r
+      made r = go (only_children unit p f share (now (shape w.store) p) (owns_self p) bs 0 s1 r)
+        where
+          go : (instances t.world.store r ≡ instances w.store r) ⊎ ((j : ℕ) × (0 ≤ j) × (j < 0 + length bs) × (r ≡ child p f j)) → (instances t.world.store r ≡ instances w.store r) ⊎ IsMade s t p r
+          go (inl e) = inl e
+          go (inr c) =
+              let free : find s.live r ≡ None = none_before s.live p q' r (ap (find s1.live) c.3 ∙ free_name s1.live p f 0 c.0 c.1 (free_next s.live p q q' found proper.fresh)) in
+              let b : (x : Process) × (find t.live (child p f c.0) ≡ Some x) × (x.standing ≡ ready) = born.born c.0 c.1 c.2 in
+              inr (record { fork = f; number = c.0; named = c.3; free = free; bare = proper.bare r free; process = b.0; live = ap (find t.live) c.3 ∙ b.1 })
+
+      only_made : {A : Type 0} (r : Name) (old : A) (of : List Instance → A) → of (instances w.store r) ≡ old → (of (instances t.world.store r) ≡ old) ⊎ IsMade s t p r
+      only_made r old of e = go (made r)
+        where
+          go : (instances t.world.store r ≡ instances w.store r) ⊎ IsMade s t p r → (of (instances t.world.store r) ≡ old) ⊎ IsMade s t p r
+          go (inl h) = inl (ap of h ∙ e)
+          go (inr m) = inr m
+
+      bare : (r : Name) → find t.live r ≡ None → (instances t.world.store r ≡ instances w.store r) ⊎ IsMade s t p r → instances t.world.store r ≡ []
+      bare r e (inr m) = absurd (no_some (find t.live r) e m.live)
+      bare r e (inl h) = h ∙ still_bare w.store l r (none_before s.live p q' r (not_live (find s1.live r) refl))
+        where
+          not_live : (x : Option Process) → find s1.live r ≡ x → find s1.live r ≡ None
+          not_live None g = g
+          not_live (Some y) g = absurd (no_some (find t.live r) e (born.kept r y g))
+
+  abbrev LeavesAll : Run Asks → Type 0
+  LeavesAll (gives a w) = ⊤ × Leaves p s.world.store w.store
+  LeavesAll (ends e system turns) = ⊤
+
+  kernel_moves : (r : Run Asks) → LeavesAll r → Moves s p (kernel unit s p q r)
+  kernel_moves (ends e system turns) h = tt
+  kernel_moves (gives (goes work) w) h = back_moves (record q { work = work; standing = ready }) w (omega arith) h.1
+  kernel_moves (gives (arrives cs position work) w) h = back_moves (record q { work = work; standing = at_when cs position }) w (omega arith) h.1
+  kernel_moves (gives (again cs position quiet work) w) h = back_moves (record q { work = work; standing = at_when cs position }) w (omega arith) h.1
+  kernel_moves (gives (forks bs line work) w) h =
+      let share = share_of (room q.size (shape w.store p)) (length bs) in
+      if_moves s p (nat_lt most_processes (length s.live + length bs)) _ _ tt
+      (if_moves s p (list_any (exceeds unit share) bs) _ _ tt (fork_moves bs work w w.turns share h.1))
+  kernel_moves (gives leaves w) h = exited_moves w h.1
+
+step_moves : (unit : ProgramUnit) (s : Processes) (p : Name) → Proper s → may_step s p ≡ true → Moves s p (step unit s p)
+step_moves unit s p proper may = go (find s.live p) refl
+  where
+    go : (x : Option Process) → find s.live p ≡ x → Moves s p (step unit s p)
+    go None e = let a : false ≡ true = sym (ap is_running_process e) ∙ may in absurd (cc)
+    go (Some q) e =
+        let P : Option Process → Type 0 = λ x. Moves s p (step_of unit s p x) in
+        subst P (sym e)
+        (kernel_moves unit s p q e proper (local_step unit p q.size q.standing q.work s.world)
+        (local_keeps (privacy unit p q.size s.world.store) tt (private_moves unit p q.size s.world.store) q.standing q.work s.world (leaves_all p s.world.store proper.owned)).is)
+
+-- ---- along permitted steps
+
+start_proper : (unit : ProgramUnit) (system : State) (bound : ℕ) → Proper (start unit system bound)
+start_proper unit system bound = record { owned = record { each = λ r. tt }; fresh = start_fresh unit system bound; bare = λ r e. refl }
+
+module _ (unit : ProgramUnit) where
+  onward_proper : (s t : Processes) (p : Name) (x : Stepped) (names : List Name) (go : Processes → Led) → Moves s p x → ((u : Processes) → Proper u → go u ≡ at t → Proper t) → onward x names go ≡ at t → Proper t
+  onward_proper s t p (went u next quiet) names go h k e = k u h.1 e
+  onward_proper s t p (ended ending system turns) [] go h k e = absurd (cc)
+  onward_proper s t p (ended ending system turns) (r ∷ rs) go h k e = absurd (cc)
+
+  tested_proper : (t : Processes) (b : Bool) (x : Led) → (b ≡ true → x ≡ at t → Proper t) → (if b then x else nowhere) ≡ at t → Proper t
+  tested_proper t true x k e = k refl e
+  tested_proper t false x k e = absurd (cc)
+
+  permitted_proper : (names : List Name) (s t : Processes) → Proper s → permitted unit names s ≡ at t → Proper t
+  permitted_proper [] s t proper e = let h : s ≡ t = at_same e in subst Proper h proper
+    where
+      at_same : at s ≡ at t → s ≡ t
+      at_same e = cc
+  permitted_proper (p ∷ ps) s t proper e =
+      tested_proper t (may_step s p) (onward (step unit s p) ps (permitted unit ps))
+      (λ m. onward_proper s t p (step unit s p) ps (permitted unit ps) (step_moves unit s p proper m) (λ u k. permitted_proper ps u t k)) e
+
+step_private : (s : Processes) (p : Name) (x : Stepped) → Moves s p x → StepIsPrivate s p x
+step_private s p (went t next quiet) h = h.0
+step_private s p (ended ending system turns) h = tt
+
+pub cells_are_private : CellsArePrivate
+cells_are_private unit system bound names s p e may =
+    step_private s p (step unit s p) (step_moves unit s p (permitted_proper unit names (start unit system bound) s (start_proper unit system bound) e) may)
