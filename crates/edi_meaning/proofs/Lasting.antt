@@ -59,52 +59,55 @@ pub record Lasting (unit : ProgramUnit) (p : Name) (size : ℕ) : Type 1 where
   pub by_procedure : (x : Level) (c : Callee) (w : World) → Holds x w → Fits (procedure (meant unit p size c w))
 
 module _ {unit : ProgramUnit} {p : Name} {size : ℕ} (s : Lasting unit p size) where
-  abbrev Given : {A : Type 0} → s.Level → (A → Type 0) → Run A → Type 0
-  Given x V (gives a w) = V a × s.Holds x w
-  Given x V (ends e system turns) = s.Ends e system turns
+  abbrev Given : {A : Type 0} → (A → World → Type 0) → Run A → Type 0
+  Given P (gives a w) = P a w
+  Given P (ends e system turns) = s.Ends e system turns
 
-  -- what is given has V, in a world where the fact holds; or the program has ended
-  pub record Keeps {A : Type 0} (x : s.Level) (V : A → Type 0) (r : Run A) : Type 0 where
-    pub is : Given x V r
+  -- P of what is given and of the world after it; or the program has ended
+  pub record Keeps {A : Type 0} (P : A → World → Type 0) (r : Run A) : Type 0 where
+    pub is : Given P r
+
+  -- V of a value, and the fact of the world
+  abbrev pub At : {A : Type 0} → s.Level → (A → Type 0) → A → World → Type 0
+  At x V a w = V a × s.Holds x w
 
   -- ---- the ways to put runs together
 
-  pub done : {A : Type 0} (x : s.Level) (V : A → Type 0) (a : A) (w : World) → V a → s.Holds x w → Keeps x V (gives a w)
-  done x V a w v h = record { is = (v, h) }
+  pub give : {A : Type 0} (P : A → World → Type 0) (a : A) (w : World) → P a w → Keeps P (gives a w)
+  give P a w h = record { is = h }
 
-  pub stop : {A : Type 0} (x y : s.Level) (V : A → Type 0) (e : Ending) (w : World) → IsOwn e → s.Holds y w → Keeps x V (stops e w)
-  stop x y V e w o h = record { is = s.over y e w o h }
+  pub stop : {A : Type 0} (x : s.Level) (P : A → World → Type 0) (e : Ending) (w : World) → IsOwn e → s.Holds x w → Keeps P (stops e w)
+  stop x P e w o h = record { is = s.over x e w o h }
 
-  -- a run that begins at one level and goes on at another
-  pub bind : {A B : Type 0} (x y : s.Level) (V : A → Type 0) (U : B → Type 0) (r : Run A) (f : A → World → Run B) → Keeps y V r → ((a : A) (w : World) → V a → s.Holds y w → Keeps x U (f a w)) → Keeps x U (r >>= f)
-  bind x y V U (gives a w) f h k = k a w h.is.0 h.is.1
-  bind x y V U (ends e system turns) f h k = record { is = h.is }
+  pub bind : {A B : Type 0} (x : s.Level) (V : A → Type 0) (P : B → World → Type 0) (r : Run A) (f : A → World → Run B) → Keeps (At x V) r → ((a : A) (w : World) → V a → s.Holds x w → Keeps P (f a w)) → Keeps P (r >>= f)
+  bind x V P (gives a w) f h k = k a w h.is.0 h.is.1
+  bind x V P (ends e system turns) f h k = record { is = h.is }
 
-  pub turn_keeps : {A : Type 0} (x y : s.Level) (V : A → Type 0) (n : ℕ) (w : World) (go : World → Run A) → w.turns ≡ n → s.Holds y w → ((w : World) → s.Holds y w → Keeps x V (go w)) → Keeps x V (turn_from n w go)
-  turn_keeps x y V zero w go e h k = stop x y V outcome.turns w tt h
-  turn_keeps x y V (suc n) w go e h k = k (record w { turns = n }) (s.turned y n w e h)
+  pub turn_keeps : {A : Type 0} (x : s.Level) (P : A → World → Type 0) (n : ℕ) (w : World) (go : World → Run A) → w.turns ≡ n → s.Holds x w → ((w : World) → s.Holds x w → Keeps P (go w)) → Keeps P (turn_from n w go)
+  turn_keeps x P zero w go e h k = stop x P outcome.turns w tt h
+  turn_keeps x P (suc n) w go e h k = k (record w { turns = n }) (s.turned x n w e h)
 
-  pub if_keeps : {A : Type 0} (x : s.Level) (V : A → Type 0) (b : Bool) (r t : Run A) → Keeps x V r → Keeps x V t → Keeps x V (if b then r else t)
-  if_keeps x V true r t h k = h
-  if_keeps x V false r t h k = k
+  pub if_keeps : {A : Type 0} (P : A → World → Type 0) (b : Bool) (r t : Run A) → Keeps P r → Keeps P t → Keeps P (if b then r else t)
+  if_keeps P true r t h k = h
+  if_keeps P false r t h k = k
 
   -- ---- what needs no tree
 
-  range_keeps : {A : Type 0} (x : s.Level) (line : ℕ) (o : Option A) (w : World) → s.Holds x w → Keeps x Any (in_range line o w)
-  range_keeps x line None w h = stop x x Any (outcome.failed cause.Range line) w tt h
-  range_keeps x line (Some a) w h = done x Any a w tt h
+  range_keeps : {A : Type 0} (x : s.Level) (line : ℕ) (o : Option A) (w : World) → s.Holds x w → Keeps (At x Any) (in_range line o w)
+  range_keeps x line None w h = stop x _ (outcome.failed cause.Range line) w tt h
+  range_keeps x line (Some a) w h = give _ a w (tt, h)
 
   abbrev Located : Designated → Type 0
   Located d = s.Comes d.at
 
-  element_keeps : (x : s.Level) (shape : Shape) (line : ℕ) (l : Location) (v : Value) (w : World) → s.Comes l → s.Holds x w → Keeps x Located (element_of shape line l v w)
-  element_keeps x (array_of i lo hi e) line l v w c h = bind x x Any Located _ _ (range_keeps x line (element_at lo hi v) w h) (λ n w _ h. done x Located _ w (s.of_part l n c) h)
-  element_keeps x int line l v w c h = done x Located _ w c h
-  element_keeps x char line l v w c h = done x Located _ w c h
-  element_keeps x bool line l v w c h = done x Located _ w c h
-  element_keeps x (enumeration n) line l v w c h = done x Located _ w c h
-  element_keeps x (record_of fs) line l v w c h = done x Located _ w c h
-  element_keeps x (set_of b) line l v w c h = done x Located _ w c h
+  element_keeps : (x : s.Level) (shape : Shape) (line : ℕ) (l : Location) (v : Value) (w : World) → s.Comes l → s.Holds x w → Keeps (At x Located) (element_of shape line l v w)
+  element_keeps x (array_of i lo hi e) line l v w c h = bind x Any _ _ _ (range_keeps x line (element_at lo hi v) w h) (λ n w _ h. give _ _ w ((s.of_part l n c), h))
+  element_keeps x int line l v w c h = give _ _ w (c, h)
+  element_keeps x char line l v w c h = give _ _ w (c, h)
+  element_keeps x bool line l v w c h = give _ _ w (c, h)
+  element_keeps x (enumeration n) line l v w c h = give _ _ w (c, h)
+  element_keeps x (record_of fs) line l v w c h = give _ _ w (c, h)
+  element_keeps x (set_of b) line l v w c h = give _ _ w (c, h)
 
   answer_keeps : (x : s.Level) (cells : List Cell) (words : List ℕ) (w : World) → Each s.Fits cells → s.Holds x w → s.Holds x (record w { store = answer_in cells words w.store })
   answer_keeps x [] words w f h = h
@@ -113,146 +116,146 @@ module _ {unit : ProgramUnit} {p : Name} {size : ℕ} (s : Lasting unit p size) 
   answer_keeps x (value v ∷ cells) words w f h = answer_keeps x cells words w f.1 h
   answer_keeps x (procedure c ∷ cells) words w f h = answer_keeps x cells words w f.1 h
 
-  answered_keeps : (x : s.Level) (number : ℕ) (asked : List ℕ) (result : CallResult) (cells : List Cell) (line : ℕ) (w : World) → call number asked w.system ≡ result → Each s.Fits cells → s.Holds x w → Keeps x Any (answered_by result cells line w)
+  answered_keeps : (x : s.Level) (number : ℕ) (asked : List ℕ) (result : CallResult) (cells : List Cell) (line : ℕ) (w : World) → call number asked w.system ≡ result → Each s.Fits cells → s.Holds x w → Keeps (At x Any) (answered_by result cells line w)
   answered_keeps x number asked (answered words system) cells line w e f h =
-      done x Any tt _ tt (answer_keeps x cells words (record w { system = system }) f (s.replied x number asked words system w e h))
-  answered_keeps x number asked no_file cells line w e f h = stop x x Any (outcome.failed cause.NoFile line) w tt h
-  answered_keeps x number asked file_limit cells line w e f h = stop x x Any (outcome.failed cause.FileLimit line) w tt h
+      give _ tt _ (tt, answer_keeps x cells words (record w { system = system }) f (s.replied x number asked words system w e h))
+  answered_keeps x number asked no_file cells line w e f h = stop x _ (outcome.failed cause.NoFile line) w tt h
+  answered_keeps x number asked file_limit cells line w e f h = stop x _ (outcome.failed cause.FileLimit line) w tt h
 
-  pub system_keeps : (x : s.Level) (number : ℕ) (cells : List Cell) (line : ℕ) (w : World) → Each s.Fits cells → s.Holds x w → Keeps x Any (system_call number cells line w)
+  pub system_keeps : (x : s.Level) (number : ℕ) (cells : List Cell) (line : ℕ) (w : World) → Each s.Fits cells → s.Holds x w → Keeps (At x Any) (system_call number cells line w)
   system_keeps x number cells line w f h = answered_keeps x number (words_of_cells cells) (call number (words_of_cells cells) w.system) cells line w refl f h
 
   -- a block is entered, and what comes then begins at the level inside
-  entered_keeps : {A : Type 0} (x : s.Level) (V : A → Type 0) (number : ℕ) (parent : Spot) (cells : List Cell) (line : ℕ) (w : World) (go : World → Run A) →
+  entered_keeps : {A : Type 0} (x : s.Level) (P : A → World → Type 0) (number : ℕ) (parent : Spot) (cells : List Cell) (line : ℕ) (w : World) (go : World → Run A) →
       s.Fits (procedure (block_procedure number parent)) → Each s.Fits cells → s.Holds x w →
-      ((y : s.Level) → ((v : World) → s.Holds y v → s.Holds x (record v { store = shrunk p v.store })) → (v : World) → s.Holds y v → Keeps x V (go v)) → Keeps x V (entered unit p size number parent cells line w go)
-  entered_keeps x V number parent cells line w go c f h k =
-      if_keeps x V (nat_lt (room size (shape w.store p)) (block_at unit.blocks number).need) _ _ (stop x x V (outcome.failed cause.VariableLimit line) w tt h)
-      (turn_keeps x x V w.turns w _ refl h (λ w h. k (s.called x number parent cells w c f h).0 (s.called x number parent cells w c f h).2 _ (s.called x number parent cells w c f h).1))
+      ((y : s.Level) → ((v : World) → s.Holds y v → s.Holds x (record v { store = shrunk p v.store })) → (v : World) → s.Holds y v → Keeps P (go v)) → Keeps P (entered unit p size number parent cells line w go)
+  entered_keeps x P number parent cells line w go c f h k =
+      if_keeps P (nat_lt (room size (shape w.store p)) (block_at unit.blocks number).need) _ _ (stop x P (outcome.failed cause.VariableLimit line) w tt h)
+      (turn_keeps x P w.turns w _ refl h (λ w h. k (s.called x number parent cells w c f h).0 (s.called x number parent cells w c f h).2 _ (s.called x number parent cells w c f h).1))
 
-  left_keeps : {A : Type 0} (x y : s.Level) (V : A → Type 0) (w : World) (go : World → Run A) → ((v : World) → s.Holds y v → s.Holds x (record v { store = shrunk p v.store })) → s.Holds y w →
-      ((w : World) → s.Holds x w → Keeps x V (go w)) → Keeps x V (left unit p size w go)
-  left_keeps x y V w go back h k = turn_keeps x y V w.turns w _ refl h (λ w h. k _ (back w h))
+  left_keeps : {A : Type 0} (x y : s.Level) (P : A → World → Type 0) (w : World) (go : World → Run A) → ((v : World) → s.Holds y v → s.Holds x (record v { store = shrunk p v.store })) → s.Holds y w →
+      ((w : World) → s.Holds x w → Keeps P (go w)) → Keeps P (left unit p size w go)
+  left_keeps x y P w go back h k = turn_keeps y P w.turns w _ refl h (λ w h. k _ (back w h))
 
   -- ---- what follows the tree
 
-  module _ (deeper : Acts → World → Run (Unit {0})) (deep : (x : s.Level) (as' : Acts) (w : World) → s.Holds x w → Keeps x Any (deeper as' w)) where
-    function_keeps : (x : s.Level) (c : Closure) (cells : List Cell) (line : ℕ) (w : World) → s.Fits (procedure c) → Each s.Fits cells → s.Holds x w → Keeps x Any (function_call unit p size deeper c cells line w)
+  module _ (deeper : Acts → World → Run (Unit {0})) (deep : (x : s.Level) (as' : Acts) (w : World) → s.Holds x w → Keeps (At x Any) (deeper as' w)) where
+    function_keeps : (x : s.Level) (c : Closure) (cells : List Cell) (line : ℕ) (w : World) → s.Fits (procedure c) → Each s.Fits cells → s.Holds x w → Keeps (At x Any) (function_call unit p size deeper c cells line w)
     function_keeps x (block_procedure number parent) cells line w c f h =
-        entered_keeps x Any number parent cells line w (function_body unit p size deeper number) c f h
-        (λ y back v h. bind x y Any Any _ _ (deep y (block_at unit.blocks number).body v h) (λ _ w _ h. left_keeps x y Any w (gives (result_of unit p size w)) back h (λ w h. done x Any _ w tt h)))
-    function_keeps x (system_procedure number) cells line w c f h = done x Any _ w tt h
+        entered_keeps x _ number parent cells line w (function_body unit p size deeper number) c f h
+        (λ y back v h. bind y Any _ _ _ (deep y (block_at unit.blocks number).body v h) (λ _ w _ h. left_keeps x y _ w (gives (result_of unit p size w)) back h (λ w h. give _ _ w (tt, h))))
+    function_keeps x (system_procedure number) cells line w c f h = give _ _ w (tt, h)
 
     mutual
-      expression_keeps : (x : s.Level) (e : Expression) (w : World) → s.Holds x w → Keeps x Any (expression unit p size deeper e w)
-      expression_keeps x (tree.constant of n) w h = done x Any _ w tt h
-      expression_keeps x (tree.load v) w h = bind x x Located Any _ _ (designated_keeps x v w h) (λ d w _ h. done x Any _ w tt h)
-      expression_keeps x (tree.not_of e) w h = bind x x Any Any _ _ (expression_keeps x e w h) (λ v w _ h. done x Any _ w tt h)
-      expression_keeps x (tree.minus e line) w h = bind x x Any Any _ _ (expression_keeps x e w h) (λ v w _ h. range_keeps x line (sign v) w h)
-      expression_keeps x (tree.chain e ls) w h = bind x x Any Any _ _ (expression_keeps x e w h) (λ v w _ h. linked_keeps x v ls w h)
+      expression_keeps : (x : s.Level) (e : Expression) (w : World) → s.Holds x w → Keeps (At x Any) (expression unit p size deeper e w)
+      expression_keeps x (tree.constant of n) w h = give _ _ w (tt, h)
+      expression_keeps x (tree.load v) w h = bind x Located _ _ _ (designated_keeps x v w h) (λ d w _ h. give _ _ w (tt, h))
+      expression_keeps x (tree.not_of e) w h = bind x Any _ _ _ (expression_keeps x e w h) (λ v w _ h. give _ _ w (tt, h))
+      expression_keeps x (tree.minus e line) w h = bind x Any _ _ _ (expression_keeps x e w h) (λ v w _ h. range_keeps x line (sign v) w h)
+      expression_keeps x (tree.chain e ls) w h = bind x Any _ _ _ (expression_keeps x e w h) (λ v w _ h. linked_keeps x v ls w h)
       expression_keeps x (tree.make of es line) w h =
-          if_keeps x Any (is_set_shape (shape_at unit.types of)) _ _
-          (bind x x Any Any _ _ (members_keeps x [] es line w h) (λ set w _ h. done x Any _ w tt h))
-          (bind x x Any Any _ _ (expressions_keeps x es w h) (λ vs w _ h. done x Any _ w tt h))
+          if_keeps _ (is_set_shape (shape_at unit.types of)) _ _
+          (bind x Any _ _ _ (members_keeps x [] es line w h) (λ set w _ h. give _ _ w (tt, h)))
+          (bind x Any _ _ _ (expressions_keeps x es w h) (λ vs w _ h. give _ _ w (tt, h)))
       expression_keeps x (tree.convert of e line) w h =
-          bind x x Any Any _ _ (expression_keeps x e w h) (λ v w _ h. range_keeps x line (converted (shape_at unit.types of) v) w h)
+          bind x Any _ _ _ (expression_keeps x e w h) (λ v w _ h. range_keeps x line (converted (shape_at unit.types of) v) w h)
       expression_keeps x (tree.invoke c es line) w h =
-          bind x x (Each s.Fits) Any _ _ (arguments_keeps x es w h) (λ cells w f h. function_keeps x (meant unit p size c w) cells line w (s.by_procedure x c w h) f h)
+          bind x (Each s.Fits) _ _ _ (arguments_keeps x es w h) (λ cells w f h. function_keeps x (meant unit p size c w) cells line w (s.by_procedure x c w h) f h)
 
-      expressions_keeps : (x : s.Level) (es : Expressions) (w : World) → s.Holds x w → Keeps x Any (expressions unit p size deeper es w)
-      expressions_keeps x tree.no_expression w h = done x Any _ w tt h
+      expressions_keeps : (x : s.Level) (es : Expressions) (w : World) → s.Holds x w → Keeps (At x Any) (expressions unit p size deeper es w)
+      expressions_keeps x tree.no_expression w h = give _ _ w (tt, h)
       expressions_keeps x (tree.expression_then e es) w h =
-          bind x x Any Any _ _ (expression_keeps x e w h) (λ v w _ h. bind x x Any Any _ _ (expressions_keeps x es w h) (λ vs w _ h. done x Any _ w tt h))
+          bind x Any _ _ _ (expression_keeps x e w h) (λ v w _ h. bind x Any _ _ _ (expressions_keeps x es w h) (λ vs w _ h. give _ _ w (tt, h)))
 
-      members_keeps : (x : s.Level) (set : List ℕ) (es : Expressions) (line : ℕ) (w : World) → s.Holds x w → Keeps x Any (members_of unit p size deeper set es line w)
-      members_keeps x set tree.no_expression line w h = done x Any _ w tt h
+      members_keeps : (x : s.Level) (set : List ℕ) (es : Expressions) (line : ℕ) (w : World) → s.Holds x w → Keeps (At x Any) (members_of unit p size deeper set es line w)
+      members_keeps x set tree.no_expression line w h = give _ _ w (tt, h)
       members_keeps x set (tree.expression_then e es) line w h =
-          bind x x Any Any _ _ (expression_keeps x e w h) (λ v w _ h. bind x x Any Any _ _ (range_keeps x line (with_ordinal set (ordinal_of v)) w h) (λ set w _ h. members_keeps x set es line w h))
+          bind x Any _ _ _ (expression_keeps x e w h) (λ v w _ h. bind x Any _ _ _ (range_keeps x line (with_ordinal set (ordinal_of v)) w h) (λ set w _ h. members_keeps x set es line w h))
 
-      linked_keeps : (x : s.Level) (v : Value) (ls : Links) (w : World) → s.Holds x w → Keeps x Any (linked unit p size deeper v ls w)
-      linked_keeps x v tree.no_link w h = done x Any _ w tt h
-      linked_keeps x v (tree.link_then l ls) w h = bind x x Any Any _ _ (operated_keeps x v l w h) (λ v w _ h. linked_keeps x v ls w h)
+      linked_keeps : (x : s.Level) (v : Value) (ls : Links) (w : World) → s.Holds x w → Keeps (At x Any) (linked unit p size deeper v ls w)
+      linked_keeps x v tree.no_link w h = give _ _ w (tt, h)
+      linked_keeps x v (tree.link_then l ls) w h = bind x Any _ _ _ (operated_keeps x v l w h) (λ v w _ h. linked_keeps x v ls w h)
 
-      operated_keeps : (x : s.Level) (v : Value) (l : Link) (w : World) → s.Holds x w → Keeps x Any (operated unit p size deeper v l w)
+      operated_keeps : (x : s.Level) (v : Value) (l : Link) (w : World) → s.Holds x w → Keeps (At x Any) (operated unit p size deeper v l w)
       operated_keeps x v (tree.link o e line) w h =
-          if_keeps x Any (decides o v) _ _ (done x Any _ w tt h) (bind x x Any Any _ _ (expression_keeps x e w h) (λ u w _ h. range_keeps x line (apply o v u) w h))
+          if_keeps _ (decides o v) _ _ (give _ _ w (tt, h)) (bind x Any _ _ _ (expression_keeps x e w h) (λ u w _ h. range_keeps x line (apply o v u) w h))
 
-      designated_keeps : (x : s.Level) (v : Place) (w : World) → s.Holds x w → Keeps x Located (designated unit p size deeper v w)
+      designated_keeps : (x : s.Level) (v : Place) (w : World) → s.Holds x w → Keeps (At x Located) (designated unit p size deeper v w)
       designated_keeps x (tree.place levels variable ps) w h = parts_keeps x (named unit p size levels variable w.store) ps w (s.of_slot x levels variable w h) h
 
-      parts_keeps : (x : s.Level) (d : Designated) (ps : Parts) (w : World) → Located d → s.Holds x w → Keeps x Located (parts unit p size deeper d ps w)
-      parts_keeps x d tree.no_part w c h = done x Located d w c h
-      parts_keeps x d (tree.part_then q qs) w c h = bind x x Located Located _ _ (part_keeps x d q w c h) (λ d w c h. parts_keeps x d qs w c h)
+      parts_keeps : (x : s.Level) (d : Designated) (ps : Parts) (w : World) → Located d → s.Holds x w → Keeps (At x Located) (parts unit p size deeper d ps w)
+      parts_keeps x d tree.no_part w c h = give _ d w (c, h)
+      parts_keeps x d (tree.part_then q qs) w c h = bind x Located _ _ _ (part_keeps x d q w c h) (λ d w c h. parts_keeps x d qs w c h)
 
-      part_keeps : (x : s.Level) (d : Designated) (q : Part) (w : World) → Located d → s.Holds x w → Keeps x Located (part unit p size deeper d q w)
-      part_keeps x d (tree.field n) w c h = done x Located _ w (s.of_part d.at n c) h
-      part_keeps x d (tree.index e line) w c h = bind x x Any Located _ _ (expression_keeps x e w h) (λ v w _ h. element_keeps x (shape_at unit.types d.of) line d.at v w c h)
+      part_keeps : (x : s.Level) (d : Designated) (q : Part) (w : World) → Located d → s.Holds x w → Keeps (At x Located) (part unit p size deeper d q w)
+      part_keeps x d (tree.field n) w c h = give _ _ w ((s.of_part d.at n c), h)
+      part_keeps x d (tree.index e line) w c h = bind x Any _ _ _ (expression_keeps x e w h) (λ v w _ h. element_keeps x (shape_at unit.types d.of) line d.at v w c h)
 
-      argument_keeps : (x : s.Level) (a : Argument) (w : World) → s.Holds x w → Keeps x s.Fits (argument unit p size deeper a w)
-      argument_keeps x (tree.by_value e) w h = bind x x Any s.Fits _ _ (expression_keeps x e w h) (λ v w _ h. done x s.Fits _ w (s.by_value v) h)
-      argument_keeps x (tree.by_variable v) w h = bind x x Located s.Fits _ _ (designated_keeps x v w h) (λ d w c h. done x s.Fits _ w (s.by_location d.at c) h)
-      argument_keeps x (tree.by_procedure c) w h = done x s.Fits _ w (s.by_procedure x c w h) h
+      argument_keeps : (x : s.Level) (a : Argument) (w : World) → s.Holds x w → Keeps (At x s.Fits) (argument unit p size deeper a w)
+      argument_keeps x (tree.by_value e) w h = bind x Any _ _ _ (expression_keeps x e w h) (λ v w _ h. give _ _ w ((s.by_value v), h))
+      argument_keeps x (tree.by_variable v) w h = bind x Located _ _ _ (designated_keeps x v w h) (λ d w c h. give _ _ w ((s.by_location d.at c), h))
+      argument_keeps x (tree.by_procedure c) w h = give _ _ w ((s.by_procedure x c w h), h)
 
-      arguments_keeps : (x : s.Level) (es : Arguments) (w : World) → s.Holds x w → Keeps x (Each s.Fits) (arguments unit p size deeper es w)
-      arguments_keeps x tree.no_argument w h = done x (Each s.Fits) [] w tt h
+      arguments_keeps : (x : s.Level) (es : Arguments) (w : World) → s.Holds x w → Keeps (At x (Each s.Fits)) (arguments unit p size deeper es w)
+      arguments_keeps x tree.no_argument w h = give _ [] w (tt, h)
       arguments_keeps x (tree.argument_then a as') w h =
-          bind x x s.Fits (Each s.Fits) _ _ (argument_keeps x a w h) (λ c w f h. bind x x (Each s.Fits) (Each s.Fits) _ _ (arguments_keeps x as' w h) (λ cs w fs h. done x (Each s.Fits) (c ∷ cs) w (f, fs) h))
+          bind x s.Fits _ _ _ (argument_keeps x a w h) (λ c w f h. bind x (Each s.Fits) _ _ _ (arguments_keeps x as' w h) (λ cs w fs h. give _ (c ∷ cs) w ((f, fs), h)))
 
-    procedure_keeps : (x : s.Level) (c : Closure) (cells : List Cell) (line : ℕ) (w : World) → s.Fits (procedure c) → Each s.Fits cells → s.Holds x w → Keeps x Any (procedure_call unit p size deeper c cells line w)
+    procedure_keeps : (x : s.Level) (c : Closure) (cells : List Cell) (line : ℕ) (w : World) → s.Fits (procedure c) → Each s.Fits cells → s.Holds x w → Keeps (At x Any) (procedure_call unit p size deeper c cells line w)
     procedure_keeps x (block_procedure number parent) cells line w c f h =
-        entered_keeps x Any number parent cells line w (procedure_body unit p size deeper number) c f h
-        (λ y back v h. bind x y Any Any _ _ (deep y (block_at unit.blocks number).body v h) (λ _ w _ h. left_keeps x y Any w (gives tt) back h (λ w h. done x Any _ w tt h)))
+        entered_keeps x _ number parent cells line w (procedure_body unit p size deeper number) c f h
+        (λ y back v h. bind y Any _ _ _ (deep y (block_at unit.blocks number).body v h) (λ _ w _ h. left_keeps x y _ w (gives tt) back h (λ w h. give _ _ w (tt, h))))
     procedure_keeps x (system_procedure number) cells line w c f h = system_keeps x number cells line w f h
 
-    assigned_keeps : (x : s.Level) (v : Place) (e : Expression) (w : World) → s.Holds x w → Keeps x Any (assigned unit p size deeper v e w)
+    assigned_keeps : (x : s.Level) (v : Place) (e : Expression) (w : World) → s.Holds x w → Keeps (At x Any) (assigned unit p size deeper v e w)
     assigned_keeps x v e w h =
-        bind x x Located Any _ _ (designated_keeps x v w h) (λ d w c h. bind x x Any Any _ _ (expression_keeps x e w h) (λ v w _ h. done x Any _ _ tt (s.stored x d.at v w c h)))
+        bind x Located _ _ _ (designated_keeps x v w h) (λ d w c h. bind x Any _ _ _ (expression_keeps x e w h) (λ v w _ h. give _ _ _ (tt, s.stored x d.at v w c h)))
 
-    again_keeps : (x : s.Level) (cs : Clauses) (ran : Bool) (w : World) → s.Holds x w → Keeps x Any (if ran then turn w (deeper (tree.act_then (tree.loop cs) tree.no_act)) else gives (tt {0}) w)
-    again_keeps x cs true w h = turn_keeps x x Any w.turns w _ refl h (deep x (tree.act_then (tree.loop cs) tree.no_act))
-    again_keeps x cs false w h = done x Any _ w tt h
+    again_keeps : (x : s.Level) (cs : Clauses) (ran : Bool) (w : World) → s.Holds x w → Keeps (At x Any) (if ran then turn w (deeper (tree.act_then (tree.loop cs) tree.no_act)) else gives (tt {0}) w)
+    again_keeps x cs true w h = turn_keeps x _ w.turns w _ refl h (deep x (tree.act_then (tree.loop cs) tree.no_act))
+    again_keeps x cs false w h = give _ _ w (tt, h)
 
     mutual
-      act_keeps : (x : s.Level) (a : Act) (w : World) → s.Holds x w → Keeps x Any (act unit p size deeper a w)
-      act_keeps x tree.skip w h = done x Any _ w tt h
+      act_keeps : (x : s.Level) (a : Act) (w : World) → s.Holds x w → Keeps (At x Any) (act unit p size deeper a w)
+      act_keeps x tree.skip w h = give _ _ w (tt, h)
       act_keeps x (tree.assign v e) w h = assigned_keeps x v e w h
       act_keeps x (tree.call c es line) w h =
-          bind x x (Each s.Fits) Any _ _ (arguments_keeps x es w h) (λ cells w f h. procedure_keeps x (meant unit p size c w) cells line w (s.by_procedure x c w h) f h)
-      act_keeps x (tree.halt line) w h = stop x x Any (outcome.halted line) w tt h
-      act_keeps x (tree.conditional cs) w h = bind x x Any Any _ _ (first_keeps x cs w h) (λ _ w _ h. done x Any _ w tt h)
-      act_keeps x (tree.loop cs) w h = bind x x Any Any _ _ (first_keeps x cs w h) (λ ran w _ h. again_keeps x cs ran w h)
-      act_keeps x (tree.await cs line) w h = stop x x Any (outcome.failed cause.Held line) w tt h
-      act_keeps x (tree.cobegin bs line) w h = stop x x Any (outcome.failed cause.Held line) w tt h
+          bind x (Each s.Fits) _ _ _ (arguments_keeps x es w h) (λ cells w f h. procedure_keeps x (meant unit p size c w) cells line w (s.by_procedure x c w h) f h)
+      act_keeps x (tree.halt line) w h = stop x _ (outcome.halted line) w tt h
+      act_keeps x (tree.conditional cs) w h = bind x Any _ _ _ (first_keeps x cs w h) (λ _ w _ h. give _ _ w (tt, h))
+      act_keeps x (tree.loop cs) w h = bind x Any _ _ _ (first_keeps x cs w h) (λ ran w _ h. again_keeps x cs ran w h)
+      act_keeps x (tree.await cs line) w h = stop x _ (outcome.failed cause.Held line) w tt h
+      act_keeps x (tree.cobegin bs line) w h = stop x _ (outcome.failed cause.Held line) w tt h
 
-      acts_keeps : (x : s.Level) (as' : Acts) (w : World) → s.Holds x w → Keeps x Any (acts unit p size deeper as' w)
-      acts_keeps x tree.no_act w h = done x Any _ w tt h
-      acts_keeps x (tree.act_then a as') w h = bind x x Any Any _ _ (act_keeps x a w h) (λ _ w _ h. acts_keeps x as' w h)
+      acts_keeps : (x : s.Level) (as' : Acts) (w : World) → s.Holds x w → Keeps (At x Any) (acts unit p size deeper as' w)
+      acts_keeps x tree.no_act w h = give _ _ w (tt, h)
+      acts_keeps x (tree.act_then a as') w h = bind x Any _ _ _ (act_keeps x a w h) (λ _ w _ h. acts_keeps x as' w h)
 
-      first_keeps : (x : s.Level) (cs : Clauses) (w : World) → s.Holds x w → Keeps x Any (first unit p size deeper cs w)
-      first_keeps x tree.no_clause w h = done x Any _ w tt h
+      first_keeps : (x : s.Level) (cs : Clauses) (w : World) → s.Holds x w → Keeps (At x Any) (first unit p size deeper cs w)
+      first_keeps x tree.no_clause w h = give _ _ w (tt, h)
       first_keeps x (tree.clause_then c cs) w h =
-          bind x x Any Any _ _ (guarded_keeps x c w h) (λ ran w _ h. if_keeps x Any ran _ _ (done x Any _ w tt h) (first_keeps x cs w h))
+          bind x Any _ _ _ (guarded_keeps x c w h) (λ ran w _ h. if_keeps _ ran _ _ (give _ _ w (tt, h)) (first_keeps x cs w h))
 
-      guarded_keeps : (x : s.Level) (c : Clause) (w : World) → s.Holds x w → Keeps x Any (guarded unit p size deeper c w)
+      guarded_keeps : (x : s.Level) (c : Clause) (w : World) → s.Holds x w → Keeps (At x Any) (guarded unit p size deeper c w)
       guarded_keeps x (tree.clause e as') w h =
-          bind x x Any Any _ _ (expression_keeps x e w h)
-          (λ v w _ h. if_keeps x Any (is_true v) _ _ (bind x x Any Any _ _ (acts_keeps x as' w h) (λ _ w _ h. done x Any _ w tt h)) (done x Any _ w tt h))
+          bind x Any _ _ _ (expression_keeps x e w h)
+          (λ v w _ h. if_keeps _ (is_true v) _ _ (bind x Any _ _ _ (acts_keeps x as' w h) (λ _ w _ h. give _ _ w (tt, h))) (give _ _ w (tt, h)))
 
-  levels_keeps : (n : ℕ) (x : s.Level) (as' : Acts) (w : World) → s.Holds x w → Keeps x Any (levels_of unit p size n as' w)
-  levels_keeps zero x as' w h = stop x x Any outcome.turns w tt h
+  levels_keeps : (n : ℕ) (x : s.Level) (as' : Acts) (w : World) → s.Holds x w → Keeps (At x Any) (levels_of unit p size n as' w)
+  levels_keeps zero x as' w h = stop x _ outcome.turns w tt h
   levels_keeps (suc n) x as' w h = acts_keeps (levels_of unit p size n) (levels_keeps n) x as' w h
 
   -- ---- evaluations to the end
 
-  pub whole_arguments_keep : (x : s.Level) (es : Arguments) (w : World) → s.Holds x w → Keeps x (Each s.Fits) (whole_arguments unit p size es w)
+  pub whole_arguments_keep : (x : s.Level) (es : Arguments) (w : World) → s.Holds x w → Keeps (At x (Each s.Fits)) (whole_arguments unit p size es w)
   whole_arguments_keep x es w h = arguments_keeps (levels_of unit p size w.turns) (levels_keeps w.turns) x es w h
 
-  pub whole_assignment_keeps : (x : s.Level) (v : Place) (e : Expression) (w : World) → s.Holds x w → Keeps x Any (whole_assignment unit p size v e w)
+  pub whole_assignment_keeps : (x : s.Level) (v : Place) (e : Expression) (w : World) → s.Holds x w → Keeps (At x Any) (whole_assignment unit p size v e w)
   whole_assignment_keeps x v e w h = assigned_keeps (levels_of unit p size w.turns) (levels_keeps w.turns) x v e w h
 
-  pub whole_condition_keeps : (x : s.Level) (e : Expression) (w : World) → s.Holds x w → Keeps x Any (whole_condition unit p size e w)
+  pub whole_condition_keeps : (x : s.Level) (e : Expression) (w : World) → s.Holds x w → Keeps (At x Any) (whole_condition unit p size e w)
   whole_condition_keeps x e w h =
-      bind x x Any Any _ _ (expression_keeps (levels_of unit p size w.turns) (levels_keeps w.turns) x e w h) (λ v w _ h. done x Any _ w tt h)
+      bind x Any _ _ _ (expression_keeps (levels_of unit p size w.turns) (levels_keeps w.turns) x e w h) (λ v w _ h. give _ _ w (tt, h))
 
-  pub whole_first_keeps : (x : s.Level) (cs : Clauses) (w : World) → s.Holds x w → Keeps x Any (whole_first unit p size cs w)
+  pub whole_first_keeps : (x : s.Level) (cs : Clauses) (w : World) → s.Holds x w → Keeps (At x Any) (whole_first unit p size cs w)
   whole_first_keeps x cs w h = first_keeps (levels_of unit p size w.turns) (levels_keeps w.turns) x cs w h

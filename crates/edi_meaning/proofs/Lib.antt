@@ -11,4 +11,5 @@ pub mod Sound
 pub mod Pure
 pub mod Standstill
 pub mod Permitted
+pub mod Frames
 pub mod Private

@@ -7,57 +7,66 @@ use Rattle.edi_unit.specs.Need.{block_at}
 use Rattle.edi_unit.specs.Tree as tree
 use Rattle.edi_unit.specs.Tree.{Act, Acts, Clauses, ProgramUnit}
 use Rattle.edi_meaning.specs.Store.{Spot, Closure, system_procedure, block_procedure, Cell, procedure, shape, room, grown, shrunk}
-use Rattle.edi_meaning.specs.Run.{World}
+use Rattle.edi_meaning.specs.Run.{World, Run, gives, turn}
 use Rattle.edi_meaning.specs.Whole.{meant, instance_of}
-use Rattle.edi_meaning.specs.Step.{Position, Work, doing, loop_end, procedure_end, branch_end, program_entry, program_end, Standing, ready, at_when, waiting, chosen, called, statement_step, work_step, attempt, local_step}
-use Rattle.edi_meaning.proofs.Lasting.{Each, Any, Lasting, Keeps, done, stop, bind, turn_keeps, if_keeps, system_keeps, whole_arguments_keep, whole_assignment_keeps, whole_condition_keeps, whole_first_keeps}
+use Rattle.edi_meaning.specs.Step.{Position, Work, doing, loop_end, procedure_end, branch_end, program_entry, program_end, Standing, ready, at_when, waiting, Asks, chosen, called, statement_step, work_step, attempt, local_step}
+use Rattle.edi_meaning.proofs.Lasting.{Each, Any, Lasting, Keeps, At, give, stop, bind, turn_keeps, if_keeps, system_keeps, whole_arguments_keep, whole_assignment_keeps, whole_condition_keeps, whole_first_keeps}
 
--- a fact is kept at one level where a block is entered, left, or the first one of the program
-pub record Moving {unit : ProgramUnit} {p : Name} {size : ℕ} (s : Lasting unit p size) (x : s.Level) : Type 0 where
+-- T comes of a fact, also where a block is entered, left, or the first one of the program
+pub record Moving {unit : ProgramUnit} {p : Name} {size : ℕ} (s : Lasting unit p size) (x : s.Level) (T : World → Type 0) : Type 0 where
+  pub stays : (w : World) → s.Holds x w → T w
   pub grows : (number : ℕ) (parent : Spot) (cells : List Cell) (w : World) → s.Fits (procedure (block_procedure number parent)) → Each s.Fits cells → s.Holds x w →
-      s.Holds x (record w { store = grown p (instance_of unit p size number parent cells) w.store })
-  pub shrinks : (w : World) → s.Holds x w → s.Holds x (record w { store = shrunk p w.store })
+      T (record w { store = grown p (instance_of unit p size number parent cells) w.store })
+  pub shrinks : (w : World) → s.Holds x w → T (record w { store = shrunk p w.store })
   pub begins : (w : World) → s.Holds x w →
-      s.Holds x (record w { store = with_at w.store p (instance_of unit p size unit.program ([], 0) (map (λ n. procedure (system_procedure n)) unit.calls) ∷ []) })
+      T (record w { store = with_at w.store p (instance_of unit p size unit.program ([], 0) (map (λ n. procedure (system_procedure n)) unit.calls) ∷ []) })
 
-module _ {unit : ProgramUnit} {p : Name} {size : ℕ} (s : Lasting unit p size) (x : s.Level) (m : Moving s x) where
-  chosen_keeps : (cs : Clauses) (n : ℕ) (w : World) → s.Holds x w → Keeps s x Any (chosen unit p size cs n w)
-  chosen_keeps tree.no_clause n w h = done s x Any _ w tt h
+module _ {unit : ProgramUnit} {p : Name} {size : ℕ} (s : Lasting unit p size) (x : s.Level) (T : World → Type 0) (m : Moving s x T) where
+  abbrev Leads : Run Asks → Type 0
+  Leads r = Keeps s (λ a w. T w) r
+
+  on : (a : Asks) (w : World) → s.Holds x w → Leads (gives a w)
+  on a w h = give s _ a w (m.stays w h)
+
+  turn_on : (a : Asks) (w : World) → s.Holds x w → Leads (turn w (gives a))
+  turn_on a w h = turn_keeps s x _ w.turns w _ refl h (λ w h. on a w h)
+
+  chosen_keeps : (cs : Clauses) (n : ℕ) (w : World) → s.Holds x w → Keeps s (At s x Any) (chosen unit p size cs n w)
+  chosen_keeps tree.no_clause n w h = give s _ _ w (tt, h)
   chosen_keeps (tree.clause_then (tree.clause e as') cs) n w h =
-      bind s x x Any Any _ _ (whole_condition_keeps s x e w h) (λ holds w _ h. if_keeps s x Any holds _ _ (done s x Any _ w tt h) (chosen_keeps cs (suc n) w h))
+      bind s x Any _ _ _ (whole_condition_keeps s x e w h) (λ holds w _ h. if_keeps s _ holds _ _ (give s _ _ w (tt, h)) (chosen_keeps cs (suc n) w h))
 
-  called_keeps : (c : Closure) (cells : List Cell) (line : ℕ) (work : List Work) (w : World) → s.Fits (procedure c) → Each s.Fits cells → s.Holds x w → Keeps s x Any (called unit p size c cells line work w)
-  called_keeps (system_procedure number) cells line work w c f h = bind s x x Any Any _ _ (system_keeps s x number cells line w f h) (λ _ w _ h. done s x Any _ w tt h)
+  called_keeps : (c : Closure) (cells : List Cell) (line : ℕ) (work : List Work) (w : World) → s.Fits (procedure c) → Each s.Fits cells → s.Holds x w → Leads (called unit p size c cells line work w)
+  called_keeps (system_procedure number) cells line work w c f h = bind s x Any _ _ _ (system_keeps s x number cells line w f h) (λ _ w _ h. on _ w h)
   called_keeps (block_procedure number parent) cells line work w c f h =
-      if_keeps s x Any (nat_lt (room size (shape w.store p)) (block_at unit.blocks number).need) _ _ (stop s x x Any _ w tt h)
-      (turn_keeps s x x Any w.turns w _ refl h (λ w h. done s x Any _ _ tt (m.grows number parent cells w c f h)))
+      if_keeps s _ (nat_lt (room size (shape w.store p)) (block_at unit.blocks number).need) _ _ (stop s x _ _ w tt h)
+      (turn_keeps s x _ w.turns w _ refl h (λ w h. give s _ _ _ (m.grows number parent cells w c f h)))
 
-  statement_keeps : (a : Act) (position : Position) (work : List Work) (w : World) → s.Holds x w → Keeps s x Any (statement_step unit p size a position work w)
-  statement_keeps tree.skip position work w h = done s x Any _ w tt h
-  statement_keeps (tree.assign v e) position work w h = bind s x x Any Any _ _ (whole_assignment_keeps s x v e w h) (λ _ w _ h. done s x Any _ w tt h)
+  statement_keeps : (a : Act) (position : Position) (work : List Work) (w : World) → s.Holds x w → Leads (statement_step unit p size a position work w)
+  statement_keeps tree.skip position work w h = on _ w h
+  statement_keeps (tree.assign v e) position work w h = bind s x Any _ _ _ (whole_assignment_keeps s x v e w h) (λ _ w _ h. on _ w h)
   statement_keeps (tree.call c es line) position work w h =
-      bind s x x (Each s.Fits) Any _ _ (whole_arguments_keep s x es w h) (λ cells w f h. called_keeps (meant unit p size c w) cells line work w (s.by_procedure x c w h) f h)
-  statement_keeps (tree.halt line) position work w h = stop s x x Any (outcome.halted line) w tt h
-  statement_keeps (tree.conditional cs) position work w h = bind s x x Any Any _ _ (chosen_keeps cs 0 w h) (λ c w _ h. done s x Any _ w tt h)
-  statement_keeps (tree.loop cs) position work w h = bind s x x Any Any _ _ (chosen_keeps cs 0 w h) (λ c w _ h. done s x Any _ w tt h)
-  statement_keeps (tree.await cs line) position work w h = turn_keeps s x x Any w.turns w _ refl h (λ w h. done s x Any _ w tt h)
-  statement_keeps (tree.cobegin bs line) position work w h = done s x Any _ w tt h
+      bind s x (Each s.Fits) _ _ _ (whole_arguments_keep s x es w h) (λ cells w f h. called_keeps (meant unit p size c w) cells line work w (s.by_procedure x c w h) f h)
+  statement_keeps (tree.halt line) position work w h = stop s x _ (outcome.halted line) w tt h
+  statement_keeps (tree.conditional cs) position work w h = bind s x Any _ _ _ (chosen_keeps cs 0 w h) (λ c w _ h. on _ w h)
+  statement_keeps (tree.loop cs) position work w h = bind s x Any _ _ _ (chosen_keeps cs 0 w h) (λ c w _ h. on _ w h)
+  statement_keeps (tree.await cs line) position work w h = turn_on _ w h
+  statement_keeps (tree.cobegin bs line) position work w h = on _ w h
 
-  work_keeps : (work : List Work) (w : World) → s.Holds x w → Keeps s x Any (work_step unit p size work w)
-  work_keeps [] w h = stop s x x Any outcome.turns w tt h
+  work_keeps : (work : List Work) (w : World) → s.Holds x w → Leads (work_step unit p size work w)
+  work_keeps [] w h = stop s x _ outcome.turns w tt h
   work_keeps (doing a position ∷ work) w h = statement_keeps a position work w h
-  work_keeps (loop_end cs position ∷ work) w h = turn_keeps s x x Any w.turns w _ refl h (λ w h. done s x Any _ w tt h)
-  work_keeps (procedure_end ∷ work) w h = turn_keeps s x x Any w.turns w _ refl h (λ w h. done s x Any _ _ tt (m.shrinks w h))
-  work_keeps (branch_end ∷ work) w h = turn_keeps s x x Any w.turns w _ refl h (λ w h. done s x Any _ w tt h)
-  work_keeps (program_entry ∷ work) w h = turn_keeps s x x Any w.turns w _ refl h (λ w h. done s x Any _ _ tt (m.begins w h))
-  work_keeps (program_end ∷ work) w h = turn_keeps s x x Any w.turns w _ refl h (λ w h. stop s x x Any outcome.done w tt h)
+  work_keeps (loop_end cs position ∷ work) w h = turn_on _ w h
+  work_keeps (procedure_end ∷ work) w h = turn_keeps s x _ w.turns w _ refl h (λ w h. give s _ _ _ (m.shrinks w h))
+  work_keeps (branch_end ∷ work) w h = turn_on _ w h
+  work_keeps (program_entry ∷ work) w h = turn_keeps s x _ w.turns w _ refl h (λ w h. give s _ _ _ (m.begins w h))
+  work_keeps (program_end ∷ work) w h = turn_keeps s x _ w.turns w _ refl h (λ w h. stop s x _ outcome.done w tt h)
 
-  attempt_keeps : (cs : Clauses) (position : Position) (work : List Work) (w : World) → s.Holds x w → Keeps s x Any (attempt unit p size cs position work w)
+  attempt_keeps : (cs : Clauses) (position : Position) (work : List Work) (w : World) → s.Holds x w → Leads (attempt unit p size cs position work w)
   attempt_keeps cs position work w h =
-      bind s x x Any Any _ _ (whole_first_keeps s x cs w h)
-      (λ ran w _ h. if_keeps s x Any ran _ _ (done s x Any _ w tt h) (turn_keeps s x x Any w.turns w _ refl h (λ w h. done s x Any _ w tt h)))
+      bind s x Any _ _ _ (whole_first_keeps s x cs w h) (λ ran w _ h. if_keeps s _ ran _ _ (on _ w h) (turn_on _ w h))
 
-  pub local_keeps : (standing : Standing) (work : List Work) (w : World) → s.Holds x w → Keeps s x Any (local_step unit p size standing work w)
+  pub local_keeps : (standing : Standing) (work : List Work) (w : World) → s.Holds x w → Leads (local_step unit p size standing work w)
   local_keeps ready work w h = work_keeps work w h
   local_keeps (at_when cs position) work w h = attempt_keeps cs position work w h
-  local_keeps (waiting n) work w h = stop s x x Any outcome.turns w tt h
+  local_keeps (waiting n) work w h = stop s x _ outcome.turns w tt h

@@ -195,18 +195,3 @@ with_cell_owned r (i ∷ is) (suc depth) variable c k h = (h.0, with_cell_owned 
 
 pub put_owned : (store : Store) (l : Location) (v : Value) → Owned store → Owned (put store l v)
 put_owned store l v o = owned_with store l.spot.0 _ o (with_cell_owned l.spot.0 (instances store l.spot.0) l.spot.1 l.variable _ tt (o.each l.spot.0))
-
--- a new value changes no frame
-frames-with_cell : (is : List Instance) (depth variable : ℕ) (c : Cell) → frames (with_cell_in is depth variable c) ≡ frames is
-frames-with_cell [] depth variable c = refl
-frames-with_cell (i ∷ is) zero variable c = refl
-frames-with_cell (i ∷ is) (suc depth) variable c = ap (λ fs. i.frame ∷ fs) (frames-with_cell is depth variable c)
-
-pub shape-put : (store : Store) (l : Location) (v : Value) (r : Name) → shape (put store l v) r ≡ shape store r
-shape-put store l v r = go (same-or-other r l.spot.0)
-  where
-    go : (r ≡ l.spot.0) ⊎ (same r l.spot.0 ≡ false) → shape (put store l v) r ≡ shape store r
-    go (inl e) =
-        ap (shape (put store l v)) e ∙ ap frames (instances-same store l.spot.0 _)
-        ∙ frames-with_cell (instances store l.spot.0) l.spot.1 l.variable _ ∙ sym (ap (shape store) e)
-    go (inr n) = ap frames (instances-other store l.spot.0 r _ n)

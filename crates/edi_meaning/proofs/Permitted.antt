@@ -16,7 +16,7 @@ use Rattle.edi_meaning.specs.Run.{World, Run, gives, ends}
 use Rattle.edi_meaning.specs.Step.{Work, Standing, ready, at_when, waiting, Asks, goes, arrives, again, forks, leaves, Process, Processes, Stepped, went, ended, back, share_of, exceeds, most_processes, with_children, fork_taken, awaits, freed, one_less, told, exited, local_step, kernel, step_of, step, start, is_running, is_running_process, may_step, Led, over, nowhere, onward, permitted}
 use Rattle.edi_meaning.specs.Select.{Selected, unfinished, finished, stepped_first, marked, is_standstill, go_on, after_next, after_step, select, select_from_start}
 use Rattle.edi_meaning.specs.Laws.{LeadsTo, SelectIsPermitted}
-use Rattle.edi_meaning.proofs.Turns.{IsOwn}
+use Rattle.edi_meaning.proofs.Lasting.{IsOwn}
 use Rattle.edi_meaning.proofs.Work.{Falls, standing_size, work_size, step_falls}
 use Rattle.edi_meaning.proofs.Family.{Fresh, fresh_changed, fresh_without, free_name, free_next, Forked, forked_children, start_fresh}
 use Rattle.edi_meaning.proofs.Sound.{or_true, not_true, true_right, right_false, has-append, has-child, once-append, has-children, once-children, Each, EachTaken, each_next}

@@ -14,9 +14,10 @@ use Rattle.edi_meaning.specs.Run.{World, Run, gives, ends}
 use Rattle.edi_meaning.specs.Whole.{instance_of}
 use Rattle.edi_meaning.specs.Step.{Work, Standing, ready, at_when, waiting, Asks, goes, arrives, again, forks, leaves, Process, Processes, Stepped, went, ended, back, share_of, exceeds, most_processes, with_child, with_children, fork_taken, awaits, one_less, told, exited, local_step, kernel, step_of, step, start, is_running_process, may_step, Led, at, nowhere, onward, permitted}
 use Rattle.edi_meaning.specs.Laws.{IsMade, IsPrivate, StepIsPrivate, CellsArePrivate}
-use Rattle.edi_meaning.proofs.Lasting.{Each, Lasting}
+use Rattle.edi_meaning.proofs.Lasting.{Each, Lasting, Keeps}
 use Rattle.edi_meaning.proofs.Local.{Moving, local_keeps}
-use Rattle.edi_meaning.proofs.Own.{owns_self, owns_all, owns_first, owns_parent, each-append, each-take, CellOwned, InstanceOwned, Owned, slot_owned, meant_owned, calls_owned, instance_owned, instances-other, instances-gone, instances-left, owned_with, owned_without, put_owned, shape-put}
+use Rattle.edi_meaning.proofs.Own.{owns_self, owns_all, owns_first, owns_parent, each-append, each-take, CellOwned, InstanceOwned, Owned, slot_owned, meant_owned, calls_owned, instance_owned, instances-other, instances-gone, instances-left, owned_with, owned_without, put_owned}
+use Rattle.edi_meaning.proofs.Frames.{framing, Steps, local_steps}
 use Rattle.edi_meaning.proofs.Family.{Fresh, fresh_changed, fresh_without, free_name, free_next, no_some, Forked, forked_children, start_fresh}
 
 -- ---- one process
@@ -25,10 +26,9 @@ use Rattle.edi_meaning.proofs.Family.{Fresh, fresh_changed, fresh_without, free_
 pub record Leaves (p : Name) (before store : Store) : Type 0 where
   pub owned : Owned store
   pub others : (r : Name) → (Owns p r → ⊥) → instances store r ≡ instances before r
-  pub shapes : (r : Name) → same r p ≡ false → shape store r ≡ shape before r
 
 leaves_all : (p : Name) (store : Store) → Owned store → Leaves p store store
-leaves_all p store o = record { owned = o; others = λ r n. refl; shapes = λ r n. refl }
+leaves_all p store o = record { owned = o; others = λ r n. refl }
 
 -- who is not p's is not p
 not_self : (p r : Name) → (Owns p r → ⊥) → same r p ≡ false
@@ -39,11 +39,10 @@ not_self p r n = go (same-or-other r p)
     go (inr m) = m
 
 -- a value is stored in a variable of p or of an ancestor
-leaves_put : (p : Name) (before store : Store) (l : Location) (v : Value) → Owns p l.spot.0 → Leaves p before store → Leaves p before (put store l v)
+pub leaves_put : (p : Name) (before store : Store) (l : Location) (v : Value) → Owns p l.spot.0 → Leaves p before store → Leaves p before (put store l v)
 leaves_put p before store l v o h = record {
   owned = put_owned store l v h.owned;
   others = λ r n. other r n (same-or-other r l.spot.0);
-  shapes = λ r n. shape-put store l v r ∙ h.shapes r n;
 }
   where
     other : (r : Name) → (Owns p r → ⊥) → (r ≡ l.spot.0) ⊎ (same r l.spot.0 ≡ false) → instances (put store l v) r ≡ instances before r
@@ -55,19 +54,18 @@ leaves_with : (p : Name) (before store : Store) (is : List Instance) → Each (I
 leaves_with p before store is k h = record {
   owned = owned_with store p is h.owned k;
   others = λ r n. instances-other store p r is (not_self p r n) ∙ h.others r n;
-  shapes = λ r n. ap frames (instances-other store p r is n) ∙ h.shapes r n;
 }
 
 module _ (unit : ProgramUnit) (p : Name) (size : ℕ) (before : Store) where
-  grown_leaves : (number : ℕ) (parent : Spot) (cells : List Cell) (store : Store) → Owns p parent.0 → Each (CellOwned p) cells → Leaves p before store →
+  pub grown_leaves : (number : ℕ) (parent : Spot) (cells : List Cell) (store : Store) → Owns p parent.0 → Each (CellOwned p) cells → Leaves p before store →
       Leaves p before (with_at store p (instances store p ++ instance_of unit p size number parent cells ∷ []))
   grown_leaves number parent cells store c f h =
       leaves_with p before store _ (each-append (InstanceOwned p) (instances store p) _ (h.owned.each p) (instance_owned unit p size number parent cells c f, tt)) h
 
-  shrunk_leaves : (store : Store) → Leaves p before store → Leaves p before (with_at store p (take (length (instances store p) - 1) (instances store p)))
+  pub shrunk_leaves : (store : Store) → Leaves p before store → Leaves p before (with_at store p (take (length (instances store p) - 1) (instances store p)))
   shrunk_leaves store h = leaves_with p before store _ (each-take (InstanceOwned p) (length (instances store p) - 1) (instances store p) (h.owned.each p)) h
 
-  abbrev privacy : Lasting unit p size
+  abbrev pub privacy : Lasting unit p size
   privacy = record {
     Level = Unit {0};
     Holds = λ x w. Leaves p before w.store;
@@ -87,12 +85,18 @@ module _ (unit : ProgramUnit) (p : Name) (size : ℕ) (before : Store) where
     by_procedure = λ x c w h. meant_owned unit p size c w h.owned;
   }
 
-  private_moves : Moving privacy tt
+  private_moves : Moving privacy tt (λ w. Leaves p before w.store)
   private_moves = record {
+    stays = λ w h. h;
     grows = λ number parent cells w c f h. grown_leaves number parent cells w.store c f h;
     shrinks = λ w h. shrunk_leaves w.store h;
     begins = λ w h. leaves_with p before w.store _ (instance_owned unit p size unit.program ([], 0) (map (λ n. procedure (system_procedure n)) unit.calls) (owns_first p) (calls_owned p unit.calls), tt) h;
   }
+
+pub local_leaves : (unit : ProgramUnit) (p : Name) (size : ℕ) (standing : Standing) (work : List Work) (w : World) → Owned w.store →
+    Keeps (privacy unit p size w.store) (λ a v. Leaves p w.store v.store) (local_step unit p size standing work w)
+local_leaves unit p size standing work w o =
+    local_keeps (privacy unit p size w.store) tt (λ v. Leaves p w.store v.store) (private_moves unit p size w.store) standing work w (leaves_all p w.store o)
 
 -- ---- all processes
 
@@ -155,39 +159,43 @@ module _ (unit : ProgramUnit) (p : Name) (f share : ℕ) (parent : Spot) (mine :
 -- ---- a step
 
 module _ (unit : ProgramUnit) (s : Processes) (p : Name) (q : Process) (found : find s.live p ≡ Some q) (proper : Proper s) where
+  -- what p itself leaves of the store
+  abbrev Left : Store → Type 0
+  Left store = Leaves p s.world.store store × Steps p s.world.store store
+
   -- who is not live is not p
   apart : (r : Name) → find s.live r ≡ None → same r p ≡ false
   apart r e = other_than p r (λ h. no_some (find s.live r) e (ap (find s.live) h ∙ found))
 
-  still_bare : (store : Store) → Leaves p s.world.store store → (r : Name) → find s.live r ≡ None → instances store r ≡ []
-  still_bare store l r e = no_frames (instances store r) (l.shapes r (apart r e) ∙ ap frames (proper.bare r e))
+  still_bare : (store : Store) → Left store → (r : Name) → find s.live r ≡ None → instances store r ≡ []
+  still_bare store l r e = no_frames (instances store r) (l.1.others r (apart r e) ∙ ap frames (proper.bare r e))
 
-  back_moves : (q' : Process) (w : World) → q.forks ≤ q'.forks → Leaves p s.world.store w.store → IsPrivate s (back s p q' w) p × Proper (back s p q' w)
+  back_moves : (q' : Process) (w : World) → q.forks ≤ q'.forks → Left w.store → IsPrivate s (back s p q' w) p × Proper (back s p q' w)
   back_moves q' w le l = (
-    record { cells = λ r n. inl (l.others r n); frames = λ r n. inl (l.shapes r (other_than p r n)) },
+    record { cells = λ r n. inl (l.0.others r n); frames = λ r n. inl (l.1.others r (other_than p r n)) },
     record {
-      owned = l.owned;
+      owned = l.0.owned;
       fresh = fresh_changed s.live p q q' found le proper.fresh;
       bare = λ r e. still_bare w.store l r (none_before s.live p q' r e);
     },
   )
 
   -- its end, however the table of the others is then
-  gone_moves : (live : Table Process) (w : World) → Fresh live → ((r : Name) → find live r ≡ None → find (without s.live p) r ≡ None) → Leaves p s.world.store w.store →
+  gone_moves : (live : Table Process) (w : World) → Fresh live → ((r : Name) → find live r ≡ None → find (without s.live p) r ≡ None) → Left w.store →
       IsPrivate s (record { live = live; world = record w { store = without w.store p } }) p × Proper (record { live = live; world = record w { store = without w.store p } })
   gone_moves live w fresh was l = (
     record {
-      cells = λ r n. inl (instances-left w.store p r (not_self p r n) ∙ l.others r n);
-      frames = λ r n. inl (ap frames (instances-left w.store p r (other_than p r n)) ∙ l.shapes r (other_than p r n));
+      cells = λ r n. inl (instances-left w.store p r (not_self p r n) ∙ l.0.others r n);
+      frames = λ r n. inl (ap frames (instances-left w.store p r (other_than p r n)) ∙ l.1.others r (other_than p r n));
     },
-    record { owned = owned_without w.store p l.owned; fresh = fresh; bare = λ r e. bare r (same-or-other r p) (was r e) },
+    record { owned = owned_without w.store p l.0.owned; fresh = fresh; bare = λ r e. bare r (same-or-other r p) (was r e) },
   )
     where
       bare : (r : Name) → (r ≡ p) ⊎ (same r p ≡ false) → find (without s.live p) r ≡ None → instances (without w.store p) r ≡ []
       bare r (inl h) e = ap (instances (without w.store p)) h ∙ instances-gone w.store p
       bare r (inr n) e = instances-left w.store p r n ∙ still_bare w.store l r (sym (find-without-other s.live p r n) ∙ e)
 
-  exited_moves : (w : World) → Leaves p s.world.store w.store → Moves s p (exited s p w)
+  exited_moves : (w : World) → Left w.store → Moves s p (exited s p w)
   exited_moves w l = told_moves (parent_of p) (find (without s.live p) (parent_of p)) refl
     where
       alone : IsPrivate s (record { live = without s.live p; world = record w { store = without w.store p } }) p × Proper (record { live = without s.live p; world = record w { store = without w.store p } })
@@ -204,15 +212,15 @@ module _ (unit : ProgramUnit) (s : Processes) (p : Name) (q : Process) (found : 
       told_moves r None e = alone
       told_moves r (Some y) e = less_moves r y y.standing e
 
-  fork_moves : (bs : List ℕ) (work : List Work) (w : World) (n share : ℕ) → Leaves p s.world.store w.store → Moves s p (fork_taken unit s p q bs work w n share)
+  fork_moves : (bs : List ℕ) (work : List Work) (w : World) (n share : ℕ) → Left w.store → Moves s p (fork_taken unit s p q bs work w n share)
   fork_moves bs work w zero share l = tt
   fork_moves bs work w (suc n) share l = (
     record {
-      cells = λ r m. only_made r (instances s.world.store r) (λ is. is) (l.others r m);
-      frames = λ r m. only_made r (shape s.world.store r) frames (l.shapes r (other_than p r m));
+      cells = λ r m. only_made r (instances s.world.store r) (λ is. is) (l.0.others r m);
+      frames = λ r m. only_made r (shape s.world.store r) frames (l.1.others r (other_than p r m));
     },
     record {
-      owned = children_owned unit p f share (now (shape w.store) p) (owns_self p) bs 0 s1 l.owned;
+      owned = children_owned unit p f share (now (shape w.store) p) (owns_self p) bs 0 s1 l.0.owned;
       fresh = born.fresh;
       bare = λ r e. bare r e (made r);
     },
@@ -260,20 +268,24 @@ module _ (unit : ProgramUnit) (s : Processes) (p : Name) (q : Process) (found : 
           not_live None g = g
           not_live (Some y) g = absurd (no_some (find t.live r) e (born.kept r y g))
 
-  abbrev LeavesAll : Run Asks → Type 0
-  LeavesAll (gives a w) = ⊤ × Leaves p s.world.store w.store
-  LeavesAll (ends e system turns) = ⊤
+  abbrev AllLeft : Run Asks → Type 0
+  AllLeft (gives a w) = Left w.store
+  AllLeft (ends e system turns) = ⊤
 
-  kernel_moves : (r : Run Asks) → LeavesAll r → Moves s p (kernel unit s p q r)
+  all_left : (r : Run Asks) → Keeps (privacy unit p q.size s.world.store) (λ a w. Leaves p s.world.store w.store) r → Keeps (framing unit p q.size) (λ a w. Steps p s.world.store w.store) r → AllLeft r
+  all_left (gives a w) h k = (h.is, k.is)
+  all_left (ends e system turns) h k = tt
+
+  kernel_moves : (r : Run Asks) → AllLeft r → Moves s p (kernel unit s p q r)
   kernel_moves (ends e system turns) h = tt
-  kernel_moves (gives (goes work) w) h = back_moves (record q { work = work; standing = ready }) w (omega arith) h.1
-  kernel_moves (gives (arrives cs position work) w) h = back_moves (record q { work = work; standing = at_when cs position }) w (omega arith) h.1
-  kernel_moves (gives (again cs position quiet work) w) h = back_moves (record q { work = work; standing = at_when cs position }) w (omega arith) h.1
+  kernel_moves (gives (goes work) w) h = back_moves (record q { work = work; standing = ready }) w (omega arith) h
+  kernel_moves (gives (arrives cs position work) w) h = back_moves (record q { work = work; standing = at_when cs position }) w (omega arith) h
+  kernel_moves (gives (again cs position quiet work) w) h = back_moves (record q { work = work; standing = at_when cs position }) w (omega arith) h
   kernel_moves (gives (forks bs line work) w) h =
       let share = share_of (room q.size (shape w.store p)) (length bs) in
       if_moves s p (nat_lt most_processes (length s.live + length bs)) _ _ tt
-      (if_moves s p (list_any (exceeds unit share) bs) _ _ tt (fork_moves bs work w w.turns share h.1))
-  kernel_moves (gives leaves w) h = exited_moves w h.1
+      (if_moves s p (list_any (exceeds unit share) bs) _ _ tt (fork_moves bs work w w.turns share h))
+  kernel_moves (gives leaves w) h = exited_moves w h
 
 step_moves : (unit : ProgramUnit) (s : Processes) (p : Name) → Proper s → may_step s p ≡ true → Moves s p (step unit s p)
 step_moves unit s p proper may = go (find s.live p) refl
@@ -284,7 +296,7 @@ step_moves unit s p proper may = go (find s.live p) refl
         let P : Option Process → Type 0 = λ x. Moves s p (step_of unit s p x) in
         subst P (sym e)
         (kernel_moves unit s p q e proper (local_step unit p q.size q.standing q.work s.world)
-        (local_keeps (privacy unit p q.size s.world.store) tt (private_moves unit p q.size s.world.store) q.standing q.work s.world (leaves_all p s.world.store proper.owned)).is)
+        (all_left unit s p q e proper (local_step unit p q.size q.standing q.work s.world) (local_leaves unit p q.size q.standing q.work s.world proper.owned) (local_steps unit p q.size q.standing q.work s.world)))
 
 -- ---- along permitted steps
 

@@ -1,18 +1,20 @@
 -- A step without a turn leaves its process less to do, so every selection ends.
 use Rattle.std.proofs.Common.{◌≡◌, ℕ, zero, suc, ◌+◌, ◌-◌, ◌<◌, ◌≤◌, ◌⊎◌, inl, inr, Bool, true, false, if◌then◌else◌, List, [], ◌∷◌, ◌++◌, length, Option, Some, None, refl, sym, subst, arith}
-use Rattle.std.specs.Prelude.{nat_lt}
+use Rattle.std.specs.Prelude.{⊤, nat_lt}
 use Rattle.std.specs.List.{list_any}
 use Rattle.edi_calls.specs.Names.{Name, find, without}
+use Rattle.edi_calls.specs.Outcome as outcome
 use Rattle.edi_calls.specs.Ready.{child, parent_of, stays, joins}
 use Rattle.edi_unit.specs.Need.{block_at}
 use Rattle.edi_unit.specs.Tree as tree
 use Rattle.edi_unit.specs.Tree.{Expression, Act, Acts, Clause, Clauses, ProgramUnit}
 use Rattle.edi_meaning.specs.Store.{Spot, Closure, system_procedure, block_procedure, Cell, shape, now, room}
-use Rattle.edi_meaning.specs.Run.{World, Run, gives, ends, ◌>>=◌, turn_from, turn}
-use Rattle.edi_meaning.specs.Whole.{meant, system_call, levels_of, whole_arguments, whole_assignment, whole_condition, whole_first}
-use Rattle.edi_meaning.specs.Step.{Position, inside, Work, doing, loop_end, procedure_end, branch_end, program_entry, program_end, doing_all, Standing, ready, at_when, waiting, Asks, goes, arrives, again, forks, leaves, is_quiet, chosen, with_chosen, called, statement_step, work_step, local_step, Process, Processes, Stepped, went, ended, back, share_of, exceeds, most_processes, with_child, with_children, fork_taken, awaits, freed, one_less, told, kernel, step_of, step}
+use Rattle.edi_meaning.specs.Run.{World, Run, gives, ends, turn_from, turn}
+use Rattle.edi_meaning.specs.Whole.{meant}
+use Rattle.edi_meaning.specs.Step.{Position, inside, Work, doing, loop_end, procedure_end, branch_end, program_entry, program_end, doing_all, Standing, ready, at_when, waiting, Asks, goes, arrives, again, forks, leaves, chosen, with_chosen, called, statement_step, work_step, attempt, local_step, Process, Processes, Stepped, went, ended, back, share_of, exceeds, most_processes, with_child, with_children, fork_taken, awaits, freed, one_less, told, kernel, step_of, step}
 use Rattle.edi_calls.proofs.Tables.{find-with_at-same}
-use Rattle.edi_meaning.proofs.Turns.{IsOwn, Within, within_more, bind, system_within, expression_within, arguments_within, assigned_within, first_within, levels_within}
+use Rattle.edi_meaning.proofs.Lasting.{IsOwn, Each, Any, Lasting, Keeps, At, give, stop, bind, if_keeps, system_keeps, whole_arguments_keep, whole_assignment_keeps, whole_condition_keeps, whole_first_keeps}
+use Rattle.edi_meaning.proofs.Turns.{turning}
 
 -- ---- amounts of work
 
@@ -59,104 +61,91 @@ size_of_all (tree.act_then a as') position n work = omega (arith, size_of_all as
 
 -- ---- a step of one process takes a turn, asks the kernel for what takes one, or leaves less work
 
-abbrev Less : ℕ → ℕ → Run Asks → Type 0
-Less size t (gives (goes work) w) = (w.turns < t) ⊎ ((w.turns ≤ t) × (work_size work < size))
-Less size t (gives (arrives cs position work) w) = w.turns < t
-Less size t (gives (again cs position quiet work) w) = w.turns < t
-Less size t (gives (forks bs line work) w) = w.turns ≤ t
-Less size t (gives leaves w) = w.turns < t
-Less size t (ends ending system turns) = IsOwn ending
-
-less_after : {A : Type 0} (size t : ℕ) (r : Run A) (work : List Work) → Within t r → work_size work < size → Less size t (r >>= λ _ w. gives (goes work) w)
-less_after size t (gives x w) work h k = inr (h, k)
-less_after size t (ends e system turns) work h k = h.1
-
--- behind a turn everything is less
-less_turn : (size t n : ℕ) (w : World) (go : World → Run Asks) → n ≤ t → ((w : World) → w.turns < t → Less size t (go w)) → Less size t (turn_from n w go)
-less_turn size t zero w go h k = tt
-less_turn size t (suc n) w go h k = k (record w { turns = n }) (omega arith)
-
-if_less : (size t : ℕ) (b : Bool) (r s : Run Asks) → Less size t r → Less size t s → Less size t (if b then r else s)
-if_less size t true r s h k = h
-if_less size t false r s h k = k
+abbrev Less : ℕ → ℕ → Asks → World → Type 0
+Less m t (goes work) w = (w.turns < t) ⊎ ((w.turns ≤ t) × (work_size work < m))
+Less m t (arrives cs position work) w = w.turns < t
+Less m t (again cs position quiet work) w = w.turns < t
+Less m t (forks bs line work) w = w.turns ≤ t
+Less m t leaves w = w.turns < t
 
 -- what is chosen is a part
-abbrev Picks : Clauses → ℕ → Run (Option (Acts × ℕ)) → Type 0
-Picks cs t (gives None w) = w.turns ≤ t
-Picks cs t (gives (Some c) w) = (w.turns ≤ t) × (acts_size c.0 ≤ clauses_size cs)
-Picks cs t (ends e system turns) = IsOwn e
+abbrev IsPart : Clauses → Option (Acts × ℕ) → Type 0
+IsPart cs None = ⊤
+IsPart cs (Some c) = acts_size c.0 ≤ clauses_size cs
 
-module _ (unit : ProgramUnit) (p : Name) (size : ℕ) where
-  condition_within : (e : Expression) (w : World) → Within w.turns (whole_condition unit p size e w)
-  condition_within e w =
-      bind w.turns _ _ (expression_within unit p size (levels_of unit p size w.turns) (levels_within unit p size w.turns) e w) (λ v w. omega arith)
+part_of_more : (e : Expression) (s : Acts) (cs : Clauses) (c : Option (Acts × ℕ)) → IsPart cs c → IsPart (tree.clause_then (tree.clause e s) cs) c
+part_of_more e s cs None h = tt
+part_of_more e s cs (Some c) h = omega (arith, h)
 
-  picks_more : (e : Expression) (s : Acts) (cs : Clauses) (t u : ℕ) (r : Run (Option (Acts × ℕ))) → u ≤ t → Picks cs u r → Picks (tree.clause_then (tree.clause e s) cs) t r
-  picks_more e s cs t u (gives None w) h k = omega arith
-  picks_more e s cs t u (gives (Some c) w) h k = (omega (arith, k.0), omega (arith, k.1))
-  picks_more e s cs t u (ends x system turns) h k = k
+module _ (unit : ProgramUnit) (p : Name) (size t : ℕ) where
+  abbrev s : Lasting unit p size
+  s = turning unit p size t
 
-  picked : (e : Expression) (s : Acts) (cs : Clauses) (n t : ℕ) → ((w : World) → Picks cs w.turns (chosen unit p size cs (suc n) w)) → (holds : Bool) (w : World) → w.turns ≤ t → Picks (tree.clause_then (tree.clause e s) cs) t (if holds then gives (Some (s, n)) w else chosen unit p size cs (suc n) w)
-  picked e s cs n t h true w k = (k, omega arith)
-  picked e s cs n t h false w k = picks_more e s cs t w.turns (chosen unit p size cs (suc n) w) k (h w)
+  abbrev Falling : ℕ → Run Asks → Type 0
+  Falling m r = Keeps s (Less m t) r
 
-  picked_after : (e : Expression) (s : Acts) (cs : Clauses) (n t : ℕ) → ((w : World) → Picks cs w.turns (chosen unit p size cs (suc n) w)) → (r : Run Bool) → Within t r → Picks (tree.clause_then (tree.clause e s) cs) t (r >>= λ holds w. if holds then gives (Some (s, n)) w else chosen unit p size cs (suc n) w)
-  picked_after e s cs n t h (gives holds w) k = picked e s cs n t h holds w k
-  picked_after e s cs n t h (ends x system turns) k = k.1
+  goes_falling : (m : ℕ) (work : List Work) (w : World) → w.turns ≤ t → work_size work < m → Falling m (gives (goes work) w)
+  goes_falling m work w h k = give s _ _ w (inr (h, k))
 
-  chosen_picks : (cs : Clauses) (n : ℕ) (w : World) → Picks cs w.turns (chosen unit p size cs n w)
-  chosen_picks tree.no_clause n w = omega arith
-  chosen_picks (tree.clause_then (tree.clause e s) cs) n w =
-      picked_after e s cs n w.turns (λ w. chosen_picks cs (suc n) w) (whole_condition unit p size e w) (condition_within e w)
+  -- behind a turn everything is less
+  turn_falling : (m : ℕ) (n : ℕ) (w : World) (go : World → Run Asks) → w.turns ≡ n → w.turns ≤ t → ((w : World) → w.turns < t → Falling m (go w)) → Falling m (turn_from n w go)
+  turn_falling m zero w go e h k = stop s tt _ outcome.turns w tt h
+  turn_falling m (suc n) w go e h k = k (record w { turns = n }) (omega arith)
 
-  less_chosen : (cs : Clauses) (position : Position) (after work : List Work) (t : ℕ) (r : Run (Option (Acts × ℕ))) → Picks cs t r → (m : ℕ) → clauses_size cs + work_size (after ++ work) < m → work_size work < m → Less m t (r >>= λ c w. gives (goes (with_chosen position c after work)) w)
-  less_chosen cs position after work t (gives None w) h m k l = inr (h, l)
-  less_chosen cs position after work t (gives (Some c) w) h m k l = inr (h.0, omega (arith, h.1, size_of_all c.0 (inside position c.1) 0 (after ++ work)))
-  less_chosen cs position after work t (ends x system turns) h m k l = h
+  goes_after_turn : (m : ℕ) (work : List Work) (w : World) → w.turns ≤ t → Falling m (turn w (gives (goes work)))
+  goes_after_turn m work w h = turn_falling m w.turns w _ refl h (λ w l. give s _ _ w (inl l))
 
-  called_less : (m : ℕ) (c : Closure) (cells : List Cell) (line : ℕ) (work : List Work) (t : ℕ) (w : World) → w.turns ≤ t → work_size work < m → Less m t (called unit p size c cells line work w)
-  called_less m (system_procedure number) cells line work t w h k =
-      less_after m t (system_call number cells line w) work (within_more t w.turns (system_call number cells line w) h (system_within number cells line w)) k
-  called_less m (block_procedure number parent) cells line work t w h k =
-      if_less m t (nat_lt (room size (shape w.store p)) (block_at unit.blocks number).need) _ _ tt (less_turn m t w.turns w _ h (λ w l. inl l))
+  chosen_part : (cs : Clauses) (n : ℕ) (w : World) → w.turns ≤ t → Keeps s (At s tt (IsPart cs)) (chosen unit p size cs n w)
+  chosen_part tree.no_clause n w h = give s _ _ w (tt, h)
+  chosen_part (tree.clause_then (tree.clause e as') cs) n w h =
+      bind s tt Any _ _ _ (whole_condition_keeps s tt e w h)
+      (λ holds w _ h. if_keeps s _ holds _ _ (give s _ _ w (omega arith, h)) (more (chosen unit p size cs (suc n) w) (chosen_part cs (suc n) w h)))
+    where
+      more : (r : Run (Option (Acts × ℕ))) → Keeps s (At s tt (IsPart cs)) r → Keeps s (At s tt (IsPart (tree.clause_then (tree.clause e as') cs))) r
+      more (gives c w) h = give s _ c w (part_of_more e as' cs c h.is.0, h.is.1)
+      more (ends x system turns) h = record { is = h.is }
 
-  called_after : (m : ℕ) (c : World → Closure) (line : ℕ) (work : List Work) (t : ℕ) (r : Run (List Cell)) → Within t r → work_size work < m → Less m t (r >>= λ cells w. called unit p size (c w) cells line work w)
-  called_after m c line work t (gives cells w) h k = called_less m (c w) cells line work t w h k
-  called_after m c line work t (ends e system turns) h k = h.1
+  chosen_falling : (m : ℕ) (cs : Clauses) (position : Position) (after work : List Work) (c : Option (Acts × ℕ)) (w : World) → IsPart cs c → w.turns ≤ t →
+      clauses_size cs + work_size (after ++ work) < m → work_size work < m → Falling m (gives (goes (with_chosen position c after work)) w)
+  chosen_falling m cs position after work None w i h k l = goes_falling m work w h l
+  chosen_falling m cs position after work (Some c) w i h k l = goes_falling m _ w h (omega (arith, i, size_of_all c.0 (inside position c.1) 0 (after ++ work)))
 
-  statement_less : (a : Act) (position : Position) (work : List Work) (w : World) → Less (act_size a + work_size work) w.turns (statement_step unit p size a position work w)
-  statement_less tree.skip position work w = inr (omega arith, omega arith)
-  statement_less (tree.assign v e) position work w =
-      less_after _ w.turns (whole_assignment unit p size v e w) work (assigned_within unit p size (levels_of unit p size w.turns) (levels_within unit p size w.turns) v e w) (omega arith)
-  statement_less (tree.call c es line) position work w =
-      called_after _ (meant unit p size c) line work w.turns (whole_arguments unit p size es w) (arguments_within unit p size (levels_of unit p size w.turns) (levels_within unit p size w.turns) es w) (omega arith)
-  statement_less (tree.halt line) position work w = tt
-  statement_less (tree.conditional cs) position work w =
-      less_chosen cs position [] work w.turns (chosen unit p size cs 0 w) (chosen_picks cs 0 w) (1 + clauses_size cs + work_size work) (omega arith) (omega arith)
-  statement_less (tree.loop cs) position work w =
-      less_chosen cs position (loop_end cs position ∷ []) work w.turns (chosen unit p size cs 0 w) (chosen_picks cs 0 w) (2 + clauses_size cs + work_size work) (omega arith) (omega arith)
-  statement_less (tree.await cs line) position work w = less_turn _ w.turns w.turns w _ (omega arith) (λ w l. l)
-  statement_less (tree.cobegin bs line) position work w = omega arith
+  called_falling : (m : ℕ) (c : Closure) (cells : List Cell) (line : ℕ) (work : List Work) (w : World) → Each Any cells → w.turns ≤ t → work_size work < m → Falling m (called unit p size c cells line work w)
+  called_falling m (system_procedure number) cells line work w f h k = bind s tt Any _ _ _ (system_keeps s tt number cells line w f h) (λ _ w _ h. goes_falling m work w h k)
+  called_falling m (block_procedure number parent) cells line work w f h k =
+      if_keeps s _ (nat_lt (room size (shape w.store p)) (block_at unit.blocks number).need) _ _ (stop s tt _ _ w tt h) (turn_falling m w.turns w _ refl h (λ w l. give s _ _ _ (inl l)))
 
-  work_less : (work : List Work) (w : World) → Less (work_size work) w.turns (work_step unit p size work w)
-  work_less [] w = tt
-  work_less (doing a position ∷ work) w = statement_less a position work w
-  work_less (loop_end cs position ∷ work) w = less_turn _ w.turns w.turns w _ (omega arith) (λ w l. inl l)
-  work_less (procedure_end ∷ work) w = less_turn _ w.turns w.turns w _ (omega arith) (λ w l. inl l)
-  work_less (branch_end ∷ work) w = less_turn _ w.turns w.turns w _ (omega arith) (λ w l. l)
-  work_less (program_entry ∷ work) w = less_turn _ w.turns w.turns w _ (omega arith) (λ w l. inl l)
-  work_less (program_end ∷ work) w = less_turn _ w.turns w.turns w _ (omega arith) (λ w l. tt)
+  statement_falling : (a : Act) (position : Position) (work : List Work) (w : World) → w.turns ≤ t → Falling (act_size a + work_size work) (statement_step unit p size a position work w)
+  statement_falling tree.skip position work w h = goes_falling _ work w h (omega arith)
+  statement_falling (tree.assign v e) position work w h = bind s tt Any _ _ _ (whole_assignment_keeps s tt v e w h) (λ _ w _ h. goes_falling _ work w h (omega arith))
+  statement_falling (tree.call c es line) position work w h =
+      bind s tt (Each Any) _ _ _ (whole_arguments_keep s tt es w h) (λ cells w f h. called_falling _ (meant unit p size c w) cells line work w f h (omega arith))
+  statement_falling (tree.halt line) position work w h = stop s tt _ (outcome.halted line) w tt h
+  statement_falling (tree.conditional cs) position work w h =
+      bind s tt (IsPart cs) _ _ _ (chosen_part cs 0 w h) (λ c w i h. chosen_falling (1 + clauses_size cs + work_size work) cs position [] work c w i h (omega arith) (omega arith))
+  statement_falling (tree.loop cs) position work w h =
+      bind s tt (IsPart cs) _ _ _ (chosen_part cs 0 w h) (λ c w i h. chosen_falling (2 + clauses_size cs + work_size work) cs position (loop_end cs position ∷ []) work c w i h (omega arith) (omega arith))
+  statement_falling (tree.await cs line) position work w h = turn_falling _ w.turns w _ refl h (λ w l. give s _ _ w l)
+  statement_falling (tree.cobegin bs line) position work w h = give s _ _ w h
 
-  attempt_less : (cs : Clauses) (position : Position) (work : List Work) (t : ℕ) (r : Run Bool) → Within t r → Less (1 + work_size work) t (r >>= λ ran w. if ran then gives (goes work) w else turn w (gives (again cs position (is_quiet cs) work)))
-  attempt_less cs position work t (gives true w) h = inr (h, omega arith)
-  attempt_less cs position work t (gives false w) h = less_turn _ t w.turns w _ h (λ w l. l)
-  attempt_less cs position work t (ends e system turns) h = h.1
+  work_falling : (work : List Work) (w : World) → w.turns ≤ t → Falling (work_size work) (work_step unit p size work w)
+  work_falling [] w h = stop s tt _ outcome.turns w tt h
+  work_falling (doing a position ∷ work) w h = statement_falling a position work w h
+  work_falling (loop_end cs position ∷ work) w h = goes_after_turn _ _ w h
+  work_falling (procedure_end ∷ work) w h = turn_falling _ w.turns w _ refl h (λ w l. give s _ _ _ (inl l))
+  work_falling (branch_end ∷ work) w h = turn_falling _ w.turns w _ refl h (λ w l. give s _ _ w l)
+  work_falling (program_entry ∷ work) w h = turn_falling _ w.turns w _ refl h (λ w l. give s _ _ _ (inl l))
+  work_falling (program_end ∷ work) w h = turn_falling _ w.turns w _ refl h (λ w l. stop s tt _ outcome.done w tt (omega arith))
 
-  local_less : (standing : Standing) (work : List Work) (w : World) → Less (standing_size standing + work_size work) w.turns (local_step unit p size standing work w)
-  local_less ready work w = subst (λ n. Less n w.turns (work_step unit p size work w)) (omega arith) (work_less work w)
-  local_less (at_when cs position) work w =
-      attempt_less cs position work w.turns (whole_first unit p size cs w) (first_within unit p size (levels_of unit p size w.turns) (levels_within unit p size w.turns) cs w)
-  local_less (waiting n) work w = tt
+  attempt_falling : (cs : Clauses) (position : Position) (work : List Work) (w : World) → w.turns ≤ t → Falling (1 + work_size work) (attempt unit p size cs position work w)
+  attempt_falling cs position work w h =
+      bind s tt Any _ _ _ (whole_first_keeps s tt cs w h)
+      (λ ran w _ h. if_keeps s _ ran _ _ (goes_falling _ work w h (omega arith)) (turn_falling _ w.turns w _ refl h (λ w l. give s _ _ w l)))
+
+  local_falling : (standing : Standing) (work : List Work) (w : World) → w.turns ≤ t → Falling (standing_size standing + work_size work) (local_step unit p size standing work w)
+  local_falling ready work w h = subst (λ n. Falling n (work_step unit p size work w)) (omega arith) (work_falling work w h)
+  local_falling (at_when cs position) work w h = attempt_falling cs position work w h
+  local_falling (waiting n) work w h = stop s tt _ outcome.turns w tt h
 
 -- ---- the same of all processes
 
@@ -198,7 +187,11 @@ module _ (unit : ProgramUnit) (s : Processes) (p : Name) (q : Process) where
             (back s p (record q { forks = suc q.forks; work = work; standing = waiting (length bs) }) (record w { turns = n })),
       )
 
-  kernel_falls : (size t : ℕ) (r : Run Asks) → Less size t r → Falls size t p (kernel unit s p q r)
+  abbrev LessAfter : ℕ → ℕ → Run Asks → Type 0
+  LessAfter size t (gives a w) = Less size t a w
+  LessAfter size t (ends ending system turns) = (turns ≤ t) × IsOwn ending
+
+  kernel_falls : (size t : ℕ) (r : Run Asks) → LessAfter size t r → Falls size t p (kernel unit s p q r)
   kernel_falls size t (gives (goes work) w) (inl h) = inl h
   kernel_falls size t (gives (goes work) w) (inr h) = inr (h.0, (record q { work = work; standing = ready }, find-with_at-same s.live p _, omega (arith, h.1)))
   kernel_falls size t (gives (arrives cs position work) w) h = h
@@ -210,12 +203,12 @@ module _ (unit : ProgramUnit) (s : Processes) (p : Name) (q : Process) where
   kernel_falls size t (gives leaves w) h =
       let rest : Processes = record { live = without s.live p; world = record w { store = without w.store p } } in
       told_falls size t p (parent_of p) rest (find (without s.live p) (parent_of p)) h
-  kernel_falls size t (ends ending system turns) h = h
+  kernel_falls size t (ends ending system turns) h = h.1
 
 pub step_falls : (unit : ProgramUnit) (s : Processes) (p : Name) (q : Process) → find s.live p ≡ Some q → Falls (standing_size q.standing + work_size q.work) s.world.turns p (step unit s p)
 step_falls unit s p q e =
     let size = standing_size q.standing + work_size q.work in
     let f : Falls size s.world.turns p (step_of unit s p (Some q)) =
-    kernel_falls unit s p q size s.world.turns (local_step unit p q.size q.standing q.work s.world) (local_less unit p q.size q.standing q.work s.world) in
+    kernel_falls unit s p q size s.world.turns (local_step unit p q.size q.standing q.work s.world) (local_falling unit p q.size s.world.turns q.standing q.work s.world (omega arith)).is in
     let P : Option Process → Type 0 = λ x. Falls (standing_size q.standing + work_size q.work) s.world.turns p (step_of unit s p x) in
     subst P (sym e) f
