@@ -13,3 +13,4 @@ pub mod Standstill
 pub mod Permitted
 pub mod Frames
 pub mod Private
+pub mod Going

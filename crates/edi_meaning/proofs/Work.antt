@@ -1,5 +1,5 @@
 -- A step without a turn leaves its process less to do, so every selection ends.
-use Rattle.std.proofs.Common.{◌≡◌, ℕ, zero, suc, ◌+◌, ◌-◌, ◌<◌, ◌≤◌, ◌⊎◌, inl, inr, Bool, true, false, if◌then◌else◌, List, [], ◌∷◌, ◌++◌, length, Option, Some, None, refl, sym, subst, arith}
+use Rattle.std.proofs.Common.{◌≡◌, ℕ, zero, suc, ◌+◌, ◌-◌, ◌<◌, ◌≤◌, ◌⊎◌, inl, inr, Bool, true, false, if◌then◌else◌, List, [], ◌∷◌, ◌++◌, length, Option, Some, None, refl, sym, subst, ap, arith}
 use Rattle.std.specs.Prelude.{⊤, nat_lt}
 use Rattle.std.specs.List.{list_any}
 use Rattle.edi_calls.specs.Names.{Name, find, without}
@@ -156,9 +156,11 @@ Falls size t p (went s stays quiet) =
     (s.world.turns < t) ⊎ ((s.world.turns ≤ t) × ((q : Process) × (find s.live p ≡ Some q) × (standing_size q.standing + work_size q.work < size)))
 Falls size t p (went s (joins ps) quiet) = s.world.turns < t
 
-turns_of_children : (unit : ProgramUnit) (p : Name) (f i share : ℕ) (parent : Spot) (bs : List ℕ) (s : Processes) → (with_children unit p f i share parent bs s).world.turns ≡ s.world.turns
-turns_of_children unit p f i share parent [] s = refl
-turns_of_children unit p f i share parent (b ∷ bs) s = turns_of_children unit p f (suc i) share parent bs (with_child unit (child p f i) share parent b s)
+-- children change nothing of the world but variables
+pub world_of_children : (unit : ProgramUnit) (p : Name) (f i share : ℕ) (parent : Spot) (bs : List ℕ) (s : Processes) →
+    (with_children unit p f i share parent bs s).world ≡ record (s.world) { store = (with_children unit p f i share parent bs s).world.store }
+world_of_children unit p f i share parent [] s = refl
+world_of_children unit p f i share parent (b ∷ bs) s = world_of_children unit p f (suc i) share parent bs (with_child unit (child p f i) share parent b s)
 
 if_falls : (size t : ℕ) (p : Name) (b : Bool) (x y : Stepped) → Falls size t p x → Falls size t p y → Falls size t p (if b then x else y)
 if_falls size t p true x y h k = h
@@ -183,8 +185,8 @@ module _ (unit : ProgramUnit) (s : Processes) (p : Name) (q : Process) where
   taken_falls size t bs work w (suc n) share h =
       omega (
         arith,
-        turns_of_children unit p (suc q.forks) 0 share (now (shape w.store) p) bs
-            (back s p (record q { forks = suc q.forks; work = work; standing = waiting (length bs) }) (record w { turns = n })),
+        ap (λ v. v.turns) (world_of_children unit p (suc q.forks) 0 share (now (shape w.store) p) bs
+            (back s p (record q { forks = suc q.forks; work = work; standing = waiting (length bs) }) (record w { turns = n }))),
       )
 
   abbrev LessAfter : ℕ → ℕ → Run Asks → Type 0

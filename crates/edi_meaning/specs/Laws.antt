@@ -1,13 +1,15 @@
 -- What is true of every program.
-use Rattle.std.specs.Prelude.{◌≡◌, ◌⊎◌, ℕ, true, false, List, [], ◌∷◌, None, Some, ⊤}
+use Rattle.std.specs.Prelude.{◌≡◌, ◌⊎◌, ◌≤◌, ℕ, true, false, List, [], ◌∷◌, None, Some, ⊤}
 use Rattle.edi_calls.specs.State.{State}
 use Rattle.edi_calls.specs.Choice.{Choices, listed, first_choices}
+use Rattle.edi_calls.specs.Laws.{GoesOn}
 use Rattle.edi_calls.specs.Names.{Name, find, with_at}
 use Rattle.edi_calls.specs.Outcome as outcome
 use Rattle.edi_calls.specs.Outcome.{Ending, Outcome}
 use Rattle.edi_calls.specs.Ready.{child, stays, joins}
 use Rattle.edi_unit.specs.Tree.{Clauses, ProgramUnit}
 use Rattle.edi_meaning.specs.Store.{instances, shape, Owns}
+use Rattle.edi_meaning.specs.Run.{World}
 use Rattle.edi_meaning.specs.Step.{Position, ready, at_when, Process, Processes, Stepped, went, ended, is_quiet, step, start, may_step, Led, at, over, nowhere, permitted}
 use Rattle.edi_meaning.specs.Select.{Ends, Select}
 
@@ -98,3 +100,16 @@ abbrev pub CellsArePrivate : Type 0
 CellsArePrivate =
     (unit : ProgramUnit) (system : State) (bound : ℕ) (names : List Name) (s : Processes) (p : Name) →
     permitted unit names (start unit system bound) ≡ at s → may_step s p ≡ true → StepIsPrivate s p (step unit s p)
+
+-- from a world on, turns are only taken, input is only taken, and what is shown and printed only follows what was before
+abbrev pub GoesFrom : World → State → (turns : ℕ) → Type 0
+GoesFrom w system turns = (turns ≤ w.turns) × GoesOn w.system system
+
+abbrev pub LedOn : World → Led → Type 0
+LedOn w (at s) = GoesFrom w s.world.system s.world.turns
+LedOn w (over ending system turns) = GoesFrom w system turns
+LedOn w nowhere = ⊤
+
+-- so it is from every state on, whatever the steps
+abbrev pub StepsGoOn : Type 0
+StepsGoOn = (unit : ProgramUnit) (names : List Name) (s : Processes) → LedOn s.world (permitted unit names s)

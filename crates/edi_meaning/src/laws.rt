@@ -1,7 +1,7 @@
 //! What is true of every program, by its meaning. The functions do nothing; their contracts are the laws, which speak of
 //! all units, system states, bounds and choices.
 
-ghost use Rattle.edi_meaning.specs.Laws.{AttemptsAreWhole, CellsArePrivate, EverySelectionEnds, RecordReplays, SelectIsPermitted, SelectionsAreDetermined};
+ghost use Rattle.edi_meaning.specs.Laws.{AttemptsAreWhole, CellsArePrivate, EverySelectionEnds, RecordReplays, SelectIsPermitted, SelectionsAreDetermined, StepsGoOn};
 
 /// Critical phases are executed strictly one at a time: an attempt at a `when` is one step, which leaves its process
 /// behind the whole body, or at the `when` again, and changes nothing else of any process.
@@ -35,4 +35,10 @@ pub fn record_replays()
 /// its ancestors, and of the children that it makes; and of an ancestor's instances none comes or goes.
 pub fn cells_are_private()
     ensures law { CellsArePrivate }
+{}
+
+/// From every state on, whatever the steps: turns are only taken, never given; input is only taken; and what is shown and
+/// printed only follows what was before.
+pub fn steps_go_on()
+    ensures law { StepsGoOn }
 {}

@@ -1,0 +1,141 @@
+-- Steps only take turns and input, and only add to what was shown and printed.
+use Rattle.std.proofs.Common.{◌≡◌, ℕ, zero, suc, Bool, true, false, if◌then◌else◌, List, [], ◌∷◌, ◌++◌, length, Option, Some, None, refl, sym, subst, ap, ◌∙◌, ◌+◌, arith, append_assoc}
+use Rattle.std.specs.Prelude.{nat_lt}
+use Rattle.std.specs.List.{list_any}
+use Rattle.std.proofs.lemmas.List.{append-nil}
+use Rattle.edi_calls.specs.Laws.{GoesOn}
+use Rattle.edi_calls.specs.Names.{Name, find, without}
+use Rattle.edi_calls.specs.Ready.{parent_of}
+use Rattle.edi_calls.specs.State.{State}
+use Rattle.edi_calls.proofs.Lasting.{each_call_goes_on_all}
+use Rattle.edi_unit.specs.Tree.{ProgramUnit}
+use Rattle.edi_meaning.specs.Store.{shape, now, room}
+use Rattle.edi_meaning.specs.Run.{World, Run, gives, ends}
+use Rattle.edi_meaning.specs.Step.{Work, Standing, ready, at_when, waiting, Asks, goes, arrives, again, forks, leaves, Process, Processes, Stepped, went, ended, back, share_of, exceeds, most_processes, fork_taken, one_less, told, local_step, kernel, step_of, step, may_step, Led, at, over, nowhere, onward, permitted}
+use Rattle.edi_meaning.specs.Laws.{GoesFrom, LedOn, StepsGoOn}
+use Rattle.edi_meaning.proofs.Lasting.{Any, Lasting}
+use Rattle.edi_meaning.proofs.Local.{Moving, local_keeps}
+use Rattle.edi_meaning.proofs.Work.{world_of_children}
+
+-- ---- of the system
+
+abbrev Follows : List ℕ → List ℕ → Type 0
+Follows before after = (more : List ℕ) × (after ≡ before ++ more)
+
+follows_all : (a b c : List ℕ) → Follows a b → Follows b c → Follows a c
+follows_all a b c h k = (h.0 ++ k.0, k.1 ∙ ap (λ l. l ++ k.0) h.1 ∙ append_assoc a h.0 k.0)
+
+goes_on_same : (s : State) → GoesOn s s
+goes_on_same s = record { input = ([], refl); shown = ([], sym (append-nil s.shown)); printed = ([], sym (append-nil s.printed)); slots = refl; blocks = refl }
+
+goes_on_all : (s t u : State) → GoesOn s t → GoesOn t u → GoesOn s u
+goes_on_all s t u h k = record {
+  input = (h.input.0 ++ k.input.0, h.input.1 ∙ ap (λ l. h.input.0 ++ l) k.input.1 ∙ sym (append_assoc h.input.0 k.input.0 u.input));
+  shown = follows_all s.shown t.shown u.shown h.shown k.shown;
+  printed = follows_all s.printed t.printed u.printed h.printed k.printed;
+  slots = k.slots ∙ h.slots;
+  blocks = k.blocks ∙ h.blocks;
+}
+
+goes_same : (w : World) → GoesFrom w w.system w.turns
+goes_same w = (omega arith, goes_on_same w.system)
+
+goes_all : (w v : World) (system : State) (turns : ℕ) → GoesFrom w v.system v.turns → GoesFrom v system turns → GoesFrom w system turns
+goes_all w v system turns h k = (omega (arith, h.0, k.0), goes_on_all w.system v.system system h.1 k.1)
+
+-- ---- of one process
+
+abbrev going : (unit : ProgramUnit) (p : Name) (size : ℕ) (before : World) → Lasting unit p size
+going unit p size before = record {
+  Level = Unit {0};
+  Holds = λ x w. GoesFrom before w.system w.turns;
+  Ends = λ e system turns. GoesFrom before system turns;
+  Comes = Any;
+  Fits = Any;
+  over = λ x e w o h. h;
+  turned = λ x n w e h. (omega (arith, e, h.0), h.1);
+  stored = λ x l v w c h. h;
+  replied = λ x number asked words system w e h. (h.0, goes_on_all before.system w.system system h.1 (each_call_goes_on_all number asked words w.system system e));
+  called = λ x number parent cells w c f h. (tt, h, λ v k. k);
+  of_slot = λ x levels variable w h. tt;
+  of_part = λ l n c. tt;
+  by_value = λ v. tt;
+  by_location = λ l c. tt;
+  to_location = λ l f. tt;
+  by_procedure = λ x c w h. tt;
+}
+
+abbrev goes_further : (unit : ProgramUnit) (p : Name) (size : ℕ) (before : World) → Moving (going unit p size before) tt (λ w. GoesFrom before w.system w.turns)
+goes_further unit p size before = record { stays = λ w h. h; grows = λ number parent cells w c f h. h; shrinks = λ w h. h; begins = λ w h. h }
+
+-- ---- of all processes
+
+abbrev StepGoes : World → Stepped → Type 0
+StepGoes w (went t next quiet) = GoesFrom w t.world.system t.world.turns
+StepGoes w (ended ending system turns) = GoesFrom w system turns
+
+if_goes : (w : World) (b : Bool) (x y : Stepped) → StepGoes w x → StepGoes w y → StepGoes w (if b then x else y)
+if_goes w true x y h k = h
+if_goes w false x y h k = k
+
+module _ (unit : ProgramUnit) (s : Processes) (p : Name) (q : Process) (before : World) where
+  taken_goes : (bs : List ℕ) (work : List Work) (w : World) (n share : ℕ) → w.turns ≡ n → GoesFrom before w.system w.turns → StepGoes before (fork_taken unit s p q bs work w n share)
+  taken_goes bs work w zero share e h = h
+  taken_goes bs work w (suc n) share e h =
+      let same = world_of_children unit p (suc q.forks) 0 share (now (shape w.store) p) bs
+      (back s p (record q { forks = suc q.forks; work = work; standing = waiting (length bs) }) (record w { turns = n })) in
+      goes_all before (record w { turns = n }) _ _ (omega (arith, e, h.0), h.1) (subst (λ v. GoesFrom (record w { turns = n }) v.system v.turns) (sym same) (goes_same (record w { turns = n })))
+
+  less_goes : (rest : Processes) (r : Name) (y : Process) (standing : Standing) → GoesFrom before rest.world.system rest.world.turns → StepGoes before (one_less rest r y standing)
+  less_goes rest r y ready h = h
+  less_goes rest r y (at_when cs position) h = h
+  less_goes rest r y (waiting n) h = h
+
+  told_goes : (rest : Processes) (r : Name) (y : Option Process) → GoesFrom before rest.world.system rest.world.turns → StepGoes before (told rest r y)
+  told_goes rest r None h = h
+  told_goes rest r (Some y) h = less_goes rest r y y.standing h
+
+  abbrev RunGoes : Run Asks → Type 0
+  RunGoes (gives a w) = GoesFrom before w.system w.turns
+  RunGoes (ends e system turns) = GoesFrom before system turns
+
+  kernel_goes : (r : Run Asks) → RunGoes r → StepGoes before (kernel unit s p q r)
+  kernel_goes (ends e system turns) h = h
+  kernel_goes (gives (goes work) w) h = h
+  kernel_goes (gives (arrives cs position work) w) h = h
+  kernel_goes (gives (again cs position quiet work) w) h = h
+  kernel_goes (gives (forks bs line work) w) h =
+      let share = share_of (room q.size (shape w.store p)) (length bs) in
+      if_goes before (nat_lt most_processes (length s.live + length bs)) _ _ h (if_goes before (list_any (exceeds unit share) bs) _ _ h (taken_goes bs work w w.turns share refl h))
+  kernel_goes (gives leaves w) h =
+      let rest : Processes = record { live = without s.live p; world = record w { store = without w.store p } } in
+      told_goes rest (parent_of p) (find (without s.live p) (parent_of p)) h
+
+pub step_goes : (unit : ProgramUnit) (s : Processes) (p : Name) → StepGoes s.world (step unit s p)
+step_goes unit s p = go (find s.live p)
+  where
+    go : (x : Option Process) → StepGoes s.world (step_of unit s p x)
+    go None = goes_same s.world
+    go (Some q) =
+        kernel_goes unit s p q s.world (local_step unit p q.size q.standing q.work s.world)
+        (local_keeps (going unit p q.size s.world) tt (λ w. GoesFrom s.world w.system w.turns) (goes_further unit p q.size s.world) q.standing q.work s.world (goes_same s.world)).is
+
+-- ---- along permitted steps
+
+led_all : (w v : World) (x : Led) → GoesFrom w v.system v.turns → LedOn v x → LedOn w x
+led_all w v (at s) h k = goes_all w v s.world.system s.world.turns h k
+led_all w v (over ending system turns) h k = goes_all w v system turns h k
+led_all w v nowhere h k = tt
+
+onward_goes : (w : World) (x : Stepped) (names : List Name) (go : Processes → Led) → StepGoes w x → ((t : Processes) → LedOn t.world (go t)) → LedOn w (onward x names go)
+onward_goes w (went t next quiet) names go h k = led_all w t.world (go t) h (k t)
+onward_goes w (ended ending system turns) [] go h k = h
+onward_goes w (ended ending system turns) (p ∷ ps) go h k = tt
+
+if_led : (w : World) (b : Bool) (x : Led) → LedOn w x → LedOn w (if b then x else nowhere)
+if_led w true x h = h
+if_led w false x h = tt
+
+pub steps_go_on : StepsGoOn
+steps_go_on unit [] s = goes_same s.world
+steps_go_on unit (p ∷ ps) s = if_led s.world (may_step s p) _ (onward_goes s.world (step unit s p) ps (permitted unit ps) (step_goes unit s p) (λ t. steps_go_on unit ps t))
