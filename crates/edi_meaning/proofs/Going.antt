@@ -1,21 +1,19 @@
 -- Steps only take turns and input, and only add to what was shown and printed.
-use Rattle.std.proofs.Common.{◌≡◌, ℕ, zero, suc, Bool, true, false, if◌then◌else◌, List, [], ◌∷◌, ◌++◌, length, Option, Some, None, refl, sym, subst, ap, ◌∙◌, ◌+◌, arith, append_assoc}
-use Rattle.std.specs.Prelude.{nat_lt}
-use Rattle.std.specs.List.{list_any}
+use Rattle.std.proofs.Common.{◌≡◌, ℕ, suc, List, [], ◌∷◌, ◌++◌, length, Option, Some, None, refl, sym, subst, ap, ◌∙◌, arith, append_assoc}
 use Rattle.std.proofs.lemmas.List.{append-nil}
 use Rattle.edi_calls.specs.Laws.{GoesOn}
-use Rattle.edi_calls.specs.Names.{Name, find, without}
-use Rattle.edi_calls.specs.Ready.{parent_of}
+use Rattle.edi_calls.specs.Names.{Name, find}
 use Rattle.edi_calls.specs.State.{State}
 use Rattle.edi_calls.proofs.Lasting.{each_call_goes_on_all}
 use Rattle.edi_unit.specs.Tree.{ProgramUnit}
-use Rattle.edi_meaning.specs.Store.{shape, now, room}
-use Rattle.edi_meaning.specs.Run.{World, Run, gives, ends}
-use Rattle.edi_meaning.specs.Step.{Work, Standing, ready, at_when, waiting, Asks, goes, arrives, again, forks, leaves, Process, Processes, Stepped, went, ended, back, share_of, exceeds, most_processes, fork_taken, one_less, told, local_step, kernel, step_of, step, may_step, Led, at, over, nowhere, onward, permitted}
+use Rattle.edi_meaning.specs.Store.{shape, now}
+use Rattle.edi_meaning.specs.Run.{World}
+use Rattle.edi_meaning.specs.Step.{waiting, Process, Processes, Stepped, went, ended, back, local_step, step_of, step, may_step, Led, at, over, nowhere, onward, permitted}
 use Rattle.edi_meaning.specs.Laws.{GoesFrom, LedOn, StepsGoOn}
 use Rattle.edi_meaning.proofs.Lasting.{Any, Lasting}
 use Rattle.edi_meaning.proofs.Local.{Moving, local_keeps}
 use Rattle.edi_meaning.proofs.Work.{world_of_children}
+use Rattle.edi_meaning.proofs.Kernel.{if_either, Handles, kernel_handles}
 
 -- ---- of the system
 
@@ -28,7 +26,7 @@ follows_all a b c h k = (h.0 ++ k.0, k.1 ∙ ap (λ l. l ++ k.0) h.1 ∙ append_
 goes_on_same : (s : State) → GoesOn s s
 goes_on_same s = record { input = ([], refl); shown = ([], sym (append-nil s.shown)); printed = ([], sym (append-nil s.printed)); slots = refl; blocks = refl }
 
-goes_on_all : (s t u : State) → GoesOn s t → GoesOn t u → GoesOn s u
+pub goes_on_all : (s t u : State) → GoesOn s t → GoesOn t u → GoesOn s u
 goes_on_all s t u h k = record {
   input = (h.input.0 ++ k.input.0, h.input.1 ∙ ap (λ l. h.input.0 ++ l) k.input.1 ∙ sym (append_assoc h.input.0 k.input.0 u.input));
   shown = follows_all s.shown t.shown u.shown h.shown k.shown;
@@ -45,7 +43,7 @@ goes_all w v system turns h k = (omega (arith, h.0, k.0), goes_on_all w.system v
 
 -- ---- of one process
 
-abbrev going : (unit : ProgramUnit) (p : Name) (size : ℕ) (before : World) → Lasting unit p size
+abbrev pub going : (unit : ProgramUnit) (p : Name) (size : ℕ) (before : World) → Lasting unit p size
 going unit p size before = record {
   Level = Unit {0};
   Holds = λ x w. GoesFrom before w.system w.turns;
@@ -74,42 +72,20 @@ abbrev StepGoes : World → Stepped → Type 0
 StepGoes w (went t next quiet) = GoesFrom w t.world.system t.world.turns
 StepGoes w (ended ending system turns) = GoesFrom w system turns
 
-if_goes : (w : World) (b : Bool) (x y : Stepped) → StepGoes w x → StepGoes w y → StepGoes w (if b then x else y)
-if_goes w true x y h k = h
-if_goes w false x y h k = k
-
-module _ (unit : ProgramUnit) (s : Processes) (p : Name) (q : Process) (before : World) where
-  taken_goes : (bs : List ℕ) (work : List Work) (w : World) (n share : ℕ) → w.turns ≡ n → GoesFrom before w.system w.turns → StepGoes before (fork_taken unit s p q bs work w n share)
-  taken_goes bs work w zero share e h = h
-  taken_goes bs work w (suc n) share e h =
+goes_by_kernel : (unit : ProgramUnit) (s : Processes) (p : Name) (q : Process) (before : World) → Handles unit s p q (λ a w. GoesFrom before w.system w.turns) (λ ending. GoesFrom before) (StepGoes before)
+goes_by_kernel unit s p q before = record {
+  of_end = λ ending system turns h. h;
+  of_goes = λ work w h. h;
+  of_arrives = λ cs position work w h. h;
+  of_again = λ cs position quiet work w h. h;
+  of_no_fork = λ bs line work w ending o h. h;
+  of_fork = λ bs line work w n share e h.
       let same = world_of_children unit p (suc q.forks) 0 share (now (shape w.store) p) bs
       (back s p (record q { forks = suc q.forks; work = work; standing = waiting (length bs) }) (record w { turns = n })) in
-      goes_all before (record w { turns = n }) _ _ (omega (arith, e, h.0), h.1) (subst (λ v. GoesFrom (record w { turns = n }) v.system v.turns) (sym same) (goes_same (record w { turns = n })))
-
-  less_goes : (rest : Processes) (r : Name) (y : Process) (standing : Standing) → GoesFrom before rest.world.system rest.world.turns → StepGoes before (one_less rest r y standing)
-  less_goes rest r y ready h = h
-  less_goes rest r y (at_when cs position) h = h
-  less_goes rest r y (waiting n) h = h
-
-  told_goes : (rest : Processes) (r : Name) (y : Option Process) → GoesFrom before rest.world.system rest.world.turns → StepGoes before (told rest r y)
-  told_goes rest r None h = h
-  told_goes rest r (Some y) h = less_goes rest r y y.standing h
-
-  abbrev RunGoes : Run Asks → Type 0
-  RunGoes (gives a w) = GoesFrom before w.system w.turns
-  RunGoes (ends e system turns) = GoesFrom before system turns
-
-  kernel_goes : (r : Run Asks) → RunGoes r → StepGoes before (kernel unit s p q r)
-  kernel_goes (ends e system turns) h = h
-  kernel_goes (gives (goes work) w) h = h
-  kernel_goes (gives (arrives cs position work) w) h = h
-  kernel_goes (gives (again cs position quiet work) w) h = h
-  kernel_goes (gives (forks bs line work) w) h =
-      let share = share_of (room q.size (shape w.store p)) (length bs) in
-      if_goes before (nat_lt most_processes (length s.live + length bs)) _ _ h (if_goes before (list_any (exceeds unit share) bs) _ _ h (taken_goes bs work w w.turns share refl h))
-  kernel_goes (gives leaves w) h =
-      let rest : Processes = record { live = without s.live p; world = record w { store = without w.store p } } in
-      told_goes rest (parent_of p) (find (without s.live p) (parent_of p)) h
+      subst (λ v. GoesFrom before v.system v.turns) (sym same) (omega (arith, e, h.0), h.1);
+  of_leaves = λ w h. h;
+  of_awaited = λ w r y n e g h. h;
+}
 
 pub step_goes : (unit : ProgramUnit) (s : Processes) (p : Name) → StepGoes s.world (step unit s p)
 step_goes unit s p = go (find s.live p)
@@ -117,7 +93,7 @@ step_goes unit s p = go (find s.live p)
     go : (x : Option Process) → StepGoes s.world (step_of unit s p x)
     go None = goes_same s.world
     go (Some q) =
-        kernel_goes unit s p q s.world (local_step unit p q.size q.standing q.work s.world)
+        kernel_handles unit s p q _ _ (StepGoes s.world) (goes_by_kernel unit s p q s.world) (local_step unit p q.size q.standing q.work s.world)
         (local_keeps (going unit p q.size s.world) tt (λ w. GoesFrom s.world w.system w.turns) (goes_further unit p q.size s.world) q.standing q.work s.world (goes_same s.world)).is
 
 -- ---- along permitted steps
@@ -132,10 +108,6 @@ onward_goes w (went t next quiet) names go h k = led_all w t.world (go t) h (k t
 onward_goes w (ended ending system turns) [] go h k = h
 onward_goes w (ended ending system turns) (p ∷ ps) go h k = tt
 
-if_led : (w : World) (b : Bool) (x : Led) → LedOn w x → LedOn w (if b then x else nowhere)
-if_led w true x h = h
-if_led w false x h = tt
-
 pub steps_go_on : StepsGoOn
 steps_go_on unit [] s = goes_same s.world
-steps_go_on unit (p ∷ ps) s = if_led s.world (may_step s p) _ (onward_goes s.world (step unit s p) ps (permitted unit ps) (step_goes unit s p) (λ t. steps_go_on unit ps t))
+steps_go_on unit (p ∷ ps) s = if_either (LedOn s.world) (may_step s p) _ nowhere (onward_goes s.world (step unit s p) ps (permitted unit ps) (step_goes unit s p) (λ t. steps_go_on unit ps t)) tt

@@ -28,13 +28,18 @@ IsOwn outcome.standstill = ⊥
 IsOwn (outcome.bad address) = ⊤
 
 -- P of each element
-abbrev pub Each : {A : Type 0} → (A → Type 0) → List A → Type 0
-Each P [] = ⊤
-Each P (x ∷ xs) = P x × Each P xs
+abbrev pub Every : {A : Type 0} → (A → Type 0) → List A → Type 0
+Every P [] = ⊤
+Every P (x ∷ xs) = P x × Every P xs
 
 -- of every value
 abbrev pub Any : {A : Type 0} → A → Type 0
 Any a = ⊤
+
+-- D of what a run gives and of the world after it; E of how it ends the program
+abbrev pub Gives : {A : Type 0} → (A → World → Type 0) → (Ending → State → ℕ → Type 0) → Run A → Type 0
+Gives D E (gives a w) = D a w
+Gives D E (ends ending system turns) = E ending system turns
 
 -- A fact about the worlds of an evaluation of p, which may speak of a level that a call changes and its end restores;
 -- what then holds of an end of the program, and of the locations and the cells that the evaluation comes to; and that
@@ -49,7 +54,7 @@ pub record Lasting (unit : ProgramUnit) (p : Name) (size : ℕ) : Type 1 where
   pub turned : (x : Level) (n : ℕ) (w : World) → w.turns ≡ suc n → Holds x w → Holds x (record w { turns = n })
   pub stored : (x : Level) (l : Location) (v : Value) (w : World) → Comes l → Holds x w → Holds x (record w { store = put w.store l v })
   pub replied : (x : Level) (number : ℕ) (asked words : List ℕ) (system : State) (w : World) → call number asked w.system ≡ answered words system → Holds x w → Holds x (record w { system = system })
-  pub called : (x : Level) (number : ℕ) (parent : Spot) (cells : List Cell) (w : World) → Fits (procedure (block_procedure number parent)) → Each Fits cells → Holds x w →
+  pub called : (x : Level) (number : ℕ) (parent : Spot) (cells : List Cell) (w : World) → Fits (procedure (block_procedure number parent)) → Every Fits cells → Holds x w →
       (y : Level) × Holds y (record w { store = grown p (instance_of unit p size number parent cells) w.store }) × ((v : World) → Holds y v → Holds x (record v { store = shrunk p v.store }))
   pub of_slot : (x : Level) (levels variable : ℕ) (w : World) → Holds x w → Comes (slot w.store p levels variable)
   pub of_part : (l : Location) (n : ℕ) → Comes l → Comes (part_of l n)
@@ -59,13 +64,9 @@ pub record Lasting (unit : ProgramUnit) (p : Name) (size : ℕ) : Type 1 where
   pub by_procedure : (x : Level) (c : Callee) (w : World) → Holds x w → Fits (procedure (meant unit p size c w))
 
 module _ {unit : ProgramUnit} {p : Name} {size : ℕ} (s : Lasting unit p size) where
-  abbrev Given : {A : Type 0} → (A → World → Type 0) → Run A → Type 0
-  Given P (gives a w) = P a w
-  Given P (ends e system turns) = s.Ends e system turns
-
   -- P of what is given and of the world after it; or the program has ended
   pub record Keeps {A : Type 0} (P : A → World → Type 0) (r : Run A) : Type 0 where
-    pub is : Given P r
+    pub is : Gives P s.Ends r
 
   -- V of a value, and the fact of the world
   abbrev pub At : {A : Type 0} → s.Level → (A → Type 0) → A → World → Type 0
@@ -109,25 +110,25 @@ module _ {unit : ProgramUnit} {p : Name} {size : ℕ} (s : Lasting unit p size) 
   element_keeps x (record_of fs) line l v w c h = give _ _ w (c, h)
   element_keeps x (set_of b) line l v w c h = give _ _ w (c, h)
 
-  answer_keeps : (x : s.Level) (cells : List Cell) (words : List ℕ) (w : World) → Each s.Fits cells → s.Holds x w → s.Holds x (record w { store = answer_in cells words w.store })
+  answer_keeps : (x : s.Level) (cells : List Cell) (words : List ℕ) (w : World) → Every s.Fits cells → s.Holds x w → s.Holds x (record w { store = answer_in cells words w.store })
   answer_keeps x [] words w f h = h
   answer_keeps x (location l ∷ cells) [] w f h = answer_keeps x cells [] w f.1 h
   answer_keeps x (location l ∷ cells) (word ∷ words) w f h = s.stored x l (ordinal (pos word)) w (s.to_location l f.0) h
   answer_keeps x (value v ∷ cells) words w f h = answer_keeps x cells words w f.1 h
   answer_keeps x (procedure c ∷ cells) words w f h = answer_keeps x cells words w f.1 h
 
-  answered_keeps : (x : s.Level) (number : ℕ) (asked : List ℕ) (result : CallResult) (cells : List Cell) (line : ℕ) (w : World) → call number asked w.system ≡ result → Each s.Fits cells → s.Holds x w → Keeps (At x Any) (answered_by result cells line w)
+  answered_keeps : (x : s.Level) (number : ℕ) (asked : List ℕ) (result : CallResult) (cells : List Cell) (line : ℕ) (w : World) → call number asked w.system ≡ result → Every s.Fits cells → s.Holds x w → Keeps (At x Any) (answered_by result cells line w)
   answered_keeps x number asked (answered words system) cells line w e f h =
       give _ tt _ (tt, answer_keeps x cells words (record w { system = system }) f (s.replied x number asked words system w e h))
   answered_keeps x number asked no_file cells line w e f h = stop x _ (outcome.failed cause.NoFile line) w tt h
   answered_keeps x number asked file_limit cells line w e f h = stop x _ (outcome.failed cause.FileLimit line) w tt h
 
-  pub system_keeps : (x : s.Level) (number : ℕ) (cells : List Cell) (line : ℕ) (w : World) → Each s.Fits cells → s.Holds x w → Keeps (At x Any) (system_call number cells line w)
+  pub system_keeps : (x : s.Level) (number : ℕ) (cells : List Cell) (line : ℕ) (w : World) → Every s.Fits cells → s.Holds x w → Keeps (At x Any) (system_call number cells line w)
   system_keeps x number cells line w f h = answered_keeps x number (words_of_cells cells) (call number (words_of_cells cells) w.system) cells line w refl f h
 
   -- a block is entered, and what comes then begins at the level inside
   entered_keeps : {A : Type 0} (x : s.Level) (P : A → World → Type 0) (number : ℕ) (parent : Spot) (cells : List Cell) (line : ℕ) (w : World) (go : World → Run A) →
-      s.Fits (procedure (block_procedure number parent)) → Each s.Fits cells → s.Holds x w →
+      s.Fits (procedure (block_procedure number parent)) → Every s.Fits cells → s.Holds x w →
       ((y : s.Level) → ((v : World) → s.Holds y v → s.Holds x (record v { store = shrunk p v.store })) → (v : World) → s.Holds y v → Keeps P (go v)) → Keeps P (entered unit p size number parent cells line w go)
   entered_keeps x P number parent cells line w go c f h k =
       if_keeps P (nat_lt (room size (shape w.store p)) (block_at unit.blocks number).need) _ _ (stop x P (outcome.failed cause.VariableLimit line) w tt h)
@@ -140,7 +141,7 @@ module _ {unit : ProgramUnit} {p : Name} {size : ℕ} (s : Lasting unit p size) 
   -- ---- what follows the tree
 
   module _ (deeper : Acts → World → Run (Unit {0})) (deep : (x : s.Level) (as' : Acts) (w : World) → s.Holds x w → Keeps (At x Any) (deeper as' w)) where
-    function_keeps : (x : s.Level) (c : Closure) (cells : List Cell) (line : ℕ) (w : World) → s.Fits (procedure c) → Each s.Fits cells → s.Holds x w → Keeps (At x Any) (function_call unit p size deeper c cells line w)
+    function_keeps : (x : s.Level) (c : Closure) (cells : List Cell) (line : ℕ) (w : World) → s.Fits (procedure c) → Every s.Fits cells → s.Holds x w → Keeps (At x Any) (function_call unit p size deeper c cells line w)
     function_keeps x (block_procedure number parent) cells line w c f h =
         entered_keeps x _ number parent cells line w (function_body unit p size deeper number) c f h
         (λ y back v h. bind y Any _ _ _ (deep y (block_at unit.blocks number).body v h) (λ _ w _ h. left_keeps x y _ w (gives (result_of unit p size w)) back h (λ w h. give _ _ w (tt, h))))
@@ -160,7 +161,7 @@ module _ {unit : ProgramUnit} {p : Name} {size : ℕ} (s : Lasting unit p size) 
       expression_keeps x (tree.convert of e line) w h =
           bind x Any _ _ _ (expression_keeps x e w h) (λ v w _ h. range_keeps x line (converted (shape_at unit.types of) v) w h)
       expression_keeps x (tree.invoke c es line) w h =
-          bind x (Each s.Fits) _ _ _ (arguments_keeps x es w h) (λ cells w f h. function_keeps x (meant unit p size c w) cells line w (s.by_procedure x c w h) f h)
+          bind x (Every s.Fits) _ _ _ (arguments_keeps x es w h) (λ cells w f h. function_keeps x (meant unit p size c w) cells line w (s.by_procedure x c w h) f h)
 
       expressions_keeps : (x : s.Level) (es : Expressions) (w : World) → s.Holds x w → Keeps (At x Any) (expressions unit p size deeper es w)
       expressions_keeps x tree.no_expression w h = give _ _ w (tt, h)
@@ -196,12 +197,12 @@ module _ {unit : ProgramUnit} {p : Name} {size : ℕ} (s : Lasting unit p size) 
       argument_keeps x (tree.by_variable v) w h = bind x Located _ _ _ (designated_keeps x v w h) (λ d w c h. give _ _ w ((s.by_location d.at c), h))
       argument_keeps x (tree.by_procedure c) w h = give _ _ w ((s.by_procedure x c w h), h)
 
-      arguments_keeps : (x : s.Level) (es : Arguments) (w : World) → s.Holds x w → Keeps (At x (Each s.Fits)) (arguments unit p size deeper es w)
+      arguments_keeps : (x : s.Level) (es : Arguments) (w : World) → s.Holds x w → Keeps (At x (Every s.Fits)) (arguments unit p size deeper es w)
       arguments_keeps x tree.no_argument w h = give _ [] w (tt, h)
       arguments_keeps x (tree.argument_then a as') w h =
-          bind x s.Fits _ _ _ (argument_keeps x a w h) (λ c w f h. bind x (Each s.Fits) _ _ _ (arguments_keeps x as' w h) (λ cs w fs h. give _ (c ∷ cs) w ((f, fs), h)))
+          bind x s.Fits _ _ _ (argument_keeps x a w h) (λ c w f h. bind x (Every s.Fits) _ _ _ (arguments_keeps x as' w h) (λ cs w fs h. give _ (c ∷ cs) w ((f, fs), h)))
 
-    procedure_keeps : (x : s.Level) (c : Closure) (cells : List Cell) (line : ℕ) (w : World) → s.Fits (procedure c) → Each s.Fits cells → s.Holds x w → Keeps (At x Any) (procedure_call unit p size deeper c cells line w)
+    procedure_keeps : (x : s.Level) (c : Closure) (cells : List Cell) (line : ℕ) (w : World) → s.Fits (procedure c) → Every s.Fits cells → s.Holds x w → Keeps (At x Any) (procedure_call unit p size deeper c cells line w)
     procedure_keeps x (block_procedure number parent) cells line w c f h =
         entered_keeps x _ number parent cells line w (procedure_body unit p size deeper number) c f h
         (λ y back v h. bind y Any _ _ _ (deep y (block_at unit.blocks number).body v h) (λ _ w _ h. left_keeps x y _ w (gives tt) back h (λ w h. give _ _ w (tt, h))))
@@ -220,7 +221,7 @@ module _ {unit : ProgramUnit} {p : Name} {size : ℕ} (s : Lasting unit p size) 
       act_keeps x tree.skip w h = give _ _ w (tt, h)
       act_keeps x (tree.assign v e) w h = assigned_keeps x v e w h
       act_keeps x (tree.call c es line) w h =
-          bind x (Each s.Fits) _ _ _ (arguments_keeps x es w h) (λ cells w f h. procedure_keeps x (meant unit p size c w) cells line w (s.by_procedure x c w h) f h)
+          bind x (Every s.Fits) _ _ _ (arguments_keeps x es w h) (λ cells w f h. procedure_keeps x (meant unit p size c w) cells line w (s.by_procedure x c w h) f h)
       act_keeps x (tree.halt line) w h = stop x _ (outcome.halted line) w tt h
       act_keeps x (tree.conditional cs) w h = bind x Any _ _ _ (first_keeps x cs w h) (λ _ w _ h. give _ _ w (tt, h))
       act_keeps x (tree.loop cs) w h = bind x Any _ _ _ (first_keeps x cs w h) (λ ran w _ h. again_keeps x cs ran w h)
@@ -247,7 +248,7 @@ module _ {unit : ProgramUnit} {p : Name} {size : ℕ} (s : Lasting unit p size) 
 
   -- ---- evaluations to the end
 
-  pub whole_arguments_keep : (x : s.Level) (es : Arguments) (w : World) → s.Holds x w → Keeps (At x (Each s.Fits)) (whole_arguments unit p size es w)
+  pub whole_arguments_keep : (x : s.Level) (es : Arguments) (w : World) → s.Holds x w → Keeps (At x (Every s.Fits)) (whole_arguments unit p size es w)
   whole_arguments_keep x es w h = arguments_keeps (levels_of unit p size w.turns) (levels_keeps w.turns) x es w h
 
   pub whole_assignment_keeps : (x : s.Level) (v : Place) (e : Expression) (w : World) → s.Holds x w → Keeps (At x Any) (whole_assignment unit p size v e w)

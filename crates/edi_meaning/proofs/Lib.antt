@@ -2,6 +2,7 @@ pub mod Lasting
 pub mod Local
 pub mod Own
 pub mod Turns
+pub mod Kernel
 pub mod Work
 pub mod Selections
 pub mod Attempts

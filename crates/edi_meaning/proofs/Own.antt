@@ -15,7 +15,7 @@ use Rattle.edi_unit.specs.Tree.{ProgramUnit}
 use Rattle.edi_meaning.specs.Store.{Spot, Location, system_procedure, block_procedure, Cell, value, location, procedure, Instance, Store, instances, frames, shape, no_frame, frame_at, reached, now, cells_in, with_cell_in, no_cell, cell, located, slot, put, procedure_in, ancestor, Owns}
 use Rattle.edi_meaning.specs.Run.{World}
 use Rattle.edi_meaning.specs.Whole.{result_cells, meant, instance_of}
-use Rattle.edi_meaning.proofs.Lasting.{Each}
+use Rattle.edi_meaning.proofs.Lasting.{Every}
 
 -- ---- ancestors
 
@@ -48,24 +48,24 @@ owns_parent p f i = record { generation = 1; is = sym (take_at p (f ∷ i ∷ []
 -- ---- lists
 
 module _ {A : Type 0} (P : A → Type 0) where
-  pub each-append : (xs ys : List A) → Each P xs → Each P ys → Each P (xs ++ ys)
-  each-append [] ys h k = k
-  each-append (x ∷ xs) ys h k = (h.0, each-append xs ys h.1 k)
+  pub every-append : (xs ys : List A) → Every P xs → Every P ys → Every P (xs ++ ys)
+  every-append [] ys h k = k
+  every-append (x ∷ xs) ys h k = (h.0, every-append xs ys h.1 k)
 
-  pub each-take : (n : ℕ) (xs : List A) → Each P xs → Each P (take n xs)
-  each-take zero xs h = tt
-  each-take (suc n) [] h = tt
-  each-take (suc n) (x ∷ xs) h = (h.0, each-take n xs h.1)
+  pub every-take : (n : ℕ) (xs : List A) → Every P xs → Every P (take n xs)
+  every-take zero xs h = tt
+  every-take (suc n) [] h = tt
+  every-take (suc n) (x ∷ xs) h = (h.0, every-take n xs h.1)
 
-  each-at : (xs : List A) (i : ℕ) (d : A) → Each P xs → P d → P (slice_index_or xs i d)
-  each-at [] i d h k = k
-  each-at (x ∷ xs) zero d h k = h.0
-  each-at (x ∷ xs) (suc i) d h k = each-at xs i d h.1 k
+  every-at : (xs : List A) (i : ℕ) (d : A) → Every P xs → P d → P (slice_index_or xs i d)
+  every-at [] i d h k = k
+  every-at (x ∷ xs) zero d h k = h.0
+  every-at (x ∷ xs) (suc i) d h k = every-at xs i d h.1 k
 
-  each-set : (xs : List A) (i : ℕ) (y : A) → P y → Each P xs → Each P (slice_set xs i y)
-  each-set [] i y k h = tt
-  each-set (x ∷ xs) zero y k h = (k, h.1)
-  each-set (x ∷ xs) (suc i) y k h = (h.0, each-set xs i y k h.1)
+  every-set : (xs : List A) (i : ℕ) (y : A) → P y → Every P xs → Every P (slice_set xs i y)
+  every-set [] i y k h = tt
+  every-set (x ∷ xs) zero y k h = (k, h.1)
+  every-set (x ∷ xs) (suc i) y k h = (h.0, every-set xs i y k h.1)
 
 -- ---- cells and static parents
 
@@ -78,11 +78,11 @@ CellOwned r (procedure (block_procedure number parent)) = Owns r parent.0
 
 pub record InstanceOwned (r : Name) (i : Instance) : Type 0 where
   pub parent : Owns r i.frame.parent.0
-  pub cells : Each (CellOwned r) i.cells
+  pub cells : Every (CellOwned r) i.cells
 
 -- so it is in the whole store
 pub record Owned (store : Store) : Type 0 where
-  pub each : (r : Name) → Each (InstanceOwned r) (instances store r)
+  pub each : (r : Name) → Every (InstanceOwned r) (instances store r)
 
 -- what an ancestor's cell means is with an ancestor
 cell_of_ancestor : (p r : Name) (c : Cell) → Owns p r → CellOwned r c → CellOwned p c
@@ -91,19 +91,19 @@ cell_of_ancestor p r (location l) o h = owns_all p r l.spot.0 o h
 cell_of_ancestor p r (procedure (system_procedure number)) o h = tt
 cell_of_ancestor p r (procedure (block_procedure number parent)) o h = owns_all p r parent.0 o h
 
-parent_in : (r : Name) (is : List Instance) (depth : ℕ) → Each (InstanceOwned r) is → Owns r (unwrap_or (slice_get (frames is) depth) no_frame).parent.0
+parent_in : (r : Name) (is : List Instance) (depth : ℕ) → Every (InstanceOwned r) is → Owns r (unwrap_or (slice_get (frames is) depth) no_frame).parent.0
 parent_in r [] depth h = owns_first r
 parent_in r (i ∷ is) zero h = h.0.parent
 parent_in r (i ∷ is) (suc depth) h = parent_in r is depth h.1
 
-cells_owned : (r : Name) (is : List Instance) (depth : ℕ) → Each (InstanceOwned r) is → Each (CellOwned r) (cells_in is depth)
+cells_owned : (r : Name) (is : List Instance) (depth : ℕ) → Every (InstanceOwned r) is → Every (CellOwned r) (cells_in is depth)
 cells_owned r [] depth h = tt
 cells_owned r (i ∷ is) zero h = h.0.cells
 cells_owned r (i ∷ is) (suc depth) h = cells_owned r is depth h.1
 
 cell_owned : (store : Store) (s : Spot) (variable : ℕ) → Owned store → CellOwned s.0 (cell store s variable)
 cell_owned store s variable o =
-    each-at (CellOwned s.0) (cells_in (instances store s.0) s.1) variable no_cell (cells_owned s.0 (instances store s.0) s.1 (o.each s.0)) tt
+    every-at (CellOwned s.0) (cells_in (instances store s.0) s.1) variable no_cell (cells_owned s.0 (instances store s.0) s.1 (o.each s.0)) tt
 
 -- static parents lead to ancestors
 reached_owned : (store : Store) (levels : ℕ) (s : Spot) → Owned store → Owns s.0 (reached (shape store) levels s).0
@@ -138,26 +138,26 @@ meant_owned unit p size (callee.Formal levels variable) w o =
 
 -- ---- new instances
 
-result_owned : (r : Name) (ts : List types.Shape) (t : Option ℕ) → Each (CellOwned r) (result_cells ts t)
+result_owned : (r : Name) (ts : List types.Shape) (t : Option ℕ) → Every (CellOwned r) (result_cells ts t)
 result_owned r ts None = tt
 result_owned r ts (Some t) = (tt, tt)
 
-zeros_owned : (r : Name) (ts : List types.Shape) (vs : List ℕ) → Each (CellOwned r) (map (λ t. value (zero_value ts t)) vs)
+zeros_owned : (r : Name) (ts : List types.Shape) (vs : List ℕ) → Every (CellOwned r) (map (λ t. value (zero_value ts t)) vs)
 zeros_owned r ts [] = tt
 zeros_owned r ts (v ∷ vs) = (tt, zeros_owned r ts vs)
 
-pub calls_owned : (r : Name) (ns : List ℕ) → Each (CellOwned r) (map (λ n. procedure (system_procedure n)) ns)
+pub calls_owned : (r : Name) (ns : List ℕ) → Every (CellOwned r) (map (λ n. procedure (system_procedure n)) ns)
 calls_owned r [] = tt
 calls_owned r (n ∷ ns) = (tt, calls_owned r ns)
 
-pub instance_owned : (unit : ProgramUnit) (r : Name) (size number : ℕ) (parent : Spot) (cells : List Cell) → Owns r parent.0 → Each (CellOwned r) cells → InstanceOwned r (instance_of unit r size number parent cells)
+pub instance_owned : (unit : ProgramUnit) (r : Name) (size number : ℕ) (parent : Spot) (cells : List Cell) → Owns r parent.0 → Every (CellOwned r) cells → InstanceOwned r (instance_of unit r size number parent cells)
 instance_owned unit r size number parent cells o h =
     let vs : List ℕ = (block_at unit.blocks number).variables in
     record {
       parent = o;
-      cells = each-append (CellOwned r) (result_cells unit.types (block_at unit.blocks number).result) (cells ++ map (λ t. value (zero_value unit.types t)) vs)
+      cells = every-append (CellOwned r) (result_cells unit.types (block_at unit.blocks number).result) (cells ++ map (λ t. value (zero_value unit.types t)) vs)
           (result_owned r unit.types (block_at unit.blocks number).result)
-          (each-append (CellOwned r) cells (map (λ t. value (zero_value unit.types t)) vs) h (zeros_owned r unit.types vs));
+          (every-append (CellOwned r) cells (map (λ t. value (zero_value unit.types t)) vs) h (zeros_owned r unit.types vs));
     }
 
 -- ---- changes of a store
@@ -174,23 +174,23 @@ instances-gone store p = ap (λ x. unwrap_or x []) (find-without-same store p)
 pub instances-left : (store : Store) (p r : Name) → same r p ≡ false → instances (without store p) r ≡ instances store r
 instances-left store p r n = ap (λ x. unwrap_or x []) (find-without-other store p r n)
 
-pub owned_with : (store : Store) (p : Name) (is : List Instance) → Owned store → Each (InstanceOwned p) is → Owned (with_at store p is)
+pub owned_with : (store : Store) (p : Name) (is : List Instance) → Owned store → Every (InstanceOwned p) is → Owned (with_at store p is)
 owned_with store p is o h = record { each = λ r. go r (same-or-other r p) }
   where
-    go : (r : Name) → (r ≡ p) ⊎ (same r p ≡ false) → Each (InstanceOwned r) (instances (with_at store p is) r)
-    go r (inl e) = subst (λ z. Each (InstanceOwned z) (instances (with_at store p is) z)) (sym e) (subst (Each (InstanceOwned p)) (sym (instances-same store p is)) h)
-    go r (inr n) = subst (Each (InstanceOwned r)) (sym (instances-other store p r is n)) (o.each r)
+    go : (r : Name) → (r ≡ p) ⊎ (same r p ≡ false) → Every (InstanceOwned r) (instances (with_at store p is) r)
+    go r (inl e) = subst (λ z. Every (InstanceOwned z) (instances (with_at store p is) z)) (sym e) (subst (Every (InstanceOwned p)) (sym (instances-same store p is)) h)
+    go r (inr n) = subst (Every (InstanceOwned r)) (sym (instances-other store p r is n)) (o.each r)
 
 pub owned_without : (store : Store) (p : Name) → Owned store → Owned (without store p)
 owned_without store p o = record { each = λ r. go r (same-or-other r p) }
   where
-    go : (r : Name) → (r ≡ p) ⊎ (same r p ≡ false) → Each (InstanceOwned r) (instances (without store p) r)
-    go r (inl e) = subst (λ z. Each (InstanceOwned z) (instances (without store p) z)) (sym e) (subst (Each (InstanceOwned p)) (sym (instances-gone store p)) tt)
-    go r (inr n) = subst (Each (InstanceOwned r)) (sym (instances-left store p r n)) (o.each r)
+    go : (r : Name) → (r ≡ p) ⊎ (same r p ≡ false) → Every (InstanceOwned r) (instances (without store p) r)
+    go r (inl e) = subst (λ z. Every (InstanceOwned z) (instances (without store p) z)) (sym e) (subst (Every (InstanceOwned p)) (sym (instances-gone store p)) tt)
+    go r (inr n) = subst (Every (InstanceOwned r)) (sym (instances-left store p r n)) (o.each r)
 
-with_cell_owned : (r : Name) (is : List Instance) (depth variable : ℕ) (c : Cell) → CellOwned r c → Each (InstanceOwned r) is → Each (InstanceOwned r) (with_cell_in is depth variable c)
+with_cell_owned : (r : Name) (is : List Instance) (depth variable : ℕ) (c : Cell) → CellOwned r c → Every (InstanceOwned r) is → Every (InstanceOwned r) (with_cell_in is depth variable c)
 with_cell_owned r [] depth variable c k h = tt
-with_cell_owned r (i ∷ is) zero variable c k h = (record { parent = h.0.parent; cells = each-set (CellOwned r) i.cells variable c k h.0.cells }, h.1)
+with_cell_owned r (i ∷ is) zero variable c k h = (record { parent = h.0.parent; cells = every-set (CellOwned r) i.cells variable c k h.0.cells }, h.1)
 with_cell_owned r (i ∷ is) (suc depth) variable c k h = (h.0, with_cell_owned r is depth variable c k h.1)
 
 pub put_owned : (store : Store) (l : Location) (v : Value) → Owned store → Owned (put store l v)

@@ -1,22 +1,22 @@
 -- The execution that the choices select is a permitted one.
 use Rattle.std.proofs.Common.{◌≡◌, ℕ, zero, suc, ◌+◌, ◌-◌, ◌<◌, ◌≤◌, ◌⊎◌, inl, inr, Bool, true, false, ◌||◌, if◌then◌else◌, List, [], ◌∷◌, ◌++◌, length, Option, Some, None, ◌&&◌, refl, sym, subst, ap, ◌∙◌, arith}
-use Rattle.std.specs.Prelude.{⊤, nat_lt}
-use Rattle.std.specs.List.{list_any}
+use Rattle.std.specs.Prelude.{⊤}
 use Rattle.std.proofs.lemmas.List.{append-nil}
 use Rattle.edi_calls.specs.State.{State}
 use Rattle.edi_calls.specs.Choice.{Choices}
 use Rattle.edi_calls.specs.Names.{Name, Table, same, find, with_at, without}
 use Rattle.edi_calls.specs.Outcome as outcome
 use Rattle.edi_calls.specs.Outcome.{Ending}
-use Rattle.edi_calls.specs.Ready.{child, parent_of, has, children, Next, stays, joins, Taking, nobody, taking, take_next}
+use Rattle.edi_calls.specs.Ready.{child, has, children, Next, stays, joins, Taking, nobody, taking, take_next}
 use Rattle.edi_calls.proofs.Tables.{same-refl, same-equal, same-or-other, find-with_at-same, find-with_at-other, find-without-same, find-without-other}
 use Rattle.edi_unit.specs.Tree.{ProgramUnit}
-use Rattle.edi_meaning.specs.Store.{shape, now, room}
+use Rattle.edi_meaning.specs.Store.{shape, now}
 use Rattle.edi_meaning.specs.Run.{World, Run, gives, ends}
-use Rattle.edi_meaning.specs.Step.{Work, Standing, ready, at_when, waiting, Asks, goes, arrives, again, forks, leaves, Process, Processes, Stepped, went, ended, back, share_of, exceeds, most_processes, with_children, fork_taken, awaits, freed, one_less, told, exited, local_step, kernel, step_of, step, start, is_running, is_running_process, may_step, Led, over, nowhere, onward, permitted}
+use Rattle.edi_meaning.specs.Step.{Work, ready, at_when, waiting, Asks, Process, Processes, Stepped, went, ended, back, with_children, fork_taken, awaits, freed, local_step, step, start, is_running, is_running_process, may_step, Led, over, nowhere, onward, permitted}
 use Rattle.edi_meaning.specs.Select.{Selected, unfinished, finished, stepped_first, marked, is_standstill, go_on, after_next, after_step, select, select_from_start}
 use Rattle.edi_meaning.specs.Laws.{LeadsTo, SelectIsPermitted}
-use Rattle.edi_meaning.proofs.Lasting.{IsOwn}
+use Rattle.edi_meaning.proofs.Lasting.{IsOwn, Gives}
+use Rattle.edi_meaning.proofs.Kernel.{rest_of, Handles, kernel_handles, of_process}
 use Rattle.edi_meaning.proofs.Work.{Falls, standing_size, work_size, step_falls}
 use Rattle.edi_meaning.proofs.Family.{Fresh, fresh_changed, fresh_without, free_name, free_next, Forked, forked_children, start_fresh}
 use Rattle.edi_meaning.proofs.Sound.{or_true, not_true, true_right, right_false, has-append, has-child, once-append, has-children, once-children, Each, EachTaken, each_next}
@@ -46,10 +46,6 @@ false_or a e = ap (λ b. b || false) e
 among : (a b : Bool) → a ≡ false → (a || b) ≡ true → b ≡ true
 among true b e f = absurd (cc)
 among false b e f = f
-
-if_sound : (p : Name) (others : List Name) (b : Bool) (x y : Stepped) → StepSound p others x → StepSound p others y → StepSound p others (if b then x else y)
-if_sound p others true x y h k = h
-if_sound p others false x y h k = k
 
 module _ (unit : ProgramUnit) (s : Processes) (p : Name) (q : Process) (others : List Name) (found : find s.live p ≡ Some q) (fresh : Fresh s.live) (each : Each (May s.live) (p ∷ others)) where
   others_may : (x : Name) → has others x ≡ true → May s.live x
@@ -149,9 +145,8 @@ module _ (unit : ProgramUnit) (s : Processes) (p : Name) (q : Process) (others :
           let b : (y : Process) × (find after (child p (suc q.forks) c.0) ≡ Some y) × (y.standing ≡ ready) = fork.born c.0 c.1 c.2 in
           ap (λ z. is_running_process (find after z)) c.3 ∙ ap is_running_process b.1 ∙ ap is_running b.2
 
-  fork_sound : (bs : List ℕ) (work : List Work) (w : World) (n share : ℕ) → StepSound p others (fork_taken unit s p q bs work w n share)
-  fork_sound bs work w zero share = tt
-  fork_sound bs work w (suc n) share =
+  fork_sound : (bs : List ℕ) (work : List Work) (w : World) (n share : ℕ) → StepSound p others (fork_taken unit s p q bs work w (suc n) share)
+  fork_sound bs work w n share =
       let f = suc q.forks in
       let q' : Process = record q { forks = suc q.forks; work = work; standing = waiting (length bs) } in
       let s1 : Processes = back s p q' (record w { turns = n }) in
@@ -160,91 +155,89 @@ module _ (unit : ProgramUnit) (s : Processes) (p : Name) (q : Process) (others :
       forked_children unit p f share (now (shape w.store) p) bs 0 q' s1 (find-with_at-same s.live p q') (omega arith) (free_next s.live p q q' found fresh) (fresh_changed s.live p q q' found (omega arith) fresh) in
       (fork.fresh, fork_each q' (length bs) after refl refl fork)
 
-  exit_sound : (w : World) → StepSound p others (exited s p w)
-  exit_sound w = told_sound (parent_of p) (find (without s.live p) (parent_of p)) refl
+  -- ---- its end
+
+  rest_may : (x : Name) → has others x ≡ true → May (without s.live p) x
+  rest_may x h = ap is_running_process (find-without-other s.live p x (other_than others p x each.once.0 h)) ∙ others_may x h
+
+  may_rest : (x : Name) → May (without s.live p) x → has others x ≡ true
+  may_rest x m = elim (same-or-other x p) [
+    | inl e ↦ let a : false ≡ true = sym (ap is_running_process (ap (find (without s.live p)) e ∙ find-without-same s.live p)) ∙ m in absurd (cc)
+    | inr n ↦ may_others x n (sym (ap is_running_process (find-without-other s.live p x n)) ∙ m)
+  ]
+
+  nobody_joins : (live : Table Process) → Fresh live → ((x : Name) → has others x ≡ true → May live x) → ((x : Name) → May live x → has others x ≡ true) → Fresh live × Each (May live) (others ++ [])
+  nobody_joins live f h a = (f, subst (Each (May live)) (sym (append-nil others)) (record { once = each.once.1; holds = h; all = a }))
+
+  -- its parent waits for one child less
+  awaited_sound : (w : World) (r : Name) (y : Process) (n : ℕ) → find (without s.live p) r ≡ Some y → y.standing ≡ waiting n →
+      StepSound p others (went (back (rest_of s p w) r (record y { standing = awaits (n - 1) }) (rest_of s p w).world) (freed (n - 1) r) false)
+  awaited_sound w r y n e g = awaited (n - 1)
     where
-      rest : Processes
-      rest = record { live = without s.live p; world = record w { store = without w.store p } }
+      -- the parent waits, so it is not in the list
+      waits : May (without s.live p) r → ⊥
+      waits m = let a : false ≡ true = sym (ap is_running_process e ∙ ap is_running g) ∙ m in absurd (cc)
 
-      rest_may : (x : Name) → has others x ≡ true → May (without s.live p) x
-      rest_may x h = ap is_running_process (find-without-other s.live p x (other_than others p x each.once.0 h)) ∙ others_may x h
+      apart : (x : Name) → has others x ≡ true → same x r ≡ false
+      apart x h = go (same-or-other x r)
+        where
+          go : (x ≡ r) ⊎ (same x r ≡ false) → same x r ≡ false
+          go (inl k) = absurd (waits (subst (May (without s.live p)) k (rest_may x h)))
+          go (inr k) = k
 
-      may_rest : (x : Name) → May (without s.live p) x → has others x ≡ true
-      may_rest x m = elim (same-or-other x p) [
-        | inl e ↦ let a : false ≡ true = sym (ap is_running_process (ap (find (without s.live p)) e ∙ find-without-same s.live p)) ∙ m in absurd (cc)
-        | inr n ↦ may_others x n (sym (ap is_running_process (find-without-other s.live p x n)) ∙ m)
+      still : (y' : Process) (x : Name) → has others x ≡ true → May (with_at (without s.live p) r y') x
+      still y' x h = ap is_running_process (find-with_at-other (without s.live p) r x y' (apart x h)) ∙ rest_may x h
+
+      changed_rest : (y' : Process) (x : Name) → same x r ≡ false → May (with_at (without s.live p) r y') x → has others x ≡ true
+      changed_rest y' x n m = may_rest x (sym (ap is_running_process (find-with_at-other (without s.live p) r x y' n)) ∙ m)
+
+      still_waits : (m : ℕ) (x : Name) → May (with_at (without s.live p) r (record y { standing = waiting (suc m) })) x → has others x ≡ true
+      still_waits m x t = elim (same-or-other x r) [
+        | inl e ↦
+            let gone : find (with_at (without s.live p) r (record y { standing = waiting (suc m) })) x ≡ Some (record y { standing = waiting (suc m) }) =
+            ap (find (with_at (without s.live p) r (record y { standing = waiting (suc m) }))) e ∙ find-with_at-same (without s.live p) r (record y { standing = waiting (suc m) }) in
+            let a : false ≡ true = sym (ap is_running_process gone) ∙ t in absurd (cc)
+        | inr n ↦ changed_rest (record y { standing = waiting (suc m) }) x n t
       ]
 
-      nobody_joins : (live : Table Process) → Fresh live → ((x : Name) → has others x ≡ true → May live x) → ((x : Name) → May live x → has others x ≡ true) → Fresh live × Each (May live) (others ++ [])
-      nobody_joins live f h a = (f, subst (Each (May live)) (sym (append-nil others)) (record { once = each.once.1; holds = h; all = a }))
+      awaited : (m : ℕ) → StepSound p others (went (back (rest_of s p w) r (record y { standing = awaits m }) (rest_of s p w).world) (freed m r) false)
+      awaited zero = (
+        fresh_changed (without s.live p) r y (record y { standing = ready }) e (omega arith) (fresh_without s.live p fresh),
+        record {
+          once = once-append others (r ∷ []) each.once.1 (refl, tt) (λ x h. false_or (same x r) (apart x h));
+          holds = λ x h. elim (or_true (has others x) (has (r ∷ []) x) (sym (has-append others (r ∷ []) x) ∙ h)) [
+            | inl o ↦ still (record y { standing = ready }) x o
+            | inr o ↦ ap (λ z. is_running_process (find (with_at (without s.live p) r (record y { standing = ready })) z)) (same-equal x r (sym (right_false (same x r)) ∙ o)) ∙ ap is_running_process (find-with_at-same (without s.live p) r (record y { standing = ready }))
+          ];
+          all = λ x t. has-append others (r ∷ []) x ∙ elim (same-or-other x r) [
+            | inl e ↦ ap (λ b. has others x || (b || false)) (ap (λ z. same z r) e ∙ same-refl r) ∙ true_right (has others x)
+            | inr n ↦ ap (λ b. b || has (r ∷ []) x) (changed_rest (record y { standing = ready }) x n t)
+          ];
+        },
+      )
+      awaited (suc m) = nobody_joins (with_at (without s.live p) r (record y { standing = waiting (suc m) })) (fresh_changed (without s.live p) r y (record y { standing = waiting (suc m) }) e (omega arith) (fresh_without s.live p fresh)) (still (record y { standing = waiting (suc m) })) (still_waits m)
 
-      told_sound : (r : Name) (o : Option Process) → find (without s.live p) r ≡ o → StepSound p others (told rest r o)
-      told_sound r None e = nobody_joins (without s.live p) (fresh_without s.live p fresh) rest_may may_rest
-      told_sound r (Some y) e = less y.standing refl
-        where
-          less : (standing : Standing) → y.standing ≡ standing → StepSound p others (one_less rest r y standing)
-          less ready g = nobody_joins (without s.live p) (fresh_without s.live p fresh) rest_may may_rest
-          less (at_when cs position) g = nobody_joins (without s.live p) (fresh_without s.live p fresh) rest_may may_rest
-          less (waiting n) g = awaited (n - 1)
-            where
-              -- the parent waits, so it is not in the list
-              waits : May (without s.live p) r → ⊥
-              waits m = let a : false ≡ true = sym (ap is_running_process e ∙ ap is_running g) ∙ m in absurd (cc)
+  sound : Handles unit s p q (λ a w. ⊤) (λ ending system turns. ⊤) (StepSound p others)
+  sound = record {
+    of_end = λ ending system turns h. tt;
+    of_goes = λ work w h. goes_sound (record q { work = work; standing = ready }) (omega arith) refl;
+    of_arrives = λ cs position work w h. back_sound (record q { work = work; standing = at_when cs position }) (omega arith) refl;
+    of_again = λ cs position quiet work w h. back_sound (record q { work = work; standing = at_when cs position }) (omega arith) refl;
+    of_no_fork = λ bs line work w ending o h. tt;
+    of_fork = λ bs line work w n share e h. fork_sound bs work w n share;
+    of_leaves = λ w h. nobody_joins (without s.live p) (fresh_without s.live p fresh) rest_may may_rest;
+    of_awaited = λ w r y n e g h. awaited_sound w r y n e g;
+  }
 
-              apart : (x : Name) → has others x ≡ true → same x r ≡ false
-              apart x h = go (same-or-other x r)
-                where
-                  go : (x ≡ r) ⊎ (same x r ≡ false) → same x r ≡ false
-                  go (inl k) = absurd (waits (subst (May (without s.live p)) k (rest_may x h)))
-                  go (inr k) = k
-
-              still : (y' : Process) (x : Name) → has others x ≡ true → May (with_at (without s.live p) r y') x
-              still y' x h = ap is_running_process (find-with_at-other (without s.live p) r x y' (apart x h)) ∙ rest_may x h
-
-              changed_rest : (y' : Process) (x : Name) → same x r ≡ false → May (with_at (without s.live p) r y') x → has others x ≡ true
-              changed_rest y' x n m = may_rest x (sym (ap is_running_process (find-with_at-other (without s.live p) r x y' n)) ∙ m)
-
-              still_waits : (m : ℕ) (x : Name) → May (with_at (without s.live p) r (record y { standing = waiting (suc m) })) x → has others x ≡ true
-              still_waits m x t = elim (same-or-other x r) [
-                | inl e ↦
-                    let gone : find (with_at (without s.live p) r (record y { standing = waiting (suc m) })) x ≡ Some (record y { standing = waiting (suc m) }) =
-                    ap (find (with_at (without s.live p) r (record y { standing = waiting (suc m) }))) e ∙ find-with_at-same (without s.live p) r (record y { standing = waiting (suc m) }) in
-                    let a : false ≡ true = sym (ap is_running_process gone) ∙ t in absurd (cc)
-                | inr n ↦ changed_rest (record y { standing = waiting (suc m) }) x n t
-              ]
-
-              awaited : (m : ℕ) → StepSound p others (went (back rest r (record y { standing = awaits m }) rest.world) (freed m r) false)
-              awaited zero = (
-                fresh_changed (without s.live p) r y (record y { standing = ready }) e (omega arith) (fresh_without s.live p fresh),
-                record {
-                  once = once-append others (r ∷ []) each.once.1 (refl, tt) (λ x h. false_or (same x r) (apart x h));
-                  holds = λ x h. elim (or_true (has others x) (has (r ∷ []) x) (sym (has-append others (r ∷ []) x) ∙ h)) [
-                    | inl o ↦ still (record y { standing = ready }) x o
-                    | inr o ↦ ap (λ z. is_running_process (find (with_at (without s.live p) r (record y { standing = ready })) z)) (same-equal x r (sym (right_false (same x r)) ∙ o)) ∙ ap is_running_process (find-with_at-same (without s.live p) r (record y { standing = ready }))
-                  ];
-                  all = λ x t. has-append others (r ∷ []) x ∙ elim (same-or-other x r) [
-                    | inl e ↦ ap (λ b. has others x || (b || false)) (ap (λ z. same z r) e ∙ same-refl r) ∙ true_right (has others x)
-                    | inr n ↦ ap (λ b. b || has (r ∷ []) x) (changed_rest (record y { standing = ready }) x n t)
-                  ];
-                },
-              )
-              awaited (suc m) = nobody_joins (with_at (without s.live p) r (record y { standing = waiting (suc m) })) (fresh_changed (without s.live p) r y (record y { standing = waiting (suc m) }) e (omega arith) (fresh_without s.live p fresh)) (still (record y { standing = waiting (suc m) })) (still_waits m)
-
-  kernel_sound : (r : Run Asks) → StepSound p others (kernel unit s p q r)
-  kernel_sound (ends e system turns) = tt
-  kernel_sound (gives (goes work) w) = goes_sound (record q { work = work; standing = ready }) (omega arith) refl
-  kernel_sound (gives (arrives cs position work) w) = back_sound (record q { work = work; standing = at_when cs position }) (omega arith) refl
-  kernel_sound (gives (again cs position quiet work) w) = back_sound (record q { work = work; standing = at_when cs position }) (omega arith) refl
-  kernel_sound (gives (forks bs line work) w) =
-      let share = share_of (room q.size (shape w.store p)) (length bs) in
-      if_sound p others (nat_lt most_processes (length s.live + length bs)) _ _ tt
-      (if_sound p others (list_any (exceeds unit share) bs) _ _ tt (fork_sound bs work w w.turns share))
-  kernel_sound (gives leaves w) = exit_sound w
+  all_gives : (r : Run Asks) → Gives (λ a w. ⊤) (λ ending system turns. ⊤) r
+  all_gives (gives a w) = tt
+  all_gives (ends ending system turns) = tt
 
 step_sound : (unit : ProgramUnit) (s : Processes) (p : Name) (q : Process) (others : List Name) → find s.live p ≡ Some q → Fresh s.live → Each (May s.live) (p ∷ others) → StepSound p others (step unit s p)
 step_sound unit s p q others found fresh each =
-    let P : Option Process → Type 0 = λ x. StepSound p others (step_of unit s p x) in
-    subst P (sym found) (kernel_sound unit s p q others found fresh each (local_step unit p q.size q.standing q.work s.world))
+    let r : Run Asks = local_step unit p q.size q.standing q.work s.world in
+    of_process unit s p q (StepSound p others) found
+    (kernel_handles unit s p q _ _ (StepSound p others) (sound unit s p q others found fresh each) r (all_gives unit s p q others found fresh each r))
 
 -- ---- marks
 

@@ -1,22 +1,22 @@
 -- A step of a process changes no cell but those of its own instances, of its ancestors', and of the children that it
 -- makes.
-use Rattle.std.proofs.Common.{◌≡◌, ℕ, zero, suc, ◌+◌, ◌-◌, ◌<◌, ◌≤◌, ◌⊎◌, inl, inr, Bool, true, false, if◌then◌else◌, List, [], ◌∷◌, ◌++◌, map, take, length, Option, Some, None, refl, sym, subst, ap, ◌∙◌, arith}
-use Rattle.std.specs.Prelude.{⊤, nat_lt}
-use Rattle.std.specs.List.{list_any}
+use Rattle.std.proofs.Common.{◌≡◌, ℕ, suc, ◌+◌, ◌-◌, ◌<◌, ◌≤◌, ◌⊎◌, inl, inr, false, List, [], ◌∷◌, ◌++◌, map, take, length, Option, Some, None, refl, sym, subst, ap, ◌∙◌, arith}
+use Rattle.std.specs.Prelude.{⊤}
 use Rattle.edi_calls.specs.State.{State}
 use Rattle.edi_calls.specs.Names.{Name, Table, same, find, with_at, without}
-use Rattle.edi_calls.specs.Ready.{child, parent_of}
+use Rattle.edi_calls.specs.Ready.{child}
 use Rattle.edi_calls.proofs.Tables.{same-or-other, find-with_at-same, find-with_at-other, find-without-other}
 use Rattle.edi_unit.specs.Tree.{ProgramUnit}
 use Rattle.edi_unit.specs.Values.{Value}
-use Rattle.edi_meaning.specs.Store.{Spot, Location, Cell, system_procedure, procedure, Instance, Store, instances, frames, shape, now, room, put, Owns}
+use Rattle.edi_meaning.specs.Store.{Spot, Location, Cell, system_procedure, procedure, Instance, Store, instances, frames, shape, now, put, Owns}
 use Rattle.edi_meaning.specs.Run.{World, Run, gives, ends}
 use Rattle.edi_meaning.specs.Whole.{instance_of}
-use Rattle.edi_meaning.specs.Step.{Work, Standing, ready, at_when, waiting, Asks, goes, arrives, again, forks, leaves, Process, Processes, Stepped, went, ended, back, share_of, exceeds, most_processes, with_child, with_children, fork_taken, awaits, one_less, told, exited, local_step, kernel, step_of, step, start, is_running_process, may_step, Led, at, nowhere, onward, permitted}
+use Rattle.edi_meaning.specs.Step.{Work, Standing, ready, at_when, waiting, Asks, Process, Processes, Stepped, went, ended, back, with_child, with_children, fork_taken, awaits, freed, local_step, step_of, step, start}
 use Rattle.edi_meaning.specs.Laws.{IsMade, IsPrivate, StepIsPrivate, CellsArePrivate}
-use Rattle.edi_meaning.proofs.Lasting.{Each, Lasting, Keeps}
+use Rattle.edi_meaning.proofs.Lasting.{Every, Gives, Lasting, Keeps}
 use Rattle.edi_meaning.proofs.Local.{Moving, local_keeps}
-use Rattle.edi_meaning.proofs.Own.{owns_self, owns_all, owns_first, owns_parent, each-append, each-take, CellOwned, InstanceOwned, Owned, slot_owned, meant_owned, calls_owned, instance_owned, instances-other, instances-gone, instances-left, owned_with, owned_without, put_owned}
+use Rattle.edi_meaning.proofs.Kernel.{rest_of, Handles, kernel_handles, of_process, After, permitted_keep}
+use Rattle.edi_meaning.proofs.Own.{owns_self, owns_all, owns_first, owns_parent, every-append, every-take, CellOwned, InstanceOwned, Owned, slot_owned, meant_owned, calls_owned, instance_owned, instances-other, instances-gone, instances-left, owned_with, owned_without, put_owned}
 use Rattle.edi_meaning.proofs.Frames.{framing, Steps, local_steps}
 use Rattle.edi_meaning.proofs.Family.{Fresh, fresh_changed, fresh_without, free_name, free_next, no_some, Forked, forked_children, start_fresh}
 
@@ -50,20 +50,20 @@ leaves_put p before store l v o h = record {
     other r n (inr m) = instances-other store l.spot.0 r _ m ∙ h.others r n
 
 -- p has other instances
-leaves_with : (p : Name) (before store : Store) (is : List Instance) → Each (InstanceOwned p) is → Leaves p before store → Leaves p before (with_at store p is)
+leaves_with : (p : Name) (before store : Store) (is : List Instance) → Every (InstanceOwned p) is → Leaves p before store → Leaves p before (with_at store p is)
 leaves_with p before store is k h = record {
   owned = owned_with store p is h.owned k;
   others = λ r n. instances-other store p r is (not_self p r n) ∙ h.others r n;
 }
 
 module _ (unit : ProgramUnit) (p : Name) (size : ℕ) (before : Store) where
-  pub grown_leaves : (number : ℕ) (parent : Spot) (cells : List Cell) (store : Store) → Owns p parent.0 → Each (CellOwned p) cells → Leaves p before store →
+  pub grown_leaves : (number : ℕ) (parent : Spot) (cells : List Cell) (store : Store) → Owns p parent.0 → Every (CellOwned p) cells → Leaves p before store →
       Leaves p before (with_at store p (instances store p ++ instance_of unit p size number parent cells ∷ []))
   grown_leaves number parent cells store c f h =
-      leaves_with p before store _ (each-append (InstanceOwned p) (instances store p) _ (h.owned.each p) (instance_owned unit p size number parent cells c f, tt)) h
+      leaves_with p before store _ (every-append (InstanceOwned p) (instances store p) _ (h.owned.each p) (instance_owned unit p size number parent cells c f, tt)) h
 
   pub shrunk_leaves : (store : Store) → Leaves p before store → Leaves p before (with_at store p (take (length (instances store p) - 1) (instances store p)))
-  shrunk_leaves store h = leaves_with p before store _ (each-take (InstanceOwned p) (length (instances store p) - 1) (instances store p) (h.owned.each p)) h
+  shrunk_leaves store h = leaves_with p before store _ (every-take (InstanceOwned p) (length (instances store p) - 1) (instances store p) (h.owned.each p)) h
 
   abbrev pub privacy : Lasting unit p size
   privacy = record {
@@ -110,10 +110,6 @@ pub record Proper (s : Processes) : Type 0 where
 abbrev Moves : Processes → Name → Stepped → Type 0
 Moves s p (went t next quiet) = IsPrivate s t p × Proper t
 Moves s p (ended ending system turns) = ⊤
-
-if_moves : (s : Processes) (p : Name) (b : Bool) (x y : Stepped) → Moves s p x → Moves s p y → Moves s p (if b then x else y)
-if_moves s p true x y h k = h
-if_moves s p false x y h k = k
 
 -- who is not live with a new entry was not live before
 none_before : (live : Table Process) (p : Name) (q : Process) (r : Name) → find (with_at live p q) r ≡ None → find live r ≡ None
@@ -195,26 +191,14 @@ module _ (unit : ProgramUnit) (s : Processes) (p : Name) (q : Process) (found : 
       bare r (inl h) e = ap (instances (without w.store p)) h ∙ instances-gone w.store p
       bare r (inr n) e = instances-left w.store p r n ∙ still_bare w.store l r (sym (find-without-other s.live p r n) ∙ e)
 
-  exited_moves : (w : World) → Left w.store → Moves s p (exited s p w)
-  exited_moves w l = told_moves (parent_of p) (find (without s.live p) (parent_of p)) refl
-    where
-      alone : IsPrivate s (record { live = without s.live p; world = record w { store = without w.store p } }) p × Proper (record { live = without s.live p; world = record w { store = without w.store p } })
-      alone = gone_moves (without s.live p) w (fresh_without s.live p proper.fresh) (λ r e. e) l
+  awaited_moves : (w : World) (r : Name) (y : Process) (n : ℕ) → find (without s.live p) r ≡ Some y → Left w.store →
+      Moves s p (went (back (rest_of s p w) r (record y { standing = awaits (n - 1) }) (rest_of s p w).world) (freed (n - 1) r) false)
+  awaited_moves w r y n e l =
+      let y' : Process = record y { standing = awaits (n - 1) } in
+      gone_moves (with_at (without s.live p) r y') w (fresh_changed (without s.live p) r y y' e (omega arith) (fresh_without s.live p proper.fresh)) (λ x g. none_before (without s.live p) r y' x g) l
 
-      less_moves : (r : Name) (y : Process) (standing : Standing) → find (without s.live p) r ≡ Some y → Moves s p (one_less (record { live = without s.live p; world = record w { store = without w.store p } }) r y standing)
-      less_moves r y ready e = alone
-      less_moves r y (at_when cs position) e = alone
-      less_moves r y (waiting n) e =
-          let y' : Process = record y { standing = awaits (n - 1) } in
-          gone_moves (with_at (without s.live p) r y') w (fresh_changed (without s.live p) r y y' e (omega arith) (fresh_without s.live p proper.fresh)) (λ x g. none_before (without s.live p) r y' x g) l
-
-      told_moves : (r : Name) (o : Option Process) → find (without s.live p) r ≡ o → Moves s p (told (record { live = without s.live p; world = record w { store = without w.store p } }) r o)
-      told_moves r None e = alone
-      told_moves r (Some y) e = less_moves r y y.standing e
-
-  fork_moves : (bs : List ℕ) (work : List Work) (w : World) (n share : ℕ) → Left w.store → Moves s p (fork_taken unit s p q bs work w n share)
-  fork_moves bs work w zero share l = tt
-  fork_moves bs work w (suc n) share l = (
+  fork_moves : (bs : List ℕ) (work : List Work) (w : World) (n share : ℕ) → Left w.store → Moves s p (fork_taken unit s p q bs work w (suc n) share)
+  fork_moves bs work w n share l = (
     record {
       cells = λ r m. only_made r (instances s.world.store r) (λ is. is) (l.0.others r m);
       frames = λ r m. only_made r (shape s.world.store r) frames (l.1.others r (other_than p r m));
@@ -268,64 +252,51 @@ module _ (unit : ProgramUnit) (s : Processes) (p : Name) (q : Process) (found : 
           not_live None g = g
           not_live (Some y) g = absurd (no_some (find t.live r) e (born.kept r y g))
 
-  abbrev AllLeft : Run Asks → Type 0
-  AllLeft (gives a w) = Left w.store
-  AllLeft (ends e system turns) = ⊤
+  moving : Handles unit s p q (λ a w. Left w.store) (λ ending system turns. ⊤) (Moves s p)
+  moving = record {
+    of_end = λ ending system turns h. tt;
+    of_goes = λ work w h. back_moves (record q { work = work; standing = ready }) w (omega arith) h;
+    of_arrives = λ cs position work w h. back_moves (record q { work = work; standing = at_when cs position }) w (omega arith) h;
+    of_again = λ cs position quiet work w h. back_moves (record q { work = work; standing = at_when cs position }) w (omega arith) h;
+    of_no_fork = λ bs line work w ending o h. tt;
+    of_fork = λ bs line work w n share e h. fork_moves bs work w n share h;
+    of_leaves = λ w h. gone_moves (without s.live p) w (fresh_without s.live p proper.fresh) (λ r e. e) h;
+    of_awaited = λ w r y n e g h. awaited_moves w r y n e h;
+  }
 
-  all_left : (r : Run Asks) → Keeps (privacy unit p q.size s.world.store) (λ a w. Leaves p s.world.store w.store) r → Keeps (framing unit p q.size) (λ a w. Steps p s.world.store w.store) r → AllLeft r
+  all_left : (r : Run Asks) → Keeps (privacy unit p q.size s.world.store) (λ a w. Leaves p s.world.store w.store) r → Keeps (framing unit p q.size) (λ a w. Steps p s.world.store w.store) r →
+      Gives (λ a w. Left w.store) (λ ending system turns. ⊤) r
   all_left (gives a w) h k = (h.is, k.is)
   all_left (ends e system turns) h k = tt
 
-  kernel_moves : (r : Run Asks) → AllLeft r → Moves s p (kernel unit s p q r)
-  kernel_moves (ends e system turns) h = tt
-  kernel_moves (gives (goes work) w) h = back_moves (record q { work = work; standing = ready }) w (omega arith) h
-  kernel_moves (gives (arrives cs position work) w) h = back_moves (record q { work = work; standing = at_when cs position }) w (omega arith) h
-  kernel_moves (gives (again cs position quiet work) w) h = back_moves (record q { work = work; standing = at_when cs position }) w (omega arith) h
-  kernel_moves (gives (forks bs line work) w) h =
-      let share = share_of (room q.size (shape w.store p)) (length bs) in
-      if_moves s p (nat_lt most_processes (length s.live + length bs)) _ _ tt
-      (if_moves s p (list_any (exceeds unit share) bs) _ _ tt (fork_moves bs work w w.turns share h))
-  kernel_moves (gives leaves w) h = exited_moves w h
-
-step_moves : (unit : ProgramUnit) (s : Processes) (p : Name) → Proper s → may_step s p ≡ true → Moves s p (step unit s p)
-step_moves unit s p proper may = go (find s.live p) refl
+step_moves : (unit : ProgramUnit) (s : Processes) (p : Name) → Proper s → Moves s p (step unit s p)
+step_moves unit s p proper = go (find s.live p) refl
   where
     go : (x : Option Process) → find s.live p ≡ x → Moves s p (step unit s p)
-    go None e = let a : false ≡ true = sym (ap is_running_process e) ∙ may in absurd (cc)
+    go None e = subst (λ x. Moves s p (step_of unit s p x)) (sym e) tt
     go (Some q) e =
-        let P : Option Process → Type 0 = λ x. Moves s p (step_of unit s p x) in
-        subst P (sym e)
-        (kernel_moves unit s p q e proper (local_step unit p q.size q.standing q.work s.world)
-        (all_left unit s p q e proper (local_step unit p q.size q.standing q.work s.world) (local_leaves unit p q.size q.standing q.work s.world proper.owned) (local_steps unit p q.size q.standing q.work s.world)))
+        let r : Run Asks = local_step unit p q.size q.standing q.work s.world in
+        of_process unit s p q (Moves s p) e
+        (kernel_handles unit s p q _ _ (Moves s p) (moving unit s p q e proper) r
+        (all_left unit s p q e proper r (local_leaves unit p q.size q.standing q.work s.world proper.owned) (local_steps unit p q.size q.standing q.work s.world)))
 
 -- ---- along permitted steps
 
 start_proper : (unit : ProgramUnit) (system : State) (bound : ℕ) → Proper (start unit system bound)
 start_proper unit system bound = record { owned = record { each = λ r. tt }; fresh = start_fresh unit system bound; bare = λ r e. refl }
 
-module _ (unit : ProgramUnit) where
-  onward_proper : (s t : Processes) (p : Name) (x : Stepped) (names : List Name) (go : Processes → Led) → Moves s p x → ((u : Processes) → Proper u → go u ≡ at t → Proper t) → onward x names go ≡ at t → Proper t
-  onward_proper s t p (went u next quiet) names go h k e = k u h.1 e
-  onward_proper s t p (ended ending system turns) [] go h k e = absurd (cc)
-  onward_proper s t p (ended ending system turns) (r ∷ rs) go h k e = absurd (cc)
-
-  tested_proper : (t : Processes) (b : Bool) (x : Led) → (b ≡ true → x ≡ at t → Proper t) → (if b then x else nowhere) ≡ at t → Proper t
-  tested_proper t true x k e = k refl e
-  tested_proper t false x k e = absurd (cc)
-
-  permitted_proper : (names : List Name) (s t : Processes) → Proper s → permitted unit names s ≡ at t → Proper t
-  permitted_proper [] s t proper e = let h : s ≡ t = at_same e in subst Proper h proper
-    where
-      at_same : at s ≡ at t → s ≡ t
-      at_same e = cc
-  permitted_proper (p ∷ ps) s t proper e =
-      tested_proper t (may_step s p) (onward (step unit s p) ps (permitted unit ps))
-      (λ m. onward_proper s t p (step unit s p) ps (permitted unit ps) (step_moves unit s p proper m) (λ u k. permitted_proper ps u t k)) e
+step_proper : (unit : ProgramUnit) (s : Processes) (p : Name) → Proper s → After Proper (step unit s p)
+step_proper unit s p proper = go (step unit s p) (step_moves unit s p proper)
+  where
+    go : (x : Stepped) → Moves s p x → After Proper x
+    go (went t next quiet) h = h.1
+    go (ended ending system turns) h = tt
 
 step_private : (s : Processes) (p : Name) (x : Stepped) → Moves s p x → StepIsPrivate s p x
 step_private s p (went t next quiet) h = h.0
 step_private s p (ended ending system turns) h = tt
 
 pub cells_are_private : CellsArePrivate
-cells_are_private unit system bound names s p e may =
-    step_private s p (step unit s p) (step_moves unit s p (permitted_proper unit names (start unit system bound) s (start_proper unit system bound) e) may)
+cells_are_private unit system bound names s p e =
+    let proper : Proper s = permitted_keep unit Proper (step_proper unit) names (start unit system bound) s (start_proper unit system bound) e in
+    step_private s p (step unit s p) (step_moves unit s p proper)

@@ -1,11 +1,10 @@
 -- At a standstill nothing can happen any more but that turns are taken.
-use Rattle.std.proofs.Common.{◌≡◌, ℕ, zero, suc, ◌+◌, ◌⊎◌, inl, inr, Bool, true, false, ◌&&◌, if◌then◌else◌, List, [], ◌∷◌, length, Option, Some, None, refl, sym, subst, ap, ◌∙◌}
+use Rattle.std.proofs.Common.{◌≡◌, ℕ, zero, suc, ◌⊎◌, inl, inr, Bool, true, false, ◌&&◌, if◌then◌else◌, List, [], ◌∷◌, Some, refl, sym, subst, ap, ◌∙◌}
 use Rattle.std.specs.Prelude.{⊤, nat_lt}
-use Rattle.std.specs.List.{list_any}
-use Rattle.edi_calls.specs.Names.{Name, Table, same, find, with_at, without}
+use Rattle.edi_calls.specs.Names.{Name, Table, same, find, with_at}
 use Rattle.edi_calls.specs.Outcome as outcome
 use Rattle.edi_calls.specs.Outcome.{Ending}
-use Rattle.edi_calls.specs.Ready.{has, all_marked, parent_of}
+use Rattle.edi_calls.specs.Ready.{has, all_marked}
 use Rattle.edi_calls.proofs.Tables.{same-equal, with_at-found}
 use Rattle.edi_unit.specs.Need.{block_at}
 use Rattle.edi_unit.specs.Tree as tree
@@ -13,20 +12,24 @@ use Rattle.edi_unit.specs.Tree.{Act, Acts, Clauses, ProgramUnit}
 use Rattle.edi_meaning.specs.Store.{Store, Closure, system_procedure, block_procedure, Cell, shape, room}
 use Rattle.edi_meaning.specs.Run.{World, Run, gives, ends, ◌>>=◌, turn_from, turn}
 use Rattle.edi_meaning.specs.Whole.{meant, system_call, levels_of, whole_first, whole_arguments, whole_assignment, first}
-use Rattle.edi_meaning.specs.Step.{Position, Work, doing, loop_end, procedure_end, branch_end, program_entry, program_end, Standing, ready, at_when, waiting, Asks, goes, arrives, again, forks, leaves, is_quiet, chosen, with_chosen, called, statement_step, work_step, attempt, local_step, Process, Processes, Stepped, went, ended, share_of, exceeds, most_processes, fork_taken, one_less, told, kernel, step_of, step, is_running_process, may_step, Led, nowhere, onward, permitted}
+use Rattle.edi_meaning.specs.Step.{Position, Work, doing, loop_end, procedure_end, branch_end, program_entry, program_end, Standing, ready, at_when, waiting, Asks, goes, arrives, again, forks, leaves, is_quiet, chosen, with_chosen, called, statement_step, work_step, attempt, local_step, Process, Processes, Stepped, went, ended, kernel, step, is_running_process, may_step, Led, nowhere, onward, permitted}
 use Rattle.edi_meaning.specs.Laws.{Settled}
+use Rattle.edi_meaning.proofs.Lasting.{Gives}
+use Rattle.edi_meaning.proofs.Kernel.{if_either, Handles, kernel_handles, of_process}
 use Rattle.edi_meaning.proofs.Pure.{none_true}
 use Rattle.edi_meaning.proofs.Sound.{or_true}
 
 -- ---- only an attempt asks for a mark
 
+abbrev IsNotAgain : Asks → World → Type 0
+IsNotAgain (again cs position quiet work) w = ⊥
+IsNotAgain (goes work) w = ⊤
+IsNotAgain (arrives cs position work) w = ⊤
+IsNotAgain (forks bs line work) w = ⊤
+IsNotAgain leaves w = ⊤
+
 abbrev Unmarked : Run Asks → Type 0
-Unmarked (gives (again cs position quiet work) w) = ⊥
-Unmarked (gives (goes work) w) = ⊤
-Unmarked (gives (arrives cs position work) w) = ⊤
-Unmarked (gives (forks bs line work) w) = ⊤
-Unmarked (gives leaves w) = ⊤
-Unmarked (ends ending system turns) = ⊤
+Unmarked r = Gives IsNotAgain (λ ending system turns. ⊤) r
 
 goes_unmarked : {A : Type 0} (r : Run A) (work : A → List Work) → Unmarked (r >>= λ a w. gives (goes (work a)) w)
 goes_unmarked (gives a w) work = tt
@@ -36,15 +39,11 @@ turn_unmarked : (n : ℕ) (w : World) (go : World → Run Asks) → ((w : World)
 turn_unmarked zero w go h = tt
 turn_unmarked (suc n) w go h = h (record w { turns = n })
 
-if_unmarked : (b : Bool) (r s : Run Asks) → Unmarked r → Unmarked s → Unmarked (if b then r else s)
-if_unmarked true r s h k = h
-if_unmarked false r s h k = k
-
 module _ (unit : ProgramUnit) (p : Name) (size : ℕ) where
   called_unmarked : (c : Closure) (cells : List Cell) (line : ℕ) (work : List Work) (w : World) → Unmarked (called unit p size c cells line work w)
   called_unmarked (system_procedure number) cells line work w = goes_unmarked (system_call number cells line w) (λ _. work)
   called_unmarked (block_procedure number parent) cells line work w =
-      if_unmarked (nat_lt (room size (shape w.store p)) (block_at unit.blocks number).need) _ _ tt (turn_unmarked w.turns w _ (λ w. tt))
+      if_either Unmarked (nat_lt (room size (shape w.store p)) (block_at unit.blocks number).need) _ _ tt (turn_unmarked w.turns w _ (λ w. tt))
 
   arguments_unmarked : (c : World → Closure) (line : ℕ) (work : List Work) (r : Run (List Cell)) → Unmarked (r >>= λ cells w. called unit p size (c w) cells line work w)
   arguments_unmarked c line work (gives cells w) = called_unmarked (c w) cells line work w
@@ -94,34 +93,17 @@ Marks unit s p (went t next false) = ⊤
 Marks unit s p (ended ending system turns) = ⊤
 
 module _ (unit : ProgramUnit) (s : Processes) (p : Name) (q : Process) (found : find s.live p ≡ Some q) where
-  if_marks : (b : Bool) (x y : Stepped) → Marks unit s p x → Marks unit s p y → Marks unit s p (if b then x else y)
-  if_marks true x y h k = h
-  if_marks false x y h k = k
-
-  taken_marks : (bs : List ℕ) (work : List Work) (w : World) (n share : ℕ) → Marks unit s p (fork_taken unit s p q bs work w n share)
-  taken_marks bs work w zero share = tt
-  taken_marks bs work w (suc n) share = tt
-
-  less_marks : (rest : Processes) (r : Name) (y : Process) (standing : Standing) → Marks unit s p (one_less rest r y standing)
-  less_marks rest r y ready = tt
-  less_marks rest r y (at_when cs position) = tt
-  less_marks rest r y (waiting n) = tt
-
-  told_marks : (rest : Processes) (r : Name) (y : Option Process) → Marks unit s p (told rest r y)
-  told_marks rest r None = tt
-  told_marks rest r (Some y) = less_marks rest r y y.standing
-
-  kernel_marks : (r : Run Asks) → Unmarked r → Marks unit s p (kernel unit s p q r)
-  kernel_marks (ends e system turns) h = tt
-  kernel_marks (gives (goes work) w) h = tt
-  kernel_marks (gives (arrives cs position work) w) h = tt
-  kernel_marks (gives (again cs position quiet work) w) h = absurd h
-  kernel_marks (gives (forks bs line work) w) h =
-      let share = share_of (room q.size (shape w.store p)) (length bs) in
-      if_marks (nat_lt most_processes (length s.live + length bs)) _ _ tt (if_marks (list_any (exceeds unit share) bs) _ _ tt (taken_marks bs work w w.turns share))
-  kernel_marks (gives leaves w) h =
-      let rest : Processes = record { live = without s.live p; world = record w { store = without w.store p } } in
-      told_marks rest (parent_of p) (find (without s.live p) (parent_of p))
+  unmarked : Handles unit s p q IsNotAgain (λ ending system turns. ⊤) (Marks unit s p)
+  unmarked = record {
+    of_end = λ ending system turns h. tt;
+    of_goes = λ work w h. tt;
+    of_arrives = λ cs position work w h. tt;
+    of_again = λ cs position quiet work w h. absurd h;
+    of_no_fork = λ bs line work w ending o h. tt;
+    of_fork = λ bs line work w n share e h. tt;
+    of_leaves = λ w h. tt;
+    of_awaited = λ w r y n e g h. tt;
+  }
 
   -- an attempt that found nothing
   failed_marks : (cs : Clauses) (position : Position) → q.standing ≡ at_when cs position → (quiet : Bool) → is_quiet cs ≡ quiet → (w : World) → whole_first unit p q.size cs s.world ≡ gives false w →
@@ -147,14 +129,12 @@ module _ (unit : ProgramUnit) (s : Processes) (p : Name) (q : Process) (found : 
   attempt_marks cs position st (ends e system turns) h = tt
 
   local_marks : (standing : Standing) → q.standing ≡ standing → Marks unit s p (kernel unit s p q (local_step unit p q.size standing q.work s.world))
-  local_marks ready st = kernel_marks (work_step unit p q.size q.work s.world) (work_unmarked unit p q.size q.work s.world)
+  local_marks ready st = kernel_handles unit s p q _ _ (Marks unit s p) unmarked (work_step unit p q.size q.work s.world) (work_unmarked unit p q.size q.work s.world)
   local_marks (at_when cs position) st = attempt_marks cs position st (whole_first unit p q.size cs s.world) refl
   local_marks (waiting n) st = tt
 
 pub step_marks : (unit : ProgramUnit) (s : Processes) (p : Name) (q : Process) → find s.live p ≡ Some q → Marks unit s p (step unit s p)
-step_marks unit s p q found =
-    let P : Option Process → Type 0 = λ x. Marks unit s p (step_of unit s p x) in
-    subst P (sym found) (local_marks unit s p q found q.standing refl)
+step_marks unit s p q found = of_process unit s p q (Marks unit s p) found (local_marks unit s p q found q.standing refl)
 
 -- ---- where every process that may step is idle
 
@@ -182,9 +162,8 @@ Idles s (ended ending system turns) = (ending ≡ outcome.turns) × (system ≡ 
 
 idle_step : (unit : ProgramUnit) (s : Processes) (p : Name) → Idle unit s.live s.world.store p → Idles s (step unit s p)
 idle_step unit s p i =
-    let P : Option Process → Type 0 = λ x. Idles s (step_of unit s p x) in
     let Q : Standing → Type 0 = λ x. Idles s (kernel unit s p i.process (local_step unit p i.process.size x i.process.work s.world)) in
-    subst P (sym i.found) (subst Q (sym i.standing) (tried (i.none (levels_of unit p i.process.size s.world.turns) s.world refl)))
+    of_process unit s p i.process (Idles s) i.found (subst Q (sym i.standing) (tried (i.none (levels_of unit p i.process.size s.world.turns) s.world refl)))
   where
     turned : (n : ℕ) → Idles s (kernel unit s p i.process (turn_from n s.world (gives (again i.clauses i.position (is_quiet i.clauses) i.process.work))))
     turned zero = (refl, refl)

@@ -1,20 +1,20 @@
 -- A step without a turn leaves its process less to do, so every selection ends.
-use Rattle.std.proofs.Common.{◌≡◌, ℕ, zero, suc, ◌+◌, ◌-◌, ◌<◌, ◌≤◌, ◌⊎◌, inl, inr, Bool, true, false, if◌then◌else◌, List, [], ◌∷◌, ◌++◌, length, Option, Some, None, refl, sym, subst, ap, arith}
+use Rattle.std.proofs.Common.{◌≡◌, ℕ, zero, suc, ◌+◌, ◌-◌, ◌<◌, ◌≤◌, ◌⊎◌, inl, inr, false, List, [], ◌∷◌, ◌++◌, length, Option, Some, None, refl, subst, ap, arith}
 use Rattle.std.specs.Prelude.{⊤, nat_lt}
-use Rattle.std.specs.List.{list_any}
-use Rattle.edi_calls.specs.Names.{Name, find, without}
+use Rattle.edi_calls.specs.Names.{Name, find}
 use Rattle.edi_calls.specs.Outcome as outcome
-use Rattle.edi_calls.specs.Ready.{child, parent_of, stays, joins}
+use Rattle.edi_calls.specs.Ready.{child, stays, joins}
 use Rattle.edi_unit.specs.Need.{block_at}
 use Rattle.edi_unit.specs.Tree as tree
 use Rattle.edi_unit.specs.Tree.{Expression, Act, Acts, Clause, Clauses, ProgramUnit}
 use Rattle.edi_meaning.specs.Store.{Spot, Closure, system_procedure, block_procedure, Cell, shape, now, room}
 use Rattle.edi_meaning.specs.Run.{World, Run, gives, ends, turn_from, turn}
 use Rattle.edi_meaning.specs.Whole.{meant}
-use Rattle.edi_meaning.specs.Step.{Position, inside, Work, doing, loop_end, procedure_end, branch_end, program_entry, program_end, doing_all, Standing, ready, at_when, waiting, Asks, goes, arrives, again, forks, leaves, chosen, with_chosen, called, statement_step, work_step, attempt, local_step, Process, Processes, Stepped, went, ended, back, share_of, exceeds, most_processes, with_child, with_children, fork_taken, awaits, freed, one_less, told, kernel, step_of, step}
+use Rattle.edi_meaning.specs.Step.{Position, inside, Work, doing, loop_end, procedure_end, branch_end, program_entry, program_end, doing_all, Standing, ready, at_when, waiting, Asks, goes, arrives, again, forks, leaves, chosen, with_chosen, called, statement_step, work_step, attempt, local_step, Process, Processes, Stepped, went, ended, back, with_child, with_children, awaits, freed, step}
 use Rattle.edi_calls.proofs.Tables.{find-with_at-same}
-use Rattle.edi_meaning.proofs.Lasting.{IsOwn, Each, Any, Lasting, Keeps, At, give, stop, bind, if_keeps, system_keeps, whole_arguments_keep, whole_assignment_keeps, whole_condition_keeps, whole_first_keeps}
+use Rattle.edi_meaning.proofs.Lasting.{IsOwn, Every, Any, Lasting, Keeps, At, give, stop, bind, if_keeps, system_keeps, whole_arguments_keep, whole_assignment_keeps, whole_condition_keeps, whole_first_keeps}
 use Rattle.edi_meaning.proofs.Turns.{turning}
+use Rattle.edi_meaning.proofs.Kernel.{rest_of, Handles, kernel_handles, of_process}
 
 -- ---- amounts of work
 
@@ -110,7 +110,7 @@ module _ (unit : ProgramUnit) (p : Name) (size t : ℕ) where
   chosen_falling m cs position after work None w i h k l = goes_falling m work w h l
   chosen_falling m cs position after work (Some c) w i h k l = goes_falling m _ w h (omega (arith, i, size_of_all c.0 (inside position c.1) 0 (after ++ work)))
 
-  called_falling : (m : ℕ) (c : Closure) (cells : List Cell) (line : ℕ) (work : List Work) (w : World) → Each Any cells → w.turns ≤ t → work_size work < m → Falling m (called unit p size c cells line work w)
+  called_falling : (m : ℕ) (c : Closure) (cells : List Cell) (line : ℕ) (work : List Work) (w : World) → Every Any cells → w.turns ≤ t → work_size work < m → Falling m (called unit p size c cells line work w)
   called_falling m (system_procedure number) cells line work w f h k = bind s tt Any _ _ _ (system_keeps s tt number cells line w f h) (λ _ w _ h. goes_falling m work w h k)
   called_falling m (block_procedure number parent) cells line work w f h k =
       if_keeps s _ (nat_lt (room size (shape w.store p)) (block_at unit.blocks number).need) _ _ (stop s tt _ _ w tt h) (turn_falling m w.turns w _ refl h (λ w l. give s _ _ _ (inl l)))
@@ -119,7 +119,7 @@ module _ (unit : ProgramUnit) (p : Name) (size t : ℕ) where
   statement_falling tree.skip position work w h = goes_falling _ work w h (omega arith)
   statement_falling (tree.assign v e) position work w h = bind s tt Any _ _ _ (whole_assignment_keeps s tt v e w h) (λ _ w _ h. goes_falling _ work w h (omega arith))
   statement_falling (tree.call c es line) position work w h =
-      bind s tt (Each Any) _ _ _ (whole_arguments_keep s tt es w h) (λ cells w f h. called_falling _ (meant unit p size c w) cells line work w f h (omega arith))
+      bind s tt (Every Any) _ _ _ (whole_arguments_keep s tt es w h) (λ cells w f h. called_falling _ (meant unit p size c w) cells line work w f h (omega arith))
   statement_falling (tree.halt line) position work w h = stop s tt _ (outcome.halted line) w tt h
   statement_falling (tree.conditional cs) position work w h =
       bind s tt (IsPart cs) _ _ _ (chosen_part cs 0 w h) (λ c w i h. chosen_falling (1 + clauses_size cs + work_size work) cs position [] work c w i h (omega arith) (omega arith))
@@ -162,55 +162,36 @@ pub world_of_children : (unit : ProgramUnit) (p : Name) (f i share : ℕ) (paren
 world_of_children unit p f i share parent [] s = refl
 world_of_children unit p f i share parent (b ∷ bs) s = world_of_children unit p f (suc i) share parent bs (with_child unit (child p f i) share parent b s)
 
-if_falls : (size t : ℕ) (p : Name) (b : Bool) (x y : Stepped) → Falls size t p x → Falls size t p y → Falls size t p (if b then x else y)
-if_falls size t p true x y h k = h
-if_falls size t p false x y h k = k
+freed_falls : (m n t : ℕ) (p r : Name) (s : Processes) → s.world.turns < t → Falls m t p (went s (freed n r) false)
+freed_falls m zero t p r s h = h
+freed_falls m (suc n) t p r s h = h
 
-freed_falls : (size n t : ℕ) (p r : Name) (s : Processes) → s.world.turns < t → Falls size t p (went s (freed n r) false)
-freed_falls size zero t p r s h = h
-freed_falls size (suc n) t p r s h = h
-
-one_less_falls : (size t : ℕ) (p r : Name) (s : Processes) (q : Process) (standing : Standing) → s.world.turns < t → Falls size t p (one_less s r q standing)
-one_less_falls size t p r s q ready h = h
-one_less_falls size t p r s q (at_when cs position) h = h
-one_less_falls size t p r s q (waiting n) h = freed_falls size (n - 1) t p r (back s r (record q { standing = awaits (n - 1) }) s.world) h
-
-told_falls : (size t : ℕ) (p r : Name) (s : Processes) (q : Option Process) → s.world.turns < t → Falls size t p (told s r q)
-told_falls size t p r s None h = h
-told_falls size t p r s (Some q) h = one_less_falls size t p r s q q.standing h
-
-module _ (unit : ProgramUnit) (s : Processes) (p : Name) (q : Process) where
-  taken_falls : (size t : ℕ) (bs : List ℕ) (work : List Work) (w : World) (n share : ℕ) → n ≤ t → Falls size t p (fork_taken unit s p q bs work w n share)
-  taken_falls size t bs work w zero share h = tt
-  taken_falls size t bs work w (suc n) share h =
+falling : (unit : ProgramUnit) (s : Processes) (p : Name) (q : Process) (m t : ℕ) → Handles unit s p q (Less m t) (λ ending system turns. (turns ≤ t) × IsOwn ending) (Falls m t p)
+falling unit s p q m t = record {
+  of_end = λ ending system turns h. h.1;
+  of_goes = λ work w h. go work w h;
+  of_arrives = λ cs position work w h. h;
+  of_again = λ cs position quiet work w h. h;
+  of_no_fork = λ bs line work w ending o h. o;
+  of_fork = λ bs line work w n share e h.
       omega (
         arith,
+        e,
+        h,
         ap (λ v. v.turns) (world_of_children unit p (suc q.forks) 0 share (now (shape w.store) p) bs
             (back s p (record q { forks = suc q.forks; work = work; standing = waiting (length bs) }) (record w { turns = n }))),
-      )
-
-  abbrev LessAfter : ℕ → ℕ → Run Asks → Type 0
-  LessAfter size t (gives a w) = Less size t a w
-  LessAfter size t (ends ending system turns) = (turns ≤ t) × IsOwn ending
-
-  kernel_falls : (size t : ℕ) (r : Run Asks) → LessAfter size t r → Falls size t p (kernel unit s p q r)
-  kernel_falls size t (gives (goes work) w) (inl h) = inl h
-  kernel_falls size t (gives (goes work) w) (inr h) = inr (h.0, (record q { work = work; standing = ready }, find-with_at-same s.live p _, omega (arith, h.1)))
-  kernel_falls size t (gives (arrives cs position work) w) h = h
-  kernel_falls size t (gives (again cs position quiet work) w) h = h
-  kernel_falls size t (gives (forks bs line work) w) h =
-      let share = share_of (room q.size (shape w.store p)) (length bs) in
-      if_falls size t p (nat_lt most_processes (length s.live + length bs)) _ _ tt
-      (if_falls size t p (list_any (exceeds unit share) bs) _ _ tt (taken_falls size t bs work w w.turns share h))
-  kernel_falls size t (gives leaves w) h =
-      let rest : Processes = record { live = without s.live p; world = record w { store = without w.store p } } in
-      told_falls size t p (parent_of p) rest (find (without s.live p) (parent_of p)) h
-  kernel_falls size t (ends ending system turns) h = h.1
+      );
+  of_leaves = λ w h. h;
+  of_awaited = λ w r y n e g h. freed_falls m (n - 1) t p r (back (rest_of s p w) r (record y { standing = awaits (n - 1) }) (rest_of s p w).world) h;
+}
+  where
+    go : (work : List Work) (w : World) → Less m t (goes work) w → Falls m t p (went (back s p (record q { work = work; standing = ready }) w) stays false)
+    go work w (inl h) = inl h
+    go work w (inr h) = inr (h.0, (record q { work = work; standing = ready }, find-with_at-same s.live p _, omega (arith, h.1)))
 
 pub step_falls : (unit : ProgramUnit) (s : Processes) (p : Name) (q : Process) → find s.live p ≡ Some q → Falls (standing_size q.standing + work_size q.work) s.world.turns p (step unit s p)
 step_falls unit s p q e =
-    let size = standing_size q.standing + work_size q.work in
-    let f : Falls size s.world.turns p (step_of unit s p (Some q)) =
-    kernel_falls unit s p q size s.world.turns (local_step unit p q.size q.standing q.work s.world) (local_falling unit p q.size s.world.turns q.standing q.work s.world (omega arith)).is in
-    let P : Option Process → Type 0 = λ x. Falls (standing_size q.standing + work_size q.work) s.world.turns p (step_of unit s p x) in
-    subst P (sym e) f
+    let m = standing_size q.standing + work_size q.work in
+    of_process unit s p q (Falls m s.world.turns p) e
+    (kernel_handles unit s p q _ _ (Falls m s.world.turns p) (falling unit s p q m s.world.turns) (local_step unit p q.size q.standing q.work s.world)
+    (local_falling unit p q.size s.world.turns q.standing q.work s.world (omega arith)).is)

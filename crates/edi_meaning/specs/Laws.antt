@@ -1,5 +1,5 @@
 -- What is true of every program.
-use Rattle.std.specs.Prelude.{◌≡◌, ◌⊎◌, ◌≤◌, ℕ, true, false, List, [], ◌∷◌, None, Some, ⊤}
+use Rattle.std.specs.Prelude.{◌≡◌, ◌⊎◌, ◌≤◌, ℕ, false, List, [], ◌∷◌, None, Some, ⊤}
 use Rattle.edi_calls.specs.State.{State}
 use Rattle.edi_calls.specs.Choice.{Choices, listed, first_choices}
 use Rattle.edi_calls.specs.Laws.{GoesOn}
@@ -10,7 +10,7 @@ use Rattle.edi_calls.specs.Ready.{child, stays, joins}
 use Rattle.edi_unit.specs.Tree.{Clauses, ProgramUnit}
 use Rattle.edi_meaning.specs.Store.{instances, shape, Owns}
 use Rattle.edi_meaning.specs.Run.{World}
-use Rattle.edi_meaning.specs.Step.{Position, ready, at_when, Process, Processes, Stepped, went, ended, is_quiet, step, start, may_step, Led, at, over, nowhere, permitted}
+use Rattle.edi_meaning.specs.Step.{Position, ready, at_when, Process, Processes, Stepped, went, ended, is_quiet, step, start, Led, at, over, nowhere, permitted}
 use Rattle.edi_meaning.specs.Select.{Ends, Select}
 
 -- every selection ends, after some number of steps
@@ -99,9 +99,10 @@ StepIsPrivate s p (ended ending system turns) = ⊤
 abbrev pub CellsArePrivate : Type 0
 CellsArePrivate =
     (unit : ProgramUnit) (system : State) (bound : ℕ) (names : List Name) (s : Processes) (p : Name) →
-    permitted unit names (start unit system bound) ≡ at s → may_step s p ≡ true → StepIsPrivate s p (step unit s p)
+    permitted unit names (start unit system bound) ≡ at s → StepIsPrivate s p (step unit s p)
 
--- from a world on, turns are only taken, input is only taken, and what is shown and printed only follows what was before
+-- from a world on, turns are only taken, and the system goes on: input is only taken, and what is shown and printed only
+-- follows what was before
 abbrev pub GoesFrom : World → State → (turns : ℕ) → Type 0
 GoesFrom w system turns = (turns ≤ w.turns) × GoesOn w.system system
 
@@ -110,6 +111,6 @@ LedOn w (at s) = GoesFrom w s.world.system s.world.turns
 LedOn w (over ending system turns) = GoesFrom w system turns
 LedOn w nowhere = ⊤
 
--- so it is from every state on, whatever the steps
+-- so it is from every state on, along whatever permitted steps
 abbrev pub StepsGoOn : Type 0
 StepsGoOn = (unit : ProgramUnit) (names : List Name) (s : Processes) → LedOn s.world (permitted unit names s)

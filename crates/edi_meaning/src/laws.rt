@@ -37,8 +37,8 @@ pub fn cells_are_private()
     ensures law { CellsArePrivate }
 {}
 
-/// From every state on, whatever the steps: turns are only taken, never given; input is only taken; and what is shown and
-/// printed only follows what was before.
+/// From every state on, along whatever permitted steps: turns are only taken, never given; input is only taken; what is
+/// shown and printed only follows what was before; and the numbers of slots and of blocks stay.
 pub fn steps_go_on()
     ensures law { StepsGoOn }
 {}
