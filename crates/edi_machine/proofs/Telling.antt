@@ -1,0 +1,98 @@
+-- What a step's answer tells of its effect.
+use Rattle.std.proofs.Common.{◌≡◌, ℕ, Bool, true, false, nat_eq, List, Option, Some, None, refl, sym, ap, ap₂, subst, ◌∙◌, inl, inr}
+use Rattle.std.specs.Prelude.{◌&&◌}
+use Rattle.std.proofs.lemmas.Bool.{cases_eq, ne_eqb}
+use Rattle.edi_calls.specs.State.{State}
+use Rattle.edi_target.specs.Op.{Instruction, is_allowed}
+use Rattle.edi_target.specs.Fetch.{fetch}
+use Rattle.edi_target.specs.Perform.{perform}
+use Rattle.edi_target.specs.Effect.{Local, Effect, entering, leaving, looping, arriving, again, forking, exiting, finishing, goes, released, asks, due, fails, bad}
+use Rattle.edi_target.specs.Mach.{answer_at, effect_at}
+use Rattle.edi_machine.specs.declared.ends.StepEnd.{StepEnd}
+use Rattle.edi_machine.specs.declared.ends.StepEnd.TheVariants as end
+use Rattle.edi_machine.specs.Steps.{Forks, Takes, effect_of, ends_phase, is_released}
+use Rattle.edi_machine.proofs.Laws.{Lawful, each_law}
+
+never_both : (n : ℕ) → (nat_eq n 1 && nat_eq n 0) ≡ false
+never_both n =
+    elim (cases_eq n 1) [
+      | inl one ↦ rw one refl
+      | inr other ↦ ap (λ (b : Bool). b && nat_eq n 0) (ne_eqb n 1 other)
+    ]
+
+answer_held : (address : Option ℕ) (answer : List ℕ) (l : Local) → (answer_at address answer l).held ≡ l.held
+answer_held None answer l = refl
+answer_held (Some address) answer l = refl
+
+-- held went from one number to another
+went : (before after : ℕ) → after ≡ before → (nat_eq before 1 && nat_eq after 0) ≡ false
+went before after same = ap (λ (n : ℕ). nat_eq before 1 && nat_eq n 0) same ∙ never_both before
+
+ended : (before after : ℕ) → before ≡ 1 → after ≡ 0 → (nat_eq before 1 && nat_eq after 0) ≡ true
+ended before after one none = ap₂ (λ (m n : ℕ). nat_eq m 1 && nat_eq n 0) one none
+
+-- an activity that goes on with held gone from 1 to 0 has ended a phase, and no other has
+pub phase_told : (words : List ℕ) (at : ℕ) (answer : StepEnd) (e : Effect) (before after : Local) (old new : Option State) → Takes e answer before after old new → Lawful words at before.held e → ends_phase answer before after ≡ is_released e
+phase_told words at end.On (goes l) before after old new takes law = went before.held after.held (ap (λ (m : Local). m.held) takes ∙ law)
+phase_told words at end.On (released l) before after old new takes law = ended before.held after.held law.0 (ap (λ (m : Local). m.held) takes ∙ law.1)
+phase_told words at end.On (asks number arguments address line l) before after old new takes law = went before.held after.held (ap (λ (m : Local). m.held) takes.2 ∙ answer_held address takes.0 l ∙ law)
+phase_told words at end.On (due turn l) before after old new takes law = absurd takes
+phase_told words at end.On (fails c line) before after old new takes law = absurd takes
+phase_told words at end.On bad before after old new takes law = absurd takes
+phase_told words at (end.Turn k) (goes l) before after old new takes law = refl
+phase_told words at (end.Turn k) (released l) before after old new takes law = absurd takes
+phase_told words at (end.Turn k) (asks number arguments address line l) before after old new takes law = refl
+phase_told words at (end.Turn k) (due turn l) before after old new takes law = refl
+phase_told words at (end.Turn k) (fails c line) before after old new takes law = refl
+phase_told words at (end.Turn k) bad before after old new takes law = refl
+phase_told words at (end.Fail c place) (goes l) before after old new takes law = refl
+phase_told words at (end.Fail c place) (released l) before after old new takes law = absurd takes
+phase_told words at (end.Fail c place) (asks number arguments address line l) before after old new takes law = refl
+phase_told words at (end.Fail c place) (due turn l) before after old new takes law = refl
+phase_told words at (end.Fail c place) (fails cause line) before after old new takes law = refl
+phase_told words at (end.Fail c place) bad before after old new takes law = refl
+phase_told words at (end.Bad place) (goes l) before after old new takes law = refl
+phase_told words at (end.Bad place) (released l) before after old new takes law = absurd takes
+phase_told words at (end.Bad place) (asks number arguments address line l) before after old new takes law = refl
+phase_told words at (end.Bad place) (due turn l) before after old new takes law = refl
+phase_told words at (end.Bad place) (fails c line) before after old new takes law = refl
+phase_told words at (end.Bad place) bad before after old new takes law = refl
+phase_told words at end.Fault (goes l) before after old new takes law = refl
+phase_told words at end.Fault (released l) before after old new takes law = absurd takes
+phase_told words at end.Fault (asks number arguments address line l) before after old new takes law = refl
+phase_told words at end.Fault (due turn l) before after old new takes law = refl
+phase_told words at end.Fault (fails c line) before after old new takes law = refl
+phase_told words at end.Fault bad before after old new takes law = refl
+
+-- a fork is that of the COBEGIN here
+pub forks_here : (words : List ℕ) (at held : ℕ) (e : Effect) → Lawful words at held e → Forks e words at
+forks_here words at held (goes l) law = tt
+forks_here words at held (released l) law = tt
+forks_here words at held (asks number arguments address line l) law = tt
+forks_here words at held (due entering l) law = tt
+forks_here words at held (due leaving l) law = tt
+forks_here words at held (due looping l) law = tt
+forks_here words at held (due arriving l) law = tt
+forks_here words at held (due (again marks) l) law = tt
+forks_here words at held (due (forking branches) l) law = law
+forks_here words at held (due exiting l) law = tt
+forks_here words at held (due finishing l) law = tt
+forks_here words at held (fails c line) law = tt
+forks_here words at held bad law = tt
+
+-- both of the instruction that was read
+module _ (code words : List ℕ) (live : ℕ) (is_first : Bool) (l : Local) (i : Instruction) (next : ℕ) (same : words ≡ code) (here : Some (i, next) ≡ fetch words l.pc) (allowed : is_allowed i ≡ true) where
+  law : Lawful words l.pc l.held (perform (fetch words) live is_first i next l)
+  law = (each_law words l.pc live is_first i next l (sym here) allowed).law
+
+  pub phase_of_step : (answer : StepEnd) (after : Local) (old new : Option State) → Takes (perform (fetch words) live is_first i next l) answer l after old new → ends_phase answer l after ≡ is_released (effect_of code live is_first l)
+  phase_of_step answer after old new takes =
+      phase_told words l.pc answer (perform (fetch words) live is_first i next l) l after old new takes law
+      ∙ ap (λ (x : Option (Instruction × ℕ)). is_released (effect_at (fetch words) x live is_first l)) here
+      ∙ ap (λ (ws : List ℕ). is_released (effect_of ws live is_first l)) same
+
+  pub fork_of_step : Forks (effect_of code live is_first l) code l.pc
+  fork_of_step =
+      subst (λ (ws : List ℕ). Forks (effect_of ws live is_first l) ws l.pc) same
+      (subst (λ (x : Option (Instruction × ℕ)). Forks (effect_at (fetch words) x live is_first l) words l.pc) here
+      (forks_here words l.pc l.held (perform (fetch words) live is_first i next l) law))

@@ -1,0 +1,4 @@
+pub mod Activities
+pub mod Groups
+pub mod Starts
+pub mod Steps

@@ -1,0 +1,25 @@
+//! One instruction of the abstract machine, and the activities with which processes begin.
+#![tactic(auto)]
+
+mod activity;
+mod arithmetic;
+mod comparisons;
+mod constants;
+mod ends;
+mod frame;
+mod groups;
+mod instruction;
+mod jumps;
+mod procedures;
+mod processes;
+mod sets;
+mod start;
+mod steps;
+mod system;
+mod variables;
+
+pub use activity::Activity;
+pub use edi_calls::Cause;
+pub use ends::{StepEnd, TurnKind};
+pub use start::{begin, branch};
+pub use steps::step;

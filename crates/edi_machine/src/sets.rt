@@ -1,0 +1,166 @@
+//! Sets.
+
+ghost use Rattle.std.specs.Prelude.{◌≡◌, ◌+◌, ◌-◌, ◌<◌, ◌≤◌, ◌^◌, ◌∷◌, [], ◌&&◌, nat_lt, length, MatchOption};
+ghost use Rattle.edi_word.specs.Sets.{AreSetWords, word_has, words_union, words_minus, words_meet, words_with};
+ghost use Rattle.edi_store.specs.Memory.{words_at};
+ghost use Rattle.edi_target.specs.Memory.{word};
+ghost use Rattle.edi_target.specs.Effect.{Local, pop, pop_word, push, to, truth};
+ghost use Rattle.edi_target.specs.Perform.{on_sets, joined};
+ghost use Rattle.edi_machine.specs.Activities.{IsOrdered, local_of};
+ghost use Rattle.edi_machine.specs.Steps.{Gives};
+
+use crate::activity::Activity;
+use crate::arithmetic::truth_word;
+use crate::ends::StepEnd;
+use crate::frame::{push_at, push_words_at, top_word};
+use edi_calls::Cause;
+use edi_store::Store;
+use edi_word::Members;
+use std::array;
+
+// The eight words from an address on.
+fn set_at(store: &Store, at: u32) -> [u16; 8]
+    requires { at + 8 ≤ 2 ^ 16 }
+    ensures exact { result ≡ words_at store.now at 8 }
+    ensures set { AreSetWords result }
+{
+    let _whole = store.get(0);
+    array::from_fn(|k| store.get((at as usize + k) as u16))
+}
+
+// UNION of the words of two sets.
+#[tactic(auto, using(crate::proofs::SetWords::union_words))]
+fn union_words(one: [u16; 8], other: [u16; 8]) -> [u16; 8]
+    requires one { AreSetWords one }
+    requires other { AreSetWords other }
+    ensures { result ≡ words_union one other }
+{
+    Members::from_words(one)
+        .union(&Members::from_words(other))
+        .words()
+}
+
+/// UNION.
+pub fn union(store: &mut Store, activity: &mut Activity, next: u32) -> StepEnd
+    requires ordered { IsOrdered activity.old }
+    ensures exact { let l = local_of store.old activity.old in
+        Gives (on_sets words_union next l) result l (local_of store.new activity.new) }
+    ensures ordered { IsOrdered activity.new }
+{
+    if activity.top - activity.base < 21 {
+        return StepEnd::Bad(activity.pc);
+    }
+    let one = set_at(store, activity.top - 8 - 8);
+    let other = set_at(store, activity.top - 8);
+    let words = union_words(one, other);
+    push_words_at(store, activity, activity.top - 8 - 8, &words, next)
+}
+
+// MINUS of the words of two sets.
+#[tactic(auto, using(crate::proofs::SetWords::minus_words))]
+fn minus_words(one: [u16; 8], other: [u16; 8]) -> [u16; 8]
+    requires one { AreSetWords one }
+    requires other { AreSetWords other }
+    ensures { result ≡ words_minus one other }
+{
+    Members::from_words(one)
+        .minus(&Members::from_words(other))
+        .words()
+}
+
+/// MINUS.
+pub fn difference(store: &mut Store, activity: &mut Activity, next: u32) -> StepEnd
+    requires ordered { IsOrdered activity.old }
+    ensures exact { let l = local_of store.old activity.old in
+        Gives (on_sets words_minus next l) result l (local_of store.new activity.new) }
+    ensures ordered { IsOrdered activity.new }
+{
+    if activity.top - activity.base < 21 {
+        return StepEnd::Bad(activity.pc);
+    }
+    let one = set_at(store, activity.top - 8 - 8);
+    let other = set_at(store, activity.top - 8);
+    let words = minus_words(one, other);
+    push_words_at(store, activity, activity.top - 8 - 8, &words, next)
+}
+
+// MEET of the words of two sets.
+#[tactic(auto, using(crate::proofs::SetWords::meet_words))]
+fn meet_words(one: [u16; 8], other: [u16; 8]) -> [u16; 8]
+    requires one { AreSetWords one }
+    requires other { AreSetWords other }
+    ensures { result ≡ words_meet one other }
+{
+    Members::from_words(one)
+        .meet(&Members::from_words(other))
+        .words()
+}
+
+/// MEET.
+pub fn intersection(store: &mut Store, activity: &mut Activity, next: u32) -> StepEnd
+    requires ordered { IsOrdered activity.old }
+    ensures exact { let l = local_of store.old activity.old in
+        Gives (on_sets words_meet next l) result l (local_of store.new activity.new) }
+    ensures ordered { IsOrdered activity.new }
+{
+    if activity.top - activity.base < 21 {
+        return StepEnd::Bad(activity.pc);
+    }
+    let one = set_at(store, activity.top - 8 - 8);
+    let other = set_at(store, activity.top - 8);
+    let words = meet_words(one, other);
+    push_words_at(store, activity, activity.top - 8 - 8, &words, next)
+}
+
+// Whether the value of `int` that a word stands for is a member of the set of these words.
+#[tactic(auto, using(crate::proofs::SetWords::has_word))]
+fn has_word(set: [u16; 8], x: u16) -> bool
+    requires set { AreSetWords set }
+    ensures { result ≡ (nat_lt x 128 && word_has set x) }
+{
+    Members::from_words(set).has(x.cast_signed())
+}
+
+// The words of the set of these words with one more member.
+#[tactic(auto, using(crate::proofs::SetWords::with_words))]
+fn with_word(set: [u16; 8], x: u16) -> [u16; 8]
+    requires set { AreSetWords set }
+    requires member { x < 128 }
+    ensures { result ≡ words_with set x }
+{
+    Members::from_words(set).with(x as u8).words()
+}
+
+/// IN.
+pub fn is_member(store: &mut Store, activity: &mut Activity, next: u32) -> StepEnd
+    requires ordered { IsOrdered activity.old }
+    ensures exact { let l = local_of store.old activity.old in
+        Gives (pop 8 l (λ set l. pop_word l (λ x l. push (truth (nat_lt x 128 && word_has set x) ∷ []) l (to next)))) result l (local_of store.new activity.new) }
+    ensures ordered { IsOrdered activity.new }
+{
+    if activity.top - activity.base < 14 {
+        return StepEnd::Bad(activity.pc);
+    }
+    let set = set_at(store, activity.top - 8);
+    let x = store.get((activity.top - 8 - 1) as u16);
+    let has = truth_word(has_word(set, x));
+    push_at(store, activity, activity.top - 8 - 1, has, next)
+}
+
+/// MEMBER.
+pub fn join(store: &mut Store, activity: &mut Activity, line: u16, next: u32) -> StepEnd
+    requires ordered { IsOrdered activity.old }
+    ensures exact { let l = local_of store.old activity.old in
+        Gives (pop_word l (λ x l. pop 8 l (λ set l. joined line next x set l))) result l (local_of store.new activity.new) }
+    ensures ordered { IsOrdered activity.new }
+{
+    if activity.top - activity.base < 14 {
+        return StepEnd::Bad(activity.pc);
+    }
+    let x = store.get((activity.top - 1) as u16);
+    if x > 127 {
+        return StepEnd::Fail(Cause::Range, line);
+    }
+    let words = with_word(set_at(store, activity.top - 1 - 8), x);
+    push_words_at(store, activity, activity.top - 1 - 8, &words, next)
+}
