@@ -10,13 +10,7 @@ use Rattle.edi_calls.proofs.Tables.{same-or-other, find-with_at-same, find-with_
 use Rattle.edi_unit.specs.Tree.{ProgramUnit}
 use Rattle.edi_meaning.specs.Store.{Spot}
 use Rattle.edi_meaning.specs.Step.{Process, Processes, ready, child_process, with_child, with_children, start}
-use Rattle.edi_meaning.proofs.Names.{flat, below_child, not_below, deeper}
-
-some_is : {A : Type 0} {a b : A} → Some a ≡ Some b → a ≡ b
-some_is e = cc
-
-pub no_some : {A : Type 0} {a : A} (x : Option A) → x ≡ None → x ≡ Some a → ⊥
-no_some x e f = let g : None ≡ Some _ = sym e ∙ f in absurd (cc)
+use Rattle.edi_meaning.proofs.Names.{some_is, no_some, flat, below_child, not_below, deeper}
 
 -- ---- names of later forks are free
 
@@ -88,7 +82,7 @@ fresh_child live p q f k c e le free none fresh = record { old = old }
         ]
         go (inr m) (inr n) = fresh.old r rq g i rest x (sym (find-with_at-other live (child p f k) r c m) ∙ a) (sym (find-with_at-other live (child p f k) (child r g i ++ flat rest) c n) ∙ b)
 
-free_child : (live : Table Process) (p : Name) (f k : ℕ) (c : Process) → Free live p f k → Free (with_at live (child p f k) c) p f (suc k)
+pub free_child : (live : Table Process) (p : Name) (f k : ℕ) (c : Process) → Free live p f k → Free (with_at live (child p f k) c) p f (suc k)
 free_child live p f k c free j rest le = go (same-or-other (child p f j ++ flat rest) (child p f k))
   where
     go : (child p f j ++ flat rest ≡ child p f k) ⊎ (same (child p f j ++ flat rest) (child p f k) ≡ false) → find (with_at live (child p f k) c) (child p f j ++ flat rest) ≡ None
@@ -112,7 +106,7 @@ free_next live p q q' found fresh j rest h = go (find (with_at live p q') (child
     ]
 
 -- a process that is live keeps its place in the table beside a new child
-kept_child : (live : Table Process) (p : Name) (f k : ℕ) (c : Process) (x : Name) (q : Process) → Free live p f k → find live x ≡ Some q → find (with_at live (child p f k) c) x ≡ Some q
+pub kept_child : (live : Table Process) (p : Name) (f k : ℕ) (c : Process) (x : Name) (q : Process) → Free live p f k → find live x ≡ Some q → find (with_at live (child p f k) c) x ≡ Some q
 kept_child live p f k c x q free e = go (same-or-other x (child p f k))
   where
     go : (x ≡ child p f k) ⊎ (same x (child p f k) ≡ false) → find (with_at live (child p f k) c) x ≡ Some q

@@ -83,8 +83,8 @@ goes_by_kernel unit s p q before = record {
       let same = world_of_children unit p (suc q.forks) 0 share (now (shape w.store) p) bs
       (back s p (record q { forks = suc q.forks; work = work; standing = waiting (length bs) }) (record w { turns = n })) in
       subst (λ v. GoesFrom before v.system v.turns) (sym same) (omega (arith, e, h.0), h.1);
-  of_leaves = λ w h. h;
-  of_awaited = λ w r y n e g h. h;
+  of_leaves = λ w k h. h;
+  of_awaited = λ w y n e g h. h;
 }
 
 pub step_goes : (unit : ProgramUnit) (s : Processes) (p : Name) → StepGoes s.world (step unit s p)

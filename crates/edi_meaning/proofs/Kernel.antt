@@ -1,5 +1,5 @@
 -- What the kernel makes of what a local step gave. A fact about steps needs a line for each of these.
-use Rattle.std.proofs.Common.{◌≡◌, ℕ, zero, suc, ◌+◌, ◌-◌, Bool, true, false, if◌then◌else◌, List, [], ◌∷◌, length, Option, Some, None, refl, sym, subst}
+use Rattle.std.proofs.Common.{◌≡◌, ℕ, zero, suc, ◌+◌, ◌-◌, Bool, true, false, if◌then◌else◌, List, [], ◌∷◌, length, Option, Some, None, refl, sym, subst, ap, ◌∙◌}
 use Rattle.std.specs.Prelude.{⊤, nat_lt}
 use Rattle.std.specs.List.{list_any}
 use Rattle.edi_calls.specs.declared.kinds.Cause.TheVariants as cause
@@ -13,6 +13,7 @@ use Rattle.edi_meaning.specs.Store.{shape, room}
 use Rattle.edi_meaning.specs.Run.{World, Run, gives, ends}
 use Rattle.edi_meaning.specs.Step.{Position, Work, Standing, ready, at_when, waiting, Asks, goes, arrives, again, forks, leaves, Process, Processes, Stepped, went, ended, back, share_of, exceeds, most_processes, fork_taken, awaits, freed, one_less, told, local_step, kernel, step_of, step, may_step, Led, at, nowhere, onward, permitted}
 use Rattle.edi_meaning.proofs.Lasting.{IsOwn, Gives}
+use Rattle.edi_meaning.proofs.Names.{some_is, no_some}
 
 -- what holds of either holds of the one that a test takes
 pub if_either : {A : Type 0} (P : A → Type 0) (b : Bool) (x y : A) → P x → P y → P (if b then x else y)
@@ -35,23 +36,28 @@ pub record Handles (unit : ProgramUnit) (s : Processes) (p : Name) (q : Process)
   pub of_no_fork : (bs : List ℕ) (line : ℕ) (work : List Work) (w : World) (ending : Ending) → IsOwn ending → D (forks bs line work) w → P (ended ending w.system w.turns)
   pub of_fork : (bs : List ℕ) (line : ℕ) (work : List Work) (w : World) (n share : ℕ) → w.turns ≡ suc n → D (forks bs line work) w → P (fork_taken unit s p q bs work w (suc n) share)
   -- the end of a process for which nobody waits; and of one for which its parent waits
-  pub of_leaves : (w : World) → D leaves w → P (went (rest_of s p w) (joins []) false)
-  pub of_awaited : (w : World) (r : Name) (y : Process) (n : ℕ) → find (without s.live p) r ≡ Some y → y.standing ≡ waiting n → D leaves w →
-      P (went (back (rest_of s p w) r (record y { standing = awaits (n - 1) }) (rest_of s p w).world) (freed (n - 1) r) false)
+  pub of_leaves : (w : World) → ((y : Process) (n : ℕ) → find (without s.live p) (parent_of p) ≡ Some y → y.standing ≡ waiting n → ⊥) → D leaves w → P (went (rest_of s p w) (joins []) false)
+  pub of_awaited : (w : World) (y : Process) (n : ℕ) → find (without s.live p) (parent_of p) ≡ Some y → y.standing ≡ waiting n → D leaves w →
+      P (went (back (rest_of s p w) (parent_of p) (record y { standing = awaits (n - 1) }) (rest_of s p w).world) (freed (n - 1) (parent_of p)) false)
 
 module _ (unit : ProgramUnit) (s : Processes) (p : Name) (q : Process) (D : Asks → World → Type 0) (E : Ending → State → ℕ → Type 0) (P : Stepped → Type 0) (h : Handles unit s p q D E P) where
   taken : (bs : List ℕ) (line : ℕ) (work : List Work) (w : World) (n share : ℕ) → w.turns ≡ n → D (forks bs line work) w → P (fork_taken unit s p q bs work w n share)
   taken bs line work w zero share e d = h.of_no_fork bs line work w outcome.turns tt d
   taken bs line work w (suc n) share e d = h.of_fork bs line work w n share e d
 
-  less : (w : World) (r : Name) (y : Process) (standing : Standing) → find (without s.live p) r ≡ Some y → y.standing ≡ standing → D leaves w → P (one_less (rest_of s p w) r y standing)
-  less w r y ready e g d = h.of_leaves w d
-  less w r y (at_when cs position) e g d = h.of_leaves w d
-  less w r y (waiting n) e g d = h.of_awaited w r y n e g d
+  -- who is found and does not wait is not waited for
+  idle : (y : Process) (standing : Standing) → find (without s.live p) (parent_of p) ≡ Some y → y.standing ≡ standing → ((n : ℕ) → standing ≡ waiting n → ⊥) →
+      (x : Process) (n : ℕ) → find (without s.live p) (parent_of p) ≡ Some x → x.standing ≡ waiting n → ⊥
+  idle y standing e g other x n f h = other n (sym g ∙ ap (λ z. z.standing) (some_is (sym e ∙ f)) ∙ h)
 
-  telling : (w : World) (r : Name) (y : Option Process) → find (without s.live p) r ≡ y → D leaves w → P (told (rest_of s p w) r y)
-  telling w r None e d = h.of_leaves w d
-  telling w r (Some y) e d = less w r y y.standing e refl d
+  less : (w : World) (y : Process) (standing : Standing) → find (without s.live p) (parent_of p) ≡ Some y → y.standing ≡ standing → D leaves w → P (one_less (rest_of s p w) (parent_of p) y standing)
+  less w y ready e g d = h.of_leaves w (idle y ready e g (λ n f. absurd (cc))) d
+  less w y (at_when cs position) e g d = h.of_leaves w (idle y (at_when cs position) e g (λ n f. absurd (cc))) d
+  less w y (waiting n) e g d = h.of_awaited w y n e g d
+
+  telling : (w : World) (y : Option Process) → find (without s.live p) (parent_of p) ≡ y → D leaves w → P (told (rest_of s p w) (parent_of p) y)
+  telling w None e d = h.of_leaves w (λ y n f g. no_some (find (without s.live p) (parent_of p)) e f) d
+  telling w (Some y) e d = less w y y.standing e refl d
 
   pub kernel_handles : (r : Run Asks) → Gives D E r → P (kernel unit s p q r)
   kernel_handles (ends ending system turns) d = h.of_end ending system turns d
@@ -62,7 +68,7 @@ module _ (unit : ProgramUnit) (s : Processes) (p : Name) (q : Process) (D : Asks
       let share = share_of (room q.size (shape w.store p)) (length bs) in
       if_either P (nat_lt most_processes (length s.live + length bs)) _ _ (h.of_no_fork bs line work w (outcome.failed cause.ProcessLimit line) tt d)
       (if_either P (list_any (exceeds unit share) bs) _ _ (h.of_no_fork bs line work w (outcome.failed cause.VariableLimit line) tt d) (taken bs line work w w.turns share refl d))
-  kernel_handles (gives leaves w) d = telling w (parent_of p) (find (without s.live p) (parent_of p)) refl d
+  kernel_handles (gives leaves w) d = telling w (find (without s.live p) (parent_of p)) refl d
 
 -- what is true of the kernel's answer for the process that p names is true of the step of p
 pub of_process : (unit : ProgramUnit) (s : Processes) (p : Name) (q : Process) (P : Stepped → Type 0) → find s.live p ≡ Some q → P (kernel unit s p q (local_step unit p q.size q.standing q.work s.world)) → P (step unit s p)

@@ -15,3 +15,5 @@ pub mod Permitted
 pub mod Frames
 pub mod Private
 pub mod Going
+pub mod Parents
+pub mod Waiting

@@ -1,8 +1,18 @@
 -- Names of processes: a child's name tells its parent, its fork and its number.
-use Rattle.std.proofs.Common.{◌≡◌, ℕ, ◌⊎◌, inl, inr, false, List, [], ◌∷◌, ◌++◌, length, refl, sym, ap, ◌∙◌, arith, append_assoc, length-append}
-use Rattle.std.proofs.lemmas.List.{append-nil}
+use Rattle.std.proofs.Common.{◌≡◌, ℕ, ◌⊎◌, inl, inr, false, List, [], ◌∷◌, ◌++◌, length, ◌-◌, Option, Some, None, refl, sym, ap, ◌∙◌, arith, append_assoc, length-append}
+use Rattle.std.proofs.lemmas.List.{append-nil, take_at}
 use Rattle.edi_calls.specs.Names.{Name}
-use Rattle.edi_calls.specs.Ready.{child, has}
+use Rattle.edi_calls.specs.Ready.{child, parent_of, has}
+
+-- ---- values that may be there
+
+pub some_is : {A : Type 0} {a b : A} → Some a ≡ Some b → a ≡ b
+some_is e = cc
+
+pub no_some : {A : Type 0} {a : A} (x : Option A) → x ≡ None → x ≡ Some a → ⊥
+no_some x e f = let g : None ≡ Some _ = sym e ∙ f in absurd (cc)
+
+-- ---- names
 
 -- numbers in pairs, one after another
 abbrev pub flat : List (ℕ × ℕ) → List ℕ
@@ -39,6 +49,10 @@ same_ends (x ∷ xs) (y ∷ ys) a b c d e =
 
     both : x ≡ y → xs ≡ ys → (x ∷ xs) ≡ (y ∷ ys)
     both h k = cc
+
+-- whose child a child is
+pub parent-child : (p : Name) (f i : ℕ) → parent_of (child p f i) ≡ p
+parent-child p f i = take_at p (f ∷ i ∷ []) (length (child p f i) - 2) (omega (arith, length-append p (f ∷ i ∷ [])))
 
 -- a name below a child of p is the child, or lies below a name that is
 pub below_child : (p q : Name) (f i g j : ℕ) (rest : List (ℕ × ℕ)) → child p f i ++ flat rest ≡ child q g j →

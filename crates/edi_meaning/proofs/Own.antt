@@ -1,8 +1,8 @@
 -- Where variables may be: what a cell of a process means, and where a static parent is, is with that process or an
 -- ancestor of it.
-use Rattle.std.proofs.Common.{◌≡◌, ℕ, zero, suc, ◌+◌, ◌-◌, ◌≤◌, ◌⊎◌, inl, inr, false, List, [], ◌∷◌, ◌++◌, map, take, length, length-append, Option, Some, None, refl, sym, subst, ap, ◌∙◌, arith}
+use Rattle.std.proofs.Common.{◌≡◌, ℕ, zero, suc, ◌+◌, ◌-◌, ◌≤◌, ◌⊎◌, inl, inr, false, List, [], ◌∷◌, ◌++◌, map, take, length, Option, Some, None, refl, sym, subst, ap, ◌∙◌, arith}
 use Rattle.std.specs.Prelude.{⊤, slice_get, slice_set, slice_index_or, unwrap_or}
-use Rattle.std.proofs.lemmas.List.{length-take, nil_from_length, take_at}
+use Rattle.std.proofs.lemmas.List.{length-take, nil_from_length}
 use Rattle.edi_calls.specs.Names.{Name, same, with_at, without}
 use Rattle.edi_calls.specs.Ready.{child, parent_of}
 use Rattle.edi_calls.proofs.Tables.{same-or-other, find-with_at-same, find-with_at-other, find-without-same, find-without-other}
@@ -16,6 +16,7 @@ use Rattle.edi_meaning.specs.Store.{Spot, Location, system_procedure, block_proc
 use Rattle.edi_meaning.specs.Run.{World}
 use Rattle.edi_meaning.specs.Whole.{result_cells, meant, instance_of}
 use Rattle.edi_meaning.proofs.Lasting.{Every}
+use Rattle.edi_meaning.proofs.Names.{parent-child}
 
 -- ---- ancestors
 
@@ -43,7 +44,7 @@ owns_first p = record { generation = length p; is = sym (nil_from_length (ancest
 
 -- a child's parent is its ancestor
 pub owns_parent : (p : Name) (f i : ℕ) → Owns (child p f i) p
-owns_parent p f i = record { generation = 1; is = sym (take_at p (f ∷ i ∷ []) (length (child p f i) - 2) (omega (arith, length-append p (f ∷ i ∷ [])))) }
+owns_parent p f i = record { generation = 1; is = sym (parent-child p f i) }
 
 -- ---- lists
 

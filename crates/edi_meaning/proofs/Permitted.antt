@@ -7,7 +7,7 @@ use Rattle.edi_calls.specs.Choice.{Choices}
 use Rattle.edi_calls.specs.Names.{Name, Table, same, find, with_at, without}
 use Rattle.edi_calls.specs.Outcome as outcome
 use Rattle.edi_calls.specs.Outcome.{Ending}
-use Rattle.edi_calls.specs.Ready.{child, has, children, Next, stays, joins, Taking, nobody, taking, take_next}
+use Rattle.edi_calls.specs.Ready.{child, parent_of, has, children, Next, stays, joins, Taking, nobody, taking, take_next}
 use Rattle.edi_calls.proofs.Tables.{same-refl, same-equal, same-or-other, find-with_at-same, find-with_at-other, find-without-same, find-without-other}
 use Rattle.edi_unit.specs.Tree.{ProgramUnit}
 use Rattle.edi_meaning.specs.Store.{shape, now}
@@ -225,8 +225,8 @@ module _ (unit : ProgramUnit) (s : Processes) (p : Name) (q : Process) (others :
     of_again = λ cs position quiet work w h. back_sound (record q { work = work; standing = at_when cs position }) (omega arith) refl;
     of_no_fork = λ bs line work w ending o h. tt;
     of_fork = λ bs line work w n share e h. fork_sound bs work w n share;
-    of_leaves = λ w h. nobody_joins (without s.live p) (fresh_without s.live p fresh) rest_may may_rest;
-    of_awaited = λ w r y n e g h. awaited_sound w r y n e g;
+    of_leaves = λ w k h. nobody_joins (without s.live p) (fresh_without s.live p fresh) rest_may may_rest;
+    of_awaited = λ w y n e g h. awaited_sound w (parent_of p) y n e g;
   }
 
   all_gives : (r : Run Asks) → Gives (λ a w. ⊤) (λ ending system turns. ⊤) r

@@ -4,7 +4,7 @@ use Rattle.std.proofs.Common.{◌≡◌, ℕ, suc, ◌+◌, ◌-◌, ◌<◌, �
 use Rattle.std.specs.Prelude.{⊤}
 use Rattle.edi_calls.specs.State.{State}
 use Rattle.edi_calls.specs.Names.{Name, Table, same, find, with_at, without}
-use Rattle.edi_calls.specs.Ready.{child}
+use Rattle.edi_calls.specs.Ready.{child, parent_of}
 use Rattle.edi_calls.proofs.Tables.{same-or-other, find-with_at-same, find-with_at-other, find-without-other}
 use Rattle.edi_unit.specs.Tree.{ProgramUnit}
 use Rattle.edi_unit.specs.Values.{Value}
@@ -18,7 +18,8 @@ use Rattle.edi_meaning.proofs.Local.{Moving, local_keeps}
 use Rattle.edi_meaning.proofs.Kernel.{rest_of, Handles, kernel_handles, of_process, After, permitted_keep}
 use Rattle.edi_meaning.proofs.Own.{owns_self, owns_all, owns_first, owns_parent, every-append, every-take, CellOwned, InstanceOwned, Owned, slot_owned, meant_owned, calls_owned, instance_owned, instances-other, instances-gone, instances-left, owned_with, owned_without, put_owned}
 use Rattle.edi_meaning.proofs.Frames.{framing, Steps, local_steps}
-use Rattle.edi_meaning.proofs.Family.{Fresh, fresh_changed, fresh_without, free_name, free_next, no_some, Forked, forked_children, start_fresh}
+use Rattle.edi_meaning.proofs.Names.{no_some}
+use Rattle.edi_meaning.proofs.Family.{Fresh, fresh_changed, fresh_without, free_name, free_next, Forked, forked_children, start_fresh}
 
 -- ---- one process
 
@@ -260,8 +261,8 @@ module _ (unit : ProgramUnit) (s : Processes) (p : Name) (q : Process) (found : 
     of_again = λ cs position quiet work w h. back_moves (record q { work = work; standing = at_when cs position }) w (omega arith) h;
     of_no_fork = λ bs line work w ending o h. tt;
     of_fork = λ bs line work w n share e h. fork_moves bs work w n share h;
-    of_leaves = λ w h. gone_moves (without s.live p) w (fresh_without s.live p proper.fresh) (λ r e. e) h;
-    of_awaited = λ w r y n e g h. awaited_moves w r y n e h;
+    of_leaves = λ w k h. gone_moves (without s.live p) w (fresh_without s.live p proper.fresh) (λ r e. e) h;
+    of_awaited = λ w y n e g h. awaited_moves w (parent_of p) y n e h;
   }
 
   all_left : (r : Run Asks) → Keeps (privacy unit p q.size s.world.store) (λ a w. Leaves p s.world.store w.store) r → Keeps (framing unit p q.size) (λ a w. Steps p s.world.store w.store) r →
@@ -282,10 +283,10 @@ step_moves unit s p proper = go (find s.live p) refl
 
 -- ---- along permitted steps
 
-start_proper : (unit : ProgramUnit) (system : State) (bound : ℕ) → Proper (start unit system bound)
+pub start_proper : (unit : ProgramUnit) (system : State) (bound : ℕ) → Proper (start unit system bound)
 start_proper unit system bound = record { owned = record { each = λ r. tt }; fresh = start_fresh unit system bound; bare = λ r e. refl }
 
-step_proper : (unit : ProgramUnit) (s : Processes) (p : Name) → Proper s → After Proper (step unit s p)
+pub step_proper : (unit : ProgramUnit) (s : Processes) (p : Name) → Proper s → After Proper (step unit s p)
 step_proper unit s p proper = go (step unit s p) (step_moves unit s p proper)
   where
     go : (x : Stepped) → Moves s p x → After Proper x

@@ -101,8 +101,8 @@ module _ (unit : ProgramUnit) (s : Processes) (p : Name) (q : Process) (found : 
     of_again = λ cs position quiet work w h. absurd h;
     of_no_fork = λ bs line work w ending o h. tt;
     of_fork = λ bs line work w n share e h. tt;
-    of_leaves = λ w h. tt;
-    of_awaited = λ w r y n e g h. tt;
+    of_leaves = λ w k h. tt;
+    of_awaited = λ w y n e g h. tt;
   }
 
   -- an attempt that found nothing

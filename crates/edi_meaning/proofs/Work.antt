@@ -3,7 +3,7 @@ use Rattle.std.proofs.Common.{◌≡◌, ℕ, zero, suc, ◌+◌, ◌-◌, ◌<�
 use Rattle.std.specs.Prelude.{⊤, nat_lt}
 use Rattle.edi_calls.specs.Names.{Name, find}
 use Rattle.edi_calls.specs.Outcome as outcome
-use Rattle.edi_calls.specs.Ready.{child, stays, joins}
+use Rattle.edi_calls.specs.Ready.{child, parent_of, stays, joins}
 use Rattle.edi_unit.specs.Need.{block_at}
 use Rattle.edi_unit.specs.Tree as tree
 use Rattle.edi_unit.specs.Tree.{Expression, Act, Acts, Clause, Clauses, ProgramUnit}
@@ -78,31 +78,31 @@ part_of_more e s cs None h = tt
 part_of_more e s cs (Some c) h = omega (arith, h)
 
 module _ (unit : ProgramUnit) (p : Name) (size t : ℕ) where
-  abbrev s : Lasting unit p size
-  s = turning unit p size t
+  abbrev few : Lasting unit p size
+  few = turning unit p size t
 
   abbrev Falling : ℕ → Run Asks → Type 0
-  Falling m r = Keeps s (Less m t) r
+  Falling m r = Keeps few (Less m t) r
 
   goes_falling : (m : ℕ) (work : List Work) (w : World) → w.turns ≤ t → work_size work < m → Falling m (gives (goes work) w)
-  goes_falling m work w h k = give s _ _ w (inr (h, k))
+  goes_falling m work w h k = give few _ _ w (inr (h, k))
 
   -- behind a turn everything is less
   turn_falling : (m : ℕ) (n : ℕ) (w : World) (go : World → Run Asks) → w.turns ≡ n → w.turns ≤ t → ((w : World) → w.turns < t → Falling m (go w)) → Falling m (turn_from n w go)
-  turn_falling m zero w go e h k = stop s tt _ outcome.turns w tt h
+  turn_falling m zero w go e h k = stop few tt _ outcome.turns w tt h
   turn_falling m (suc n) w go e h k = k (record w { turns = n }) (omega arith)
 
   goes_after_turn : (m : ℕ) (work : List Work) (w : World) → w.turns ≤ t → Falling m (turn w (gives (goes work)))
-  goes_after_turn m work w h = turn_falling m w.turns w _ refl h (λ w l. give s _ _ w (inl l))
+  goes_after_turn m work w h = turn_falling m w.turns w _ refl h (λ w l. give few _ _ w (inl l))
 
-  chosen_part : (cs : Clauses) (n : ℕ) (w : World) → w.turns ≤ t → Keeps s (At s tt (IsPart cs)) (chosen unit p size cs n w)
-  chosen_part tree.no_clause n w h = give s _ _ w (tt, h)
+  chosen_part : (cs : Clauses) (n : ℕ) (w : World) → w.turns ≤ t → Keeps few (At few tt (IsPart cs)) (chosen unit p size cs n w)
+  chosen_part tree.no_clause n w h = give few _ _ w (tt, h)
   chosen_part (tree.clause_then (tree.clause e as') cs) n w h =
-      bind s tt Any _ _ _ (whole_condition_keeps s tt e w h)
-      (λ holds w _ h. if_keeps s _ holds _ _ (give s _ _ w (omega arith, h)) (more (chosen unit p size cs (suc n) w) (chosen_part cs (suc n) w h)))
+      bind few tt Any _ _ _ (whole_condition_keeps few tt e w h)
+      (λ holds w _ h. if_keeps few _ holds _ _ (give few _ _ w (omega arith, h)) (more (chosen unit p size cs (suc n) w) (chosen_part cs (suc n) w h)))
     where
-      more : (r : Run (Option (Acts × ℕ))) → Keeps s (At s tt (IsPart cs)) r → Keeps s (At s tt (IsPart (tree.clause_then (tree.clause e as') cs))) r
-      more (gives c w) h = give s _ c w (part_of_more e as' cs c h.is.0, h.is.1)
+      more : (r : Run (Option (Acts × ℕ))) → Keeps few (At few tt (IsPart cs)) r → Keeps few (At few tt (IsPart (tree.clause_then (tree.clause e as') cs))) r
+      more (gives c w) h = give few _ c w (part_of_more e as' cs c h.is.0, h.is.1)
       more (ends x system turns) h = record { is = h.is }
 
   chosen_falling : (m : ℕ) (cs : Clauses) (position : Position) (after work : List Work) (c : Option (Acts × ℕ)) (w : World) → IsPart cs c → w.turns ≤ t →
@@ -111,41 +111,41 @@ module _ (unit : ProgramUnit) (p : Name) (size t : ℕ) where
   chosen_falling m cs position after work (Some c) w i h k l = goes_falling m _ w h (omega (arith, i, size_of_all c.0 (inside position c.1) 0 (after ++ work)))
 
   called_falling : (m : ℕ) (c : Closure) (cells : List Cell) (line : ℕ) (work : List Work) (w : World) → Every Any cells → w.turns ≤ t → work_size work < m → Falling m (called unit p size c cells line work w)
-  called_falling m (system_procedure number) cells line work w f h k = bind s tt Any _ _ _ (system_keeps s tt number cells line w f h) (λ _ w _ h. goes_falling m work w h k)
+  called_falling m (system_procedure number) cells line work w f h k = bind few tt Any _ _ _ (system_keeps few tt number cells line w f h) (λ _ w _ h. goes_falling m work w h k)
   called_falling m (block_procedure number parent) cells line work w f h k =
-      if_keeps s _ (nat_lt (room size (shape w.store p)) (block_at unit.blocks number).need) _ _ (stop s tt _ _ w tt h) (turn_falling m w.turns w _ refl h (λ w l. give s _ _ _ (inl l)))
+      if_keeps few _ (nat_lt (room size (shape w.store p)) (block_at unit.blocks number).need) _ _ (stop few tt _ _ w tt h) (turn_falling m w.turns w _ refl h (λ w l. give few _ _ _ (inl l)))
 
   statement_falling : (a : Act) (position : Position) (work : List Work) (w : World) → w.turns ≤ t → Falling (act_size a + work_size work) (statement_step unit p size a position work w)
   statement_falling tree.skip position work w h = goes_falling _ work w h (omega arith)
-  statement_falling (tree.assign v e) position work w h = bind s tt Any _ _ _ (whole_assignment_keeps s tt v e w h) (λ _ w _ h. goes_falling _ work w h (omega arith))
+  statement_falling (tree.assign v e) position work w h = bind few tt Any _ _ _ (whole_assignment_keeps few tt v e w h) (λ _ w _ h. goes_falling _ work w h (omega arith))
   statement_falling (tree.call c es line) position work w h =
-      bind s tt (Every Any) _ _ _ (whole_arguments_keep s tt es w h) (λ cells w f h. called_falling _ (meant unit p size c w) cells line work w f h (omega arith))
-  statement_falling (tree.halt line) position work w h = stop s tt _ (outcome.halted line) w tt h
+      bind few tt (Every Any) _ _ _ (whole_arguments_keep few tt es w h) (λ cells w f h. called_falling _ (meant unit p size c w) cells line work w f h (omega arith))
+  statement_falling (tree.halt line) position work w h = stop few tt _ (outcome.halted line) w tt h
   statement_falling (tree.conditional cs) position work w h =
-      bind s tt (IsPart cs) _ _ _ (chosen_part cs 0 w h) (λ c w i h. chosen_falling (1 + clauses_size cs + work_size work) cs position [] work c w i h (omega arith) (omega arith))
+      bind few tt (IsPart cs) _ _ _ (chosen_part cs 0 w h) (λ c w i h. chosen_falling (1 + clauses_size cs + work_size work) cs position [] work c w i h (omega arith) (omega arith))
   statement_falling (tree.loop cs) position work w h =
-      bind s tt (IsPart cs) _ _ _ (chosen_part cs 0 w h) (λ c w i h. chosen_falling (2 + clauses_size cs + work_size work) cs position (loop_end cs position ∷ []) work c w i h (omega arith) (omega arith))
-  statement_falling (tree.await cs line) position work w h = turn_falling _ w.turns w _ refl h (λ w l. give s _ _ w l)
-  statement_falling (tree.cobegin bs line) position work w h = give s _ _ w h
+      bind few tt (IsPart cs) _ _ _ (chosen_part cs 0 w h) (λ c w i h. chosen_falling (2 + clauses_size cs + work_size work) cs position (loop_end cs position ∷ []) work c w i h (omega arith) (omega arith))
+  statement_falling (tree.await cs line) position work w h = turn_falling _ w.turns w _ refl h (λ w l. give few _ _ w l)
+  statement_falling (tree.cobegin bs line) position work w h = give few _ _ w h
 
   work_falling : (work : List Work) (w : World) → w.turns ≤ t → Falling (work_size work) (work_step unit p size work w)
-  work_falling [] w h = stop s tt _ outcome.turns w tt h
+  work_falling [] w h = stop few tt _ outcome.turns w tt h
   work_falling (doing a position ∷ work) w h = statement_falling a position work w h
   work_falling (loop_end cs position ∷ work) w h = goes_after_turn _ _ w h
-  work_falling (procedure_end ∷ work) w h = turn_falling _ w.turns w _ refl h (λ w l. give s _ _ _ (inl l))
-  work_falling (branch_end ∷ work) w h = turn_falling _ w.turns w _ refl h (λ w l. give s _ _ w l)
-  work_falling (program_entry ∷ work) w h = turn_falling _ w.turns w _ refl h (λ w l. give s _ _ _ (inl l))
-  work_falling (program_end ∷ work) w h = turn_falling _ w.turns w _ refl h (λ w l. stop s tt _ outcome.done w tt (omega arith))
+  work_falling (procedure_end ∷ work) w h = turn_falling _ w.turns w _ refl h (λ w l. give few _ _ _ (inl l))
+  work_falling (branch_end ∷ work) w h = turn_falling _ w.turns w _ refl h (λ w l. give few _ _ w l)
+  work_falling (program_entry ∷ work) w h = turn_falling _ w.turns w _ refl h (λ w l. give few _ _ _ (inl l))
+  work_falling (program_end ∷ work) w h = turn_falling _ w.turns w _ refl h (λ w l. stop few tt _ outcome.done w tt (omega arith))
 
   attempt_falling : (cs : Clauses) (position : Position) (work : List Work) (w : World) → w.turns ≤ t → Falling (1 + work_size work) (attempt unit p size cs position work w)
   attempt_falling cs position work w h =
-      bind s tt Any _ _ _ (whole_first_keeps s tt cs w h)
-      (λ ran w _ h. if_keeps s _ ran _ _ (goes_falling _ work w h (omega arith)) (turn_falling _ w.turns w _ refl h (λ w l. give s _ _ w l)))
+      bind few tt Any _ _ _ (whole_first_keeps few tt cs w h)
+      (λ ran w _ h. if_keeps few _ ran _ _ (goes_falling _ work w h (omega arith)) (turn_falling _ w.turns w _ refl h (λ w l. give few _ _ w l)))
 
   local_falling : (standing : Standing) (work : List Work) (w : World) → w.turns ≤ t → Falling (standing_size standing + work_size work) (local_step unit p size standing work w)
   local_falling ready work w h = subst (λ n. Falling n (work_step unit p size work w)) (omega arith) (work_falling work w h)
   local_falling (at_when cs position) work w h = attempt_falling cs position work w h
-  local_falling (waiting n) work w h = stop s tt _ outcome.turns w tt h
+  local_falling (waiting n) work w h = stop few tt _ outcome.turns w tt h
 
 -- ---- the same of all processes
 
@@ -181,8 +181,8 @@ falling unit s p q m t = record {
         ap (λ v. v.turns) (world_of_children unit p (suc q.forks) 0 share (now (shape w.store) p) bs
             (back s p (record q { forks = suc q.forks; work = work; standing = waiting (length bs) }) (record w { turns = n }))),
       );
-  of_leaves = λ w h. h;
-  of_awaited = λ w r y n e g h. freed_falls m (n - 1) t p r (back (rest_of s p w) r (record y { standing = awaits (n - 1) }) (rest_of s p w).world) h;
+  of_leaves = λ w k h. h;
+  of_awaited = λ w y n e g h. freed_falls m (n - 1) t p (parent_of p) (back (rest_of s p w) (parent_of p) (record y { standing = awaits (n - 1) }) (rest_of s p w).world) h;
 }
   where
     go : (work : List Work) (w : World) → Less m t (goes work) w → Falls m t p (went (back s p (record q { work = work; standing = ready }) w) stays false)

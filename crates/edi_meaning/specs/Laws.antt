@@ -1,16 +1,16 @@
 -- What is true of every program.
-use Rattle.std.specs.Prelude.{◌≡◌, ◌⊎◌, ◌≤◌, ℕ, false, List, [], ◌∷◌, None, Some, ⊤}
+use Rattle.std.specs.Prelude.{◌≡◌, ◌⊎◌, ◌≤◌, ℕ, suc, Bool, true, false, not, ◌&&◌, if◌then◌else◌, List, [], ◌∷◌, None, Some, ⊤}
 use Rattle.edi_calls.specs.State.{State}
 use Rattle.edi_calls.specs.Choice.{Choices, listed, first_choices}
 use Rattle.edi_calls.specs.Laws.{GoesOn}
-use Rattle.edi_calls.specs.Names.{Name, find, with_at}
+use Rattle.edi_calls.specs.Names.{Name, Table, same, find, with_at, names}
 use Rattle.edi_calls.specs.Outcome as outcome
 use Rattle.edi_calls.specs.Outcome.{Ending, Outcome}
-use Rattle.edi_calls.specs.Ready.{child, stays, joins}
+use Rattle.edi_calls.specs.Ready.{child, parent_of, stays, joins}
 use Rattle.edi_unit.specs.Tree.{Clauses, ProgramUnit}
 use Rattle.edi_meaning.specs.Store.{instances, shape, Owns}
 use Rattle.edi_meaning.specs.Run.{World}
-use Rattle.edi_meaning.specs.Step.{Position, ready, at_when, Process, Processes, Stepped, went, ended, is_quiet, step, start, Led, at, over, nowhere, permitted}
+use Rattle.edi_meaning.specs.Step.{Position, ready, at_when, waiting, is_running, Process, Processes, Stepped, went, ended, is_quiet, step, start, Led, at, over, nowhere, permitted}
 use Rattle.edi_meaning.specs.Select.{Ends, Select}
 
 -- every selection ends, after some number of steps
@@ -114,3 +114,33 @@ LedOn w nowhere = ⊤
 -- so it is from every state on, along whatever permitted steps
 abbrev pub StepsGoOn : Type 0
 StepsGoOn = (unit : ProgramUnit) (names : List Name) (s : Processes) → LedOn s.world (permitted unit names s)
+
+-- whether r is a child of p: p is the parent of r, and the first process is nobody's child
+abbrev pub is_child : (r p : Name) → Bool
+is_child r p = same (parent_of r) p && not (same r p)
+
+-- how many of these are children of p
+abbrev pub children_in : List Name → Name → ℕ
+children_in [] p = 0
+children_in (r ∷ rs) p = if is_child r p then suc (children_in rs p) else children_in rs p
+
+-- p lives, and waits for children
+pub record IsWaiting (live : Table Process) (p : Name) : Type 0 where
+  pub process : Process
+  pub found : find live p ≡ Some process
+  pub number : ℕ
+  pub standing : process.standing ≡ waiting number
+
+pub record ParentsWaitIn (live : Table Process) : Type 0 where
+  -- the parent of each process but the first lives, and waits
+  pub parents : (r : Name) (q : Process) → find live r ≡ Some q → (r ≡ []) ⊎ IsWaiting live (parent_of r)
+  -- a process that waits does so for as many children as live
+  pub counts : (p : Name) (q : Process) (n : ℕ) → find live p ≡ Some q → q.standing ≡ waiting n → children_in (names live) p ≡ n
+  -- a process that may go on has none
+  pub none : (p : Name) (q : Process) → find live p ≡ Some q → is_running q.standing ≡ true → children_in (names live) p ≡ 0
+
+-- a fork ends when all its branches have ended: so it is in every state that permitted steps reach from the start
+abbrev pub ParentsWait : Type 0
+ParentsWait =
+    (unit : ProgramUnit) (system : State) (bound : ℕ) (order : List Name) (s : Processes) →
+    permitted unit order (start unit system bound) ≡ at s → ParentsWaitIn s.live

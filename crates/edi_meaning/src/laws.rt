@@ -1,7 +1,7 @@
 //! What is true of every program, by its meaning. The functions do nothing; their contracts are the laws, which speak of
 //! all units, system states, bounds and choices.
 
-ghost use Rattle.edi_meaning.specs.Laws.{AttemptsAreWhole, CellsArePrivate, EverySelectionEnds, RecordReplays, SelectIsPermitted, SelectionsAreDetermined, StepsGoOn};
+ghost use Rattle.edi_meaning.specs.Laws.{AttemptsAreWhole, CellsArePrivate, EverySelectionEnds, ParentsWait, RecordReplays, SelectIsPermitted, SelectionsAreDetermined, StepsGoOn};
 
 /// Critical phases are executed strictly one at a time: an attempt at a `when` is one step, which leaves its process
 /// behind the whole body, or at the `when` again, and changes nothing else of any process.
@@ -41,4 +41,11 @@ pub fn cells_are_private()
 /// shown and printed only follows what was before; and the numbers of slots and of blocks stay.
 pub fn steps_go_on()
     ensures law { StepsGoOn }
+{}
+
+/// In every state that permitted steps reach from the start, the parent of each process but the first lives and waits, for
+/// as many children as live; and a process that may go on has no children. So a fork ends when all its branches have
+/// ended.
+pub fn parents_wait()
+    ensures law { ParentsWait }
 {}
