@@ -280,15 +280,15 @@ module _ {D : Type 0} (held : D → Option (List (List ℕ))) (count faults : D 
     flush_works = record {
       different = rw (is, numbers_settled ps) written.backed.different;
       in_range = λ n p e. let t = found n p e in written.backed.in_range n t.0 t.1;
-      written = λ blocks e n p at settled. let t = found n p at in all blocks e n t.0 t.1 ∙ ap (λ (v : List ℕ). Some v) (sym t.2);
+      written = λ blocks e n p at settled. let t = found n p at in all blocks e n t.0 t.1 ∙ ap (λ (v : List ℕ). Some v) t.2;
     }
       where
-        found : (n : ℕ) (p : Place) → place_of n new ≡ Some p → (q : Place) × (place_of n ps ≡ Some q) × (p.bytes ≡ q.bytes)
+        found : (n : ℕ) (p : Place) → place_of n new ≡ Some p → (q : Place) × (place_of n ps ≡ Some q) × (q.bytes ≡ p.bytes)
         found n p e = at (place_of n ps) refl (rw (is, place_of_settled n ps) at e)
           where
-            at : (o : Option Place) → place_of n ps ≡ o → option_map settled_place o ≡ Some p → (q : Place) × (place_of n ps ≡ Some q) × (p.bytes ≡ q.bytes)
+            at : (o : Option Place) → place_of n ps ≡ o → option_map settled_place o ≡ Some p → (q : Place) × (place_of n ps ≡ Some q) × (q.bytes ≡ p.bytes)
             at None was e = let h : None ≡ Some p = e in absurd (cc)
-            at (Some q) was e = let h : Some (settled_place q) ≡ Some p = e in let same : settled_place q ≡ p = cc in (q, was, ap (λ (x : Place). x.bytes) (sym same))
+            at (Some q) was e = let h : Some (settled_place q) ≡ Some p = e in let same : settled_place q ≡ p = cc in (q, was, ap (λ (x : Place). x.bytes) same)
 
     pub flush_shows : WhereTold (shown_by held a ps) (shown_by held b new) (λ old new. disk.Ok ≡ disk.Ok → new ≡ old)
     flush_shows = where_told (λ old new. disk.Ok ≡ disk.Ok → new ≡ old) (shown_by held a ps) (shown_by held b new) (λ s e.

@@ -4,5 +4,7 @@
 
 mod cache;
 mod disk;
+mod laws;
 
 pub use disk::{Disk, DiskEnd};
+pub use laws::between_flushes;
