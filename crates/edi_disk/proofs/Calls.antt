@@ -280,7 +280,7 @@ module _ {D : Type 0} (held : D → Option (List (List ℕ))) (count faults : D 
     flush_works = record {
       different = rw (is, numbers_settled ps) written.backed.different;
       in_range = λ n p e. let t = found n p e in written.backed.in_range n t.0 t.1;
-      written = λ blocks e n p at settled. let t = found n p at in all blocks e n t.0 t.1 ∙ ap (λ (v : List ℕ). Some v) t.2;
+      written = λ blocks e n p at settled. let t = found n p at in all blocks e n t.0 t.1 ∙ ap (λ (v : List ℕ). Some v) {x = t.0.bytes} t.2;
     }
       where
         found : (n : ℕ) (p : Place) → place_of n new ≡ Some p → (q : Place) × (place_of n ps ≡ Some q) × (q.bytes ≡ p.bytes)

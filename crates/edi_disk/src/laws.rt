@@ -8,5 +8,4 @@ ghost use Rattle.edi_disk.specs.Since.{Between, only};
 pub fn between_flushes()
     ensures unput { (base : List (List ℕ)) (was_put : ℕ → List ℕ → Bool) (blocks : List (List ℕ)) (n : ℕ) → Between base was_put blocks → ((block : List ℕ) → was_put n block ≡ false) → slice_get blocks n ≡ slice_get base n }
     ensures one_put { (base : List (List ℕ)) (blocks : List (List ℕ)) (n : ℕ) (bytes : List ℕ) → Between base (only n bytes) blocks → (blocks ≡ base) ⊎ (blocks ≡ slice_set base n bytes) }
-{
-}
+{}
