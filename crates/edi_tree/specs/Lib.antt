@@ -1,0 +1,5 @@
+pub mod Sequences
+pub mod Tree
+pub mod View
+pub mod Whole
+pub mod Spelled
