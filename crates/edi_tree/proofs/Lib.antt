@@ -1,3 +1,4 @@
 pub mod Marks
 pub mod Greatest
 pub mod Deepest
+pub mod Puts

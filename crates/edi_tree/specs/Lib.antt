@@ -6,3 +6,6 @@ pub mod Spelled
 pub mod Spells
 pub mod Levels
 pub mod Depth
+pub mod Printed
+pub mod Printing
+pub mod Scanned

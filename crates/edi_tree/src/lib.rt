@@ -8,6 +8,12 @@ mod expressions;
 mod headings;
 pub mod laws;
 mod names;
+mod print_declarations;
+mod print_expressions;
+mod print_statements;
+mod print_types;
+mod printer;
+mod printing;
 mod programs;
 mod sequence;
 mod statements;
@@ -24,6 +30,7 @@ pub use expressions::{
 };
 pub use headings::{Heading, Param, Params};
 pub use names::{Char, Chars, Name, Names};
+pub use printing::print;
 pub use programs::{Global, Globals, Program};
 pub use sequence::Sequence;
 pub use statements::{
