@@ -1,10 +1,12 @@
 //! Printing of programs.
 
-ghost use Rattle.std.specs.Prelude.{◌≡◌, IfOk, OnOk};
+ghost use Rattle.std.specs.Prelude.{◌≡◌, false, IfOk, OnOk};
+ghost use Rattle.edi_lex.specs.Symbols.{is_too_long, symbols_of};
 ghost use Rattle.edi_tree.specs.View.{global_of, globals_of};
 ghost use Rattle.edi_tree.specs.Whole.{program_of};
 ghost use Rattle.edi_tree.specs.Printed.{printed};
 ghost use Rattle.edi_tree.specs.Printing as spec;
+ghost use Rattle.edi_tree.specs.Scanned.{ScansTo};
 
 use crate::printer::Printer;
 use crate::programs::{self, Globals, Program};
@@ -33,9 +35,11 @@ impl Printer {
 
 /// The symbols of a program as a text that begins on line 1, with one blank between two of them. Where the line of a symbol
 /// is kept and is greater than the present one, as many line feeds as lead there stand in place of the blank, and before the
-/// first symbol too.
+/// first symbol too. A text that is not too long is scanned to symbols that the tree spells, its kept lines included.
 pub fn print(alloc: Global, tree: &Program) -> Result<Vec<u8>, AllocError>
     ensures exact { IfOk result (λ text. text.items ≡ printed (program_of tree.now)) }
+    ensures scans { IfOk result
+        (λ text. is_too_long text.items ≡ false → ScansTo (program_of tree.now) (symbols_of text.items)) }
 {
     let mut printer = Printer {
         text: Text::new(alloc),
