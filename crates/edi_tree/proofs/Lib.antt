@@ -1,0 +1,6 @@
+pub mod Marks
+pub mod Greatest
+pub mod Deepest
+pub mod Puts
+pub mod Decimals
+pub mod Scans

@@ -1,0 +1,11 @@
+pub mod Sequences
+pub mod Tree
+pub mod View
+pub mod Whole
+pub mod Spelled
+pub mod Spells
+pub mod Levels
+pub mod Depth
+pub mod Printed
+pub mod Printing
+pub mod Scanned

@@ -1,0 +1,128 @@
+//! Printing of statements.
+
+ghost use Rattle.std.specs.Prelude.{◌≡◌, OnOk};
+ghost use Rattle.edi_tree.specs.View.{assignment_of, branch_of, branches_of, call_of, cobegin_of, condition_of, conditions_of, list_of, statement_of, when_of};
+ghost use Rattle.edi_tree.specs.Printing as spec;
+
+use crate::printer::Printer;
+use crate::statements::{
+    Assignment, Branch, Branches, Call, Cobegin, Condition, Conditions, List, Statement, When,
+};
+use std::alloc::{AllocError, Global};
+
+impl Printer {
+    #[cycle(print_list)]
+    pub(crate) fn list(&mut self, alloc: Global, list: &List) -> Result<(), AllocError>
+        ensures exact { OnOk result (self.new ≡ spec.print_list (list_of list.now) self.old) }
+    {
+        self.statement(alloc, &list.first)?;
+        for statement in list.more.items() {
+            self.word(alloc, b";")?;
+            self.statement(alloc, statement)?;
+        }
+        Ok(())
+    }
+
+    #[cycle(print_list)]
+    fn statement(&mut self, alloc: Global, statement: &Statement) -> Result<(), AllocError>
+        ensures exact { OnOk result (self.new ≡ spec.print_statement (statement_of statement.now) self.old) }
+    {
+        match statement {
+            Statement::Skip => self.word(alloc, b"skip"),
+            Statement::Assignment(assignment) => self.assignment(alloc, assignment),
+            Statement::Call(call) => self.call(alloc, call),
+            Statement::If(conditions) => {
+                self.word(alloc, b"if")?;
+                self.conditions(alloc, conditions)?;
+                self.word(alloc, b"end")
+            }
+            Statement::While(conditions) => {
+                self.word(alloc, b"while")?;
+                self.conditions(alloc, conditions)?;
+                self.word(alloc, b"end")
+            }
+            Statement::When(when) => self.when(alloc, when),
+            Statement::Cobegin(cobegin) => self.cobegin(alloc, cobegin),
+        }
+    }
+
+    fn assignment(&mut self, alloc: Global, assignment: &Assignment) -> Result<(), AllocError>
+        ensures exact { OnOk result (self.new ≡ spec.print_statement (assignment_of assignment.now) self.old) }
+    {
+        self.variable(alloc, &assignment.variable)?;
+        self.symbol(alloc, b":=", Some(assignment.line))?;
+        self.expr(alloc, &assignment.expr)
+    }
+
+    fn call(&mut self, alloc: Global, call: &Call) -> Result<(), AllocError>
+        ensures exact { OnOk result (self.new ≡ spec.print_statement (call_of call.now) self.old) }
+    {
+        self.name(alloc, &call.name)?;
+        match &call.args {
+            Some(args) => self.args(alloc, args),
+            None => Ok(()),
+        }
+    }
+
+    #[cycle(print_list)]
+    fn when(&mut self, alloc: Global, when: &When) -> Result<(), AllocError>
+        ensures exact { OnOk result (self.new ≡ spec.print_statement (when_of when.now) self.old) }
+    {
+        self.symbol(alloc, b"when", Some(when.line))?;
+        self.conditions(alloc, &when.conditions)?;
+        self.word(alloc, b"end")
+    }
+
+    #[cycle(print_list)]
+    fn conditions(&mut self, alloc: Global, conditions: &Conditions) -> Result<(), AllocError>
+        ensures exact { OnOk result (self.new ≡ spec.print_conditions (conditions_of conditions.now) self.old) }
+    {
+        self.condition(alloc, &conditions.first)?;
+        for condition in conditions.more.items() {
+            self.word(alloc, b"else")?;
+            self.condition(alloc, condition)?;
+        }
+        Ok(())
+    }
+
+    #[cycle(print_list)]
+    fn condition(&mut self, alloc: Global, condition: &Condition) -> Result<(), AllocError>
+        ensures exact { OnOk result (self.new ≡ spec.print_condition (condition_of condition.now) self.old) }
+    {
+        self.expr(alloc, &condition.expr)?;
+        self.symbol(alloc, b"do", Some(condition.line))?;
+        self.list(alloc, &condition.list)
+    }
+
+    #[cycle(print_list)]
+    fn cobegin(&mut self, alloc: Global, cobegin: &Cobegin) -> Result<(), AllocError>
+        ensures exact { OnOk result (self.new ≡ spec.print_statement (cobegin_of cobegin.now) self.old) }
+    {
+        self.symbol(alloc, b"cobegin", Some(cobegin.line))?;
+        self.branch(alloc, &cobegin.first)?;
+        self.branches(alloc, cobegin.first.end, &cobegin.more)
+    }
+
+    // The branches behind one that is closed on this line, and the `end` behind the last.
+    #[cycle(print_list)]
+    fn branches(&mut self, alloc: Global, end: u16, branches: &Branches) -> Result<(), AllocError>
+        ensures exact { OnOk result (self.new ≡ spec.print_branches (branches_of end branches.now) self.old) }
+    {
+        let mut end = end;
+        for branch in branches.items() {
+            self.symbol(alloc, b"also", Some(end))?;
+            self.branch(alloc, branch)?;
+            end = branch.end;
+        }
+        self.symbol(alloc, b"end", Some(end))
+    }
+
+    #[cycle(print_list)]
+    fn branch(&mut self, alloc: Global, branch: &Branch) -> Result<(), AllocError>
+        ensures exact { OnOk result (self.new ≡ spec.print_branch (branch_of branch.now).opened self.old) }
+    {
+        self.constant(alloc, &branch.constant)?;
+        self.symbol(alloc, b"do", Some(branch.line))?;
+        self.list(alloc, &branch.list)
+    }
+}
