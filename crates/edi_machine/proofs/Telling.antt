@@ -3,14 +3,16 @@ use Rattle.std.proofs.Common.{◌≡◌, ℕ, Bool, true, false, nat_eq, List, O
 use Rattle.std.specs.Prelude.{◌&&◌}
 use Rattle.std.proofs.lemmas.Bool.{cases_eq, ne_eqb}
 use Rattle.edi_calls.specs.State.{State}
-use Rattle.edi_target.specs.Op.{Instruction, is_allowed}
+use Rattle.edi_target.specs.Op.{Instruction, Branch, is_allowed}
 use Rattle.edi_target.specs.Fetch.{fetch}
 use Rattle.edi_target.specs.Perform.{perform}
 use Rattle.edi_target.specs.Effect.{Local, Effect, entering, leaving, looping, arriving, again, forking, exiting, finishing, goes, released, asks, due, fails, bad}
 use Rattle.edi_target.specs.Mach.{answer_at, effect_at}
+use Rattle.edi_machine.specs.declared.ends.TurnKind.TheVariants as kind
 use Rattle.edi_machine.specs.declared.ends.StepEnd.{StepEnd}
 use Rattle.edi_machine.specs.declared.ends.StepEnd.TheVariants as end
-use Rattle.edi_machine.specs.Steps.{Forks, Takes, effect_of, ends_phase, is_released}
+use Rattle.edi_machine.specs.Starts.{IsFork, branches_at}
+use Rattle.edi_machine.specs.Steps.{CanFork, Forks, Takes, effect_of, ends_phase, is_released}
 use Rattle.edi_machine.proofs.Laws.{Lawful, each_law}
 
 never_both : (n : ℕ) → (nat_eq n 1 && nat_eq n 0) ≡ false
@@ -80,6 +82,26 @@ forks_here words at held (due finishing l) law = tt
 forks_here words at held (fails c line) law = tt
 forks_here words at held bad law = tt
 
+fork_stands : (words : List ℕ) (at pc : ℕ) (branches : List Branch) (l after : Local) → at ≡ pc → after ≡ l → IsFork words pc branches l → IsFork words at (branches_at words at) after
+fork_stands words at pc branches l after same is fork =
+    let P : ℕ → List Branch → Local → Type 0 = λ n bs m. IsFork words n bs m in
+    subst (λ (n : ℕ). P n (branches_at words n) after) (sym same)
+    (subst (λ (bs : List Branch). P pc bs after) (sym fork.here) (subst (λ (m : Local). P pc branches m) (sym is) fork))
+
+-- what a fork's turn leaves can fork
+pub can_fork : (words : List ℕ) (answer : StepEnd) (e : Effect) (before after : Local) (old new : Option State) → Takes e answer before after old new → Forks e words before.pc → CanFork answer words after
+can_fork words (end.Turn (kind.Fork at)) (goes l) before after old new takes fork = absurd takes
+can_fork words (end.Turn (kind.Fork at)) (released l) before after old new takes fork = absurd takes
+can_fork words (end.Turn (kind.Fork at)) (asks number arguments address line l) before after old new takes fork = absurd takes
+can_fork words (end.Turn (kind.Fork at)) (due (forking branches) l) before after old new takes fork =
+    let same : kind.Fork at ≡ kind.Fork before.pc = takes.0 in
+    fork_stands words at before.pc branches l after (cc) takes.1 fork
+can_fork words (end.Turn (kind.Fork at)) (due turn l) before after old new takes fork = let other = takes.0 in absurd (cc)
+can_fork words (end.Turn (kind.Fork at)) (fails cause line) before after old new takes fork = absurd takes
+can_fork words (end.Turn (kind.Fork at)) bad before after old new takes fork = absurd takes
+can_fork words (end.Turn k) e before after old new takes fork = tt
+can_fork words answer e before after old new takes fork = tt
+
 -- both of the instruction that was read
 module _ (code words : List ℕ) (live : ℕ) (is_first : Bool) (l : Local) (i : Instruction) (next : ℕ) (same : words ≡ code) (here : Some (i, next) ≡ fetch words l.pc) (allowed : is_allowed i ≡ true) where
   law : Lawful words l.pc l.held (perform (fetch words) live is_first i next l)
@@ -90,6 +112,12 @@ module _ (code words : List ℕ) (live : ℕ) (is_first : Bool) (l : Local) (i :
       phase_told words l.pc answer (perform (fetch words) live is_first i next l) l after old new takes law
       ∙ ap (λ (x : Option (Instruction × ℕ)). is_released (effect_at (fetch words) x live is_first l)) here
       ∙ ap (λ (ws : List ℕ). is_released (effect_of ws live is_first l)) same
+
+  pub branches_of_step : (answer : StepEnd) (after : Local) (old new : Option State) → Takes (perform (fetch words) live is_first i next l) answer l after old new → CanFork answer code after
+  branches_of_step answer after old new takes =
+      subst (λ (ws : List ℕ). CanFork answer ws after) same
+      (can_fork words answer (perform (fetch words) live is_first i next l) l after old new takes
+      (forks_here words l.pc l.held (perform (fetch words) live is_first i next l) law))
 
   pub fork_of_step : Forks (effect_of code live is_first l) code l.pc
   fork_of_step =

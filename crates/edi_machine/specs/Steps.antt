@@ -15,7 +15,7 @@ use Rattle.edi_machine.specs.declared.ends.TurnKind.{TurnKind}
 use Rattle.edi_machine.specs.declared.ends.TurnKind.TheVariants as kind
 use Rattle.edi_machine.specs.declared.ends.StepEnd.{StepEnd}
 use Rattle.edi_machine.specs.declared.ends.StepEnd.TheVariants as end
-use Rattle.edi_machine.specs.Starts.{IsFork}
+use Rattle.edi_machine.specs.Starts.{IsFork, branches_at}
 
 -- the effect of the instruction at the program counter, in the code of these words
 abbrev pub effect_of : (words : List ℕ) → (live : ℕ) → (is_first : Bool) → Local → Effect
@@ -108,3 +108,8 @@ ends_phase _ before after = false
 abbrev pub Forks : Effect → (words : List ℕ) → (at : ℕ) → Type 0
 Forks (due (forking branches) l) words at = IsFork words at branches l
 Forks _ words at = ⊤
+
+-- after the turn of a fork the branches of the COBEGIN there can begin
+abbrev pub CanFork : StepEnd → (words : List ℕ) → Local → Type 0
+CanFork (end.Turn (kind.Fork at)) words parent = IsFork words at (branches_at words at) parent
+CanFork _ words parent = ⊤

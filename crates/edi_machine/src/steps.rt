@@ -2,12 +2,13 @@
 
 ghost use Rattle.std.specs.Prelude.{◌≡◌, ◌<◌, ◌≤◌, ◌^◌, ℕ, None, true, length, IsTrue};
 ghost use Rattle.edi_calls.specs.declared.ends.Outside.{Outside};
+ghost use Rattle.edi_store.specs.Memory.{IsMemory};
 ghost use Rattle.edi_target.specs.Fetch.{fetch};
 ghost use Rattle.edi_target.specs.Op.{is_allowed};
 ghost use Rattle.edi_target.specs.Perform.{perform};
 ghost use Rattle.edi_target.specs.View.{instruction_of, is_whole};
 ghost use Rattle.edi_machine.specs.Activities.{IsOrdered, local_of};
-ghost use Rattle.edi_machine.specs.Steps.{Blames, Forks, Keeps, Takes, effect_of, ends_phase, is_released};
+ghost use Rattle.edi_machine.specs.Steps.{Blames, CanFork, Forks, Keeps, Takes, effect_of, ends_phase, is_released};
 
 use crate::activity::Activity;
 use crate::ends::StepEnd;
@@ -78,11 +79,17 @@ pub fn step<C: Calls>(
         ends_phase result before (local_of store.new activity.new) ≡ is_released (effect_of code.now.words live first before) }
     ensures fork { let before = local_of store.old activity.old in
         Forks (effect_of code.now.words live first before) code.now.words activity.old.pc }
+    ensures branches { CanFork result code.now.words (local_of store.new activity.new) }
     ensures ordered { IsOrdered activity.new }
+    ensures was_whole { IsMemory store.old }
+    ensures whole { IsMemory store.new }
 {
+    let _was_whole = store.get(0);
     let words = code.words();
     let Some((op, next)) = instruction_at(words, activity.pc) else {
         return StepEnd::Bad(activity.pc);
     };
-    execute(store, activity, words, live, first, op, next, calls)
+    let end = execute(store, activity, words, live, first, op, next, calls);
+    let _whole = store.get(0);
+    end
 }
