@@ -25,7 +25,7 @@ frames-take zero is = refl
 frames-take (suc n) [] = refl
 frames-take (suc n) (i ∷ is) = ap (λ fs. i.frame ∷ fs) (frames-take n is)
 
-length-frames : (is : List Instance) → length (frames is) ≡ length is
+pub length-frames : (is : List Instance) → length (frames is) ≡ length is
 length-frames [] = refl
 length-frames (i ∷ is) = ap suc (length-frames is)
 
@@ -80,8 +80,8 @@ framing unit p size = record {
   Level = Shape;
   Holds = λ F w. HasShape F w.store;
   Ends = λ e system turns. Unit {0};
-  Comes = Any;
-  Fits = Any;
+  Comes = λ x. Any;
+  Fits = λ x. Any;
   over = λ F e w o h. tt;
   turned = λ F n w e h. h;
   stored = λ F l v w c h. record { each = λ r. shape-put w.store l v r ∙ h.each r };
@@ -90,10 +90,10 @@ framing unit p size = record {
       let i : Instance = instance_of unit p size number parent cells in
       (shape (grown p i w.store), own_shape (grown p i w.store), λ v k. returned p i F w.store v.store h k);
   of_slot = λ F levels variable w h. tt;
-  of_part = λ l n c. tt;
-  by_value = λ v. tt;
-  by_location = λ l c. tt;
-  to_location = λ l f. tt;
+  of_part = λ x l n c. tt;
+  by_value = λ x v. tt;
+  by_location = λ x l c. tt;
+  to_location = λ x l f. tt;
   by_procedure = λ F c w h. tt;
 }
 

@@ -48,18 +48,18 @@ going unit p size before = record {
   Level = Unit {0};
   Holds = λ x w. GoesFrom before w.system w.turns;
   Ends = λ e system turns. GoesFrom before system turns;
-  Comes = Any;
-  Fits = Any;
+  Comes = λ x. Any;
+  Fits = λ x. Any;
   over = λ x e w o h. h;
   turned = λ x n w e h. (omega (arith, e, h.0), h.1);
   stored = λ x l v w c h. h;
   replied = λ x number asked words system w e h. (h.0, goes_on_all before.system w.system system h.1 (each_call_goes_on_all number asked words w.system system e));
   called = λ x number parent cells w c f h. (tt, h, λ v k. k);
   of_slot = λ x levels variable w h. tt;
-  of_part = λ l n c. tt;
-  by_value = λ v. tt;
-  by_location = λ l c. tt;
-  to_location = λ l f. tt;
+  of_part = λ x l n c. tt;
+  by_value = λ x v. tt;
+  by_location = λ x l c. tt;
+  to_location = λ x l f. tt;
   by_procedure = λ x c w h. tt;
 }
 

@@ -48,20 +48,20 @@ pub record Lasting (unit : ProgramUnit) (p : Name) (size : ℕ) : Type 1 where
   pub Level : Type 0
   pub Holds : Level → World → Type 0
   pub Ends : Ending → State → ℕ → Type 0
-  pub Comes : Location → Type 0
-  pub Fits : Cell → Type 0
+  pub Comes : Level → Location → Type 0
+  pub Fits : Level → Cell → Type 0
   pub over : (x : Level) (e : Ending) (w : World) → IsOwn e → Holds x w → Ends e w.system w.turns
   pub turned : (x : Level) (n : ℕ) (w : World) → w.turns ≡ suc n → Holds x w → Holds x (record w { turns = n })
-  pub stored : (x : Level) (l : Location) (v : Value) (w : World) → Comes l → Holds x w → Holds x (record w { store = put w.store l v })
+  pub stored : (x : Level) (l : Location) (v : Value) (w : World) → Comes x l → Holds x w → Holds x (record w { store = put w.store l v })
   pub replied : (x : Level) (number : ℕ) (asked words : List ℕ) (system : State) (w : World) → call number asked w.system ≡ answered words system → Holds x w → Holds x (record w { system = system })
-  pub called : (x : Level) (number : ℕ) (parent : Spot) (cells : List Cell) (w : World) → Fits (procedure (block_procedure number parent)) → Every Fits cells → Holds x w →
+  pub called : (x : Level) (number : ℕ) (parent : Spot) (cells : List Cell) (w : World) → Fits x (procedure (block_procedure number parent)) → Every (Fits x) cells → Holds x w →
       (y : Level) × Holds y (record w { store = grown p (instance_of unit p size number parent cells) w.store }) × ((v : World) → Holds y v → Holds x (record v { store = shrunk p v.store }))
-  pub of_slot : (x : Level) (levels variable : ℕ) (w : World) → Holds x w → Comes (slot w.store p levels variable)
-  pub of_part : (l : Location) (n : ℕ) → Comes l → Comes (part_of l n)
-  pub by_value : (v : Value) → Fits (value v)
-  pub by_location : (l : Location) → Comes l → Fits (location l)
-  pub to_location : (l : Location) → Fits (location l) → Comes l
-  pub by_procedure : (x : Level) (c : Callee) (w : World) → Holds x w → Fits (procedure (meant unit p size c w))
+  pub of_slot : (x : Level) (levels variable : ℕ) (w : World) → Holds x w → Comes x (slot w.store p levels variable)
+  pub of_part : (x : Level) (l : Location) (n : ℕ) → Comes x l → Comes x (part_of l n)
+  pub by_value : (x : Level) (v : Value) → Fits x (value v)
+  pub by_location : (x : Level) (l : Location) → Comes x l → Fits x (location l)
+  pub to_location : (x : Level) (l : Location) → Fits x (location l) → Comes x l
+  pub by_procedure : (x : Level) (c : Callee) (w : World) → Holds x w → Fits x (procedure (meant unit p size c w))
 
 module _ {unit : ProgramUnit} {p : Name} {size : ℕ} (s : Lasting unit p size) where
   -- P of what is given and of the world after it; or the program has ended
@@ -98,11 +98,11 @@ module _ {unit : ProgramUnit} {p : Name} {size : ℕ} (s : Lasting unit p size) 
   range_keeps x line None w h = stop x _ (outcome.failed cause.Range line) w tt h
   range_keeps x line (Some a) w h = give _ a w (tt, h)
 
-  abbrev Located : Designated → Type 0
-  Located d = s.Comes d.at
+  abbrev Located : s.Level → Designated → Type 0
+  Located x d = s.Comes x d.at
 
-  element_keeps : (x : s.Level) (shape : Shape) (line : ℕ) (l : Location) (v : Value) (w : World) → s.Comes l → s.Holds x w → Keeps (At x Located) (element_of shape line l v w)
-  element_keeps x (array_of i lo hi e) line l v w c h = bind x Any _ _ _ (range_keeps x line (element_at lo hi v) w h) (λ n w _ h. give _ _ w ((s.of_part l n c), h))
+  element_keeps : (x : s.Level) (shape : Shape) (line : ℕ) (l : Location) (v : Value) (w : World) → s.Comes x l → s.Holds x w → Keeps (At x (Located x)) (element_of shape line l v w)
+  element_keeps x (array_of i lo hi e) line l v w c h = bind x Any _ _ _ (range_keeps x line (element_at lo hi v) w h) (λ n w _ h. give _ _ w ((s.of_part x l n c), h))
   element_keeps x int line l v w c h = give _ _ w (c, h)
   element_keeps x char line l v w c h = give _ _ w (c, h)
   element_keeps x bool line l v w c h = give _ _ w (c, h)
@@ -110,25 +110,25 @@ module _ {unit : ProgramUnit} {p : Name} {size : ℕ} (s : Lasting unit p size) 
   element_keeps x (record_of fs) line l v w c h = give _ _ w (c, h)
   element_keeps x (set_of b) line l v w c h = give _ _ w (c, h)
 
-  answer_keeps : (x : s.Level) (cells : List Cell) (words : List ℕ) (w : World) → Every s.Fits cells → s.Holds x w → s.Holds x (record w { store = answer_in cells words w.store })
+  answer_keeps : (x : s.Level) (cells : List Cell) (words : List ℕ) (w : World) → Every (s.Fits x) cells → s.Holds x w → s.Holds x (record w { store = answer_in cells words w.store })
   answer_keeps x [] words w f h = h
   answer_keeps x (location l ∷ cells) [] w f h = answer_keeps x cells [] w f.1 h
-  answer_keeps x (location l ∷ cells) (word ∷ words) w f h = s.stored x l (ordinal (pos word)) w (s.to_location l f.0) h
+  answer_keeps x (location l ∷ cells) (word ∷ words) w f h = s.stored x l (ordinal (pos word)) w (s.to_location x l f.0) h
   answer_keeps x (value v ∷ cells) words w f h = answer_keeps x cells words w f.1 h
   answer_keeps x (procedure c ∷ cells) words w f h = answer_keeps x cells words w f.1 h
 
-  answered_keeps : (x : s.Level) (number : ℕ) (asked : List ℕ) (result : CallResult) (cells : List Cell) (line : ℕ) (w : World) → call number asked w.system ≡ result → Every s.Fits cells → s.Holds x w → Keeps (At x Any) (answered_by result cells line w)
+  answered_keeps : (x : s.Level) (number : ℕ) (asked : List ℕ) (result : CallResult) (cells : List Cell) (line : ℕ) (w : World) → call number asked w.system ≡ result → Every (s.Fits x) cells → s.Holds x w → Keeps (At x Any) (answered_by result cells line w)
   answered_keeps x number asked (answered words system) cells line w e f h =
       give _ tt _ (tt, answer_keeps x cells words (record w { system = system }) f (s.replied x number asked words system w e h))
   answered_keeps x number asked no_file cells line w e f h = stop x _ (outcome.failed cause.NoFile line) w tt h
   answered_keeps x number asked file_limit cells line w e f h = stop x _ (outcome.failed cause.FileLimit line) w tt h
 
-  pub system_keeps : (x : s.Level) (number : ℕ) (cells : List Cell) (line : ℕ) (w : World) → Every s.Fits cells → s.Holds x w → Keeps (At x Any) (system_call number cells line w)
+  pub system_keeps : (x : s.Level) (number : ℕ) (cells : List Cell) (line : ℕ) (w : World) → Every (s.Fits x) cells → s.Holds x w → Keeps (At x Any) (system_call number cells line w)
   system_keeps x number cells line w f h = answered_keeps x number (words_of_cells cells) (call number (words_of_cells cells) w.system) cells line w refl f h
 
   -- a block is entered, and what comes then begins at the level inside
   entered_keeps : {A : Type 0} (x : s.Level) (P : A → World → Type 0) (number : ℕ) (parent : Spot) (cells : List Cell) (line : ℕ) (w : World) (go : World → Run A) →
-      s.Fits (procedure (block_procedure number parent)) → Every s.Fits cells → s.Holds x w →
+      s.Fits x (procedure (block_procedure number parent)) → Every (s.Fits x) cells → s.Holds x w →
       ((y : s.Level) → ((v : World) → s.Holds y v → s.Holds x (record v { store = shrunk p v.store })) → (v : World) → s.Holds y v → Keeps P (go v)) → Keeps P (entered unit p size number parent cells line w go)
   entered_keeps x P number parent cells line w go c f h k =
       if_keeps P (nat_lt (room size (shape w.store p)) (block_at unit.blocks number).need) _ _ (stop x P (outcome.failed cause.VariableLimit line) w tt h)
@@ -141,7 +141,7 @@ module _ {unit : ProgramUnit} {p : Name} {size : ℕ} (s : Lasting unit p size) 
   -- ---- what follows the tree
 
   module _ (deeper : Acts → World → Run (Unit {0})) (deep : (x : s.Level) (as' : Acts) (w : World) → s.Holds x w → Keeps (At x Any) (deeper as' w)) where
-    function_keeps : (x : s.Level) (c : Closure) (cells : List Cell) (line : ℕ) (w : World) → s.Fits (procedure c) → Every s.Fits cells → s.Holds x w → Keeps (At x Any) (function_call unit p size deeper c cells line w)
+    function_keeps : (x : s.Level) (c : Closure) (cells : List Cell) (line : ℕ) (w : World) → s.Fits x (procedure c) → Every (s.Fits x) cells → s.Holds x w → Keeps (At x Any) (function_call unit p size deeper c cells line w)
     function_keeps x (block_procedure number parent) cells line w c f h =
         entered_keeps x _ number parent cells line w (function_body unit p size deeper number) c f h
         (λ y back v h. bind y Any _ _ _ (deep y (block_at unit.blocks number).body v h) (λ _ w _ h. left_keeps x y _ w (gives (result_of unit p size w)) back h (λ w h. give _ _ w (tt, h))))
@@ -150,7 +150,7 @@ module _ {unit : ProgramUnit} {p : Name} {size : ℕ} (s : Lasting unit p size) 
     mutual
       expression_keeps : (x : s.Level) (e : Expression) (w : World) → s.Holds x w → Keeps (At x Any) (expression unit p size deeper e w)
       expression_keeps x (tree.constant of n) w h = give _ _ w (tt, h)
-      expression_keeps x (tree.load v) w h = bind x Located _ _ _ (designated_keeps x v w h) (λ d w _ h. give _ _ w (tt, h))
+      expression_keeps x (tree.load v) w h = bind x (Located x) _ _ _ (designated_keeps x v w h) (λ d w _ h. give _ _ w (tt, h))
       expression_keeps x (tree.not_of e) w h = bind x Any _ _ _ (expression_keeps x e w h) (λ v w _ h. give _ _ w (tt, h))
       expression_keeps x (tree.minus e line) w h = bind x Any _ _ _ (expression_keeps x e w h) (λ v w _ h. range_keeps x line (sign v) w h)
       expression_keeps x (tree.chain e ls) w h = bind x Any _ _ _ (expression_keeps x e w h) (λ v w _ h. linked_keeps x v ls w h)
@@ -161,7 +161,7 @@ module _ {unit : ProgramUnit} {p : Name} {size : ℕ} (s : Lasting unit p size) 
       expression_keeps x (tree.convert of e line) w h =
           bind x Any _ _ _ (expression_keeps x e w h) (λ v w _ h. range_keeps x line (converted (shape_at unit.types of) v) w h)
       expression_keeps x (tree.invoke c es line) w h =
-          bind x (Every s.Fits) _ _ _ (arguments_keeps x es w h) (λ cells w f h. function_keeps x (meant unit p size c w) cells line w (s.by_procedure x c w h) f h)
+          bind x (Every (s.Fits x)) _ _ _ (arguments_keeps x es w h) (λ cells w f h. function_keeps x (meant unit p size c w) cells line w (s.by_procedure x c w h) f h)
 
       expressions_keeps : (x : s.Level) (es : Expressions) (w : World) → s.Holds x w → Keeps (At x Any) (expressions unit p size deeper es w)
       expressions_keeps x tree.no_expression w h = give _ _ w (tt, h)
@@ -181,28 +181,28 @@ module _ {unit : ProgramUnit} {p : Name} {size : ℕ} (s : Lasting unit p size) 
       operated_keeps x v (tree.link o e line) w h =
           if_keeps _ (decides o v) _ _ (give _ _ w (tt, h)) (bind x Any _ _ _ (expression_keeps x e w h) (λ u w _ h. range_keeps x line (apply o v u) w h))
 
-      designated_keeps : (x : s.Level) (v : Place) (w : World) → s.Holds x w → Keeps (At x Located) (designated unit p size deeper v w)
+      designated_keeps : (x : s.Level) (v : Place) (w : World) → s.Holds x w → Keeps (At x (Located x)) (designated unit p size deeper v w)
       designated_keeps x (tree.place levels variable ps) w h = parts_keeps x (named unit p size levels variable w.store) ps w (s.of_slot x levels variable w h) h
 
-      parts_keeps : (x : s.Level) (d : Designated) (ps : Parts) (w : World) → Located d → s.Holds x w → Keeps (At x Located) (parts unit p size deeper d ps w)
+      parts_keeps : (x : s.Level) (d : Designated) (ps : Parts) (w : World) → Located x d → s.Holds x w → Keeps (At x (Located x)) (parts unit p size deeper d ps w)
       parts_keeps x d tree.no_part w c h = give _ d w (c, h)
-      parts_keeps x d (tree.part_then q qs) w c h = bind x Located _ _ _ (part_keeps x d q w c h) (λ d w c h. parts_keeps x d qs w c h)
+      parts_keeps x d (tree.part_then q qs) w c h = bind x (Located x) _ _ _ (part_keeps x d q w c h) (λ d w c h. parts_keeps x d qs w c h)
 
-      part_keeps : (x : s.Level) (d : Designated) (q : Part) (w : World) → Located d → s.Holds x w → Keeps (At x Located) (part unit p size deeper d q w)
-      part_keeps x d (tree.field n) w c h = give _ _ w ((s.of_part d.at n c), h)
+      part_keeps : (x : s.Level) (d : Designated) (q : Part) (w : World) → Located x d → s.Holds x w → Keeps (At x (Located x)) (part unit p size deeper d q w)
+      part_keeps x d (tree.field n) w c h = give _ _ w ((s.of_part x d.at n c), h)
       part_keeps x d (tree.index e line) w c h = bind x Any _ _ _ (expression_keeps x e w h) (λ v w _ h. element_keeps x (shape_at unit.types d.of) line d.at v w c h)
 
-      argument_keeps : (x : s.Level) (a : Argument) (w : World) → s.Holds x w → Keeps (At x s.Fits) (argument unit p size deeper a w)
-      argument_keeps x (tree.by_value e) w h = bind x Any _ _ _ (expression_keeps x e w h) (λ v w _ h. give _ _ w ((s.by_value v), h))
-      argument_keeps x (tree.by_variable v) w h = bind x Located _ _ _ (designated_keeps x v w h) (λ d w c h. give _ _ w ((s.by_location d.at c), h))
+      argument_keeps : (x : s.Level) (a : Argument) (w : World) → s.Holds x w → Keeps (At x (s.Fits x)) (argument unit p size deeper a w)
+      argument_keeps x (tree.by_value e) w h = bind x Any _ _ _ (expression_keeps x e w h) (λ v w _ h. give _ _ w ((s.by_value x v), h))
+      argument_keeps x (tree.by_variable v) w h = bind x (Located x) _ _ _ (designated_keeps x v w h) (λ d w c h. give _ _ w ((s.by_location x d.at c), h))
       argument_keeps x (tree.by_procedure c) w h = give _ _ w ((s.by_procedure x c w h), h)
 
-      arguments_keeps : (x : s.Level) (es : Arguments) (w : World) → s.Holds x w → Keeps (At x (Every s.Fits)) (arguments unit p size deeper es w)
+      arguments_keeps : (x : s.Level) (es : Arguments) (w : World) → s.Holds x w → Keeps (At x (Every (s.Fits x))) (arguments unit p size deeper es w)
       arguments_keeps x tree.no_argument w h = give _ [] w (tt, h)
       arguments_keeps x (tree.argument_then a as') w h =
-          bind x s.Fits _ _ _ (argument_keeps x a w h) (λ c w f h. bind x (Every s.Fits) _ _ _ (arguments_keeps x as' w h) (λ cs w fs h. give _ (c ∷ cs) w ((f, fs), h)))
+          bind x (s.Fits x) _ _ _ (argument_keeps x a w h) (λ c w f h. bind x (Every (s.Fits x)) _ _ _ (arguments_keeps x as' w h) (λ cs w fs h. give _ (c ∷ cs) w ((f, fs), h)))
 
-    procedure_keeps : (x : s.Level) (c : Closure) (cells : List Cell) (line : ℕ) (w : World) → s.Fits (procedure c) → Every s.Fits cells → s.Holds x w → Keeps (At x Any) (procedure_call unit p size deeper c cells line w)
+    procedure_keeps : (x : s.Level) (c : Closure) (cells : List Cell) (line : ℕ) (w : World) → s.Fits x (procedure c) → Every (s.Fits x) cells → s.Holds x w → Keeps (At x Any) (procedure_call unit p size deeper c cells line w)
     procedure_keeps x (block_procedure number parent) cells line w c f h =
         entered_keeps x _ number parent cells line w (procedure_body unit p size deeper number) c f h
         (λ y back v h. bind y Any _ _ _ (deep y (block_at unit.blocks number).body v h) (λ _ w _ h. left_keeps x y _ w (gives tt) back h (λ w h. give _ _ w (tt, h))))
@@ -210,7 +210,7 @@ module _ {unit : ProgramUnit} {p : Name} {size : ℕ} (s : Lasting unit p size) 
 
     assigned_keeps : (x : s.Level) (v : Place) (e : Expression) (w : World) → s.Holds x w → Keeps (At x Any) (assigned unit p size deeper v e w)
     assigned_keeps x v e w h =
-        bind x Located _ _ _ (designated_keeps x v w h) (λ d w c h. bind x Any _ _ _ (expression_keeps x e w h) (λ v w _ h. give _ _ _ (tt, s.stored x d.at v w c h)))
+        bind x (Located x) _ _ _ (designated_keeps x v w h) (λ d w c h. bind x Any _ _ _ (expression_keeps x e w h) (λ v w _ h. give _ _ _ (tt, s.stored x d.at v w c h)))
 
     again_keeps : (x : s.Level) (cs : Clauses) (ran : Bool) (w : World) → s.Holds x w → Keeps (At x Any) (if ran then turn w (deeper (tree.act_then (tree.loop cs) tree.no_act)) else gives (tt {0}) w)
     again_keeps x cs true w h = turn_keeps x _ w.turns w _ refl h (deep x (tree.act_then (tree.loop cs) tree.no_act))
@@ -221,7 +221,7 @@ module _ {unit : ProgramUnit} {p : Name} {size : ℕ} (s : Lasting unit p size) 
       act_keeps x tree.skip w h = give _ _ w (tt, h)
       act_keeps x (tree.assign v e) w h = assigned_keeps x v e w h
       act_keeps x (tree.call c es line) w h =
-          bind x (Every s.Fits) _ _ _ (arguments_keeps x es w h) (λ cells w f h. procedure_keeps x (meant unit p size c w) cells line w (s.by_procedure x c w h) f h)
+          bind x (Every (s.Fits x)) _ _ _ (arguments_keeps x es w h) (λ cells w f h. procedure_keeps x (meant unit p size c w) cells line w (s.by_procedure x c w h) f h)
       act_keeps x (tree.halt line) w h = stop x _ (outcome.halted line) w tt h
       act_keeps x (tree.conditional cs) w h = bind x Any _ _ _ (first_keeps x cs w h) (λ _ w _ h. give _ _ w (tt, h))
       act_keeps x (tree.loop cs) w h = bind x Any _ _ _ (first_keeps x cs w h) (λ ran w _ h. again_keeps x cs ran w h)
@@ -248,7 +248,7 @@ module _ {unit : ProgramUnit} {p : Name} {size : ℕ} (s : Lasting unit p size) 
 
   -- ---- evaluations to the end
 
-  pub whole_arguments_keep : (x : s.Level) (es : Arguments) (w : World) → s.Holds x w → Keeps (At x (Every s.Fits)) (whole_arguments unit p size es w)
+  pub whole_arguments_keep : (x : s.Level) (es : Arguments) (w : World) → s.Holds x w → Keeps (At x (Every (s.Fits x))) (whole_arguments unit p size es w)
   whole_arguments_keep x es w h = arguments_keeps (levels_of unit p size w.turns) (levels_keeps w.turns) x es w h
 
   pub whole_assignment_keeps : (x : s.Level) (v : Place) (e : Expression) (w : World) → s.Holds x w → Keeps (At x Any) (whole_assignment unit p size v e w)

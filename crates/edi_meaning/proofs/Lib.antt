@@ -17,3 +17,7 @@ pub mod Private
 pub mod Going
 pub mod Parents
 pub mod Waiting
+pub mod References
+pub mod Living
+pub mod Due
+pub mod Dangling

@@ -34,7 +34,7 @@ owns_all p r s a b = record {
   is = b.is ∙ ap (ancestor b.generation) a.is ∙ ancestor-add b.generation a.generation p;
 }
 
-length-ancestor : (n : ℕ) (p : Name) → length (ancestor n p) ≤ length p - n
+pub length-ancestor : (n : ℕ) (p : Name) → length (ancestor n p) ≤ length p - n
 length-ancestor zero p = omega arith
 length-ancestor (suc n) p = omega (arith, length-ancestor n p, length-take (length (ancestor n p) - 2) (ancestor n p))
 
@@ -58,12 +58,12 @@ module _ {A : Type 0} (P : A → Type 0) where
   every-take (suc n) [] h = tt
   every-take (suc n) (x ∷ xs) h = (h.0, every-take n xs h.1)
 
-  every-at : (xs : List A) (i : ℕ) (d : A) → Every P xs → P d → P (slice_index_or xs i d)
+  pub every-at : (xs : List A) (i : ℕ) (d : A) → Every P xs → P d → P (slice_index_or xs i d)
   every-at [] i d h k = k
   every-at (x ∷ xs) zero d h k = h.0
   every-at (x ∷ xs) (suc i) d h k = every-at xs i d h.1 k
 
-  every-set : (xs : List A) (i : ℕ) (y : A) → P y → Every P xs → Every P (slice_set xs i y)
+  pub every-set : (xs : List A) (i : ℕ) (y : A) → P y → Every P xs → Every P (slice_set xs i y)
   every-set [] i y k h = tt
   every-set (x ∷ xs) zero y k h = (k, h.1)
   every-set (x ∷ xs) (suc i) y k h = (h.0, every-set xs i y k h.1)
@@ -139,27 +139,29 @@ meant_owned unit p size (callee.Formal levels variable) w o =
 
 -- ---- new instances
 
-result_owned : (r : Name) (ts : List types.Shape) (t : Option ℕ) → Every (CellOwned r) (result_cells ts t)
-result_owned r ts None = tt
-result_owned r ts (Some t) = (tt, tt)
+module _ (P : Cell → Type 0) (values : (v : Value) → P (value v)) where
+  result_cells_fit : (ts : List types.Shape) (t : Option ℕ) → Every P (result_cells ts t)
+  result_cells_fit ts None = tt
+  result_cells_fit ts (Some t) = (values (zero_value ts t), tt)
 
-zeros_owned : (r : Name) (ts : List types.Shape) (vs : List ℕ) → Every (CellOwned r) (map (λ t. value (zero_value ts t)) vs)
-zeros_owned r ts [] = tt
-zeros_owned r ts (v ∷ vs) = (tt, zeros_owned r ts vs)
+  zeros_fit : (ts : List types.Shape) (vs : List ℕ) → Every P (map (λ t. value (zero_value ts t)) vs)
+  zeros_fit ts [] = tt
+  zeros_fit ts (v ∷ vs) = (values (zero_value ts v), zeros_fit ts vs)
 
-pub calls_owned : (r : Name) (ns : List ℕ) → Every (CellOwned r) (map (λ n. procedure (system_procedure n)) ns)
-calls_owned r [] = tt
-calls_owned r (n ∷ ns) = (tt, calls_owned r ns)
+  -- what holds of values and of the arguments holds of all cells
+  pub new_cells_fit : (unit : ProgramUnit) (r : Name) (size number : ℕ) (parent : Spot) (cells : List Cell) → Every P cells → Every P (instance_of unit r size number parent cells).cells
+  new_cells_fit unit r size number parent cells h =
+      let vs : List ℕ = (block_at unit.blocks number).variables in
+      every-append P (result_cells unit.types (block_at unit.blocks number).result) (cells ++ map (λ t. value (zero_value unit.types t)) vs)
+      (result_cells_fit unit.types (block_at unit.blocks number).result)
+      (every-append P cells (map (λ t. value (zero_value unit.types t)) vs) h (zeros_fit unit.types vs))
+
+pub calls_fit : (P : Cell → Type 0) → ((n : ℕ) → P (procedure (system_procedure n))) → (ns : List ℕ) → Every P (map (λ n. procedure (system_procedure n)) ns)
+calls_fit P h [] = tt
+calls_fit P h (n ∷ ns) = (h n, calls_fit P h ns)
 
 pub instance_owned : (unit : ProgramUnit) (r : Name) (size number : ℕ) (parent : Spot) (cells : List Cell) → Owns r parent.0 → Every (CellOwned r) cells → InstanceOwned r (instance_of unit r size number parent cells)
-instance_owned unit r size number parent cells o h =
-    let vs : List ℕ = (block_at unit.blocks number).variables in
-    record {
-      parent = o;
-      cells = every-append (CellOwned r) (result_cells unit.types (block_at unit.blocks number).result) (cells ++ map (λ t. value (zero_value unit.types t)) vs)
-          (result_owned r unit.types (block_at unit.blocks number).result)
-          (every-append (CellOwned r) cells (map (λ t. value (zero_value unit.types t)) vs) h (zeros_owned r unit.types vs));
-    }
+instance_owned unit r size number parent cells o h = record { parent = o; cells = new_cells_fit (CellOwned r) (λ v. tt) unit r size number parent cells h }
 
 -- ---- changes of a store
 

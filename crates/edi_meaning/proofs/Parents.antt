@@ -184,7 +184,7 @@ whole_family live p f own = record { once = f.once; parents = f.parents; counts 
     go z q n e w (inl k) = ap (children_in (names live)) k ∙ own q n (sym (ap (find live) k) ∙ e) w
     go z q n e w (inr m) = f.counts z q n m e w
 
-waiting_does_not_run : (standing : Standing) (n : ℕ) → is_running standing ≡ true → standing ≡ waiting n → ⊥
+pub waiting_does_not_run : (standing : Standing) (n : ℕ) → is_running standing ≡ true → standing ≡ waiting n → ⊥
 waiting_does_not_run standing n r w = true_false (sym r ∙ ap is_running w)
 
 -- somebody who waits does so still after a change of another

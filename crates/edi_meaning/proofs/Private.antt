@@ -16,7 +16,7 @@ use Rattle.edi_meaning.specs.Laws.{IsMade, IsPrivate, StepIsPrivate, CellsArePri
 use Rattle.edi_meaning.proofs.Lasting.{Every, Gives, Lasting, Keeps}
 use Rattle.edi_meaning.proofs.Local.{Moving, local_keeps}
 use Rattle.edi_meaning.proofs.Kernel.{rest_of, Handles, kernel_handles, of_process, After, permitted_keep}
-use Rattle.edi_meaning.proofs.Own.{owns_self, owns_all, owns_first, owns_parent, every-append, every-take, CellOwned, InstanceOwned, Owned, slot_owned, meant_owned, calls_owned, instance_owned, instances-other, instances-gone, instances-left, owned_with, owned_without, put_owned}
+use Rattle.edi_meaning.proofs.Own.{owns_self, owns_all, owns_first, owns_parent, every-append, every-take, CellOwned, InstanceOwned, Owned, slot_owned, meant_owned, calls_fit, instance_owned, instances-other, instances-gone, instances-left, owned_with, owned_without, put_owned}
 use Rattle.edi_meaning.proofs.Frames.{framing, Steps, local_steps}
 use Rattle.edi_meaning.proofs.Names.{no_some}
 use Rattle.edi_meaning.proofs.Family.{Fresh, fresh_changed, fresh_without, free_name, free_next, Forked, forked_children, start_fresh}
@@ -71,18 +71,18 @@ module _ (unit : ProgramUnit) (p : Name) (size : ℕ) (before : Store) where
     Level = Unit {0};
     Holds = λ x w. Leaves p before w.store;
     Ends = λ e system turns. ⊤;
-    Comes = λ l. Owns p l.spot.0;
-    Fits = CellOwned p;
+    Comes = λ x l. Owns p l.spot.0;
+    Fits = λ x. CellOwned p;
     over = λ x e w o h. tt;
     turned = λ x n w e h. h;
     stored = λ x l v w c h. leaves_put p before w.store l v c h;
     replied = λ x number asked words system w e h. h;
     called = λ x number parent cells w c f h. (tt, grown_leaves number parent cells w.store c f h, λ v k. shrunk_leaves v.store k);
     of_slot = λ x levels variable w h. slot_owned p w.store levels variable h.owned;
-    of_part = λ l n c. c;
-    by_value = λ v. tt;
-    by_location = λ l c. c;
-    to_location = λ l c. c;
+    of_part = λ x l n c. c;
+    by_value = λ x v. tt;
+    by_location = λ x l c. c;
+    to_location = λ x l c. c;
     by_procedure = λ x c w h. meant_owned unit p size c w h.owned;
   }
 
@@ -91,7 +91,7 @@ module _ (unit : ProgramUnit) (p : Name) (size : ℕ) (before : Store) where
     stays = λ w h. h;
     grows = λ number parent cells w c f h. grown_leaves number parent cells w.store c f h;
     shrinks = λ w h. shrunk_leaves w.store h;
-    begins = λ w h. leaves_with p before w.store _ (instance_owned unit p size unit.program ([], 0) (map (λ n. procedure (system_procedure n)) unit.calls) (owns_first p) (calls_owned p unit.calls), tt) h;
+    begins = λ w h. leaves_with p before w.store _ (instance_owned unit p size unit.program ([], 0) (map (λ n. procedure (system_procedure n)) unit.calls) (owns_first p) (calls_fit (CellOwned p) (λ n. tt) unit.calls), tt) h;
   }
 
 pub local_leaves : (unit : ProgramUnit) (p : Name) (size : ℕ) (standing : Standing) (work : List Work) (w : World) → Owned w.store →
@@ -113,21 +113,21 @@ Moves s p (went t next quiet) = IsPrivate s t p × Proper t
 Moves s p (ended ending system turns) = ⊤
 
 -- who is not live with a new entry was not live before
-none_before : (live : Table Process) (p : Name) (q : Process) (r : Name) → find (with_at live p q) r ≡ None → find live r ≡ None
+pub none_before : (live : Table Process) (p : Name) (q : Process) (r : Name) → find (with_at live p q) r ≡ None → find live r ≡ None
 none_before live p q r e = go (same-or-other r p)
   where
     go : (r ≡ p) ⊎ (same r p ≡ false) → find live r ≡ None
     go (inl h) = absurd (no_some (find (with_at live p q) r) e (ap (find (with_at live p q)) h ∙ find-with_at-same live p q))
     go (inr n) = sym (find-with_at-other live p r q n) ∙ e
 
-other_than : (p r : Name) → (r ≡ p → ⊥) → same r p ≡ false
+pub other_than : (p r : Name) → (r ≡ p → ⊥) → same r p ≡ false
 other_than p r n = go (same-or-other r p)
   where
     go : (r ≡ p) ⊎ (same r p ≡ false) → same r p ≡ false
     go (inl e) = absurd (n e)
     go (inr m) = m
 
-no_frames : (is : List Instance) → frames is ≡ [] → is ≡ []
+pub no_frames : (is : List Instance) → frames is ≡ [] → is ≡ []
 no_frames [] e = refl
 no_frames (i ∷ is) e = absurd (cc)
 

@@ -119,7 +119,7 @@ any_run (gives a v) = refl
 any_run (ends ending system turns) = tt
 
 -- only who runs takes a step that goes on
-only_running : (unit : ProgramUnit) (p : Name) (size : ℕ) (standing : Standing) (work : List Work) (w : World) → Gives (λ a v. is_running standing ≡ true) (λ ending system turns. ⊤) (local_step unit p size standing work w)
+pub only_running : (unit : ProgramUnit) (p : Name) (size : ℕ) (standing : Standing) (work : List Work) (w : World) → Gives (λ a v. is_running standing ≡ true) (λ ending system turns. ⊤) (local_step unit p size standing work w)
 only_running unit p size ready work w = any_run (local_step unit p size ready work w)
 only_running unit p size (at_when cs position) work w = any_run (local_step unit p size (at_when cs position) work w)
 only_running unit p size (waiting n) work w = tt
@@ -140,7 +140,7 @@ pub record WithFamily (s : Processes) : Type 0 where
   pub proper : Proper s
   pub family : Family s.live
 
-step_both : (unit : ProgramUnit) (s : Processes) (p : Name) → WithFamily s → After WithFamily (step unit s p)
+pub step_both : (unit : ProgramUnit) (s : Processes) (p : Name) → WithFamily s → After WithFamily (step unit s p)
 step_both unit s p h = go (step unit s p) (step_proper unit s p h.proper) (step_family unit s p h.proper.fresh h.family)
   where
     go : (x : Stepped) → After Proper x → After IsFamily x → After WithFamily x
@@ -158,9 +158,12 @@ start_family unit system bound = record { once = (refl, tt); parents = λ r q e.
     idle [] q n e w = let a : ready ≡ waiting n = ap (λ y. y.standing) (some_is e) ∙ w in absurd (cc)
     idle (y ∷ ys) q n e w = absurd (cc)
 
+pub start_with : (unit : ProgramUnit) (system : State) (bound : ℕ) → WithFamily (start unit system bound)
+start_with unit system bound = record { proper = start_proper unit system bound; family = start_family unit system bound }
+
 pub permitted_family : (unit : ProgramUnit) (system : State) (bound : ℕ) (order : List Name) (s : Processes) → permitted unit order (start unit system bound) ≡ at s → WithFamily s
 permitted_family unit system bound order s e =
-    permitted_keep unit WithFamily (step_both unit) order (start unit system bound) s (record { proper = start_proper unit system bound; family = start_family unit system bound }) e
+    permitted_keep unit WithFamily (step_both unit) order (start unit system bound) s (start_with unit system bound) e
 
 pub parents_wait : ParentsWait
 parents_wait unit system bound order s e =

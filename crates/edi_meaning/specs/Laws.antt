@@ -8,7 +8,7 @@ use Rattle.edi_calls.specs.Outcome as outcome
 use Rattle.edi_calls.specs.Outcome.{Ending, Outcome}
 use Rattle.edi_calls.specs.Ready.{child, parent_of, stays, joins}
 use Rattle.edi_unit.specs.Tree.{Clauses, ProgramUnit}
-use Rattle.edi_meaning.specs.Store.{instances, shape, Owns}
+use Rattle.edi_meaning.specs.Store.{Spot, Cell, value, location, procedure, system_procedure, block_procedure, Store, Shape, instances, shape, frame_at, cell, Owns, IsLive, Older}
 use Rattle.edi_meaning.specs.Run.{World}
 use Rattle.edi_meaning.specs.Step.{Position, ready, at_when, waiting, is_running, Process, Processes, Stepped, went, ended, is_quiet, step, start, Led, at, over, nowhere, permitted}
 use Rattle.edi_meaning.specs.Select.{Ends, Select}
@@ -144,3 +144,26 @@ abbrev pub ParentsWait : Type 0
 ParentsWait =
     (unit : ProgramUnit) (system : State) (bound : ℕ) (order : List Name) (s : Processes) →
     permitted unit order (start unit system bound) ≡ at s → ParentsWaitIn s.live
+
+-- t is an instance that one at s may mean
+pub record Means (F : Shape) (s t : Spot) : Type 0 where
+  pub live : IsLive F t
+  pub older : Older t s
+
+-- what a cell of the instance at s holds means such an instance
+abbrev pub CellMeans : Shape → Spot → Cell → Type 0
+CellMeans F s (value v) = ⊤
+CellMeans F s (location l) = Means F s l.spot
+CellMeans F s (procedure (system_procedure number)) = ⊤
+CellMeans F s (procedure (block_procedure number parent)) = Means F s parent
+
+-- of each instance that lives, the static parent and what its cells mean live too, and are no newer
+pub record NothingDangles (store : Store) : Type 0 where
+  pub parents : (s : Spot) → IsLive (shape store) s → Means (shape store) s (frame_at (shape store) s).parent
+  pub cells : (s : Spot) (variable : ℕ) → IsLive (shape store) s → CellMeans (shape store) s (cell store s variable)
+
+-- so it is in every state that permitted steps reach from the start
+abbrev pub ReferencesLive : Type 0
+ReferencesLive =
+    (unit : ProgramUnit) (system : State) (bound : ℕ) (order : List Name) (s : Processes) →
+    permitted unit order (start unit system bound) ≡ at s → NothingDangles s.world.store

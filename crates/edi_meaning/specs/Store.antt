@@ -1,8 +1,8 @@
 -- The variables of all processes. Each live process has a list of instances, one for each block that it has entered
 -- and not left, the oldest first. What an instance is (its block, and the instance that its block's surroundings mean)
 -- is told apart from what its variables hold.
-use Rattle.std.specs.Prelude.{◌≡◌, ℕ, zero, suc, ◌+◌, ◌-◌, List, [], ◌∷◌, ◌++◌, length, take, slice_get, slice_set, slice_index_or, unwrap_or, pos}
-use Rattle.edi_calls.specs.Names.{Name, Table, find, with_at}
+use Rattle.std.specs.Prelude.{◌≡◌, ℕ, zero, suc, ◌+◌, ◌-◌, ◌<◌, ◌≤◌, false, List, [], ◌∷◌, ◌++◌, length, take, slice_get, slice_set, slice_index_or, unwrap_or, pos}
+use Rattle.edi_calls.specs.Names.{Name, Table, same, find, with_at}
 use Rattle.edi_calls.specs.Ready.{parent_of}
 use Rattle.edi_unit.specs.Values.{Value, ordinal}
 use Rattle.edi_meaning.specs.Parts.{part_at, with_part}
@@ -158,3 +158,13 @@ ancestor (suc n) p = parent_of (ancestor n p)
 pub record Owns (p r : Name) : Type 0 where
   pub generation : ℕ
   pub is : r ≡ ancestor generation p
+
+-- ---- instances that live
+
+abbrev pub IsLive : Shape → Spot → Type 0
+IsLive F s = s.1 < length (F s.0)
+
+-- t is no newer than s: of the same process and entered no later, or of an ancestor
+pub data Older (t s : Spot) : Type 0 where
+  within : t.0 ≡ s.0 → t.1 ≤ s.1 → Older t s
+  above : same t.0 s.0 ≡ false → Owns s.0 t.0 → Older t s

@@ -1,7 +1,7 @@
 //! What is true of every program, by its meaning. The functions do nothing; their contracts are the laws, which speak of
 //! all units, system states, bounds and choices.
 
-ghost use Rattle.edi_meaning.specs.Laws.{AttemptsAreWhole, CellsArePrivate, EverySelectionEnds, ParentsWait, RecordReplays, SelectIsPermitted, SelectionsAreDetermined, StepsGoOn};
+ghost use Rattle.edi_meaning.specs.Laws.{AttemptsAreWhole, CellsArePrivate, EverySelectionEnds, ParentsWait, RecordReplays, ReferencesLive, SelectIsPermitted, SelectionsAreDetermined, StepsGoOn};
 
 /// Critical phases are executed strictly one at a time: an attempt at a `when` is one step, which leaves its process
 /// behind the whole body, or at the `when` again, and changes nothing else of any process.
@@ -48,4 +48,11 @@ pub fn steps_go_on()
 /// ended.
 pub fn parents_wait()
     ensures law { ParentsWait }
+{}
+
+/// In every state that permitted steps reach from the start, nothing dangles: the static parent of each instance that
+/// lives, and what its `var` and procedure parameters mean, live too, and are of the same process and no newer, or of an
+/// ancestor.
+pub fn references_live()
+    ensures law { ReferencesLive }
 {}
