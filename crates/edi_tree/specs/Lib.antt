@@ -9,3 +9,4 @@ pub mod Depth
 pub mod Printed
 pub mod Printing
 pub mod Scanned
+pub mod Rows

@@ -1,0 +1,5 @@
+//! Worked examples of trees that are printed.
+#![tactic(auto)]
+
+#[cfg(test)]
+mod printing;
