@@ -9,14 +9,14 @@ use Rattle.edi_host.specs.declared.drive.DriveEnd.{DriveEnd}
 use Rattle.edi_host.specs.declared.drive.DriveEnd.TheVariants as drive
 use Rattle.edi_disk.specs.declared.cache.Place.{Place}
 use Rattle.edi_disk.specs.declared.disk.DiskEnd.TheVariants as disk
-use Rattle.edi_disk.specs.Use.{place_of, without_block, with_room, held_place, settled_place, is_listed, AreDifferent, after_use}
+use Rattle.edi_disk.specs.Use.{place_of, without_block, with_room, held_place, settled_place, is_listed, AreDifferent, after_use, first_of_full, driven_out}
 use Rattle.edi_disk.specs.Shown.{over, numbers_of, IsBacked, shown_by}
-use Rattle.edi_disk.specs.Since.{KeptBy, PageGives, PutLeaves, AllOn, Writes}
+use Rattle.edi_disk.specs.Since.{KeptBy, PageGives, PutLeaves, ChangesOnly, AllOn, Writes}
 use Rattle.edi_disk.proofs.Gets.{set_again}
 use Rattle.edi_disk.proofs.Lookup.{place_of_number, place_of_after, place_of_rest, absent_rest, without_absent, absent_listed, place_of_settled, numbers_settled}
 use Rattle.edi_disk.proofs.Numbers.{numbers_after, numbers_room, order_held, order_absent, different_after, different_rest}
 use Rattle.edi_disk.proofs.Over.{AreBelow, length-over, get-over_held, get-over_absent, below_after, below_room, over_after, over_room, over_all, over_settled}
-use Rattle.edi_disk.proofs.Since.{between_set}
+use Rattle.edi_disk.proofs.Since.{between_set, kept_by_settled}
 use Rattle.edi_disk.proofs.Writing.{told, where_told, shown_some, shown_from, many, below_told}
 
 -- a block that is held after the first is driven out was held before
@@ -163,6 +163,13 @@ module _ {D : Type 0} (held : D → Option (List (List ℕ))) (count faults : D 
       → KeptBy held base was_put a ps → KeptBy held base was_put b mid
   still_kept a b ps mid same written base was_put k = written.since base was_put (subst (λ (v : List Place). KeptBy held base was_put a v) (sym same) k)
 
+  -- no block changes on the drive but the one that is driven out
+  pub taken_only : (a b c : D) (ps mid : List Place) (n : ℕ) → mid ≡ ps → place_of n ps ≡ None → WhereTold (held a) (held b) (ChangesOnly (first_of_full (numbers_of mid)))
+      → ((blocks : List (List ℕ)) → held c ≡ Some blocks → held b ≡ Some blocks) → WhereTold (held a) (held c) (ChangesOnly (driven_out n (numbers_of ps)))
+  taken_only a b c ps mid n same none only was = where_told (ChangesOnly (driven_out n (numbers_of ps))) (held a) (held c) (λ new e.
+      let t = told (ChangesOnly (first_of_full (numbers_of mid))) (held a) (held b) new only (was new e) in
+      (t.0, t.1, λ m other. t.2 m (λ h. other (rw (absent_listed n ps none) (subst (λ (v : List Place). first_of_full (numbers_of v) ≡ Some m) same h)))))
+
   -- block n is taken in
   module _ (a b : D) (ps mid new : List Place) (n : ℕ) (q : Place) (same : mid ≡ ps) (lt : n < count a) (none : place_of n ps ≡ None) (written : Writes held count faults mid a b)
       (first : 16 ≤ length mid → AllOn held b (take 1 mid)) (number : q.number ≡ n) (is : new ≡ with_room mid ++ q ∷ []) where
@@ -241,7 +248,7 @@ module _ {D : Type 0} (held : D → Option (List (List ℕ))) (count faults : D 
     unchanged drive.Ok old new h = h.0
     unchanged drive.Failed old new h = h
 
-    old_is : (blocks : List (List ℕ)) → held c ≡ Some blocks → held b ≡ Some blocks
+    pub old_is : (blocks : List (List ℕ)) → held c ≡ Some blocks → held b ≡ Some blocks
     old_is blocks e =
         let t = told (ReadLeaves end n into) (held b) (held c) blocks leaves e in
         t.1 ∙ ap (λ (v : List (List ℕ)). Some v) (sym (unchanged end t.0 blocks t.2))
@@ -305,11 +312,18 @@ module _ {D : Type 0} (held : D → Option (List (List ℕ))) (count faults : D 
             let same : over blocks new ≡ blocks = flush_over blocks ∙ over_all blocks ps (below b ps blocks written.backed e) (all blocks e) in
             e ∙ ap (λ (v : List (List ℕ)). Some v) (sym same) ∙ sym (shown_some held b new blocks e)
 
+    pub flush_begins : (was_put : ℕ → List ℕ → Bool) (base : List (List ℕ)) → held b ≡ Some base → KeptBy held base was_put b new
+    flush_begins was_put base e = kept_by_settled held base was_put b new e (sym flush_settles ∙ e)
+
     pub flush_since : (base : List (List ℕ)) (was_put : ℕ → List ℕ → Bool) → KeptBy held base was_put a ps → KeptBy held base was_put b new
     flush_since base was_put k = shows_same b ps new (λ blocks e. flush_over blocks) base was_put (written.since base was_put k)
 
     pub flush_order : numbers_of new ≡ numbers_of ps
     flush_order = rw is (numbers_settled ps)
+
+  -- no block is held
+  pub attach_begins : (a : D) (ps : List Place) → ps ≡ [] → (was_put : ℕ → List ℕ → Bool) (base : List (List ℕ)) → held a ≡ Some base → KeptBy held base was_put a ps
+  attach_begins a ps none was_put base e = kept_by_settled held base was_put a ps e (shown_some held a ps base e ∙ ap (λ (v : List Place). Some (over base v)) none)
 
   pub shown_counted : (a : D) (ps : List Place) → IfSome (shown_by held a ps) (λ blocks. length blocks ≡ count a)
   shown_counted a ps = at (held a) (counted a)

@@ -6,8 +6,9 @@ use Rattle.std.proofs.lemmas.Bool.{ne_eqb, cases_eq, cases_lt, and_parts, false�
 use Rattle.std.proofs.lemmas.Slice.Eq.{bytes_eq-Decides}
 use Rattle.std.proofs.lemmas.Option.{slice_get_cases, slice_get_within, slice_get_past}
 use Rattle.edi_disk.specs.declared.disk.Disk.{Disk}
-use Rattle.edi_disk.specs.Shown.{shown, drive_of}
-use Rattle.edi_disk.specs.Since.{Between, Kept, nothing, only}
+use Rattle.edi_disk.specs.declared.cache.Place.{Place}
+use Rattle.edi_disk.specs.Shown.{shown, shown_by, drive_of}
+use Rattle.edi_disk.specs.Since.{Between, KeptBy, Kept, nothing, only}
 use Rattle.edi_disk.proofs.Gets.{get-set_same, get-set_other, same_gets}
 
 pub between_itself : (base : List (List ℕ)) (was_put : ℕ → List ℕ → Bool) → Between base was_put base
@@ -86,10 +87,14 @@ between_only base blocks n bytes h = at (slice_get blocks n) refl
               inr (new (e ∙ ap (λ (v : List ℕ). Some v) (sym is)))
         ]
 
--- where the drive has what the disk shows, nothing was put since these blocks
-pub kept_settled : {D : Type 0} (held : D → Option (List (List ℕ))) (base : List (List ℕ)) (was_put : ℕ → List ℕ → Bool) (disk : Disk D)
-    → held (drive_of disk) ≡ Some base → shown held disk ≡ Some base → Kept held base was_put disk
-kept_settled held base was_put disk on_drive on_disk = record {
+-- where the drive has what is shown, nothing was put since these blocks
+pub kept_by_settled : {D : Type 0} (held : D → Option (List (List ℕ))) (base : List (List ℕ)) (was_put : ℕ → List ℕ → Bool) (drive : D) (places : List Place)
+    → held drive ≡ Some base → shown_by held drive places ≡ Some base → KeptBy held base was_put drive places
+kept_by_settled held base was_put drive places on_drive on_disk = record {
   on_drive = λ blocks e. let same : blocks ≡ base = cc in rw same (between_itself base was_put);
   on_disk = λ blocks e. let same : blocks ≡ base = cc in rw same (between_itself base was_put);
 }
+
+pub kept_settled : {D : Type 0} (held : D → Option (List (List ℕ))) (base : List (List ℕ)) (was_put : ℕ → List ℕ → Bool) (disk : Disk D)
+    → held (drive_of disk) ≡ Some base → shown held disk ≡ Some base → Kept held base was_put disk
+kept_settled held base was_put disk on_drive on_disk = kept_by_settled held base was_put (drive_of disk) disk.cache on_drive on_disk

@@ -2,16 +2,18 @@
 use Rattle.std.proofs.Common.{◌≡◌, ◌⊎◌, ℕ, ◌+◌, ◌<◌, ◌≤◌, inl, inr, false, List, [], ◌∷◌, ◌++◌, length, take, refl, sym, ◌∙◌, ap, subst, arith, set}
 use Rattle.std.specs.Prelude.{Option, Some, None, IfSome, slice_get}
 use Rattle.std.specs.Option.{option_map}
-use Rattle.std.proofs.lemmas.Bool.{cases_eq}
+use Rattle.std.proofs.lemmas.Bool.{cases_eq, le-ltb}
+use Rattle.std.proofs.lemmas.List.{length-map}
+use Rattle.std.proofs.lemmas.Option.{slice_get-map}
 use Rattle.edi_told.specs.Told.{WhereTold}
 use Rattle.edi_told.proofs.Told.{WhereTold-then}
 use Rattle.edi_host.specs.Blocks.{WriteLeaves}
 use Rattle.edi_host.specs.declared.drive.DriveEnd.{DriveEnd}
 use Rattle.edi_host.specs.declared.drive.DriveEnd.TheVariants as drive
 use Rattle.edi_disk.specs.declared.cache.Place.{Place}
-use Rattle.edi_disk.specs.Use.{place_of}
-use Rattle.edi_disk.specs.Shown.{over, IsBacked, shown_by}
-use Rattle.edi_disk.specs.Since.{AllOn, Writes}
+use Rattle.edi_disk.specs.Use.{place_of, first_of_full}
+use Rattle.edi_disk.specs.Shown.{over, numbers_of, IsBacked, shown_by}
+use Rattle.edi_disk.specs.Since.{AllOn, ChangesOnly, Writes}
 use Rattle.edi_disk.proofs.Gets.{get-set_same, get-set_other, take_one_more, take_no_more}
 use Rattle.edi_disk.proofs.Lookup.{place_of_at, place_of_take, place_of_front}
 use Rattle.edi_disk.proofs.Over.{AreBelow, get-over_held, over_written}
@@ -43,6 +45,11 @@ shown_from held drive ps s e = at (held drive) refl e
 pub leaves_cases : (end : DriveEnd) (n : ℕ) (v : List ℕ) (old new : List (List ℕ)) → WriteLeaves end n v old new → (new ≡ old) ⊎ (new ≡ set old n v)
 leaves_cases drive.Ok n v old new h = inr h
 leaves_cases drive.Failed n v old new h = h
+
+one_changed : (out : Option ℕ) (k : ℕ) (v : List ℕ) (old new : List (List ℕ)) → out ≡ Some k → (new ≡ old) ⊎ (new ≡ set old k v) → ChangesOnly out old new
+one_changed out k v old new is (inl same) = λ n other. ap (λ (b : List (List ℕ)). slice_get b n) same
+one_changed out k v old new is (inr wrote) = λ n other.
+    ap (λ (b : List (List ℕ)). slice_get b n) wrote ∙ get-set_other old k n v (λ h. other (is ∙ ap (λ (m : ℕ). Some m) h))
 
 module _ {D : Type 0} (held : D → Option (List (List ℕ))) (count faults : D → ℕ) (counted : (drive : D) → IfSome (held drive) (λ blocks. length blocks ≡ count drive)) where
   pub many : (drive : D) (b : List (List ℕ)) → held drive ≡ Some b → length b ≡ count drive
@@ -179,3 +186,17 @@ module _ {D : Type 0} (held : D → Option (List (List ℕ))) (count faults : D 
   -- there is no such block
   pub more_none : (ps : List Place) (a : D) (i : ℕ) → slice_get ps i ≡ None → AllOn held a (take i ps) → AllOn held a (take (i + 1) ps)
   more_none ps a i none on = rw (take_no_more ps i none) on
+
+  -- nothing is written, or one block
+  pub only_none : (a : D) (out : Option ℕ) → WhereTold (held a) (held a) (ChangesOnly out)
+  only_none a out = where_told (ChangesOnly out) (held a) (held a) (λ y e. (y, e, λ n other. refl))
+
+  pub only_one : (ps : List Place) (a b : D) (end : DriveEnd) (i : ℕ) (p : Place) → slice_get ps i ≡ Some p
+      → WhereTold (held a) (held b) (WriteLeaves end p.number p.bytes) → WhereTold (held a) (held b) (ChangesOnly (slice_get (numbers_of ps) i))
+  only_one ps a b end i p at leaves = where_told (ChangesOnly (slice_get (numbers_of ps) i)) (held a) (held b) (λ new e.
+      let t = told (WriteLeaves end p.number p.bytes) (held a) (held b) new leaves e in
+      let is : slice_get (numbers_of ps) i ≡ Some p.number = slice_get-map (λ (q : Place). q.number) ps i ∙ ap (λ (o : Option Place). option_map (λ (q : Place). q.number) o) at in
+      (t.0, t.1, one_changed (slice_get (numbers_of ps) i) p.number p.bytes t.0 new is (leaves_cases end p.number p.bytes t.0 new t.2)))
+
+  pub only_first : (ps : List Place) (a b : D) → 16 ≤ length ps → WhereTold (held a) (held b) (ChangesOnly (slice_get (numbers_of ps) 0)) → WhereTold (held a) (held b) (ChangesOnly (first_of_full (numbers_of ps)))
+  only_first ps a b full h = rw (le-ltb (length (numbers_of ps)) 16 (omega (arith, length-map ps (λ (q : Place). q.number)))) h

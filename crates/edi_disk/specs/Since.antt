@@ -33,6 +33,10 @@ pub record KeptBy {D : Type 0} (held : D → Option (List (List ℕ))) (base : L
 abbrev pub Kept : {D : Type 0} → (D → Option (List (List ℕ))) → List (List ℕ) → (ℕ → List ℕ → Bool) → Disk D → Type 0
 Kept held base was_put disk = KeptBy held base was_put (drive_of disk) disk.cache
 
+-- every block but this one, if there is one, is as it was
+abbrev pub ChangesOnly : Option ℕ → List (List ℕ) → List (List ℕ) → Type 0
+ChangesOnly out old new = (n : ℕ) → (out ≡ Some n → ⊥) → slice_get new n ≡ slice_get old n
+
 -- on Ok a page changes nothing that is shown, and gives its block; after a fault nothing is known
 abbrev pub PageGives : DiskEnd → ℕ → List ℕ → List (List ℕ) → List (List ℕ) → Type 0
 PageGives disk.Ok n into old new = (new ≡ old) × (slice_get old n ≡ Some into)

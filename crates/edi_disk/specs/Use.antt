@@ -1,5 +1,5 @@
 -- The held blocks, the one used longest ago first.
-use Rattle.std.specs.Prelude.{◌≡◌, ℕ, Bool, false, nat_lt, nat_eq, not, if◌then◌else◌, Option, List, [], ◌∷◌, ◌++◌, length, filter, drop, ⊤}
+use Rattle.std.specs.Prelude.{◌≡◌, ℕ, Bool, false, nat_lt, nat_eq, not, if◌then◌else◌, Option, List, [], ◌∷◌, ◌++◌, length, filter, drop, slice_get, None, ⊤}
 use Rattle.std.specs.List.{find, list_any}
 use Rattle.edi_disk.specs.declared.cache.Place.{Place}
 
@@ -36,3 +36,11 @@ AreDifferent (n ∷ numbers) = (is_listed n numbers ≡ false) × AreDifferent n
 -- 16 others were held
 abbrev pub after_use : ℕ → List ℕ → List ℕ
 after_use n numbers = with_room (filter (λ other. not (nat_eq n other)) numbers) ++ n ∷ []
+
+-- the first of 16 numbers
+abbrev pub first_of_full : List ℕ → Option ℕ
+first_of_full numbers = if nat_lt (length numbers) 16 then None else slice_get numbers 0
+
+-- the block that a use of block n drives out, if it drives out one
+abbrev pub driven_out : ℕ → List ℕ → Option ℕ
+driven_out n numbers = if is_listed n numbers then None else first_of_full numbers

@@ -1,11 +1,12 @@
 //! The disk.
 
 ghost use Rattle.std.specs.Prelude.{◌≡◌, ℕ, ◌<◌, ◌≤◌, ◌+◌, [], Bool, true, List, IfSome, length, take, slice_get};
+ghost use Rattle.std.specs.Option.{ForSome};
 ghost use Rattle.edi_told.specs.Faults.{Rose};
 ghost use Rattle.edi_told.specs.Told.{WhereTold};
-ghost use Rattle.edi_disk.specs.Use.{after_use, is_listed};
-ghost use Rattle.edi_disk.specs.Shown.{shown, numbers_held, drive_of, reference_of, IsWorking, IsBacked};
-ghost use Rattle.edi_disk.specs.Since.{Kept, PageGives, PutLeaves, AllOn, Writes};
+ghost use Rattle.edi_disk.specs.Use.{after_use, is_listed, first_of_full, driven_out};
+ghost use Rattle.edi_disk.specs.Shown.{shown, numbers_held, drive_of, reference_of, IsWorking, IsBacked, numbers_of};
+ghost use Rattle.edi_disk.specs.Since.{Kept, PageGives, PutLeaves, ChangesOnly, AllOn, Writes};
 
 use crate::cache::{Cache, PLACES};
 use edi_host::{Drive, DriveEnd};
@@ -33,6 +34,7 @@ pub struct Disk<'a, D: Drive> {
 fn write_one<D: Drive>(drive: &mut D, cache: &Cache, i: usize) -> DiskEnd
     requires { IsBacked D.held D.count drive.old cache.now }
     ensures writes { Writes D.held D.count D.faults cache.now drive.old drive.new }
+    ensures only { WhereTold (D.held drive.old) (D.held drive.new) (ChangesOnly (slice_get (numbers_of cache.now) i)) }
     ensures more { result ≡ DiskEnd.Ok → AllOn D.held drive.old (take i cache.now) → AllOn D.held drive.new (take (i + 1) cache.now) }
     ensures cause { result ≡ DiskEnd.Fault → Rose (D.faults drive.old) (D.faults drive.new) }
 {
@@ -52,6 +54,7 @@ fn write_one<D: Drive>(drive: &mut D, cache: &Cache, i: usize) -> DiskEnd
 fn make_room<D: Drive>(drive: &mut D, cache: &Cache) -> DiskEnd
     requires { IsBacked D.held D.count drive.old cache.now }
     ensures writes { Writes D.held D.count D.faults cache.now drive.old drive.new }
+    ensures only { WhereTold (D.held drive.old) (D.held drive.new) (ChangesOnly (first_of_full (numbers_of cache.now))) }
     ensures first { result ≡ DiskEnd.Ok → 16 ≤ length cache.now → AllOn D.held drive.new (take 1 cache.now) }
     ensures idle { length cache.now < 16 → (result ≡ DiskEnd.Ok) × (drive.new ≡ drive.old) }
     ensures cause { result ≡ DiskEnd.Fault → Rose (D.faults drive.old) (D.faults drive.new) }
@@ -86,6 +89,8 @@ impl<'a, D: Drive> Disk<'a, D> {
         ensures same_drive { drive_of result ≡ drive.old }
         ensures works { IsWorking D.held D.count result }
         ensures shows { shown D.held result ≡ D.held drive.old }
+        // From here on each block is as it is now, or is one that is put.
+        ensures begins { (was_put : ℕ → List ℕ → Bool) → ForSome (D.held drive.old) (λ base. Kept D.held base was_put result) }
         ensures holds_none { numbers_held result ≡ [] }
     {
         Disk {
@@ -118,8 +123,11 @@ impl<'a, D: Drive> Disk<'a, D> {
         ensures works { result ≡ DiskEnd.Ok → IsWorking D.held D.count self.new }
         // On Ok the disk shows what it showed, and `into` has its block n.
         ensures gives { WhereTold (shown D.held self.old) (shown D.held self.new) (PageGives result n into.new) }
-        // Whatever the answer: what the drive has is of the last flush, or was put since.
+        // Whatever the answer: each block that the drive has is as it was at the last flush that was Ok (or at
+        // `attach`), or was put since.
         ensures since { (base : List (List ℕ)) (was_put : ℕ → List ℕ → Bool) → Kept D.held base was_put self.old → Kept D.held base was_put self.new }
+        // No block changes on the drive but the one that is driven out.
+        ensures drives_out { WhereTold (D.held (drive_of self.old)) (D.held (drive_of self.new)) (ChangesOnly (driven_out n (numbers_held self.old))) }
         ensures order { result ≡ DiskEnd.Ok → numbers_held self.new ≡ after_use n (numbers_held self.old) }
         ensures without_drive { is_listed n (numbers_held self.old) ≡ true → (result ≡ DiskEnd.Ok) × (drive_of self.new ≡ drive_of self.old) }
         ensures count { D.count (drive_of self.new) ≡ D.count (drive_of self.old) }
@@ -149,11 +157,13 @@ impl<'a, D: Drive> Disk<'a, D> {
         ensures works { result ≡ DiskEnd.Ok → IsWorking D.held D.count self.new }
         // On Ok the disk shows these bytes in block n, and every other block as before.
         ensures shows { WhereTold (shown D.held self.old) (shown D.held self.new) (PutLeaves result n from.now) }
-        // Whatever the answer: what the drive has is of the last flush, or was put since, now or earlier.
+        // Whatever the answer: the same, where what is put now is among what was put.
         ensures since { (base : List (List ℕ)) (was_put : ℕ → List ℕ → Bool) → was_put n from.now ≡ true → Kept D.held base was_put self.old → Kept D.held base was_put self.new }
+        // No block changes on the drive but the one that is driven out.
+        ensures drives_out { WhereTold (D.held (drive_of self.old)) (D.held (drive_of self.new)) (ChangesOnly (driven_out n (numbers_held self.old))) }
         ensures order { result ≡ DiskEnd.Ok → numbers_held self.new ≡ after_use n (numbers_held self.old) }
         ensures without_drive { is_listed n (numbers_held self.old) ≡ true → (result ≡ DiskEnd.Ok) × (drive_of self.new ≡ drive_of self.old) }
-        // Nothing is written before a block is driven out.
+        // Where fewer than 16 are held, no call is made on the drive.
         ensures not_yet { length (numbers_held self.old) < 16 → (result ≡ DiskEnd.Ok) × (drive_of self.new ≡ drive_of self.old) }
         ensures count { D.count (drive_of self.new) ≡ D.count (drive_of self.old) }
         ensures later { D.faults (drive_of self.old) ≤ D.faults (drive_of self.new) }
@@ -178,6 +188,9 @@ impl<'a, D: Drive> Disk<'a, D> {
         ensures works { result ≡ DiskEnd.Ok → IsWorking D.held D.count self.new }
         ensures shows { WhereTold (shown D.held self.old) (shown D.held self.new) (λ old new. result ≡ DiskEnd.Ok → new ≡ old) }
         ensures settles { result ≡ DiskEnd.Ok → D.held (drive_of self.new) ≡ shown D.held self.new }
+        // From an Ok on each block is as it is now, or is one that is put.
+        ensures begins { result ≡ DiskEnd.Ok → (was_put : ℕ → List ℕ → Bool) → ForSome (D.held (drive_of self.new)) (λ base. Kept D.held base was_put self.new) }
+        // Whatever the answer: each block that the drive has is as it was at an earlier flush, or was put since.
         ensures since { (base : List (List ℕ)) (was_put : ℕ → List ℕ → Bool) → Kept D.held base was_put self.old → Kept D.held base was_put self.new }
         ensures order { numbers_held self.new ≡ numbers_held self.old }
         ensures count { D.count (drive_of self.new) ≡ D.count (drive_of self.old) }

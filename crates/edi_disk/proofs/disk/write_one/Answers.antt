@@ -34,3 +34,15 @@ pub returns-in-Failed-clause-writes : goal.returns-in-Failed-clause-writes
 returns-in-Failed-clause-writes g c =
     writing.writes_one g.D.Drive.held g.D.Drive.count g.D.Drive.faults g.met.D.Drive.counted c.args.cache.now c.args.drive.now c.write.new.self _ c.args.i c.in-Some.place.now c.requires
     (sym c.get.ensures ∙ ap (λ (o : Option (Bor Place)). option_copied o) c.in-Some.is) c.write.ensures.leaves c.write.ensures.count c.write.ensures.later
+
+pub returns-in_default-clause-only : goal.returns-in_default-clause-only
+returns-in_default-clause-only g c = writing.only_none g.D.Drive.held g.D.Drive.count g.D.Drive.faults g.met.D.Drive.counted c.args.drive.now _
+
+pub returns-then-not-place-clause-only : goal.returns-then-not-place-clause-only
+returns-then-not-place-clause-only g c = writing.only_none g.D.Drive.held g.D.Drive.count g.D.Drive.faults g.met.D.Drive.counted c.args.drive.now _
+
+pub returns-in-Ok-clause-only : goal.returns-in-Ok-clause-only
+returns-in-Ok-clause-only g c = writing.only_one g.D.Drive.held g.D.Drive.count g.D.Drive.faults g.met.D.Drive.counted c.args.cache.now c.args.drive.now c.write.new.self _ c.args.i c.in-Some.place.now (sym c.get.ensures ∙ ap (λ (o : Option (Bor Place)). option_copied o) c.in-Some.is) c.write.ensures.leaves
+
+pub returns-in-Failed-clause-only : goal.returns-in-Failed-clause-only
+returns-in-Failed-clause-only g c = writing.only_one g.D.Drive.held g.D.Drive.count g.D.Drive.faults g.met.D.Drive.counted c.args.cache.now c.args.drive.now c.write.new.self _ c.args.i c.in-Some.place.now (sym c.get.ensures ∙ ap (λ (o : Option (Bor Place)). option_copied o) c.in-Some.is) c.write.ensures.leaves

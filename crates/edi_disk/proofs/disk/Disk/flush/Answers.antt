@@ -15,3 +15,6 @@ returns-in-Ok-clause-since g c = calls.flush_since g.D.Drive.held g.D.Drive.coun
 
 pub returns-in-Ok-clause-order : goal.returns-in-Ok-clause-order
 returns-in-Ok-clause-order g c = calls.flush_order g.D.Drive.held g.D.Drive.count g.D.Drive.faults g.met.D.Drive.counted c.args.self.now.drive.now c.write_all.new.drive c.args.self.now.cache c.settle.new.self c.write_all.ensures.writes (c.write_all.ensures.all c.in-Ok.is) c.settle.ensures
+
+pub returns-in-Ok-clause-begins : goal.returns-in-Ok-clause-begins
+returns-in-Ok-clause-begins g c = λ _. calls.flush_begins g.D.Drive.held g.D.Drive.count g.D.Drive.faults g.met.D.Drive.counted c.args.self.now.drive.now c.write_all.new.drive c.args.self.now.cache c.settle.new.self c.write_all.ensures.writes (c.write_all.ensures.all c.in-Ok.is) c.settle.ensures

@@ -1,5 +1,6 @@
 use Rattle.std.proofs.Common.{◌≤◌, length, take, refl, false}
-use Rattle.edi_disk.specs.Use.{held_place}
+use Rattle.edi_disk.specs.Use.{held_place, driven_out}
+use Rattle.edi_disk.specs.Shown.{numbers_of}
 use Rattle.edi_disk.proofs.Calls as calls
 use Rattle.edi_disk.proofs.Writing as writing
 use Rattle.edi_disk.proofs.disk.Disk.page.Goals as goal
@@ -71,3 +72,21 @@ returns-in-Fault-clause-since g c =
 
 pub returns-in-Fault-clause-without_drive : goal.returns-in-Fault-clause-without_drive
 returns-in-Fault-clause-without_drive g c = λ listed. calls.not_listed g.D.Drive.held g.D.Drive.count g.D.Drive.faults g.met.D.Drive.counted c.args.self.now.cache c.args.n (c.recall.ensures.absent c.if-recall.false).0 listed
+
+pub returns-then-recall-clause-drives_out : goal.returns-then-recall-clause-drives_out
+returns-then-recall-clause-drives_out g c = writing.only_none g.D.Drive.held g.D.Drive.count g.D.Drive.faults g.met.D.Drive.counted c.args.self.now.drive.now (driven_out c.args.n (numbers_of c.args.self.now.cache))
+
+pub returns-in-Ok-read-clause-drives_out : goal.returns-in-Ok-read-clause-drives_out
+returns-in-Ok-read-clause-drives_out g c =
+    let f = c.recall.ensures.absent c.if-recall.false in
+    calls.taken_only g.D.Drive.held g.D.Drive.count g.D.Drive.faults g.met.D.Drive.counted c.args.self.now.drive.now c.make_room.new.drive c.read.new.self c.args.self.now.cache c.recall.new.self c.args.n f.1 f.0 c.make_room.ensures.only (calls.old_is g.D.Drive.held g.D.Drive.count g.D.Drive.faults g.met.D.Drive.counted c.make_room.new.drive c.read.new.self c.recall.new.self c.args.n c.read.new.into _ c.read.ensures.leaves c.read.ensures.count c.read.ensures.later)
+
+pub returns-in-Failed-clause-drives_out : goal.returns-in-Failed-clause-drives_out
+returns-in-Failed-clause-drives_out g c =
+    let f = c.recall.ensures.absent c.if-recall.false in
+    calls.taken_only g.D.Drive.held g.D.Drive.count g.D.Drive.faults g.met.D.Drive.counted c.args.self.now.drive.now c.make_room.new.drive c.read.new.self c.args.self.now.cache c.recall.new.self c.args.n f.1 f.0 c.make_room.ensures.only (calls.old_is g.D.Drive.held g.D.Drive.count g.D.Drive.faults g.met.D.Drive.counted c.make_room.new.drive c.read.new.self c.recall.new.self c.args.n c.read.new.into _ c.read.ensures.leaves c.read.ensures.count c.read.ensures.later)
+
+pub returns-in-Fault-clause-drives_out : goal.returns-in-Fault-clause-drives_out
+returns-in-Fault-clause-drives_out g c =
+    let f = c.recall.ensures.absent c.if-recall.false in
+    calls.taken_only g.D.Drive.held g.D.Drive.count g.D.Drive.faults g.met.D.Drive.counted c.args.self.now.drive.now c.make_room.new.drive c.make_room.new.drive c.args.self.now.cache c.recall.new.self c.args.n f.1 f.0 c.make_room.ensures.only (λ _ e. e)

@@ -1,5 +1,7 @@
 use Rattle.std.proofs.Common.{refl, true}
-use Rattle.edi_disk.specs.Use.{held_place}
+use Rattle.edi_disk.specs.Use.{held_place, driven_out}
+use Rattle.edi_disk.specs.Shown.{numbers_of}
+use Rattle.edi_disk.proofs.Writing as writing
 use Rattle.edi_disk.proofs.Calls as calls
 use Rattle.edi_disk.proofs.disk.Disk.put_page.Goals as goal
 
@@ -37,3 +39,16 @@ returns-in-Fault-clause-since g c =
 
 pub returns-in-Fault-clause-without_drive : goal.returns-in-Fault-clause-without_drive
 returns-in-Fault-clause-without_drive g c = λ listed. calls.not_listed g.D.Drive.held g.D.Drive.count g.D.Drive.faults g.met.D.Drive.counted c.args.self.now.cache c.args.n (c.replace.ensures.absent c.if-replace.false).0 listed
+
+pub returns-then-replace-clause-drives_out : goal.returns-then-replace-clause-drives_out
+returns-then-replace-clause-drives_out g c = writing.only_none g.D.Drive.held g.D.Drive.count g.D.Drive.faults g.met.D.Drive.counted c.args.self.now.drive.now (driven_out c.args.n (numbers_of c.args.self.now.cache))
+
+pub returns-in-Ok-clause-drives_out : goal.returns-in-Ok-clause-drives_out
+returns-in-Ok-clause-drives_out g c =
+    let f = c.replace.ensures.absent c.if-replace.false in
+    calls.taken_only g.D.Drive.held g.D.Drive.count g.D.Drive.faults g.met.D.Drive.counted c.args.self.now.drive.now c.make_room.new.drive c.make_room.new.drive c.args.self.now.cache c.replace.new.self c.args.n f.1 f.0 c.make_room.ensures.only (λ _ e. e)
+
+pub returns-in-Fault-clause-drives_out : goal.returns-in-Fault-clause-drives_out
+returns-in-Fault-clause-drives_out g c =
+    let f = c.replace.ensures.absent c.if-replace.false in
+    calls.taken_only g.D.Drive.held g.D.Drive.count g.D.Drive.faults g.met.D.Drive.counted c.args.self.now.drive.now c.make_room.new.drive c.make_room.new.drive c.args.self.now.cache c.replace.new.self c.args.n f.1 f.0 c.make_room.ensures.only (λ _ e. e)
