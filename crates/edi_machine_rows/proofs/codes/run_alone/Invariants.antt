@@ -1,0 +1,11 @@
+use Rattle.std.proofs.Common.{◌≡◌, None}
+use Rattle.edi_calls.specs.MemoryCalls.{failed_of}
+use Rattle.edi_machine.specs.Activities.{IsOrdered}
+use Rattle.edi_machine_rows.proofs.codes.run_alone.Given as goal
+
+-- nothing has failed
+abbrev pub invariant-loop : goal.invariant-loop
+invariant-loop l = record {
+  working : failed_of l.calls ≡ None;
+  ordered : IsOrdered l.activity;
+}
