@@ -1,0 +1,9 @@
+pub mod Build
+pub mod Ends
+pub mod Entries
+pub mod Formatted
+pub mod Image
+pub mod Laws
+pub mod OldImage
+pub mod Rules
+pub mod Titles
