@@ -1,0 +1,9 @@
+pub mod Gets
+pub mod Lookup
+pub mod Numbers
+pub mod Order
+pub mod Over
+pub mod Since
+pub mod View
+pub mod Writing
+pub mod Calls
