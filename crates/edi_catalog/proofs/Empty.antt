@@ -10,8 +10,9 @@ use Rattle.std.proofs.lemmas.Bool.{le-leb}
 use Rattle.edi_host.specs.Blocks.{zero_block, resized}
 use Rattle.edi_catalog.specs.declared.faults.MountFault.TheVariants as fault
 use Rattle.edi_catalog.specs.Rules.{needs, first_broken}
-use Rattle.edi_catalog.specs.Entries.{free, block_at, entry_says}
-use Rattle.edi_catalog.specs.Image.{header_block, header_rules, slot_in, slot_rules, entry_at, entries_from, image_rules, slots_of, Holds}
+use Rattle.edi_catalog.specs.declared.entries.Said.TheVariants.{Free}
+use Rattle.edi_catalog.specs.Entries.{block_at, entry_says}
+use Rattle.edi_catalog.specs.Image.{header_block, header_rules, slot_in, slot_rules, entry_at, entries_from, entries_of, image_rules, slots_of, Holds}
 use Rattle.edi_catalog.specs.Formatted.{new_catalogue, new_block, formatted, no_files}
 
 -- one more block is written
@@ -64,23 +65,23 @@ zero_entry header rest slot h =
     ∙ ap (take 64) (drop-replicate (64 * (slot % 8)) 512 0)
     ∙ take-replicate 64 (512 - 64 * (slot % 8)) 0 (omega arith)
 
-zero_says : (count : ℕ) (bytes : List ℕ) → bytes ≡ replicate 64 0 → entry_says count bytes ≡ free
+zero_says : (count : ℕ) (bytes : List ℕ) → bytes ≡ replicate 64 0 → entry_says count bytes ≡ Free
 zero_says count bytes e = ap (entry_says count) e
 
 all_free : (header : List ℕ) (rest : List (List ℕ)) (slot n : ℕ) → slot + n ≤ 256
-    → entries_from (header ∷ (replicate 32 zero_block ++ rest)) slot n ≡ replicate n free
+    → entries_from (header ∷ (replicate 32 zero_block ++ rest)) slot n ≡ replicate n Free
 all_free header rest slot zero h = refl
 all_free header rest slot (suc n) h =
     ap (λ s. s ∷ entries_from (header ∷ (replicate 32 zero_block ++ rest)) (slot + 1) n)
     (zero_says _ _ (zero_entry header rest slot (omega arith)))
-    ∙ ap (λ ss. free ∷ ss) (all_free header rest (slot + 1) n (omega arith))
+    ∙ ap (λ ss. Free ∷ ss) (all_free header rest (slot + 1) n (omega arith))
 
 free_rules : (first : ℕ) (blocks : List (List ℕ)) (slot : ℕ) (titles : List (List ℕ)) (n : ℕ)
-    → slot_rules first blocks slot titles (replicate n free) ≡ []
+    → slot_rules first blocks slot titles (replicate n Free) ≡ []
 free_rules first blocks slot titles zero = refl
-free_rules first blocks slot titles (suc n) = free_rules first blocks (slot + 1) titles n
+free_rules first blocks slot titles (suc n) = free_rules first blocks (slot + 1) (titles ++ []) n
 
-free_slots : (blocks : List (List ℕ)) (n : ℕ) → map (slot_in blocks) (replicate n free) ≡ replicate n None
+free_slots : (blocks : List (List ℕ)) (n : ℕ) → map (slot_in blocks) (replicate n Free) ≡ replicate n None
 free_slots blocks zero = refl
 free_slots blocks (suc n) = ap (λ ss. None ∷ ss) (free_slots blocks n)
 
@@ -93,12 +94,12 @@ header_true n xs ys h e = rw (le-leb n 4096 h) ((bytes_eq-Decides xs ys).1 e)
 -- a drive with the catalogue of no files, and any blocks behind it
 catalogue_holds : (count : ℕ) (rest : List (List ℕ)) → count ≡ 33 + length rest → 64 ≤ count → count ≤ 4096
     → Holds (new_catalogue count ++ rest) no_files
-unfolding new_catalogue no_files image_rules slots_of
+unfolding new_catalogue no_files image_rules slots_of entries_of
 catalogue_holds count rest size least most =
     let blocks : List (List ℕ) = header_block 2 count ∷ (replicate 32 zero_block ++ rest) in
     let long : length blocks ≡ count =
     ap suc (length-append (replicate 32 zero_block) rest) ∙ ap (λ n. suc (n + length rest)) (length-replicate 32 zero_block) ∙ omega (arith, size) in
-    let entries : entries_from blocks 0 256 ≡ replicate 256 free = all_free (header_block 2 count) rest 0 256 (omega arith) in
+    let entries : entries_from blocks 0 256 ≡ replicate 256 Free = all_free (header_block 2 count) rest 0 256 (omega arith) in
     let rules : header_rules 2 blocks ++ slot_rules 33 blocks 0 [] (entries_from blocks 0 256) ≡ header_rules 2 blocks =
     ap (λ es. header_rules 2 blocks ++ slot_rules 33 blocks 0 [] es) entries
     ∙ ap (λ rs. header_rules 2 blocks ++ rs) (free_rules 33 blocks 0 [] 256) in

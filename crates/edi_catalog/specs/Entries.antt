@@ -1,9 +1,12 @@
 -- The numbers in a block, and what the bytes of an entry say. Numbers stand with their high byte first.
-use Rattle.std.specs.Prelude.{ℕ, suc, ◌+◌, ◌*◌, ◌^◌, Bool, ◌&&◌, ◌||◌, ◌==◌, nat_lt, nat_le, if◌then◌else◌, List, [], ◌∷◌, take, drop, slice_index, slice_index_or}
+use Rattle.std.specs.Prelude.{ℕ, suc, ◌+◌, ◌*◌, ◌^◌, Bool, ◌&&◌, ◌||◌, ◌==◌, nat_lt, nat_le, if◌then◌else◌, List, [], ◌∷◌, take, drop, slice_index, slice_index_or, Option, Some, None}
 use Rattle.std.specs.List.{list_all}
 use Rattle.edi_calls.specs.State.{is_title, without_blanks, most_bytes, pages_of}
 use Rattle.edi_calls.specs.declared.kinds.FileKind.{FileKind}
 use Rattle.edi_calls.specs.declared.kinds.FileKind.TheVariants as kind
+use Rattle.edi_catalog.specs.Records.{FileRecord, maps_of}
+use Rattle.edi_catalog.specs.declared.entries.Said.{Said}
+use Rattle.edi_catalog.specs.declared.entries.Said.TheVariants as said
 
 -- the number of two, or of four, bytes that stand from an address on
 abbrev pub short_at : List ℕ → ℕ → ℕ
@@ -31,22 +34,17 @@ is_data first count block = nat_le first block && nat_lt block count
 
 -- ---- entries
 
--- what an entry says of a file: its title, without blanks; its map blocks in their order; its number of bytes
-pub record FileRecord : Type 0 where
-  pub title : List ℕ
-  pub kind : FileKind
-  pub protected : Bool
-  pub maps : List ℕ
-  pub length : ℕ
-
--- an entry is free, or it breaks a rule of its own, or it is that of a file
-pub data Said : Type 0 where
-  free : Said
-  wrong : Said
-  file : FileRecord → Said
+-- An entry is free, or it breaks a rule of its own, or it is that of a file.
 
 abbrev pub kind_of : ℕ → FileKind
 kind_of number = if number == 1 then kind.Text else kind.Code
+
+-- a second map is there exactly where there are more than 255 pages
+abbrev pub is_second_map : (count length : ℕ) → ℕ → Bool
+is_second_map count length map = if nat_le (pages_of length) 255 then map == 0 else is_data 33 count map
+
+abbrev pub second_map : (length : ℕ) → ℕ → Option ℕ
+second_map length map = if nat_le (pages_of length) 255 then None else Some map
 
 -- An entry of 64 bytes:
 --
@@ -59,29 +57,31 @@ kind_of number = if number == 1 then kind.Text else kind.Code
 --     bytes 34 to 63    zeros
 --
 -- `count` is the number of the drive's blocks.
-abbrev pub is_entry : (count : ℕ) → List ℕ → Bool
-is_entry count bytes =
-    is_title (without_blanks (take 24 bytes))
-    && (slice_index bytes 24 == 1 || slice_index bytes 24 == 2)
+abbrev pub fields_fit : (count : ℕ) → List ℕ → Bool
+fields_fit count bytes =
+    (slice_index bytes 24 == 1 || slice_index bytes 24 == 2)
     && nat_le (slice_index bytes 25) 1
     && nat_le (long_at bytes 30) most_bytes
     && is_data 33 count (short_at bytes 26)
-    && (if nat_le (pages_of (long_at bytes 30)) 255 then short_at bytes 28 == 0 else is_data 33 count (short_at bytes 28))
+    && is_second_map count (long_at bytes 30) (short_at bytes 28)
     && are_zeros (drop 34 bytes)
+
+abbrev pub is_entry : (count : ℕ) → List ℕ → Bool
+is_entry count bytes = is_title (without_blanks (take 24 bytes)) && fields_fit count bytes
 
 abbrev pub record_in : List ℕ → FileRecord
 record_in bytes = record {
   title = without_blanks (take 24 bytes);
   kind = kind_of (slice_index bytes 24);
   protected = slice_index bytes 25 == 1;
-  maps = if nat_le (pages_of (long_at bytes 30)) 255 then short_at bytes 26 ∷ [] else short_at bytes 26 ∷ short_at bytes 28 ∷ [];
+  maps = maps_of (short_at bytes 26) (second_map (long_at bytes 30) (short_at bytes 28));
   length = long_at bytes 30;
 }
 
 -- a free entry is all zeros
 abbrev pub entry_says : (count : ℕ) → List ℕ → Said
 entry_says count bytes =
-    if are_zeros bytes then free else (if is_entry count bytes then file (record_in bytes) else wrong)
+    if are_zeros bytes then said.Free else (if is_entry count bytes then said.File (record_in bytes) else said.Wrong)
 
 -- ---- entries of version 1
 
@@ -117,4 +117,4 @@ old_record_in bytes = record {
 
 abbrev pub old_entry_says : (count : ℕ) → List ℕ → Said
 old_entry_says count bytes =
-    if are_zeros bytes then free else (if is_old_entry count bytes then file (old_record_in bytes) else wrong)
+    if are_zeros bytes then said.Free else (if is_old_entry count bytes then said.File (old_record_in bytes) else said.Wrong)

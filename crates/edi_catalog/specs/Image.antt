@@ -14,7 +14,10 @@ use Rattle.edi_calls.specs.State.{File, pages_of}
 use Rattle.edi_catalog.specs.declared.faults.MountFault.{MountFault}
 use Rattle.edi_catalog.specs.declared.faults.MountFault.TheVariants as fault
 use Rattle.edi_catalog.specs.Rules.{Rule, needs, uses, first_broken, page_rules}
-use Rattle.edi_catalog.specs.Entries.{FileRecord, Said, free, wrong, file, short_at, shorts, block_at, entry_says}
+use Rattle.edi_catalog.specs.Records.{FileRecord}
+use Rattle.edi_catalog.specs.declared.entries.Said.{Said}
+use Rattle.edi_catalog.specs.declared.entries.Said.TheVariants as said
+use Rattle.edi_catalog.specs.Entries.{short_at, shorts, block_at, entry_says}
 
 -- ---- what both versions have
 
@@ -38,32 +41,47 @@ bytes_of blocks r = take r.length (flat_map (block_at blocks) (numbers_of blocks
 
 -- what is in the slot of an entry
 abbrev pub slot_in : List (List ℕ) → Said → Option File
-slot_in blocks free = None
-slot_in blocks wrong = None
-slot_in blocks (file r) =
+slot_in blocks said.Free = None
+slot_in blocks said.Wrong = None
+slot_in blocks (said.File r) =
     Some (record { title = r.title; kind = r.kind; protected = r.protected; bytes = bytes_of blocks r })
 
--- The rules on the maps of a file of so many pages: each map block is used only here, tells the right number of pages, and
--- its pages keep their rules.
-abbrev pub map_rules : (first : ℕ) → List (List ℕ) → (slot pages : ℕ) → List ℕ → List Rule
-map_rules first blocks slot pages [] = []
-map_rules first blocks slot pages (map ∷ maps) =
+-- The rules on a map block of a file: it is used only here, tells the right number of pages, and these keep their rules.
+abbrev pub map_rules : (first : ℕ) → List (List ℕ) → (slot pages map : ℕ) → List Rule
+map_rules first blocks slot pages map =
     uses map
-    ∷ needs (short_at (block_at blocks map) 0 == min pages 255) (fault.Entry slot)
-    ∷ (page_rules first (length blocks) slot (numbers_in (block_at blocks map) (min pages 255))
-    ++ map_rules first blocks slot (pages - 255) maps)
+    ∷ needs (short_at (block_at blocks map) 0 == pages) (fault.Entry slot)
+    ∷ page_rules first (length blocks) slot (numbers_in (block_at blocks map) pages)
 
--- The rules on the entries from a slot on, where the slots before have files of these titles: each entry keeps the rules
--- of its own, no title stands in an earlier slot, and the maps keep their rules. Files lie from the block `first` on.
+-- the rules on all maps of a file of so many pages
+abbrev pub maps_rules : (first : ℕ) → List (List ℕ) → (slot pages : ℕ) → List ℕ → List Rule
+maps_rules first blocks slot pages [] = []
+maps_rules first blocks slot pages (map ∷ maps) =
+    map_rules first blocks slot (min pages 255) map ++ maps_rules first blocks slot (pages - 255) maps
+
+-- the rules on a file, where the slots before have files of these titles: its title stands in no earlier slot, and its maps
+-- keep their rules
+abbrev pub file_rules : (first : ℕ) → List (List ℕ) → (slot : ℕ) → (titles : List (List ℕ)) → FileRecord → List Rule
+file_rules first blocks slot titles r =
+    needs (not (list_any (bytes_eq r.title) titles)) (fault.Entry slot)
+    ∷ maps_rules first blocks slot (pages_of r.length) r.maps
+
+-- the rules on an entry
+abbrev pub entry_rules : (first : ℕ) → List (List ℕ) → (slot : ℕ) → (titles : List (List ℕ)) → Said → List Rule
+entry_rules first blocks slot titles said.Free = []
+entry_rules first blocks slot titles said.Wrong = needs false (fault.Entry slot) ∷ []
+entry_rules first blocks slot titles (said.File r) = file_rules first blocks slot titles r
+
+abbrev pub titles_in : Said → List (List ℕ)
+titles_in said.Free = []
+titles_in said.Wrong = []
+titles_in (said.File r) = r.title ∷ []
+
+-- The rules on the entries from a slot on, one after another. Files lie from the block `first` on.
 abbrev pub slot_rules : (first : ℕ) → List (List ℕ) → (slot : ℕ) → (titles : List (List ℕ)) → List Said → List Rule
 slot_rules first blocks slot titles [] = []
-slot_rules first blocks slot titles (free ∷ entries) = slot_rules first blocks (slot + 1) titles entries
-slot_rules first blocks slot titles (wrong ∷ entries) =
-    needs false (fault.Entry slot) ∷ slot_rules first blocks (slot + 1) titles entries
-slot_rules first blocks slot titles (file r ∷ entries) =
-    needs (not (list_any (bytes_eq r.title) titles)) (fault.Entry slot)
-    ∷ (map_rules first blocks slot (pages_of r.length) r.maps
-    ++ slot_rules first blocks (slot + 1) (titles ++ r.title ∷ []) entries)
+slot_rules first blocks slot titles (entry ∷ entries) =
+    entry_rules first blocks slot titles entry ++ slot_rules first blocks (slot + 1) (titles ++ titles_in entry) entries
 
 -- a drive has 64 blocks, or more up to 4096, and block 0 is that of its version and size
 abbrev pub header_rules : (version : ℕ) → List (List ℕ) → List Rule
@@ -78,13 +96,20 @@ header_rules version blocks =
 abbrev pub entry_at : List (List ℕ) → ℕ → List ℕ
 entry_at blocks slot = take 64 (drop (64 * (slot % 8)) (block_at blocks (1 + slot / 8)))
 
+-- what the entry of a slot says
+abbrev pub said_at : List (List ℕ) → ℕ → Said
+said_at blocks slot = entry_says (length blocks) (entry_at blocks slot)
+
 -- what so many entries say, from a slot on
 abbrev pub entries_from : List (List ℕ) → (slot : ℕ) → ℕ → List Said
 entries_from blocks slot zero = []
-entries_from blocks slot (suc n) = entry_says (length blocks) (entry_at blocks slot) ∷ entries_from blocks (slot + 1) n
+entries_from blocks slot (suc n) = said_at blocks slot ∷ entries_from blocks (slot + 1) n
+
+unfoldable pub entries_of : List (List ℕ) → List Said
+entries_of blocks = entries_from blocks 0 256
 
 unfoldable pub image_rules : List (List ℕ) → List Rule
-image_rules blocks = header_rules 2 blocks ++ slot_rules 33 blocks 0 [] (entries_from blocks 0 256)
+image_rules blocks = header_rules 2 blocks ++ slot_rules 33 blocks 0 [] (entries_of blocks)
 
 -- The first broken rule of an image. No block at all is no disk, and breaks none.
 abbrev pub mount_fault_of : List (List ℕ) → Option MountFault
@@ -93,7 +118,7 @@ mount_fault_of (block ∷ blocks) = first_broken [] (image_rules (block ∷ bloc
 
 -- the files of an image, in its 256 slots; no disk has no files
 unfoldable pub slots_of : List (List ℕ) → List (Option File)
-slots_of blocks = map (slot_in blocks) (entries_from blocks 0 256)
+slots_of blocks = map (slot_in blocks) (entries_of blocks)
 
 -- the blocks are a valid image and hold these files
 pub record Holds (blocks : List (List ℕ)) (slots : List (Option File)) : Type 0 where

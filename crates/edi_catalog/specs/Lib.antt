@@ -4,6 +4,10 @@ pub mod Entries
 pub mod Formatted
 pub mod Image
 pub mod Laws
+pub mod Mounted
 pub mod OldImage
+pub mod Reads
+pub mod Records
+pub mod Stored
 pub mod Rules
 pub mod Titles

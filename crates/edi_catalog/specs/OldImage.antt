@@ -9,7 +9,8 @@ use Rattle.std.specs.Prelude.{◌≡◌, ℕ, zero, suc, ◌+◌, ◌*◌, ◌/�
 use Rattle.edi_calls.specs.State.{File}
 use Rattle.edi_catalog.specs.declared.faults.MountFault.{MountFault}
 use Rattle.edi_catalog.specs.Rules.{Rule, first_broken}
-use Rattle.edi_catalog.specs.Entries.{Said, block_at, old_entry_says}
+use Rattle.edi_catalog.specs.declared.entries.Said.{Said}
+use Rattle.edi_catalog.specs.Entries.{block_at, old_entry_says}
 use Rattle.edi_catalog.specs.Image.{header_rules, slot_rules, slot_in}
 
 -- the bytes of the entry of a slot
@@ -22,8 +23,11 @@ old_entries_from blocks slot zero = []
 old_entries_from blocks slot (suc n) =
     old_entry_says (length blocks) (old_entry_at blocks slot) ∷ old_entries_from blocks (slot + 1) n
 
+unfoldable pub old_entries_of : List (List ℕ) → List Said
+old_entries_of blocks = old_entries_from blocks 0 64
+
 unfoldable pub old_image_rules : List (List ℕ) → List Rule
-old_image_rules blocks = header_rules 1 blocks ++ slot_rules 5 blocks 0 [] (old_entries_from blocks 0 64)
+old_image_rules blocks = header_rules 1 blocks ++ slot_rules 5 blocks 0 [] (old_entries_of blocks)
 
 -- the first broken rule of an image of version 1; no block at all breaks none
 abbrev pub old_fault_of : List (List ℕ) → Option MountFault
@@ -32,7 +36,7 @@ old_fault_of (block ∷ blocks) = first_broken [] (old_image_rules (block ∷ bl
 
 -- the files of an image of version 1, in its 64 slots
 unfoldable pub old_slots_of : List (List ℕ) → List (Option File)
-old_slots_of blocks = map (slot_in blocks) (old_entries_from blocks 0 64)
+old_slots_of blocks = map (slot_in blocks) (old_entries_of blocks)
 
 -- the blocks are a valid image of version 1 and hold these files
 pub record OldHolds (blocks : List (List ℕ)) (slots : List (Option File)) : Type 0 where

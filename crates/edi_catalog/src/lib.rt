@@ -2,13 +2,24 @@
 #![tactic(auto)]
 
 mod blocks;
+mod catalog;
+mod entries;
 mod entry;
 mod faults;
+mod fields;
 mod formatting;
 pub mod laws;
+mod maps;
+mod mounting;
+mod pages;
+mod reading;
+mod slots;
+mod stored;
 mod title;
 
+pub use catalog::Catalog;
 pub use entry::Entry;
 pub use faults::MountFault;
 pub use formatting::{FormatEnd, format};
+pub use mounting::mount;
 pub use title::Title;
