@@ -1,5 +1,6 @@
 pub mod Empty
 pub mod EntryParts
+pub mod FilePlaces
 pub mod FileRules
 pub mod Headers
 pub mod Lists

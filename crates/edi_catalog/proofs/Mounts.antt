@@ -1,5 +1,5 @@
 -- Mounting: the rules of an image from those of its parts, and what is left of the drive.
-use Rattle.std.proofs.Common.{◌≡◌, ℕ, zero, suc, ◌+◌, ◌*◌, ◌%◌, ◌<◌, Bool, false, List, [], ◌∷◌, ◌++◌, length, take, drop, refl, ap, sym, ◌∙◌, subst, arith}
+use Rattle.std.proofs.Common.{◌≡◌, ℕ, zero, suc, ◌+◌, ◌*◌, ◌%◌, ◌<◌, Bool, true, false, List, [], ◌∷◌, ◌++◌, length, take, drop, refl, ap, sym, ◌∙◌, subst, arith}
 use Rattle.std.specs.Prelude.{map, replicate, Option, Some, None, Result, Ok, Err, MatchResult, ⊤}
 use Rattle.std.specs.Option.{option_map}
 use Rattle.edi_told.specs.Told.{WhereTold}
@@ -13,7 +13,10 @@ use Rattle.edi_catalog.specs.declared.entries.Said.TheVariants as said
 use Rattle.edi_catalog.specs.Rules.{first_broken}
 use Rattle.edi_catalog.specs.Entries.{entry_says}
 use Rattle.edi_catalog.specs.Image.{header_rules, slot_rules, image_rules, said_at, entries_from, entries_of, mount_fault_of}
-use Rattle.edi_catalog.specs.Stored.{stored_of}
+use Rattle.edi_catalog.specs.Mounted.{IsKeptOf, IsMounted, disk_of, files_of}
+use Rattle.edi_catalog.specs.declared.catalog.Catalog.{Catalog}
+use Rattle.std.specs.List.{list_all}
+use Rattle.edi_catalog.specs.Stored.{stored_of, is_stored}
 use Rattle.edi_catalog.specs.Reads.{Checks, Finds, IsFirst}
 use Rattle.edi_catalog.proofs.FileRules.{goes_on, breaks_early}
 
@@ -132,3 +135,19 @@ found_of held count faults a b P settled checks blocks e =
     let there : shown held b ≡ Some blocks = sym (still_settled held count faults a b P settled checks) ∙ e in
     let now : (shown held a ≡ Some blocks) × P blocks = told_now (shown held a) (shown held b) P (checks.shows refl) blocks there in
     (settled ∙ now.0, now.1)
+
+-- a catalogue whose disk was only read
+pub still_mounted : {D : Type 0} (held : D → Option (List (List ℕ))) (count faults : D → ℕ) (one other : Catalog D) (P : List (List ℕ) → Type 0)
+    → files_of other ≡ files_of one → IsMounted held count one → Checks held count faults false (disk_of one) (disk_of other) P
+    → IsMounted held count other
+still_mounted held count faults one other P same mounted checks = record {
+  works = checks.works refl;
+  settled = still_settled held count faults (disk_of one) (disk_of other) P mounted.settled checks;
+  many = ap length same ∙ mounted.many;
+  stored =
+      ap (list_all (is_stored (count (drive_of (disk_of other))))) same
+      ∙ subst (λ n. list_all (is_stored n) (files_of one) ≡ true) (sym checks.count_stays) mounted.stored;
+  image = λ blocks told.
+      subst (λ fs. IsKeptOf blocks fs) (sym same)
+      (mounted.image blocks (found_of held count faults (disk_of one) (disk_of other) P mounted.settled checks blocks told).0);
+}

@@ -1,6 +1,7 @@
 pub mod Build
 pub mod Ends
 pub mod Entries
+pub mod Files
 pub mod Formatted
 pub mod Image
 pub mod Laws

@@ -3,10 +3,12 @@
 
 mod blocks;
 mod catalog;
+mod ends;
 mod entries;
 mod entry;
 mod faults;
 mod fields;
+mod files;
 mod formatting;
 pub mod laws;
 mod maps;
@@ -18,6 +20,7 @@ mod stored;
 mod title;
 
 pub use catalog::Catalog;
+pub use ends::CatEnd;
 pub use entry::Entry;
 pub use faults::MountFault;
 pub use formatting::{FormatEnd, format};

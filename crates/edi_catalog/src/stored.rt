@@ -37,7 +37,7 @@ pub(crate) fn has_title(files: &[Option<StoredFile>], title: &Title) -> bool
     false
 }
 
-fn is_titled(file: &Option<StoredFile>, title: &Title) -> bool
+pub(crate) fn is_titled(file: &Option<StoredFile>, title: &Title) -> bool
     ensures { result ≡ is_titled title.now file.now }
 {
     match file {
