@@ -1,0 +1,14 @@
+pub mod Empty
+pub mod EntryParts
+pub mod FilePlaces
+pub mod FileRules
+pub mod Headers
+pub mod Lists
+pub mod Told
+pub mod MapRules
+pub mod Mounts
+pub mod Scans
+pub mod Sequence
+pub mod SlotRules
+pub mod Spelled
+pub mod Worked

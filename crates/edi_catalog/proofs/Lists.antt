@@ -1,0 +1,17 @@
+-- A valid image holds one list of files.
+use Rattle.std.proofs.Common.{◌∙◌, sym, refl}
+use Rattle.edi_catalog.specs.Image.{slots_of}
+use Rattle.edi_catalog.specs.OldImage.{old_slots_of}
+use Rattle.edi_catalog.specs.Laws.{HoldsOneList, OldHoldsOneList}
+
+pub holds_one_list : HoldsOneList
+holds_one_list blocks = (
+  ((λ valid. (slots_of blocks, record { valid = valid; files = refl })), (λ held. held.1.valid)),
+  λ one other a b. sym a.files ∙ b.files,
+)
+
+pub old_holds_one_list : OldHoldsOneList
+old_holds_one_list blocks = (
+  ((λ valid. (old_slots_of blocks, record { valid = valid; files = refl })), (λ held. held.1.valid)),
+  λ one other a b. sym a.files ∙ b.files,
+)

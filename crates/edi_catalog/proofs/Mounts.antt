@@ -1,0 +1,153 @@
+-- Mounting: the rules of an image from those of its parts, and what is left of the drive.
+use Rattle.std.proofs.Common.{◌≡◌, ℕ, zero, suc, ◌+◌, ◌*◌, ◌%◌, ◌<◌, Bool, true, false, List, [], ◌∷◌, ◌++◌, length, take, drop, refl, ap, sym, ◌∙◌, subst, arith}
+use Rattle.std.specs.Prelude.{map, replicate, Option, Some, None, Result, Ok, Err, MatchResult, ⊤}
+use Rattle.std.specs.Option.{option_map}
+use Rattle.edi_told.specs.Told.{WhereTold}
+use Rattle.edi_disk.specs.declared.disk.Disk.{Disk}
+use Rattle.edi_disk.specs.Shown.{over, shown, drive_of}
+use Rattle.edi_disk.specs.Since.{Kept, nothing}
+use Rattle.edi_disk.proofs.Since.{between_nothing, kept_settled}
+use Rattle.edi_catalog.specs.declared.faults.MountFault.{MountFault}
+use Rattle.edi_catalog.specs.declared.faults.MountFault.TheVariants as fault
+use Rattle.edi_catalog.specs.declared.entries.Said.TheVariants as said
+use Rattle.edi_catalog.specs.Rules.{first_broken}
+use Rattle.edi_catalog.specs.Entries.{entry_says}
+use Rattle.edi_catalog.specs.Image.{header_rules, slot_rules, image_rules, said_at, entries_from, entries_of, mount_fault_of}
+use Rattle.edi_catalog.specs.Mounted.{IsKeptOf, IsMounted, disk_of, files_of}
+use Rattle.edi_catalog.specs.declared.catalog.Catalog.{Catalog}
+use Rattle.std.specs.List.{list_all}
+use Rattle.edi_catalog.specs.Stored.{stored_of, is_stored}
+use Rattle.edi_catalog.specs.Reads.{Checks, Finds, IsFirst}
+use Rattle.edi_catalog.proofs.FileRules.{goes_on, breaks_early}
+
+-- ---- the rules of an image
+
+rules_of : (blocks : List (List ℕ)) → 0 < length blocks
+    → mount_fault_of blocks ≡ first_broken [] (header_rules 2 blocks ++ slot_rules 33 blocks 0 [] (entries_of blocks))
+unfolding image_rules
+rules_of [] h = absurd (omega arith)
+rules_of (block ∷ blocks) h = refl
+
+pub image_goes_on : (blocks : List (List ℕ)) → 0 < length blocks → first_broken [] (header_rules 2 blocks) ≡ None
+    → first_broken [] (slot_rules 33 blocks 0 [] (entries_of blocks)) ≡ mount_fault_of blocks
+image_goes_on blocks h none =
+    sym (rules_of blocks h ∙ goes_on [] [] (header_rules 2 blocks) (slot_rules 33 blocks 0 [] (entries_of blocks)) none refl)
+
+pub image_fails : (e : MountFault) (blocks : List (List ℕ)) → 0 < length blocks → IsFirst e (first_broken [] (header_rules 2 blocks))
+    → IsFirst e (mount_fault_of blocks)
+image_fails e blocks h broken =
+    subst (IsFirst e) (sym (rules_of blocks h)) (breaks_early e [] (header_rules 2 blocks) (slot_rules 33 blocks 0 [] (entries_of blocks)) broken)
+
+-- ---- no disk
+
+drop-nil : (n : ℕ) → drop {A = ℕ} n [] ≡ []
+drop-nil zero = refl
+drop-nil (suc n) = refl
+
+nothing_said : (slot : ℕ) → said_at [] slot ≡ said.Free
+nothing_said slot = ap (λ b. entry_says 0 (take 64 b)) (drop-nil (64 * (slot % 8)))
+
+no_entries : (slot n : ℕ) → map (stored_of []) (entries_from [] slot n) ≡ replicate n None
+no_entries slot zero = refl
+no_entries slot (suc n) =
+    ap (λ s. stored_of [] s ∷ map (stored_of []) (entries_from [] (slot + 1) n)) (nothing_said slot)
+    ∙ ap (λ fs. None ∷ fs) (no_entries (slot + 1) n)
+
+no_blocks : (blocks : List (List ℕ)) → length blocks ≡ 0 → blocks ≡ []
+no_blocks [] e = refl
+no_blocks (b ∷ blocks) e = absurd (omega arith)
+
+pub no_disk : (blocks : List (List ℕ)) → length blocks ≡ 0
+    → (mount_fault_of blocks ≡ None) × (replicate 256 None ≡ map (stored_of blocks) (entries_of blocks))
+unfolding entries_of
+no_disk blocks e =
+    let none : blocks ≡ [] = no_blocks blocks e in (
+      ap mount_fault_of none,
+      sym (ap (λ bs. map (stored_of bs) (entries_from bs 0 256)) none ∙ no_entries 0 256),
+    )
+
+pub made_finds : {X : Type 0} (r : Result X MountFault) (P Q : X → Type 0) (broken : Option MountFault)
+    → MatchResult r P (λ e. e ≡ fault.NoMemory) → broken ≡ None → ((x : X) → P x → Q x) → Finds r broken Q
+made_finds (Ok x) P Q broken m none so = (none, so x m)
+made_finds (Err e) P Q broken m none so = subst (λ f. IsFirst f broken) (sym m) tt
+
+-- ---- what is told in the end
+
+pub told_now : {A : Type 0} (a b : Option A) (P : A → Type 0) → WhereTold a b (λ old new. (new ≡ old) × P old) → (x : A) → b ≡ Some x
+    → (a ≡ Some x) × P x
+told_now a None P told x e = absurd (cc)
+told_now None (Some y) P told x e = absurd told
+told_now (Some o) (Some y) P told x e =
+    let same : o ≡ x = sym told.0 ∙ (let is : Some y ≡ Some x = e in cc) in (ap Some same, subst P same told.1)
+
+told_before : {A : Type 0} (a b : Option A) → WhereTold a b (λ old new. ⊤) → (x : A) → b ≡ Some x → (y : A) × (a ≡ Some y)
+told_before a None told x e = absurd (cc)
+told_before None (Some y) told x e = absurd told
+told_before (Some o) (Some y) told x e = (o, refl)
+
+-- ---- what a check leaves
+
+shown_some : {D : Type 0} (held : D → Option (List (List ℕ))) (disk : Disk D) (blocks : List (List ℕ)) → held (drive_of disk) ≡ Some blocks
+    → shown held disk ≡ Some (over blocks disk.cache)
+shown_some held disk blocks e = ap (option_map (λ bs. over bs disk.cache)) e
+
+shown_none : {D : Type 0} (held : D → Option (List (List ℕ))) (disk : Disk D) → held (drive_of disk) ≡ None → shown held disk ≡ None
+shown_none held disk e = ap (option_map (λ bs. over bs disk.cache)) e
+
+-- the drive has the blocks that it had, whatever the answer
+pub same_blocks : {D : Type 0} (held : D → Option (List (List ℕ))) (count faults : D → ℕ) (broke : Bool) (a b : Disk D) (P : List (List ℕ) → Type 0)
+    → held (drive_of a) ≡ shown held a → Checks held count faults broke a b P → (blocks : List (List ℕ)) → held (drive_of b) ≡ Some blocks
+    → held (drive_of a) ≡ Some blocks
+same_blocks held count faults broke a b P settled checks blocks e =
+    let before : (y : List (List ℕ)) × (shown held a ≡ Some y) =
+    told_before (shown held a) (shown held b) checks.told (over blocks b.cache) (shown_some held b blocks e) in
+    let there : held (drive_of a) ≡ Some before.0 = settled ∙ before.1 in
+    let kept : Kept held before.0 nothing b = checks.since before.0 nothing (kept_settled held before.0 nothing a there before.1) in
+    let same : blocks ≡ before.0 = between_nothing before.0 blocks (kept.on_drive blocks e) in
+    there ∙ ap Some (sym same)
+
+pub told_same_blocks : {A : Type 0} (a b : Option A) (Q : A → Type 0) → ((x : A) → b ≡ Some x → (a ≡ Some x) × Q x)
+    → WhereTold a b (λ old new. (new ≡ old) × Q old)
+told_same_blocks a None Q all = tt
+told_same_blocks None (Some y) Q all = absurd (let f : None ≡ Some y = (all y refl).0 in cc)
+told_same_blocks (Some x) (Some y) Q all =
+    let f : Some x ≡ Some y = (all y refl).0 in
+    let same : x ≡ y = cc in
+    (sym same, subst Q (sym same) (all y refl).1)
+
+-- the drive still has all that the disk shows
+pub still_settled : {D : Type 0} (held : D → Option (List (List ℕ))) (count faults : D → ℕ) (a b : Disk D) (P : List (List ℕ) → Type 0)
+    → held (drive_of a) ≡ shown held a → Checks held count faults false a b P → held (drive_of b) ≡ shown held b
+still_settled held count faults a b P settled checks = go (held (drive_of b)) refl where
+  go : (o : Option (List (List ℕ))) → held (drive_of b) ≡ o → held (drive_of b) ≡ shown held b
+  go None e = e ∙ sym (shown_none held b e)
+  go (Some blocks) e =
+      let there : held (drive_of a) ≡ Some blocks = same_blocks held count faults false a b P settled checks blocks e in
+      let now : (shown held a ≡ Some (over blocks b.cache)) × P (over blocks b.cache) =
+      told_now (shown held a) (shown held b) P (checks.shows refl) (over blocks b.cache) (shown_some held b blocks e) in
+      e ∙ sym there ∙ settled ∙ now.0 ∙ sym (shown_some held b blocks e)
+
+-- what was found of the blocks that the disk shows is so of the drive's
+pub found_of : {D : Type 0} (held : D → Option (List (List ℕ))) (count faults : D → ℕ) (a b : Disk D) (P : List (List ℕ) → Type 0)
+    → held (drive_of a) ≡ shown held a → Checks held count faults false a b P → (blocks : List (List ℕ)) → held (drive_of b) ≡ Some blocks
+    → (held (drive_of a) ≡ Some blocks) × P blocks
+found_of held count faults a b P settled checks blocks e =
+    let there : shown held b ≡ Some blocks = sym (still_settled held count faults a b P settled checks) ∙ e in
+    let now : (shown held a ≡ Some blocks) × P blocks = told_now (shown held a) (shown held b) P (checks.shows refl) blocks there in
+    (settled ∙ now.0, now.1)
+
+-- a catalogue whose disk was only read
+pub still_mounted : {D : Type 0} (held : D → Option (List (List ℕ))) (count faults : D → ℕ) (one other : Catalog D) (P : List (List ℕ) → Type 0)
+    → files_of other ≡ files_of one → IsMounted held count one → Checks held count faults false (disk_of one) (disk_of other) P
+    → IsMounted held count other
+still_mounted held count faults one other P same mounted checks = record {
+  works = checks.works refl;
+  settled = still_settled held count faults (disk_of one) (disk_of other) P mounted.settled checks;
+  many = ap length same ∙ mounted.many;
+  stored =
+      ap (list_all (is_stored (count (drive_of (disk_of other))))) same
+      ∙ subst (λ n. list_all (is_stored n) (files_of one) ≡ true) (sym checks.count_stays) mounted.stored;
+  image = λ blocks told.
+      subst (λ fs. IsKeptOf blocks fs) (sym same)
+      (mounted.image blocks (found_of held count faults (disk_of one) (disk_of other) P mounted.settled checks blocks told).0);
+}

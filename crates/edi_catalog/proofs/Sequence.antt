@@ -1,0 +1,106 @@
+-- One check after another.
+use Rattle.std.proofs.Common.{◌≡◌, ℕ, ◌+◌, ◌-◌, ◌^◌, ◌≤◌, Bool, true, false, List, refl, sym, ◌∙◌, subst, min, arith}
+use Rattle.std.specs.Prelude.{Option, Some, None, Result, Ok, Err, IfSome, ⊤}
+use Rattle.edi_told.specs.Told.{WhereTold}
+use Rattle.edi_disk.specs.declared.disk.Disk.{Disk}
+use Rattle.edi_disk.specs.Shown.{shown, drive_of, IsWorking}
+use Rattle.edi_catalog.specs.declared.faults.MountFault.{MountFault}
+use Rattle.edi_catalog.specs.declared.faults.MountFault.TheVariants as fault
+use Rattle.edi_catalog.specs.Reads.{Checks, Finds, IsFirst, is_drive_fault}
+use Rattle.edi_catalog.proofs.Told.{told_then, told_map, told_same}
+
+pub checks_then : {D : Type 0} (held : D → Option (List (List ℕ))) (count faults : D → ℕ) (broke : Bool) (a b c : Disk D)
+    (P Q R : List (List ℕ) → Type 0) → ((blocks : List (List ℕ)) → P blocks → Q blocks → R blocks)
+    → Checks held count faults false a b P → Checks held count faults broke b c Q → Checks held count faults broke a c R
+checks_then held count faults broke a b c P Q R both one other = record {
+  same_reference = other.same_reference ∙ one.same_reference;
+  since = λ base was_put kept. other.since base was_put (one.since base was_put kept);
+  count_stays = other.count_stays ∙ one.count_stays;
+  later = omega (arith, one.later, other.later);
+  told =
+      told_then (shown held a) (shown held b) (shown held c) (λ old new. ⊤) (λ old new. ⊤) (λ old new. ⊤) (λ old between new p q. tt)
+      one.told other.told;
+  cause = λ e. (let later : faults (drive_of a) ≤ faults (drive_of b) = one.later in
+      let rose : min (faults (drive_of b) + 1) (2 ^ 64 - 1) ≤ faults (drive_of c) = other.cause e in omega arith);
+  works = other.works;
+  shows = λ e.
+      told_then (shown held a) (shown held b) (shown held c) (λ old new. (new ≡ old) × P old) (λ old new. (new ≡ old) × Q old)
+      (λ old new. (new ≡ old) × R old)
+      (λ old between new p q. (q.0 ∙ p.0, both old p.1 (subst Q p.0 q.1)))
+      (one.shows refl) (other.shows e);
+}
+
+pub checks_map : {D : Type 0} (held : D → Option (List (List ℕ))) (count faults : D → ℕ) (broke : Bool) (a b : Disk D)
+    (P Q : List (List ℕ) → Type 0) → ((blocks : List (List ℕ)) → P blocks → Q blocks)
+    → Checks held count faults broke a b P → Checks held count faults broke a b Q
+checks_map held count faults broke a b P Q so one = record {
+  same_reference = one.same_reference;
+  since = one.since;
+  count_stays = one.count_stays;
+  later = one.later;
+  told = one.told;
+  cause = one.cause;
+  works = one.works;
+  shows = λ e.
+      told_map (shown held a) (shown held b) (λ old new. (new ≡ old) × P old) (λ old new. (new ≡ old) × Q old)
+      (λ old new p. (p.0, so old p.1)) (one.shows e);
+}
+
+-- no call of the disk
+pub checks_none : {D : Type 0} (held : D → Option (List (List ℕ))) (count faults : D → ℕ) (a : Disk D) (P : List (List ℕ) → Type 0)
+    → IsWorking held count a → ((blocks : List (List ℕ)) → P blocks) → Checks held count faults false a a P
+checks_none held count faults a P works all = record {
+  same_reference = refl;
+  since = λ base was_put kept. kept;
+  count_stays = refl;
+  later = omega arith;
+  told = told_same (shown held a) (λ old new. ⊤) (λ blocks. tt);
+  cause = λ e. absurd (let no : false ≡ true = e in cc);
+  works = λ e. works;
+  shows = λ e. told_same (shown held a) (λ old new. (new ≡ old) × P old) (λ blocks. (refl, all blocks));
+}
+
+-- what is known of the blocks at the start
+told_with : {A : Type 0} (a b : Option A) (L : A → Type 0) (P : A → A → Type 0) → IfSome a L → WhereTold a b P
+    → WhereTold a b (λ old new. P old new × L old)
+told_with a None L P l p = tt
+told_with None (Some y) L P l p = absurd p
+told_with (Some x) (Some y) L P l p = (p, l)
+
+pub checks_with : {D : Type 0} (held : D → Option (List (List ℕ))) (count faults : D → ℕ) (broke : Bool) (a b : Disk D)
+    (P L : List (List ℕ) → Type 0) → IfSome (shown held a) L → Checks held count faults broke a b P
+    → Checks held count faults broke a b (λ blocks. P blocks × L blocks)
+checks_with held count faults broke a b P L l one = record {
+  same_reference = one.same_reference;
+  since = one.since;
+  count_stays = one.count_stays;
+  later = one.later;
+  told = one.told;
+  cause = one.cause;
+  works = one.works;
+  shows = λ e.
+      told_map (shown held a) (shown held b) (λ old new. ((new ≡ old) × P old) × L old) (λ old new. (new ≡ old) × (P old × L old))
+      (λ old new p. (p.0.0, (p.0.1, p.1)))
+      (told_with (shown held a) (shown held b) L (λ old new. (new ≡ old) × P old) l (one.shows e));
+}
+
+pub checks_as : {D : Type 0} (held : D → Option (List (List ℕ))) (count faults : D → ℕ) (broke : Bool) (a b : Disk D)
+    (P : List (List ℕ) → Type 0) → broke ≡ false → Checks held count faults false a b P → Checks held count faults broke a b P
+checks_as held count faults broke a b P fine one = subst (λ f. Checks held count faults f a b P) (sym fine) one
+
+-- ---- the first broken rule
+
+-- of a fault of the drive nothing is said
+pub drive_first : (e : MountFault) (broken : Option MountFault) → is_drive_fault e ≡ true → IsFirst e broken
+drive_first fault.Short broken h = absurd (let no : false ≡ true = h in cc)
+drive_first fault.Header broken h = absurd (let no : false ≡ true = h in cc)
+drive_first (fault.Entry s) broken h = absurd (let no : false ≡ true = h in cc)
+drive_first (fault.Page s n) broken h = absurd (let no : false ≡ true = h in cc)
+drive_first (fault.Shared n) broken h = absurd (let no : false ≡ true = h in cc)
+drive_first fault.Fault broken h = tt
+drive_first fault.NoMemory broken h = tt
+
+pub finds_map : {X : Type 0} (r : Result X MountFault) (one other : Option MountFault) (P Q : X → Type 0)
+    → one ≡ other → ((x : X) → P x → Q x) → Finds r one P → Finds r other Q
+finds_map (Ok x) one other P Q same so found = (sym same ∙ found.0, so x found.1)
+finds_map (Err e) one other P Q same so found = subst (IsFirst e) same found

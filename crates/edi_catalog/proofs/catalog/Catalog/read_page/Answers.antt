@@ -1,0 +1,41 @@
+use Rattle.std.proofs.Common.{◌≡◌, ◌<◌, ◌∙◌, ap, sym, subst, refl, inr}
+use Rattle.std.specs.Prelude.{slice_index}
+use Rattle.std.specs.Option.{option_map}
+use Rattle.edi_disk.specs.Shown.{drive_of}
+use Rattle.edi_catalog.specs.Entries.{block_at}
+use Rattle.edi_catalog.specs.Stored.{StoredFile}
+use Rattle.edi_catalog.specs.declared.ends.CatEnd.{CatEnd}
+use Rattle.edi_catalog.specs.Files.{file_titled}
+use Rattle.edi_catalog.specs.Mounted.{disk_of, files_of}
+use Rattle.edi_catalog.proofs.Mounts.{found_of, same_blocks, still_mounted, told_same_blocks}
+use Rattle.edi_catalog.proofs.FilePlaces.{page_on_drive, page_is}
+use Rattle.edi_catalog.proofs.catalog.Catalog.read_page.Goals as goal
+
+pub block-requires-clause-in_range : goal.block-requires-clause-in_range
+block-requires-clause-in_range g c =
+    subst (λ n. n < g.D.Drive.count (drive_of (disk_of c.args.self.now))) (sym c.from.ensures)
+    (page_on_drive (g.D.Drive.count (drive_of (disk_of c.args.self.now))) c.args.title.now (files_of c.args.self.now) c.args.i c.in-Some.page
+    c.requires.mounted.stored
+    (c.in-Some.ensures
+    ∙ ap (λ fs. option_map (λ (file : StoredFile). slice_index file.pages c.args.i) (file_titled c.args.title.now fs)) c.deref.ensures.value)
+    c.requires.page)
+
+pub returns-in-Ok-clause-mounted : goal.returns-in-Ok-clause-mounted
+returns-in-Ok-clause-mounted g c =
+    inr (still_mounted _ _ _ c.args.self.now _ _ refl c.requires.mounted c.in-Ok.ensures.checks)
+
+pub returns-in-Ok-clause-reads : goal.returns-in-Ok-clause-reads
+returns-in-Ok-clause-reads g c =
+    told_same_blocks _ _ _
+    (λ blocks told.
+    (let found = found_of _ _ _ _ _ _ c.requires.mounted.settled c.in-Ok.ensures.checks blocks told in (
+      found.0,
+      page_is {X = Unit {0}} CatEnd tt (file_titled c.args.title.now (files_of c.args.self.now)) c.args.i c.in-Some.page c.in-Ok.bytes blocks
+          (c.in-Some.ensures
+          ∙ ap (λ fs. option_map (λ (file : StoredFile). slice_index file.pages c.args.i) (file_titled c.args.title.now fs)) c.deref.ensures.value)
+          (subst (λ n. block_at blocks n ≡ c.in-Ok.bytes) c.from.ensures found.1),
+    )))
+
+pub returns-in-Err-clause-reads : goal.returns-in-Err-clause-reads
+returns-in-Err-clause-reads g c =
+    told_same_blocks _ _ _ (λ blocks told. (same_blocks _ _ _ _ _ _ _ c.requires.mounted.settled c.block.ensures.checks blocks told, tt))

@@ -1,0 +1,15 @@
+use Rattle.std.proofs.Common.{◌≡◌, false, true, length}
+use Rattle.std.specs.List.{list_all}
+use Rattle.edi_disk.specs.Shown.{drive_of}
+use Rattle.edi_catalog.specs.Stored.{is_stored}
+use Rattle.edi_catalog.specs.Reads.{Checks}
+use Rattle.edi_catalog.proofs.SlotRules.{Progress}
+use Rattle.edi_catalog.proofs.slots.read_slots.Given as goal
+
+abbrev pub invariant-loop-slot : goal.invariant-loop-slot
+invariant-loop-slot g l = record {
+  checks : Checks g.D.Drive.held g.D.Drive.count g.D.Drive.faults false l.initial.disk l.disk
+      (λ blocks. Progress blocks l.slot l.used.items l.files.items);
+  many : length l.files.items ≡ l.slot;
+  stored : list_all (is_stored (g.D.Drive.count (drive_of l.initial.disk))) l.files.items ≡ true;
+}

@@ -1,0 +1,14 @@
+pub mod Build
+pub mod Ends
+pub mod Entries
+pub mod Files
+pub mod Formatted
+pub mod Image
+pub mod Laws
+pub mod Mounted
+pub mod OldImage
+pub mod Reads
+pub mod Records
+pub mod Stored
+pub mod Rules
+pub mod Titles

@@ -1,0 +1,28 @@
+//! The image of a disk, and the files that it holds.
+#![tactic(auto)]
+
+mod blocks;
+mod catalog;
+mod ends;
+mod entries;
+mod entry;
+mod faults;
+mod fields;
+mod files;
+mod formatting;
+pub mod laws;
+mod maps;
+mod mounting;
+mod pages;
+mod reading;
+mod slots;
+mod stored;
+mod title;
+
+pub use catalog::Catalog;
+pub use ends::CatEnd;
+pub use entry::Entry;
+pub use faults::MountFault;
+pub use formatting::{FormatEnd, format};
+pub use mounting::mount;
+pub use title::Title;
