@@ -1,0 +1,17 @@
+pub mod Judged
+pub mod Environment
+pub mod Types
+pub mod Headings
+pub mod Operators
+pub mod Fitting
+pub mod Expressions
+pub mod Statements
+pub mod Declarations
+pub mod Programs
+pub mod Laws
+pub mod Written
+pub mod Accepted
+pub mod RefusedNames
+pub mod RefusedTypes
+pub mod RefusedCalls
+pub mod RefusedPrograms
