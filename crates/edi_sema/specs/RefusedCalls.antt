@@ -1,5 +1,5 @@
--- Refused programs: the first construct that breaks a rule on calls and constructors, by kind and line. The text of each stands in its comment,
--- where `/` ends a line.
+-- Refused programs: the first construct that breaks a rule on calls and constructors, by kind and line.
+-- The text of each stands in its comment, where `/` ends a line.
 use Rattle.std.specs.Prelude.{◌≡◌, pos, Some, None, codes, refl}
 use Rattle.edi_tree.specs.declared.constants.Constant.TheVariants as constant
 use Rattle.edi_tree.specs.declared.expressions.Root.TheVariants as root
@@ -65,6 +65,30 @@ pub row_variable_argument : resolve_tree
     2))
     ≡ faults kind.Call 2
 row_variable_argument = refl
+
+-- proc main var c: char proc p(var a: int) begin skip end begin / p(c) end
+pub row_type_of_variable : resolve_tree
+    (program no_global (procedure (heading (id "main" 1) no_params None) (next_declaration (item_declaration (var_item
+    (var_list (group (id "c" 1) no_name (id "char" 1)) no_group))) (next_declaration (item_declaration (procedure_item
+    (procedure (heading (id "p" 1) (params (var_param (group (id "a" 1) no_name (id "int" 1))) no_param) None) no_declaration
+    (list skip no_statement) 1))) no_declaration)) (list (call (id "p" 2) (Some (args (only (named (id "c" 2))) no_expr)))
+    no_statement) 2))
+    ≡ faults kind.Call 2
+row_type_of_variable = refl
+
+-- proc main var x: int proc f(a: int): int begin val f := a end begin x := f(1); x := / f(1, y) end
+pub row_number_in_expression : resolve_tree
+    (program no_global (procedure (heading (id "main" 1) no_params None) (next_declaration (item_declaration (var_item
+    (var_list (group (id "x" 1) no_name (id "int" 1)) no_group))) (next_declaration (item_declaration (procedure_item
+    (procedure (heading (id "f" 1) (params (value_param (group (id "a" 1) no_name (id "int" 1))) no_param) (Some (id "int"
+    1))) no_declaration (list (assignment (variable (root.Val (id "f" 1)) no_selector) 1 (only (named (id "a" 1))))
+    no_statement) 1))) no_declaration)) (list (assignment (variable (root.Name (id "x" 1)) no_selector) 1 (only (call_factor
+    (id "f" 1) (args (only (numeral (pos 1))) no_expr)))) (next_statement (assignment (variable (root.Name (id "x" 1))
+    no_selector) 1 (only (call_factor (id "f" 2) (args (only (numeral (pos 1))) (next_expr (only (named (id "y" 2)))
+    no_expr))))) no_statement)) 2))
+    ≡ faults kind.Call 2
+unfolding size
+row_number_in_expression = refl
 
 -- proc main proc q(a: int) begin skip end proc p(proc r(b: int)) begin r(1) end begin p(q); / p(p) end
 pub row_procedure_argument : resolve_tree

@@ -1,5 +1,5 @@
--- Refused programs: the first construct that breaks a rule on names, by kind and line. The text of each stands in its comment,
--- where `/` ends a line.
+-- Refused programs: the first construct that breaks a rule on names, by kind and line.
+-- The text of each stands in its comment, where `/` ends a line.
 use Rattle.std.specs.Prelude.{◌≡◌, pos, Some, None, codes, refl}
 use Rattle.edi_tree.specs.declared.constants.Constant.TheVariants as constant
 use Rattle.edi_tree.specs.declared.expressions.Root.TheVariants as root
@@ -114,6 +114,22 @@ pub row_exported_twice : resolve_tree
     (list skip no_statement))) no_declaration)) (list skip no_statement) 5))
     ≡ faults kind.Ambiguous 4
 row_exported_twice = refl
+
+-- a marked name stays in its module too:
+-- proc main module * const b = 1 const / b = 2 begin skip end begin skip end
+pub row_exported_stays : resolve_tree
+    (program no_global (procedure (heading (id "main" 1) no_params None) (next_declaration (module_declaration (module_with
+    (next_member (exported_member (const_item (const_list (record {
+      name = (id "b" 1);
+      constant = (constant.Numeral (pos 1));
+    }) no_const_decl))) (next_member (item_member (const_item (const_list (record {
+      name = (id "b" 2);
+      constant =
+          (constant.Numeral (pos 2));
+    }) no_const_decl))) no_member)) (list skip no_statement))) no_declaration) (list skip
+    no_statement) 2))
+    ≡ faults kind.Ambiguous 2
+row_exported_stays = refl
 
 -- proc main / var a: int / module const b = 1; / a = true begin a := 1 end / begin skip end
 pub row_unmarked_twice : resolve_tree

@@ -1,5 +1,5 @@
--- Refused programs: the first construct that breaks a rule on types, split procedures and assignments, by kind and line. The text of each stands in its comment,
--- where `/` ends a line.
+-- Refused programs: the first construct that breaks a rule on types, split procedures and assignments, by kind and line.
+-- The text of each stands in its comment, where `/` ends a line.
 use Rattle.std.specs.Prelude.{false, ◌≡◌, pos, Some, None, refl}
 use Rattle.edi_tree.specs.declared.constants.Constant.TheVariants as constant
 use Rattle.edi_tree.specs.declared.expressions.Root.TheVariants as root
@@ -190,6 +190,15 @@ pub row_other_parameter_kind : resolve_tree
     no_param) None) no_declaration (list skip no_statement) 3))) no_declaration)) (list skip no_statement) 4))
     ≡ faults kind.Split 3
 row_other_parameter_kind = refl
+
+-- proc main pre proc p(var a: int) post proc / p(var a: char) begin skip end begin skip end
+pub row_other_variable_type : resolve_tree
+    (program no_global (procedure (heading (id "main" 1) no_params None) (next_declaration (item_declaration (pre_item
+    (heading (id "p" 1) (params (var_param (group (id "a" 1) no_name (id "int" 1))) no_param) None))) (next_declaration
+    (item_declaration (post_item (procedure (heading (id "p" 2) (params (var_param (group (id "a" 2) no_name (id "char" 2)))
+    no_param) None) no_declaration (list skip no_statement) 2))) no_declaration)) (list skip no_statement) 2))
+    ≡ faults kind.Split 2
+row_other_variable_type = refl
 
 -- the names in the `post` count in the body:
 -- proc main / pre proc p(a, b: int) / post proc p(c: int; a: int) begin / b := 1 end / begin skip end
