@@ -1,6 +1,5 @@
 -- Each need that a resolved program tells is at most 65,535.
-use Rattle.std.proofs.Common.{◌≡◌, ℕ, ◌<◌, ◌≤◌, suc, Bool, true, false, ◌⊎◌, List, [], ◌∷◌, ◌++◌, length, get_or, set, Option, Some, None, All, nat_lt, nat_le, is_some, ◌||◌, ◌&&◌, ◌==◌, int_le, if◌then◌else◌, refl, arith, subst, sym}
-use Rattle.std.specs.Prelude.{⊤}
+use Rattle.std.proofs.Common.{◌≡◌, ℕ, suc, Bool, true, false, List, [], length, Option, All, nat_lt, nat_le, is_some, ◌||◌, ◌&&◌, ◌==◌, int_le, refl, arith, subst, sym}
 use Rattle.std.proofs.lemmas.List.{get_or_past}
 use Rattle.std.proofs.lemmas.List.Elements.{All-set, All-get_or, All-push}
 use Rattle.edi_scope.specs.declared.entity.Entity.{Entity}
@@ -13,18 +12,17 @@ use Rattle.edi_tree.specs.Tree as text
 use Rattle.edi_unit.specs.declared.units.BlockKind.{BlockKind}
 use Rattle.edi_unit.specs.declared.units.BlockKind.TheVariants as block_kind
 use Rattle.edi_unit.specs.Types.{Shape, record_of, array_of, set_of, greatest_size, is_elementary, int_type, bool_type}
-use Rattle.edi_unit.specs.Tree as unit
 use Rattle.edi_unit.specs.Tree.{Acts, Block, ProgramUnit}
 use Rattle.edi_unit.specs.Need.{no_block, block_at, need}
-use Rattle.edi_unit.specs.Fits.{Heading, heading, heading_result, Formals}
+use Rattle.edi_unit.specs.Fits.{heading, heading_result, Formals}
 use Rattle.edi_sema.specs.declared.fault.StaticKind.TheVariants as kind
-use Rattle.edi_sema.specs.Judged.{Judged, gives, faults, ◌>>=◌, must}
-use Rattle.edi_sema.specs.Environment.{Begun, Environment, at_first, look_up, type_named, declare, give_outside, enter, here, with_variable, set_block}
-use Rattle.edi_sema.specs.Types.{constant, const_decl, const_decls, const_list, most_constants, enum_constant, enum_constants, enum_decl, Fields, fields_of_groups, no_fields, declare_type, array_decl, set_decl, type_decl, variable_decl, variables_named, variables_of_groups, var_list}
+use Rattle.edi_sema.specs.Judged.{gives, ◌>>=◌, must}
+use Rattle.edi_sema.specs.Environment.{Environment, at_first, look_up, type_named, declare, give_outside, enter, here, set_block}
+use Rattle.edi_sema.specs.Types.{constant, const_decl, const_decls, const_list, most_constants, enum_constants, enum_decl, fields_of_groups, no_fields, declare_type, array_decl, set_decl, type_decl, variable_decl, variables_named, variables_of_groups, var_list}
 use Rattle.edi_sema.specs.Headings.{Listed, Headed, leave, round, own_name, params_named, value_group, variable_group, procedure_named, result_named, with_result, heading_parts, parameters, more_parameters, parameter}
 use Rattle.edi_sema.specs.Fitting.{use_of}
 use Rattle.edi_sema.specs.Expressions.{expression}
-use Rattle.edi_sema.specs.Statements.{After, assigned, called, with_statements, add_statements, with_need, close_block, enter_branch, leave_branch, statement_list, statements, statement, conditions, elses, condition, branch, branches}
+use Rattle.edi_sema.specs.Statements.{After, assigned, called, add_statements, with_need, close_block, enter_branch, leave_branch, statement_list, statements, statement, conditions, elses, condition, branch, branches}
 use Rattle.edi_sema.specs.Declarations.{kind_of, with_heading, block_of, procedure_name, heading_of, begun_named, completes, post_marked, all_completed, begin_procedure, begin_post, pre_decl, procedure_rest, item, module_decl, members, member, declarations, declaration}
 use Rattle.edi_sema.specs.Programs.{program_heading, global_decl, global_decls, program_procedure, resolve_tree}
 use Rattle.edi_sema.specs.Laws.{IsSmall, NeedsAreSmall}

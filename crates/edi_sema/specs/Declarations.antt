@@ -1,15 +1,14 @@
 -- The rules on procedures, also split ones, and on modules and what they export.
-use Rattle.std.specs.Prelude.{ℕ, Bool, true, false, not, if◌then◌else◌, List, [], ◌∷◌, ◌++◌, length, filter, Option, Some, None, unwrap_or}
+use Rattle.std.specs.Prelude.{ℕ, Bool, true, false, not, if◌then◌else◌, List, [], ◌∷◌, ◌++◌, length, filter, Option, Some, None}
 use Rattle.std.specs.Option.{option_map_or}
 use Rattle.std.specs.Str.{bytes_eq}
-use Rattle.edi_scope.specs.declared.entity.Entity.{Entity}
 use Rattle.edi_scope.specs.declared.entity.Entity.TheVariants as entity
 use Rattle.edi_tree.specs.declared.names.Name.{Name}
 use Rattle.edi_tree.specs.Tree as text
 use Rattle.edi_unit.specs.declared.units.BlockKind.{BlockKind}
 use Rattle.edi_unit.specs.declared.units.BlockKind.TheVariants as block_kind
 use Rattle.edi_unit.specs.Tree.{Acts}
-use Rattle.edi_unit.specs.Fits.{Heading, heading_result, heading_formals}
+use Rattle.edi_unit.specs.Fits.{heading_result, heading_formals}
 use Rattle.edi_sema.specs.declared.fault.StaticKind.TheVariants as kind
 use Rattle.edi_sema.specs.Judged.{Judged, gives, faults, ◌>>=◌, must}
 use Rattle.edi_sema.specs.Environment.{Begun, Environment, declare, give_outside, enter, here, begun_block, with_block, heading_at, same_heading, parameters_of}

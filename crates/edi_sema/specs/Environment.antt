@@ -5,17 +5,16 @@ use Rattle.edi_scope.specs.declared.entity.Entity.{Entity}
 use Rattle.edi_scope.specs.declared.entity.Entity.TheVariants as entity
 use Rattle.edi_scope.specs.Scope.{Scope, standard, visible, declared, outside, entered, with_name, exported}
 use Rattle.edi_unit.specs.declared.units.BlockKind.{BlockKind}
-use Rattle.edi_unit.specs.declared.units.BlockKind.TheVariants as block_kind
 use Rattle.edi_unit.specs.declared.units.Parameter.{Parameter}
 use Rattle.edi_unit.specs.declared.units.Parameter.TheVariants as slot
 use Rattle.edi_unit.specs.Types.{Shape, standard_types}
-use Rattle.edi_unit.specs.Tree.{Acts, no_act, Block}
+use Rattle.edi_unit.specs.Tree.{no_act, Block}
 use Rattle.edi_unit.specs.Need.{block_at, slots}
 use Rattle.edi_unit.specs.Fits.{Heading, heading, Formals, no_formal, value_then, variable_then, procedure_then, heading_result}
 use Rattle.edi_tree.specs.declared.names.Name.{Name}
 use Rattle.edi_sema.specs.declared.fault.StaticKind.{StaticKind}
 use Rattle.edi_sema.specs.declared.fault.StaticKind.TheVariants as kind
-use Rattle.edi_sema.specs.Judged.{Judged, gives, faults, ◌>>=◌, must}
+use Rattle.edi_sema.specs.Judged.{Judged, gives, faults, ◌>>=◌}
 
 -- a procedure whose `pre` has stood and whose `post` is still to come: the name in its `pre`, and its block
 pub record Begun : Type 0 where

@@ -1,6 +1,6 @@
 -- The rules on expressions and variables, construct by construct: each is judged after its parts, the parts from left to
 -- right.
-use Rattle.std.specs.Prelude.{ℕ, suc, Bool, false, true, ◌==◌, List, [], ◌∷◌, ◌++◌, map, slice_index_or, Option, Some, None, unwrap_or}
+use Rattle.std.specs.Prelude.{ℕ, suc, Bool, true, ◌==◌, List, [], ◌∷◌, ◌++◌, map, slice_index_or, Option, Some, None, unwrap_or}
 use Rattle.edi_scope.specs.declared.entity.Entity.{Entity}
 use Rattle.edi_scope.specs.declared.entity.Entity.TheVariants as entity
 use Rattle.edi_tree.specs.declared.names.Name.{Name}
@@ -15,7 +15,7 @@ use Rattle.edi_sema.specs.declared.fault.StaticKind.TheVariants as kind
 use Rattle.edi_sema.specs.Judged.{Judged, gives, faults, ◌>>=◌, must}
 use Rattle.edi_sema.specs.Environment.{Environment, look_up}
 use Rattle.edi_sema.specs.Operators.{Typed, relation_operator, addition_operator, multiplication_operator, signed, Linked, Chained, operated, with_links}
-use Rattle.edi_sema.specs.Fitting.{Called, Use, constructs, calls, halts, neither, use_of, rest_of, variable_argument, passed, name_alone, is_variable_alone, string_alone, character, single, empty_set, function_called, invoked, Rooted, as_variable, as_function, rooted_value, is_record, place_of_name, is_indexed_by, takes_strings, constructed}
+use Rattle.edi_sema.specs.Fitting.{Use, constructs, calls, halts, neither, use_of, rest_of, variable_argument, passed, name_alone, is_variable_alone, string_alone, character, single, empty_set, function_called, invoked, Rooted, as_variable, as_function, rooted_value, is_record, place_of_name, is_indexed_by, takes_strings, constructed}
 
 -- a part of a variable, with its type
 pub record Parted : Type 0 where

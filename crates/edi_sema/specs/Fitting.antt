@@ -5,12 +5,11 @@ use Rattle.std.specs.Str.{bytes_eq}
 use Rattle.edi_scope.specs.declared.entity.Entity.{Entity}
 use Rattle.edi_scope.specs.declared.entity.Entity.TheVariants as entity
 use Rattle.edi_tree.specs.declared.names.Name.{Name}
-use Rattle.edi_tree.specs.declared.names.Chars.{Chars}
 use Rattle.edi_tree.specs.declared.expressions.Root.TheVariants as root
 use Rattle.edi_tree.specs.Tree as text
 use Rattle.edi_unit.specs.declared.expressions.Callee.{Callee}
 use Rattle.edi_unit.specs.declared.expressions.Callee.TheVariants as callee
-use Rattle.edi_unit.specs.Types.{Shape, record_of, array_of, set_of, shape_at, int_type, char_type, is_elementary, is_elementary_shape, is_set_shape, element_count}
+use Rattle.edi_unit.specs.Types.{Shape, record_of, array_of, set_of, shape_at, int_type, char_type, is_elementary, is_set_shape, element_count}
 use Rattle.edi_unit.specs.Tree as unit
 use Rattle.edi_unit.specs.Need.{block_at}
 use Rattle.edi_unit.specs.Fits.{Heading, Formals, no_formal, value_then, variable_then, procedure_then, heading_result, heading_formals}

@@ -1,6 +1,5 @@
 -- The rules on headings: their parameters, their result, and their own name.
-use Rattle.std.specs.Prelude.{ℕ, ◌+◌, Bool, false, List, [], ◌∷◌, ◌++◌, length, take, Option, Some, None}
-use Rattle.edi_scope.specs.declared.entity.Entity.{Entity}
+use Rattle.std.specs.Prelude.{ℕ, ◌+◌, false, [], ◌∷◌, ◌++◌, length, take, Option, Some, None}
 use Rattle.edi_scope.specs.declared.entity.Entity.TheVariants as entity
 use Rattle.edi_scope.specs.Scope.{outside}
 use Rattle.edi_tree.specs.declared.names.Name.{Name}

@@ -8,6 +8,8 @@ pub mod Expressions
 pub mod Statements
 pub mod Declarations
 pub mod Programs
+pub mod Answers
+pub mod Views
 pub mod Laws
 pub mod Written
 pub mod Accepted

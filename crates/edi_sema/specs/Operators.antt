@@ -1,5 +1,5 @@
 -- The rules on operators.
-use Rattle.std.specs.Prelude.{ℕ, Bool, true, false, ◌&&◌, ◌||◌, ◌==◌, List, Option, Some, None}
+use Rattle.std.specs.Prelude.{ℕ, Bool, false, ◌&&◌, ◌||◌, ◌==◌, List, Option, Some, None}
 use Rattle.edi_tree.specs.declared.expressions.Relation.{Relation}
 use Rattle.edi_tree.specs.declared.expressions.Relation.TheVariants as relation
 use Rattle.edi_tree.specs.declared.expressions.Addition.{Addition}

@@ -1,5 +1,5 @@
 -- The rules on a program's heading, and what a whole program is resolved to.
-use Rattle.std.specs.Prelude.{◌≡◌, ℕ, pos, int_le, Bool, true, false, ◌&&◌, ◌==◌, if◌then◌else◌, List, [], ◌∷◌, Option, Some, None, codes}
+use Rattle.std.specs.Prelude.{◌≡◌, ℕ, pos, Bool, false, ◌&&◌, ◌==◌, if◌then◌else◌, List, [], ◌∷◌, Option, Some, None, codes}
 use Rattle.std.specs.Ordering.{int_eq}
 use Rattle.std.specs.Str.{bytes_eq}
 use Rattle.edi_scope.specs.declared.entity.Entity.TheVariants as entity
@@ -8,13 +8,13 @@ use Rattle.edi_tree.specs.Tree as text
 use Rattle.edi_unit.specs.declared.units.BlockKind.TheVariants as block_kind
 use Rattle.edi_unit.specs.Types.{Shape, array_of, shape_at, int_type, char_type, bool_type}
 use Rattle.edi_unit.specs.Tree.{ProgramUnit}
-use Rattle.edi_unit.specs.Fits.{Heading, heading, Formals, no_formal, value_then, variable_then, procedure_then, heading_result, heading_formals}
+use Rattle.edi_unit.specs.Fits.{Heading, heading, Formals, no_formal, value_then, variable_then, procedure_then, heading_formals}
 use Rattle.edi_sema.specs.declared.fault.StaticKind.{StaticKind}
 use Rattle.edi_sema.specs.declared.fault.StaticKind.TheVariants as kind
 use Rattle.edi_sema.specs.Judged.{Judged, gives, faults, ◌>>=◌}
 use Rattle.edi_sema.specs.Environment.{Environment, at_first, declare, enter, same_heading, no_heading}
 use Rattle.edi_sema.specs.Types.{const_list, type_decl}
-use Rattle.edi_sema.specs.Headings.{Headed, round, own_name, heading_parts}
+use Rattle.edi_sema.specs.Headings.{round, own_name, heading_parts}
 use Rattle.edi_sema.specs.Fitting.{rest_of}
 use Rattle.edi_sema.specs.Declarations.{with_heading, heading_of, procedure_rest}
 

@@ -282,6 +282,26 @@ pub row_title : resolve_tree
 unfolding size
 row_title = refl
 
+-- array name [1:13] (char) proc main(proc / find(title: name; var found: bool)) begin skip end
+pub row_long_title : resolve_tree
+    (program (next_global (type_global (array_decl (id "name" 1) 1 (constant.Numeral (pos 1)) (constant.Numeral (pos 13)) (id
+    "char" 1))) no_global) (procedure (heading (id "main" 1) (params (procedure_param (heading (id "find" 2) (params
+    (value_param (group (id "title" 2) no_name (id "name" 2))) (next_param (var_param (group (id "found" 2) no_name (id "bool"
+    2))) no_param)) None)) no_param) None) no_declaration (list skip no_statement) 2))
+    ≡ faults kind.Heading 2
+unfolding size
+row_long_title = refl
+
+-- array name [0:12] (char) proc main(proc / find(title: name; var found: bool)) begin skip end
+pub row_title_from_zero : resolve_tree
+    (program (next_global (type_global (array_decl (id "name" 1) 1 (constant.Numeral (pos 0)) (constant.Numeral (pos 12)) (id
+    "char" 1))) no_global) (procedure (heading (id "main" 1) (params (procedure_param (heading (id "find" 2) (params
+    (value_param (group (id "title" 2) no_name (id "name" 2))) (next_param (var_param (group (id "found" 2) no_name (id "bool"
+    2))) no_param)) None)) no_param) None) no_declaration (list skip no_statement) 2))
+    ≡ faults kind.Heading 2
+unfolding size
+row_title_from_zero = refl
+
 -- proc main(proc beep; a: / b) begin skip end
 pub row_parameter_before_heading : resolve_tree
     (program no_global (procedure (heading (id "main" 1) (params (procedure_param (heading (id "beep" 1) no_params None))

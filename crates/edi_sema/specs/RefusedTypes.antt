@@ -142,6 +142,15 @@ pub row_no_post : resolve_tree
     ≡ faults kind.Split 2
 row_no_post = refl
 
+-- the first one that is not completed, before the statements:
+-- proc main pre proc / p pre proc / q begin / x end
+pub row_two_without_post : resolve_tree
+    (program no_global (procedure (heading (id "main" 1) no_params None) (next_declaration (item_declaration (pre_item
+    (heading (id "p" 2) no_params None))) (next_declaration (item_declaration (pre_item (heading (id "q" 3) no_params None)))
+    no_declaration)) (list (call (id "x" 4) None) no_statement) 4))
+    ≡ faults kind.Split 2
+row_two_without_post = refl
+
 -- the first procedure of a scope that is not completed, at its `begin`:
 -- proc main pre proc q post proc q begin skip end / module pre proc / p pre proc q / post proc q begin skip end begin skip end begin skip end
 pub row_first_without_post : resolve_tree

@@ -1,7 +1,5 @@
 -- The rules on statements.
-use Rattle.std.specs.Prelude.{ℕ, Bool, not, ◌&&◌, ◌==◌, nat_le, List, [], ◌∷◌, length, slice_set, Option, Some, None}
-use Rattle.edi_tree.specs.declared.constants.Constant.{Constant}
-use Rattle.edi_tree.specs.declared.names.Name.{Name}
+use Rattle.std.specs.Prelude.{ℕ, not, ◌&&◌, ◌==◌, nat_le, List, [], ◌∷◌, length, Option, Some, None}
 use Rattle.edi_tree.specs.Tree as text
 use Rattle.edi_unit.specs.declared.units.BlockKind.TheVariants as block_kind
 use Rattle.edi_unit.specs.Types.{int_type, bool_type, greatest_size}

@@ -2,7 +2,12 @@
 //! definitions stand in `specs/`: `resolve_tree` (`Programs`) goes through a tree construct by construct.
 #![tactic(auto)]
 
+mod constants;
 mod fault;
+mod fits;
+mod headings;
+mod known;
 pub mod laws;
+mod operands;
 
 pub use fault::{StaticFault, StaticKind};
