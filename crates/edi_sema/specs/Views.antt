@@ -1,5 +1,5 @@
 -- The plain data for which the code's headings and environments stand.
-use Rattle.std.specs.Prelude.{ℕ, Bool, false, ◌==◌, List, [], ◌∷◌, map, reverse}
+use Rattle.std.specs.Prelude.{ℕ, Bool, false, ◌==◌, List, [], ◌∷◌, map}
 use Rattle.edi_unit.specs.declared.units.Parameter.{Parameter}
 use Rattle.edi_unit.specs.declared.units.Parameter.TheVariants as slot
 use Rattle.edi_unit.specs.Lists.{list_items}
@@ -14,7 +14,9 @@ use Rattle.edi_sema.specs.declared.known.Known.{Known}
 use Rattle.edi_sema.specs.declared.operands.Typed as code_typed
 use Rattle.edi_sema.specs.declared.operands.Linked as code_linked
 use Rattle.edi_sema.specs.declared.constants.Ordinal as code_ordinal
+use Rattle.edi_sema.specs.declared.fits.Rooted as code_rooted
 use Rattle.edi_sema.specs.Types.{Ordinal}
+use Rattle.edi_sema.specs.Fitting.{Rooted}
 use Rattle.edi_sema.specs.Environment.{Begun, Environment, same_heading}
 use Rattle.edi_sema.specs.Operators.{Typed, Linked}
 
@@ -69,7 +71,7 @@ environment known = record {
   blocks = map block_of known.blocks.items;
   headings = map asked_of known.headings.items;
   shapes = map asked_of known.shapes.items;
-  around = reverse known.around.items;
+  around = known.around.items;
   begun = map begun_of known.begun.items;
 }
 
@@ -83,3 +85,7 @@ linked_of l = record { what = link_of l.link; of = l.of }
 -- the value of an elementary type
 abbrev pub ordinal_of : code_ordinal.Ordinal → Ordinal
 ordinal_of c = record { of = c.of; ordinal = c.ordinal }
+
+-- a variable of a block that is so many steps out
+abbrev pub rooted_of : code_rooted.Rooted → Rooted
+rooted_of r = record { levels = r.levels; variable = r.variable; of = r.of }

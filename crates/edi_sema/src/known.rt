@@ -38,7 +38,7 @@ pub(crate) struct Known {
     pub(crate) headings: Vec<Asked>,
     /// The headings of procedure parameters, by the numbers with which the scopes keep them.
     pub(crate) shapes: Vec<Asked>,
-    /// The blocks round this place, the outermost first.
+    /// The blocks round this place, the innermost first.
     pub(crate) around: Vec<u32>,
     /// The procedures of the innermost scope that are begun, in the order of the text.
     pub(crate) begun: Vec<Begun>,
@@ -185,17 +185,36 @@ impl Known {
     pub(crate) fn here(&self) -> u32
         ensures exact { result ≡ spec.here (environment self.now) }
     {
-        match self.around.last() {
+        match self.around.first() {
             Some(block) => *block,
             None => 0,
         }
     }
 
+    /// The steps out from the block of this place to one round it.
+    pub(crate) fn steps_to(&self, block: u32) -> usize
+        ensures exact { result ≡ spec.steps_to block (environment self.now).around }
+    {
+        let mut steps = 0;
+        for around in self.around.as_slice() {
+            if *around == block {
+                return steps;
+            }
+            steps += 1;
+        }
+        steps
+    }
+
     /// Whether a block is round this place.
     pub(crate) fn is_around(&self, block: u32) -> bool
-        ensures exact { result ≡ list_any (λ a. a == block) self.now.around.items }
+        ensures exact { result ≡ list_any (λ a. a == block) (environment self.now).around }
     {
-        self.around.iter().any(|around| *around == block)
+        for around in self.around.as_slice() {
+            if *around == block {
+                return true;
+            }
+        }
+        false
     }
 }
 
