@@ -1,0 +1,4 @@
+pub mod Judging
+pub mod Fields
+pub mod Lengths
+pub mod Needs
