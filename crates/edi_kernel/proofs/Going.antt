@@ -1,0 +1,558 @@
+-- A stint of the kernel is one of the machine.
+use Rattle.std.proofs.Common.{◌≡◌, ℕ, zero, suc, ◌+◌, ◌-◌, ◌<◌, ◌≤◌, inl, inr, Bool, true, false, ◌&&◌, nat_lt, ◌*◌, List, [], ◌∷◌, ◌++◌, length, map, Option, Some, None, refl, sym, ◌∙◌, ap, arith, subst, nat_eq, if◌then◌else◌, eq-eqb}
+use Rattle.std.specs.Prelude.{◌==◌}
+use Rattle.std.specs.Option.{option_map}
+use Rattle.std.proofs.lemmas.Bool.{cases_eq, ne_eqb, eqb-false}
+use Rattle.edi_told.specs.Told.{WhereTold}
+use Rattle.edi_calls.specs.State.{State}
+use Rattle.edi_calls.specs.Names.{Name, same}
+use Rattle.edi_calls.specs.Outcome as outcome
+use Rattle.edi_calls.specs.Ready.{child, children, all_marked, joins}
+use Rattle.edi_calls.proofs.Tables.{find-with_at-same, find-with_at-other}
+use Rattle.edi_target.specs.Op.{Branch}
+use Rattle.edi_target.specs.Fetch.{fetch}
+use Rattle.edi_target.specs.Effect.{Local, entering, leaving, looping, arriving, again, forking, exiting, finishing}
+use Rattle.edi_target.specs.Mach as mach
+use Rattle.edi_target.specs.Mach.{Running, Machine, Stepped, went, ended, held_at, running_of, activity_of, back, with_children, at_turn, exited, is_first}
+use Rattle.edi_ring.proofs.Homes.{length-le-nodes}
+use Rattle.edi_machine.specs.declared.activity.Activity.{Activity}
+use Rattle.edi_machine.specs.declared.ends.TurnKind.{TurnKind}
+use Rattle.edi_machine.specs.declared.ends.TurnKind.TheVariants as kind
+use Rattle.edi_machine.specs.Activities.{IsOrdered}
+use Rattle.edi_machine.specs.Starts.{branches_at}
+use Rattle.edi_kernel.specs.declared.ends.Ending.{Ending}
+use Rattle.edi_kernel.specs.declared.ends.Ending.TheVariants as ending
+use Rattle.edi_kernel.specs.declared.ends.StintEnd.{StintEnd}
+use Rattle.edi_kernel.specs.declared.stretch.Pause.{Pause}
+use Rattle.edi_kernel.specs.declared.stretch.Pause.TheVariants as pause
+use Rattle.edi_kernel.specs.declared.state.KernelState.{KernelState}
+use Rattle.edi_kernel.specs.declared.table.Standing.{Standing}
+use Rattle.edi_kernel.specs.declared.table.Standing.TheVariants as standing
+use Rattle.edi_kernel.specs.declared.table.Process.{Process}
+use Rattle.edi_kernel.specs.declared.table.Table.{Table}
+use Rattle.edi_kernel.specs.Table.{Puts, Removed, at_its_when, waiting_for, process_at, marks_with, marked_with, unmarked, ready_places, free_places, is_live, is_waiting, resumed, with_process}
+use Rattle.edi_kernel.specs.Stands.{IsTable, IsTaken, IsBetween, Naming, Awaits, Born, Stands, is_child_of, entry_of, children_of}
+use Rattle.edi_kernel.specs.Stretch.{Paused, going, pausing, stopping, stretch, running_in, Pauses, Stretches, Allows}
+use Rattle.edi_kernel.specs.Stints as stints
+use Rattle.edi_kernel.specs.Stints.{stint, stint_after}
+use Rattle.edi_kernel.specs.Forks.{HaveBegun, share_in}
+use Rattle.edi_kernel.specs.Kernel.{IsKernel, IsTakenIn, Holds, Switches, EndsRun, GoesTo, attempt_end, HandlesTurn, Handles}
+use Rattle.edi_kernel.proofs.Names.{child_some, same_ends}
+use Rattle.edi_kernel.proofs.Counts.{marked_few, map-append, where_same}
+use Rattle.edi_kernel.proofs.Changes.{one_changes, at_set_same, at_set_other}
+use Rattle.edi_kernel.proofs.Lists.{written_table, unmarked_at}
+use Rattle.edi_kernel.proofs.Walks.{Follows, follows_itself, names-with_at, marks_after, Comes, comes}
+use Rattle.edi_kernel.proofs.Switches.{At, taken_live, follows_marks, unmarked_table, unmarked_taken, unmarked_at_place, marked_at_place, stood, stood_ready, all_ready}
+use Rattle.edi_kernel.proofs.Exits.{Exited, exits, kept}
+use Rattle.edi_kernel.proofs.Handled.{handled}
+use Rattle.edi_kernel.proofs.Forking.{Starts, Grown, grown, drop_all}
+
+-- ---- what is taken
+
+pub taken_at : (k : KernelState) (place : ℕ) → IsKernel k → k.taken ≡ Some place → IsTaken k.table place
+taken_at k place h e = subst (IsTakenIn k.table) e h.taken
+
+pub unmarked_if : (b : Bool) (t : Table) (place : ℕ) → IsTaken t place → IsTaken (if b then unmarked t else t) place
+unmarked_if true t place h = unmarked_taken t place h
+unmarked_if false t place h = h
+
+pub few_marks : (t : Table) (place : ℕ) → IsTable t → IsTaken t place → t.marks < 64
+few_marks t place s h = omega (arith, h.counted, marked_few t (place ∷ ready_places t), length-le-nodes 32 2 t.lists 0 s.sound)
+
+-- the same stretch of the same activity
+pub stretches_same : (words store : List ℕ) (live live' left : ℕ) (first : Bool) (a b : Activity) (old new : Option State) (pause : Pause) (now : State → Running) (c : Bool) → live ≡ live' → a ≡ b →
+    WhereTold old new (λ s t. Stretches words live first (running_in store a s left) false pause (now t) c) → WhereTold old new (λ s t. Stretches words live' first (running_in store b s left) false pause (now t) c)
+stretches_same words store live live' left first a b old new pause now c e f h =
+    subst (λ x. WhereTold old new (λ s t. Stretches words live' first (running_in store x s left) false pause (now t) c)) f
+    (subst (λ n. WhereTold old new (λ s t. Stretches words n first (running_in store a s left) false pause (now t) c)) e h)
+
+-- the process goes on as its entry says
+runs : (m : Machine) (store : List ℕ) (s : State) (left : ℕ) (process : Process) (forks : ℕ) → m.memory ≡ store → m.system ≡ s → m.turns ≡ left →
+    running_of m (entry_of process forks) ≡ running_in store (resumed process) s left
+runs m store s left process forks e f g = by_standing process.standing refl
+  where
+    by_standing : (x : Standing) → process.standing ≡ x → running_of m (entry_of process forks) ≡ running_in store (resumed process) s left
+    by_standing standing.Ready h =
+        ap (λ y. running_of m (entry_of (record process { standing = y }) forks)) h
+        ∙ same ∙ sym (ap (λ y. running_in store (resumed (record process { standing = y })) s left) h)
+      where
+        same : running_of m (entry_of (record process { standing = standing.Ready }) forks) ≡ running_in store (resumed (record process { standing = standing.Ready })) s left
+        same = cc
+    by_standing standing.AtWhen h =
+        ap (λ y. running_of m (entry_of (record process { standing = y }) forks)) h
+        ∙ same ∙ sym (ap (λ y. running_in store (resumed (record process { standing = y })) s left) h)
+      where
+        same : running_of m (entry_of (record process { standing = standing.AtWhen }) forks) ≡ running_in store (resumed (record process { standing = standing.AtWhen })) s left
+        same = cc
+    by_standing (standing.Waiting n) h =
+        ap (λ y. running_of m (entry_of (record process { standing = y }) forks)) h
+        ∙ same ∙ sym (ap (λ y. running_in store (resumed (record process { standing = y })) s left) h)
+      where
+        same : running_of m (entry_of (record process { standing = standing.Waiting n }) forks) ≡ running_in store (resumed (record process { standing = standing.Waiting n })) s left
+        same = cc
+
+-- the first process has the first place
+first_is : (t : Table) (n : Naming) (m : Machine) (place : ℕ) → Stands t n m → is_live t place ≡ true → (place == 0) ≡ is_first (n.name place)
+first_is t n m zero s l = sym (ap is_first s.root)
+first_is t n m (suc i) s l = not_zero i ∙ sym (named (n.name (suc i)) refl)
+  where
+    not_zero : (i : ℕ) → (suc i == 0) ≡ false
+    not_zero i = ne_eqb (suc i) 0 (λ e. omega (arith, e))
+
+    named : (q : Name) → n.name (suc i) ≡ q → is_first (n.name (suc i)) ≡ false
+    named [] e = let b = s.born (suc i) l (omega arith) in absurd (child_some _ b.fork b.number (sym b.named ∙ e))
+    named (x ∷ q) e = ap is_first e
+
+-- ---- the stint
+
+module _ (words : List ℕ) (old mid new : KernelState) (place left left1 used : ℕ) (s t : State) (n : Naming) (m : Machine) (a : Activity) (cleared : Bool) where
+  abbrev p : Name
+  p = n.name place
+
+  abbrev others : List Name
+  others = map n.name (ready_places old.table)
+
+  abbrev live : ℕ
+  live = 32 - length (free_places old.table)
+
+  abbrev now : Running
+  now = running_in mid.store a t left1
+
+  pub record Given : Type 0 where
+    pub table : IsTable old.table
+    pub taken : IsTaken old.table place
+    pub stands : Stands old.table n m
+    pub memory : m.memory ≡ old.store
+    pub system : m.system ≡ s
+    pub turns : m.turns ≡ left
+    pub mid_table : mid.table ≡ (if cleared then unmarked old.table else old.table)
+    pub none_taken : new.taken ≡ None
+    pub spent : left - used ≡ left1
+    pub ordered : IsOrdered a
+
+  module _ (g : Given) where
+    is_live_count : live ≡ length m.activities
+    is_live_count = omega (arith, g.stands.count)
+
+    abbrev start : Running
+    start = running_in old.store (resumed (process_at old.table place)) s left
+
+    came : (steps : ℕ) (x : Paused) → stretch (fetch words) live (place == 0) steps (running_in old.store (resumed (process_at old.table place)) s left) false ≡ x →
+        Comes (fetch words) m p others (n.forks place) steps m x
+    came steps x e =
+        subst (Comes (fetch words) m p others (n.forks place) steps m)
+        (ap (λ l. stretch (fetch words) l (is_first p) steps (running_in old.store (resumed (process_at old.table place)) s left) false) (sym is_live_count)
+        ∙ ap (λ b. stretch (fetch words) live b steps (running_in old.store (resumed (process_at old.table place)) s left) false) (sym (first_is old.table n m place g.stands (taken_live old.table place g.taken)))
+        ∙ e)
+        (comes (fetch words) m p others (n.forks place) steps m (entry_of (process_at old.table place) (n.forks place)) (running_in old.store (resumed (process_at old.table place)) s left) false
+        (follows_itself m p (entry_of (process_at old.table place) (n.forks place)) (g.stands.found place (taken_live old.table place g.taken)))
+        (runs m old.store s left (process_at old.table place) (n.forks place) g.memory g.system g.turns))
+
+    -- the table is that of the machine, with its marks, when the process pauses
+    at_mid : At mid.table n (record m { marks = marks_after (fetch words) m p others (n.forks place) cleared }) place
+    at_mid = subst (λ u. At u n (record m { marks = marks_after (fetch words) m p others (n.forks place) cleared }) place) (sym g.mid_table) (by_cleared cleared)
+      where
+        by_cleared : (b : Bool) → At (if b then unmarked old.table else old.table) n (record m { marks = marks_after (fetch words) m p others (n.forks place) b }) place
+        by_cleared true = unmarked_at_place old.table n m place (record { table = g.table; taken = g.taken; stands = g.stands })
+        by_cleared false = record { table = g.table; taken = g.taken; stands = g.stands }
+
+    same_ready : ready_places mid.table ≡ ready_places old.table
+    same_ready = ap ready_places g.mid_table ∙ by_cleared cleared
+      where
+        by_cleared : (b : Bool) → ready_places (if b then unmarked old.table else old.table) ≡ ready_places old.table
+        by_cleared true = refl
+        by_cleared false = refl
+
+    -- ---- an arrival, and an attempt that marks nobody
+
+    abbrev at_clear : At (unmarked mid.table) n (record m { marks = [] }) place
+    at_clear = unmarked_at_place mid.table n (record m { marks = marks_after (fetch words) m p others (n.forks place) cleared }) place at_mid
+
+    arrived : (k : Machine) (b : mach.Activity) (ms : List Name) (r : Running) (steps rest : ℕ) → Follows m k p (n.forks place) ms b → now ≡ r →
+        stint (fetch words) steps m p others ≡ stints.switched (back k p (activity_of r.local b.forks mach.at_when) [] r) (p ∷ []) →
+        Puts 0 place (at_its_when (process_at mid.table place) a) (unmarked mid.table) new.table → new.store ≡ mid.store →
+        Switches words (left - used) new t m p others
+    arrived k b ms r steps rest f e is put same = record {
+      steps = steps;
+      machine = back k p (activity_of r.local b.forks mach.at_when) [] r;
+      joined = p ∷ [];
+      is = is;
+      holds = record {
+        naming = n;
+        stands = stood (unmarked mid.table) new.table place a at_clear.table at_clear.taken put n (record m { marks = [] }) k b [] ms r mid.store at_clear.stands (follows_marks m k p (n.forks place) ms [] b f) refl (sym (ap (λ x. x.local) e));
+        memory = sym (ap (λ x. x.local.memory) e) ∙ sym same;
+        is_taken = sym (ap (option_map n.name) g.none_taken);
+        is_ready = sym (ap (map n.name) (stood_ready (unmarked mid.table) new.table place a at_clear.table at_clear.taken put) ∙ map-append n.name (ready_places mid.table) (place ∷ []) ∙ ap (λ xs. map n.name xs ++ p ∷ []) same_ready);
+      };
+      system = sym (ap (λ x. x.system) e);
+      turns = sym (ap (λ x. x.turns) e) ∙ sym g.spent;
+    }
+
+    -- ---- an attempt that marks its process
+
+    marked_attempt : (k : Machine) (b : mach.Activity) (r : Running) (steps rest : ℕ) (result : StintEnd) → Follows m k p (n.forks place) (marks_after (fetch words) m p others (n.forks place) cleared) b → now ≡ r →
+        stint (fetch words) steps m p others ≡ stint_after (λ m. stint (fetch words) rest m p others) (at_turn k p others b (again true) r) →
+        Puts 0 place (at_its_when (process_at mid.table place) a) (marked_with mid.table place) new.table → new.store ≡ mid.store →
+        result ≡ attempt_end (marks_with mid.table place == length (ready_places new.table)) used → GoesTo words result left new t m p others
+    marked_attempt k b r steps rest result f e is put same ends =
+        subst (λ x. GoesTo words x left new t m p others) (sym ends) (by_marks (marks_with mid.table place == length (ready_places new.table)) refl)
+      where
+        marked : At (marked_with mid.table place) n (record m { marks = p ∷ marks_after (fetch words) m p others (n.forks place) cleared }) place
+        marked = marked_at_place mid.table n (record m { marks = marks_after (fetch words) m p others (n.forks place) cleared }) place at_mid
+
+        ready : ready_places new.table ≡ ready_places mid.table ++ place ∷ []
+        ready = stood_ready (marked_with mid.table place) new.table place a marked.table marked.taken put
+
+        after : Machine
+        after = back k p (activity_of r.local b.forks mach.at_when) (p ∷ k.marks) r
+
+        tested : (marks_with mid.table place == length (ready_places new.table)) ≡ all_marked (p ∷ k.marks) (p ∷ others)
+        tested =
+            all_ready (marked_with mid.table place) n (record m { marks = p ∷ marks_after (fetch words) m p others (n.forks place) cleared }) place marked new.table ready
+            ∙ ap (λ ms. all_marked (p ∷ ms) (p ∷ map n.name (ready_places mid.table))) (sym f.marks_are) ∙ ap (λ xs. all_marked (p ∷ k.marks) (p ∷ map n.name xs)) same_ready
+
+        comes_to : (x : Bool) → all_marked (p ∷ k.marks) (p ∷ others) ≡ x →
+            stint (fetch words) steps m p others ≡ stint_after (λ m. stint (fetch words) rest m p others) (if x then ended outcome.standstill (back k p (activity_of r.local b.forks mach.at_when) (p ∷ k.marks) r) else went (back k p (activity_of r.local b.forks mach.at_when) (p ∷ k.marks) r) (joins (p ∷ [])))
+        comes_to x h = is ∙ ap (λ y. stint_after (λ m. stint (fetch words) rest m p others) (if y then ended outcome.standstill (back k p (activity_of r.local b.forks mach.at_when) (p ∷ k.marks) r) else went (back k p (activity_of r.local b.forks mach.at_when) (p ∷ k.marks) r) (joins (p ∷ [])))) h
+
+        by_marks : (x : Bool) → (marks_with mid.table place == length (ready_places new.table)) ≡ x → GoesTo words (attempt_end x used) left new t m p others
+        by_marks true h = record {
+          steps = steps;
+          machine = back k p (activity_of r.local b.forks mach.at_when) (p ∷ k.marks) r;
+          end = outcome.standstill;
+          is = comes_to true (sym tested ∙ h);
+          same = tt;
+          memory = tt;
+          system = sym (ap (λ x. x.system) e);
+          turns = sym (ap (λ x. x.turns) e) ∙ sym g.spent;
+        }
+        by_marks false h = record {
+          steps = steps;
+          machine = back k p (activity_of r.local b.forks mach.at_when) (p ∷ k.marks) r;
+          joined = p ∷ [];
+          is = comes_to false (sym tested ∙ h);
+          holds = record {
+            naming = n;
+            stands =
+                stood (marked_with mid.table place) new.table place a marked.table marked.taken put n (record m { marks = p ∷ marks_after (fetch words) m p others (n.forks place) cleared }) k b (p ∷ k.marks) (marks_after (fetch words) m p others (n.forks place) cleared) r mid.store marked.stands
+                (follows_marks m k p (n.forks place) (marks_after (fetch words) m p others (n.forks place) cleared) (p ∷ marks_after (fetch words) m p others (n.forks place) cleared) b f) (ap (λ ms. p ∷ ms) f.marks_are) (sym (ap (λ x. x.local) e));
+            memory = sym (ap (λ x. x.local.memory) e) ∙ sym same;
+            is_taken = sym (ap (option_map n.name) g.none_taken);
+            is_ready = sym (ap (map n.name) ready ∙ map-append n.name (ready_places mid.table) (place ∷ []) ∙ ap (λ xs. map n.name xs ++ p ∷ []) same_ready);
+          };
+          system = sym (ap (λ x. x.system) e);
+          turns = sym (ap (λ x. x.turns) e) ∙ sym g.spent;
+        }
+
+    -- ---- the end of a branch
+
+    gone : (k : Machine) (b : mach.Activity) (ms : List Name) (r : Running) (steps rest : ℕ) → Follows m k p (n.forks place) ms b → now ≡ r → 0 < place →
+        stint (fetch words) steps m p others ≡ stint_after (λ m. stint (fetch words) rest m p others) (exited k p r) →
+        Removed place (unmarked mid.table) new.table → new.store ≡ mid.store → Switches words (left - used) new t m p others
+    gone k b ms r steps rest f e pos is removed same =
+        let x : Exited new.table n (map n.name (ready_places (unmarked mid.table))) (map n.name (ready_places new.table)) (exited k p r) =
+        exits (unmarked mid.table) new.table n (record m { marks = [] }) k place b ms r removed at_clear pos (follows_marks m k p (n.forks place) ms [] b f) refl in
+        record {
+          steps = steps;
+          machine = x.machine;
+          joined = x.joined;
+          is = is ∙ ap (stint_after (λ m. stint (fetch words) rest m p others)) x.is;
+          holds = record {
+            naming = n;
+            stands = x.stands;
+            memory = kept (λ m. m.memory) (λ m es. refl) k p r x.machine x.joined x.is ∙ sym (ap (λ x. x.local.memory) e) ∙ sym same;
+            is_taken = sym (ap (option_map n.name) g.none_taken);
+            is_ready = sym (x.ready ∙ ap (λ xs. map n.name xs ++ x.joined) same_ready);
+          };
+          system = kept (λ m. m.system) (λ m es. refl) k p r x.machine x.joined x.is ∙ sym (ap (λ x. x.system) e);
+          turns = kept (λ m. m.turns) (λ m es. refl) k p r x.machine x.joined x.is ∙ sym (ap (λ x. x.turns) e) ∙ sym g.spent;
+        }
+
+    -- ---- a fork
+
+    module _ (k : Machine) (b : mach.Activity) (ms : List Name) (f : Follows m k p (n.forks place) ms b) (branches : List Branch) where
+      abbrev fork_number : ℕ
+      fork_number = suc b.forks
+
+      abbrev forks_now : ℕ → ℕ
+      forks_now i = if nat_eq i place then suc (n.forks place) else n.forks i
+
+      abbrev naming_now : Naming
+      naming_now = record n { forks = forks_now }
+
+      abbrev waits : Process
+      waits = waiting_for (length branches) (process_at mid.table place) a
+
+      abbrev table_now : Table
+      table_now = with_process (unmarked mid.table) place waits
+
+      abbrev machine_now : Machine
+      machine_now = back k p (activity_of now.local fork_number (mach.waiting (length branches))) [] now
+
+      forks_here : forks_now place ≡ suc (n.forks place)
+      forks_here = ap (λ x. if x then suc (n.forks place) else n.forks place) (eq-eqb place place refl)
+
+      no_children : children_of (unmarked mid.table) place ≡ 0
+      no_children = none (process_at mid.table place).standing (children_of (unmarked mid.table) place) at_clear.taken.going (at_clear.stands.awaits place (taken_live (unmarked mid.table) place at_clear.taken))
+        where
+          none : (s : Standing) (c : ℕ) → is_waiting s ≡ false → Awaits s c → c ≡ 0
+          none standing.Ready c w h = h
+          none standing.AtWhen c w h = h
+          none (standing.Waiting x) c w h = absurd (cc)
+
+      stands_now : Stands table_now naming_now machine_now
+      stands_now =
+          one_changes (unmarked mid.table) table_now n forks_now (record m { marks = [] }) machine_now place waits
+          (record {
+            stands = at_clear.stands;
+            live = taken_live (unmarked mid.table) place at_clear.taken;
+            wide = at_clear.table.wide;
+            processes = refl;
+            parent = refl;
+            lives = λ i. refl;
+            free = refl;
+            forks_here = omega (arith, forks_here);
+            forks_there = λ i ne. ap (λ x. if x then suc (n.forks place) else n.forks i) (ne_eqb i place ne);
+            found_here =
+                find-with_at-same k.activities p (activity_of now.local fork_number (mach.waiting (length branches)))
+                ∙ ap (λ x. Some (activity_of now.local x (mach.waiting (length branches)))) (ap suc f.forked ∙ sym forks_here);
+            found_there = λ q ne. find-with_at-other k.activities p q (activity_of now.local fork_number (mach.waiting (length branches))) ne ∙ f.others q ne;
+            named = names-with_at k.activities p (activity_of now.local fork_number (mach.waiting (length branches))) b f.found ∙ f.named;
+            marks = λ i l. sym (unmarked_at 32 i);
+            awaits = omega (arith, no_children);
+          })
+
+      -- no child of this fork is there yet
+      fresh : (i q : ℕ) → is_live table_now i ≡ true → n.name i ≡ child p fork_number q → ⊥
+      fresh zero q l h = child_some p fork_number q (sym h ∙ at_clear.stands.root)
+      fresh (suc i) q l h =
+          let o : Born (unmarked mid.table) n (suc i) = at_clear.stands.born (suc i) l (omega arith) in
+          let par : ℕ = (process_at (unmarked mid.table) (suc i)).parent in
+          let d : (n.name par ≡ p) × (o.fork ≡ fork_number) × (o.number ≡ q) = same_ends (n.name par) p o.fork o.number fork_number q (sym o.named ∙ h) in
+          let x : par ≡ place = at_clear.stands.apart par place o.lives (taken_live (unmarked mid.table) place at_clear.taken) d.0 in
+          let y : n.forks par ≡ n.forks place = ap n.forks x in
+          let z : o.fork ≡ fork_number = d.1 in
+          omega (arith, o.earlier, y, z, f.forked)
+
+      begins : Starts place a branches mid.store table_now naming_now machine_now fork_number
+      begins = record {
+        inside = at_clear.taken.inside;
+        table = written_table (unmarked mid.table) place waits at_clear.table at_clear.taken.inside (at_clear.table.parents place) g.ordered at_clear.taken.homeless;
+        stands = stands_now;
+        live = taken_live (unmarked mid.table) place at_clear.taken;
+        homeless = at_clear.taken.homeless;
+        memory = refl;
+        no_marks_left = refl;
+        unmarked = refl;
+        none_counted = refl;
+        none = where_same (is_child_of table_now place) (is_child_of (unmarked mid.table) place) 32 (λ i _. ap (λ y. nat_lt 0 i && is_live mid.table i && nat_eq y place) (same_parent i)) ∙ no_children;
+        waiting = ap (λ y. y.standing) here;
+        fork = omega (arith, forks_here, f.forked);
+        fresh = fresh;
+      }
+        where
+          here : process_at table_now place ≡ waits
+          here = at_set_same mid.table.processes place waits (omega (arith, at_clear.table.wide, at_clear.taken.inside))
+
+          same_parent : (i : ℕ) → (process_at table_now i).parent ≡ (process_at mid.table i).parent
+          same_parent i = elim (cases_eq i place) [
+            | inl e ↦ ap (λ j. (process_at table_now j).parent) e ∙ ap (λ y. y.parent) here ∙ sym (ap (λ j. (process_at mid.table j).parent) e)
+            | inr ne ↦ ap (λ y. y.parent) (at_set_other mid.table.processes place i waits ne)
+          ]
+
+      forks : (steps rest : ℕ) → stint (fetch words) steps m p others ≡ stint_after (λ m. stint (fetch words) rest m p others) (at_turn k p others b (forking branches) now) →
+          HaveBegun place a branches mid.store table_now (length branches) new.store new.table → Switches words (left - used) new t m p others
+      forks steps rest is begun =
+          let x : Grown place a branches mid.store table_now naming_now machine_now fork_number (length branches) new.store new.table =
+          grown place a branches mid.store table_now naming_now machine_now fork_number begins (length branches) new.store new.table (omega arith) begun in
+          let chain : x.machine ≡ with_children p fork_number 0 a.base a.end (share_in a branches) branches machine_now =
+          ap (λ bs. with_children p fork_number (length branches) a.base (a.end + length branches * share_in a branches) (share_in a branches) bs x.machine) (sym (drop_all branches)) ∙ x.chain in
+          record {
+            steps = steps;
+            machine = x.machine;
+            joined = children p fork_number 0 (length branches);
+            is = is ∙ ap (λ z. stints.switched z (children p fork_number 0 (length branches))) (sym chain);
+            holds = record {
+              naming = x.naming;
+              stands = x.stands;
+              memory = x.memory;
+              is_taken = sym (ap (option_map x.naming.name) g.none_taken);
+              is_ready = sym (x.ready ∙ ap (λ xs. map n.name xs ++ children p fork_number 0 (length branches)) same_ready);
+            };
+            system = x.system;
+            turns = x.turns ∙ sym g.spent;
+          }
+
+    -- ---- all pauses
+
+    at_turns : (kd : TurnKind) (steps : ℕ) (end : Paused) (result : StintEnd) (l : Local) → Comes (fetch words) m p others (n.forks place) steps m end → Pauses words end (pause.At kd) now cleared →
+        Allows (Some (pause.At kd)) words live (place == 0) l → HandlesTurn kd words place used a mid new result → GoesTo words result left new t m p others
+    at_turns kind.Arrive steps (pausing arriving r c) result l w h allowed d =
+        subst (λ x. GoesTo words x left new t m p others) (sym d.2) (arrived w.machine w.activity (marks_after (fetch words) m p others (n.forks place) c) r steps w.rest w.follows h.1 w.is d.0 d.1)
+    at_turns (kind.Again false) steps (pausing (again marks) r c) result l w h allowed d =
+        subst (λ x. GoesTo words x left new t m p others) (sym d.2)
+        (arrived w.machine w.activity (marks_after (fetch words) m p others (n.forks place) c) r steps w.rest w.follows h.1
+        (subst (λ x. stint (fetch words) steps m p others ≡ stint_after (λ m. stint (fetch words) w.rest m p others) (at_turn w.machine p others w.activity (again x) r)) (sym h.0) w.is) d.0 d.1)
+    at_turns (kind.Again true) steps (pausing (again marks) r c) result l w h allowed d =
+        marked_attempt w.machine w.activity r steps w.rest result
+        (subst (λ x. Follows m w.machine p (n.forks place) (marks_after (fetch words) m p others (n.forks place) x) w.activity) (sym h.2) w.follows) h.1
+        (subst (λ x. stint (fetch words) steps m p others ≡ stint_after (λ m. stint (fetch words) w.rest m p others) (at_turn w.machine p others w.activity (again x) r)) (sym h.0) w.is) d.0 d.1 d.2
+    at_turns (kind.Fork at) steps (pausing (forking branches) r c) result l w h allowed d =
+        subst (λ x. GoesTo words x left new t m p others) (sym d.1)
+        (forks w.machine w.activity (marks_after (fetch words) m p others (n.forks place) c) w.follows (branches_at words at) steps w.rest
+        (subst (λ x. stint (fetch words) steps m p others ≡ stint_after (λ m. stint (fetch words) w.rest m p others) (at_turn w.machine p others w.activity (forking (branches_at words at)) x)) (sym h.1)
+        (subst (λ x. stint (fetch words) steps m p others ≡ stint_after (λ m. stint (fetch words) w.rest m p others) (at_turn w.machine p others w.activity (forking x) r)) (sym h.0) w.is)) d.0)
+    at_turns kind.Exit steps (pausing exiting r c) result l w h allowed d =
+        subst (λ x. GoesTo words x left new t m p others) (sym d.2)
+        (gone w.machine w.activity (marks_after (fetch words) m p others (n.forks place) c) r steps w.rest w.follows h.1 (later_place allowed) w.is d.0 d.1)
+      where
+        later_place : (place == 0) ≡ false → 0 < place
+        later_place e = positive place (eqb-false place 0 e)
+          where
+            positive : (q : ℕ) → (q ≡ 0 → ⊥) → 0 < q
+            positive zero h = absurd (h refl)
+            positive (suc q) h = omega arith
+    at_turns kd steps (pausing entering r c) result l w h allowed d = absurd h.0
+    at_turns kd steps (pausing leaving r c) result l w h allowed d = absurd h.0
+    at_turns kd steps (pausing looping r c) result l w h allowed d = absurd h.0
+    at_turns kd steps (pausing arriving r c) result l w h allowed d = absurd h.0
+    at_turns kd steps (pausing (again marks) r c) result l w h allowed d = absurd h.0
+    at_turns kd steps (pausing (forking branches) r c) result l w h allowed d = absurd h.0
+    at_turns kd steps (pausing exiting r c) result l w h allowed d = absurd h.0
+    at_turns kd steps (pausing finishing r c) result l w h allowed d = absurd h.0
+    at_turns kd steps end result l w h allowed d = absurd h
+
+    overs : (e : Ending) (steps : ℕ) (end : Paused) → Comes (fetch words) m p others (n.forks place) steps m end → Pauses words end (pause.Over e) now cleared → new.store ≡ mid.store →
+        EndsRun words (left - used) e new t m p others
+    overs ending.Done steps (pausing finishing r c) w h kept_words = record {
+      steps = steps;
+      machine = back w.machine p (activity_of r.local w.activity.forks mach.ready) [] r;
+      end = outcome.done;
+      is = w.is;
+      same = tt;
+      memory = sym (ap (λ x. x.local.memory) h) ∙ sym kept_words;
+      system = sym (ap (λ x. x.system) h);
+      turns = sym (ap (λ x. x.turns) h) ∙ sym g.spent;
+    }
+    overs (ending.Halted at) steps (stopping (outcome.halted line) r c) w h kept_words = record {
+      steps = steps;
+      machine = back w.machine p w.activity w.machine.marks r;
+      end = outcome.halted line;
+      is = w.is;
+      same = h.0;
+      memory = sym (ap (λ x. x.local.memory) h.1) ∙ sym kept_words;
+      system = sym (ap (λ x. x.system) h.1);
+      turns = sym (ap (λ x. x.turns) h.1) ∙ sym g.spent;
+    }
+    overs (ending.Failed cause at) steps (stopping (outcome.failed why line) r c) w h kept_words = record {
+      steps = steps;
+      machine = back w.machine p w.activity w.machine.marks r;
+      end = outcome.failed why line;
+      is = w.is;
+      same = (h.0, h.1);
+      memory = sym (ap (λ x. x.local.memory) h.2) ∙ sym kept_words;
+      system = sym (ap (λ x. x.system) h.2);
+      turns = sym (ap (λ x. x.turns) h.2) ∙ sym g.spent;
+    }
+    overs ending.Turns steps (stopping outcome.turns r c) w h kept_words = record {
+      steps = steps;
+      machine = back w.machine p w.activity w.machine.marks r;
+      end = outcome.turns;
+      is = w.is;
+      same = tt;
+      memory = tt;
+      system = sym h.1;
+      turns = sym h.0 ∙ sym g.spent;
+    }
+    overs (ending.Bad at) steps (stopping (outcome.bad address) r c) w h kept_words = record {
+      steps = steps;
+      machine = back w.machine p w.activity w.machine.marks r;
+      end = outcome.bad address;
+      is = w.is;
+      same = h.0;
+      memory = tt;
+      system = sym (ap (λ x. x.system) h.1);
+      turns = sym (ap (λ x. x.turns) h.1) ∙ sym g.spent;
+    }
+    overs e steps (pausing entering r c) w h kept_words = absurd h
+    overs e steps (pausing leaving r c) w h kept_words = absurd h
+    overs e steps (pausing looping r c) w h kept_words = absurd h
+    overs e steps (pausing arriving r c) w h kept_words = absurd h
+    overs e steps (pausing (again marks) r c) w h kept_words = absurd h
+    overs e steps (pausing (forking branches) r c) w h kept_words = absurd h
+    overs e steps (pausing exiting r c) w h kept_words = absurd h
+    overs e steps (pausing finishing r c) w h kept_words = absurd h
+    overs e steps (stopping outcome.done r c) w h kept_words = absurd h
+    overs e steps (stopping (outcome.halted line) r c) w h kept_words = absurd h
+    overs e steps (stopping (outcome.failed why line) r c) w h kept_words = absurd h
+    overs e steps (stopping outcome.turns r c) w h kept_words = absurd h
+    overs e steps (stopping outcome.standstill r c) w h kept_words = absurd h
+    overs e steps (stopping (outcome.bad address) r c) w h kept_words = absurd h
+    overs e steps going w h kept_words = absurd h
+
+    pub goes : (pause : Pause) (result : StintEnd) (l : Local) → Stretches words live (place == 0) start false pause now cleared → Allows (Some pause) words live (place == 0) l →
+        Handles pause words place used a mid new result → GoesTo words result left new t m p others
+    goes (pause.Over ending.Fault) result l h allowed d = subst (λ x. GoesTo words x left new t m p others) (sym d.2) tt
+    goes (pause.Over ending.Done) result l h allowed d = subst (λ x. GoesTo words x left new t m p others) (sym d.2) (overs ending.Done h.steps h.end (came h.steps h.end h.is) h.pauses d.1)
+    goes (pause.Over (ending.Halted at)) result l h allowed d = subst (λ x. GoesTo words x left new t m p others) (sym d.2) (overs (ending.Halted at) h.steps h.end (came h.steps h.end h.is) h.pauses d.1)
+    goes (pause.Over (ending.Failed cause at)) result l h allowed d = subst (λ x. GoesTo words x left new t m p others) (sym d.2) (overs (ending.Failed cause at) h.steps h.end (came h.steps h.end h.is) h.pauses d.1)
+    goes (pause.Over ending.Turns) result l h allowed d = subst (λ x. GoesTo words x left new t m p others) (sym d.2) (overs ending.Turns h.steps h.end (came h.steps h.end h.is) h.pauses d.1)
+    goes (pause.Over ending.Standstill) result l h allowed d = subst (λ x. GoesTo words x left new t m p others) (sym d.2) (overs ending.Standstill h.steps h.end (came h.steps h.end h.is) h.pauses d.1)
+    goes (pause.Over (ending.Bad at)) result l h allowed d = subst (λ x. GoesTo words x left new t m p others) (sym d.2) (overs (ending.Bad at) h.steps h.end (came h.steps h.end h.is) h.pauses d.1)
+    goes (pause.At kd) result l h allowed d = at_turns kd h.steps h.end result l (came h.steps h.end h.is) h.pauses allowed d
+
+-- ---- the whole stint
+
+-- the table at the pause is sound, and the process is still taken
+pub record Mid (old : KernelState) (table : Table) (place : ℕ) (cleared : Bool) : Type 0 where
+  pub is : table ≡ (if cleared then unmarked old.table else old.table)
+  pub sound : IsTable table
+  pub taken : IsTaken table place
+
+pub mid_of : (old walked : KernelState) (table : Table) (place : ℕ) (cleared : Bool) → IsKernel old → old.taken ≡ Some place → walked.table ≡ old.table →
+    table ≡ (if cleared then unmarked walked.table else walked.table) → Mid old table place cleared
+mid_of old walked table place cleared k e same f =
+    let is : table ≡ (if cleared then unmarked old.table else old.table) = f ∙ ap (λ t. if cleared then unmarked t else t) same in
+    record {
+      is = is;
+      sound = subst IsTable (sym is) (sound cleared);
+      taken = subst (λ t. IsTaken t place) (sym is) (unmarked_if cleared old.table place (taken_at old place k e));
+    }
+  where
+    sound : (b : Bool) → IsTable (if b then unmarked old.table else old.table)
+    sound true = unmarked_table old.table k.table
+    sound false = k.table
+
+module _ (words : List ℕ) (old mid new : KernelState) (place left left1 : ℕ) (a : Activity) (cleared : Bool) (pause : Pause) (result : StintEnd) (l : Local)
+    (kernel : IsKernel old) (taken : old.taken ≡ Some place) (m_is : Mid old mid.table place cleared) (none : new.taken ≡ None) (less : left1 ≤ left) (ordered : IsOrdered a)
+    (allowed : Allows (Some pause) words (32 - length (free_places old.table)) (place == 0) l) (handles : Handles pause words place (left - left1) a mid new result) where
+  pub stays_kernel : IsKernel new
+  stays_kernel =
+      let h : IsTable new.table × IsBetween new.table = handled words place (left - left1) a mid new result m_is.sound m_is.taken ordered pause (32 - length (free_places old.table)) l allowed handles in
+      record { table = h.0; taken = subst (IsTakenIn new.table) (sym none) h.1 }
+
+  pub goes_all : (s t : State) → Stretches words (32 - length (free_places old.table)) (place == 0) (running_in old.store (resumed (process_at old.table place)) s left) false pause (running_in mid.store a t left1) cleared →
+      (m : Machine) (p : Name) (others : List Name) → Holds old m (Some p) others → m.system ≡ s → m.turns ≡ left → GoesTo words result left new t m p others
+  goes_all s t h m p others holds system turns =
+      subst (λ q. GoesTo words result left new t m q others) (sym p_is)
+      (subst (λ qs. GoesTo words result left new t m (holds.naming.name place) qs) (sym holds.is_ready)
+      (goes words old mid new place left left1 (left - left1) s t holds.naming m a cleared
+      (record {
+        table = kernel.table;
+        taken = taken_at old place kernel taken;
+        stands = holds.stands;
+        memory = holds.memory;
+        system = system;
+        turns = turns;
+        mid_table = m_is.is;
+        none_taken = none;
+        spent = omega (arith, less);
+        ordered = ordered;
+      })
+      pause result l h allowed handles))
+    where
+      p_is : p ≡ holds.naming.name place
+      p_is = some (holds.is_taken ∙ ap (option_map holds.naming.name) taken)
+        where
+          some : {x y : Name} → Some x ≡ Some y → x ≡ y
+          some e = cc

@@ -1,0 +1,293 @@
+-- Rounds of a run.
+use Rattle.std.proofs.Common.{◌≡◌, ℕ, zero, suc, ◌-◌, ◌<◌, ◌≤◌, List, [], ◌++◌, map, Option, Some, None, refl, sym, ◌∙◌, ap, arith, subst}
+use Rattle.std.specs.Option.{option_map}
+use Rattle.edi_told.specs.Told.{WhereTold}
+use Rattle.edi_told.proofs.Told.{WhereTold-map, WhereTold-then}
+use Rattle.edi_calls.specs.Choice.{Choices}
+use Rattle.edi_calls.specs.Names.{Name}
+use Rattle.edi_calls.specs.Outcome as outcome
+use Rattle.edi_calls.specs.Ready.{stays, joins, take_next}
+use Rattle.edi_calls.specs.State.{State}
+use Rattle.edi_target.specs.Op.{Instruction}
+use Rattle.edi_target.specs.Check.{CodeParts}
+use Rattle.edi_target.specs.Fetch.{fetch}
+use Rattle.edi_target.specs.Mach.{Machine, Stepped, went, ended, Run, finished, go_on, after_step, run, step, entered}
+use Rattle.edi_trace.specs.Drawn.{Drawn}
+use Rattle.edi_kernel.specs.declared.ends.Ending.{Ending}
+use Rattle.edi_kernel.specs.declared.ends.Ending.TheVariants as ending
+use Rattle.edi_kernel.specs.declared.ends.StintEnd.{StintEnd}
+use Rattle.edi_kernel.specs.declared.ends.StintEnd.TheVariants as stint_end
+use Rattle.edi_kernel.specs.declared.state.KernelState.{KernelState}
+use Rattle.edi_kernel.specs.Table.{ready_places}
+use Rattle.edi_kernel.specs.Stands.{Stands}
+use Rattle.edi_kernel.specs.Stints as stints
+use Rattle.edi_kernel.specs.Stints.{Stint, stint, stint_after}
+use Rattle.edi_kernel.specs.Kernel.{Holds, KeepsWords, Switches, EndsRun, GoesTo, ended_by, used_in}
+use Rattle.edi_kernel.specs.Runs.{Proceeds, Started, GoesRound, RunEnds, Rounds, RunsAs, RunsTo}
+use Rattle.edi_kernel.proofs.Starting.{Enters, NeverEnters, enters, never_enters}
+
+-- ---- a stint is the run up to its switch
+
+module _ (fetch : ℕ → Option (Instruction × ℕ)) (choices : Choices) where
+  switched_same : {m n : Machine} {ps qs : List Name} → stints.switched m ps ≡ stints.switched n qs → (m ≡ n) × (ps ≡ qs)
+  switched_same e = ((cc), (cc))
+
+  over_same : {m n : Machine} {e f : outcome.Ending} → stints.over e m ≡ stints.over f n → (e ≡ f) × (m ≡ n)
+  over_same e = ((cc), (cc))
+
+  pub run_switched : (n : ℕ) (m : Machine) (p : Name) (others : List Name) (drawn : ℕ) (m' : Machine) (ps : List Name) → stint fetch n m p others ≡ stints.switched m' ps →
+      (k : ℕ) (r : Run) → go_on (take_next choices drawn (others ++ ps)) (run fetch choices k m') m' drawn ≡ r → (j : ℕ) × (run fetch choices j m p others drawn ≡ r)
+  run_switched zero m p others drawn m' ps e k r h = absurd (cc)
+  run_switched (suc n) m p others drawn m' ps e k r h = by_step (step fetch m p others) refl e (run_switched n)
+    where
+      by_step : (s : Stepped) → step fetch m p others ≡ s → stint_after (λ m. stint fetch n m p others) s ≡ stints.switched m' ps →
+          ((m : Machine) (p : Name) (others : List Name) (drawn : ℕ) (m' : Machine) (ps : List Name) → stint fetch n m p others ≡ stints.switched m' ps →
+          (k : ℕ) (r : Run) → go_on (take_next choices drawn (others ++ ps)) (run fetch choices k m') m' drawn ≡ r → (j : ℕ) × (run fetch choices j m p others drawn ≡ r)) →
+          (j : ℕ) × (run fetch choices j m p others drawn ≡ r)
+      by_step (went l stays) f g more =
+          let x : (j : ℕ) × (run fetch choices j l p others drawn ≡ r) = more l p others drawn m' ps g k r h in
+          (suc x.0, ap (after_step choices (run fetch choices x.0) p others drawn) f ∙ x.1)
+      by_step (went l (joins qs)) f g more =
+          let x : (l ≡ m') × (qs ≡ ps) = switched_same g in
+          (suc k, ap (after_step choices (run fetch choices k) p others drawn) f ∙ ap (λ qs. go_on (take_next choices drawn (others ++ qs)) (run fetch choices k l) l drawn) x.1 ∙ ap (λ y. go_on (take_next choices drawn (others ++ ps)) (run fetch choices k y) y drawn) x.0 ∙ h)
+      by_step (ended e l) f g more = absurd (cc)
+
+  pub run_over : (n : ℕ) (m : Machine) (p : Name) (others : List Name) (drawn : ℕ) (e : outcome.Ending) (m' : Machine) → stint fetch n m p others ≡ stints.over e m' → (j : ℕ) × (run fetch choices j m p others drawn ≡ finished e m' drawn)
+  run_over zero m p others drawn e m' h = absurd (cc)
+  run_over (suc n) m p others drawn e m' h = by_step (step fetch m p others) refl h (run_over n)
+    where
+      by_step : (s : Stepped) → step fetch m p others ≡ s → stint_after (λ m. stint fetch n m p others) s ≡ stints.over e m' →
+          ((m : Machine) (p : Name) (others : List Name) (drawn : ℕ) (e : outcome.Ending) (m' : Machine) → stint fetch n m p others ≡ stints.over e m' → (j : ℕ) × (run fetch choices j m p others drawn ≡ finished e m' drawn)) →
+          (j : ℕ) × (run fetch choices j m p others drawn ≡ finished e m' drawn)
+      by_step (went l stays) f g more =
+          let x : (j : ℕ) × (run fetch choices j l p others drawn ≡ finished e m' drawn) = more l p others drawn e m' g in
+          (suc x.0, ap (after_step choices (run fetch choices x.0) p others drawn) f ∙ x.1)
+      by_step (went l (joins qs)) f g more = absurd (cc)
+      by_step (ended d l) f g more =
+          let x : (d ≡ e) × (l ≡ m') = over_same g in
+          (1, ap (after_step choices (run fetch choices 0) p others drawn) f ∙ ap (λ d. finished d l drawn) x.0 ∙ ap (λ y. finished e y drawn) x.1)
+
+-- ---- a round
+
+module _ (words : List ℕ) (bound : ℕ) (k new : KernelState) (now : State) (old drawn : Drawn) (m : Machine) (p : Name) (others : List Name) (left used : ℕ) (turns : left - used ≡ bound - new.used) (store : new.store ≡ k.store) where
+  -- the stint ended the run
+  ends_run : (e : Ending) → drawn ≡ old → EndsRun words (left - used) e k now m p others → RunEnds words bound e new now old drawn m p others
+  ends_run e same h =
+      let j : (j : ℕ) × (run (fetch words) old.source j m p others old.drawn ≡ finished h.end h.machine old.drawn) = run_over (fetch words) old.source h.steps m p others old.drawn h.end h.machine h.is in
+      record {
+        steps = j.0;
+        machine = h.machine;
+        end = h.end;
+        is = j.1 ∙ ap (λ d. finished h.end h.machine d.drawn) (sym same);
+        same = h.same;
+        memory = keeps e h.memory;
+        system = h.system;
+        turns = h.turns ∙ turns;
+      }
+    where
+      keeps : (e : Ending) → KeepsWords e h.machine.memory k.store → KeepsWords e h.machine.memory new.store
+      keeps ending.Done x = x ∙ sym store
+      keeps (ending.Halted line) x = x ∙ sym store
+      keeps (ending.Failed cause line) x = x ∙ sym store
+      keeps ending.Turns x = tt
+      keeps ending.Standstill x = tt
+      keeps (ending.Bad at) x = tt
+      keeps ending.Fault x = tt
+
+  -- the stint switched
+  goes_on : (result : Option Ending) → (h : Switches words (left - used) k now m p others) → Proceeds result new h.machine old drawn (others ++ h.joined) → Rounds words bound result new now old drawn m p others
+  goes_on None h c = record {
+    machine = h.machine;
+    name = c.name;
+    rest = c.others;
+    comes = λ n r e. run_switched (fetch words) old.source h.steps m p others old.drawn h.machine h.joined h.is n r (ap (λ t. go_on t (run (fetch words) old.source n h.machine) h.machine old.drawn) c.is ∙ e);
+    holds = c.holds;
+    system = h.system;
+    turns = h.turns ∙ turns;
+  }
+  goes_on (Some ending.Standstill) h c =
+      let j : (j : ℕ) × (run (fetch words) old.source j m p others old.drawn ≡ finished outcome.standstill h.machine old.drawn) =
+      run_switched (fetch words) old.source h.steps m p others old.drawn h.machine h.joined h.is 0 (finished outcome.standstill h.machine old.drawn) (ap (λ ps. go_on (take_next old.source old.drawn ps) (run (fetch words) old.source 0 h.machine) h.machine old.drawn) c.0) in
+      record {
+        steps = j.0;
+        machine = h.machine;
+        end = outcome.standstill;
+        is = j.1 ∙ ap (λ d. finished outcome.standstill h.machine d.drawn) (sym c.1);
+        same = tt;
+        memory = tt;
+        system = h.system;
+        turns = h.turns ∙ turns;
+      }
+  goes_on (Some ending.Done) h c = absurd c
+  goes_on (Some (ending.Halted line)) h c = absurd c
+  goes_on (Some (ending.Failed cause line)) h c = absurd c
+  goes_on (Some ending.Turns) h c = absurd c
+  goes_on (Some (ending.Bad at)) h c = absurd c
+  goes_on (Some ending.Fault) h c = absurd c
+
+  pub round_over : (e : Ending) → drawn ≡ old → GoesTo words (stint_end.Over used e) left k now m p others → Rounds words bound (Some e) new now old drawn m p others
+  round_over ending.Done same h = ends_run ending.Done same h
+  round_over (ending.Halted line) same h = ends_run (ending.Halted line) same h
+  round_over (ending.Failed cause line) same h = ends_run (ending.Failed cause line) same h
+  round_over ending.Turns same h = ends_run ending.Turns same h
+  round_over ending.Standstill same h = ends_run ending.Standstill same h
+  round_over (ending.Bad at) same h = ends_run (ending.Bad at) same h
+  round_over ending.Fault same h = tt
+
+  pub round_on : (result : Option Ending) → Switches words (left - used) k now m p others → ((machine : Machine) (ready : List Name) → Holds k machine None ready → Proceeds result new machine old drawn ready) → Rounds words bound result new now old drawn m p others
+  round_on result h c = goes_on result h (c h.machine (others ++ h.joined) h.holds)
+
+-- the round by the end of its stint
+module _ (words : List ℕ) (bound : ℕ) (k : KernelState) (old : Drawn) (left : ℕ) where
+  pub round_ends : (end : StintEnd) (e : Ending) (new : KernelState) (now : State) (m : Machine) (p : Name) (others : List Name) → ended_by end ≡ Some e → left - used_in end ≡ bound - new.used → new.store ≡ k.store →
+      GoesTo words end left k now m p others → Rounds words bound (Some e) new now old old m p others
+  round_ends (stint_end.Over used e) d new now m p others h turns store g =
+      subst (λ x. Rounds words bound (Some x) new now old old m p others) (some h) (round_over words bound k new now old old m p others left used turns store e refl g)
+    where
+      some : Some e ≡ Some d → e ≡ d
+      some e = cc
+  round_ends (stint_end.Arrived used) e new now m p others h turns store g = absurd (cc)
+  round_ends (stint_end.Forked used) e new now m p others h turns store g = absurd (cc)
+  round_ends (stint_end.Exited used) e new now m p others h turns store g = absurd (cc)
+
+  pub round_goes : (end : StintEnd) (result : Option Ending) (new : KernelState) (drawn : Drawn) (now : State) (m : Machine) (p : Name) (others : List Name) → ended_by end ≡ None → left - used_in end ≡ bound - new.used → new.store ≡ k.store →
+      ((machine : Machine) (ready : List Name) → Holds k machine None ready → Proceeds result new machine old drawn ready) →
+      GoesTo words end left k now m p others → Rounds words bound result new now old drawn m p others
+  round_goes (stint_end.Over used e) result new drawn now m p others h turns store c g = absurd (cc)
+  round_goes (stint_end.Arrived used) result new drawn now m p others h turns store c g = round_on words bound k new now old drawn m p others left used turns store result g c
+  round_goes (stint_end.Forked used) result new drawn now m p others h turns store c g = round_on words bound k new now old drawn m p others left used turns store result g c
+  round_goes (stint_end.Exited used) result new drawn now m p others h turns store c g = round_on words bound k new now old drawn m p others left used turns store result g c
+
+-- what is kept beside the processes and the memory is free
+pub holds_same : (k new : KernelState) (m : Machine) (taken : Option Name) (ready : List Name) → new.store ≡ k.store → new.table ≡ k.table → new.taken ≡ k.taken → Holds k m taken ready → Holds new m taken ready
+holds_same k new m taken ready e f g h = record {
+  naming = h.naming;
+  stands = subst (λ t. Stands t h.naming m) (sym f) h.stands;
+  memory = h.memory ∙ sym e;
+  is_taken = h.is_taken ∙ sym (ap (option_map h.naming.name) g);
+  is_ready = h.is_ready ∙ sym (ap (λ t. map h.naming.name (ready_places t)) f);
+}
+
+-- ---- the rounds of a whole run
+
+-- the run has come to this machine
+pub record Underway (code : CodeParts) (system : State) (bound : ℕ) (old : Drawn) (k : KernelState) (state : State) (drawn : Drawn) : Type 0 where
+  pub machine : Machine
+  pub name : Name
+  pub others : List Name
+  pub comes : (n : ℕ) (r : Run) → run (fetch code.words) old.source n machine name others drawn.drawn ≡ r →
+      (j : ℕ) × (after_step old.source (run (fetch code.words) old.source j) [] [] old.drawn (entered (fetch code.words code.entry) code.entry code.calls bound system) ≡ r)
+  pub holds : Holds k machine (Some name) others
+  pub system_is : machine.system ≡ state
+  pub turns : machine.turns ≡ bound - k.used
+
+module _ (code : CodeParts) (bound : ℕ) (old : Drawn) where
+  abbrev words : List ℕ
+  words = code.words
+
+  -- what a round does from any machine that the kernel is
+  abbrev AnyRound : Option Ending → (k new : KernelState) → (now next : Drawn) → State → State → Type 0
+  AnyRound result k new now next s t =
+      (m : Machine) (p : Name) (others : List Name) → Holds k m (Some p) others → m.system ≡ s → m.turns ≡ bound - k.used → Rounds code.words bound result new t now next m p others
+
+  underway_more : (s x y : State) (k new : KernelState) (now next : Drawn) → now.source ≡ old.source → Underway code s bound old k x now → AnyRound None k new now next x y → Underway code s bound old new y next
+  underway_more s x y k new now next same u h =
+      let g : GoesRound code.words bound new y now next u.machine u.name u.others = h u.machine u.name u.others u.holds u.system_is u.turns in
+      record {
+        machine = g.machine;
+        name = g.name;
+        others = g.rest;
+        comes = λ n r e.
+            let z : (i : ℕ) × (run (fetch code.words) now.source i u.machine u.name u.others now.drawn ≡ r) = g.comes n r (ap (λ c. run (fetch code.words) c n g.machine g.name g.rest next.drawn) same ∙ e) in
+            u.comes z.0 r (sym (ap (λ c. run (fetch code.words) c z.0 u.machine u.name u.others now.drawn) same) ∙ z.1);
+        holds = g.holds;
+        system_is = g.system;
+        turns = g.turns;
+      }
+
+  runs_as : (s x y : State) (k new : KernelState) (now next : Drawn) (e : Ending) → now.source ≡ old.source → new.used ≤ bound → (u : Underway code s bound old k x now) → RunEnds code.words bound e new y now next u.machine u.name u.others → RunsAs code s bound old e new.store new.used y next
+  runs_as s x y k new now next e same le u h = record {
+    machine = h.machine;
+    end = h.end;
+    is = u.comes h.steps (finished h.end h.machine next.drawn) (sym (ap (λ c. run (fetch code.words) c h.steps u.machine u.name u.others now.drawn) same) ∙ h.is);
+    same = h.same;
+    memory = h.memory;
+    system_is = h.system;
+    turns = omega (arith, h.turns, le);
+  }
+
+  underway_ends : (s x y : State) (k new : KernelState) (now next : Drawn) (e : Ending) → now.source ≡ old.source → new.used ≤ bound → Underway code s bound old k x now → AnyRound (Some e) k new now next x y → RunsTo code s bound old e new.store new.used y next
+  underway_ends s x y k new now next ending.Done same le u h = runs_as s x y k new now next ending.Done same le u (h u.machine u.name u.others u.holds u.system_is u.turns)
+  underway_ends s x y k new now next (ending.Halted line) same le u h = runs_as s x y k new now next (ending.Halted line) same le u (h u.machine u.name u.others u.holds u.system_is u.turns)
+  underway_ends s x y k new now next (ending.Failed cause line) same le u h = runs_as s x y k new now next (ending.Failed cause line) same le u (h u.machine u.name u.others u.holds u.system_is u.turns)
+  underway_ends s x y k new now next ending.Turns same le u h = runs_as s x y k new now next ending.Turns same le u (h u.machine u.name u.others u.holds u.system_is u.turns)
+  underway_ends s x y k new now next ending.Standstill same le u h = runs_as s x y k new now next ending.Standstill same le u (h u.machine u.name u.others u.holds u.system_is u.turns)
+  underway_ends s x y k new now next (ending.Bad at) same le u h = runs_as s x y k new now next (ending.Bad at) same le u (h u.machine u.name u.others u.holds u.system_is u.turns)
+  underway_ends s x y k new now next ending.Fault same le u h = tt
+
+  pub told_more : (first before after : Option State) (k new : KernelState) (now next : Drawn) → now.source ≡ old.source → WhereTold first before (λ s t. Underway code s bound old k t now) →
+      WhereTold before after (AnyRound None k new now next) → WhereTold first after (λ s t. Underway code s bound old new t next)
+  told_more first before after k new now next same h g = WhereTold-then _ _ _ first before after (λ s x y a b. underway_more s x y k new now next same a b) h g
+
+  pub told_ends : (first before after : Option State) (k new : KernelState) (now next : Drawn) (e : Ending) → now.source ≡ old.source → new.used ≤ bound → WhereTold first before (λ s t. Underway code s bound old k t now) →
+      WhereTold before after (AnyRound (Some e) k new now next) → WhereTold first after (λ s t. RunsTo code s bound old e new.store new.used t next)
+  told_ends first before after k new now next e same le h g = WhereTold-then _ _ _ first before after (λ s x y a b. underway_ends s x y k new now next e same le a b) h g
+
+  where_same : (o : Option State) (P : State → State → Type 0) → ((s : State) → P s s) → WhereTold o o P
+  where_same None P h = tt
+  where_same (Some s) P h = h s
+
+  -- the run begins with the entry's turn
+  pub told_begins : (o : Option State) (k new : KernelState) → Started code k → 0 < bound → new.store ≡ k.store → new.table ≡ k.table → new.taken ≡ k.taken → new.used ≡ 1 → WhereTold o o (λ s t. Underway code s bound old new t old)
+  told_begins o k new started pos e f g one = where_same o (λ s t. Underway code s bound old new t old) begin
+    where
+      begin : (s : State) → Underway code s bound old new s old
+      begin s =
+          let x : Enters code k s (bound - 1) = enters code k started s (bound - 1) in
+          let b : suc (bound - 1) ≡ bound = omega (arith, pos) in
+          record {
+            machine = x.machine;
+            name = [];
+            others = [];
+            comes = λ n r h. (n, ap (after_step old.source (run (fetch code.words) old.source n) [] [] old.drawn) (ap (λ i. entered (fetch code.words code.entry) code.entry code.calls i s) (sym b) ∙ x.is) ∙ h);
+            holds = holds_same k new x.machine (Some []) [] e f g x.holds;
+            system_is = x.system_is;
+            turns = x.turns ∙ ap (λ i. bound - i) (sym one);
+          }
+
+  pub told_never : (o : Option State) (k new : KernelState) → Started code k → bound ≡ 0 → new.used ≡ 0 → WhereTold o o (λ s t. RunsTo code s bound old ending.Turns new.store new.used t old)
+  told_never o k new started none zero_used = where_same o (λ s t. RunsTo code s bound old ending.Turns new.store new.used t old) never
+    where
+      never : (s : State) → RunsAs code s bound old ending.Turns new.store new.used s old
+      never s =
+          let x : NeverEnters code s = never_enters code k started s in
+          record {
+            machine = x.machine;
+            end = outcome.turns;
+            is = (0, ap (after_step old.source (run (fetch code.words) old.source 0) [] [] old.drawn) (ap (λ i. entered (fetch code.words code.entry) code.entry code.calls i s) none ∙ x.is));
+            same = tt;
+            memory = tt;
+            system_is = x.system_is;
+            turns = omega (arith, none, x.turns, zero_used);
+          }
+
+-- ---- the round where the state is told
+
+-- the process goes on from any machine that the kernel is
+abbrev pub AnyStint : List ℕ → StintEnd → (left : ℕ) → (prior k : KernelState) → State → State → Type 0
+AnyStint words end left prior k s t =
+    (m : Machine) (p : Name) (others : List Name) → Holds prior m (Some p) others → m.system ≡ s → m.turns ≡ left → GoesTo words end left k t m p others
+
+module _ (words : List ℕ) (bound : ℕ) (prior k new : KernelState) (old : Drawn) (left : ℕ) (end : StintEnd) (before after : Option State) (turns : left - used_in end ≡ bound - new.used) (store : new.store ≡ k.store) where
+  pub told_round_ends : (e : Ending) → ended_by end ≡ Some e → WhereTold before after (AnyStint words end left prior k) →
+      WhereTold before after (λ s t. (m : Machine) (p : Name) (others : List Name) → Holds prior m (Some p) others → m.system ≡ s → m.turns ≡ left → Rounds words bound (Some e) new t old old m p others)
+  told_round_ends e over h =
+      WhereTold-map (AnyStint words end left prior k) (λ s t. (m : Machine) (p : Name) (others : List Name) → Holds prior m (Some p) others → m.system ≡ s → m.turns ≡ left → Rounds words bound (Some e) new t old old m p others) before after
+      (λ s t f m p others a b c. round_ends words bound k old left end e new t m p others over turns store (f m p others a b c)) h
+
+  pub told_round_goes : (result : Option Ending) (drawn : Drawn) → ended_by end ≡ None → ((machine : Machine) (ready : List Name) → Holds k machine None ready → Proceeds result new machine old drawn ready) →
+      WhereTold before after (AnyStint words end left prior k) →
+      WhereTold before after (λ s t. (m : Machine) (p : Name) (others : List Name) → Holds prior m (Some p) others → m.system ≡ s → m.turns ≡ left → Rounds words bound result new t old drawn m p others)
+  told_round_goes result drawn on proceeds h =
+      WhereTold-map (AnyStint words end left prior k) (λ s t. (m : Machine) (p : Name) (others : List Name) → Holds prior m (Some p) others → m.system ≡ s → m.turns ≡ left → Rounds words bound result new t old drawn m p others) before after
+      (λ s t f m p others a b c. round_goes words bound k old left end result new drawn t m p others on turns store proceeds (f m p others a b c)) h

@@ -1,0 +1,95 @@
+-- A stint alone, where the turn of the program's entry may still be due.
+use Rattle.std.proofs.Common.{◌≡◌, ℕ, suc, ◌+◌, ◌-◌, ◌≤◌, Bool, true, false, if◌then◌else◌, List, [], ◌++◌, Option, Some, None, sym, ◌∙◌, ap, arith, subst}
+use Rattle.edi_told.specs.Told.{WhereTold}
+use Rattle.edi_told.proofs.Told.{WhereTold-map}
+use Rattle.edi_calls.specs.Names.{Name}
+use Rattle.edi_calls.specs.Ready.{stays}
+use Rattle.edi_calls.specs.State.{State}
+use Rattle.edi_target.specs.Check.{CodeParts}
+use Rattle.edi_target.specs.Fetch.{fetch}
+use Rattle.edi_target.specs.Mach.{Machine, went, entered}
+use Rattle.edi_kernel.specs.declared.ends.Ending.{Ending}
+use Rattle.edi_kernel.specs.declared.ends.Ending.TheVariants as ending
+use Rattle.edi_kernel.specs.declared.ends.StintEnd.{StintEnd}
+use Rattle.edi_kernel.specs.declared.ends.StintEnd.TheVariants as stint_end
+use Rattle.edi_kernel.specs.declared.state.KernelState.{KernelState}
+use Rattle.edi_kernel.specs.Kernel.{Holds, KeepsWords, Switches, EndsRun, GoesTo, later_by}
+use Rattle.edi_kernel.specs.Runs.{IsAtBy, IsAt}
+use Rattle.edi_kernel.proofs.Starting.{Enters, enters}
+use Rattle.edi_kernel.proofs.Rounds.{AnyStint, holds_same}
+
+-- so many turns before the stint, and what is kept beside the processes and the memory is free
+module _ (words : List ℕ) (k new : KernelState) (left n : ℕ) (store : new.store ≡ k.store) (table : new.table ≡ k.table) (taken : new.taken ≡ k.taken) where
+  less : (used : ℕ) → left - n - used ≡ left - (used + n)
+  less used = omega arith
+
+  switches : (used : ℕ) (t : State) (m : Machine) (p : Name) (others : List Name) → Switches words (left - n - used) k t m p others → Switches words (left - (used + n)) new t m p others
+  switches used t m p others h = record {
+    steps = h.steps;
+    machine = h.machine;
+    joined = h.joined;
+    is = h.is;
+    holds = holds_same k new h.machine None (others ++ h.joined) store table taken h.holds;
+    system = h.system;
+    turns = h.turns ∙ less used;
+  }
+
+  ends : (used : ℕ) (e : Ending) (t : State) (m : Machine) (p : Name) (others : List Name) → EndsRun words (left - n - used) e k t m p others → EndsRun words (left - (used + n)) e new t m p others
+  ends used e t m p others h = record {
+    steps = h.steps;
+    machine = h.machine;
+    end = h.end;
+    is = h.is;
+    same = h.same;
+    memory = subst (λ ws. KeepsWords e h.machine.memory ws) (sym store) h.memory;
+    system = h.system;
+    turns = h.turns ∙ less used;
+  }
+
+  pub goes_later : (end : StintEnd) (t : State) (m : Machine) (p : Name) (others : List Name) → GoesTo words end (left - n) k t m p others → GoesTo words (later_by n end) left new t m p others
+  goes_later (stint_end.Arrived used) t m p others h = switches used t m p others h
+  goes_later (stint_end.Forked used) t m p others h = switches used t m p others h
+  goes_later (stint_end.Exited used) t m p others h = switches used t m p others h
+  goes_later (stint_end.Over used ending.Done) t m p others h = ends used ending.Done t m p others h
+  goes_later (stint_end.Over used (ending.Halted line)) t m p others h = ends used (ending.Halted line) t m p others h
+  goes_later (stint_end.Over used (ending.Failed cause line)) t m p others h = ends used (ending.Failed cause line) t m p others h
+  goes_later (stint_end.Over used ending.Turns) t m p others h = ends used ending.Turns t m p others h
+  goes_later (stint_end.Over used ending.Standstill) t m p others h = ends used ending.Standstill t m p others h
+  goes_later (stint_end.Over used (ending.Bad at)) t m p others h = ends used (ending.Bad at) t m p others h
+  goes_later (stint_end.Over used ending.Fault) t m p others h = tt
+
+-- the machine behind the entry's turn
+module _ (code : CodeParts) (k mid : KernelState) (left n : ℕ) (store : mid.store ≡ k.store) (table : mid.table ≡ k.table) (taken : mid.taken ≡ k.taken) where
+  -- what the kernel is when the process goes on
+  pub record Ready (s : State) (m : Machine) (p : Name) (others : List Name) : Type 0 where
+    pub holds : Holds mid m (Some p) others
+    pub system : m.system ≡ s
+    pub turns : m.turns ≡ left - n
+
+  pub ready_by : (b : Bool) → n ≡ (if b then 1 else 0) → n ≤ left → (s : State) (m : Machine) (p : Name) (others : List Name) → IsAtBy b code k s left m p others → Ready s m p others
+  ready_by false e le s m p others h = record { holds = holds_same k mid m (Some p) others store table taken h.0; system = h.1; turns = h.2 ∙ omega (arith, e) }
+  ready_by true e le s m p others h =
+      let x : Enters code k s (left - 1) = enters code k h.0 s (left - 1) in
+      let l : suc (left - 1) ≡ left = omega (arith, e, le) in
+      let same : x.machine ≡ m = went_same (sym x.is ∙ ap (λ i. entered (fetch code.words code.entry) code.entry code.calls i s) l ∙ h.1) in
+      let held : Holds mid x.machine (Some []) [] = holds_same k mid x.machine (Some []) [] store table taken x.holds in
+      record {
+        holds = subst (λ y. Holds mid y (Some p) others) same (subst (λ q. Holds mid x.machine (Some q) others) (sym h.2) (subst (λ qs. Holds mid x.machine (Some []) qs) (sym h.3) held));
+        system = sym (ap (λ y. y.system) same) ∙ x.system_is;
+        turns = sym (ap (λ y. y.turns) same) ∙ x.turns ∙ omega (arith, e);
+      }
+    where
+      went_same : {a b : Machine} → went a stays ≡ went b stays → a ≡ b
+      went_same e = cc
+
+module _ (code : CodeParts) (k mid after new : KernelState) (left n : ℕ) (end : StintEnd) (store : mid.store ≡ k.store) (table : mid.table ≡ k.table) (taken : mid.taken ≡ k.taken)
+    (store' : new.store ≡ after.store) (table' : new.table ≡ after.table) (taken' : new.taken ≡ after.taken) (before later : Option State) (result : StintEnd) (is : result ≡ later_by n end) where
+  abbrev AnyFrom : State → State → Type 0
+  AnyFrom s t = (m : Machine) (p : Name) (others : List Name) → IsAt code k s left m p others → GoesTo code.words result left new t m p others
+
+  pub told_stint : n ≡ (if k.entering then 1 else 0) → n ≤ left → WhereTold before later (AnyStint code.words end (left - n) mid after) → WhereTold before later AnyFrom
+  told_stint e le h = WhereTold-map (AnyStint code.words end (left - n) mid after) AnyFrom before later (λ s t f m p others at. by_end s t m p others f (ready_by code k mid left n store table taken k.entering e le s m p others at)) h
+    where
+      by_end : (s t : State) (m : Machine) (p : Name) (others : List Name) → AnyStint code.words end (left - n) mid after s t → Ready code k mid left n store table taken s m p others → GoesTo code.words result left new t m p others
+      by_end s t m p others f r =
+          subst (λ x. GoesTo code.words x left new t m p others) (sym is) (goes_later code.words after new left n store' table' taken' end t m p others (f m p others r.holds r.system r.turns))

@@ -1,0 +1,109 @@
+-- A stretch of one activity is a stint of its process.
+use Rattle.std.proofs.Common.{◌≡◌, ℕ, zero, suc, Bool, true, false, if◌then◌else◌, List, [], ◌∷◌, length, Option, Some, refl, sym, subst, ap, ◌∙◌}
+use Rattle.std.specs.Prelude.{⊤}
+use Rattle.edi_calls.specs.Names.{Name, same, find, with_at, names}
+use Rattle.edi_calls.specs.Names as tables
+use Rattle.edi_calls.specs.Outcome as outcome
+use Rattle.edi_calls.proofs.Tables.{find-with_at-same, find-with_at-other}
+use Rattle.edi_target.specs.Op.{Instruction}
+use Rattle.edi_target.specs.Effect.{Turn, entering, leaving, looping, arriving, again, forking, exiting, finishing}
+use Rattle.edi_target.specs.Mach.{Running, Answer, on, behind, turned, over, local_step, Activity, ready, Machine, running_of, activity_of, back, at_turn, kernel, is_first, step_of, step}
+use Rattle.edi_kernel.specs.Stretch.{Paused, going, pausing, stopping, after_answer, after_turn, stretch}
+use Rattle.edi_kernel.specs.Stints as stints
+use Rattle.edi_kernel.specs.Stints.{Stint, stint, stint_after}
+use Rattle.edi_kernel.proofs.Changes.{length-names}
+
+-- a name that a table has keeps its place
+pub names-with_at : {A : Type 0} (es : tables.Table A) (p : Name) (a b : A) → find es p ≡ Some b → names (with_at es p a) ≡ names es
+names-with_at [] p a b e = absurd (cc)
+names-with_at (x ∷ es) p a b e = go (same p x.0) e (names-with_at es p a b)
+  where
+    go : (d : Bool) → (if d then Some x.1 else find es p) ≡ Some b → (find es p ≡ Some b → names (with_at es p a) ≡ names es) → names (if d then (x.0, a) ∷ es else x ∷ with_at es p a) ≡ (x.0 ∷ names es)
+    go true f ih = refl
+    go false f ih = ap (λ ns. x.0 ∷ ns) (ih f)
+
+-- the machine k is m, but for the activity of p, which is this one, and the marks
+pub record Follows (m k : Machine) (p : Name) (forks : ℕ) (marks : List Name) (a : Activity) : Type 0 where
+  pub found : find k.activities p ≡ Some a
+  pub forked : a.forks ≡ forks
+  pub others : (q : Name) → same q p ≡ false → find k.activities q ≡ find m.activities q
+  pub named : names k.activities ≡ names m.activities
+  pub marks_are : k.marks ≡ marks
+
+-- it still is where p is given another activity
+pub written : (m k : Machine) (p : Name) (forks : ℕ) (marks marks' : List Name) (a b : Activity) (r : Running) → Follows m k p forks marks a → b.forks ≡ forks → Follows m (back k p b marks' r) p forks marks' b
+written m k p forks marks marks' a b r f e = record {
+  found = find-with_at-same k.activities p b;
+  forked = e;
+  others = λ q n. find-with_at-other k.activities p q b n ∙ f.others q n;
+  named = names-with_at k.activities p b a f.found ∙ f.named;
+  marks_are = refl;
+}
+
+pub follows_itself : (m : Machine) (p : Name) (a : Activity) → find m.activities p ≡ Some a → Follows m m p a.forks m.marks a
+follows_itself m p a e = record { found = e; forked = refl; others = λ q n. refl; named = refl; marks_are = refl }
+
+module _ (fetch : ℕ → Option (Instruction × ℕ)) (m : Machine) (p : Name) (others : List Name) (forks : ℕ) where
+  abbrev pub marks_after : Bool → List Name
+  marks_after cleared = if cleared then [] else m.marks
+
+  -- where the stint of n steps from k comes to
+  pub record Turns (n : ℕ) (k : Machine) (turn : Turn) (r : Running) (cleared : Bool) : Type 0 where
+    pub machine : Machine
+    pub activity : Activity
+    pub rest : ℕ
+    pub follows : Follows m machine p forks (marks_after cleared) activity
+    pub is : stint fetch n k p others ≡ stint_after (λ m. stint fetch rest m p others) (at_turn machine p others activity turn r)
+
+  pub record Stopped (n : ℕ) (k : Machine) (ending : outcome.Ending) (r : Running) (cleared : Bool) : Type 0 where
+    pub machine : Machine
+    pub activity : Activity
+    pub follows : Follows m machine p forks (marks_after cleared) activity
+    pub is : stint fetch n k p others ≡ stints.over ending (back machine p activity machine.marks r)
+
+  abbrev pub Comes : (n : ℕ) → (k : Machine) → Paused → Type 0
+  Comes n k going = ⊤
+  Comes n k (pausing turn r cleared) = Turns n k turn r cleared
+  Comes n k (stopping ending r cleared) = Stopped n k ending r cleared
+
+  -- one step more
+  one_more : (n : ℕ) (k l : Machine) (x : Paused) → stint fetch (suc n) k p others ≡ stint fetch n l p others → Comes n l x → Comes (suc n) k x
+  one_more n k l going e c = tt
+  one_more n k l (pausing turn r cleared) e c = record { machine = c.machine; activity = c.activity; rest = c.rest; follows = c.follows; is = e ∙ c.is }
+  one_more n k l (stopping ending r cleared) e c = record { machine = c.machine; activity = c.activity; follows = c.follows; is = e ∙ c.is }
+
+  step_is : (k : Machine) (a : Activity) (r : Running) → find k.activities p ≡ Some a → running_of k a ≡ r → names k.activities ≡ names m.activities →
+      step fetch k p others ≡ kernel k p others a (local_step fetch (length m.activities) (is_first p) r)
+  step_is k a r found runs named =
+      ap (step_of fetch k p others) found
+      ∙ ap (λ n. kernel k p others a (local_step fetch n (is_first p) (running_of k a))) (sym (length-names k.activities) ∙ ap length named ∙ length-names m.activities)
+      ∙ ap (λ r. kernel k p others a (local_step fetch (length m.activities) (is_first p) r)) runs
+
+  pub comes : (n : ℕ) (k : Machine) (a : Activity) (r : Running) (cleared : Bool) → Follows m k p forks (marks_after cleared) a → running_of k a ≡ r →
+      Comes n k (stretch fetch (length m.activities) (is_first p) n r cleared)
+  comes zero k a r cleared f e = tt
+  comes (suc n) k a r cleared f e =
+      by_answer (local_step fetch (length m.activities) (is_first p) r) (ap (stint_after (λ m. stint fetch n m p others)) (step_is k a r f.found e f.named)) (comes n)
+    where
+      by_turn : (turn : Turn) (s : Running) → stint fetch (suc n) k p others ≡ stint_after (λ m. stint fetch n m p others) (at_turn k p others a turn s) →
+          ((l : Machine) (b : Activity) (s : Running) (cleared : Bool) → Follows m l p forks (marks_after cleared) b → running_of l b ≡ s → Comes n l (stretch fetch (length m.activities) (is_first p) n s cleared)) →
+          Comes (suc n) k (after_turn (stretch fetch (length m.activities) (is_first p) n) cleared turn s)
+      by_turn entering s g more = one_more n k (back k p (activity_of s.local a.forks ready) [] s) _ g (more (back k p (activity_of s.local a.forks ready) [] s) (activity_of s.local a.forks ready) s true (written m k p forks _ [] a (activity_of s.local a.forks ready) s f f.forked) refl)
+      by_turn leaving s g more = one_more n k (back k p (activity_of s.local a.forks ready) [] s) _ g (more (back k p (activity_of s.local a.forks ready) [] s) (activity_of s.local a.forks ready) s true (written m k p forks _ [] a (activity_of s.local a.forks ready) s f f.forked) refl)
+      by_turn looping s g more = one_more n k (back k p (activity_of s.local a.forks ready) [] s) _ g (more (back k p (activity_of s.local a.forks ready) [] s) (activity_of s.local a.forks ready) s true (written m k p forks _ [] a (activity_of s.local a.forks ready) s f f.forked) refl)
+      by_turn arriving s g more = record { machine = k; activity = a; rest = n; follows = f; is = g }
+      by_turn (again marks) s g more = record { machine = k; activity = a; rest = n; follows = f; is = g }
+      by_turn (forking branches) s g more = record { machine = k; activity = a; rest = n; follows = f; is = g }
+      by_turn exiting s g more = record { machine = k; activity = a; rest = n; follows = f; is = g }
+      by_turn finishing s g more = record { machine = k; activity = a; rest = n; follows = f; is = g }
+
+      by_answer : (answer : Answer) → stint fetch (suc n) k p others ≡ stint_after (λ m. stint fetch n m p others) (kernel k p others a answer) →
+          ((l : Machine) (b : Activity) (s : Running) (cleared : Bool) → Follows m l p forks (marks_after cleared) b → running_of l b ≡ s → Comes n l (stretch fetch (length m.activities) (is_first p) n s cleared)) →
+          Comes (suc n) k (after_answer (stretch fetch (length m.activities) (is_first p) n) cleared answer)
+      by_answer (on s) g more =
+          one_more n k (back k p (activity_of s.local a.forks ready) k.marks s) _ g
+          (more (back k p (activity_of s.local a.forks ready) k.marks s) (activity_of s.local a.forks ready) s cleared
+          (subst (λ ms. Follows m (back k p (activity_of s.local a.forks ready) k.marks s) p forks ms (activity_of s.local a.forks ready)) f.marks_are (written m k p forks _ k.marks a (activity_of s.local a.forks ready) s f f.forked)) refl)
+      by_answer (behind s) g more = one_more n k (back k p (activity_of s.local a.forks ready) [] s) _ g (more (back k p (activity_of s.local a.forks ready) [] s) (activity_of s.local a.forks ready) s true (written m k p forks _ [] a (activity_of s.local a.forks ready) s f f.forked) refl)
+      by_answer (turned turn s) g more = by_turn turn s g more
+      by_answer (over ending s) g more = record { machine = k; activity = a; follows = f; is = g }

@@ -1,0 +1,21 @@
+-- A round of the kernel is one of the machine.
+use Rattle.std.proofs.Common.{◌+◌, ◌-◌, ◌∙◌, sym, refl, arith}
+use Rattle.edi_kernel.proofs.Rounds.{told_round_ends, told_round_goes, holds_same}
+use Rattle.edi_kernel.proofs.state.KernelState.round.Goals as goal
+
+pub returns-in-Some-clause-exact : goal.returns-in-Some-clause-exact
+returns-in-Some-clause-exact g c =
+    λ drawn.
+    told_round_ends c.args.code.now.words c.args.bound c.args.self.now c.go-end.new.self (record c.go-end.new.self { used = c.go-end.new.self.used + c.used_in.result }) c.args.choices.now
+    (c.args.bound - c.args.self.now.used) c.go-end.result _ _ (omega (arith, c.go-end.ensures.turns, c.used_in.ensures, c.go-end.ensures.used, c.requires.used)) refl c.in-Some.ending (sym c.in-Some.ensures) c.go-end.ensures.exact
+
+pub returns-clause-exact : goal.returns-clause-exact
+returns-clause-exact g c =
+    λ drawn.
+    told_round_goes c.args.code.now.words c.args.bound c.args.self.now c.go-end.new.self c.proceed.new.self c.args.choices.now
+    (c.args.bound - c.args.self.now.used) c.go-end.result _ _ (omega (arith, c.go-end.ensures.turns, c.used_in.ensures, c.go-end.ensures.used, c.requires.used, c.proceed.ensures.turns)) c.proceed.ensures.store
+    c.proceed.result c.proceed.new.choices (sym c.ended_by.ensures ∙ c.in_default.is)
+    (λ n names k.
+    c.proceed.ensures.exact drawn n names
+    (holds_same c.go-end.new.self (record c.go-end.new.self { used = c.go-end.new.self.used + c.used_in.result }) n _ names refl refl refl k))
+    c.go-end.ensures.exact

@@ -1,0 +1,23 @@
+use Rattle.std.proofs.Common.{◌≡◌, ◌+◌, ◌-◌, ◌^◌, ◌<◌, ◌≤◌, None}
+use Rattle.std.specs.Prelude.{IsSome}
+use Rattle.edi_told.specs.Told.{WhereTold}
+use Rattle.edi_calls.specs.declared.ends.Outside.{Outside}
+use Rattle.edi_kernel.specs.Kernel.{IsKernel}
+use Rattle.edi_kernel.proofs.Rounds.{Underway}
+use Rattle.edi_kernel.proofs.state.KernelState.run.Given as goal
+
+abbrev pub invariant-rounds : goal.invariant-rounds
+invariant-rounds g l = record {
+  kernel : IsKernel l.self;
+  taken : IsSome l.self.taken;
+  working : g.C.Calls.failed l.calls ≡ None;
+  used : l.self.used ≤ l.bound;
+  source : l.choices.source ≡ l.initial.choices.source;
+  drawn : l.choices.drawn + 1 ≤ l.initial.choices.drawn + l.self.used;
+  later : (outside : Outside) → g.C.Calls.faults l.initial.calls outside ≤ g.C.Calls.faults l.calls outside;
+  exact : l.initial.choices.drawn + l.bound < 2 ^ 64 →
+      WhereTold (g.C.Calls.state l.initial.calls) (g.C.Calls.state l.calls) (λ s t. Underway l.code s l.bound l.initial.choices l.self t l.choices);
+}
+
+abbrev pub decreases-rounds : goal.decreases-rounds
+decreases-rounds g l = l.bound - l.self.used

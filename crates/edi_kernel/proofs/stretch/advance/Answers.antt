@@ -1,0 +1,32 @@
+-- A stretch is one more instruction, until the last.
+use Rattle.std.proofs.Common.{arith}
+use Rattle.edi_kernel.specs.Stretch.{running_in}
+use Rattle.edi_kernel.proofs.Stretches.{told_more, told_last, unblamed, spends_less}
+use Rattle.edi_kernel.proofs.stretch.advance.Goals as goal
+
+pub returns-in-Some-clause-exact : goal.returns-in-Some-clause-exact
+returns-in-Some-clause-exact g c =
+    told_last c.args.code.now.words c.args.live c.args.first
+    (λ s. running_in c.args.store.now c.args.progress.now.activity s c.args.progress.now.left)
+    (λ s. running_in c.stretch.store c.stretch.progress.activity s c.stretch.progress.left)
+    (λ s. running_in c.instruct.new.store c.instruct.new.progress.activity s c.instruct.new.progress.left)
+    c.args.progress.now.cleared c.stretch.progress.cleared c.instruct.new.progress.cleared
+    _ (g.C.Calls.state c.stretch.calls) _ c.in-Some.pause c.stretch.invariant.reached c.in-Some.ensures.exact
+
+pub stretch-preserved : goal.stretch-preserved
+stretch-preserved g c = record {
+  reached =
+      told_more c.args.code.now.words c.args.live c.args.first
+      (λ s. running_in c.args.store.now c.args.progress.now.activity s c.args.progress.now.left)
+      (λ s. running_in c.stretch.store c.stretch.progress.activity s c.stretch.progress.left)
+      (λ s. running_in c.instruct.new.store c.instruct.new.progress.activity s c.instruct.new.progress.left)
+      c.args.progress.now.cleared c.stretch.progress.cleared c.instruct.new.progress.cleared
+      _ (g.C.Calls.state c.stretch.calls) _ c.stretch.invariant.reached c.in_default.ensures.exact;
+  working = unblamed _ _ _ c.in_default.ensures.blame;
+  ordered = c.in_default.ensures.ordered;
+  less = omega (arith, c.in_default.ensures.less, c.stretch.invariant.less);
+  later = λ outside. omega (arith, c.in_default.ensures.later outside, c.stretch.invariant.later outside);
+}
+
+pub returns-in-Some-clause-spends : goal.returns-in-Some-clause-spends
+returns-in-Some-clause-spends g c = spends_less c.in-Some.pause _ _ _ c.in-Some.ensures.spends c.stretch.invariant.less

@@ -1,0 +1,158 @@
+-- What the kernel keeps, and how it stands for a machine.
+use Rattle.std.specs.Prelude.{◌≡◌, ℕ, ◌+◌, ◌-◌, ◌==◌, ◌++◌, Bool, true, false, List, length, map, Option, Some, None, is_some, ⊤}
+use Rattle.std.specs.Option.{option_map}
+use Rattle.edi_calls.specs.Names.{Name}
+use Rattle.edi_calls.specs.Outcome as outcome
+use Rattle.edi_calls.specs.State.{State}
+use Rattle.edi_target.specs.Fetch.{fetch}
+use Rattle.edi_target.specs.Mach.{Machine}
+use Rattle.edi_machine.specs.declared.activity.Activity.{Activity}
+use Rattle.edi_machine.specs.declared.ends.TurnKind.{TurnKind}
+use Rattle.edi_machine.specs.declared.ends.TurnKind.TheVariants as kind
+use Rattle.edi_machine.specs.Starts.{branches_at}
+use Rattle.edi_kernel.specs.declared.ends.Ending.{Ending}
+use Rattle.edi_kernel.specs.declared.ends.Ending.TheVariants as ending
+use Rattle.edi_kernel.specs.declared.ends.StintEnd.{StintEnd}
+use Rattle.edi_kernel.specs.declared.ends.StintEnd.TheVariants as stint_end
+use Rattle.edi_kernel.specs.declared.stretch.Pause.{Pause}
+use Rattle.edi_kernel.specs.declared.stretch.Pause.TheVariants as pause
+use Rattle.edi_kernel.specs.declared.table.Table.{Table}
+use Rattle.edi_kernel.specs.declared.state.KernelState.{KernelState}
+use Rattle.edi_kernel.specs.Table.{Puts, Removed, at_its_when, waiting_for, process_at, marks_with, marked_with, unmarked, ready_places, with_process}
+use Rattle.edi_kernel.specs.Stands.{IsTable, IsTaken, IsBetween, Naming, Stands}
+use Rattle.edi_kernel.specs.Stints as stints
+use Rattle.edi_kernel.specs.Stints.{stint}
+use Rattle.edi_kernel.specs.Forks.{HaveBegun}
+
+-- ---- what every kernel keeps
+
+abbrev pub IsTakenIn : Table → Option ℕ → Type 0
+IsTakenIn t None = IsBetween t
+IsTakenIn t (Some place) = IsTaken t place
+
+pub record IsKernel (k : KernelState) : Type 0 where
+  pub table : IsTable k.table
+  pub taken : IsTakenIn k.table k.taken
+
+-- ---- the kernel and the machine
+
+-- The kernel is this machine, where this process is taken, if any is, and these others are ready in this order.
+pub record Holds (k : KernelState) (m : Machine) (taken : Option Name) (ready : List Name) : Type 0 where
+  pub naming : Naming
+  pub stands : Stands k.table naming m
+  pub memory : m.memory ≡ k.store
+  pub is_taken : taken ≡ option_map naming.name k.taken
+  pub is_ready : ready ≡ map naming.name (ready_places k.table)
+
+-- ---- stints
+
+abbrev pub EndsAs : outcome.Ending → Ending → Type 0
+EndsAs outcome.done ending.Done = ⊤
+EndsAs (outcome.halted line) (ending.Halted at) = at ≡ line
+EndsAs (outcome.failed cause line) (ending.Failed c at) = (c ≡ cause) × (at ≡ line)
+EndsAs outcome.turns ending.Turns = ⊤
+EndsAs outcome.standstill ending.Standstill = ⊤
+EndsAs (outcome.bad address) (ending.Bad at) = at ≡ address
+EndsAs _ _ = ⊥
+
+-- after these endings the words of the memory are those of the machine
+abbrev pub KeepsWords : Ending → (machine kept : List ℕ) → Type 0
+KeepsWords ending.Done machine kept = machine ≡ kept
+KeepsWords (ending.Halted line) machine kept = machine ≡ kept
+KeepsWords (ending.Failed cause line) machine kept = machine ≡ kept
+KeepsWords ending machine kept = ⊤
+
+-- the stint switches, and the kernel is the machine that it leaves, with so many turns left
+pub record Switches (words : List ℕ) (left : ℕ) (k : KernelState) (now : State) (m : Machine) (p : Name) (others : List Name) : Type 0 where
+  pub steps : ℕ
+  pub machine : Machine
+  pub joined : List Name
+  pub is : stint (fetch words) steps m p others ≡ stints.switched machine joined
+  pub holds : Holds k machine None (others ++ joined)
+  pub system : machine.system ≡ now
+  pub turns : machine.turns ≡ left
+
+-- the stint ends the run
+pub record EndsRun (words : List ℕ) (left : ℕ) (e : Ending) (k : KernelState) (now : State) (m : Machine) (p : Name) (others : List Name) : Type 0 where
+  pub steps : ℕ
+  pub machine : Machine
+  pub end : outcome.Ending
+  pub is : stint (fetch words) steps m p others ≡ stints.over end machine
+  pub same : EndsAs end e
+  pub memory : KeepsWords e machine.memory k.store
+  pub system : machine.system ≡ now
+  pub turns : machine.turns ≡ left
+
+-- how the stint of p ends, where so many turns were left at its start
+abbrev pub GoesTo : List ℕ → StintEnd → (left : ℕ) → KernelState → State → Machine → Name → List Name → Type 0
+GoesTo words (stint_end.Over used ending.Fault) left k now m p others = ⊤
+GoesTo words (stint_end.Over used e) left k now m p others = EndsRun words (left - used) e k now m p others
+GoesTo words (stint_end.Arrived used) left k now m p others = Switches words (left - used) k now m p others
+GoesTo words (stint_end.Forked used) left k now m p others = Switches words (left - used) k now m p others
+GoesTo words (stint_end.Exited used) left k now m p others = Switches words (left - used) k now m p others
+
+abbrev pub used_in : StintEnd → ℕ
+used_in (stint_end.Arrived used) = used
+used_in (stint_end.Forked used) = used
+used_in (stint_end.Exited used) = used
+used_in (stint_end.Over used ending) = used
+
+abbrev pub is_over : StintEnd → Bool
+is_over (stint_end.Over used ending) = true
+is_over end = false
+
+-- how the run has ended, if it has
+abbrev pub ended_by : StintEnd → Option Ending
+ended_by (stint_end.Over used ending) = Some ending
+ended_by end = None
+
+-- the pause that a fault is, if the stint ended by one
+abbrev pub faulted : StintEnd → Option Pause
+faulted (stint_end.Over used ending.Fault) = Some (pause.Over ending.Fault)
+faulted end = None
+
+abbrev pub fault_of : Option Ending → Option Pause
+fault_of (Some ending.Fault) = Some (pause.Over ending.Fault)
+fault_of e = None
+
+-- an activity stands at its `when` after an arrival, and after the attempt that completes a standstill
+abbrev pub StandsAfter : StintEnd → Option Activity → Type 0
+StandsAfter (stint_end.Arrived used) arrived = is_some arrived ≡ true
+StandsAfter (stint_end.Over used ending.Standstill) arrived = is_some arrived ≡ true
+StandsAfter end arrived = arrived ≡ None
+
+-- the same end of a stint after so many more turns
+abbrev pub later_by : ℕ → StintEnd → StintEnd
+later_by n (stint_end.Arrived used) = stint_end.Arrived (used + n)
+later_by n (stint_end.Forked used) = stint_end.Forked (used + n)
+later_by n (stint_end.Exited used) = stint_end.Exited (used + n)
+later_by n (stint_end.Over used ending) = stint_end.Over (used + n) ending
+
+-- ---- what a pause changes
+
+abbrev pub IsForked : (words : List ℕ) → (place : ℕ) → Activity → (at : ℕ) → (old new : KernelState) → Type 0
+IsForked words place a at old new =
+    let branches = branches_at words at in
+    let waits = waiting_for (length branches) (process_at old.table place) a in
+    HaveBegun place a branches old.store (with_process (unmarked old.table) place waits) (length branches) new.store new.table
+
+-- the turn of an attempt that marks its process: where all ready ones are marked then, the run is at a standstill
+abbrev pub attempt_end : Bool → (used : ℕ) → StintEnd
+attempt_end true used = stint_end.Over used ending.Standstill
+attempt_end false used = stint_end.Arrived used
+
+abbrev pub HandlesTurn : TurnKind → (words : List ℕ) → (place used : ℕ) → Activity → (old new : KernelState) → StintEnd → Type 0
+HandlesTurn (kind.Again true) words place used a old new result =
+    Puts 0 place (at_its_when (process_at old.table place) a) (marked_with old.table place) new.table × (new.store ≡ old.store)
+    × (result ≡ attempt_end (marks_with old.table place == length (ready_places new.table)) used)
+HandlesTurn (kind.Fork at) words place used a old new result = IsForked words place a at old new × (result ≡ stint_end.Forked used)
+HandlesTurn kind.Exit words place used a old new result =
+    Removed place (unmarked old.table) new.table × (new.store ≡ old.store) × (result ≡ stint_end.Exited used)
+HandlesTurn kind words place used a old new result =
+    Puts 0 place (at_its_when (process_at old.table place) a) (unmarked old.table) new.table × (new.store ≡ old.store) × (result ≡ stint_end.Arrived used)
+
+-- the process at this place, with this activity, pauses after so many turns
+abbrev pub Handles : Pause → (words : List ℕ) → (place used : ℕ) → Activity → (old new : KernelState) → StintEnd → Type 0
+Handles (pause.Over ending) words place used a old new result =
+    (new.table ≡ unmarked old.table) × (new.store ≡ old.store) × (result ≡ stint_end.Over used ending)
+Handles (pause.At kind) words place used a old new result = HandlesTurn kind words place used a old new result

@@ -1,0 +1,116 @@
+-- Whole runs: the choice of the next process, and the rounds of a run.
+use Rattle.std.specs.Prelude.{◌≡◌, ℕ, ◌+◌, ◌-◌, ◌<◌, ◌^◌, ◌%◌, Bool, true, false, nat_eq, List, [], Option, Some, None, ⊤}
+use Rattle.edi_calls.specs.Choice.{Choices, choice}
+use Rattle.edi_calls.specs.Names.{Name}
+use Rattle.edi_calls.specs.Outcome as outcome
+use Rattle.edi_calls.specs.Ready.{stays, taking, take_next}
+use Rattle.edi_calls.specs.State.{State}
+use Rattle.edi_target.specs.Check.{CodeParts}
+use Rattle.edi_target.specs.Fetch.{fetch}
+use Rattle.edi_target.specs.Mach.{Machine, Run, went, finished, run, after_step, entered}
+use Rattle.edi_trace.specs.Drawn.{Drawn}
+use Rattle.edi_machine.specs.declared.activity.Activity.{Activity}
+use Rattle.edi_machine.specs.Starts.{Begins}
+use Rattle.edi_kernel.specs.declared.ends.Ending.{Ending}
+use Rattle.edi_kernel.specs.declared.ends.Ending.TheVariants as ending
+use Rattle.edi_kernel.specs.declared.state.KernelState.{KernelState}
+use Rattle.edi_kernel.specs.Table.{FirstAlone}
+use Rattle.edi_kernel.specs.Kernel.{IsKernel, Holds, EndsAs, KeepsWords}
+
+-- ---- the next process
+
+-- a place in the list of so many: the first of a single one, and else by the next choice
+abbrev pub PicksBy : Bool → (ready : ℕ) → (old : Drawn) → (place : ℕ) → (new : Drawn) → Type 0
+PicksBy true ready old place new = (place ≡ 0) × (new ≡ old)
+PicksBy false ready old place new =
+    old.drawn < 2 ^ 64 - 1 → (place ≡ choice old.source (old.drawn + 1) % ready) × (new ≡ record old { drawn = old.drawn + 1 })
+
+abbrev pub Picks : (ready : ℕ) → (old : Drawn) → (place : ℕ) → (new : Drawn) → Type 0
+Picks ready old place new = PicksBy (nat_eq ready 1) ready old place new
+
+-- the kernel has taken the process that the rule has as the next of these ready ones
+pub record Chooses (k : KernelState) (m : Machine) (old new : Drawn) (ready : List Name) : Type 0 where
+  pub name : Name
+  pub others : List Name
+  pub is : take_next old.source old.drawn ready ≡ taking name others new.drawn
+  pub holds : Holds k m (Some name) others
+
+-- the next process is taken, or nobody is ready
+abbrev pub Proceeds : Option Ending → KernelState → Machine → (old new : Drawn) → (ready : List Name) → Type 0
+Proceeds None k m old new ready = Chooses k m old new ready
+Proceeds (Some ending.Standstill) k m old new ready = (ready ≡ []) × (new ≡ old)
+Proceeds (Some e) k m old new ready = ⊥
+
+-- ---- the start
+
+-- the first process of this code is taken, and the turn of its entry is still due
+pub record Started (code : CodeParts) (k : KernelState) : Type 0 where
+  pub kernel : IsKernel k
+  pub first : Activity
+  pub begins : Begins (fetch code.words code.entry) code.calls k.store first
+  pub alone : FirstAlone k.table first
+  pub taken : k.taken ≡ Some 0
+  pub entering : k.entering ≡ true
+  pub used : k.used ≡ 0
+
+-- ---- a round of a run: a stint, and the choice of the next process
+
+-- the run of any number of steps from here comes to what one from there comes to
+abbrev pub ComesTo : List ℕ → Choices → (m : Machine) → Name → List Name → ℕ → (m' : Machine) → Name → List Name → ℕ → Type 0
+ComesTo words choices m p others drawn m' p' others' drawn' =
+    (n : ℕ) (r : Run) → run (fetch words) choices n m' p' others' drawn' ≡ r → (k : ℕ) × (run (fetch words) choices k m p others drawn ≡ r)
+
+pub record GoesRound (words : List ℕ) (bound : ℕ) (k : KernelState) (now : State) (old new : Drawn) (m : Machine) (p : Name) (others : List Name) : Type 0 where
+  pub machine : Machine
+  pub name : Name
+  pub rest : List Name
+  pub comes : ComesTo words old.source m p others old.drawn machine name rest new.drawn
+  pub holds : Holds k machine (Some name) rest
+  pub system : machine.system ≡ now
+  pub turns : machine.turns ≡ bound - k.used
+
+pub record RunEnds (words : List ℕ) (bound : ℕ) (e : Ending) (k : KernelState) (now : State) (old new : Drawn) (m : Machine) (p : Name) (others : List Name) : Type 0 where
+  pub steps : ℕ
+  pub machine : Machine
+  pub end : outcome.Ending
+  pub is : run (fetch words) old.source steps m p others old.drawn ≡ finished end machine new.drawn
+  pub same : EndsAs end e
+  pub memory : KeepsWords e machine.memory k.store
+  pub system : machine.system ≡ now
+  pub turns : machine.turns ≡ bound - k.used
+
+abbrev pub Rounds : List ℕ → (bound : ℕ) → Option Ending → KernelState → State → (old new : Drawn) → Machine → Name → List Name → Type 0
+Rounds words bound None k now old new m p others = GoesRound words bound k now old new m p others
+Rounds words bound (Some ending.Fault) k now old new m p others = ⊤
+Rounds words bound (Some e) k now old new m p others = RunEnds words bound e k now old new m p others
+
+-- where the next stint begins: at this machine; or, where the entry's turn is still due, at the one after that turn
+abbrev pub IsAtBy : Bool → CodeParts → KernelState → State → (left : ℕ) → Machine → Name → List Name → Type 0
+IsAtBy false code k s left m p others = Holds k m (Some p) others × (m.system ≡ s) × (m.turns ≡ left)
+IsAtBy true code k s left m p others =
+    Started code k × (entered (fetch code.words code.entry) code.entry code.calls left s ≡ went m stays) × (p ≡ []) × (others ≡ [])
+
+abbrev pub IsAt : CodeParts → KernelState → State → (left : ℕ) → Machine → Name → List Name → Type 0
+IsAt code k s left m p others = IsAtBy k.entering code k s left m p others
+
+-- ---- a whole run
+
+-- The run of this code ends so after some number of instructions, where so many choices had been drawn before it. With
+-- none drawn before this is the machine's definition itself.
+abbrev pub EndsAfter : CodeParts → State → (bound : ℕ) → Choices → (before : ℕ) → outcome.Ending → Machine → (drawn : ℕ) → Type 0
+EndsAfter code system bound choices before end m drawn =
+    (n : ℕ) × (after_step choices (run (fetch code.words) choices n) [] [] before (entered (fetch code.words code.entry) code.entry code.calls bound system) ≡ finished end m drawn)
+
+-- the kernel has run this code to its end, exactly as the machine does
+pub record RunsAs (code : CodeParts) (system : State) (bound : ℕ) (old : Drawn) (e : Ending) (words : List ℕ) (used : ℕ) (now : State) (new : Drawn) : Type 0 where
+  pub machine : Machine
+  pub end : outcome.Ending
+  pub is : EndsAfter code system bound old.source old.drawn end machine new.drawn
+  pub same : EndsAs end e
+  pub memory : KeepsWords e machine.memory words
+  pub system_is : machine.system ≡ now
+  pub turns : bound - machine.turns ≡ used
+
+abbrev pub RunsTo : CodeParts → State → (bound : ℕ) → (old : Drawn) → Ending → (words : List ℕ) → (used : ℕ) → (now : State) → (new : Drawn) → Type 0
+RunsTo code system bound old ending.Fault words used now new = ⊤
+RunsTo code system bound old e words used now new = RunsAs code system bound old e words used now new

@@ -1,0 +1,186 @@
+//! The kernel: it runs code on the abstract machine, with up to 32 processes in one memory.
+#![tactic(auto)]
+
+mod ends;
+mod fork;
+mod run;
+mod state;
+mod stretch;
+mod table;
+
+ghost use Rattle.std.specs.Prelude.{◌≡◌, ◌≤◌, ◌<◌, ◌+◌, ◌-◌, ◌^◌, min, length, slice_index, None, Some, IsSome, IfOk, ℕ, List, true, false, ◌↔◌, IsTrue};
+ghost use Rattle.edi_told.specs.Told.{WhereTold};
+ghost use Rattle.edi_store.specs.Memory.{zero_memory};
+ghost use Rattle.edi_calls.specs.declared.ends.Outside.{Outside};
+ghost use Rattle.edi_calls.specs.Names.{Name};
+ghost use Rattle.edi_target.specs.Mach.{Machine};
+ghost use Rattle.edi_kernel.specs.Table.{ready_places};
+ghost use Rattle.edi_kernel.specs.Stretch.{Blamed};
+ghost use Rattle.edi_kernel.specs.Kernel.{GoesTo, Holds, IsKernel, StandsAfter, fault_of, faulted, is_over, used_in};
+ghost use Rattle.edi_kernel.specs.Runs.{Chooses, IsAt, RunsTo, Started};
+
+use edi_calls::Calls;
+use edi_machine::Activity;
+use edi_store::{Segment, Store};
+use edi_target::Code;
+use edi_trace::Choices;
+pub use ends::{Ending, StintEnd};
+use state::KernelState;
+use std::alloc::{AllocError, Global};
+use std::marker::Model;
+use table::Table;
+
+/// A kernel: one memory of 65,536 words, up to 32 live processes, and the list of those that are ready.
+///
+/// Contracts see what it keeps, and by `Holds` the machine that it stands for.
+#[derive(Drop)]
+pub struct Kernel {
+    state: KernelState,
+}
+
+impl Model for Kernel {
+    ghost use Rattle.edi_kernel.specs.declared.state.KernelState.{KernelState};
+    ghost use Rattle.edi_kernel.specs.Kernel.{IsKernel};
+
+    ghost Value = { KernelState };
+
+    ghost view = { λ k. k.state };
+
+    ghost invariant = { λ k. IsKernel k.state };
+}
+
+/// The activity of a kernel that has run nothing.
+const IDLE: Activity = Activity {
+    base: 0,
+    end: 5,
+    top: 5,
+    pc: 0,
+    segment: Segment {
+        first: 0,
+        last: 65_536,
+    },
+    held: 0,
+};
+
+impl Kernel {
+    /// A kernel that has run nothing. All its memory is taken here; the only error is want of memory.
+    pub fn new(alloc: Global) -> Result<Kernel, AllocError>
+        ensures words { IfOk result (λ k. k.store ≡ zero_memory) }
+        ensures turns { IfOk result (λ k. k.used ≡ 0) }
+        ensures taken { IfOk result (λ k. k.taken ≡ None) }
+        ensures standing { IfOk result (λ k. k.arrived ≡ None) }
+    {
+        let store = Store::new(alloc)?;
+        let state = KernelState {
+            store,
+            table: Table::first(IDLE),
+            taken: None,
+            entering: false,
+            arrived: None,
+            used: 0,
+        };
+        Ok(Kernel { state })
+    }
+
+    /// Clears the memory. The first process of the code is taken, and the turn of its entry is due.
+    pub fn start(&mut self, code: &Code)
+        ensures exact { Started code.now self.new }
+        ensures taken { IsSome self.new.taken }
+    {
+        self.state.start(code);
+    }
+
+    /// Whether a process is taken.
+    pub fn is_taken(&self) -> bool
+        ensures { IsTrue result ↔ IsSome self.now.taken }
+    {
+        self.state.taken.is_some()
+    }
+
+    /// The number of processes that are ready, at most 32. The one that is taken is none of them.
+    pub fn ready(&self) -> usize
+        ensures { result ≡ length (ready_places self.now.table) }
+    {
+        self.state.table.ready()
+    }
+
+    /// The process that is taken goes on until it gives up its turn, the run ends, or `turns_left` turns are used up and
+    /// another is due. The first stint after the start takes the turn of the program's entry first.
+    ///
+    /// The end is that of the machine's definition, from each machine that the kernel is, where the state of the system
+    /// is told. `Fault` comes only where an object outside failed in this call.
+    pub fn stint<C: Calls>(&mut self, code: &Code, calls: &mut C, turns_left: u64) -> StintEnd
+        requires taken { IsSome self.old.taken }
+        requires working { C.failed calls.old ≡ None }
+        ensures exact { WhereTold (C.state calls.old) (C.state calls.new) (λ s t. (m : Machine) (p : Name) (others : List Name) →
+            IsAt code.now self.old s turns_left m p others → GoesTo code.now.words result turns_left self.new t m p others) }
+        ensures entry { self.old.entering ≡ true → turns_left ≡ 0 → result ≡ StintEnd.Over 0 Ending.Turns }
+        ensures free { is_over result ≡ false → self.new.taken ≡ None }
+        ensures standing { StandsAfter result self.new.arrived }
+        ensures used { used_in result ≤ turns_left }
+        ensures later { (outside : Outside) → C.faults calls.old outside ≤ C.faults calls.new outside }
+        ensures blame { Blamed (faulted result) (C.failed calls.new) (C.faults calls.old) (C.faults calls.new) }
+        ensures turns { self.new.used ≡ min (self.old.used + used_in result) (2 ^ 64 - 1) }
+    {
+        self.state.stint(code, calls, turns_left)
+    }
+
+    /// Takes the next process: of k ready ones that at place c modulo k, c being the next choice; a single one without a
+    /// choice. None is taken before, and one is ready.
+    pub fn choose(&mut self, choices: &mut Choices)
+        requires free { self.old.taken ≡ None }
+        requires some { 0 < length (ready_places self.old.table) }
+        ensures exact { choices.old.drawn < 2 ^ 64 - 1 → (m : Machine) (ready : List Name) →
+            Holds self.old m None ready → Chooses self.new m choices.old choices.new ready }
+        ensures taken { IsSome self.new.taken }
+        ensures source { choices.new.source ≡ choices.old.source }
+        ensures drawn { choices.new.drawn ≤ choices.old.drawn + 1 }
+        ensures turns { self.new.used ≡ self.old.used }
+    {
+        self.state.choose(choices);
+    }
+
+    /// Runs the code from its start until the run ends, with at most `bound` turns.
+    ///
+    /// The ending, the turns, the number of choices drawn and the state of the system are those of the machine's
+    /// definition, where that state is told, and after `Done`, `Halted` and `Failed` the words of the memory are too.
+    /// `Fault` comes only where an object outside failed in this call.
+    pub fn run<C: Calls>(
+        &mut self,
+        code: &Code,
+        calls: &mut C,
+        bound: u64,
+        choices: &mut Choices,
+    ) -> Ending
+        requires working { C.failed calls.old ≡ None }
+        ensures exact { choices.old.drawn + bound < 2 ^ 64 → WhereTold (C.state calls.old) (C.state calls.new) (λ s t.
+            RunsTo code.now s bound choices.old result self.new.store self.new.used t choices.new) }
+        ensures used { self.new.used ≤ bound }
+        ensures later { (outside : Outside) → C.faults calls.old outside ≤ C.faults calls.new outside }
+        ensures blame { Blamed (fault_of (Some result)) (C.failed calls.new) (C.faults calls.old) (C.faults calls.new) }
+    {
+        self.state.run(code, calls, bound, choices)
+    }
+
+    /// The turns that the last run took, or that the stints since the last start took together; 0 before any. The number
+    /// stands still at `u64::MAX`.
+    pub fn turns_used(&self) -> u64
+        ensures { result ≡ self.now.used }
+    {
+        self.state.used
+    }
+
+    /// The activity that the last instruction of the last stint left standing at its `when`, if it took its turn so.
+    pub fn standing(&self) -> Option<Activity>
+        ensures { result ≡ self.now.arrived }
+    {
+        self.state.arrived
+    }
+
+    /// The word of the memory at `at`.
+    pub fn word(&self, at: u16) -> u16
+        ensures { result ≡ slice_index self.now.store at }
+    {
+        self.state.store.get(at)
+    }
+}

@@ -1,0 +1,232 @@
+//! Whole runs.
+
+ghost use Rattle.std.specs.Prelude.{◌≡◌, ◌≤◌, ◌<◌, ◌+◌, ◌-◌, ◌^◌, if◌then◌else◌, length, min, None, Some, IsSome, ℕ, List, true, false};
+ghost use Rattle.edi_told.specs.Told.{WhereTold};
+ghost use Rattle.edi_calls.specs.declared.ends.Outside.{Outside};
+ghost use Rattle.edi_calls.specs.Names.{Name};
+ghost use Rattle.edi_target.specs.Mach.{Machine};
+ghost use Rattle.std.specs.Prelude.{Option};
+ghost use Rattle.edi_machine.specs.declared.activity.Activity.{Activity};
+ghost use Rattle.edi_kernel.specs.Table.{ready_places};
+ghost use Rattle.edi_kernel.specs.Stretch.{Blamed};
+ghost use Rattle.edi_kernel.specs.Kernel.{GoesTo, Holds, IsKernel, ended_by, fault_of, faulted, is_over, later_by, used_in, StandsAfter};
+ghost use Rattle.edi_kernel.specs.Runs.{Chooses, IsAt, Picks, Proceeds, Rounds, RunsTo, Started};
+
+use crate::ends::{Ending, StintEnd};
+use crate::state::KernelState;
+use crate::table::Table;
+use edi_calls::Calls;
+use edi_machine::begin;
+use edi_target::Code;
+use edi_trace::Choices;
+
+/// The place in the list of so many ready processes of the next one. A single one is taken without a choice.
+fn pick(ready: usize, choices: &mut Choices) -> usize
+    requires { 0 < ready }
+    ensures inside { result < ready }
+    ensures exact { Picks ready choices.old result choices.new }
+    ensures source { choices.new.source ≡ choices.old.source }
+    ensures drawn { choices.new.drawn ≤ choices.old.drawn + 1 }
+{
+    if ready == 1 {
+        return 0;
+    }
+    usize::from(choices.draw()) % ready
+}
+
+/// The turns of a stint.
+fn used_in(end: StintEnd) -> u64
+    ensures { result ≡ used_in end }
+{
+    match end {
+        StintEnd::Arrived { used }
+        | StintEnd::Forked { used }
+        | StintEnd::Exited { used }
+        | StintEnd::Over { used, .. } => used,
+    }
+}
+
+/// How the run has ended, if it has by a stint that ended so.
+fn ended_by(end: StintEnd) -> Option<Ending>
+    ensures { result ≡ ended_by end }
+{
+    match end {
+        StintEnd::Over { ending, .. } => Some(ending),
+        _ => None,
+    }
+}
+
+/// The turns that the program's entry takes, if it is still due.
+fn entry_turns(entering: bool) -> u64
+    ensures { result ≡ (if entering then 1 else 0) }
+{
+    if entering { 1 } else { 0 }
+}
+
+/// The same end of a stint, after so many more turns.
+fn later_by(end: StintEnd, turns: u64) -> StintEnd
+    requires { used_in end + turns < 2 ^ 64 }
+    ensures exact { result ≡ later_by turns end }
+    ensures standing { (arrived : Option Activity) → StandsAfter end arrived → StandsAfter result arrived }
+{
+    match end {
+        StintEnd::Arrived { used } => StintEnd::Arrived { used: used + turns },
+        StintEnd::Forked { used } => StintEnd::Forked { used: used + turns },
+        StintEnd::Exited { used } => StintEnd::Exited { used: used + turns },
+        StintEnd::Over { used, ending } => StintEnd::Over {
+            used: used + turns,
+            ending,
+        },
+    }
+}
+
+impl KernelState {
+    /// The first process of the code is taken, and the turn of its entry is due.
+    pub(crate) fn start(&mut self, code: &Code)
+        ensures { Started code.now self.new }
+    {
+        let activity = begin(&mut self.store, code);
+        self.table = Table::first(activity);
+        self.taken = Some(0);
+        self.entering = true;
+        self.arrived = None;
+        self.used = 0;
+    }
+
+    /// Takes the next process, of at least one that is ready.
+    pub(crate) fn choose(&mut self, choices: &mut Choices)
+        requires kernel { IsKernel self.old }
+        requires free { self.old.taken ≡ None }
+        requires some { 0 < length (ready_places self.old.table) }
+        ensures exact { choices.old.drawn < 2 ^ 64 - 1 → (m : Machine) (ready : List Name) → Holds self.old m None ready → Chooses self.new m choices.old choices.new ready }
+        ensures kernel { IsKernel self.new }
+        ensures taken { IsSome self.new.taken }
+        ensures source { choices.new.source ≡ choices.old.source }
+        ensures drawn { choices.new.drawn ≤ choices.old.drawn + 1 }
+        ensures entering { self.new.entering ≡ self.old.entering }
+        ensures turns { self.new.used ≡ self.old.used }
+        ensures store { self.new.store ≡ self.old.store }
+    {
+        let at = pick(self.table.ready(), choices);
+        let place = self.table.next(at);
+        self.taken = Some(place);
+    }
+
+    /// Takes the next process, if one is ready.
+    fn proceed(&mut self, choices: &mut Choices) -> Option<Ending>
+        requires kernel { IsKernel self.old }
+        requires free { self.old.taken ≡ None }
+        ensures exact { choices.old.drawn < 2 ^ 64 - 1 → (m : Machine) (ready : List Name) → Holds self.old m None ready → Proceeds result self.new m choices.old choices.new ready }
+        ensures kernel { IsKernel self.new }
+        ensures taken { result ≡ None → IsSome self.new.taken }
+        ensures source { choices.new.source ≡ choices.old.source }
+        ensures drawn { choices.new.drawn ≤ choices.old.drawn + 1 }
+        ensures turns { self.new.used ≡ self.old.used }
+        ensures store { self.new.store ≡ self.old.store }
+        ensures fault { fault_of result ≡ None }
+    {
+        if self.table.ready() == 0 {
+            return Some(Ending::Standstill);
+        }
+        self.choose(choices);
+        None
+    }
+
+    /// A stint of the process that is taken, and the choice of the next. The answer is the ending, if the run has ended.
+    fn round<C: Calls>(
+        &mut self,
+        code: &Code,
+        calls: &mut C,
+        bound: u64,
+        choices: &mut Choices,
+    ) -> Option<Ending>
+        requires kernel { IsKernel self.old }
+        requires taken { IsSome self.old.taken }
+        requires working { C.failed calls.old ≡ None }
+        requires used { self.old.used ≤ bound }
+        ensures exact { choices.old.drawn < 2 ^ 64 - 1 → WhereTold (C.state calls.old) (C.state calls.new) (λ s t. (m : Machine) (p : Name) (others : List Name) →
+            Holds self.old m (Some p) others → m.system ≡ s → m.turns ≡ bound - self.old.used →
+            Rounds code.now.words bound result self.new t choices.old choices.new m p others) }
+        ensures kernel { IsKernel self.new }
+        ensures taken { result ≡ None → IsSome self.new.taken }
+        ensures used { self.new.used ≤ bound }
+        ensures spent { result ≡ None → self.old.used < self.new.used }
+        ensures source { choices.new.source ≡ choices.old.source }
+        ensures drawn { choices.new.drawn ≤ choices.old.drawn + 1 }
+        ensures later { (outside : Outside) → C.faults calls.old outside ≤ C.faults calls.new outside }
+        ensures blame { Blamed (fault_of result) (C.failed calls.new) (C.faults calls.old) (C.faults calls.new) }
+    {
+        let end = self.go(code, calls, bound - self.used);
+        self.used += used_in(end);
+        if let Some(ending) = ended_by(end) {
+            return Some(ending);
+        }
+        self.proceed(choices)
+    }
+
+    /// Runs the code from its start until the run ends.
+    pub(crate) fn run<C: Calls>(
+        &mut self,
+        code: &Code,
+        calls: &mut C,
+        bound: u64,
+        choices: &mut Choices,
+    ) -> Ending
+        requires working { C.failed calls.old ≡ None }
+        ensures exact { choices.old.drawn + bound < 2 ^ 64 → WhereTold (C.state calls.old) (C.state calls.new) (λ s t.
+            RunsTo code.now s bound choices.old result self.new.store self.new.used t choices.new) }
+        ensures kernel { IsKernel self.new }
+        ensures used { self.new.used ≤ bound }
+        ensures later { (outside : Outside) → C.faults calls.old outside ≤ C.faults calls.new outside }
+        ensures blame { Blamed (fault_of (Some result)) (C.failed calls.new) (C.faults calls.old) (C.faults calls.new) }
+    {
+        self.start(code);
+        self.entering = false;
+        if bound == 0 {
+            return Ending::Turns;
+        }
+        self.used = 1;
+        'rounds: loop {
+            if let Some(ending) = self.round(code, calls, bound, choices) {
+                return ending;
+            }
+        }
+    }
+
+    /// The taken process goes on until it gives up its turn, the run ends, or `turns_left` turns are used up and another
+    /// is due. The first stint after the start takes the turn of the program's entry first.
+    pub(crate) fn stint<C: Calls>(
+        &mut self,
+        code: &Code,
+        calls: &mut C,
+        turns_left: u64,
+    ) -> StintEnd
+        requires kernel { IsKernel self.old }
+        requires taken { IsSome self.old.taken }
+        requires working { C.failed calls.old ≡ None }
+        ensures exact { WhereTold (C.state calls.old) (C.state calls.new) (λ s t. (m : Machine) (p : Name) (others : List Name) →
+            IsAt code.now self.old s turns_left m p others → GoesTo code.now.words result turns_left self.new t m p others) }
+        ensures entry { self.old.entering ≡ true → turns_left ≡ 0 → result ≡ StintEnd.Over 0 Ending.Turns }
+        ensures kernel { IsKernel self.new }
+        ensures free { is_over result ≡ false → self.new.taken ≡ None }
+        ensures standing { StandsAfter result self.new.arrived }
+        ensures used { used_in result ≤ turns_left }
+        ensures later { (outside : Outside) → C.faults calls.old outside ≤ C.faults calls.new outside }
+        ensures blame { Blamed (faulted result) (C.failed calls.new) (C.faults calls.old) (C.faults calls.new) }
+        ensures turns { self.new.used ≡ min (self.old.used + used_in result) (2 ^ 64 - 1) }
+    {
+        let used_before = self.used;
+        let entry = entry_turns(self.entering);
+        self.arrived = None;
+        if turns_left < entry {
+            return StintEnd::Over {
+                used: 0,
+                ending: Ending::Turns,
+            };
+        }
+        self.entering = false;
+        let end = later_by(self.go(code, calls, turns_left - entry), entry);
+        self.used = used_before.saturating_add(used_in(end));
+        end
+    }
+}

@@ -1,0 +1,230 @@
+//! The kernel's state, and what it does at each switch.
+
+ghost use Rattle.std.specs.Prelude.{◌≡◌, ◌≤◌, ◌<◌, ◌==◌, ◌+◌, ◌-◌, ◌^◌, if◌then◌else◌, length, None, Some, IsSome, ℕ, true, false, List};
+ghost use Rattle.edi_store.specs.Memory.{IsMemory};
+ghost use Rattle.edi_ring.specs.Lists.{home_of};
+ghost use Rattle.edi_machine.specs.Activities.{IsOrdered, local_of};
+ghost use Rattle.edi_machine.specs.Starts.{IsFork, branches_at};
+ghost use Rattle.edi_kernel.specs.Table.{process_at, free_places, resumed};
+ghost use Rattle.edi_kernel.specs.Stands.{IsTable, IsTaken};
+ghost use Rattle.edi_told.specs.Told.{WhereTold};
+ghost use Rattle.edi_calls.specs.declared.ends.Outside.{Outside};
+ghost use Rattle.edi_calls.specs.Names.{Name};
+ghost use Rattle.edi_target.specs.Mach.{Machine};
+ghost use Rattle.edi_machine.specs.declared.activity.Activity.{Activity};
+ghost use Rattle.edi_kernel.specs.Stretch.{Allows, Blamed, Spends, Stretches, is_standstill, running_in};
+ghost use Rattle.edi_kernel.specs.Kernel.{
+  GoesTo,
+  Handles,
+  HandlesTurn,
+  Holds,
+  IsForked,
+  IsKernel,
+  StandsAfter,
+  attempt_end,
+  faulted,
+  is_over,
+  used_in,
+};
+
+use crate::ends::{Ending, StintEnd};
+use crate::fork::{branch_count, fork};
+use crate::stretch::{Pause, Progress, advance};
+use crate::table::Table;
+use edi_calls::Calls;
+use edi_machine::{Activity, TurnKind};
+use edi_store::Store;
+use edi_target::Code;
+
+/// All that the kernel keeps.
+#[derive(Drop)]
+pub(crate) struct KernelState {
+    pub(crate) store: Store,
+    pub(crate) table: Table,
+    /// The place of the process that is taken.
+    pub(crate) taken: Option<usize>,
+    /// Whether the turn of the program's entry is still to be taken.
+    pub(crate) entering: bool,
+    /// The activity that the last instruction of the last stint left standing at its `when`.
+    pub(crate) arrived: Option<Activity>,
+    /// The turns that were taken since the start.
+    pub(crate) used: u64,
+}
+
+/// How a stint ends at an attempt: at a standstill where all that are ready are marked.
+fn attempt_end(all_marked: bool, used: u64) -> StintEnd
+    ensures exact { result ≡ attempt_end all_marked used }
+    ensures standing { (a : Activity) → StandsAfter result (Some a) }
+{
+    if all_marked {
+        StintEnd::Over {
+            used,
+            ending: Ending::Standstill,
+        }
+    } else {
+        StintEnd::Arrived { used }
+    }
+}
+
+impl KernelState {
+    /// The process waits for its children, which begin.
+    fn fork(&mut self, code: &Code, at: u32, place: usize, activity: &Activity)
+        requires table { IsTable self.old.table }
+        requires taken { IsTaken self.old.table place }
+        requires ordered { IsOrdered activity.now }
+        requires fork { IsFork code.now.words at (branches_at code.now.words at) (local_of self.old.store activity.now) }
+        requires room { length (branches_at code.now.words at) ≤ length (free_places self.old.table) }
+        ensures exact { IsForked code.now.words place activity.now at self.old self.new }
+        ensures table { IsTable self.new.table }
+        ensures taken { self.new.taken ≡ self.old.taken }
+        ensures arrived { self.new.arrived ≡ self.old.arrived }
+        ensures entering { self.new.entering ≡ self.old.entering }
+        ensures turns { self.new.used ≡ self.old.used }
+    {
+        let count = branch_count(code, at);
+        self.table.unmark();
+        self.table.wait(place, *activity, count as usize);
+        fork(&mut self.store, &mut self.table, code, at, place, activity);
+    }
+
+    /// Handles a turn of the process at `place` at which it paused.
+    fn handle_turn(
+        &mut self,
+        code: &Code,
+        place: usize,
+        activity: &Activity,
+        kind: TurnKind,
+        used: u64,
+    ) -> StintEnd
+        requires table { IsTable self.old.table }
+        requires taken { IsTaken self.old.table place }
+        requires ordered { IsOrdered activity.now }
+        requires allowed { Allows (Some (Pause.At kind)) code.now.words (32 - length (free_places self.old.table)) (place == 0) (local_of self.old.store activity.now) }
+        requires marks { self.old.table.marks < 64 }
+        requires arrived { self.old.arrived ≡ None }
+        ensures standing { StandsAfter result self.new.arrived }
+        ensures exact { HandlesTurn kind code.now.words place used activity.now self.old self.new result }
+        ensures taken { self.new.taken ≡ self.old.taken }
+        ensures entering { self.new.entering ≡ self.old.entering }
+        ensures turns { self.new.used ≡ self.old.used }
+    {
+        match kind {
+            TurnKind::Again(true) => {
+                self.arrived = Some(*activity);
+                let all_marked = self.table.attempt(place, *activity);
+                attempt_end(all_marked, used)
+            }
+            TurnKind::Fork(at) => {
+                self.fork(code, at, place, activity);
+                StintEnd::Forked { used }
+            }
+            TurnKind::Exit => {
+                self.table.leave(place);
+                StintEnd::Exited { used }
+            }
+            _ => {
+                self.arrived = Some(*activity);
+                self.table.arrive(place, *activity);
+                StintEnd::Arrived { used }
+            }
+        }
+    }
+
+    /// Handles the pause of the process at `place`, which has this activity, after so many turns.
+    fn handle(
+        &mut self,
+        code: &Code,
+        place: usize,
+        activity: &Activity,
+        pause: Pause,
+        used: u64,
+    ) -> StintEnd
+        requires table { IsTable self.old.table }
+        requires taken { IsTaken self.old.table place }
+        requires ordered { IsOrdered activity.now }
+        requires allowed { Allows (Some pause) code.now.words (32 - length (free_places self.old.table)) (place == 0) (local_of self.old.store activity.now) }
+        requires marks { self.old.table.marks < 64 }
+        requires arrived { self.old.arrived ≡ None }
+        requires standstill { is_standstill pause ≡ false }
+        ensures standing { StandsAfter result self.new.arrived }
+        ensures exact { Handles pause code.now.words place used activity.now self.old self.new result }
+        ensures taken { self.new.taken ≡ self.old.taken }
+        ensures entering { self.new.entering ≡ self.old.entering }
+        ensures turns { self.new.used ≡ self.old.used }
+    {
+        match pause {
+            Pause::At(kind) => self.handle_turn(code, place, activity, kind, used),
+            Pause::Over(ending) => {
+                self.table.unmark();
+                StintEnd::Over { used, ending }
+            }
+        }
+    }
+
+    /// The process at `place`, which is taken, goes on until it pauses.
+    fn walk<C: Calls>(
+        &mut self,
+        code: &Code,
+        calls: &mut C,
+        place: usize,
+        left: u64,
+    ) -> (Pause, Progress)
+        requires table { IsTable self.old.table }
+        requires place { place < 32 }
+        requires working { C.failed calls.old ≡ None }
+        ensures exact { WhereTold (C.state calls.old) (C.state calls.new) (λ s t.
+            Stretches code.now.words (32 - length (free_places self.old.table)) (place == 0)
+            (running_in self.old.store (resumed (process_at self.old.table place)) s left) false
+            result.0 (running_in self.new.store result.1.activity t result.1.left) result.1.cleared) }
+        ensures same { self.new ≡ record self.old { store = self.new.store } }
+        ensures standstill { is_standstill result.0 ≡ false }
+        ensures allowed { Allows (Some result.0) code.now.words (32 - length (free_places self.old.table)) (place == 0) (local_of self.new.store result.1.activity) }
+        ensures less { result.1.left ≤ left }
+        ensures spends { Spends (Some result.0) left result.1.left }
+        ensures later { (outside : Outside) → C.faults calls.old outside ≤ C.faults calls.new outside }
+        ensures blame { Blamed (Some result.0) (C.failed calls.new) (C.faults calls.old) (C.faults calls.new) }
+        ensures ordered { IsOrdered result.1.activity }
+    {
+        let mut progress = Progress {
+            activity: self.table.resume(place),
+            left,
+            cleared: false,
+        };
+        let live = self.table.live();
+        let pause = advance(
+            &mut self.store,
+            &mut progress,
+            code,
+            live,
+            place == 0,
+            calls,
+        );
+        (pause, progress)
+    }
+
+    /// The taken process goes on until it gives up its turn, the run ends, or `left` turns are used up and another is
+    /// due.
+    pub(crate) fn go<C: Calls>(&mut self, code: &Code, calls: &mut C, left: u64) -> StintEnd
+        requires kernel { IsKernel self.old }
+        requires taken { IsSome self.old.taken }
+        requires working { C.failed calls.old ≡ None }
+        ensures exact { WhereTold (C.state calls.old) (C.state calls.new) (λ s t. (m : Machine) (p : Name) (others : List Name) →
+            Holds self.old m (Some p) others → m.system ≡ s → m.turns ≡ left → GoesTo code.now.words result left self.new t m p others) }
+        ensures kernel { IsKernel self.new }
+        ensures free { self.new.taken ≡ None }
+        ensures standing { StandsAfter result self.new.arrived }
+        ensures used { used_in result ≤ left }
+        ensures spent { is_over result ≡ false → 0 < used_in result }
+        ensures later { (outside : Outside) → C.faults calls.old outside ≤ C.faults calls.new outside }
+        ensures blame { Blamed (faulted result) (C.failed calls.new) (C.faults calls.old) (C.faults calls.new) }
+        ensures entering { self.new.entering ≡ self.old.entering }
+        ensures turns { self.new.used ≡ self.old.used }
+    {
+        let place = self.taken.unwrap();
+        let (pause, progress) = self.walk(code, calls, place, left);
+        self.taken = None;
+        self.arrived = None;
+        self.table.unmark_if(progress.cleared);
+        self.handle(code, place, &progress.activity, pause, left - progress.left)
+    }
+}
