@@ -1,0 +1,34 @@
+-- When a tree spells the marks of a text, and when marks begin a program.
+use Rattle.std.specs.Prelude.{◌≡◌, ℕ, List, [], ◌∷◌, ◌++◌, Option, Some, None}
+use Rattle.edi_lex.specs.declared.symbol.Mark.{Mark}
+use Rattle.edi_tree.specs.Tree.{Program}
+use Rattle.edi_tree.specs.Spelled.{Spelled, spelled}
+
+-- a line that is kept is this one; one that is not kept is any
+abbrev pub IsOn : Option ℕ → ℕ → Type 0
+IsOn None line = Unit {0}
+IsOn (Some kept) line = line ≡ kept
+
+-- the symbol of a mark, on its line where the tree keeps it
+abbrev pub Stands : Spelled → Mark → Type 0
+Stands s m = (m.symbol ≡ s.symbol) × IsOn s.line m.line
+
+-- as many marks, one after another
+abbrev pub Stand : List Spelled → List Mark → Type 0
+Stand [] [] = Unit {0}
+Stand [] (m ∷ marks) = ⊥
+Stand (s ∷ ss) [] = ⊥
+Stand (s ∷ ss) (m ∷ marks) = Stands s m × Stand ss marks
+
+-- a tree spells what its parts spell, one after another
+abbrev pub Spells : Program → List Mark → Type 0
+Spells tree marks = Stand (spelled tree) marks
+
+-- the marks of a text, and behind them the end of the text, which is a mark of its own
+abbrev pub to_end : List Mark → List (Option Mark)
+to_end [] = None ∷ []
+to_end (m ∷ marks) = Some m ∷ to_end marks
+
+-- some program, of any size and depth, spells marks that begin with these; the end of the text follows a whole program only
+abbrev pub Begins : List (Option Mark) → Type 0
+Begins front = (tree : Program) × (marks : List Mark) × (behind : List (Option Mark)) × Spells tree marks × (to_end marks ≡ front ++ behind)
