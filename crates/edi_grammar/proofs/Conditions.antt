@@ -1,8 +1,8 @@
 -- What the conditions on the parts of a grammar give.
-use Rattle.std.proofs.Common.{◌≡◌, ℕ, zero, suc, ◌+◌, ◌-◌, ◌<◌, List, [], ◌∷◌, ◌++◌, Bool, true, false, Option, Some, None, refl, sym, subst, arith, if◌then◌else◌}
+use Rattle.std.proofs.Common.{◌≡◌, ℕ, zero, suc, ◌+◌, ◌-◌, ◌<◌, List, [], ◌∷◌, ◌++◌, Bool, true, false, Option, Some, None, refl, sym, subst, arith, if◌then◌else◌, ap, ◌≤◌, ◌∙◌}
 use Rattle.std.proofs.lemmas.Bool.{eqb-true, ltb-true}
 use Rattle.std.specs.Prelude.{nat_eq}
-use Rattle.edi_grammar.specs.Grammar.{Part, token, level_end, part, Grammar, rule_no, level}
+use Rattle.edi_grammar.specs.Grammar.{Part, token, level_end, part, Grammar, rule_no, level, opened}
 use Rattle.edi_grammar.specs.Parser.{has, null_of, firsts, selects, pick}
 use Rattle.edi_grammar.specs.Fair.{both, each, subset, links, below, lower, raise, balance, is_even, rule_is_fair, rules_are_fair, is_short, part_is_fair}
 
@@ -98,12 +98,54 @@ module _ {N S : Type 0} (g : Grammar N S) where
   at_rule k j (y ∷ xs) e zero x h = let same : y ≡ x = some_same y x h in let none : 0 + j ≡ j = omega arith in rw none (subst (λ x. rule_is_fair g k j x ≡ true) same (left _ _ e))
   at_rule k j (y ∷ xs) e (suc i) x h = let same : i + suc j ≡ suc i + j = omega arith in subst (λ n. rule_is_fair g k n x ≡ true) same (at_rule k (suc j) xs (right _ _ e) i x h)
 
+  -- each level that opens in these parts ends in them or behind them
+  abbrev pub Sane : List (Part N) → Type 0
+  Sane [] = Unit {0}
+  Sane (token a ∷ x) = (opened g a ≤ level g x 0) × Sane x
+  Sane (level_end ∷ x) = Sane x
+  Sane (part k ∷ x) = Sane x
+
+  pub level_both : (x y : List (Part N)) (n : ℕ) → level g (x ++ y) n ≡ level g x (level g y n)
+  level_both [] y n = refl
+  level_both (token a ∷ x) y n = ap (λ m. m - opened g a) (level_both x y n)
+  level_both (level_end ∷ x) y n = ap (λ m. suc m) (level_both x y n)
+  level_both (part k ∷ x) y n = level_both x y n
+
+  opens_before : (a c n m : ℕ) (o : Bool) (b : Option ℕ) → lower o b ≡ Some c → ((d : ℕ) → b ≡ Some d → m ≡ d + n) → (if o then 1 else 0) ≤ m
+  opens_before a c n m true None e h = cc
+  opens_before a c n m true (Some zero) e h = cc
+  opens_before a c n m true (Some (suc d)) e h = let l : m ≡ suc d + n = h (suc d) refl in omega (arith, l)
+  opens_before a c n m false b e h = omega arith
+
+  balanced_tail : (o : Bool) (b : Option ℕ) (c : ℕ) → lower o b ≡ Some c → (d : ℕ) × (b ≡ Some d)
+  balanced_tail true None c e = cc
+  balanced_tail true (Some zero) c e = cc
+  balanced_tail true (Some (suc d)) c e = (suc d, refl)
+  balanced_tail false b c e = (c, e)
+
+  balanced_rest : (b : Option ℕ) (c : ℕ) → raise b ≡ Some c → (d : ℕ) × (b ≡ Some d)
+  balanced_rest None c e = cc
+  balanced_rest (Some d) c e = (d, refl)
+
+  sane_both : (y x : List (Part N)) (c : ℕ) → balance g y ≡ Some c → Sane x → Sane (y ++ x)
+  sane_both [] x c e h = h
+  sane_both (token a ∷ y) x c e h =
+      let tail = balanced_tail (g.opens a) (balance g y) c e in
+      (rw (level_both y x 0) (opens_before a c (level g x 0) (level g y (level g x 0)) (g.opens a) (balance g y) e (λ d f. balanced y d (level g x 0) f)), sane_both y x tail.0 tail.1 h)
+  sane_both (level_end ∷ y) x c e h = let tail = balanced_rest (balance g y) c e in sane_both y x tail.0 tail.1 h
+  sane_both (part k ∷ y) x c e h = sane_both y x c e h
+
+  sane_rule : (y x : List (Part N)) (b : Option ℕ) → balance g y ≡ b → is_even b ≡ true → Sane x → Sane (y ++ x)
+  sane_rule y x None e h s = cc
+  sane_rule y x (Some c) e h s = sane_both y x c e s
+
   -- one symbol in hand decides
   pub record Fair : Type 0 where
     pub null : (k : N) (i : ℕ) (x : List (Part N)) → rule_no (g.rules k) i ≡ Some x → null_of g x ≡ true → g.null k ≡ true
     pub first : (k : N) (i : ℕ) (x : List (Part N)) (a : ℕ) → rule_no (g.rules k) i ≡ Some x → has a (firsts g x) ≡ true → has a (g.first k) ≡ true
     pub links : (k : N) (i : ℕ) (x : List (Part N)) → rule_no (g.rules k) i ≡ Some x → Links k x
     pub even : (k : N) (i : ℕ) (x : List (Part N)) (n : ℕ) → rule_no (g.rules k) i ≡ Some x → level g x n ≡ n
+    pub sane : (k : N) (i : ℕ) (x y : List (Part N)) → rule_no (g.rules k) i ≡ Some x → Sane y → Sane (x ++ y)
     pub picked : (k : N) (i : ℕ) (x : List (Part N)) (a : ℕ) → rule_no (g.rules k) i ≡ Some x → has a (selects g k x) ≡ true → pick g k a (g.rules k) ≡ i
     pub short : (k : N) → (x : List (Part N)) × (rule_no (g.rules k) (g.short k) ≡ Some x) × Below (g.rank k) x
 
@@ -124,6 +166,7 @@ module _ {N S : Type 0} (g : Grammar N S) where
       first = λ k i x a h. each_at _ (firsts g x) (conditions k i x h).1 a;
       links = λ k i x h. links_of k x (conditions k i x h).2;
       even = λ k i x n h. even_of x n (balance g x) refl (conditions k i x h).3;
+      sane = λ k i x y h. sane_rule x y (balance g x) refl (conditions k i x h).3;
       picked = λ k i x a h e. eqb-true _ _ (each_at (λ a. nat_eq (pick g k a (g.rules k)) i) (selects g k x) (conditions k i x h).4 a e);
       short = λ k. short_of k (rule_no (g.rules k) (g.short k)) refl (right _ _ (fair k));
     }

@@ -4,3 +4,4 @@ pub mod Exact
 pub mod Trees
 pub mod EdisonIsFair
 pub mod Start
+pub mod Open

@@ -3,7 +3,7 @@ use Rattle.std.proofs.Common.{◌≡◌, ℕ, zero, suc, ◌+◌, ◌-◌, ◌�
 use Rattle.std.proofs.lemmas.Bool.{eq-eqb}
 use Rattle.edi_grammar.specs.Grammar.{Part, token, level_end, part, Item, mark, closing, plain, Grammar, rule_no, level, opened, ends_in, Derives}
 use Rattle.edi_grammar.specs.Parser.{has, null_of, firsts, pick}
-use Rattle.edi_grammar.proofs.Conditions.{Links, Below, Fair, has_left, has_right}
+use Rattle.edi_grammar.proofs.Conditions.{Links, Below, Fair, has_left, has_right, level_both}
 
 has_here : (a b : ℕ) (more : List ℕ) → a ≡ b → has a (b ∷ more) ≡ true
 has_here a b more e = rw (eq-eqb a b e) refl
@@ -32,12 +32,6 @@ module _ {N S : Type 0} (g : Grammar N S) where
   Good (level_end ∷ x) = Good x
   Good (part k ∷ x) = ((n : ℕ) (s : S) (words : List S) (items : List (Item S)) → plain items ≡ s ∷ words → Derives g n x items → has (g.kind s) (g.follow k) ≡ true) × Good x
 
-  pub level_both : (x y : List (Part N)) (n : ℕ) → level g (x ++ y) n ≡ level g x (level g y n)
-  level_both [] y n = refl
-  level_both (token a ∷ x) y n = ap (λ m. m - opened g a) (level_both x y n)
-  level_both (level_end ∷ x) y n = ap (λ m. suc m) (level_both x y n)
-  level_both (part k ∷ x) y n = level_both x y n
-
   module _ (fair : Fair g) where
     -- a text ends the levels that its parts say
     pub ends_level : (n : ℕ) (x : List (Part N)) (items : List (Item S)) → Derives g n x items → ends_in g items ≡ level g x 0
@@ -45,7 +39,7 @@ module _ {N S : Type 0} (g : Grammar N S) where
     ends_level (suc n) [] items d = ap (ends_in g) d
     ends_level (suc n) (token a ∷ x) items d = ap (ends_in g) d.2 ∙ ap (λ m. m - opened g (g.kind d.0)) (ends_level n x d.1 d.4) ∙ ap (λ a. level g x 0 - opened g a) d.3
     ends_level (suc n) (level_end ∷ x) items d = ap (ends_in g) d.1 ∙ ap (λ m. suc m) (ends_level n x d.0 d.2)
-    ends_level (suc n) (part k ∷ x) items d = ends_level n (d.1 ++ x) items d.3 ∙ level_both d.1 x 0 ∙ fair.even k d.0 d.1 (level g x 0) d.2
+    ends_level (suc n) (part k ∷ x) items d = ends_level n (d.1 ++ x) items d.3 ∙ level_both g d.1 x 0 ∙ fair.even k d.0 d.1 (level g x 0) d.2
 
     -- a text of x and y begins as x may, or x is empty and y has it
     abbrev pub Begins : ℕ → List (Part N) → List (Part N) → S → List S → Type 0

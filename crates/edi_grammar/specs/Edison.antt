@@ -4,7 +4,7 @@ use Rattle.edi_lex.specs.declared.symbol.Mark.{Mark}
 use Rattle.edi_grammar.specs.Grammar.{Part, token, part, Grammar}
 use Rattle.edi_grammar.specs.Kinds as kind
 use Rattle.edi_grammar.specs.Kind.{kind_at, sample}
-use Rattle.edi_grammar.specs.Rules.{Sort, Program, Globals, Global, ConstList, ConstDecls, ConstDecl, Constant, Code, TypeDecl, Names, Group, Groups, VarList, Head, Params, MoreParams, Result, Param, Procedure, Item, Module, Member, Members, Declaration, Declarations, StatementList, Statements, Statement, After, Args, Exprs, Selectors, Selector, Conditions, Condition, Else, Branch, Next, Expr, Comparison, Relation, Simple, Sign, Addends, Addend, Addition, Term, Multipliers, Multiplier, Multiplication, Factor, Behind, opens, rules}
+use Rattle.edi_grammar.specs.Rules.{Sort, Program, Globals, Global, ConstList, ConstDecls, ConstDecl, Constant, Code, TypeDecl, Names, Group, Groups, VarList, Head, Params, MoreParams, Result, Param, Procedure, Item, Module, Member, Members, Declaration, Declarations, StatementList, Statements, Statement, After, Args, Exprs, Selectors, Selector, Conditions, Condition, Else, Branch, Branches, Expr, Comparison, Relation, Simple, Sign, Addends, Addend, Addition, Term, Multipliers, Multiplier, Multiplication, Factor, Behind, opens, rules}
 
 abbrev pub null : Sort → Bool
 null Program = false
@@ -44,7 +44,7 @@ null Conditions = false
 null Condition = false
 null Else = true
 null Branch = false
-null Next = false
+null Branches = false
 null Expr = false
 null Comparison = true
 null Relation = false
@@ -98,7 +98,7 @@ first Conditions = kind.Name ∷ kind.Numeral ∷ kind.Char ∷ kind.Text ∷ ki
 first Condition = kind.Name ∷ kind.Numeral ∷ kind.Char ∷ kind.Text ∷ kind.Not ∷ kind.Val ∷ kind.Plus ∷ kind.Minus ∷ kind.Open ∷ []
 first Else = kind.Else ∷ []
 first Branch = kind.Name ∷ kind.Numeral ∷ kind.Char ∷ []
-first Next = kind.Also ∷ kind.End ∷ []
+first Branches = kind.Also ∷ kind.End ∷ []
 first Expr = kind.Name ∷ kind.Numeral ∷ kind.Char ∷ kind.Text ∷ kind.Not ∷ kind.Val ∷ kind.Plus ∷ kind.Minus ∷ kind.Open ∷ []
 first Comparison = kind.In ∷ kind.Equal ∷ kind.NotEqual ∷ kind.Less ∷ kind.AtMost ∷ kind.Greater ∷ kind.AtLeast ∷ []
 first Relation = kind.In ∷ kind.Equal ∷ kind.NotEqual ∷ kind.Less ∷ kind.AtMost ∷ kind.Greater ∷ kind.AtLeast ∷ []
@@ -151,8 +151,8 @@ follow Selector = kind.Also ∷ kind.And ∷ kind.Div ∷ kind.Do ∷ kind.Else 
 follow Conditions = kind.End ∷ []
 follow Condition = kind.Else ∷ kind.End ∷ []
 follow Else = kind.End ∷ []
-follow Branch = kind.Also ∷ kind.Else ∷ kind.End ∷ kind.Semicolon ∷ []
-follow Next = kind.Also ∷ kind.Else ∷ kind.End ∷ kind.Semicolon ∷ []
+follow Branch = kind.Also ∷ kind.End ∷ []
+follow Branches = kind.Also ∷ kind.Else ∷ kind.End ∷ kind.Semicolon ∷ []
 follow Expr = kind.Also ∷ kind.Do ∷ kind.Else ∷ kind.End ∷ kind.Comma ∷ kind.Semicolon ∷ kind.Close ∷ kind.CloseBracket ∷ []
 follow Comparison = kind.Also ∷ kind.Do ∷ kind.Else ∷ kind.End ∷ kind.Comma ∷ kind.Semicolon ∷ kind.Close ∷ kind.CloseBracket ∷ []
 follow Relation = kind.Name ∷ kind.Numeral ∷ kind.Char ∷ kind.Text ∷ kind.Not ∷ kind.Val ∷ kind.Plus ∷ kind.Minus ∷ kind.Open ∷ []
@@ -206,7 +206,7 @@ short Conditions = 0
 short Condition = 0
 short Else = 1
 short Branch = 0
-short Next = 1
+short Branches = 1
 short Expr = 0
 short Comparison = 1
 short Relation = 0
@@ -260,7 +260,7 @@ rank Conditions = 5
 rank Condition = 4
 rank Else = 0
 rank Branch = 2
-rank Next = 0
+rank Branches = 0
 rank Expr = 3
 rank Comparison = 0
 rank Relation = 0

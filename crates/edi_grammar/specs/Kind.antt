@@ -62,11 +62,6 @@ abbrev pub kind_at : Option Mark → ℕ
 kind_at None = kind.End_of_text
 kind_at (Some m) = kind_of m.symbol
 
--- the marks, and then the end of the text
-abbrev pub words : List Mark → List (Option Mark)
-words [] = None ∷ []
-words (m ∷ marks) = Some m ∷ words marks
-
 -- the kind of the first of the marks
 abbrev pub front : List Mark → ℕ
 front [] = kind.End_of_text

@@ -153,3 +153,4 @@ OpenBracket = 49
 
 abbrev pub CloseBracket : ℕ
 CloseBracket = 50
+

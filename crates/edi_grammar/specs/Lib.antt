@@ -7,3 +7,4 @@ pub mod Kinds
 pub mod Kind
 pub mod Rules
 pub mod Edison
+pub mod Open

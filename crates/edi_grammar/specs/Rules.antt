@@ -1,7 +1,7 @@
 -- The grammar of Edison as data, factored so that one symbol in hand decides. Braces have become parts of their own, and so
 -- has what may stand behind a name. A level ends where its construct ends. Nobody has to believe this table: it is tied
 -- to the definition of what a syntax tree spells, one line for each rule.
-use Rattle.std.specs.Prelude.{ℕ, List, [], ◌∷◌, Bool, ◌==◌, ◌||◌}
+use Rattle.std.specs.Prelude.{ℕ, List, [], ◌∷◌, Bool, true, false, ◌==◌, ◌||◌}
 use Rattle.edi_grammar.specs.Grammar.{Part, token, level_end, part}
 use Rattle.edi_grammar.specs.Kinds as kind
 
@@ -43,7 +43,7 @@ pub data Sort : Type 0 where
   Condition : Sort
   Else : Sort
   Branch : Sort
-  Next : Sort
+  Branches : Sort
   Expr : Sort
   Comparison : Sort
   Relation : Sort
@@ -91,7 +91,7 @@ rules Declaration = (part Module ∷ []) ∷ (part Item ∷ []) ∷ []
 rules Declarations = (part Declaration ∷ part Declarations ∷ []) ∷ ([]) ∷ []
 rules StatementList = (part Statement ∷ part Statements ∷ []) ∷ []
 rules Statements = (token kind.Semicolon ∷ part Statement ∷ part Statements ∷ []) ∷ ([]) ∷ []
-rules Statement = (token kind.Skip ∷ []) ∷ (token kind.Name ∷ part After ∷ []) ∷ (token kind.Val ∷ token kind.Name ∷ part Selectors ∷ token kind.Becomes ∷ part Expr ∷ []) ∷ (token kind.If ∷ part Conditions ∷ token kind.End ∷ level_end ∷ []) ∷ (token kind.While ∷ part Conditions ∷ token kind.End ∷ level_end ∷ []) ∷ (token kind.When ∷ part Conditions ∷ token kind.End ∷ level_end ∷ []) ∷ (token kind.Cobegin ∷ part Branch ∷ level_end ∷ []) ∷ []
+rules Statement = (token kind.Skip ∷ []) ∷ (token kind.Name ∷ part After ∷ []) ∷ (token kind.Val ∷ token kind.Name ∷ part Selectors ∷ token kind.Becomes ∷ part Expr ∷ []) ∷ (token kind.If ∷ part Conditions ∷ token kind.End ∷ level_end ∷ []) ∷ (token kind.While ∷ part Conditions ∷ token kind.End ∷ level_end ∷ []) ∷ (token kind.When ∷ part Conditions ∷ token kind.End ∷ level_end ∷ []) ∷ (token kind.Cobegin ∷ part Branch ∷ part Branches ∷ level_end ∷ []) ∷ []
 rules After = (part Args ∷ []) ∷ (part Selectors ∷ token kind.Becomes ∷ part Expr ∷ []) ∷ ([]) ∷ []
 rules Args = (token kind.Open ∷ part Expr ∷ part Exprs ∷ token kind.Close ∷ level_end ∷ []) ∷ []
 rules Exprs = (token kind.Comma ∷ part Expr ∷ part Exprs ∷ []) ∷ ([]) ∷ []
@@ -100,8 +100,8 @@ rules Selector = (token kind.Period ∷ token kind.Name ∷ []) ∷ (token kind.
 rules Conditions = (part Condition ∷ part Else ∷ []) ∷ []
 rules Condition = (part Expr ∷ token kind.Do ∷ part StatementList ∷ []) ∷ []
 rules Else = (token kind.Else ∷ part Condition ∷ part Else ∷ []) ∷ ([]) ∷ []
-rules Branch = (part Constant ∷ token kind.Do ∷ part StatementList ∷ part Next ∷ []) ∷ []
-rules Next = (token kind.Also ∷ part Branch ∷ []) ∷ (token kind.End ∷ []) ∷ []
+rules Branch = (part Constant ∷ token kind.Do ∷ part StatementList ∷ []) ∷ []
+rules Branches = (token kind.Also ∷ part Branch ∷ part Branches ∷ []) ∷ (token kind.End ∷ []) ∷ []
 rules Expr = (part Simple ∷ part Comparison ∷ []) ∷ []
 rules Comparison = (part Relation ∷ part Simple ∷ []) ∷ ([]) ∷ []
 rules Relation = (token kind.Equal ∷ []) ∷ (token kind.NotEqual ∷ []) ∷ (token kind.Less ∷ []) ∷ (token kind.AtMost ∷ []) ∷ (token kind.Greater ∷ []) ∷ (token kind.AtLeast ∷ []) ∷ (token kind.In ∷ []) ∷ []
