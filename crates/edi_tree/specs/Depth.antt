@@ -1,6 +1,6 @@
 -- The greatest number of levels that are open at once in a tree. What opens a level has one more than the greatest of its
 -- parts; names, groups of names and lists of variables have none.
-use Rattle.std.specs.Prelude.{ℕ, suc, max, Option, Some, None}
+use Rattle.std.specs.Prelude.{ℕ, suc, max, min, Option, Some, None}
 use Rattle.edi_tree.specs.declared.constants.Constant.{Constant}
 use Rattle.edi_tree.specs.declared.constants.Constant.TheVariants as constant
 use Rattle.edi_tree.specs.declared.constants.ConstDecl.{ConstDecl}
@@ -193,3 +193,7 @@ globals_depth (next_global g gs) = max (global_depth g) (globals_depth gs)
 
 abbrev pub depth : Program → ℕ
 depth (program gs p) = max (globals_depth gs) (procedure_depth p)
+
+-- a depth, where every number above 64 counts as 65
+abbrev pub limited : ℕ → ℕ
+limited n = min n 65

@@ -1,5 +1,7 @@
 -- When a tree spells the marks of a text, and when marks begin a program.
-use Rattle.std.specs.Prelude.{◌≡◌, ℕ, List, [], ◌∷◌, ◌++◌, Option, Some, None}
+use Rattle.std.specs.Prelude.{◌≡◌, ℕ, ◌≤◌, ◌<◌, ◌^◌, true, List, [], ◌∷◌, ◌++◌, Option, Some, None}
+use Rattle.edi_lex.specs.Order.{is_orderly, extent}
+use Rattle.edi_lex.specs.Spelling.{are_spelled}
 use Rattle.edi_lex.specs.declared.symbol.Mark.{Mark}
 use Rattle.edi_tree.specs.Tree.{Program}
 use Rattle.edi_tree.specs.Spelled.{Spelled, spelled}
@@ -23,6 +25,21 @@ Stand (s ∷ ss) (m ∷ marks) = Stands s m × Stand ss marks
 -- a tree spells what its parts spell, one after another
 abbrev pub Spells : Program → List Mark → Type 0
 Spells tree marks = Stand (spelled tree) marks
+
+-- marks, and the line of the end of their text, as `Symbols` holds them: each symbol is one that the language spells, the
+-- lines are at least 1 and never fall, and the symbols, a string counting its characters, number at most 262,144
+pub record AreHeld (marks : List Mark) (last : ℕ) : Type 0 where
+  pub spelled : are_spelled marks ≡ true
+  pub orderly : is_orderly 1 marks last ≡ true
+  pub few : extent marks ≤ 262144
+  pub bounded : last < 2 ^ 16
+
+-- a tree spells marks that `Symbols` can hold
+pub record IsHeld (tree : Program) : Type 0 where
+  pub marks : List Mark
+  pub last : ℕ
+  pub spells : Spells tree marks
+  pub held : AreHeld marks last
 
 -- the marks of a text, and behind them the end of the text, which is a mark of its own
 abbrev pub to_end : List Mark → List (Option Mark)

@@ -3,8 +3,10 @@
 
 mod constants;
 mod declarations;
+mod depths;
 mod expressions;
 mod headings;
+pub mod laws;
 mod names;
 mod programs;
 mod sequence;
@@ -15,6 +17,7 @@ pub use constants::{ConstDecl, ConstDecls, ConstList, Constant};
 pub use declarations::{
     Declaration, Declarations, Item, Member, Members, Module, Post, Pre, Procedure,
 };
+pub use depths::depth;
 pub use expressions::{
     Addend, Addends, Addition, Args, Comparison, Expr, Exprs, Factor, Multiplication, Multiplier,
     Multipliers, Relation, Root, Selector, Selectors, Sign, Simple, Term, Variable,
