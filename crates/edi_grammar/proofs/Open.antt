@@ -1,5 +1,5 @@
 -- In a text of the grammar the levels that are open at a place are those that end behind it.
-use Rattle.std.proofs.Common.{◌≡◌, ℕ, zero, suc, ◌+◌, ◌-◌, ◌≤◌, List, [], ◌∷◌, ◌++◌, refl, sym, ap, ◌∙◌, subst, arith}
+use Rattle.std.proofs.Common.{◌≡◌, ℕ, zero, suc, ◌+◌, ◌-◌, ◌≤◌, List, [], ◌∷◌, ◌++◌, sym, ap, ◌∙◌, subst, arith}
 use Rattle.edi_grammar.specs.Grammar.{Part, token, level_end, part, Item, mark, closing, Grammar, level, opened, ends_in, Derives}
 use Rattle.edi_grammar.specs.Open.{open_behind}
 use Rattle.edi_grammar.proofs.Conditions.{Fair, Sane, level_both}
@@ -19,16 +19,16 @@ module _ {N S : Type 0} (g : Grammar N S) (fair : Fair g) where
       let more : d.1 ≡ before ++ rest = cc in
       let same : level g (token a ∷ x) 0 + opened g (g.kind d.0) ≡ level g x 0 = counted (level g x 0) (opened g a) (opened g (g.kind d.0)) s.0 (ap (opened g) d.3) in
       subst (λ b. open_behind g (level g (token a ∷ x) 0) (b ∷ before) ≡ ends_in g rest) one
-        (subst (λ k. open_behind g k before ≡ ends_in g rest) (sym same) (open_is_ending n x d.1 before rest s.1 more d.4)) where
-    counted : (l o p : ℕ) → o ≤ l → p ≡ o → (l - o) + p ≡ l
-    counted l o p le e = omega (arith, le, e)
+      (subst (λ k. open_behind g k before ≡ ends_in g rest) (sym same) (open_is_ending n x d.1 before rest s.1 more d.4)) where
+        counted : (l o p : ℕ) → o ≤ l → p ≡ o → (l - o) + p ≡ l
+        counted l o p le e = omega (arith, le, e)
   open_is_ending (suc n) (level_end ∷ x) items (b ∷ before) rest s e d =
       let heads : closing ∷ d.0 ≡ b ∷ (before ++ rest) = sym d.1 ∙ e in
       let one : closing ≡ b = cc in
       let more : d.0 ≡ before ++ rest = cc in
       let same : suc (level g x 0) - 1 ≡ level g x 0 = omega arith in
       subst (λ b. open_behind g (level g (level_end ∷ x) 0) (b ∷ before) ≡ ends_in g rest) one
-        (subst (λ k. open_behind g k before ≡ ends_in g rest) (sym same) (open_is_ending n x d.0 before rest s more d.2))
+      (subst (λ k. open_behind g k before ≡ ends_in g rest) (sym same) (open_is_ending n x d.0 before rest s more d.2))
   open_is_ending (suc n) (part k ∷ x) items (b ∷ before) rest s e d =
       let same : level g (d.1 ++ x) 0 ≡ level g x 0 = level_both g d.1 x 0 ∙ fair.even k d.0 d.1 (level g x 0) d.2 in
       subst (λ k. open_behind g k (b ∷ before) ≡ ends_in g rest) same (open_is_ending n (d.1 ++ x) items (b ∷ before) rest (fair.sane k d.0 d.1 x d.2 s) e d.3)

@@ -153,4 +153,3 @@ OpenBracket = 49
 
 abbrev pub CloseBracket : ℕ
 CloseBracket = 50
-

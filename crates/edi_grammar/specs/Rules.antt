@@ -1,7 +1,7 @@
 -- The grammar of Edison as data, factored so that one symbol in hand decides. Braces have become parts of their own, and so
 -- has what may stand behind a name. A level ends where its construct ends. Nobody has to believe this table: it is tied
 -- to the definition of what a syntax tree spells, one line for each rule.
-use Rattle.std.specs.Prelude.{ℕ, List, [], ◌∷◌, Bool, true, false, ◌==◌, ◌||◌}
+use Rattle.std.specs.Prelude.{ℕ, List, [], ◌∷◌, Bool, ◌==◌, ◌||◌}
 use Rattle.edi_grammar.specs.Grammar.{Part, token, level_end, part}
 use Rattle.edi_grammar.specs.Kinds as kind
 
