@@ -1,0 +1,11 @@
+pub mod Builds
+pub mod Stands
+pub mod Splits
+pub mod Closes
+pub mod Reading
+pub mod SmallTakes
+pub mod ExprTakes
+pub mod StatementTakes
+pub mod ProgramTakes
+pub mod Programs
+pub mod Firsts

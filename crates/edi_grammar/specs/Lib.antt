@@ -1,0 +1,10 @@
+pub mod Grammar
+pub mod Parser
+pub mod Fair
+pub mod Verdict
+pub mod Trees
+pub mod Kinds
+pub mod Kind
+pub mod Rules
+pub mod Edison
+pub mod Open
