@@ -8,7 +8,6 @@ use Rattle.edi_tree.specs.declared.expressions.Addition.TheVariants as addition
 use Rattle.edi_tree.specs.declared.expressions.Multiplication.{Multiplication}
 use Rattle.edi_tree.specs.declared.expressions.Multiplication.TheVariants as multiplication
 use Rattle.edi_tree.specs.Spelled.{relation_symbol, addition_symbol, multiplication_symbol}
-use Rattle.edi_lex.specs.declared.symbol.Symbol.{Symbol}
 use Rattle.edi_lex.specs.declared.symbol.Symbol.TheVariants as is
 use Rattle.edi_tree.specs.declared.names.Name.{Name}
 use Rattle.edi_tree.specs.declared.constants.Constant.{Constant}

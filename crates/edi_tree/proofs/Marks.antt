@@ -1,6 +1,5 @@
 -- The marks among the elements of a tree are the marks that it spells.
 use Rattle.std.proofs.Common.{◌≡◌, refl, List, [], Option, Some, None, ◌∷◌}
-use Rattle.edi_lex.specs.declared.symbol.Symbol.{Symbol}
 use Rattle.edi_lex.specs.declared.symbol.Symbol.TheVariants as is
 use Rattle.edi_tree.specs.declared.names.Name.{Name}
 use Rattle.edi_tree.specs.declared.constants.Constant.{Constant}
@@ -12,7 +11,7 @@ use Rattle.edi_tree.specs.declared.expressions.Root.{Root}
 use Rattle.edi_tree.specs.declared.expressions.Root.TheVariants as root
 use Rattle.edi_tree.specs.Tree.{Names, no_name, next_name, ConstDecls, no_const_decl, next_const_decl, ConstList, const_list, Group, group, Groups, no_group, next_group, TypeDecl, enum_decl, record_decl, array_decl, set_decl, VarList, var_list, Heading, heading, Params, no_params, params, MoreParams, no_param, next_param, Param, value_param, var_param, procedure_param, Expr, expr, Comparison, no_comparison, compared, Exprs, no_expr, next_expr, Simple, simple, Addend, addend, Addends, no_addend, next_addend, Term, term, Multiplier, multiplier, Multipliers, no_multiplier, next_multiplier, Factor, numeral, string, not_factor, parenthesized, call_factor, variable_factor, Args, args, Variable, variable, Selector, field, index, Selectors, no_selector, next_selector, StatementList, list, Statements, no_statement, next_statement, Statement, skip, assignment, call, if_statement, while_statement, when_statement, cobegin, Conditions, conditions, Condition, condition, Else, no_else, next_else, Branch, branch, Branches, no_branch, next_branch, Procedure, procedure, Item, const_item, type_item, var_item, procedure_item, pre_item, post_item, Module, module_with, Member, item_member, exported_member, module_member, Members, no_member, next_member, Declaration, item_declaration, module_declaration, Declarations, no_declaration, next_declaration, Global, const_global, type_global, Globals, no_global, next_global, Program, program}
 use Rattle.edi_tree.specs.Spelled.{names_then, constant_then, const_decl_then, const_decls_then, const_list_then, group_then, groups_then, type_decl_then, var_list_then, result_then, heading_then, params_then, more_params_then, param_then, sign_then, root_then, expr_then, comparison_then, exprs_then, simple_then, addend_then, addends_then, term_then, multiplier_then, multipliers_then, factor_then, args_then, variable_then, selector_then, selectors_then, optional_args_then, list_then, statements_then, statement_then, conditions_then, condition_then, else_then, branch_then, branches_then, procedure_then, item_then, module_then, member_then, members_then, declaration_then, declarations_then, global_then, globals_then, program_then, spelled}
-use Rattle.edi_tree.specs.Levels.{Element, mark, level_end, word, kept, named, marks_among, names_elements, constant_elements, const_decl_elements, const_decls_elements, const_list_elements, group_elements, groups_elements, type_decl_elements, var_list_elements, result_elements, heading_elements, params_elements, more_params_elements, param_elements, sign_elements, root_elements, expr_elements, comparison_elements, exprs_elements, simple_elements, addend_elements, addends_elements, term_elements, multiplier_elements, multipliers_elements, factor_elements, args_elements, variable_elements, selector_elements, selectors_elements, optional_args_elements, list_elements, statements_elements, statement_elements, conditions_elements, condition_elements, else_elements, branch_elements, branches_elements, procedure_elements, item_elements, module_elements, member_elements, members_elements, declaration_elements, declarations_elements, global_elements, globals_elements, program_elements, elements}
+use Rattle.edi_tree.specs.Levels.{Element, level_end, word, kept, named, marks_among, names_elements, constant_elements, const_decl_elements, const_decls_elements, const_list_elements, group_elements, groups_elements, type_decl_elements, var_list_elements, result_elements, heading_elements, params_elements, more_params_elements, param_elements, sign_elements, root_elements, expr_elements, comparison_elements, exprs_elements, simple_elements, addend_elements, addends_elements, term_elements, multiplier_elements, multipliers_elements, factor_elements, args_elements, variable_elements, selector_elements, selectors_elements, optional_args_elements, list_elements, statements_elements, statement_elements, conditions_elements, condition_elements, else_elements, branch_elements, branches_elements, procedure_elements, item_elements, module_elements, member_elements, members_elements, declaration_elements, declarations_elements, global_elements, globals_elements, program_elements, elements}
 
 names_marks : (x : Names) (more : List Element) → marks_among (names_elements x more) ≡ names_then x (marks_among more)
 names_marks no_name more = refl

@@ -1,5 +1,5 @@
 -- The printer puts the marks that a tree spells, one after another.
-use Rattle.std.proofs.Common.{◌≡◌, refl, ◌∙◌, sym, ap, ℕ, true, false, List, [], ◌∷◌, ◌++◌, Option, Some, None}
+use Rattle.std.proofs.Common.{◌≡◌, refl, ◌∙◌, sym, ap, true, false, List, [], ◌∷◌, ◌++◌, Option, Some, None}
 use Rattle.std.proofs.lemmas.List.{append_assoc, append-nil}
 use Rattle.edi_lex.specs.declared.symbol.Symbol.TheVariants as is
 use Rattle.edi_tree.specs.declared.names.Name.{Name}
@@ -11,7 +11,7 @@ use Rattle.edi_tree.specs.declared.expressions.Sign.TheVariants as sign
 use Rattle.edi_tree.specs.declared.expressions.Root.{Root}
 use Rattle.edi_tree.specs.declared.expressions.Root.TheVariants as root
 use Rattle.edi_tree.specs.Tree.{Names, no_name, next_name, ConstDecls, no_const_decl, next_const_decl, ConstList, const_list, Group, group, Groups, no_group, next_group, TypeDecl, enum_decl, record_decl, array_decl, set_decl, VarList, var_list, Heading, heading, Params, no_params, params, MoreParams, no_param, next_param, Param, value_param, var_param, procedure_param, Expr, expr, Comparison, no_comparison, compared, Exprs, no_expr, next_expr, Simple, simple, Addend, addend, Addends, no_addend, next_addend, Term, term, Multiplier, multiplier, Multipliers, no_multiplier, next_multiplier, Factor, numeral, string, not_factor, parenthesized, call_factor, variable_factor, Args, args, Variable, variable, Selector, field, index, Selectors, no_selector, next_selector, StatementList, list, Statements, no_statement, next_statement, Statement, skip, assignment, call, if_statement, while_statement, when_statement, cobegin, Conditions, conditions, Condition, condition, Else, no_else, next_else, Branch, branch, Branches, no_branch, next_branch, Procedure, procedure, Item, const_item, type_item, var_item, procedure_item, pre_item, post_item, Module, module_with, Member, item_member, exported_member, module_member, Members, no_member, next_member, Declaration, item_declaration, module_declaration, Declarations, no_declaration, next_declaration, Global, const_global, type_global, Globals, no_global, next_global, Program, program}
-use Rattle.edi_tree.specs.Spelled.{Spelled, spelled, on, just, name_mark, chars_mark, char_mark, relation_symbol, addition_symbol, multiplication_symbol, names_then, constant_then, const_decl_then, const_decls_then, const_list_then, group_then, groups_then, type_decl_then, var_list_then, result_then, heading_then, params_then, more_params_then, param_then, sign_then, root_then, expr_then, comparison_then, exprs_then, simple_then, addend_then, addends_then, term_then, multiplier_then, multipliers_then, factor_then, args_then, variable_then, selector_then, selectors_then, optional_args_then, list_then, statements_then, statement_then, conditions_then, condition_then, else_then, branch_then, branches_then, procedure_then, item_then, module_then, member_then, members_then, declaration_then, declarations_then, global_then, globals_then, program_then}
+use Rattle.edi_tree.specs.Spelled.{Spelled, spelled, on, just, name_mark, relation_symbol, addition_symbol, multiplication_symbol, names_then, constant_then, const_decl_then, const_decls_then, const_list_then, group_then, groups_then, type_decl_then, var_list_then, result_then, heading_then, params_then, more_params_then, param_then, sign_then, root_then, expr_then, comparison_then, exprs_then, simple_then, addend_then, addends_then, term_then, multiplier_then, multipliers_then, factor_then, args_then, variable_then, selector_then, selectors_then, optional_args_then, list_then, statements_then, statement_then, conditions_then, condition_then, else_then, branch_then, branches_then, procedure_then, item_then, module_then, member_then, members_then, declaration_then, declarations_then, global_then, globals_then, program_then}
 use Rattle.edi_tree.specs.Printed.{text_of, gap, line_at, printed_from, printed}
 use Rattle.edi_tree.specs.Printing.{put, put_text, print_names, print_constant, print_const_decl, print_const_decls, print_const_list, print_group, print_groups, print_type_decl, print_var_list, print_result, print_heading, print_params, print_more_params, print_param, print_sign, print_root, print_expr, print_comparison, print_exprs, print_simple, print_addend, print_addends, print_term, print_multiplier, print_multipliers, print_factor, print_args, print_variable, print_selector, print_selectors, print_optional_args, print_list, print_statements, print_statement, print_conditions, print_condition, print_else, print_branch, print_branches, print_procedure, print_item, print_module, print_member, print_members, print_declaration, print_declarations, print_global, print_globals, print_program}
 use Rattle.edi_tree.specs.declared.printer.Printer.{Printer}

@@ -1,5 +1,5 @@
 -- The printed text of a tree scans to marks that the tree spells.
-use Rattle.std.proofs.Common.{◌≡◌, ℕ, zero, suc, ◌+◌, ◌-◌, ◌≤◌, ◌<◌, max, Bool, true, false, not, ◌||◌, ◌&&◌, cond, eqb, leb, ltb, List, [], ◌∷◌, ◌++◌, replicate, Option, Some, None, Ok, Err, pos, negsuc, refl, sym, ap, ◌∙◌, subst, arith, append_assoc, decimal}
+use Rattle.std.proofs.Common.{◌≡◌, ℕ, zero, suc, ◌+◌, ◌-◌, ◌≤◌, ◌<◌, max, Bool, true, false, ◌||◌, ◌&&◌, cond, eqb, leb, ltb, List, [], ◌∷◌, ◌++◌, replicate, Option, Some, None, Ok, Err, pos, negsuc, refl, sym, ap, ◌∙◌, subst, arith, append_assoc, decimal}
 use Rattle.std.specs.Prelude.{codes, is_none, unwrap_or}
 use Rattle.std.specs.List.{list_all}
 use Rattle.std.proofs.Math.Bool.{Bool-set}
@@ -8,7 +8,7 @@ use Rattle.std.proofs.lemmas.Bool.Decides.{nat_tests}
 use Rattle.edi_lex.specs.Bytes.{is_digit, is_name_byte, is_string_byte}
 use Rattle.edi_lex.specs.Specials.{special_with}
 use Rattle.edi_lex.specs.Words.{word_of}
-use Rattle.edi_lex.specs.Spelling.{is_name, is_string, is_spelled, are_spelled, word_or_name}
+use Rattle.edi_lex.specs.Spelling.{is_name, is_string, is_spelled, are_spelled}
 use Rattle.edi_lex.specs.Order.{is_orderly}
 use Rattle.edi_lex.specs.Symbols.{piece_of, symbols_from, is_too_long, symbols_of}
 use Rattle.edi_lex.specs.declared.symbol.Symbol.{Symbol}
@@ -18,7 +18,7 @@ use Rattle.edi_lex.specs.declared.fault.LexFault.TheVariants.{TooLong}
 use Rattle.edi_lex.proofs.Runs.{marked, both, same_byte, stops, name_first, numeral_first, string_first, apostrophe_first, special_first, pair_first, space_first}
 use Rattle.edi_tree.specs.Tree.{Program}
 use Rattle.edi_tree.specs.Spelled.{Spelled, spelled}
-use Rattle.edi_tree.specs.Spells.{Stands, Stand, IsOn, IsHeld}
+use Rattle.edi_tree.specs.Spells.{Stand, IsOn, IsHeld}
 use Rattle.edi_tree.specs.Printed.{text_of, separator, gap, line_at, printed_from, printed}
 use Rattle.edi_tree.specs.Scanned.{ScansTo}
 use Rattle.edi_tree.proofs.Decimals.{decimal_is_numeral, decimal_number}

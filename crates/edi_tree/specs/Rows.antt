@@ -1,5 +1,5 @@
 -- Small programs, what is printed for them, and their depth.
-use Rattle.std.specs.Prelude.{◌≡◌, refl, ℕ, pos, List, [], ◌∷◌, ◌++◌, Option, Some, None, codes, decimal}
+use Rattle.std.specs.Prelude.{◌≡◌, refl, ℕ, pos, List, ◌++◌, Some, None, codes, decimal}
 use Rattle.edi_tree.specs.declared.names.Name.{Name}
 use Rattle.edi_tree.specs.declared.names.Char.{Char}
 use Rattle.edi_tree.specs.declared.names.Chars.{Chars}

@@ -333,7 +333,7 @@ fn item_depth(item: &Item) -> u32
 
 #[cycle(declaration_depths)]
 fn module_depth(module: &Module) -> u32
-    ensures exact { result ≡ limited (spec.module_depth (module_of module.now)) }
+    ensures exact { result ≡ limited (spec.module_depth (module_of «module».now)) }
     ensures small { result ≤ 65 }
 {
     let mut depth = list_depth(&module.list);

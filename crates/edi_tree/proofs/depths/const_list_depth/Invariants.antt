@@ -1,5 +1,5 @@
 use Rattle.std.proofs.Common.{◌≡◌, ◌≤◌, drop}
-use Rattle.std.specs.Prelude.{map, max}
+use Rattle.std.specs.Prelude.{max}
 use Rattle.edi_tree.specs.View.{const_decls}
 use Rattle.edi_tree.specs.Depth.{limited, const_decls_depth}
 use Rattle.edi_tree.proofs.depths.const_list_depth.Given as goal

@@ -1,5 +1,4 @@
 use Rattle.std.proofs.Common.{◌≡◌, drop}
-use Rattle.std.specs.Prelude.{map}
 use Rattle.edi_tree.specs.View.{const_decls}
 use Rattle.edi_tree.specs.Printing.{print_const_decls}
 use Rattle.edi_tree.proofs.printer.Printer.const_list.Given as goal

@@ -1,5 +1,4 @@
 use Rattle.std.proofs.Common.{◌≡◌, drop}
-use Rattle.std.specs.Prelude.{map}
 use Rattle.edi_tree.specs.View.{names}
 use Rattle.edi_tree.specs.Printing.{print_names}
 use Rattle.edi_tree.proofs.printer.Printer.names.Given as goal
