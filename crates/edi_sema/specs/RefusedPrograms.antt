@@ -232,11 +232,11 @@ pub row_result : resolve_tree
     ≡ faults kind.Heading 2
 row_result = refl
 
--- proc main(proc fresh; / a: int) begin skip end
+-- proc main(proc fresh; / a, / b: / int) begin skip end
 pub row_group : resolve_tree
     (program no_global (procedure (heading (id "main" 1) (params (procedure_param (heading (id "fresh" 1) no_params None))
-    (next_param (value_param (group (id "a" 2) no_name (id "int" 2))) no_param)) None) no_declaration (list skip no_statement)
-    2))
+    (next_param (value_param (group (id "a" 2) (next_name (id "b" 3) no_name) (id "int" 4))) no_param)) None) no_declaration
+    (list skip no_statement) 4))
     ≡ faults kind.Heading 2
 row_group = refl
 

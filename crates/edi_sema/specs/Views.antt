@@ -3,7 +3,7 @@ use Rattle.std.specs.Prelude.{ℕ, Bool, false, ◌==◌, List, [], ◌∷◌, m
 use Rattle.edi_unit.specs.declared.units.Parameter.{Parameter}
 use Rattle.edi_unit.specs.declared.units.Parameter.TheVariants as slot
 use Rattle.edi_unit.specs.Lists.{list_items}
-use Rattle.edi_unit.specs.View.{block_of, expression_of, link_of}
+use Rattle.edi_unit.specs.View.{block_of, expression_of, link_of, part_of}
 use Rattle.edi_unit.specs.Fits.{Heading, heading, Formals, no_formal, value_then, variable_then, procedure_then, heading_result}
 use Rattle.edi_sema.specs.declared.headings.Asked as code_asked
 use Rattle.edi_sema.specs.declared.headings.Formal as code_formal
@@ -16,7 +16,9 @@ use Rattle.edi_sema.specs.declared.operands.Linked as code_linked
 use Rattle.edi_sema.specs.declared.constants.Ordinal as code_ordinal
 use Rattle.edi_sema.specs.declared.fits.Rooted as code_rooted
 use Rattle.edi_sema.specs.Types.{Ordinal}
+use Rattle.edi_sema.specs.declared.parts.Parted as code_parted
 use Rattle.edi_sema.specs.Fitting.{Rooted}
+use Rattle.edi_sema.specs.Expressions.{Parted}
 use Rattle.edi_sema.specs.Environment.{Begun, Environment, same_heading}
 use Rattle.edi_sema.specs.Operators.{Typed, Linked}
 
@@ -89,3 +91,7 @@ ordinal_of c = record { of = c.of; ordinal = c.ordinal }
 -- a variable of a block that is so many steps out
 abbrev pub rooted_of : code_rooted.Rooted → Rooted
 rooted_of r = record { levels = r.levels; variable = r.variable; of = r.of }
+
+-- a part of a variable, with its type
+abbrev pub parted_of : code_parted.Parted → Parted
+parted_of p = record { what = part_of p.part; of = p.of }

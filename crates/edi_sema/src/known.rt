@@ -3,6 +3,7 @@
 ghost use Rattle.std.specs.Prelude.{◌≡◌, ◌++◌, ◌∷◌, [], Err, OnOk, OnErr, IfOk, IfSome, IsTrue, is_some, ◌==◌};
 ghost use Rattle.std.specs.List.{list_any};
 ghost use Rattle.edi_unit.specs.Types.{shape_at, is_elementary};
+ghost use Rattle.edi_unit.specs.Lists.{list_items};
 ghost use Rattle.edi_unit.specs.ShapeView.{shape_of};
 ghost use Rattle.edi_scope.specs.Scope.{in_module, declared};
 ghost use Rattle.edi_sema.specs.Judged.{gives};
@@ -16,7 +17,7 @@ use crate::fault::{StaticFault, StaticKind};
 use crate::headings::Asked;
 use edi_scope::{Entity, ScopeFault, Scopes};
 use edi_tree::Name;
-use edi_unit::{Block, Shape, TypeTable, Value};
+use edi_unit::{Block, List, Shape, TypeTable, Value};
 use std::alloc::{AllocError, Global};
 
 /// A procedure whose `pre` has stood and whose `post` is still to come.
@@ -71,6 +72,18 @@ pub(crate) fn put<T: Drop>(list: &mut Vec<T>, item: T) -> Result<(), StaticFault
     ensures same { OnErr result (list.new.items ≡ list.old.items) }
 {
     match list.push(item) {
+        Ok(()) => Ok(()),
+        Err(_) => Err(StaticFault::NoMemory),
+    }
+}
+
+/// Puts an item at the end of a list. Where memory is wanting the list stays as it was, and the item is given up.
+pub(crate) fn add<T: Drop>(list: &mut List<T>, alloc: Global, item: T) -> Result<(), StaticFault>
+    ensures ok { OnOk result (list_items list.new ≡ list_items list.old ++ item ∷ []) }
+    ensures err { OnErr result (result ≡ Err StaticFault.NoMemory) }
+    ensures same { OnErr result (list_items list.new ≡ list_items list.old) }
+{
+    match list.push(alloc, item) {
         Ok(()) => Ok(()),
         Err(_) => Err(StaticFault::NoMemory),
     }

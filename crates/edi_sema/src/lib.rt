@@ -9,5 +9,6 @@ mod headings;
 mod known;
 pub mod laws;
 mod operands;
+mod parts;
 
 pub use fault::{StaticFault, StaticKind};
