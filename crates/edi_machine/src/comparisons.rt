@@ -106,6 +106,7 @@ fn top_two_are_equal(store: &Store, activity: &Activity, count: u16) -> Option<b
 }
 
 /// EQ.
+#[inline(never)]
 pub fn are_equal(store: &mut Store, activity: &mut Activity, count: u16, next: u32) -> StepEnd
     requires ordered { IsOrdered activity.old }
     ensures exact { let l = local_of store.old activity.old in
@@ -126,6 +127,7 @@ pub fn are_equal(store: &mut Store, activity: &mut Activity, count: u16, next: u
 }
 
 /// NE.
+#[inline(never)]
 pub fn are_not_equal(store: &mut Store, activity: &mut Activity, count: u16, next: u32) -> StepEnd
     requires ordered { IsOrdered activity.old }
     ensures exact { let l = local_of store.old activity.old in

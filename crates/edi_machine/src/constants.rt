@@ -27,6 +27,7 @@ pub fn constant(store: &mut Store, activity: &mut Activity, value: u16, next: u3
 }
 
 /// TEXT.
+#[inline(never)]
 pub fn text(store: &mut Store, activity: &mut Activity, words: &[u16], next: u32) -> StepEnd
     requires ordered { IsOrdered activity.old }
     requires few { length words.now < 2 ^ 16 }
@@ -38,6 +39,7 @@ pub fn text(store: &mut Store, activity: &mut Activity, words: &[u16], next: u32
 }
 
 /// ZEROS.
+#[inline(never)]
 pub fn zeros(store: &mut Store, activity: &mut Activity, count: u16, next: u32) -> StepEnd
     requires ordered { IsOrdered activity.old }
     ensures exact { let l = local_of store.old activity.old in
@@ -149,6 +151,7 @@ pub fn check(
 }
 
 /// PROC.
+#[inline(never)]
 pub fn descriptor(
     store: &mut Store,
     activity: &mut Activity,

@@ -13,6 +13,7 @@ use crate::ends::StepEnd;
 use edi_store::Store;
 
 /// The word on top, where the frame has one above its first five.
+#[inline(always)]
 pub fn top_word(store: &Store, activity: &Activity) -> Option<u16>
     requires ordered { IsOrdered activity.now }
     ensures top { let a = activity.now in MatchOption result (a.top < a.base + 6) (λ x. (a.base + 6 ≤ a.top) × (x ≡ word store.now (a.top - 1))) }
@@ -25,6 +26,7 @@ pub fn top_word(store: &Store, activity: &Activity) -> Option<u16>
 }
 
 /// The second word from the top and the word on top, where the frame has two above its first five.
+#[inline(always)]
 pub fn top_two_words(store: &Store, activity: &Activity) -> Option<(u16, u16)>
     requires ordered { IsOrdered activity.now }
     ensures top { let a = activity.now in
@@ -38,6 +40,7 @@ pub fn top_two_words(store: &Store, activity: &Activity) -> Option<(u16, u16)>
 }
 
 /// Pushes a word onto the frame whose words from `top` on were popped, and goes on at `next`.
+#[inline(always)]
 pub fn push_at(
     store: &mut Store,
     activity: &mut Activity,
@@ -62,6 +65,7 @@ pub fn push_at(
 }
 
 /// Pushes an address onto the frame whose words from `top` on were popped, and goes on at `next`.
+#[inline(always)]
 pub fn push_address_at(
     store: &mut Store,
     activity: &mut Activity,
@@ -122,6 +126,7 @@ pub fn push_words_at(
 }
 
 /// The base of the frame to which so many static links lead from the frame at `base`.
+#[inline(always)]
 pub fn level_base(store: &Store, count: u16, base: u16) -> u16
     ensures { result ≡ level store.now count base }
 {

@@ -25,6 +25,7 @@ use edi_store::Store;
 use edi_target::Op;
 
 // Constants, addresses and variables.
+#[inline(always)]
 pub fn data_instruction(
     store: &mut Store,
     activity: &mut Activity,
@@ -63,6 +64,7 @@ pub fn data_instruction(
 }
 
 // Arithmetic, and `not`.
+#[inline(always)]
 fn arithmetic_instruction(
     store: &mut Store,
     activity: &mut Activity,
@@ -95,6 +97,7 @@ fn arithmetic_instruction(
 }
 
 // Comparisons.
+#[inline(always)]
 fn comparison_instruction(
     store: &mut Store,
     activity: &mut Activity,
@@ -126,6 +129,7 @@ fn comparison_instruction(
 }
 
 // Sets, and the ranges of types.
+#[inline(always)]
 fn set_instruction(
     store: &mut Store,
     activity: &mut Activity,
@@ -157,6 +161,7 @@ fn set_instruction(
 }
 
 // Jumps.
+#[inline(always)]
 fn jump_instruction(
     store: &mut Store,
     activity: &mut Activity,
@@ -187,6 +192,7 @@ fn jump_instruction(
 }
 
 // Blocks.
+#[inline(always)]
 fn block_instruction(
     store: &mut Store,
     activity: &mut Activity,
@@ -221,6 +227,7 @@ fn block_instruction(
 }
 
 // Processes.
+#[inline(always)]
 fn process_instruction(
     store: &mut Store,
     activity: &mut Activity,

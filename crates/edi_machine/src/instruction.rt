@@ -17,6 +17,7 @@ pub fn code_address(high: u16, low: u16) -> u32
 
 /// The instruction at an address of the code, and the next address.
 #[tactic(auto, using(crate::proofs::Fetching::fetched, crate::proofs::Fetching::not_fetched))]
+#[inline(always)]
 pub fn instruction_at(words: &[u16], at: u32) -> Option<(Op<'_>, u32)>
     requires size { length words.now < 2 ^ 32 }
     ensures exact { Shows result (fetch words.now at) }

@@ -53,6 +53,7 @@ fn put_frame(store: &mut Store, at: u32, block: Block, link: u16, base: u32, bac
 }
 
 // Enters the block of an ENTRY with this static link.
+#[inline(never)]
 fn enter_block(
     store: &mut Store,
     activity: &mut Activity,
@@ -154,6 +155,7 @@ pub fn call(
 }
 
 // Leaves a frame that is not the first of its process.
+#[inline(never)]
 fn leave_frame(store: &mut Store, activity: &mut Activity, results: u32, function: u16) -> StepEnd
     requires ordered { IsOrdered activity.old }
     requires results { results < 2 ^ 16 }

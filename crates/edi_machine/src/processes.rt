@@ -77,6 +77,7 @@ fn exceed(share: u32, branches: &[u16]) -> bool
 }
 
 /// COBEGIN, of branches which are given as three words each.
+#[inline(never)]
 pub fn split(
     store: &Store,
     activity: &mut Activity,

@@ -41,6 +41,7 @@ fn union_words(one: [u16; 8], other: [u16; 8]) -> [u16; 8]
 }
 
 /// UNION.
+#[inline(never)]
 pub fn union(store: &mut Store, activity: &mut Activity, next: u32) -> StepEnd
     requires ordered { IsOrdered activity.old }
     ensures exact { let l = local_of store.old activity.old in
@@ -69,6 +70,7 @@ fn minus_words(one: [u16; 8], other: [u16; 8]) -> [u16; 8]
 }
 
 /// MINUS.
+#[inline(never)]
 pub fn difference(store: &mut Store, activity: &mut Activity, next: u32) -> StepEnd
     requires ordered { IsOrdered activity.old }
     ensures exact { let l = local_of store.old activity.old in
@@ -97,6 +99,7 @@ fn meet_words(one: [u16; 8], other: [u16; 8]) -> [u16; 8]
 }
 
 /// MEET.
+#[inline(never)]
 pub fn intersection(store: &mut Store, activity: &mut Activity, next: u32) -> StepEnd
     requires ordered { IsOrdered activity.old }
     ensures exact { let l = local_of store.old activity.old in
@@ -132,6 +135,7 @@ fn with_word(set: [u16; 8], x: u16) -> [u16; 8]
 }
 
 /// IN.
+#[inline(never)]
 pub fn is_member(store: &mut Store, activity: &mut Activity, next: u32) -> StepEnd
     requires ordered { IsOrdered activity.old }
     ensures exact { let l = local_of store.old activity.old in
@@ -148,6 +152,7 @@ pub fn is_member(store: &mut Store, activity: &mut Activity, next: u32) -> StepE
 }
 
 /// MEMBER.
+#[inline(never)]
 pub fn join(store: &mut Store, activity: &mut Activity, line: u16, next: u32) -> StepEnd
     requires ordered { IsOrdered activity.old }
     ensures exact { let l = local_of store.old activity.old in

@@ -20,6 +20,7 @@ use edi_store::Store;
 use edi_target::{Code, Op};
 
 // Executes an instruction, behind which the next one stands at `next`.
+#[inline(always)]
 fn execute<C: Calls>(
     store: &mut Store,
     activity: &mut Activity,

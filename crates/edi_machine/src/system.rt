@@ -174,6 +174,7 @@ pub fn system_call<C: Calls>(
 }
 
 /// CALLP: by the descriptor at this offset of a frame, a system call, or the entry of a block.
+#[inline(never)]
 pub fn call_described<C: Calls>(
     store: &mut Store,
     activity: &mut Activity,
