@@ -1,0 +1,5 @@
+//! Worked examples of whole runs.
+#![tactic(auto)]
+
+#[cfg(test)]
+mod runs;

@@ -1,0 +1,194 @@
+//! Codes that no compiler made, run by the kernel.
+
+ghost use Rattle.std.specs.Prelude.{◌≤◌, ◌<◌, length};
+
+use edi_calls::MemoryCalls;
+use edi_kernel::{Ending, Kernel, StintEnd};
+use edi_machine::Cause;
+use edi_target::Code;
+use edi_trace::Choices;
+use std::alloc::{AllocError, Global};
+use std::process::Abort;
+use std::test::Fail;
+
+/// What a run leaves.
+#[derive(Drop)]
+struct Ran {
+    ending: Ending,
+    turns: u64,
+    drawn: u64,
+    shown: Vec<u8>,
+}
+
+// Runs the code of these words from address 0, with these call numbers and choices.
+fn run_code(
+    rt: &impl Abort,
+    alloc: Global,
+    words: &[u16],
+    numbers: &[u8],
+    choices: &[u8],
+    bound: u64,
+) -> Result<Ran, Fail> {
+    assert!(rt; words.len() < 1000);
+    assert!(rt; numbers.len() <= 10);
+    let code = Code::check(alloc, words.to_vec(alloc)?, 0, numbers)?;
+    let mut calls = MemoryCalls::new(alloc, b"", 0)?;
+    let mut choices = Choices::list(alloc, choices)?;
+    let mut kernel = Kernel::new(alloc)?;
+    let ending = kernel.run(&code, &mut calls, bound, &mut choices);
+    Ok(Ran {
+        ending,
+        turns: kernel.turns_used(),
+        drawn: choices.drawn(),
+        shown: calls.shown().to_vec(alloc)?,
+    })
+}
+
+/// ENTRY 9 0 3 0 0; CONST 97; CALLP 0 5 1; RETURN 0 0.
+const LETTER: [u16; 15] = [33, 9, 0, 3, 0, 0, 1, 97, 35, 0, 5, 1, 37, 0, 0];
+
+/// main calls p, which calls itself at line 2, and so on.
+const RECURSION: [u16; 28] = [
+    33, 8, 0, 3, 0, 0, 34, 0, 0, 14, 2, 37, 0, 0, 33, 5, 0, 0, 0, 0, 34, 0, 0, 14, 2, 37, 0, 0,
+];
+
+/// `when false do skip end`: at 17 a QUIET.
+const ALONE: [u16; 23] = [
+    33, 6, 0, 0, 0, 0, 39, 1, 1, 0, 29, 0, 17, 41, 28, 0, 20, 44, 0, 8, 37, 0, 0,
+];
+
+/// The same, where the condition calls a function: at 17 a RETRY.
+const RETRIED: [u16; 23] = [
+    33, 6, 0, 0, 0, 0, 39, 1, 1, 0, 29, 0, 17, 41, 28, 0, 20, 40, 0, 8, 37, 0, 0,
+];
+
+/// Two branches, each `when false do skip end`.
+const TOGETHER: [u16; 33] = [
+    33, 5, 0, 0, 0, 0, 42, 2, 1, 6, 0, 18, 6, 0, 18, 37, 0, 0, 39, 1, 1, 0, 29, 0, 29, 41, 28, 0,
+    32, 44, 0, 20, 43,
+];
+
+/// Two branches, `when true do display('a') end` and `when true do display('b') end`.
+const LETTERS: [u16; 60] = [
+    33, 8, 0, 3, 0, 0, 42, 2, 1, 6, 0, 18, 6, 0, 39, 37, 0, 0, 39, 1, 1, 1, 29, 0, 35, 1, 97, 35,
+    1, 5, 1, 41, 28, 0, 38, 44, 0, 20, 43, 39, 1, 1, 1, 29, 0, 56, 1, 98, 35, 1, 5, 1, 41, 28, 0,
+    59, 44, 0, 41, 43,
+];
+
+#[test]
+fn runs_end_as_worked_out(rt: HostRuntime) -> Result<(), Fail> {
+    let cases: [(&[u16], &[u8], &[u8], u64, Ending, u64, u64, &[u8]); 16] = [
+        (&LETTER, &[2], &[], 1000, Ending::Done, 2, 0, b"a"),
+        (&LETTER, &[2], &[], 2, Ending::Done, 2, 0, b"a"),
+        (&LETTER, &[2], &[], 1, Ending::Turns, 1, 0, b"a"),
+        (&LETTER, &[2], &[], 0, Ending::Turns, 0, 0, b""),
+        // 13,105 frames of five words find room behind the first eight words
+        (
+            &RECURSION,
+            &[2],
+            &[],
+            1_000_000,
+            Ending::Failed(Cause::VariableLimit, 2),
+            13_106,
+            0,
+            b"",
+        ),
+        (&ALONE, &[], &[], 10, Ending::Standstill, 3, 0, b""),
+        (&ALONE, &[], &[], 2, Ending::Turns, 2, 0, b""),
+        (&RETRIED, &[], &[], 10, Ending::Turns, 10, 0, b""),
+        (&TOGETHER, &[], &[], 100, Ending::Standstill, 6, 4, b""),
+        (&TOGETHER, &[], &[], 5, Ending::Turns, 5, 4, b""),
+        (&LETTERS, &[2], &[], 100, Ending::Done, 7, 3, b"ab"),
+        (&LETTERS, &[2], &[0, 0, 1], 100, Ending::Done, 7, 3, b"ba"),
+        (&LETTERS, &[2], &[1], 100, Ending::Done, 7, 3, b"ba"),
+        (&LETTERS, &[2], &[], 6, Ending::Turns, 6, 3, b"ab"),
+        // HALT 7
+        (
+            &[33, 5, 0, 0, 0, 0, 38, 7],
+            &[],
+            &[],
+            9,
+            Ending::Halted(7),
+            1,
+            0,
+            b"",
+        ),
+        // a push for which the frame has no room
+        (
+            &[33, 5, 0, 0, 0, 0, 1, 97],
+            &[],
+            &[],
+            9,
+            Ending::Bad(6),
+            1,
+            0,
+            b"",
+        ),
+    ];
+    for (words, numbers, choices, bound, ending, turns, drawn, shown) in cases {
+        let ran = run_code(&rt, rt.alloc(), words, numbers, choices, bound)?;
+        assert_eq!(rt; ran.ending, ending, "{words:?} {choices:?} {bound}");
+        assert_eq!(rt; ran.turns, turns, "{words:?} {choices:?} {bound}");
+        assert_eq!(rt; ran.drawn, drawn, "{words:?} {choices:?} {bound}");
+        assert_eq!(rt;
+            ran.shown.as_slice(),
+            shown,
+            "{words:?} {choices:?} {bound}"
+        );
+    }
+    Ok(())
+}
+
+// A COBEGIN at line 2 of so many branches `skip`.
+fn with_branches(alloc: Global, count: u16) -> Result<Vec<u16>, AllocError>
+    requires { count ≤ 100 }
+{
+    let mut words = Vec::from_slice(alloc, &[33, 5, 0, 0, 0, 0, 42, count, 2])?;
+    for _branch in 0..count {
+        words.extend_from_slice(&[5, 0, 12 + 3 * count])?;
+    }
+    words.extend_from_slice(&[37, 0, 0, 43])?;
+    Ok(words)
+}
+
+#[test]
+fn as_many_as_32_processes_live(rt: HostRuntime) -> Result<(), Fail> {
+    let cases = [
+        (1, Ending::Done, 4, 0),
+        (31, Ending::Done, 34, 30),
+        (32, Ending::Failed(Cause::ProcessLimit, 2), 1, 0),
+    ];
+    for (count, ending, turns, drawn) in cases {
+        assert!(rt; count <= 100);
+        let words = with_branches(rt.alloc(), count)?;
+        let ran = run_code(&rt, rt.alloc(), words.as_slice(), &[], &[], 1000)?;
+        assert_eq!(rt; ran.ending, ending, "{count}");
+        assert_eq!(rt; ran.turns, turns, "{count}");
+        assert_eq!(rt; ran.drawn, drawn, "{count}");
+    }
+    Ok(())
+}
+
+#[test]
+fn stints_follow_one_another(rt: HostRuntime) -> Result<(), Fail> {
+    let code = Code::check(rt.alloc(), LETTERS.to_vec(rt.alloc())?, 0, &[2])?;
+    let mut calls = MemoryCalls::new(rt.alloc(), b"", 0)?;
+    let mut choices = Choices::list(rt.alloc(), &[])?;
+    let mut kernel = Kernel::new(rt.alloc())?;
+    assert!(rt; !kernel.is_taken());
+    kernel.start(&code);
+    let forked = kernel.stint(&code, &mut calls, 100);
+    assert_eq!(rt; forked, StintEnd::Forked { used: 2 });
+    assert_eq!(rt; kernel.ready(), 2);
+    assert_eq!(rt; kernel.standing(), None);
+    kernel.choose(&mut choices);
+    assert_eq!(rt; choices.drawn(), 1);
+    assert!(rt; calls.failed().is_none());
+    let arrived = kernel.stint(&code, &mut calls, 98);
+    assert_eq!(rt; arrived, StintEnd::Arrived { used: 1 });
+    assert_eq!(rt; kernel.turns_used(), 3);
+    assert!(rt; kernel.standing().is_some());
+    // the parent's base, and four words of zeros
+    assert_eq!(rt; kernel.word(8), 0);
+    Ok(())
+}
