@@ -1,0 +1,3 @@
+pub mod Parses
+pub mod Stopped
+pub mod Words

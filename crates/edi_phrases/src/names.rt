@@ -1,0 +1,137 @@
+//! Names, strings and groups of names.
+
+ghost use Rattle.std.specs.Prelude.{
+  ◌≡◌,
+  ◌∷◌,
+  ◌<◌,
+  ◌≤◌,
+  ℕ,
+  length,
+  nat_eq,
+  IfSome,
+  IfNone,
+  IfOk,
+  IfErr,
+};
+ghost use Rattle.edi_lex.specs.declared.symbol.Symbol.TheVariants as is;
+ghost use Rattle.edi_tree.specs.Sequences.{items_of};
+ghost use Rattle.edi_tree.specs.View.{group_of, groups_of, names};
+ghost use Rattle.edi_tree.specs.Levels.{group_elements, groups_elements, names_elements};
+ghost use Rattle.edi_grammar.specs.Kinds as kind;
+ghost use Rattle.edi_grammar.specs.Kind.{front};
+ghost use Rattle.edi_grammar.specs.Rules as g;
+ghost use Rattle.edi_phrases.specs.Parses.{Passes};
+ghost use Rattle.edi_phrases.specs.Words.{at_line, StandsHere};
+ghost use Rattle.edi_phrases.specs.Stopped.{HaltsAt, Lacks};
+
+use crate::stop::{Stop, eat, expect};
+use edi_lex::{Mark, Symbol, Text};
+use edi_tree::{Group, Groups, Name, Names, Sequence};
+use std::alloc::Global;
+
+/// Whether a name is in front.
+pub fn at_name(marks: &[Mark]) -> bool
+    ensures exact { result ≡ nat_eq (front marks.now) kind.Name }
+{
+    match marks.first() {
+        Some(mark) => matches!(mark.symbol, Symbol::Name(_)),
+        None => false,
+    }
+}
+
+/// The name that must stand here, and the marks behind it.
+pub fn parse_name<'a>(alloc: Global, marks: &'a [Mark]) -> Result<(Name, &'a [Mark]), Stop<'a>>
+    ensures found { IfOk result (λ r. marks.now ≡ at_line (is.Name r.0.text) r.0.line ∷ r.1.now) }
+    ensures shorter { IfOk result (λ r. length r.1.now < length marks.now) }
+    ensures none { IfErr result (λ e. Lacks kind.Name marks.now e) }
+{
+    let Some((first, rest)) = marks.split_first() else {
+        return Err(Stop::Fault(marks));
+    };
+    let Symbol::Name(text) = &first.symbol else {
+        return Err(Stop::Fault(marks));
+    };
+    let text = Text::from_slice(alloc, text.as_slice())?;
+    let line = first.line;
+    Ok((Name { text, line }, rest))
+}
+
+/// The numeral in front, and the marks behind it.
+pub fn eat_numeral(marks: &[Mark]) -> Option<(i16, &[Mark])>
+    ensures found { IfSome result (λ r. StandsHere (is.Numeral r.0) marks.now r.1.now) }
+    ensures shorter { IfSome result (λ r. length r.1.now < length marks.now) }
+    ensures none { IfNone result (front marks.now ≡ kind.Numeral → ⊥) }
+{
+    let (first, rest) = marks.split_first()?;
+    match first.symbol {
+        Symbol::Numeral(value) => Some((value, rest)),
+        _ => None,
+    }
+}
+
+/// `{ "," Name }`, and the marks behind it.
+#[tactic(auto, using(crate::proofs::Moves::no_memory))]
+pub fn parse_names<'a>(
+    alloc: Global,
+    marks: &'a [Mark],
+    level: u16,
+) -> Result<(Names, &'a [Mark]), Stop<'a>>
+    ensures passes { IfOk result (λ r. Passes g.Names level (names_elements (names (items_of r.0))) marks.now r.1.now) }
+    ensures halts { IfErr result (λ e. HaltsAt g.Names level marks.now e) }
+    ensures shorter { IfOk result (λ r. length r.1.now ≤ length marks.now) }
+{
+    let mut names = Vec::new(alloc);
+    let mut rest = marks;
+    while let Some((_, behind_comma)) = eat(rest, &Symbol::Comma) {
+        let (name, behind) = parse_name(alloc, behind_comma)?;
+        names.push(name)?;
+        rest = behind;
+    }
+    Ok((Sequence::from_vec(names), rest))
+}
+
+/// `Name { "," Name } ":" Name`, and the marks behind it.
+#[tactic(auto, using(crate::proofs::Moves::no_memory))]
+pub fn parse_group<'a>(
+    alloc: Global,
+    marks: &'a [Mark],
+    level: u16,
+) -> Result<(Group, &'a [Mark]), Stop<'a>>
+    ensures passes { IfOk result (λ r. Passes g.Group level (group_elements (group_of r.0)) marks.now r.1.now) }
+    ensures halts { IfErr result (λ e. HaltsAt g.Group level marks.now e) }
+    ensures shorter { IfOk result (λ r. length r.1.now < length marks.now) }
+{
+    let (first, behind_first) = parse_name(alloc, marks)?;
+    let (more, behind_more) = parse_names(alloc, behind_first, level)?;
+    let (_, behind_colon) = expect(behind_more, &Symbol::Colon)?;
+    let (type_name, rest) = parse_name(alloc, behind_colon)?;
+    Ok((
+        Group {
+            first,
+            more,
+            type_name,
+        },
+        rest,
+    ))
+}
+
+/// `{ ";" Group }`, and the marks behind it.
+#[tactic(auto, using(crate::proofs::Moves::no_memory))]
+pub fn parse_groups<'a>(
+    alloc: Global,
+    marks: &'a [Mark],
+    level: u16,
+) -> Result<(Groups, &'a [Mark]), Stop<'a>>
+    ensures passes { IfOk result (λ r. Passes g.Groups level (groups_elements (groups_of r.0)) marks.now r.1.now) }
+    ensures halts { IfErr result (λ e. HaltsAt g.Groups level marks.now e) }
+    ensures shorter { IfOk result (λ r. length r.1.now ≤ length marks.now) }
+{
+    let mut groups = Vec::new(alloc);
+    let mut rest = marks;
+    while let Some((_, behind_semicolon)) = eat(rest, &Symbol::Semicolon) {
+        let (group, behind) = parse_group(alloc, behind_semicolon, level)?;
+        groups.push(group)?;
+        rest = behind;
+    }
+    Ok((Sequence::from_vec(groups), rest))
+}

@@ -1,0 +1,176 @@
+//! What stands in front of marks, and where the parser stops.
+
+ghost use Rattle.std.specs.Prelude.{
+  ◌≡◌,
+  ◌∷◌,
+  ◌<◌,
+  true,
+  length,
+  nat_eq,
+  IfSome,
+  IfNone,
+  IfOk,
+  IfErr,
+};
+ghost use Rattle.edi_lex.specs.declared.symbol.Symbol.TheVariants as is;
+ghost use Rattle.edi_grammar.specs.Kind as kinds;
+ghost use Rattle.edi_grammar.specs.Kind.{front};
+ghost use Rattle.edi_phrases.specs.Words.{at_line, is_word};
+ghost use Rattle.edi_phrases.specs.Stopped.{Lacks, Refuses};
+ghost use Rattle.edi_phrases.specs.declared.stop.Stop.TheVariants as stop;
+
+use edi_lex::{Mark, Symbol, Text};
+use std::alloc::{AllocError, AllocFailed};
+
+/// The greatest number of levels that may be open at once.
+pub const LEVELS: u16 = 64;
+
+/// Where the parser stops before the end of a part.
+#[derive(Debug)]
+pub enum Stop<'a> {
+    /// The first of these marks, or the end of the text, may not stand here.
+    Fault(&'a [Mark]),
+    /// The first of these marks opens a level too many.
+    TooDeep(&'a [Mark]),
+    /// Memory is wanting.
+    NoMemory,
+}
+
+impl From<AllocError> for Stop<'_> {
+    ghost from_gives = { λ _ e. e ≡ stop.NoMemory };
+
+    fn from(_error: AllocError) -> Self {
+        Stop::NoMemory
+    }
+}
+
+impl<T: Drop> From<AllocFailed<T>> for Stop<'_> {
+    ghost from_gives = { λ _ e. e ≡ stop.NoMemory };
+
+    fn from(_error: AllocFailed<T>) -> Self {
+        Stop::NoMemory
+    }
+}
+
+/// The kind of a string: one of one character is told from the others.
+#[tactic(auto, using(crate::proofs::Symbols::one_character, crate::proofs::Symbols::not_one_character))]
+fn kind_of_string(text: &Text) -> u8
+    ensures exact { result ≡ kinds.kind_of (is.Chars text.now) }
+{
+    if text.len() == 1 { 3 } else { 4 }
+}
+
+/// The kind of a symbol. Symbols of one kind differ in their values alone.
+pub fn kind_of(symbol: &Symbol) -> u8
+    ensures exact { result ≡ kinds.kind_of symbol.now }
+{
+    match symbol {
+        Symbol::Name(_) => 1,
+        Symbol::Numeral(_) => 2,
+        Symbol::Chars(text) => kind_of_string(text),
+        Symbol::Also => 5,
+        Symbol::And => 6,
+        Symbol::Array => 7,
+        Symbol::Begin => 8,
+        Symbol::Cobegin => 9,
+        Symbol::Const => 10,
+        Symbol::Div => 11,
+        Symbol::Do => 12,
+        Symbol::Else => 13,
+        Symbol::End => 14,
+        Symbol::Enum => 15,
+        Symbol::If => 16,
+        Symbol::In => 17,
+        Symbol::Lib => 18,
+        Symbol::Mod => 19,
+        Symbol::Module => 20,
+        Symbol::Not => 21,
+        Symbol::Or => 22,
+        Symbol::Post => 23,
+        Symbol::Pre => 24,
+        Symbol::Proc => 25,
+        Symbol::Record => 26,
+        Symbol::Set => 27,
+        Symbol::Skip => 28,
+        Symbol::Val => 29,
+        Symbol::Var => 30,
+        Symbol::When => 31,
+        Symbol::While => 32,
+        Symbol::Equal => 33,
+        Symbol::NotEqual => 34,
+        Symbol::Less => 35,
+        Symbol::AtMost => 36,
+        Symbol::Greater => 37,
+        Symbol::AtLeast => 38,
+        Symbol::Plus => 39,
+        Symbol::Minus => 40,
+        Symbol::Star => 41,
+        Symbol::Colon => 42,
+        Symbol::Becomes => 43,
+        Symbol::Comma => 44,
+        Symbol::Semicolon => 45,
+        Symbol::Period => 46,
+        Symbol::Open => 47,
+        Symbol::Close => 48,
+        Symbol::OpenBracket => 49,
+        Symbol::CloseBracket => 50,
+    }
+}
+
+/// The line of this symbol and the marks behind it, if it is in front.
+#[tactic(auto, using(crate::proofs::Symbols::same_word))]
+pub fn eat<'a>(marks: &'a [Mark], wanted: &Symbol) -> Option<(u16, &'a [Mark])>
+    requires word { is_word wanted.now ≡ true }
+    ensures found { IfSome result (λ r. marks.now ≡ at_line wanted.now r.0 ∷ r.1.now) }
+    ensures shorter { IfSome result (λ r. length r.1.now < length marks.now) }
+    ensures none { IfNone result (front marks.now ≡ kinds.kind_of wanted.now → ⊥) }
+{
+    let (first, rest) = marks.split_first()?;
+    if kind_of(&first.symbol) == kind_of(wanted) {
+        Some((first.line, rest))
+    } else {
+        None
+    }
+}
+
+/// Whether this symbol is in front.
+pub fn at(marks: &[Mark], wanted: &Symbol) -> bool
+    requires word { is_word wanted.now ≡ true }
+    ensures exact { result ≡ nat_eq (front marks.now) (kinds.kind_of wanted.now) }
+{
+    eat(marks, wanted).is_some()
+}
+
+/// The line of this symbol, which must stand here, and the marks behind it.
+pub fn expect<'a>(marks: &'a [Mark], wanted: &Symbol) -> Result<(u16, &'a [Mark]), Stop<'a>>
+    requires word { is_word wanted.now ≡ true }
+    ensures found { IfOk result (λ r. marks.now ≡ at_line wanted.now r.0 ∷ r.1.now) }
+    ensures shorter { IfOk result (λ r. length r.1.now < length marks.now) }
+    ensures none { IfErr result (λ e. Lacks (kinds.kind_of wanted.now) marks.now e) }
+{
+    match eat(marks, wanted) {
+        Some(found) => Ok(found),
+        None => Err(Stop::Fault(marks)),
+    }
+}
+
+/// The line of this symbol, which must stand here and opens a level where so many are open, and the marks behind it.
+pub fn open<'a>(
+    marks: &'a [Mark],
+    wanted: &Symbol,
+    level: u16,
+) -> Result<(u16, &'a [Mark]), Stop<'a>>
+    requires word { is_word wanted.now ≡ true }
+    ensures found { IfOk result (λ r. marks.now ≡ at_line wanted.now r.0 ∷ r.1.now) }
+    ensures room { IfOk result (λ r. level < 64) }
+    ensures shorter { IfOk result (λ r. length r.1.now < length marks.now) }
+    ensures none { IfErr result (λ e. Refuses (kinds.kind_of wanted.now) level marks.now e) }
+{
+    let Some(found) = eat(marks, wanted) else {
+        return Err(Stop::Fault(marks));
+    };
+    if level >= LEVELS {
+        return Err(Stop::TooDeep(marks));
+    }
+    Ok(found)
+}
