@@ -4,6 +4,7 @@ use Rattle.std.specs.Prelude.{◌&&◌, ◌==◌, nat_le, nat_lt, if◌then◌el
 use Rattle.std.specs.List.{list_all}
 use Rattle.std.specs.Option.{option_map, option_and_then}
 use borrow.Author.Tests.{ltb-true}
+use Rattle.std.proofs.lemmas.Bool.{eqb-true}
 use Rattle.edi_calls.specs.State.{is_title, most_bytes, pages_of}
 use Rattle.edi_catalog.specs.Stored.{StoredFile, is_titled, is_record, is_stored, are_data}
 use Rattle.edi_catalog.specs.Files.{find_place, file_titled, blocks_in, blocks_taken, is_sized, PageIs}
@@ -103,3 +104,15 @@ page_is E x (Some file) i page bytes blocks is here =
     let same0 : Some page ≡ Some (slice_index file.pages i) = is in
     let same : slice_index file.pages i ≡ page = cc in
     ap (block_at blocks) same ∙ here
+
+-- a file has as many page numbers as pages
+pub page_inside : (count : ℕ) (title : List ℕ) (files : List (Option StoredFile)) (i : ℕ) → list_all (is_stored count) files ≡ true
+    → IfSome (file_titled title files) (λ file. i < pages_of file.record_.length)
+    → IfSome (file_titled title files) (λ file. i < length file.pages)
+page_inside count title files i all = go (file_titled title files) (file_kept count title files all) where
+  go : (o : Option StoredFile) → is_stored count o ≡ true → IfSome o (λ file. i < pages_of file.record_.length)
+      → IfSome o (λ file. i < length file.pages)
+  go None kept inside = tt
+  go (Some file) kept inside =
+      let parts = both (is_record count file.record_ && are_data count file.pages) (length file.pages == pages_of file.record_.length) kept in
+      subst (λ n. i < n) (sym (eqb-true (length file.pages) (pages_of file.record_.length) parts.1)) inside

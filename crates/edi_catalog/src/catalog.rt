@@ -1,10 +1,11 @@
 //! The catalogue of a disk.
 
-ghost use Rattle.std.specs.Prelude.{◌≡◌, ◌≤◌, ◌<◌, ◌+◌, ◌-◌, ◌↔◌, ◌⊎◌, None, Err, IfSome, length, slice_index_or};
+ghost use Rattle.std.specs.Prelude.{◌≡◌, ◌≤◌, ◌<◌, ◌+◌, ◌-◌, ◌↔◌, ◌⊎◌, None, Err, IfSome, slice_index_or};
 ghost use Rattle.std.specs.Option.{option_map};
 ghost use Rattle.edi_told.specs.Faults.{Rose};
 ghost use Rattle.edi_told.specs.Told.{WhereTold};
 ghost use Rattle.edi_disk.specs.Shown.{drive_of, reference_of};
+ghost use Rattle.edi_calls.specs.State.{pages_of};
 ghost use Rattle.edi_catalog.specs.Mounted.{IsMounted, disk_of, files_of};
 ghost use Rattle.edi_catalog.specs.Files.{entry_of, file_titled, blocks_taken, PageIs};
 
@@ -64,7 +65,7 @@ impl<'a, D: Drive> Catalog<'a, D> {
     /// file's length is open. The one refusal is `NoSuch`.
     pub fn read_page(&mut self, title: &Title, i: u32, into: &mut [u8; BLOCK]) -> Result<(), CatEnd>
         requires mounted { IsMounted D.held D.count self.old }
-        requires page { IfSome (file_titled title.now (files_of self.old)) (λ file. i < length file.pages) }
+        requires page { IfSome (file_titled title.now (files_of self.old)) (λ file. i < pages_of file.record_.length) }
         ensures no_such { (result ≡ Err CatEnd.NoSuch) ↔ (file_titled title.now (files_of self.old) ≡ None) }
         ensures files { files_of self.new ≡ files_of self.old }
         ensures mounted { result ≡ Err CatEnd.Fault ⊎ IsMounted D.held D.count self.new }

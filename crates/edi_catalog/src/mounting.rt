@@ -21,9 +21,10 @@ use edi_disk::Disk;
 use edi_host::Drive;
 use std::alloc::Global;
 
-/// The least and the greatest number of blocks of an image.
+/// The least number of blocks of an image.
 const LEAST: u32 = 64;
 
+/// The greatest number of blocks of an image.
 const MOST: u32 = 4096;
 
 // Checks the number of blocks, and block 0.

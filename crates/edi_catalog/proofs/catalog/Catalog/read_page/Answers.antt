@@ -8,7 +8,7 @@ use Rattle.edi_catalog.specs.declared.ends.CatEnd.{CatEnd}
 use Rattle.edi_catalog.specs.Files.{file_titled}
 use Rattle.edi_catalog.specs.Mounted.{disk_of, files_of}
 use Rattle.edi_catalog.proofs.Mounts.{found_of, same_blocks, still_mounted, told_same_blocks}
-use Rattle.edi_catalog.proofs.FilePlaces.{page_on_drive, page_is}
+use Rattle.edi_catalog.proofs.FilePlaces.{page_on_drive, page_inside, page_is}
 use Rattle.edi_catalog.proofs.catalog.Catalog.read_page.Goals as goal
 
 pub block-requires-clause-in_range : goal.block-requires-clause-in_range
@@ -18,7 +18,8 @@ block-requires-clause-in_range g c =
     c.requires.mounted.stored
     (c.in-Some.ensures
     ∙ ap (λ fs. option_map (λ (file : StoredFile). slice_index file.pages c.args.i) (file_titled c.args.title.now fs)) c.deref.ensures.value)
-    c.requires.page)
+    (page_inside (g.D.Drive.count (drive_of (disk_of c.args.self.now))) c.args.title.now (files_of c.args.self.now) c.args.i
+    c.requires.mounted.stored c.requires.page))
 
 pub returns-in-Ok-clause-mounted : goal.returns-in-Ok-clause-mounted
 returns-in-Ok-clause-mounted g c =

@@ -1,0 +1,7 @@
+//! Worked examples of titles and of images, over drives in memory.
+#![tactic(auto)]
+
+#[cfg(test)]
+mod images;
+#[cfg(test)]
+mod titles;
