@@ -3,6 +3,7 @@
 
 mod ends;
 mod fork;
+pub mod laws;
 mod run;
 mod state;
 mod stretch;
