@@ -19,3 +19,4 @@ pub mod Choosing
 pub mod Starting
 pub mod Rounds
 pub mod Stinting
+pub mod Machines

@@ -3,11 +3,12 @@ use Rattle.std.specs.Prelude.{◌≡◌, ℕ, ◌+◌, ◌-◌, ◌<◌, ◌^◌
 use Rattle.edi_calls.specs.Choice.{Choices, choice}
 use Rattle.edi_calls.specs.Names.{Name}
 use Rattle.edi_calls.specs.Outcome as outcome
+use Rattle.edi_calls.specs.Outcome.{outcome_of}
 use Rattle.edi_calls.specs.Ready.{stays, taking, take_next}
 use Rattle.edi_calls.specs.State.{State}
 use Rattle.edi_target.specs.Check.{CodeParts}
 use Rattle.edi_target.specs.Fetch.{fetch}
-use Rattle.edi_target.specs.Mach.{Machine, Run, went, finished, run, after_step, entered}
+use Rattle.edi_target.specs.Mach.{Machine, Run, went, finished, run, after_step, entered, Mach}
 use Rattle.edi_trace.specs.Drawn.{Drawn}
 use Rattle.edi_machine.specs.declared.activity.Activity.{Activity}
 use Rattle.edi_machine.specs.Starts.{Begins}
@@ -114,3 +115,9 @@ pub record RunsAs (code : CodeParts) (system : State) (bound : ℕ) (old : Drawn
 abbrev pub RunsTo : CodeParts → State → (bound : ℕ) → (old : Drawn) → Ending → (words : List ℕ) → (used : ℕ) → (now : State) → (new : Drawn) → Type 0
 RunsTo code system bound old ending.Fault words used now new = ⊤
 RunsTo code system bound old e words used now new = RunsAs code system bound old e words used now new
+
+-- where no choice had been drawn before, a run of the kernel has an outcome of the machine's definition
+abbrev pub RunsAreTheMachines : Type 0
+RunsAreTheMachines =
+    (code : CodeParts) (system : State) (bound : ℕ) (old new : Drawn) (e : Ending) (words : List ℕ) (used : ℕ) (now : State) → old.drawn ≡ 0 → (r : RunsAs code system bound old e words used now new) →
+    Mach (fetch code.words) code.entry code.calls system bound old.source (outcome_of now r.end used new.drawn)

@@ -3,6 +3,7 @@
 
 mod ends;
 mod fork;
+pub mod laws;
 mod run;
 mod state;
 mod stretch;
@@ -116,6 +117,7 @@ impl Kernel {
             IsAt code.now self.old s turns_left m p others → GoesTo code.now.words result turns_left self.new t m p others) }
         ensures entry { self.old.entering ≡ true → turns_left ≡ 0 → result ≡ StintEnd.Over 0 Ending.Turns }
         ensures free { is_over result ≡ false → self.new.taken ≡ None }
+        ensures entering { is_over result ≡ false → self.new.entering ≡ false }
         ensures standing { StandsAfter result self.new.arrived }
         ensures used { used_in result ≤ turns_left }
         ensures later { (outside : Outside) → C.faults calls.old outside ≤ C.faults calls.new outside }
@@ -135,6 +137,7 @@ impl Kernel {
         ensures taken { IsSome self.new.taken }
         ensures source { choices.new.source ≡ choices.old.source }
         ensures drawn { choices.new.drawn ≤ choices.old.drawn + 1 }
+        ensures entering { self.new.entering ≡ self.old.entering }
         ensures turns { self.new.used ≡ self.old.used }
     {
         self.state.choose(choices);

@@ -209,6 +209,7 @@ impl KernelState {
         ensures entry { self.old.entering ≡ true → turns_left ≡ 0 → result ≡ StintEnd.Over 0 Ending.Turns }
         ensures kernel { IsKernel self.new }
         ensures free { is_over result ≡ false → self.new.taken ≡ None }
+        ensures entering { is_over result ≡ false → self.new.entering ≡ false }
         ensures standing { StandsAfter result self.new.arrived }
         ensures used { used_in result ≤ turns_left }
         ensures later { (outside : Outside) → C.faults calls.old outside ≤ C.faults calls.new outside }
