@@ -130,7 +130,7 @@ module _ (words : List ℕ) (bound : ℕ) (k new : KernelState) (now : State) (o
   round_over (ending.Halted line) same h = ends_run (ending.Halted line) same h
   round_over (ending.Failed cause line) same h = ends_run (ending.Failed cause line) same h
   round_over ending.Turns same h = ends_run ending.Turns same h
-  round_over ending.Standstill same h = ends_run ending.Standstill same h
+  round_over ending.Standstill same h = ends_run ending.Standstill same h.0
   round_over (ending.Bad at) same h = ends_run (ending.Bad at) same h
   round_over ending.Fault same h = tt
 
@@ -154,7 +154,7 @@ module _ (words : List ℕ) (bound : ℕ) (k : KernelState) (old : Drawn) (left 
       ((machine : Machine) (ready : List Name) → Holds k machine None ready → Proceeds result new machine old drawn ready) →
       GoesTo words end left k now m p others → Rounds words bound result new now old drawn m p others
   round_goes (stint_end.Over used e) result new drawn now m p others h turns store c g = absurd (cc)
-  round_goes (stint_end.Arrived used) result new drawn now m p others h turns store c g = round_on words bound k new now old drawn m p others left used turns store result g c
+  round_goes (stint_end.Arrived used) result new drawn now m p others h turns store c g = round_on words bound k new now old drawn m p others left used turns store result g.0 c
   round_goes (stint_end.Forked used) result new drawn now m p others h turns store c g = round_on words bound k new now old drawn m p others left used turns store result g c
   round_goes (stint_end.Exited used) result new drawn now m p others h turns store c g = round_on words bound k new now old drawn m p others left used turns store result g c
 

@@ -1,14 +1,16 @@
 -- What the kernel keeps, and how it stands for a machine.
-use Rattle.std.specs.Prelude.{◌≡◌, ℕ, ◌+◌, ◌-◌, ◌==◌, ◌++◌, Bool, true, false, List, length, map, Option, Some, None, is_some, ⊤}
+use Rattle.std.specs.Prelude.{◌≡◌, ℕ, ◌+◌, ◌-◌, ◌==◌, ◌++◌, Bool, true, false, List, [], length, map, Option, Some, None, is_some, ⊤}
 use Rattle.std.specs.Option.{option_map}
-use Rattle.edi_calls.specs.Names.{Name}
+use Rattle.edi_calls.specs.Names.{Name, find}
 use Rattle.edi_calls.specs.Outcome as outcome
 use Rattle.edi_calls.specs.State.{State}
 use Rattle.edi_target.specs.Fetch.{fetch}
-use Rattle.edi_target.specs.Mach.{Machine}
+use Rattle.edi_target.specs.Mach as mach
+use Rattle.edi_target.specs.Mach.{Machine, activity_of}
 use Rattle.edi_machine.specs.declared.activity.Activity.{Activity}
 use Rattle.edi_machine.specs.declared.ends.TurnKind.{TurnKind}
 use Rattle.edi_machine.specs.declared.ends.TurnKind.TheVariants as kind
+use Rattle.edi_machine.specs.Activities.{local_of}
 use Rattle.edi_machine.specs.Starts.{branches_at}
 use Rattle.edi_kernel.specs.declared.ends.Ending.{Ending}
 use Rattle.edi_kernel.specs.declared.ends.Ending.TheVariants as ending
@@ -83,11 +85,21 @@ pub record EndsRun (words : List ℕ) (left : ℕ) (e : Ending) (k : KernelState
   pub system : machine.system ≡ now
   pub turns : machine.turns ≡ left
 
+-- the activity that the kernel tells is the one with which p stands at its `when` in this machine
+pub record TellsStanding (k : KernelState) (m : Machine) (p : Name) : Type 0 where
+  pub activity : Activity
+  pub forks : ℕ
+  pub told : k.arrived ≡ Some activity
+  pub found : find m.activities p ≡ Some (activity_of (local_of [] activity) forks mach.at_when)
+
 -- how the stint of p ends, where so many turns were left at its start
 abbrev pub GoesTo : List ℕ → StintEnd → (left : ℕ) → KernelState → State → Machine → Name → List Name → Type 0
 GoesTo words (stint_end.Over used ending.Fault) left k now m p others = ⊤
+GoesTo words (stint_end.Over used ending.Standstill) left k now m p others =
+    (h : EndsRun words (left - used) ending.Standstill k now m p others) × TellsStanding k h.machine p
 GoesTo words (stint_end.Over used e) left k now m p others = EndsRun words (left - used) e k now m p others
-GoesTo words (stint_end.Arrived used) left k now m p others = Switches words (left - used) k now m p others
+GoesTo words (stint_end.Arrived used) left k now m p others =
+    (h : Switches words (left - used) k now m p others) × TellsStanding k h.machine p
 GoesTo words (stint_end.Forked used) left k now m p others = Switches words (left - used) k now m p others
 GoesTo words (stint_end.Exited used) left k now m p others = Switches words (left - used) k now m p others
 
@@ -144,12 +156,13 @@ attempt_end false used = stint_end.Arrived used
 abbrev pub HandlesTurn : TurnKind → (words : List ℕ) → (place used : ℕ) → Activity → (old new : KernelState) → StintEnd → Type 0
 HandlesTurn (kind.Again true) words place used a old new result =
     Puts 0 place (at_its_when (process_at old.table place) a) (marked_with old.table place) new.table × (new.store ≡ old.store)
-    × (result ≡ attempt_end (marks_with old.table place == length (ready_places new.table)) used)
+    × (result ≡ attempt_end (marks_with old.table place == length (ready_places new.table)) used) × (new.arrived ≡ Some a)
 HandlesTurn (kind.Fork at) words place used a old new result = IsForked words place a at old new × (result ≡ stint_end.Forked used)
 HandlesTurn kind.Exit words place used a old new result =
     Removed place (unmarked old.table) new.table × (new.store ≡ old.store) × (result ≡ stint_end.Exited used)
 HandlesTurn kind words place used a old new result =
-    Puts 0 place (at_its_when (process_at old.table place) a) (unmarked old.table) new.table × (new.store ≡ old.store) × (result ≡ stint_end.Arrived used)
+    Puts 0 place (at_its_when (process_at old.table place) a) (unmarked old.table) new.table × (new.store ≡ old.store)
+    × (result ≡ stint_end.Arrived used) × (new.arrived ≡ Some a)
 
 -- the process at this place, with this activity, pauses after so many turns
 abbrev pub Handles : Pause → (words : List ℕ) → (place used : ℕ) → Activity → (old new : KernelState) → StintEnd → Type 0

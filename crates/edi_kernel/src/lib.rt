@@ -173,7 +173,8 @@ impl Kernel {
         self.state.used
     }
 
-    /// The activity that the last instruction of the last stint left standing at its `when`, if it took its turn so.
+    /// The activity that the last instruction of the last stint left standing at its `when`, if it took its turn so: after
+    /// `Arrived` and a standstill the one with which the process stands in the machine that the stint leaves.
     pub fn standing(&self) -> Option<Activity>
         ensures { result ≡ self.now.arrived }
     {
