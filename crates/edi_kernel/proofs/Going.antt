@@ -5,6 +5,7 @@ use Rattle.std.specs.Option.{option_map}
 use Rattle.std.proofs.lemmas.Bool.{cases_eq, ne_eqb, eqb-false}
 use Rattle.edi_told.specs.Told.{WhereTold}
 use Rattle.edi_calls.specs.State.{State}
+use Rattle.edi_calls.specs.Calls.{call}
 use Rattle.edi_calls.specs.Names.{Name, same}
 use Rattle.edi_calls.specs.Outcome as outcome
 use Rattle.edi_calls.specs.Ready.{child, children, all_marked, joins}
@@ -20,6 +21,7 @@ use Rattle.edi_machine.specs.declared.ends.TurnKind.{TurnKind}
 use Rattle.edi_machine.specs.declared.ends.TurnKind.TheVariants as kind
 use Rattle.edi_machine.specs.Activities.{IsOrdered}
 use Rattle.edi_machine.specs.Starts.{branches_at}
+use Rattle.edi_machine.specs.Steps.{Tears, effect_of}
 use Rattle.edi_kernel.specs.declared.ends.Ending.{Ending}
 use Rattle.edi_kernel.specs.declared.ends.Ending.TheVariants as ending
 use Rattle.edi_kernel.specs.declared.ends.StintEnd.{StintEnd}
@@ -33,16 +35,16 @@ use Rattle.edi_kernel.specs.declared.table.Process.{Process}
 use Rattle.edi_kernel.specs.declared.table.Table.{Table}
 use Rattle.edi_kernel.specs.Table.{Puts, Removed, at_its_when, waiting_for, process_at, marks_with, marked_with, unmarked, ready_places, free_places, is_live, is_waiting, resumed, with_process}
 use Rattle.edi_kernel.specs.Stands.{IsTable, IsTaken, IsBetween, Naming, Awaits, Born, Stands, is_child_of, entry_of, children_of}
-use Rattle.edi_kernel.specs.Stretch.{Paused, going, pausing, stopping, stretch, running_in, Pauses, Stretches, Allows}
+use Rattle.edi_kernel.specs.Stretch.{Paused, going, pausing, stopping, stretch, running_in, walked, Pauses, Breaks, Stretches, Allows}
 use Rattle.edi_kernel.specs.Stints as stints
 use Rattle.edi_kernel.specs.Stints.{stint, stint_after}
 use Rattle.edi_kernel.specs.Forks.{HaveBegun, share_in}
-use Rattle.edi_kernel.specs.Kernel.{IsKernel, IsTakenIn, Holds, Switches, EndsRun, TellsStanding, GoesTo, attempt_end, HandlesTurn, Handles}
+use Rattle.edi_kernel.specs.Kernel.{IsKernel, IsTakenIn, Holds, Switches, EndsRun, BreaksOff, TellsStanding, GoesTo, attempt_end, HandlesTurn, Handles}
 use Rattle.edi_kernel.proofs.Names.{child_some, same_ends}
 use Rattle.edi_kernel.proofs.Counts.{marked_few, map-append, where_same}
-use Rattle.edi_kernel.proofs.Changes.{one_changes, at_set_same, at_set_other}
+use Rattle.edi_kernel.proofs.Changes.{length-names, one_changes, at_set_same, at_set_other}
 use Rattle.edi_kernel.proofs.Lists.{written_table, unmarked_at}
-use Rattle.edi_kernel.proofs.Walks.{Follows, follows_itself, names-with_at, marks_after, Comes, comes}
+use Rattle.edi_kernel.proofs.Walks.{Follows, follows_itself, names-with_at, marks_after, Comes, comes, Walked, walks}
 use Rattle.edi_kernel.proofs.Switches.{At, taken_live, follows_marks, unmarked_table, unmarked_taken, unmarked_at_place, marked_at_place, stood, stood_ready, all_ready}
 use Rattle.edi_kernel.proofs.Exits.{Exited, exits, kept}
 use Rattle.edi_kernel.proofs.Handled.{handled}
@@ -534,9 +536,47 @@ module _ (words : List ℕ) (old mid new : KernelState) (place left left1 used :
         never (stopping (outcome.bad address) r c) h = h
         never going h = h
 
+    -- ---- a fault
+
+    first : (place == 0) ≡ is_first p
+    first = first_is old.table n m place g.stands (taken_live old.table place g.taken)
+
+    broken_at : (h : Breaks words live (place == 0) start false now) → Walked (fetch words) m p others (n.forks place) h.steps m h.at h.emptied → BreaksOff words (left - used) t m p others
+    broken_at h w = record {
+      steps = h.steps;
+      machine = w.machine;
+      is = w.is;
+      fails = record {
+        activity = w.activity;
+        found = w.follows.found;
+        number = h.torn.number;
+        arguments = h.torn.arguments;
+        address = h.torn.address;
+        line = h.torn.line;
+        next = h.torn.next;
+        effect =
+            ap (λ l. effect_of words l (is_first p) (running_of w.machine w.activity).local) many
+            ∙ ap (λ b. effect_of words live b (running_of w.machine w.activity).local) (sym first)
+            ∙ ap (λ r. effect_of words live (place == 0) r.local) w.runs ∙ h.torn.effect;
+        tears = subst (λ r. Tears (call h.torn.number h.torn.arguments r.system) r.system t) (sym w.runs) h.torn.tears;
+      };
+      turns = ap (λ r. r.turns) w.runs ∙ sym h.torn.turns ∙ sym g.spent;
+    }
+      where
+        many : length w.machine.activities ≡ live
+        many = sym (length-names w.machine.activities) ∙ ap length w.follows.named ∙ length-names m.activities ∙ sym is_live_count
+
+    broken : Breaks words live (place == 0) start false now → BreaksOff words (left - used) t m p others
+    broken h =
+        broken_at h
+        (walks (fetch words) m p others (n.forks place) h.steps m (entry_of (process_at old.table place) (n.forks place)) start false h.at h.emptied
+        (follows_itself m p (entry_of (process_at old.table place) (n.forks place)) (g.stands.found place (taken_live old.table place g.taken)))
+        (runs m old.store s left (process_at old.table place) (n.forks place) g.memory g.system g.turns)
+        (ap (λ l. walked (fetch words) l (is_first p) h.steps start false) (sym is_live_count) ∙ ap (λ b. walked (fetch words) live b h.steps start false) (sym first) ∙ h.reached))
+
     pub goes : (pause : Pause) (result : StintEnd) (l : Local) → Stretches words live (place == 0) start false pause now cleared → Allows (Some pause) words live (place == 0) l →
         Handles pause words place used a mid new result → GoesTo words result left new t m p others
-    goes (pause.Over ending.Fault) result l h allowed d = subst (λ x. GoesTo words x left new t m p others) (sym d.2) tt
+    goes (pause.Over ending.Fault) result l h allowed d = subst (λ x. GoesTo words x left new t m p others) (sym d.2) (broken h)
     goes (pause.Over ending.Done) result l h allowed d = subst (λ x. GoesTo words x left new t m p others) (sym d.2) (overs ending.Done h.steps h.end (came h.steps h.end h.is) h.pauses d.1)
     goes (pause.Over (ending.Halted at)) result l h allowed d = subst (λ x. GoesTo words x left new t m p others) (sym d.2) (overs (ending.Halted at) h.steps h.end (came h.steps h.end h.is) h.pauses d.1)
     goes (pause.Over (ending.Failed cause at)) result l h allowed d = subst (λ x. GoesTo words x left new t m p others) (sym d.2) (overs (ending.Failed cause at) h.steps h.end (came h.steps h.end h.is) h.pauses d.1)

@@ -60,7 +60,7 @@ module _ (words : List ℕ) (k new : KernelState) (left n : ℕ) (store : new.st
   goes_later (stint_end.Over used ending.Turns) t m p others h = ends used ending.Turns t m p others h
   goes_later (stint_end.Over used ending.Standstill) t m p others h = (ends used ending.Standstill t m p others h.0, tells h.0.machine p h.1)
   goes_later (stint_end.Over used (ending.Bad at)) t m p others h = ends used (ending.Bad at) t m p others h
-  goes_later (stint_end.Over used ending.Fault) t m p others h = tt
+  goes_later (stint_end.Over used ending.Fault) t m p others h = record { steps = h.steps; machine = h.machine; is = h.is; fails = h.fails; turns = h.turns ∙ less used }
 
 -- the machine behind the entry's turn
 module _ (code : CodeParts) (k mid : KernelState) (left n : ℕ) (store : mid.store ≡ k.store) (table : mid.table ≡ k.table) (taken : mid.taken ≡ k.taken) where
