@@ -5,13 +5,14 @@ use Rattle.std.specs.Option.{option_map}
 use Rattle.std.proofs.lemmas.Bool.{cases_eq, ne_eqb, eqb-false}
 use Rattle.edi_told.specs.Told.{WhereTold}
 use Rattle.edi_calls.specs.State.{State}
+use Rattle.edi_calls.specs.Calls.{call}
 use Rattle.edi_calls.specs.Names.{Name, same}
 use Rattle.edi_calls.specs.Outcome as outcome
 use Rattle.edi_calls.specs.Ready.{child, children, all_marked, joins}
 use Rattle.edi_calls.proofs.Tables.{find-with_at-same, find-with_at-other}
 use Rattle.edi_target.specs.Op.{Branch}
 use Rattle.edi_target.specs.Fetch.{fetch}
-use Rattle.edi_target.specs.Effect.{Local, entering, leaving, looping, arriving, again, forking, exiting, finishing}
+use Rattle.edi_target.specs.Effect.{Local, Turn, entering, leaving, looping, arriving, again, forking, exiting, finishing}
 use Rattle.edi_target.specs.Mach as mach
 use Rattle.edi_target.specs.Mach.{Running, Machine, Stepped, went, ended, held_at, running_of, activity_of, back, with_children, at_turn, exited, is_first}
 use Rattle.edi_ring.proofs.Homes.{length-le-nodes}
@@ -20,9 +21,11 @@ use Rattle.edi_machine.specs.declared.ends.TurnKind.{TurnKind}
 use Rattle.edi_machine.specs.declared.ends.TurnKind.TheVariants as kind
 use Rattle.edi_machine.specs.Activities.{IsOrdered}
 use Rattle.edi_machine.specs.Starts.{branches_at}
+use Rattle.edi_machine.specs.Steps.{Tears, effect_of}
 use Rattle.edi_kernel.specs.declared.ends.Ending.{Ending}
 use Rattle.edi_kernel.specs.declared.ends.Ending.TheVariants as ending
 use Rattle.edi_kernel.specs.declared.ends.StintEnd.{StintEnd}
+use Rattle.edi_kernel.specs.declared.ends.StintEnd.TheVariants as stint_end
 use Rattle.edi_kernel.specs.declared.stretch.Pause.{Pause}
 use Rattle.edi_kernel.specs.declared.stretch.Pause.TheVariants as pause
 use Rattle.edi_kernel.specs.declared.state.KernelState.{KernelState}
@@ -32,16 +35,16 @@ use Rattle.edi_kernel.specs.declared.table.Process.{Process}
 use Rattle.edi_kernel.specs.declared.table.Table.{Table}
 use Rattle.edi_kernel.specs.Table.{Puts, Removed, at_its_when, waiting_for, process_at, marks_with, marked_with, unmarked, ready_places, free_places, is_live, is_waiting, resumed, with_process}
 use Rattle.edi_kernel.specs.Stands.{IsTable, IsTaken, IsBetween, Naming, Awaits, Born, Stands, is_child_of, entry_of, children_of}
-use Rattle.edi_kernel.specs.Stretch.{Paused, going, pausing, stopping, stretch, running_in, Pauses, Stretches, Allows}
+use Rattle.edi_kernel.specs.Stretch.{Paused, going, pausing, stopping, stretch, running_in, walked, Pauses, Breaks, Stretches, Allows}
 use Rattle.edi_kernel.specs.Stints as stints
 use Rattle.edi_kernel.specs.Stints.{stint, stint_after}
 use Rattle.edi_kernel.specs.Forks.{HaveBegun, share_in}
-use Rattle.edi_kernel.specs.Kernel.{IsKernel, IsTakenIn, Holds, Switches, EndsRun, GoesTo, attempt_end, HandlesTurn, Handles}
+use Rattle.edi_kernel.specs.Kernel.{IsKernel, IsTakenIn, Holds, Switches, EndsRun, BreaksOff, TellsStanding, GoesTo, attempt_end, HandlesTurn, Handles}
 use Rattle.edi_kernel.proofs.Names.{child_some, same_ends}
 use Rattle.edi_kernel.proofs.Counts.{marked_few, map-append, where_same}
-use Rattle.edi_kernel.proofs.Changes.{one_changes, at_set_same, at_set_other}
+use Rattle.edi_kernel.proofs.Changes.{length-names, one_changes, at_set_same, at_set_other}
 use Rattle.edi_kernel.proofs.Lists.{written_table, unmarked_at}
-use Rattle.edi_kernel.proofs.Walks.{Follows, follows_itself, names-with_at, marks_after, Comes, comes}
+use Rattle.edi_kernel.proofs.Walks.{Follows, follows_itself, names-with_at, marks_after, Comes, comes, Walked, walks}
 use Rattle.edi_kernel.proofs.Switches.{At, taken_live, follows_marks, unmarked_table, unmarked_taken, unmarked_at_place, marked_at_place, stood, stood_ready, all_ready}
 use Rattle.edi_kernel.proofs.Exits.{Exited, exits, kept}
 use Rattle.edi_kernel.proofs.Handled.{handled}
@@ -165,36 +168,50 @@ module _ (words : List ℕ) (old mid new : KernelState) (place left left1 used :
 
     -- ---- an arrival, and an attempt that marks nobody
 
+    left_standing : (k : Machine) (b : mach.Activity) (ms : List Name) (r : Running) → now ≡ r → new.arrived ≡ Some a →
+        TellsStanding new (back k p (activity_of r.local b.forks mach.at_when) ms r) p
+    left_standing k b ms r e told = record {
+      activity = a;
+      forks = b.forks;
+      told = told;
+      found =
+          find-with_at-same k.activities p (activity_of r.local b.forks mach.at_when)
+          ∙ sym (ap (λ x. Some (activity_of x.local b.forks mach.at_when)) e);
+    }
+
     abbrev at_clear : At (unmarked mid.table) n (record m { marks = [] }) place
     at_clear = unmarked_at_place mid.table n (record m { marks = marks_after (fetch words) m p others (n.forks place) cleared }) place at_mid
 
     arrived : (k : Machine) (b : mach.Activity) (ms : List Name) (r : Running) (steps rest : ℕ) → Follows m k p (n.forks place) ms b → now ≡ r →
         stint (fetch words) steps m p others ≡ stints.switched (back k p (activity_of r.local b.forks mach.at_when) [] r) (p ∷ []) →
-        Puts 0 place (at_its_when (process_at mid.table place) a) (unmarked mid.table) new.table → new.store ≡ mid.store →
-        Switches words (left - used) new t m p others
-    arrived k b ms r steps rest f e is put same = record {
-      steps = steps;
-      machine = back k p (activity_of r.local b.forks mach.at_when) [] r;
-      joined = p ∷ [];
-      is = is;
-      holds = record {
-        naming = n;
-        stands = stood (unmarked mid.table) new.table place a at_clear.table at_clear.taken put n (record m { marks = [] }) k b [] ms r mid.store at_clear.stands (follows_marks m k p (n.forks place) ms [] b f) refl (sym (ap (λ x. x.local) e));
-        memory = sym (ap (λ x. x.local.memory) e) ∙ sym same;
-        is_taken = sym (ap (option_map n.name) g.none_taken);
-        is_ready = sym (ap (map n.name) (stood_ready (unmarked mid.table) new.table place a at_clear.table at_clear.taken put) ∙ map-append n.name (ready_places mid.table) (place ∷ []) ∙ ap (λ xs. map n.name xs ++ p ∷ []) same_ready);
-      };
-      system = sym (ap (λ x. x.system) e);
-      turns = sym (ap (λ x. x.turns) e) ∙ sym g.spent;
-    }
+        Puts 0 place (at_its_when (process_at mid.table place) a) (unmarked mid.table) new.table → new.store ≡ mid.store → new.arrived ≡ Some a →
+        (h : Switches words (left - used) new t m p others) × TellsStanding new h.machine p
+    arrived k b ms r steps rest f e is put same told = (
+      record {
+        steps = steps;
+        machine = back k p (activity_of r.local b.forks mach.at_when) [] r;
+        joined = p ∷ [];
+        is = is;
+        holds = record {
+          naming = n;
+          stands = stood (unmarked mid.table) new.table place a at_clear.table at_clear.taken put n (record m { marks = [] }) k b [] ms r mid.store at_clear.stands (follows_marks m k p (n.forks place) ms [] b f) refl (sym (ap (λ x. x.local) e));
+          memory = sym (ap (λ x. x.local.memory) e) ∙ sym same;
+          is_taken = sym (ap (option_map n.name) g.none_taken);
+          is_ready = sym (ap (map n.name) (stood_ready (unmarked mid.table) new.table place a at_clear.table at_clear.taken put) ∙ map-append n.name (ready_places mid.table) (place ∷ []) ∙ ap (λ xs. map n.name xs ++ p ∷ []) same_ready);
+        };
+        system = sym (ap (λ x. x.system) e);
+        turns = sym (ap (λ x. x.turns) e) ∙ sym g.spent;
+      },
+      left_standing k b [] r e told,
+    )
 
     -- ---- an attempt that marks its process
 
     marked_attempt : (k : Machine) (b : mach.Activity) (r : Running) (steps rest : ℕ) (result : StintEnd) → Follows m k p (n.forks place) (marks_after (fetch words) m p others (n.forks place) cleared) b → now ≡ r →
         stint (fetch words) steps m p others ≡ stint_after (λ m. stint (fetch words) rest m p others) (at_turn k p others b (again true) r) →
         Puts 0 place (at_its_when (process_at mid.table place) a) (marked_with mid.table place) new.table → new.store ≡ mid.store →
-        result ≡ attempt_end (marks_with mid.table place == length (ready_places new.table)) used → GoesTo words result left new t m p others
-    marked_attempt k b r steps rest result f e is put same ends =
+        result ≡ attempt_end (marks_with mid.table place == length (ready_places new.table)) used → new.arrived ≡ Some a → GoesTo words result left new t m p others
+    marked_attempt k b r steps rest result f e is put same ends told =
         subst (λ x. GoesTo words x left new t m p others) (sym ends) (by_marks (marks_with mid.table place == length (ready_places new.table)) refl)
       where
         marked : At (marked_with mid.table place) n (record m { marks = p ∷ marks_after (fetch words) m p others (n.forks place) cleared }) place
@@ -216,33 +233,39 @@ module _ (words : List ℕ) (old mid new : KernelState) (place left left1 used :
         comes_to x h = is ∙ ap (λ y. stint_after (λ m. stint (fetch words) rest m p others) (if y then ended outcome.standstill (back k p (activity_of r.local b.forks mach.at_when) (p ∷ k.marks) r) else went (back k p (activity_of r.local b.forks mach.at_when) (p ∷ k.marks) r) (joins (p ∷ [])))) h
 
         by_marks : (x : Bool) → (marks_with mid.table place == length (ready_places new.table)) ≡ x → GoesTo words (attempt_end x used) left new t m p others
-        by_marks true h = record {
-          steps = steps;
-          machine = back k p (activity_of r.local b.forks mach.at_when) (p ∷ k.marks) r;
-          end = outcome.standstill;
-          is = comes_to true (sym tested ∙ h);
-          same = tt;
-          memory = tt;
-          system = sym (ap (λ x. x.system) e);
-          turns = sym (ap (λ x. x.turns) e) ∙ sym g.spent;
-        }
-        by_marks false h = record {
-          steps = steps;
-          machine = back k p (activity_of r.local b.forks mach.at_when) (p ∷ k.marks) r;
-          joined = p ∷ [];
-          is = comes_to false (sym tested ∙ h);
-          holds = record {
-            naming = n;
-            stands =
-                stood (marked_with mid.table place) new.table place a marked.table marked.taken put n (record m { marks = p ∷ marks_after (fetch words) m p others (n.forks place) cleared }) k b (p ∷ k.marks) (marks_after (fetch words) m p others (n.forks place) cleared) r mid.store marked.stands
-                (follows_marks m k p (n.forks place) (marks_after (fetch words) m p others (n.forks place) cleared) (p ∷ marks_after (fetch words) m p others (n.forks place) cleared) b f) (ap (λ ms. p ∷ ms) f.marks_are) (sym (ap (λ x. x.local) e));
-            memory = sym (ap (λ x. x.local.memory) e) ∙ sym same;
-            is_taken = sym (ap (option_map n.name) g.none_taken);
-            is_ready = sym (ap (map n.name) ready ∙ map-append n.name (ready_places mid.table) (place ∷ []) ∙ ap (λ xs. map n.name xs ++ p ∷ []) same_ready);
-          };
-          system = sym (ap (λ x. x.system) e);
-          turns = sym (ap (λ x. x.turns) e) ∙ sym g.spent;
-        }
+        by_marks true h = (
+          record {
+            steps = steps;
+            machine = back k p (activity_of r.local b.forks mach.at_when) (p ∷ k.marks) r;
+            end = outcome.standstill;
+            is = comes_to true (sym tested ∙ h);
+            same = tt;
+            memory = tt;
+            system = sym (ap (λ x. x.system) e);
+            turns = sym (ap (λ x. x.turns) e) ∙ sym g.spent;
+          },
+          left_standing k b (p ∷ k.marks) r e told,
+        )
+        by_marks false h = (
+          record {
+            steps = steps;
+            machine = back k p (activity_of r.local b.forks mach.at_when) (p ∷ k.marks) r;
+            joined = p ∷ [];
+            is = comes_to false (sym tested ∙ h);
+            holds = record {
+              naming = n;
+              stands =
+                  stood (marked_with mid.table place) new.table place a marked.table marked.taken put n (record m { marks = p ∷ marks_after (fetch words) m p others (n.forks place) cleared }) k b (p ∷ k.marks) (marks_after (fetch words) m p others (n.forks place) cleared) r mid.store marked.stands
+                  (follows_marks m k p (n.forks place) (marks_after (fetch words) m p others (n.forks place) cleared) (p ∷ marks_after (fetch words) m p others (n.forks place) cleared) b f) (ap (λ ms. p ∷ ms) f.marks_are) (sym (ap (λ x. x.local) e));
+              memory = sym (ap (λ x. x.local.memory) e) ∙ sym same;
+              is_taken = sym (ap (option_map n.name) g.none_taken);
+              is_ready = sym (ap (map n.name) ready ∙ map-append n.name (ready_places mid.table) (place ∷ []) ∙ ap (λ xs. map n.name xs ++ p ∷ []) same_ready);
+            };
+            system = sym (ap (λ x. x.system) e);
+            turns = sym (ap (λ x. x.turns) e) ∙ sym g.spent;
+          },
+          left_standing k b (p ∷ k.marks) r e told,
+        )
 
     -- ---- the end of a branch
 
@@ -388,15 +411,15 @@ module _ (words : List ℕ) (old mid new : KernelState) (place left left1 used :
     at_turns : (kd : TurnKind) (steps : ℕ) (end : Paused) (result : StintEnd) (l : Local) → Comes (fetch words) m p others (n.forks place) steps m end → Pauses words end (pause.At kd) now cleared →
         Allows (Some (pause.At kd)) words live (place == 0) l → HandlesTurn kd words place used a mid new result → GoesTo words result left new t m p others
     at_turns kind.Arrive steps (pausing arriving r c) result l w h allowed d =
-        subst (λ x. GoesTo words x left new t m p others) (sym d.2) (arrived w.machine w.activity (marks_after (fetch words) m p others (n.forks place) c) r steps w.rest w.follows h.1 w.is d.0 d.1)
+        subst (λ x. GoesTo words x left new t m p others) (sym d.2) (arrived w.machine w.activity (marks_after (fetch words) m p others (n.forks place) c) r steps w.rest w.follows h.1 w.is d.0 d.1 d.3)
     at_turns (kind.Again false) steps (pausing (again marks) r c) result l w h allowed d =
         subst (λ x. GoesTo words x left new t m p others) (sym d.2)
         (arrived w.machine w.activity (marks_after (fetch words) m p others (n.forks place) c) r steps w.rest w.follows h.1
-        (subst (λ x. stint (fetch words) steps m p others ≡ stint_after (λ m. stint (fetch words) w.rest m p others) (at_turn w.machine p others w.activity (again x) r)) (sym h.0) w.is) d.0 d.1)
+        (subst (λ x. stint (fetch words) steps m p others ≡ stint_after (λ m. stint (fetch words) w.rest m p others) (at_turn w.machine p others w.activity (again x) r)) (sym h.0) w.is) d.0 d.1 d.3)
     at_turns (kind.Again true) steps (pausing (again marks) r c) result l w h allowed d =
         marked_attempt w.machine w.activity r steps w.rest result
         (subst (λ x. Follows m w.machine p (n.forks place) (marks_after (fetch words) m p others (n.forks place) x) w.activity) (sym h.2) w.follows) h.1
-        (subst (λ x. stint (fetch words) steps m p others ≡ stint_after (λ m. stint (fetch words) w.rest m p others) (at_turn w.machine p others w.activity (again x) r)) (sym h.0) w.is) d.0 d.1 d.2
+        (subst (λ x. stint (fetch words) steps m p others ≡ stint_after (λ m. stint (fetch words) w.rest m p others) (at_turn w.machine p others w.activity (again x) r)) (sym h.0) w.is) d.0 d.1 d.2 d.3
     at_turns (kind.Fork at) steps (pausing (forking branches) r c) result l w h allowed d =
         subst (λ x. GoesTo words x left new t m p others) (sym d.1)
         (forks w.machine w.activity (marks_after (fetch words) m p others (n.forks place) c) w.follows (branches_at words at) steps w.rest
@@ -490,14 +513,75 @@ module _ (words : List ℕ) (old mid new : KernelState) (place left left1 used :
     overs e steps (stopping (outcome.bad address) r c) w h kept_words = absurd h
     overs e steps going w h kept_words = absurd h
 
+    no_standstill : (end : Paused) → Pauses words end (pause.Over ending.Standstill) now cleared → GoesTo words (stint_end.Over used ending.Standstill) left new t m p others
+    no_standstill end h = absurd (never end h)
+      where
+        never : (end : Paused) → Pauses words end (pause.Over ending.Standstill) now cleared → ⊥
+        never (pausing turn r c) h = by_turn turn h
+          where
+            by_turn : (turn : Turn) → Pauses words (pausing turn r c) (pause.Over ending.Standstill) now cleared → ⊥
+            by_turn finishing h = h
+            by_turn entering h = h
+            by_turn leaving h = h
+            by_turn looping h = h
+            by_turn arriving h = h
+            by_turn (again marks) h = h
+            by_turn (forking branches) h = h
+            by_turn exiting h = h
+        never (stopping outcome.done r c) h = h
+        never (stopping (outcome.halted line) r c) h = h
+        never (stopping (outcome.failed why line) r c) h = h
+        never (stopping outcome.turns r c) h = h
+        never (stopping outcome.standstill r c) h = h
+        never (stopping (outcome.bad address) r c) h = h
+        never going h = h
+
+    -- ---- a fault
+
+    first : (place == 0) ≡ is_first p
+    first = first_is old.table n m place g.stands (taken_live old.table place g.taken)
+
+    broken_at : (h : Breaks words live (place == 0) start false now) → Walked (fetch words) m p others (n.forks place) h.steps m h.at h.emptied → BreaksOff words (left - used) t m p others
+    broken_at h w = record {
+      steps = h.steps;
+      machine = w.machine;
+      is = w.is;
+      fails = record {
+        activity = w.activity;
+        found = w.follows.found;
+        number = h.torn.number;
+        arguments = h.torn.arguments;
+        address = h.torn.address;
+        line = h.torn.line;
+        next = h.torn.next;
+        effect =
+            ap (λ l. effect_of words l (is_first p) (running_of w.machine w.activity).local) many
+            ∙ ap (λ b. effect_of words live b (running_of w.machine w.activity).local) (sym first)
+            ∙ ap (λ r. effect_of words live (place == 0) r.local) w.runs ∙ h.torn.effect;
+        tears = subst (λ r. Tears (call h.torn.number h.torn.arguments r.system) r.system t) (sym w.runs) h.torn.tears;
+      };
+      turns = ap (λ r. r.turns) w.runs ∙ sym h.torn.turns ∙ sym g.spent;
+    }
+      where
+        many : length w.machine.activities ≡ live
+        many = sym (length-names w.machine.activities) ∙ ap length w.follows.named ∙ length-names m.activities ∙ sym is_live_count
+
+    broken : Breaks words live (place == 0) start false now → BreaksOff words (left - used) t m p others
+    broken h =
+        broken_at h
+        (walks (fetch words) m p others (n.forks place) h.steps m (entry_of (process_at old.table place) (n.forks place)) start false h.at h.emptied
+        (follows_itself m p (entry_of (process_at old.table place) (n.forks place)) (g.stands.found place (taken_live old.table place g.taken)))
+        (runs m old.store s left (process_at old.table place) (n.forks place) g.memory g.system g.turns)
+        (ap (λ l. walked (fetch words) l (is_first p) h.steps start false) (sym is_live_count) ∙ ap (λ b. walked (fetch words) live b h.steps start false) (sym first) ∙ h.reached))
+
     pub goes : (pause : Pause) (result : StintEnd) (l : Local) → Stretches words live (place == 0) start false pause now cleared → Allows (Some pause) words live (place == 0) l →
         Handles pause words place used a mid new result → GoesTo words result left new t m p others
-    goes (pause.Over ending.Fault) result l h allowed d = subst (λ x. GoesTo words x left new t m p others) (sym d.2) tt
+    goes (pause.Over ending.Fault) result l h allowed d = subst (λ x. GoesTo words x left new t m p others) (sym d.2) (broken h)
     goes (pause.Over ending.Done) result l h allowed d = subst (λ x. GoesTo words x left new t m p others) (sym d.2) (overs ending.Done h.steps h.end (came h.steps h.end h.is) h.pauses d.1)
     goes (pause.Over (ending.Halted at)) result l h allowed d = subst (λ x. GoesTo words x left new t m p others) (sym d.2) (overs (ending.Halted at) h.steps h.end (came h.steps h.end h.is) h.pauses d.1)
     goes (pause.Over (ending.Failed cause at)) result l h allowed d = subst (λ x. GoesTo words x left new t m p others) (sym d.2) (overs (ending.Failed cause at) h.steps h.end (came h.steps h.end h.is) h.pauses d.1)
     goes (pause.Over ending.Turns) result l h allowed d = subst (λ x. GoesTo words x left new t m p others) (sym d.2) (overs ending.Turns h.steps h.end (came h.steps h.end h.is) h.pauses d.1)
-    goes (pause.Over ending.Standstill) result l h allowed d = subst (λ x. GoesTo words x left new t m p others) (sym d.2) (overs ending.Standstill h.steps h.end (came h.steps h.end h.is) h.pauses d.1)
+    goes (pause.Over ending.Standstill) result l h allowed d = subst (λ x. GoesTo words x left new t m p others) (sym d.2) (no_standstill h.end h.pauses)
     goes (pause.Over (ending.Bad at)) result l h allowed d = subst (λ x. GoesTo words x left new t m p others) (sym d.2) (overs (ending.Bad at) h.steps h.end (came h.steps h.end h.is) h.pauses d.1)
     goes (pause.At kd) result l h allowed d = at_turns kd h.steps h.end result l (came h.steps h.end h.is) h.pauses allowed d
 

@@ -17,6 +17,7 @@ pub mod Handled
 pub mod Going
 pub mod Choosing
 pub mod Starting
+pub mod Moments
 pub mod Rounds
 pub mod Stinting
 pub mod Machines

@@ -23,7 +23,9 @@ use Rattle.edi_kernel.specs.Stands.{Stands}
 use Rattle.edi_kernel.specs.Stints as stints
 use Rattle.edi_kernel.specs.Stints.{Stint, stint, stint_after}
 use Rattle.edi_kernel.specs.Kernel.{Holds, KeepsWords, Switches, EndsRun, GoesTo, ended_by, used_in}
-use Rattle.edi_kernel.specs.Runs.{Proceeds, Started, GoesRound, RunEnds, Rounds, RunsAs, RunsTo}
+use Rattle.edi_kernel.specs.Runs.{Proceeds, Started, GoesRound, RunEnds, RunFails, Rounds, RunsAs, FailsIn, RunsTo}
+use Rattle.edi_kernel.specs.Moments.{Moment, moment, moment_on, moment_after, moment_of}
+use Rattle.edi_kernel.proofs.Moments.{moment_switched, moment_followed}
 use Rattle.edi_kernel.proofs.Starting.{Enters, NeverEnters, enters, never_enters}
 
 -- ---- a stint is the run up to its switch
@@ -101,6 +103,7 @@ module _ (words : List ℕ) (bound : ℕ) (k new : KernelState) (now : State) (o
     name = c.name;
     rest = c.others;
     comes = λ n r e. run_switched (fetch words) old.source h.steps m p others old.drawn h.machine h.joined h.is n r (ap (λ t. go_on t (run (fetch words) old.source n h.machine) h.machine old.drawn) c.is ∙ e);
+    passes = λ n x e. moment_switched (fetch words) old.source h.steps m p others old.drawn h.machine h.joined h.is n x (ap (λ t. moment_on t (moment (fetch words) old.source n h.machine)) c.is ∙ e);
     holds = c.holds;
     system = h.system;
     turns = h.turns ∙ turns;
@@ -130,9 +133,16 @@ module _ (words : List ℕ) (bound : ℕ) (k new : KernelState) (now : State) (o
   round_over (ending.Halted line) same h = ends_run (ending.Halted line) same h
   round_over (ending.Failed cause line) same h = ends_run (ending.Failed cause line) same h
   round_over ending.Turns same h = ends_run ending.Turns same h
-  round_over ending.Standstill same h = ends_run ending.Standstill same h
+  round_over ending.Standstill same h = ends_run ending.Standstill same h.0
   round_over (ending.Bad at) same h = ends_run (ending.Bad at) same h
-  round_over ending.Fault same h = tt
+  round_over ending.Fault same h = record {
+    steps = h.steps;
+    at = record { machine = h.machine; name = p; others = others; drawn = old.drawn };
+    is = moment_followed (fetch words) old.source h.steps m p others old.drawn h.machine h.is;
+    fails = h.fails;
+    drawn = sym (ap (λ d. d.drawn) same);
+    turns = h.turns ∙ turns;
+  }
 
   pub round_on : (result : Option Ending) → Switches words (left - used) k now m p others → ((machine : Machine) (ready : List Name) → Holds k machine None ready → Proceeds result new machine old drawn ready) → Rounds words bound result new now old drawn m p others
   round_on result h c = goes_on result h (c h.machine (others ++ h.joined) h.holds)
@@ -154,7 +164,7 @@ module _ (words : List ℕ) (bound : ℕ) (k : KernelState) (old : Drawn) (left 
       ((machine : Machine) (ready : List Name) → Holds k machine None ready → Proceeds result new machine old drawn ready) →
       GoesTo words end left k now m p others → Rounds words bound result new now old drawn m p others
   round_goes (stint_end.Over used e) result new drawn now m p others h turns store c g = absurd (cc)
-  round_goes (stint_end.Arrived used) result new drawn now m p others h turns store c g = round_on words bound k new now old drawn m p others left used turns store result g c
+  round_goes (stint_end.Arrived used) result new drawn now m p others h turns store c g = round_on words bound k new now old drawn m p others left used turns store result g.0 c
   round_goes (stint_end.Forked used) result new drawn now m p others h turns store c g = round_on words bound k new now old drawn m p others left used turns store result g c
   round_goes (stint_end.Exited used) result new drawn now m p others h turns store c g = round_on words bound k new now old drawn m p others left used turns store result g c
 
@@ -177,6 +187,8 @@ pub record Underway (code : CodeParts) (system : State) (bound : ℕ) (old : Dra
   pub others : List Name
   pub comes : (n : ℕ) (r : Run) → run (fetch code.words) old.source n machine name others drawn.drawn ≡ r →
       (j : ℕ) × (after_step old.source (run (fetch code.words) old.source j) [] [] old.drawn (entered (fetch code.words code.entry) code.entry code.calls bound system) ≡ r)
+  pub passes : (n : ℕ) (x : Option Moment) → moment (fetch code.words) old.source n machine name others drawn.drawn ≡ x →
+      (j : ℕ) × (moment_of code system bound old.source old.drawn j ≡ x)
   pub holds : Holds k machine (Some name) others
   pub system_is : machine.system ≡ state
   pub turns : machine.turns ≡ bound - k.used
@@ -200,6 +212,9 @@ module _ (code : CodeParts) (bound : ℕ) (old : Drawn) where
         comes = λ n r e.
             let z : (i : ℕ) × (run (fetch code.words) now.source i u.machine u.name u.others now.drawn ≡ r) = g.comes n r (ap (λ c. run (fetch code.words) c n g.machine g.name g.rest next.drawn) same ∙ e) in
             u.comes z.0 r (sym (ap (λ c. run (fetch code.words) c z.0 u.machine u.name u.others now.drawn) same) ∙ z.1);
+        passes = λ n x e.
+            let z : (i : ℕ) × (moment (fetch code.words) now.source i u.machine u.name u.others now.drawn ≡ x) = g.passes n x (ap (λ c. moment (fetch code.words) c n g.machine g.name g.rest next.drawn) same ∙ e) in
+            u.passes z.0 x (sym (ap (λ c. moment (fetch code.words) c z.0 u.machine u.name u.others now.drawn) same) ∙ z.1);
         holds = g.holds;
         system_is = g.system;
         turns = g.turns;
@@ -216,6 +231,13 @@ module _ (code : CodeParts) (bound : ℕ) (old : Drawn) where
     turns = omega (arith, h.turns, le);
   }
 
+  fails_in : (s x y : State) (k new : KernelState) (now next : Drawn) → now.source ≡ old.source → new.used ≤ bound → (u : Underway code s bound old k x now) → RunFails code.words bound new y now next u.machine u.name u.others →
+      FailsIn code s bound old new.used y next
+  fails_in s x y k new now next same le u h =
+      let z : (j : ℕ) × (moment_of code s bound old.source old.drawn j ≡ Some h.at) =
+      u.passes h.steps (Some h.at) (sym (ap (λ c. moment (fetch code.words) c h.steps u.machine u.name u.others now.drawn) same) ∙ h.is) in
+      record { steps = z.0; at = h.at; is = z.1; fails = h.fails; drawn = h.drawn; turns = omega (arith, h.turns, le) }
+
   underway_ends : (s x y : State) (k new : KernelState) (now next : Drawn) (e : Ending) → now.source ≡ old.source → new.used ≤ bound → Underway code s bound old k x now → AnyRound (Some e) k new now next x y → RunsTo code s bound old e new.store new.used y next
   underway_ends s x y k new now next ending.Done same le u h = runs_as s x y k new now next ending.Done same le u (h u.machine u.name u.others u.holds u.system_is u.turns)
   underway_ends s x y k new now next (ending.Halted line) same le u h = runs_as s x y k new now next (ending.Halted line) same le u (h u.machine u.name u.others u.holds u.system_is u.turns)
@@ -223,7 +245,7 @@ module _ (code : CodeParts) (bound : ℕ) (old : Drawn) where
   underway_ends s x y k new now next ending.Turns same le u h = runs_as s x y k new now next ending.Turns same le u (h u.machine u.name u.others u.holds u.system_is u.turns)
   underway_ends s x y k new now next ending.Standstill same le u h = runs_as s x y k new now next ending.Standstill same le u (h u.machine u.name u.others u.holds u.system_is u.turns)
   underway_ends s x y k new now next (ending.Bad at) same le u h = runs_as s x y k new now next (ending.Bad at) same le u (h u.machine u.name u.others u.holds u.system_is u.turns)
-  underway_ends s x y k new now next ending.Fault same le u h = tt
+  underway_ends s x y k new now next ending.Fault same le u h = fails_in s x y k new now next same le u (h u.machine u.name u.others u.holds u.system_is u.turns)
 
   pub told_more : (first before after : Option State) (k new : KernelState) (now next : Drawn) → now.source ≡ old.source → WhereTold first before (λ s t. Underway code s bound old k t now) →
       WhereTold before after (AnyRound None k new now next) → WhereTold first after (λ s t. Underway code s bound old new t next)
@@ -250,6 +272,7 @@ module _ (code : CodeParts) (bound : ℕ) (old : Drawn) where
             name = [];
             others = [];
             comes = λ n r h. (n, ap (after_step old.source (run (fetch code.words) old.source n) [] [] old.drawn) (ap (λ i. entered (fetch code.words code.entry) code.entry code.calls i s) (sym b) ∙ x.is) ∙ h);
+            passes = λ n y h. (n, ap (moment_after old.source (moment (fetch code.words) old.source n) [] [] old.drawn) (ap (λ i. entered (fetch code.words code.entry) code.entry code.calls i s) (sym b) ∙ x.is) ∙ h);
             holds = holds_same k new x.machine (Some []) [] e f g x.holds;
             system_is = x.system_is;
             turns = x.turns ∙ ap (λ i. bound - i) (sym one);

@@ -13,13 +13,13 @@ use Rattle.edi_kernel.specs.declared.ends.Ending.TheVariants as ending
 use Rattle.edi_kernel.specs.declared.ends.StintEnd.{StintEnd}
 use Rattle.edi_kernel.specs.declared.ends.StintEnd.TheVariants as stint_end
 use Rattle.edi_kernel.specs.declared.state.KernelState.{KernelState}
-use Rattle.edi_kernel.specs.Kernel.{Holds, KeepsWords, Switches, EndsRun, GoesTo, later_by}
+use Rattle.edi_kernel.specs.Kernel.{Holds, KeepsWords, Switches, EndsRun, TellsStanding, GoesTo, later_by}
 use Rattle.edi_kernel.specs.Runs.{IsAtBy, IsAt}
 use Rattle.edi_kernel.proofs.Starting.{Enters, enters}
 use Rattle.edi_kernel.proofs.Rounds.{AnyStint, holds_same}
 
 -- so many turns before the stint, and what is kept beside the processes and the memory is free
-module _ (words : List ℕ) (k new : KernelState) (left n : ℕ) (store : new.store ≡ k.store) (table : new.table ≡ k.table) (taken : new.taken ≡ k.taken) where
+module _ (words : List ℕ) (k new : KernelState) (left n : ℕ) (store : new.store ≡ k.store) (table : new.table ≡ k.table) (taken : new.taken ≡ k.taken) (arrived : new.arrived ≡ k.arrived) where
   less : (used : ℕ) → left - n - used ≡ left - (used + n)
   less used = omega arith
 
@@ -46,17 +46,21 @@ module _ (words : List ℕ) (k new : KernelState) (left n : ℕ) (store : new.st
     turns = h.turns ∙ less used;
   }
 
+  tells : (m : Machine) (p : Name) → TellsStanding k m p → TellsStanding new m p
+  tells m p h = record { activity = h.activity; forks = h.forks; told = arrived ∙ h.told; found = h.found }
+
   pub goes_later : (end : StintEnd) (t : State) (m : Machine) (p : Name) (others : List Name) → GoesTo words end (left - n) k t m p others → GoesTo words (later_by n end) left new t m p others
-  goes_later (stint_end.Arrived used) t m p others h = switches used t m p others h
+  unfolding switches ends
+  goes_later (stint_end.Arrived used) t m p others h = (switches used t m p others h.0, tells h.0.machine p h.1)
   goes_later (stint_end.Forked used) t m p others h = switches used t m p others h
   goes_later (stint_end.Exited used) t m p others h = switches used t m p others h
   goes_later (stint_end.Over used ending.Done) t m p others h = ends used ending.Done t m p others h
   goes_later (stint_end.Over used (ending.Halted line)) t m p others h = ends used (ending.Halted line) t m p others h
   goes_later (stint_end.Over used (ending.Failed cause line)) t m p others h = ends used (ending.Failed cause line) t m p others h
   goes_later (stint_end.Over used ending.Turns) t m p others h = ends used ending.Turns t m p others h
-  goes_later (stint_end.Over used ending.Standstill) t m p others h = ends used ending.Standstill t m p others h
+  goes_later (stint_end.Over used ending.Standstill) t m p others h = (ends used ending.Standstill t m p others h.0, tells h.0.machine p h.1)
   goes_later (stint_end.Over used (ending.Bad at)) t m p others h = ends used (ending.Bad at) t m p others h
-  goes_later (stint_end.Over used ending.Fault) t m p others h = tt
+  goes_later (stint_end.Over used ending.Fault) t m p others h = record { steps = h.steps; machine = h.machine; is = h.is; fails = h.fails; turns = h.turns ∙ less used }
 
 -- the machine behind the entry's turn
 module _ (code : CodeParts) (k mid : KernelState) (left n : ℕ) (store : mid.store ≡ k.store) (table : mid.table ≡ k.table) (taken : mid.taken ≡ k.taken) where
@@ -83,7 +87,7 @@ module _ (code : CodeParts) (k mid : KernelState) (left n : ℕ) (store : mid.st
       went_same e = cc
 
 module _ (code : CodeParts) (k mid after new : KernelState) (left n : ℕ) (end : StintEnd) (store : mid.store ≡ k.store) (table : mid.table ≡ k.table) (taken : mid.taken ≡ k.taken)
-    (store' : new.store ≡ after.store) (table' : new.table ≡ after.table) (taken' : new.taken ≡ after.taken) (before later : Option State) (result : StintEnd) (is : result ≡ later_by n end) where
+    (store' : new.store ≡ after.store) (table' : new.table ≡ after.table) (taken' : new.taken ≡ after.taken) (arrived' : new.arrived ≡ after.arrived) (before later : Option State) (result : StintEnd) (is : result ≡ later_by n end) where
   abbrev AnyFrom : State → State → Type 0
   AnyFrom s t = (m : Machine) (p : Name) (others : List Name) → IsAt code k s left m p others → GoesTo code.words result left new t m p others
 
@@ -92,4 +96,4 @@ module _ (code : CodeParts) (k mid after new : KernelState) (left n : ℕ) (end 
     where
       by_end : (s t : State) (m : Machine) (p : Name) (others : List Name) → AnyStint code.words end (left - n) mid after s t → Ready code k mid left n store table taken s m p others → GoesTo code.words result left new t m p others
       by_end s t m p others f r =
-          subst (λ x. GoesTo code.words x left new t m p others) (sym is) (goes_later code.words after new left n store' table' taken' end t m p others (f m p others r.holds r.system r.turns))
+          subst (λ x. GoesTo code.words x left new t m p others) (sym is) (goes_later code.words after new left n store' table' taken' arrived' end t m p others (f m p others r.holds r.system r.turns))

@@ -4,7 +4,8 @@ use Rattle.edi_told.specs.Told.{WhereTold}
 use Rattle.edi_told.proofs.Told.{WhereTold-then}
 use Rattle.edi_calls.specs.State.{State}
 use Rattle.edi_target.specs.Fetch.{fetch}
-use Rattle.edi_target.specs.Mach.{Running}
+use Rattle.edi_target.specs.Effect.{Turn, entering, leaving, looping, arriving, again, forking, exiting, finishing}
+use Rattle.edi_target.specs.Mach.{Running, Answer, on, behind, turned, over, local_step}
 use Rattle.edi_calls.specs.declared.kinds.Cause.TheVariants as cause
 use Rattle.edi_machine.specs.declared.ends.TurnKind.{TurnKind}
 use Rattle.edi_machine.specs.declared.ends.TurnKind.TheVariants as kind
@@ -13,30 +14,57 @@ use Rattle.edi_machine.specs.declared.ends.StepEnd.TheVariants as end
 use Rattle.edi_kernel.specs.declared.ends.Ending.TheVariants as ending
 use Rattle.edi_kernel.specs.declared.stretch.Pause.{Pause}
 use Rattle.edi_kernel.specs.declared.stretch.Pause.TheVariants as pause
-use Rattle.edi_kernel.specs.Stretch.{stretch, OneStep, Reaches, Stretches, Falls, Blamed, Spends, pause_by, pause_with, pause_of, left_after}
+use Rattle.edi_kernel.specs.Stretch.{Paused, pausing, after_turn, after_answer, walk_turn, walk_on, walked, stretch, OneStep, Reaches, Stretches, Falls, Blamed, Spends, pause_by, pause_with, pause_of, left_after}
 use Rattle.edi_calls.specs.declared.ends.Outside.{Outside}
+
+-- an activity that goes on is after the step where the stretch goes on from
+walks_on : (c e : Bool) (answer : Answer) (now : Running) → ((more : Running → Bool → Paused) → after_answer more c answer ≡ more now e) →
+    (more : Running → Bool → Option (Running × Bool)) → walk_on more c answer ≡ more now e
+walks_on c e answer now h more = by_answer answer (h (pausing entering))
+  where
+    same : {r s : Running} {b d : Bool} → pausing entering r b ≡ pausing entering s d → more r b ≡ more s d
+    same f = cc
+
+    by_turn : (turn : Turn) (r : Running) → after_turn (pausing entering) c turn r ≡ pausing entering now e → walk_turn more turn r ≡ more now e
+    by_turn entering r f = same f
+    by_turn leaving r f = same f
+    by_turn looping r f = same f
+    by_turn arriving r f = absurd (cc)
+    by_turn (again marks) r f = absurd (cc)
+    by_turn (forking branches) r f = absurd (cc)
+    by_turn exiting r f = absurd (cc)
+    by_turn finishing r f = absurd (cc)
+
+    by_answer : (answer : Answer) → after_answer (pausing entering) c answer ≡ pausing entering now e → walk_on more c answer ≡ more now e
+    by_answer (on r) f = same f
+    by_answer (behind r) f = same f
+    by_answer (turned turn r) f = by_turn turn r f
+    by_answer (over ending r) f = absurd (cc)
 
 module _ (words : List ℕ) (live : ℕ) (is_first : Bool) where
   pub reaches_itself : (r : Running) (c : Bool) → Reaches words live is_first r c r c
-  reaches_itself r c n x e = (n, e)
+  reaches_itself r c = record { ends = λ n x e. (n, e); gets = λ n x e. (n, e) }
 
   pub told_itself : (s : Option State) (r : State → Running) (c : Bool) → WhereTold s s (λ s t. Reaches words live is_first (r s) c (r t) c)
   told_itself None r c = tt
   told_itself (Some s) r c = reaches_itself (r s) c
 
   one_more : (was r now : Running) (c d e : Bool) → Reaches words live is_first was c r d → OneStep words live is_first r d None now e → Reaches words live is_first was c now e
-  one_more was r now c d e h k n x f = h (suc n) x (k (stretch (fetch words) live is_first n) ∙ f)
+  one_more was r now c d e h k = record {
+    ends = λ n x f. h.ends (suc n) x (k (stretch (fetch words) live is_first n) ∙ f);
+    gets = λ n x f. h.gets (suc n) x (walks_on d e (local_step (fetch words) live is_first r) now k (walked (fetch words) live is_first n) ∙ f);
+  }
 
   -- the last instruction ends the stretch
   last : (pause : Pause) (was r now : Running) (c d e : Bool) → Reaches words live is_first was c r d → OneStep words live is_first r d (Some pause) now e → Stretches words live is_first was c pause now e
-  last (pause.Over ending.Fault) was r now c d e h k = record { at = r; emptied = d; reached = h; torn = k }
-  last (pause.Over ending.Done) was r now c d e h k = let m = h 1 k.0 (k.1 (stretch (fetch words) live is_first 0)) in record { steps = m.0; end = k.0; is = m.1; pauses = k.2 }
-  last (pause.Over (ending.Halted line)) was r now c d e h k = let m = h 1 k.0 (k.1 (stretch (fetch words) live is_first 0)) in record { steps = m.0; end = k.0; is = m.1; pauses = k.2 }
-  last (pause.Over (ending.Failed cause line)) was r now c d e h k = let m = h 1 k.0 (k.1 (stretch (fetch words) live is_first 0)) in record { steps = m.0; end = k.0; is = m.1; pauses = k.2 }
-  last (pause.Over ending.Turns) was r now c d e h k = let m = h 1 k.0 (k.1 (stretch (fetch words) live is_first 0)) in record { steps = m.0; end = k.0; is = m.1; pauses = k.2 }
-  last (pause.Over ending.Standstill) was r now c d e h k = let m = h 1 k.0 (k.1 (stretch (fetch words) live is_first 0)) in record { steps = m.0; end = k.0; is = m.1; pauses = k.2 }
-  last (pause.Over (ending.Bad at)) was r now c d e h k = let m = h 1 k.0 (k.1 (stretch (fetch words) live is_first 0)) in record { steps = m.0; end = k.0; is = m.1; pauses = k.2 }
-  last (pause.At kind) was r now c d e h k = let m = h 1 k.0 (k.1 (stretch (fetch words) live is_first 0)) in record { steps = m.0; end = k.0; is = m.1; pauses = k.2 }
+  last (pause.Over ending.Fault) was r now c d e h k = let m = h.gets 0 (Some (r, d)) refl in record { steps = m.0; at = r; emptied = d; reached = m.1; torn = k }
+  last (pause.Over ending.Done) was r now c d e h k = let m = h.ends 1 k.0 (k.1 (stretch (fetch words) live is_first 0)) in record { steps = m.0; end = k.0; is = m.1; pauses = k.2 }
+  last (pause.Over (ending.Halted line)) was r now c d e h k = let m = h.ends 1 k.0 (k.1 (stretch (fetch words) live is_first 0)) in record { steps = m.0; end = k.0; is = m.1; pauses = k.2 }
+  last (pause.Over (ending.Failed cause line)) was r now c d e h k = let m = h.ends 1 k.0 (k.1 (stretch (fetch words) live is_first 0)) in record { steps = m.0; end = k.0; is = m.1; pauses = k.2 }
+  last (pause.Over ending.Turns) was r now c d e h k = let m = h.ends 1 k.0 (k.1 (stretch (fetch words) live is_first 0)) in record { steps = m.0; end = k.0; is = m.1; pauses = k.2 }
+  last (pause.Over ending.Standstill) was r now c d e h k = let m = h.ends 1 k.0 (k.1 (stretch (fetch words) live is_first 0)) in record { steps = m.0; end = k.0; is = m.1; pauses = k.2 }
+  last (pause.Over (ending.Bad at)) was r now c d e h k = let m = h.ends 1 k.0 (k.1 (stretch (fetch words) live is_first 0)) in record { steps = m.0; end = k.0; is = m.1; pauses = k.2 }
+  last (pause.At kind) was r now c d e h k = let m = h.ends 1 k.0 (k.1 (stretch (fetch words) live is_first 0)) in record { steps = m.0; end = k.0; is = m.1; pauses = k.2 }
 
   module _ (was r now : State → Running) (c d e : Bool) (old between new : Option State) where
     pub told_more : WhereTold old between (λ s t. Reaches words live is_first (was s) c (r t) d) → WhereTold between new (λ s t. OneStep words live is_first (r s) d None (now t) e) →

@@ -8,9 +8,9 @@ use Rattle.edi_calls.proofs.Tables.{find-with_at-same, find-with_at-other}
 use Rattle.edi_target.specs.Op.{Instruction}
 use Rattle.edi_target.specs.Effect.{Turn, entering, leaving, looping, arriving, again, forking, exiting, finishing}
 use Rattle.edi_target.specs.Mach.{Running, Answer, on, behind, turned, over, local_step, Activity, ready, Machine, running_of, activity_of, back, at_turn, kernel, is_first, step_of, step}
-use Rattle.edi_kernel.specs.Stretch.{Paused, going, pausing, stopping, after_answer, after_turn, stretch}
+use Rattle.edi_kernel.specs.Stretch.{Paused, going, pausing, stopping, after_answer, after_turn, stretch, walk_turn, walk_on, walked}
 use Rattle.edi_kernel.specs.Stints as stints
-use Rattle.edi_kernel.specs.Stints.{Stint, stint, stint_after}
+use Rattle.edi_kernel.specs.Stints.{Stint, stint, stint_after, goes_with, followed}
 use Rattle.edi_kernel.proofs.Changes.{length-names}
 
 -- a name that a table has keeps its place
@@ -107,3 +107,60 @@ module _ (fetch : ℕ → Option (Instruction × ℕ)) (m : Machine) (p : Name) 
       by_answer (behind s) g more = one_more n k (back k p (activity_of s.local a.forks ready) [] s) _ g (more (back k p (activity_of s.local a.forks ready) [] s) (activity_of s.local a.forks ready) s true (written m k p forks _ [] a (activity_of s.local a.forks ready) s f f.forked) refl)
       by_answer (turned turn s) g more = by_turn turn s g more
       by_answer (over ending s) g more = record { machine = k; activity = a; follows = f; is = g }
+
+  -- ---- where the process is after n steps in which it goes on
+
+  pub record Walked (n : ℕ) (k : Machine) (r : Running) (cleared : Bool) : Type 0 where
+    pub machine : Machine
+    pub activity : Activity
+    pub follows : Follows m machine p forks (marks_after cleared) activity
+    pub runs : running_of machine activity ≡ r
+    pub is : followed fetch n k p others ≡ Some machine
+
+  walk_more : (n : ℕ) (k l : Machine) (r : Running) (c : Bool) → followed fetch (suc n) k p others ≡ followed fetch n l p others → Walked n l r c → Walked (suc n) k r c
+  walk_more n k l r c e w = record { machine = w.machine; activity = w.activity; follows = w.follows; runs = w.runs; is = e ∙ w.is }
+
+  some_same : (x y : Running × Bool) → Some x ≡ Some y → x ≡ y
+  some_same x y e = cc
+
+  -- what is shown of n steps, from any machine
+  abbrev Walks : ℕ → Type 0
+  Walks n =
+      (l : Machine) (b : Activity) (s : Running) (cleared : Bool) (to : Running) (c : Bool) → Follows m l p forks (marks_after cleared) b → running_of l b ≡ s →
+      walked fetch (length m.activities) (is_first p) n s cleared ≡ Some (to, c) → Walked n l to c
+
+  pub walks : (n : ℕ) (k : Machine) (a : Activity) (r : Running) (cleared : Bool) (to : Running) (c : Bool) → Follows m k p forks (marks_after cleared) a → running_of k a ≡ r →
+      walked fetch (length m.activities) (is_first p) n r cleared ≡ Some (to, c) → Walked n k to c
+  walks zero k a r cleared to c f e w =
+      let same = some_same (r, cleared) (to, c) w in
+      record { machine = k; activity = a; follows = subst (λ b. Follows m k p forks (marks_after b) a) (ap (λ x. x.1) same) f; runs = e ∙ ap (λ x. x.0) same; is = refl }
+  walks (suc n) k a r cleared to c f e w =
+      by_answer (local_step fetch (length m.activities) (is_first p) r) (ap (goes_with (λ m. followed fetch n m p others)) (step_is k a r f.found e f.named)) w (walks n)
+    where
+      -- it goes on, and the marks are taken away
+      cleared_on : (s : Running) → followed fetch (suc n) k p others ≡ followed fetch n (back k p (activity_of s.local a.forks ready) [] s) p others →
+          walked fetch (length m.activities) (is_first p) n s true ≡ Some (to, c) → Walks n → Walked (suc n) k to c
+      cleared_on s g h more =
+          walk_more n k (back k p (activity_of s.local a.forks ready) [] s) to c g
+          (more (back k p (activity_of s.local a.forks ready) [] s) (activity_of s.local a.forks ready) s true to c (written m k p forks _ [] a (activity_of s.local a.forks ready) s f f.forked) refl h)
+
+      by_turn : (turn : Turn) (s : Running) → followed fetch (suc n) k p others ≡ goes_with (λ m. followed fetch n m p others) (at_turn k p others a turn s) →
+          walk_turn (walked fetch (length m.activities) (is_first p) n) turn s ≡ Some (to, c) → Walks n → Walked (suc n) k to c
+      by_turn entering s g h more = cleared_on s g h more
+      by_turn leaving s g h more = cleared_on s g h more
+      by_turn looping s g h more = cleared_on s g h more
+      by_turn arriving s g h more = absurd (cc)
+      by_turn (again marks) s g h more = absurd (cc)
+      by_turn (forking branches) s g h more = absurd (cc)
+      by_turn exiting s g h more = absurd (cc)
+      by_turn finishing s g h more = absurd (cc)
+
+      by_answer : (answer : Answer) → followed fetch (suc n) k p others ≡ goes_with (λ m. followed fetch n m p others) (kernel k p others a answer) →
+          walk_on (walked fetch (length m.activities) (is_first p) n) cleared answer ≡ Some (to, c) → Walks n → Walked (suc n) k to c
+      by_answer (on s) g h more =
+          walk_more n k (back k p (activity_of s.local a.forks ready) k.marks s) to c g
+          (more (back k p (activity_of s.local a.forks ready) k.marks s) (activity_of s.local a.forks ready) s cleared to c
+          (subst (λ ms. Follows m (back k p (activity_of s.local a.forks ready) k.marks s) p forks ms (activity_of s.local a.forks ready)) f.marks_are (written m k p forks _ k.marks a (activity_of s.local a.forks ready) s f f.forked)) refl h)
+      by_answer (behind s) g h more = cleared_on s g h more
+      by_answer (turned turn s) g h more = by_turn turn s g h more
+      by_answer (over ending s) g h more = absurd (cc)

@@ -1,15 +1,20 @@
 -- What the kernel keeps, and how it stands for a machine.
-use Rattle.std.specs.Prelude.{◌≡◌, ℕ, ◌+◌, ◌-◌, ◌==◌, ◌++◌, Bool, true, false, List, length, map, Option, Some, None, is_some, ⊤}
+use Rattle.std.specs.Prelude.{◌≡◌, ℕ, ◌+◌, ◌-◌, ◌==◌, ◌++◌, Bool, true, false, List, [], length, map, Option, Some, None, is_some, ⊤}
 use Rattle.std.specs.Option.{option_map}
-use Rattle.edi_calls.specs.Names.{Name}
+use Rattle.edi_calls.specs.Names.{Name, find}
 use Rattle.edi_calls.specs.Outcome as outcome
 use Rattle.edi_calls.specs.State.{State}
+use Rattle.edi_calls.specs.Calls.{call}
 use Rattle.edi_target.specs.Fetch.{fetch}
-use Rattle.edi_target.specs.Mach.{Machine}
+use Rattle.edi_target.specs.Effect.{Local, asks}
+use Rattle.edi_target.specs.Mach as mach
+use Rattle.edi_target.specs.Mach.{Machine, activity_of, running_of, is_first}
 use Rattle.edi_machine.specs.declared.activity.Activity.{Activity}
 use Rattle.edi_machine.specs.declared.ends.TurnKind.{TurnKind}
 use Rattle.edi_machine.specs.declared.ends.TurnKind.TheVariants as kind
+use Rattle.edi_machine.specs.Activities.{local_of}
 use Rattle.edi_machine.specs.Starts.{branches_at}
+use Rattle.edi_machine.specs.Steps.{Tears, effect_of}
 use Rattle.edi_kernel.specs.declared.ends.Ending.{Ending}
 use Rattle.edi_kernel.specs.declared.ends.Ending.TheVariants as ending
 use Rattle.edi_kernel.specs.declared.ends.StintEnd.{StintEnd}
@@ -21,7 +26,7 @@ use Rattle.edi_kernel.specs.declared.state.KernelState.{KernelState}
 use Rattle.edi_kernel.specs.Table.{Puts, Removed, at_its_when, waiting_for, process_at, marks_with, marked_with, unmarked, ready_places, with_process}
 use Rattle.edi_kernel.specs.Stands.{IsTable, IsTaken, IsBetween, Naming, Stands}
 use Rattle.edi_kernel.specs.Stints as stints
-use Rattle.edi_kernel.specs.Stints.{stint}
+use Rattle.edi_kernel.specs.Stints.{stint, followed}
 use Rattle.edi_kernel.specs.Forks.{HaveBegun}
 
 -- ---- what every kernel keeps
@@ -83,11 +88,42 @@ pub record EndsRun (words : List ℕ) (left : ℕ) (e : Ending) (k : KernelState
   pub system : machine.system ≡ now
   pub turns : machine.turns ≡ left
 
+-- The next instruction of p in this machine is a system call that was to be answered. An object outside failed in it, and
+-- the system is now as it may be when such a call is torn.
+pub record FailsAt (words : List ℕ) (m : Machine) (p : Name) (now : State) : Type 0 where
+  pub activity : mach.Activity
+  pub found : find m.activities p ≡ Some activity
+  pub number : ℕ
+  pub arguments : List ℕ
+  pub address : Option ℕ
+  pub line : ℕ
+  pub next : Local
+  pub effect : effect_of words (length m.activities) (is_first p) (running_of m activity).local ≡ asks number arguments address line next
+  pub tears : Tears (call number arguments m.system) m.system now
+
+-- the stint comes to a system call in which an object outside failed, with so many turns left
+pub record BreaksOff (words : List ℕ) (left : ℕ) (now : State) (m : Machine) (p : Name) (others : List Name) : Type 0 where
+  pub steps : ℕ
+  pub machine : Machine
+  pub is : followed (fetch words) steps m p others ≡ Some machine
+  pub fails : FailsAt words machine p now
+  pub turns : machine.turns ≡ left
+
+-- the activity that the kernel tells is the one with which p stands at its `when` in this machine
+pub record TellsStanding (k : KernelState) (m : Machine) (p : Name) : Type 0 where
+  pub activity : Activity
+  pub forks : ℕ
+  pub told : k.arrived ≡ Some activity
+  pub found : find m.activities p ≡ Some (activity_of (local_of [] activity) forks mach.at_when)
+
 -- how the stint of p ends, where so many turns were left at its start
 abbrev pub GoesTo : List ℕ → StintEnd → (left : ℕ) → KernelState → State → Machine → Name → List Name → Type 0
-GoesTo words (stint_end.Over used ending.Fault) left k now m p others = ⊤
+GoesTo words (stint_end.Over used ending.Fault) left k now m p others = BreaksOff words (left - used) now m p others
+GoesTo words (stint_end.Over used ending.Standstill) left k now m p others =
+    (h : EndsRun words (left - used) ending.Standstill k now m p others) × TellsStanding k h.machine p
 GoesTo words (stint_end.Over used e) left k now m p others = EndsRun words (left - used) e k now m p others
-GoesTo words (stint_end.Arrived used) left k now m p others = Switches words (left - used) k now m p others
+GoesTo words (stint_end.Arrived used) left k now m p others =
+    (h : Switches words (left - used) k now m p others) × TellsStanding k h.machine p
 GoesTo words (stint_end.Forked used) left k now m p others = Switches words (left - used) k now m p others
 GoesTo words (stint_end.Exited used) left k now m p others = Switches words (left - used) k now m p others
 
@@ -144,12 +180,13 @@ attempt_end false used = stint_end.Arrived used
 abbrev pub HandlesTurn : TurnKind → (words : List ℕ) → (place used : ℕ) → Activity → (old new : KernelState) → StintEnd → Type 0
 HandlesTurn (kind.Again true) words place used a old new result =
     Puts 0 place (at_its_when (process_at old.table place) a) (marked_with old.table place) new.table × (new.store ≡ old.store)
-    × (result ≡ attempt_end (marks_with old.table place == length (ready_places new.table)) used)
+    × (result ≡ attempt_end (marks_with old.table place == length (ready_places new.table)) used) × (new.arrived ≡ Some a)
 HandlesTurn (kind.Fork at) words place used a old new result = IsForked words place a at old new × (result ≡ stint_end.Forked used)
 HandlesTurn kind.Exit words place used a old new result =
     Removed place (unmarked old.table) new.table × (new.store ≡ old.store) × (result ≡ stint_end.Exited used)
 HandlesTurn kind words place used a old new result =
-    Puts 0 place (at_its_when (process_at old.table place) a) (unmarked old.table) new.table × (new.store ≡ old.store) × (result ≡ stint_end.Arrived used)
+    Puts 0 place (at_its_when (process_at old.table place) a) (unmarked old.table) new.table × (new.store ≡ old.store)
+    × (result ≡ stint_end.Arrived used) × (new.arrived ≡ Some a)
 
 -- the process at this place, with this activity, pauses after so many turns
 abbrev pub Handles : Pause → (words : List ℕ) → (place used : ℕ) → Activity → (old new : KernelState) → StintEnd → Type 0

@@ -4,4 +4,5 @@ pub mod Stretch
 pub mod Stints
 pub mod Forks
 pub mod Kernel
+pub mod Moments
 pub mod Runs

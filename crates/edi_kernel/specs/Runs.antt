@@ -16,7 +16,8 @@ use Rattle.edi_kernel.specs.declared.ends.Ending.{Ending}
 use Rattle.edi_kernel.specs.declared.ends.Ending.TheVariants as ending
 use Rattle.edi_kernel.specs.declared.state.KernelState.{KernelState}
 use Rattle.edi_kernel.specs.Table.{FirstAlone}
-use Rattle.edi_kernel.specs.Kernel.{IsKernel, Holds, EndsAs, KeepsWords}
+use Rattle.edi_kernel.specs.Kernel.{IsKernel, Holds, EndsAs, KeepsWords, FailsAt}
+use Rattle.edi_kernel.specs.Moments.{Moment, moment, moment_of}
 
 -- ---- the next process
 
@@ -61,11 +62,17 @@ abbrev pub ComesTo : List ℕ → Choices → (m : Machine) → Name → List Na
 ComesTo words choices m p others drawn m' p' others' drawn' =
     (n : ℕ) (r : Run) → run (fetch words) choices n m' p' others' drawn' ≡ r → (k : ℕ) × (run (fetch words) choices k m p others drawn ≡ r)
 
+-- each moment of the run from there is one of the run from here
+abbrev pub PassesTo : List ℕ → Choices → (m : Machine) → Name → List Name → ℕ → (m' : Machine) → Name → List Name → ℕ → Type 0
+PassesTo words choices m p others drawn m' p' others' drawn' =
+    (n : ℕ) (x : Option Moment) → moment (fetch words) choices n m' p' others' drawn' ≡ x → (k : ℕ) × (moment (fetch words) choices k m p others drawn ≡ x)
+
 pub record GoesRound (words : List ℕ) (bound : ℕ) (k : KernelState) (now : State) (old new : Drawn) (m : Machine) (p : Name) (others : List Name) : Type 0 where
   pub machine : Machine
   pub name : Name
   pub rest : List Name
   pub comes : ComesTo words old.source m p others old.drawn machine name rest new.drawn
+  pub passes : PassesTo words old.source m p others old.drawn machine name rest new.drawn
   pub holds : Holds k machine (Some name) rest
   pub system : machine.system ≡ now
   pub turns : machine.turns ≡ bound - k.used
@@ -80,9 +87,18 @@ pub record RunEnds (words : List ℕ) (bound : ℕ) (e : Ending) (k : KernelStat
   pub system : machine.system ≡ now
   pub turns : machine.turns ≡ bound - k.used
 
+-- an object outside failed in the system call at which the run stands at some moment
+pub record RunFails (words : List ℕ) (bound : ℕ) (k : KernelState) (now : State) (old new : Drawn) (m : Machine) (p : Name) (others : List Name) : Type 0 where
+  pub steps : ℕ
+  pub at : Moment
+  pub is : moment (fetch words) old.source steps m p others old.drawn ≡ Some at
+  pub fails : FailsAt words at.machine at.name now
+  pub drawn : at.drawn ≡ new.drawn
+  pub turns : at.machine.turns ≡ bound - k.used
+
 abbrev pub Rounds : List ℕ → (bound : ℕ) → Option Ending → KernelState → State → (old new : Drawn) → Machine → Name → List Name → Type 0
 Rounds words bound None k now old new m p others = GoesRound words bound k now old new m p others
-Rounds words bound (Some ending.Fault) k now old new m p others = ⊤
+Rounds words bound (Some ending.Fault) k now old new m p others = RunFails words bound k now old new m p others
 Rounds words bound (Some e) k now old new m p others = RunEnds words bound e k now old new m p others
 
 -- where the next stint begins: at this machine; or, where the entry's turn is still due, at the one after that turn
@@ -112,8 +128,19 @@ pub record RunsAs (code : CodeParts) (system : State) (bound : ℕ) (old : Drawn
   pub system_is : machine.system ≡ now
   pub turns : bound - machine.turns ≡ used
 
+-- An object outside failed in the system call at which the run of this code stands after some number of instructions. Up
+-- to there each instruction did, and each system call was answered, as the machine's definition has it; that call was to
+-- be answered, and the system is as it may be when such a call is torn.
+pub record FailsIn (code : CodeParts) (system : State) (bound : ℕ) (old : Drawn) (used : ℕ) (now : State) (new : Drawn) : Type 0 where
+  pub steps : ℕ
+  pub at : Moment
+  pub is : moment_of code system bound old.source old.drawn steps ≡ Some at
+  pub fails : FailsAt code.words at.machine at.name now
+  pub drawn : at.drawn ≡ new.drawn
+  pub turns : bound - at.machine.turns ≡ used
+
 abbrev pub RunsTo : CodeParts → State → (bound : ℕ) → (old : Drawn) → Ending → (words : List ℕ) → (used : ℕ) → (now : State) → (new : Drawn) → Type 0
-RunsTo code system bound old ending.Fault words used now new = ⊤
+RunsTo code system bound old ending.Fault words used now new = FailsIn code system bound old used now new
 RunsTo code system bound old e words used now new = RunsAs code system bound old e words used now new
 
 -- where no choice had been drawn before, a run of the kernel has an outcome of the machine's definition

@@ -1,5 +1,5 @@
 -- A stint: the steps of the taken process until the kernel takes the next, or the run ends.
-use Rattle.std.specs.Prelude.{ℕ, zero, suc, List, Option}
+use Rattle.std.specs.Prelude.{ℕ, zero, suc, List, Option, Some, None}
 use Rattle.edi_calls.specs.Names.{Name}
 use Rattle.edi_calls.specs.Outcome as outcome
 use Rattle.edi_calls.specs.Ready.{stays, joins}
@@ -23,3 +23,13 @@ stint_after more (ended ending m) = over ending m
 abbrev pub stint : (ℕ → Option (Instruction × ℕ)) → ℕ → Machine → Name → List Name → Stint
 stint fetch zero m p others = unfinished
 stint fetch (suc n) m p others = stint_after (λ m. stint fetch n m p others) (step fetch m p others)
+
+abbrev pub goes_with : (Machine → Option Machine) → Stepped → Option Machine
+goes_with more (went m stays) = more m
+goes_with more (went m (joins ps)) = None
+goes_with more (ended ending m) = None
+
+-- the machine after n steps of the taken process p, if it goes on in each of them
+abbrev pub followed : (ℕ → Option (Instruction × ℕ)) → ℕ → Machine → Name → List Name → Option Machine
+followed fetch zero m p others = Some m
+followed fetch (suc n) m p others = goes_with (λ m. followed fetch n m p others) (step fetch m p others)

@@ -52,11 +52,29 @@ after_answer more cleared (behind r) = more r true
 after_answer more cleared (turned turn r) = after_turn more cleared turn r
 after_answer more cleared (over ending r) = stopping ending r cleared
 
+-- the same, where only an activity counts that goes on
+abbrev pub walk_turn : (Running → Bool → Option (Running × Bool)) → Turn → Running → Option (Running × Bool)
+walk_turn more entering r = more r true
+walk_turn more leaving r = more r true
+walk_turn more looping r = more r true
+walk_turn more turn r = None
+
+abbrev pub walk_on : (Running → Bool → Option (Running × Bool)) → Bool → Answer → Option (Running × Bool)
+walk_on more cleared (on r) = more r cleared
+walk_on more cleared (behind r) = more r true
+walk_on more cleared (turned turn r) = walk_turn more turn r
+walk_on more cleared (over ending r) = None
+
 module _ (fetch : ℕ → Option (Instruction × ℕ)) (live : ℕ) (is_first : Bool) where
   -- at most n steps
   abbrev pub stretch : ℕ → Running → Bool → Paused
   stretch zero r cleared = going
   stretch (suc n) r cleared = after_answer (stretch n) cleared (local_step fetch live is_first r)
+
+  -- where the activity is after n steps, if it goes on in each of them
+  abbrev pub walked : ℕ → Running → Bool → Option (Running × Bool)
+  walked zero r cleared = Some (r, cleared)
+  walked (suc n) r cleared = walk_on (walked n) cleared (local_step fetch live is_first r)
 
 -- ---- the code
 
@@ -148,16 +166,17 @@ OneStep words live is_first was cleared result now is_cleared =
 
 -- ---- stretches
 
--- where a stretch from `r` ends, one from `was` ends as well
-abbrev pub Reaches : List ℕ → (live : ℕ) → (is_first : Bool) → (was : Running) → Bool → (r : Running) → Bool → Type 0
-Reaches words live is_first was cleared r is_cleared =
-    (n : ℕ) (x : Paused) → stretch (fetch words) live is_first n r is_cleared ≡ x → (k : ℕ) × (stretch (fetch words) live is_first k was cleared ≡ x)
+-- where a stretch from `r` ends, and where its activity is on the way, there those of one from `was` are as well
+pub record Reaches (words : List ℕ) (live : ℕ) (is_first : Bool) (was : Running) (cleared : Bool) (r : Running) (is_cleared : Bool) : Type 0 where
+  pub ends : (n : ℕ) (x : Paused) → stretch (fetch words) live is_first n r is_cleared ≡ x → (k : ℕ) × (stretch (fetch words) live is_first k was cleared ≡ x)
+  pub gets : (n : ℕ) (x : Option (Running × Bool)) → walked (fetch words) live is_first n r is_cleared ≡ x → (k : ℕ) × (walked (fetch words) live is_first k was cleared ≡ x)
 
 -- a stretch that an object outside ended, in the system call of the instruction that it had reached
 pub record Breaks (words : List ℕ) (live : ℕ) (is_first : Bool) (was : Running) (cleared : Bool) (now : Running) : Type 0 where
+  pub steps : ℕ
   pub at : Running
   pub emptied : Bool
-  pub reached : Reaches words live is_first was cleared at emptied
+  pub reached : walked (fetch words) live is_first steps was cleared ≡ Some (at, emptied)
   pub torn : Torn words live is_first at now
 
 -- a stretch that pauses as the definition says

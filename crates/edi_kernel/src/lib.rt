@@ -109,7 +109,8 @@ impl Kernel {
     /// another is due. The first stint after the start takes the turn of the program's entry first.
     ///
     /// The end is that of the machine's definition, from each machine that the kernel is, where the state of the system
-    /// is told. `Fault` comes only where an object outside failed in this call.
+    /// is told. `Fault` comes only where an object outside failed in this call: by the definition the process then stands at
+    /// a system call that was to be answered, after as many turns, and the state of the system is one that it may leave.
     pub fn stint<C: Calls>(&mut self, code: &Code, calls: &mut C, turns_left: u64) -> StintEnd
         requires taken { IsSome self.old.taken }
         requires working { C.failed calls.old ≡ None }
@@ -147,7 +148,8 @@ impl Kernel {
     ///
     /// The ending, the turns, the number of choices drawn and the state of the system are those of the machine's
     /// definition, where that state is told, and after `Done`, `Halted` and `Failed` the words of the memory are too.
-    /// `Fault` comes only where an object outside failed in this call.
+    /// `Fault` comes only where an object outside failed in this call: by the definition the run then stands at a system
+    /// call that was to be answered, after as many turns and choices, and the state of the system is one that it may leave.
     pub fn run<C: Calls>(
         &mut self,
         code: &Code,
@@ -173,7 +175,8 @@ impl Kernel {
         self.state.used
     }
 
-    /// The activity that the last instruction of the last stint left standing at its `when`, if it took its turn so.
+    /// The activity that the last instruction of the last stint left standing at its `when`, if it took its turn so: after
+    /// `Arrived` and a standstill the one with which the process stands in the machine that the stint leaves.
     pub fn standing(&self) -> Option<Activity>
         ensures { result ≡ self.now.arrived }
     {
