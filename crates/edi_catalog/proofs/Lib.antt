@@ -11,4 +11,5 @@ pub mod Scans
 pub mod Sequence
 pub mod SlotRules
 pub mod Spelled
+pub mod WholeFiles
 pub mod Worked

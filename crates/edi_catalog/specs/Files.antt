@@ -1,9 +1,10 @@
 -- The files of a mounted catalogue.
-use Rattle.std.specs.Prelude.{◌≡◌, ℕ, suc, ◌+◌, Bool, true, nat_le, if◌then◌else◌, List, [], ◌∷◌, slice_index, slice_index_or, Option, Some, None, Result, Ok, Err, ⊤}
+use Rattle.std.specs.Prelude.{◌≡◌, ℕ, suc, ◌+◌, ◌*◌, Bool, true, nat_le, if◌then◌else◌, List, [], ◌∷◌, ◌++◌, take, length, flat_map, slice_index, slice_index_or, Option, Some, None, Result, Ok, Err, ⊤}
 use Rattle.std.specs.Option.{option_map, option_and_then}
-use Rattle.edi_calls.specs.State.{blocks_of, most_bytes}
+use Rattle.edi_calls.specs.State.{File, blocks_of, find_file, most_bytes}
 use Rattle.edi_catalog.specs.Entries.{block_at}
 use Rattle.edi_catalog.specs.Stored.{StoredFile, is_titled}
+use Rattle.edi_catalog.specs.Image.{slots_of}
 use Rattle.edi_catalog.specs.declared.entry.Entry.{Entry}
 
 -- what the catalogue tells of a file
@@ -43,3 +44,36 @@ abbrev pub PageIs : {X E : Type 0} → Result X E → Option StoredFile → ℕ 
 PageIs (Ok x) (Some file) i bytes blocks = block_at blocks (slice_index file.pages i) ≡ bytes
 PageIs (Ok x) None i bytes blocks = ⊥
 PageIs (Err e) file i bytes blocks = ⊤
+
+-- on Ok these pages stand one after another at the start of the bytes
+abbrev pub PagesAre : {X E : Type 0} → Result X E → List ℕ → List ℕ → List (List ℕ) → Type 0
+PagesAre (Ok x) pages bytes blocks = take (512 * length pages) bytes ≡ flat_map (block_at blocks) pages
+PagesAre (Err e) pages bytes blocks = ⊤
+
+-- on Ok a page stands behind the bytes up to an address, which are as they were
+abbrev pub PageAt : {X E : Type 0} → Result X E → (page at : ℕ) → (old new : List ℕ) → List (List ℕ) → Type 0
+PageAt (Ok x) page at old new blocks = take (at + 512) new ≡ take at old ++ block_at blocks page
+PageAt (Err e) page at old new blocks = ⊤
+
+-- the bytes of a file: its pages one after another, cut to its length
+abbrev pub bytes_in : List (List ℕ) → StoredFile → List ℕ
+bytes_in blocks file = take file.record_.length (flat_map (block_at blocks) file.pages)
+
+-- the bytes start with these, and so many they are
+abbrev pub Starts : ℕ → List ℕ → List ℕ → Type 0
+Starts n contents bytes = (n ≡ length contents) × (take n bytes ≡ contents)
+
+-- on Ok the bytes start with those of a file that is kept
+abbrev pub StoredIs : {E : Type 0} → Result ℕ E → StoredFile → List ℕ → List (List ℕ) → Type 0
+StoredIs (Ok n) file bytes blocks = Starts n (bytes_in blocks file) bytes
+StoredIs (Err e) file bytes blocks = ⊤
+
+-- there is a file, and the bytes start with those of it
+abbrev pub FoundIs : ℕ → Option File → List ℕ → Type 0
+FoundIs n None bytes = ⊥
+FoundIs n (Some file) bytes = Starts n file.bytes bytes
+
+-- on Ok the bytes start with those of the file with this title
+abbrev pub FileIs : {E : Type 0} → Result ℕ E → (title : List ℕ) → List ℕ → List (List ℕ) → Type 0
+FileIs (Ok n) title bytes blocks = FoundIs n (find_file (slots_of blocks) title) bytes
+FileIs (Err e) title bytes blocks = ⊤

@@ -1,19 +1,20 @@
 //! The catalogue of a disk.
 
-ghost use Rattle.std.specs.Prelude.{◌≡◌, ◌≤◌, ◌<◌, ◌+◌, ◌-◌, ◌↔◌, ◌⊎◌, None, Err, IfSome, slice_index_or};
+ghost use Rattle.std.specs.Prelude.{◌≡◌, ◌≤◌, ◌<◌, ◌+◌, ◌-◌, ◌↔◌, ◌⊎◌, None, Some, Err, IfOk, IfSome, length, slice_index_or};
 ghost use Rattle.std.specs.Option.{option_map};
 ghost use Rattle.edi_told.specs.Faults.{Rose};
 ghost use Rattle.edi_told.specs.Told.{WhereTold};
 ghost use Rattle.edi_disk.specs.Shown.{drive_of, reference_of};
 ghost use Rattle.edi_calls.specs.State.{pages_of};
 ghost use Rattle.edi_catalog.specs.Mounted.{IsMounted, disk_of, files_of};
-ghost use Rattle.edi_catalog.specs.Files.{entry_of, file_titled, blocks_taken, PageIs};
+ghost use Rattle.edi_catalog.specs.Files.{entry_of, file_titled, blocks_taken, FileIs, PageIs};
 
 use crate::blocks::BLOCK;
 use crate::ends::CatEnd;
+use crate::entries::MOST_BYTES;
 use crate::entry::Entry;
 use crate::files::{blocks_taken, entry_in, page_of, place_of};
-use crate::reading::block;
+use crate::reading::{block, read_stored};
 use crate::stored::StoredFile;
 use crate::title::Title;
 use edi_disk::Disk;
@@ -84,6 +85,33 @@ impl<'a, D: Drive> Catalog<'a, D> {
                 Ok(())
             }
             Err(_) => Err(CatEnd::Fault),
+        }
+    }
+
+    /// Reads a whole file into `into`, which has room for 261,120 bytes, and gives the number of its bytes. What stands in
+    /// `into` beyond them is open. The one refusal is `NoSuch`.
+    pub fn read_into(&mut self, title: &Title, into: &mut [u8]) -> Result<u32, CatEnd>
+        requires mounted { IsMounted D.held D.count self.old }
+        requires room { MOST_BYTES ≤ length into.old }
+        ensures no_such { (result ≡ Err CatEnd.NoSuch) ↔ (file_titled title.now (files_of self.old) ≡ None) }
+        ensures length { IfOk result (λ n. option_map (λ file. file.record_.length) (file_titled title.now (files_of self.old)) ≡ Some n) }
+        ensures files { files_of self.new ≡ files_of self.old }
+        ensures mounted { result ≡ Err CatEnd.Fault ⊎ IsMounted D.held D.count self.new }
+        ensures reads { WhereTold (D.held (drive_of (disk_of self.old))) (D.held (drive_of (disk_of self.new)))
+            (λ old new. (new ≡ old) × FileIs result title.now into.new old) }
+        ensures same_reference { reference_of (disk_of self.new) ≡ reference_of (disk_of self.old) }
+        ensures later { D.faults (drive_of (disk_of self.old)) ≤ D.faults (drive_of (disk_of self.new)) }
+        ensures cause { result ≡ Err CatEnd.Fault → Rose (D.faults (drive_of (disk_of self.old))) (D.faults (drive_of (disk_of self.new))) }
+    {
+        let Some(place) = place_of(&self.files, title) else {
+            return Err(CatEnd::NoSuch);
+        };
+        match &self.files[place] {
+            Some(file) => match read_stored(&mut self.disk, file, into) {
+                Ok(count) => Ok(count),
+                Err(_) => Err(CatEnd::Fault),
+            },
+            None => Err(CatEnd::NoSuch),
         }
     }
 }

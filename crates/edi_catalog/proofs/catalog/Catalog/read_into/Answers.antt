@@ -1,0 +1,27 @@
+use Rattle.std.proofs.Common.{◌≡◌, ◌∙◌, ap, sym, rules, refl, inr, Some}
+use Rattle.edi_catalog.specs.Files.{file_titled, find_place}
+use Rattle.edi_catalog.specs.Mounted.{files_of}
+use Rattle.edi_catalog.proofs.Mounts.{found_of, same_blocks, still_mounted, told_same_blocks}
+use Rattle.edi_catalog.proofs.WholeFiles.{found_kept, titled_at}
+use Rattle.edi_catalog.proofs.catalog.Catalog.read_into.Goals as goal
+
+pub returns-in-Ok-clause-mounted : goal.returns-in-Ok-clause-mounted
+returns-in-Ok-clause-mounted g c =
+    inr (still_mounted _ _ _ c.args.self.now _ _ refl c.requires.mounted c.in-Ok.ensures.checks)
+
+pub returns-in-Ok-clause-reads : goal.returns-in-Ok-clause-reads
+returns-in-Ok-clause-reads g c =
+    let titled : file_titled c.args.title.now (files_of c.args.self.now) ≡ Some c.in-Some-index.file =
+    titled_at c.args.title.now (files_of c.args.self.now) c.in-Some.place c.index.result.now c.in-Some-index.file
+    (sym (c.in-Some.ensures.exact ∙ ap (find_place c.args.title.now) c.deref.ensures.value)) (search rules) c.index.ensures c.in-Some-index.is in
+    told_same_blocks _ _ _
+    (λ blocks told.
+    (let found = found_of _ _ _ _ _ _ c.requires.mounted.settled c.in-Ok.ensures.checks blocks told in (
+      found.0,
+      found_kept blocks c.args.title.now (files_of c.args.self.now) c.in-Some-index.file c.in-Ok.count c.read_stored.new.into
+          (c.requires.mounted.image blocks found.0) titled found.1,
+    )))
+
+pub returns-in-Err-clause-reads : goal.returns-in-Err-clause-reads
+returns-in-Err-clause-reads g c =
+    told_same_blocks _ _ _ (λ blocks told. (same_blocks _ _ _ _ _ _ _ c.requires.mounted.settled c.read_stored.ensures.checks blocks told, tt))

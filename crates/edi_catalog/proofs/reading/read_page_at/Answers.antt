@@ -1,0 +1,13 @@
+use Rattle.std.proofs.Common.{◌∙◌, ap, sym, arith}
+use Rattle.edi_catalog.specs.Entries.{block_at}
+use Rattle.edi_catalog.proofs.Sequence.{checks_map}
+use Rattle.edi_catalog.proofs.WholeFiles.{page_put}
+use Rattle.edi_catalog.proofs.reading.read_page_at.Goals as goal
+
+pub returns-in-Ok-clause-checks : goal.returns-in-Ok-clause-checks
+returns-in-Ok-clause-checks g c =
+    checks_map _ _ _ _ _ _ _ _
+    (λ blocks is. page_put c.args.at c.args.into.now _ _ _ _ c.split_at_mut-rest.ensures.front c.split_at_mut-rest.ensures.front_len
+    (c.copy_from_slice.ensures.after ∙ sym is ∙ ap (block_at blocks) c.from.ensures)
+    (omega (arith, c.copy_from_slice.ensures.len, c.split_at_mut-place.ensures.front_len)))
+    c.in-Ok.ensures.checks
