@@ -1,0 +1,6 @@
+pub mod Keeping
+pub mod Families
+pub mod Children
+pub mod Steps
+pub mod Pairs
+pub mod Reaching

@@ -1,0 +1,14 @@
+//! Where the processes of the abstract machine lie in its memory. The definitions and proofs are in `specs/` and `proofs/`;
+//! the function here only states the law.
+#![tactic(auto)]
+
+ghost use Rattle.edi_segments.specs.Nested.{SegmentsAreNested};
+
+/// In every machine that a code reaches, whatever the choices: each frame lies in its segment, and each segment in the
+/// memory; the segment of each process but the first lies in that of its parent, behind the frame of the parent, which
+/// waits; segments of siblings have no word in common. So of two different processes either one is a descendant of the
+/// other and lies in the words that this has free, or they share no word. And a step of a process changes no frame and no
+/// segment of another.
+pub fn segments_are_nested()
+    ensures law { SegmentsAreNested }
+{}
