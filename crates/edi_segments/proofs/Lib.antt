@@ -4,3 +4,5 @@ pub mod Children
 pub mod Steps
 pub mod Pairs
 pub mod Reaching
+pub mod Queues
+pub mod Running

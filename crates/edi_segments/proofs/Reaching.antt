@@ -5,27 +5,24 @@ use Rattle.std.specs.List.{All}
 use Rattle.std.proofs.lemmas.Bool.{leb-true, and_parts}
 use Rattle.std.proofs.lemmas.List.Elements.{All-get_or, All-drop}
 use Rattle.edi_calls.specs.Names.{Name, Table, find}
-use Rattle.edi_calls.specs.Ready.{Next}
+use Rattle.edi_calls.specs.Ready.{Next, stays, joins}
 use Rattle.edi_calls.specs.State.{State}
 use Rattle.edi_target.specs.Op as op
 use Rattle.edi_target.specs.Op.{Instruction, is_allowed, is_flag, words_of}
 use Rattle.edi_target.specs.Decode.{Reads, AreWords, decode}
 use Rattle.edi_target.specs.Fetch.{fetch}
-use Rattle.edi_target.specs.Mach.{ready, waiting, Activity, Machine, went, step, first_activity, entered}
+use Rattle.edi_target.specs.Mach.{ready, waiting, Activity, Machine, Stepped, went, ended, step, first_activity, entered}
 use Rattle.edi_target.proofs.Reading.{decode_reads}
-use Rattle.edi_segments.specs.Nested.{machine_after, Reached, at_start, after_step, IsInOrder, AreNested, SegmentsAreNested}
+use Rattle.edi_segments.specs.Nested.{MayGoOn, machine_after, Reached, at_start, after_step, IsInOrder, AreNested, SegmentsAreNested}
 use Rattle.edi_segments.proofs.Keeping.{Allows}
 use Rattle.edi_segments.proofs.Families.{some_is, Sound}
 use Rattle.edi_segments.proofs.Steps.{Left, step_leaves}
 use Rattle.edi_segments.proofs.Pairs.{pair}
 
-went_is : {m t : Machine} {x y : Next} → went m x ≡ went t y → m ≡ t
-went_is e = cc
-
 -- ---- what stands in the words of a code
 
 module _ (words : List ℕ) (are : AreWords words) where
-  allowed_at : (first last at : ℕ) → Allows first last (fetch words at)
+  pub allowed_at : (first last at : ℕ) → Allows first last (fetch words at)
   allowed_at first last at = go (decode (drop at words)) refl
     where
       go : (d : Option (Instruction × ℕ)) → decode (drop at words) ≡ d → Allows first last (elim d [ None ↦ None | Some found ↦ Some (found.0, at + found.1) ])
@@ -67,28 +64,48 @@ first_order need r p v f pc allowed small =
     let enough : 5 + r + p + v ≤ need = leb-true (5 + r + p + v) need (and_parts (nat_le (5 + r + p + v) need) (is_flag f) allowed).0 in
     record { begins = omega arith; links = omega arith; uses = omega (arith, enough); ends = omega (arith, small); fits = omega arith }
 
+-- a run begins with the first process, which may go on, or ends before
+abbrev pub Starts : Stepped → Type 0
+Starts (went m stays) = Sound m.activities × MayGoOn m []
+Starts (went m (joins ps)) = ⊥
+Starts (ended ending m) = Sound m.activities
+
+empty : Sound []
+empty = record {
+  ordered = λ p a e. absurd (cc);
+  nested = λ p a some e. absurd (cc);
+  siblings = λ p q a b some some' k n e f. absurd (cc);
+  few = λ p a n e w. absurd (cc);
+}
+
 module _ (words : List ℕ) (are : AreWords words) (entry : ℕ) (calls : List ℕ) (system : State) where
-  begun : (bound : ℕ) (m : Machine) (next : Next) → entered (fetch words entry) entry calls bound system ≡ went m next → Sound m.activities
-  begun bound m next h = go (decode (drop entry words)) refl bound h
+  pub starts : (bound : ℕ) → Starts (entered (fetch words entry) entry calls bound system)
+  starts bound = go (decode (drop entry words)) refl bound
     where
-      go : (d : Option (Instruction × ℕ)) → decode (drop entry words) ≡ d → (bound : ℕ) →
-          entered (elim d [ None ↦ None | Some found ↦ Some (found.0, entry + found.1) ]) entry calls bound system ≡ went m next → Sound m.activities
-      go None e bound h = absurd (cc)
-      go (Some (op.entry need r p v f, n)) e zero h = absurd (cc)
-      go (Some (op.entry need r p v f, n)) e (suc k) h =
-          subst Sound (ap (λ y. y.activities) (went_is h))
-          (alone (first_activity need (5 + p + v) (entry + n)) (first_order need r p v f (entry + n) (decode_reads words entry (op.entry need r p v f) n are e).allowed (need_is_word words are entry need r p v f n e)) refl)
-      go (Some x) e bound h = absurd (cc)
+      first : (need r p v f n : ℕ) → decode (drop entry words) ≡ Some (op.entry need r p v f, n) → Sound (([], first_activity need (5 + p + v) (entry + n)) ∷ [])
+      first need r p v f n e =
+          alone (first_activity need (5 + p + v) (entry + n)) (first_order need r p v f (entry + n) (decode_reads words entry (op.entry need r p v f) n are e).allowed (need_is_word words are entry need r p v f n e)) refl
+
+      go : (d : Option (Instruction × ℕ)) → decode (drop entry words) ≡ d → (bound : ℕ) → Starts (entered (elim d [ None ↦ None | Some found ↦ Some (found.0, entry + found.1) ]) entry calls bound system)
+      go None e bound = empty
+      go (Some (op.entry need r p v f, n)) e zero = first need r p v f n e
+      go (Some (op.entry need r p v f, n)) e (suc k) =
+          (first need r p v f n e, record { activity = first_activity need (5 + p + v) (entry + n); lives = refl; free = λ i w. absurd (cc) })
+      go (Some x) e bound = empty
+
+  begun : (m : Machine) (next : Next) → Starts (went m next) → Sound m.activities
+  begun m stays s = s.0
+  begun m (joins ps) s = absurd s
 
   -- ---- every machine
 
   reached : (bound : ℕ) (m : Machine) → Reached (fetch words) entry calls system bound m → Sound m.activities
-  reached bound _ (at_start m next e) = begun bound m next e
+  reached bound _ (at_start m next e) = begun m next (subst Starts e (starts bound))
   reached bound _ (after_step m t p others next before g e) =
       subst (λ y. Sound (machine_after y).activities) e
       (step_leaves m p g.activity g.lives g.free (reached bound m before) (fetch words) (allowed_at words are g.activity.first g.activity.last) others).sound
 
-nested_of : (t : Table Activity) → Sound t → AreNested t
+pub nested_of : (t : Table Activity) → Sound t → AreNested t
 nested_of t s = record { ordered = s.ordered; nested = s.nested; siblings = s.siblings; pairs = pair t s }
 
 pub segments_are_nested : SegmentsAreNested

@@ -155,7 +155,7 @@ module _ (m : Machine) (p : Name) (a : Activity) (lives : find m.activities p �
         numbers n k e = cc
 
   -- who lives is no child of p
-  no_child : (q : Name) (b : Activity) (f i : ℕ) → find m.activities q ≡ Some b → same q (child p f i) ≡ false
+  pub no_child : (q : Name) (b : Activity) (f i : ℕ) → find m.activities q ≡ Some b → same q (child p f i) ≡ false
   no_child q b f i e = go (same-or-other q (child p f i))
     where
       go : (q ≡ child p f i) ⊎ (same q (child p f i) ≡ false) → same q (child p f i) ≡ false

@@ -1,12 +1,14 @@
 -- Where the frames and segments of the processes lie in the memory of the abstract machine.
 use Rattle.std.specs.Prelude.{◌≡◌, ℕ, ◌+◌, ◌-◌, ◌^◌, ◌<◌, ◌≤◌, ◌⊎◌, false, List, length, Option, Some}
+use Rattle.edi_calls.specs.Choice.{Choices}
 use Rattle.edi_calls.specs.Names.{Name, Table, same, find}
+use Rattle.edi_calls.specs.Outcome.{Ending}
 use Rattle.edi_calls.specs.Ready.{Next, parent_of}
 use Rattle.edi_calls.specs.State.{State}
 use Rattle.edi_target.specs.Op.{Instruction}
 use Rattle.edi_target.specs.Decode.{AreWords}
 use Rattle.edi_target.specs.Fetch.{fetch}
-use Rattle.edi_target.specs.Mach.{waiting, Activity, Machine, Stepped, went, ended, step, awaits, entered, IsAncestor}
+use Rattle.edi_target.specs.Mach.{waiting, Activity, Machine, Stepped, went, ended, step, awaits, entered, Ends, IsAncestor}
 
 -- ---- what the machine reaches
 
@@ -90,3 +92,9 @@ SegmentsAreNested =
     AreNested (machine_after (step (fetch words) m p others)).activities
     × ((q : Name) (b : Activity) → same q p ≡ false → find m.activities q ≡ Some b →
     Stays (machine_after (step (fetch words) m p others)).activities q b))
+
+-- and every run ends so, whatever its choices
+abbrev pub EveryEndIsNested : Type 0
+EveryEndIsNested =
+    (words : List ℕ) (entry : ℕ) (calls : List ℕ) (system : State) (bound : ℕ) (choices : Choices) (ending : Ending) (m : Machine) (drawn : ℕ) → AreWords words →
+    Ends (fetch words) entry calls system bound choices ending m drawn → AreNested m.activities

@@ -1,8 +1,8 @@
 //! Where the processes of the abstract machine lie in its memory. The definitions and proofs are in `specs/` and `proofs/`;
-//! the function here only states the law.
+//! the functions here only state the laws.
 #![tactic(auto)]
 
-ghost use Rattle.edi_segments.specs.Nested.{SegmentsAreNested};
+ghost use Rattle.edi_segments.specs.Nested.{EveryEndIsNested, SegmentsAreNested};
 
 /// In every machine that a code reaches, whatever the choices: each frame lies in its segment, and each segment in the
 /// memory; the segment of each process but the first lies in that of its parent, behind the frame of the parent, which
@@ -11,4 +11,9 @@ ghost use Rattle.edi_segments.specs.Nested.{SegmentsAreNested};
 /// segment of another.
 pub fn segments_are_nested()
     ensures law { SegmentsAreNested }
+{}
+
+/// A run of a code, whatever its choices, ends with a machine whose segments are nested so.
+pub fn every_end_is_nested()
+    ensures law { EveryEndIsNested }
 {}
