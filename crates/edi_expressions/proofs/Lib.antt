@@ -1,0 +1,3 @@
+pub mod Strings
+pub mod Operators
+pub mod Pushes
