@@ -1,5 +1,0 @@
-use Rattle.edi_sema.proofs.Needs.{needs_are_small}
-use Rattle.edi_sema.proofs.laws.needs_are_small.Goals as goal
-
-pub returns : goal.returns
-returns c = record { law = needs_are_small }

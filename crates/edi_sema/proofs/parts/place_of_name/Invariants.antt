@@ -1,9 +1,0 @@
-use Rattle.std.proofs.Common.{◌≡◌, ◌+◌, drop, map, option_map}
-use Rattle.edi_sema.specs.Fitting.{place_of_name}
-use Rattle.edi_sema.proofs.parts.place_of_name.Given as goal
-
-abbrev pub invariant-loop-field : goal.invariant-loop-field
-invariant-loop-field l = record {
-  at : l.place ≡ l.field-index;
-  left : option_map (λ n. l.place + n) (place_of_name (map (λ f. f.items) (drop l.field-index l.fields)) l.name) ≡ place_of_name (map (λ f. f.items) l.fields) l.name;
-}

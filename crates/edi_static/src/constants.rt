@@ -1,0 +1,101 @@
+//! The rules on constants.
+
+ghost use Rattle.std.specs.Prelude.{IsTrue};
+ghost use Rattle.edi_scope.specs.Scope.{in_module};
+ghost use Rattle.edi_tree.specs.View.{const_list_of};
+ghost use Rattle.edi_static.specs.Answers.{Answers};
+ghost use Rattle.edi_static.specs.Types as spec;
+ghost use Rattle.edi_static.specs.Views.{environment, ordinal_of};
+
+use crate::fault::{StaticFault, StaticKind};
+use crate::known::{Known, fault, must};
+use edi_scope::Entity;
+use edi_tree::{ConstDecl, ConstList, Constant};
+use edi_unit::{CHAR, INT};
+use std::alloc::Global;
+
+/// The value of an elementary type.
+#[derive(Clone, Copy)]
+pub struct Ordinal {
+    pub of: u32,
+    pub ordinal: i16,
+}
+
+/// A constant is asked.
+fn as_constant(line: u16, entity: Entity) -> Result<Ordinal, StaticFault>
+    ensures exact { Answers ordinal_of result (spec.as_constant line entity) }
+{
+    match entity {
+        Entity::Constant { of, ordinal } => Ok(Ordinal { of, ordinal }),
+        _ => fault(StaticKind::Kind, line),
+    }
+}
+
+/// Before a numeral in parentheses the standard type `char` is asked; the numeral is at most 127.
+fn as_character(line: u16, ordinal: i16, entity: Entity) -> Result<Ordinal, StaticFault>
+    ensures exact { Answers ordinal_of result (spec.as_character line ordinal entity) }
+{
+    match entity {
+        Entity::Types(CHAR) => {
+            must(ordinal <= 127, StaticKind::Range, line)?;
+            Ok(Ordinal { of: CHAR, ordinal })
+        }
+        _ => fault(StaticKind::Kind, line),
+    }
+}
+
+/// The value of a constant.
+pub fn constant(known: &Known, constant: &Constant) -> Result<Ordinal, StaticFault>
+    ensures exact { Answers ordinal_of result (spec.constant (environment known.now) constant.now) }
+{
+    match constant {
+        Constant::Numeral(ordinal) => Ok(Ordinal {
+            of: INT,
+            ordinal: *ordinal,
+        }),
+        Constant::Char(char) => Ok(Ordinal {
+            of: CHAR,
+            ordinal: i16::from(char.character),
+        }),
+        Constant::Name(name, None) => as_constant(name.line, known.look_up(name)?),
+        Constant::Name(name, Some(ordinal)) => {
+            as_character(name.line, *ordinal, known.look_up(name)?)
+        }
+    }
+}
+
+/// The constant is judged first, then the name is declared.
+fn const_decl(
+    known: &mut Known,
+    alloc: Global,
+    marked: bool,
+    declaration: &ConstDecl,
+) -> Result<(), StaticFault>
+    requires exporting { IsTrue marked → IsTrue (in_module known.old.scopes) }
+    ensures exact { Answers (λ _. environment known.new) result (spec.const_decl marked declaration.now (environment known.old)) }
+    ensures exporting { IsTrue marked → IsTrue (in_module known.new.scopes) }
+{
+    let value = constant(known, &declaration.constant)?;
+    let entity = Entity::Constant {
+        of: value.of,
+        ordinal: value.ordinal,
+    };
+    known.declare(alloc, marked, &declaration.name, entity)
+}
+
+pub fn const_list(
+    known: &mut Known,
+    alloc: Global,
+    marked: bool,
+    list: &ConstList,
+) -> Result<(), StaticFault>
+    requires exporting { IsTrue marked → IsTrue (in_module known.old.scopes) }
+    ensures exact { Answers (λ _. environment known.new) result (spec.const_list marked (const_list_of list.now) (environment known.old)) }
+    ensures exporting { IsTrue marked → IsTrue (in_module known.new.scopes) }
+{
+    const_decl(known, alloc, marked, &list.first)?;
+    for declaration in list.more.items() {
+        const_decl(known, alloc, marked, declaration)?;
+    }
+    Ok(())
+}

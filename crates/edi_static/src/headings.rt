@@ -1,0 +1,126 @@
+//! What headings ask of calls.
+
+ghost use Rattle.std.specs.Prelude.{◌≡◌, IfOk, map};
+ghost use Rattle.edi_unit.specs.Lists.{list_items};
+ghost use Rattle.edi_static.specs.Environment as spec;
+ghost use Rattle.edi_static.specs.Views as view;
+ghost use Rattle.edi_static.specs.Views.{asked_of, formal_of, same_one};
+
+use edi_unit::{List, Parameter, Parameters};
+use std::alloc::{AllocError, Global};
+
+/// What a heading asks of a call: an argument for each parameter; and the type of a function's result.
+#[derive(Drop)]
+#[cycle(asked)]
+pub struct Asked {
+    pub formals: List<Formal>,
+    pub result: Option<u32>,
+}
+
+/// What a heading asks for one parameter.
+#[derive(Drop)]
+#[cycle(asked)]
+pub enum Formal {
+    /// A value of this type.
+    Value(u32),
+    /// A variable of this type.
+    Variable(u32),
+    /// A procedure with such a heading.
+    Procedure(Asked),
+}
+
+/// Whether two headings have one shape.
+#[cycle(same)]
+pub fn same_asked(one: &Asked, other: &Asked) -> bool
+    ensures exact { result ≡ spec.same_heading (asked_of one.now) (asked_of other.now) }
+{
+    same_formals(&one.formals, &other.formals) && same_result(one.result, other.result)
+}
+
+#[cycle(same)]
+#[tactic(auto, using(crate::proofs::Lengths::formals_differ))]
+fn same_formals(one: &List<Formal>, other: &List<Formal>) -> bool
+    ensures exact { result ≡ spec.same_formals (view.formals (map formal_of (list_items one.now))) (view.formals (map formal_of (list_items other.now))) }
+{
+    let others = other.items();
+    if one.len() != others.len() {
+        return false;
+    }
+    let mut place = 0;
+    for formal in one.items() {
+        if !same_formal(formal, &others[place]) {
+            return false;
+        }
+        place += 1;
+    }
+    true
+}
+
+#[cycle(same)]
+fn same_formal(one: &Formal, other: &Formal) -> bool
+    ensures exact { result ≡ same_one (formal_of one.now) (formal_of other.now) }
+{
+    match (one, other) {
+        (Formal::Value(s), Formal::Value(t)) => s == t,
+        (Formal::Variable(s), Formal::Variable(t)) => s == t,
+        (Formal::Procedure(g), Formal::Procedure(h)) => same_asked(g, h),
+        _ => false,
+    }
+}
+
+fn same_result(one: Option<u32>, other: Option<u32>) -> bool
+    ensures exact { result ≡ spec.same_result one other }
+{
+    match (one, other) {
+        (None, None) => true,
+        (Some(s), Some(t)) => s == t,
+        _ => false,
+    }
+}
+
+/// A copy of a heading.
+#[cycle(copies)]
+pub fn copy_asked(alloc: Global, asked: &Asked) -> Result<Asked, AllocError>
+    ensures exact { IfOk result (λ copy. asked_of copy ≡ asked_of asked.now) }
+{
+    let mut formals = List::new(alloc);
+    for formal in asked.formals.items() {
+        formals.push(alloc, copy_formal(alloc, formal)?)?;
+    }
+    Ok(Asked {
+        formals,
+        result: asked.result,
+    })
+}
+
+#[cycle(copies)]
+fn copy_formal(alloc: Global, formal: &Formal) -> Result<Formal, AllocError>
+    ensures exact { IfOk result (λ copy. formal_of copy ≡ formal_of formal.now) }
+{
+    match formal {
+        Formal::Value(of) => Ok(Formal::Value(*of)),
+        Formal::Variable(of) => Ok(Formal::Variable(*of)),
+        Formal::Procedure(asked) => Ok(Formal::Procedure(copy_asked(alloc, asked)?)),
+    }
+}
+
+/// What a block keeps of its parameters.
+pub fn parameters_of(alloc: Global, formals: &List<Formal>) -> Result<Parameters, AllocError>
+    ensures exact { IfOk result (λ parameters. list_items parameters ≡ map (λ f. view.parameter_of (formal_of f)) (list_items formals.now)) }
+{
+    let mut parameters = List::new(alloc);
+    for formal in formals.items() {
+        parameters.push(alloc, parameter_of(formal))?;
+    }
+    Ok(parameters)
+}
+
+fn parameter_of(formal: &Formal) -> Parameter
+    ensures exact { result ≡ view.parameter_of (formal_of formal.now) }
+{
+    match formal {
+        Formal::Value(of) => Parameter::Value(*of),
+        Formal::Variable(of) => Parameter::Var(*of),
+        Formal::Procedure(asked) => Parameter::Formal(asked.result),
+    }
+}

@@ -1,0 +1,243 @@
+//! What is known at a place of a text: what each name means there, and what has become of the constructs before it.
+
+ghost use Rattle.std.specs.Prelude.{◌≡◌, ◌++◌, ◌∷◌, [], Err, OnOk, OnErr, IfOk, IfSome, IsTrue, is_some, ◌==◌};
+ghost use Rattle.std.specs.List.{list_any};
+ghost use Rattle.edi_unit.specs.Types.{shape_at, is_elementary};
+ghost use Rattle.edi_unit.specs.Lists.{list_items};
+ghost use Rattle.edi_unit.specs.ShapeView.{shape_of};
+ghost use Rattle.edi_scope.specs.Scope.{in_module, declared};
+ghost use Rattle.edi_static.specs.Judged.{gives};
+ghost use Rattle.edi_static.specs.Judged as judged;
+ghost use Rattle.edi_static.specs.Environment as spec;
+ghost use Rattle.edi_static.specs.Answers.{Answers};
+ghost use Rattle.edi_static.specs.Answers as answers;
+ghost use Rattle.edi_static.specs.Views.{environment};
+
+use crate::fault::{StaticFault, StaticKind};
+use crate::headings::Asked;
+use edi_scope::{Entity, ScopeFault, Scopes};
+use edi_tree::Name;
+use edi_unit::{Block, List, Shape, TypeTable, Value};
+use std::alloc::{AllocError, Global};
+
+/// A procedure whose `pre` has stood and whose `post` is still to come.
+#[derive(Drop)]
+pub struct Begun {
+    pub name: Name,
+    pub block: u32,
+}
+
+/// What is known at a place.
+#[derive(Drop)]
+pub struct Known {
+    pub scopes: Scopes,
+    pub types: TypeTable,
+    /// The names of each type's fields.
+    pub fields: Vec<Vec<Vec<u8>>>,
+    pub blocks: Vec<Block>,
+    /// The heading of each block.
+    pub headings: Vec<Asked>,
+    /// The headings of procedure parameters, by the numbers with which the scopes keep them.
+    pub shapes: Vec<Asked>,
+    /// The blocks round this place, the innermost first.
+    pub around: Vec<u32>,
+    /// The procedures of the innermost scope that are begun, in the order of the text.
+    pub begun: Vec<Begun>,
+}
+
+/// A fault of this kind at this line.
+pub fn fault<T>(kind: StaticKind, line: u16) -> Result<T, StaticFault>
+    ensures exact { result ≡ Err (StaticFault.At kind line) }
+{
+    Err(StaticFault::At { kind, line })
+}
+
+/// A rule: where it does not hold, there is a fault of this kind at this line.
+pub fn must(holds: bool, kind: StaticKind, line: u16) -> Result<(), StaticFault>
+    ensures exact { Answers (λ _. tt) result (judged.must holds kind line) }
+{
+    if holds { Ok(()) } else { fault(kind, line) }
+}
+
+impl From<AllocError> for StaticFault {
+    fn from(_error: AllocError) -> StaticFault {
+        StaticFault::NoMemory
+    }
+}
+
+/// Puts an item behind the others. Where memory is wanting the list stays as it was, and the item is given up.
+pub fn put<T: Drop>(list: &mut Vec<T>, item: T) -> Result<(), StaticFault>
+    ensures ok { OnOk result (list.new.items ≡ list.old.items ++ item ∷ []) }
+    ensures err { OnErr result (result ≡ Err StaticFault.NoMemory) }
+    ensures same { OnErr result (list.new.items ≡ list.old.items) }
+{
+    match list.push(item) {
+        Ok(()) => Ok(()),
+        Err(_) => Err(StaticFault::NoMemory),
+    }
+}
+
+/// Puts an item at the end of a list. Where memory is wanting the list stays as it was, and the item is given up.
+pub fn add<T: Drop>(list: &mut List<T>, alloc: Global, item: T) -> Result<(), StaticFault>
+    ensures ok { OnOk result (list_items list.new ≡ list_items list.old ++ item ∷ []) }
+    ensures err { OnErr result (result ≡ Err StaticFault.NoMemory) }
+    ensures same { OnErr result (list_items list.new ≡ list_items list.old) }
+{
+    match list.push(alloc, item) {
+        Ok(()) => Ok(()),
+        Err(_) => Err(StaticFault::NoMemory),
+    }
+}
+
+/// A value in a box.
+pub fn boxed(alloc: Global, value: Value) -> Result<Box<Value>, StaticFault>
+    ensures ok { IfOk result (λ boxed. boxed.value ≡ value) }
+    ensures err { OnErr result (result ≡ Err StaticFault.NoMemory) }
+{
+    match Box::new(alloc, value) {
+        Ok(boxed) => Ok(boxed),
+        Err(_) => Err(StaticFault::NoMemory),
+    }
+}
+
+/// A place in a list as a number, if there is room for more numbers.
+pub fn number(place: usize) -> Result<u32, StaticFault>
+    ensures exact { Answers (λ n. n) result (gives place) }
+{
+    if place < 0xFFFF_FFFF {
+        Ok(place as u32)
+    } else {
+        Err(StaticFault::NoMemory)
+    }
+}
+
+/// The kind of fault of a used name that means nothing.
+fn unknown(spelling: &[u8]) -> StaticKind
+    ensures exact { result ≡ spec.unknown spelling.now }
+{
+    let left_out = spelling == b"addr".as_slice()
+        || spelling == b"obtain".as_slice()
+        || spelling == b"place".as_slice()
+        || spelling == b"sense".as_slice();
+    if left_out {
+        StaticKind::NotInProfile
+    } else {
+        StaticKind::Undeclared
+    }
+}
+
+impl Known {
+    /// What a used name means. It must mean something.
+    pub fn look_up(&self, name: &Name) -> Result<Entity, StaticFault>
+        ensures exact { Answers (λ e. e) result (spec.look_up (environment self.now) name.now) }
+    {
+        match self.scopes.look(name.text.as_slice()) {
+            Some(entity) => Ok(entity),
+            None => fault(unknown(name.text.as_slice()), name.line),
+        }
+    }
+
+    /// A type is asked.
+    pub fn type_named(&self, name: &Name) -> Result<u32, StaticFault>
+        ensures exact { Answers (λ t. t) result (spec.type_named (environment self.now) name.now) }
+    {
+        match self.look_up(name)? {
+            Entity::Types(t) => Ok(t),
+            _ => fault(StaticKind::Kind, name.line),
+        }
+    }
+
+    /// Declares a name. It must be new in the innermost scope and, where it is marked, in the scope round that one.
+    pub fn declare(
+        &mut self,
+        alloc: Global,
+        marked: bool,
+        name: &Name,
+        entity: Entity,
+    ) -> Result<(), StaticFault>
+        requires module { IsTrue marked → IsTrue (in_module self.old.scopes) }
+        ensures exact { Answers (λ _. environment self.new) result (spec.declare marked name.now entity (environment self.old)) }
+        ensures exporting { IsTrue marked → IsTrue (in_module self.new.scopes) }
+    {
+        let told = self
+            .scopes
+            .declare(alloc, name.text.as_slice(), entity, marked);
+        told_at(told, name.line)
+    }
+
+    /// Gives a name of the innermost scope, which is that of a module, to the scope round it, where it must be new.
+    pub fn give_outside(&mut self, alloc: Global, name: &Name) -> Result<(), StaticFault>
+        requires module { IsTrue (in_module self.old.scopes) }
+        requires known { IsTrue (is_some (declared self.old.scopes name.now.text)) }
+        ensures exact { IfSome (declared self.old.scopes name.now.text) (λ means.
+            Answers (λ _. environment self.new) result (spec.give_outside name.now means (environment self.old))) }
+    {
+        let told = self.scopes.export(alloc, name.text.as_slice());
+        told_at(told, name.line)
+    }
+
+    /// What a type is; a number that is not in the table counts as `int`.
+    pub fn shape(&self, t: u32) -> &Shape
+        ensures exact { shape_of result.now ≡ shape_at self.now.types t }
+    {
+        if t < self.types.len() {
+            self.types.shape(t)
+        } else {
+            self.types.shape(0)
+        }
+    }
+
+    /// Whether a type is elementary; a number that is not in the table counts as `int`.
+    pub fn is_elementary(&self, t: u32) -> bool
+        ensures exact { result ≡ is_elementary self.now.types t }
+    {
+        t >= self.types.len() || self.types.is_elementary(t)
+    }
+
+    /// The block in which this place stands.
+    pub fn here(&self) -> u32
+        ensures exact { result ≡ spec.here (environment self.now) }
+    {
+        match self.around.first() {
+            Some(block) => *block,
+            None => 0,
+        }
+    }
+
+    /// The steps out from the block of this place to one round it.
+    pub fn steps_to(&self, block: u32) -> usize
+        ensures exact { result ≡ spec.steps_to block (environment self.now).around }
+    {
+        let mut steps = 0;
+        for around in self.around.as_slice() {
+            if *around == block {
+                return steps;
+            }
+            steps += 1;
+        }
+        steps
+    }
+
+    /// Whether a block is round this place.
+    pub fn is_around(&self, block: u32) -> bool
+        ensures exact { result ≡ list_any (λ a. a == block) (environment self.now).around }
+    {
+        for around in self.around.as_slice() {
+            if *around == block {
+                return true;
+            }
+        }
+        false
+    }
+}
+
+/// What an answer of the scopes is for a name on a line.
+fn told_at(told: Result<(), ScopeFault>, line: u16) -> Result<(), StaticFault>
+    ensures exact { result ≡ answers.told_at line told }
+{
+    match told {
+        Ok(()) => Ok(()),
+        Err(ScopeFault::Ambiguous) => fault(StaticKind::Ambiguous, line),
+        Err(ScopeFault::NoMemory) => Err(StaticFault::NoMemory),
+    }
+}

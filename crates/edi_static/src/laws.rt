@@ -1,0 +1,9 @@
+//! What is true of every sound program, by the static rules. The functions do nothing; their contracts are the laws, which
+//! speak of all trees.
+
+ghost use Rattle.edi_static.specs.Laws.{NeedsAreSmall};
+
+/// No block or branch of a sound program needs more than 65,535 words.
+pub fn needs_are_small()
+    ensures law { NeedsAreSmall }
+{}

@@ -1,0 +1,27 @@
+//! The static rules: the resolved unit of a sound program, and the first construct of any other that breaks a rule. The
+//! definitions stand in `specs/`: `resolve_tree` (`Programs`) goes through a tree construct by construct. The code here keeps
+//! what is known at a place (`Known`) and judges the parts below expressions; the crates above judge the rest.
+#![tactic(auto)]
+
+mod constants;
+mod fault;
+mod fits;
+mod headings;
+mod known;
+pub mod laws;
+mod operands;
+mod parts;
+
+pub use constants::{Ordinal, const_list, constant};
+pub use fault::{StaticFault, StaticKind};
+pub use fits::{
+    Rooted, as_function, as_variable, character, element_type, empty_set, is_indexed_by, single,
+    takes_parts, takes_strings, variable_argument,
+};
+pub use headings::{Asked, Formal, copy_asked, parameters_of, same_asked};
+pub use known::{Begun, Known, add, boxed, fault, must, number, put};
+pub use operands::{
+    Linked, Typed, addition_operator, is_set, multiplication_operator, operated, relation_operator,
+    signed, with_links,
+};
+pub use parts::{Parted, element_of, field_of};

@@ -1,0 +1,125 @@
+//! The rules on parts of variables.
+
+ghost use Rattle.std.specs.Prelude.{◌≡◌, map, slice_index_or, [], unwrap_or};
+ghost use Rattle.edi_unit.specs.Types as types;
+ghost use Rattle.edi_unit.specs.ShapeView.{shape_of};
+ghost use Rattle.edi_static.specs.Answers.{Answers};
+ghost use Rattle.edi_static.specs.Expressions as rule;
+ghost use Rattle.edi_static.specs.Fitting as spec;
+ghost use Rattle.edi_static.specs.Views.{environment, parted_of, typed_of};
+
+use crate::fault::{StaticFault, StaticKind};
+use crate::fits::{element_type, is_indexed_by};
+use crate::known::{Known, boxed, fault, must, number};
+use crate::operands::Typed;
+use edi_tree::Name;
+use edi_unit::{INT, Part, Shape};
+use std::alloc::Global;
+
+/// A part of a variable, with its type.
+#[derive(Drop)]
+pub struct Parted {
+    pub part: Part,
+    pub of: u32,
+}
+
+/// The place of a name among these.
+fn place_of_name(fields: &[Vec<u8>], name: &[u8]) -> Option<usize>
+    ensures exact { result ≡ spec.place_of_name (map (λ f. f.items) fields.now) name.now }
+{
+    let mut place = 0;
+    for field in fields {
+        if field.as_slice() == name {
+            return Some(place);
+        }
+        place += 1;
+    }
+    None
+}
+
+/// The place of a name among the fields of a type.
+fn field_place(known: &Known, of: u32, name: &[u8]) -> Option<usize>
+    ensures exact { result ≡ spec.place_of_name (slice_index_or (environment known.now).fields of []) name.now }
+{
+    match known.fields.get(of as usize) {
+        Some(fields) => place_of_name(fields.as_slice(), name),
+        None => None,
+    }
+}
+
+/// The type of a field; one that is not there counts as an `int`.
+fn field_type(known: &Known, of: u32, place: usize) -> u32
+    ensures exact { result ≡ unwrap_or (types.field_type known.now.types of place) INT }
+{
+    if of >= known.types.len() {
+        return INT;
+    }
+    match known.types.field(of, place) {
+        Some(field) => field,
+        None => INT,
+    }
+}
+
+/// Whether a type is that of records.
+fn is_record(shape: &Shape) -> bool
+    ensures exact { result ≡ spec.is_record (shape_of shape.now) }
+{
+    match shape {
+        Shape::Record(_) => true,
+        _ => false,
+    }
+}
+
+/// The field of a record by its place, if the record has it.
+fn field_at(
+    known: &Known,
+    of: u32,
+    name: &Name,
+    place: Option<usize>,
+) -> Result<Parted, StaticFault>
+    ensures exact { Answers parted_of result (rule.field_at (environment known.now) of name.now place) }
+{
+    match place {
+        Some(place) => Ok(Parted {
+            part: Part::Field(number(place)?),
+            of: field_type(known, of, place),
+        }),
+        None => fault(StaticKind::Undeclared, name.line),
+    }
+}
+
+/// The field of a record.
+pub fn field_of(
+    known: &Known,
+    line: u16,
+    of: u32,
+    name: &Name,
+) -> Result<Parted, StaticFault>
+    ensures exact { Answers parted_of result (rule.field_of (environment known.now) line of name.now) }
+{
+    must(is_record(known.shape(of)), StaticKind::Types, line)?;
+    field_at(
+        known,
+        of,
+        name,
+        field_place(known, of, name.text.as_slice()),
+    )
+}
+
+/// The element of an array.
+pub fn element_of(
+    known: &Known,
+    alloc: Global,
+    line: u16,
+    of: u32,
+    index: Typed,
+) -> Result<Parted, StaticFault>
+    ensures exact { Answers parted_of result (rule.element_of (environment known.now) line of (typed_of index)) }
+{
+    let holds = is_indexed_by(known.shape(of), index.of);
+    must(holds, StaticKind::Types, line)?;
+    Ok(Parted {
+        part: Part::Index(boxed(alloc, index.what)?, line),
+        of: element_type(known.shape(of)),
+    })
+}
