@@ -1,7 +1,7 @@
 -- What holds of whatever a judged construct gives.
 use Rattle.std.proofs.Common.{◌≡◌, ℕ, Bool, true, false, if◌then◌else◌, refl}
 use Rattle.std.specs.Prelude.{⊤}
-use Rattle.edi_static.specs.declared.fault.StaticKind.{StaticKind}
+use Rattle.edi_static.specs.declared.faults.StaticKind.{StaticKind}
 use Rattle.edi_static.specs.Judged.{Judged, gives, faults, ◌>>=◌, must}
 
 abbrev pub Gives : {A : Type 0} → (A → Type 0) → Judged A → Type 0

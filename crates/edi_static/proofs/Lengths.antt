@@ -8,7 +8,7 @@ use Rattle.edi_static.specs.declared.headings.Formal as code_formal
 use Rattle.edi_static.specs.Environment.{same_formals, same_heading}
 use Rattle.edi_static.specs.Judged.{Judged, gives}
 use Rattle.edi_static.specs.Operators.{Typed, chain_of}
-use Rattle.edi_static.specs.declared.fault.StaticFault.{StaticFault}
+use Rattle.edi_static.specs.declared.faults.StaticFault.{StaticFault}
 use Rattle.edi_static.specs.declared.operands.Typed as code_typed
 use Rattle.edi_static.specs.Answers.{Answers}
 use Rattle.edi_static.specs.Views.{One, value, variable, procedure, formals, formal_of, typed_of}

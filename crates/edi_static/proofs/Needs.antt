@@ -15,7 +15,7 @@ use Rattle.edi_unit.specs.Types.{Shape, record_of, array_of, set_of, greatest_si
 use Rattle.edi_unit.specs.Tree.{Acts, Block, ProgramUnit}
 use Rattle.edi_unit.specs.Need.{no_block, block_at, need}
 use Rattle.edi_unit.specs.Fits.{heading, heading_result, Formals}
-use Rattle.edi_static.specs.declared.fault.StaticKind.TheVariants as kind
+use Rattle.edi_static.specs.declared.faults.StaticKind.TheVariants as kind
 use Rattle.edi_static.specs.Judged.{gives, ◌>>=◌, must}
 use Rattle.edi_static.specs.Environment.{Environment, at_first, look_up, type_named, declare, give_outside, enter, here, set_block}
 use Rattle.edi_static.specs.Types.{constant, const_decl, const_decls, const_list, most_constants, enum_constants, enum_decl, fields_of_groups, no_fields, declare_type, array_decl, set_decl, type_decl, variable_decl, variables_named, variables_of_groups, var_list}

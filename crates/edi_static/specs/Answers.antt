@@ -2,9 +2,9 @@
 use Rattle.std.specs.Prelude.{◌≡◌, ℕ, ⊤, Result, Ok, Err}
 use Rattle.edi_scope.specs.declared.entity.ScopeFault.{ScopeFault}
 use Rattle.edi_scope.specs.declared.entity.ScopeFault.TheVariants as scope_fault
-use Rattle.edi_static.specs.declared.fault.StaticKind.TheVariants as kind
-use Rattle.edi_static.specs.declared.fault.StaticFault.{StaticFault}
-use Rattle.edi_static.specs.declared.fault.StaticFault.TheVariants as fault
+use Rattle.edi_static.specs.declared.faults.StaticKind.TheVariants as kind
+use Rattle.edi_static.specs.declared.faults.StaticFault.{StaticFault}
+use Rattle.edi_static.specs.declared.faults.StaticFault.TheVariants as fault
 use Rattle.edi_static.specs.Judged.{Judged, gives, faults}
 
 -- what the construct gives, seen as plain data, or its fault; or there was no memory

@@ -12,8 +12,8 @@ use Rattle.edi_unit.specs.Tree.{no_act, Block}
 use Rattle.edi_unit.specs.Need.{block_at, slots}
 use Rattle.edi_unit.specs.Fits.{Heading, heading, Formals, no_formal, value_then, variable_then, procedure_then, heading_result}
 use Rattle.edi_tree.specs.declared.names.Name.{Name}
-use Rattle.edi_static.specs.declared.fault.StaticKind.{StaticKind}
-use Rattle.edi_static.specs.declared.fault.StaticKind.TheVariants as kind
+use Rattle.edi_static.specs.declared.faults.StaticKind.{StaticKind}
+use Rattle.edi_static.specs.declared.faults.StaticKind.TheVariants as kind
 use Rattle.edi_static.specs.Judged.{Judged, gives, faults, ◌>>=◌}
 
 -- a procedure whose `pre` has stood and whose `post` is still to come: the name in its `pre`, and its block

@@ -1,7 +1,7 @@
 -- What it is to judge a construct: it gives what the construct becomes in the resolved program, or it faults, by the
 -- kind and the line of the first rule that is broken in it.
 use Rattle.std.specs.Prelude.{ℕ, Bool, true, false}
-use Rattle.edi_static.specs.declared.fault.StaticKind.{StaticKind}
+use Rattle.edi_static.specs.declared.faults.StaticKind.{StaticKind}
 
 pub data Judged (A : Type 0) : Type 0 where
   gives : A → Judged A

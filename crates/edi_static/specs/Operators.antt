@@ -13,7 +13,7 @@ use Rattle.edi_unit.specs.declared.expressions.Operator.TheVariants as op
 use Rattle.edi_unit.specs.Types.{Shape, set_of, int_type, bool_type, shape_at, is_elementary, is_set_shape}
 use Rattle.edi_unit.specs.Tree.{Expression, minus, chain, Link, link, Links, no_link, link_then}
 use Rattle.edi_unit.specs.Need.{operator_type}
-use Rattle.edi_static.specs.declared.fault.StaticKind.TheVariants as kind
+use Rattle.edi_static.specs.declared.faults.StaticKind.TheVariants as kind
 use Rattle.edi_static.specs.Judged.{Judged, gives, ◌>>=◌, must}
 
 -- an expression of the resolved program, with its type

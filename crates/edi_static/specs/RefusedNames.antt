@@ -5,7 +5,7 @@ use Rattle.edi_tree.specs.declared.constants.Constant.TheVariants as constant
 use Rattle.edi_tree.specs.declared.expressions.Root.TheVariants as root
 use Rattle.edi_tree.specs.Tree.{no_name, next_name, no_const_decl, next_const_decl, const_list, group, no_group, next_group, enum_decl, record_decl, var_list, heading, no_params, params, no_param, next_param, value_param, procedure_param, no_expr, numeral, string, call_factor, args, variable, field, no_selector, next_selector, list, no_statement, next_statement, skip, assignment, call, procedure, const_item, type_item, var_item, procedure_item, pre_item, post_item, module_with, item_member, exported_member, no_member, next_member, item_declaration, module_declaration, no_declaration, next_declaration, const_global, no_global, next_global, program}
 use Rattle.edi_unit.specs.Types.{size}
-use Rattle.edi_static.specs.declared.fault.StaticKind.TheVariants as kind
+use Rattle.edi_static.specs.declared.faults.StaticKind.TheVariants as kind
 use Rattle.edi_static.specs.Judged.{faults}
 use Rattle.edi_static.specs.Programs.{resolve_tree}
 use Rattle.edi_static.specs.Written.{id, only, named}

@@ -9,7 +9,7 @@ use Rattle.edi_tree.specs.declared.expressions.Multiplication.TheVariants as mul
 use Rattle.edi_tree.specs.declared.expressions.Root.TheVariants as root
 use Rattle.edi_tree.specs.Tree.{no_name, next_name, group, no_group, next_group, record_decl, array_decl, set_decl, var_list, heading, no_params, params, no_param, next_param, value_param, var_param, procedure_param, expr, no_comparison, compared, no_expr, simple, addend, no_addend, next_addend, term, multiplier, no_multiplier, next_multiplier, numeral, string, not_factor, call_factor, args, variable, field, index, no_selector, next_selector, list, no_statement, next_statement, skip, assignment, call, cobegin, branch, no_branch, next_branch, procedure, type_item, var_item, procedure_item, module_with, item_member, no_member, next_member, item_declaration, module_declaration, no_declaration, next_declaration, type_global, no_global, next_global, program}
 use Rattle.edi_unit.specs.Types.{size}
-use Rattle.edi_static.specs.declared.fault.StaticKind.TheVariants as kind
+use Rattle.edi_static.specs.declared.faults.StaticKind.TheVariants as kind
 use Rattle.edi_static.specs.Judged.{faults}
 use Rattle.edi_static.specs.Programs.{resolve_tree}
 use Rattle.edi_static.specs.Written.{id, single, sole, only, named}

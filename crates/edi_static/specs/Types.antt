@@ -12,7 +12,7 @@ use Rattle.edi_tree.specs.Tree as text
 use Rattle.edi_tree.specs.Tree.{Names, no_name, next_name, ConstDecls, ConstList, Groups, no_group, next_group, TypeDecl, VarList}
 use Rattle.edi_unit.specs.Types.{Shape, int_type, char_type, enumeration, record_of, array_of, set_of, is_elementary, shape_size, size, greatest_size}
 use Rattle.edi_unit.specs.Need.{block_at}
-use Rattle.edi_static.specs.declared.fault.StaticKind.TheVariants as kind
+use Rattle.edi_static.specs.declared.faults.StaticKind.TheVariants as kind
 use Rattle.edi_static.specs.Judged.{Judged, gives, faults, ◌>>=◌, must}
 use Rattle.edi_static.specs.Environment.{Environment, look_up, type_named, declare, with_type, here, next_variable, with_variable, set_block}
 

@@ -7,7 +7,7 @@ ghost use Rattle.edi_static.specs.Answers.{Answers};
 ghost use Rattle.edi_static.specs.Types as spec;
 ghost use Rattle.edi_static.specs.Views.{environment, ordinal_of};
 
-use crate::fault::{StaticFault, StaticKind};
+use crate::faults::{StaticFault, StaticKind};
 use crate::known::{Known, fault, must};
 use edi_scope::Entity;
 use edi_tree::{ConstDecl, ConstList, Constant};

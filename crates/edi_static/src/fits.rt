@@ -12,7 +12,7 @@ ghost use Rattle.edi_static.specs.Judged.{gives};
 ghost use Rattle.edi_static.specs.Fitting as spec;
 ghost use Rattle.edi_static.specs.Views.{environment, rooted_of, typed_of};
 
-use crate::fault::{StaticFault, StaticKind};
+use crate::faults::{StaticFault, StaticKind};
 use crate::known::{Known, fault, must, number};
 use crate::operands::{Typed, is_set};
 use edi_scope::Entity;

@@ -13,7 +13,7 @@ ghost use Rattle.edi_static.specs.Answers.{Answers};
 ghost use Rattle.edi_static.specs.Answers as answers;
 ghost use Rattle.edi_static.specs.Views.{environment};
 
-use crate::fault::{StaticFault, StaticKind};
+use crate::faults::{StaticFault, StaticKind};
 use crate::headings::Asked;
 use edi_scope::{Entity, ScopeFault, Scopes};
 use edi_tree::Name;

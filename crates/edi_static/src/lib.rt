@@ -4,7 +4,7 @@
 #![tactic(auto)]
 
 mod constants;
-mod fault;
+mod faults;
 mod fits;
 mod headings;
 mod known;
@@ -13,7 +13,7 @@ mod operands;
 mod parts;
 
 pub use constants::{Ordinal, const_list, constant};
-pub use fault::{StaticFault, StaticKind};
+pub use faults::{StaticFault, StaticKind};
 pub use fits::{
     Rooted, as_function, as_variable, character, element_type, empty_set, is_indexed_by, single,
     takes_parts, takes_strings, variable_argument,

@@ -10,7 +10,7 @@ ghost use Rattle.edi_static.specs.Operators as spec;
 ghost use Rattle.edi_static.specs.Answers.{Answers};
 ghost use Rattle.edi_static.specs.Views.{typed_of, linked_of};
 
-use crate::fault::{StaticFault, StaticKind};
+use crate::faults::{StaticFault, StaticKind};
 use crate::known::{Known, boxed, must};
 use edi_tree::{Addition, Multiplication, Relation, Sign};
 use edi_unit::{BOOL, INT, Link, Links, Operator, Shape, Value, operator_type};

@@ -8,7 +8,7 @@ ghost use Rattle.edi_static.specs.Expressions as rule;
 ghost use Rattle.edi_static.specs.Fitting as spec;
 ghost use Rattle.edi_static.specs.Views.{environment, parted_of, typed_of};
 
-use crate::fault::{StaticFault, StaticKind};
+use crate::faults::{StaticFault, StaticKind};
 use crate::fits::{element_type, is_indexed_by};
 use crate::known::{Known, boxed, fault, must, number};
 use crate::operands::Typed;
