@@ -190,6 +190,7 @@ impl Op<'_> {
     ghost use Rattle.edi_target.specs.View.{instruction_of, is_whole};
 
     /// Whether these are operands that the table of instructions allows. The words of branches come in threes.
+    #[inline(always)]
     pub fn is_allowed(&self) -> bool
         ensures { result ≡ (is_whole self.now && is_allowed (instruction_of self.now)) }
     {

@@ -8,6 +8,7 @@ ghost use Rattle.edi_target.specs.View.{Shows, Found, instruction_of, is_whole};
 use crate::op::Op;
 
 /// The code address of two words.
+#[inline(always)]
 pub fn address(high: u16, low: u16) -> u32
     ensures { result ≡ address_of_words high low }
 {
@@ -15,6 +16,7 @@ pub fn address(high: u16, low: u16) -> u32
 }
 
 // CONST to STORE, and nothing of the number 0
+#[inline(always)]
 fn data_op<'a>(number: u16, operands: &'a [u16]) -> Option<(Op<'a>, u32)>
     requires { number ≤ 8 }
     ensures gives { Shows result (shaped (number ∷ operands.now)) }
@@ -73,6 +75,7 @@ fn data_op<'a>(number: u16, operands: &'a [u16]) -> Option<(Op<'a>, u32)>
 }
 
 // ADD to NE
+#[inline(always)]
 fn arithmetic_op<'a>(number: u16, operands: &'a [u16]) -> Option<(Op<'a>, u32)>
     requires low { 9 ≤ number }
     requires high { number ≤ 17 }
@@ -119,6 +122,7 @@ fn arithmetic_op<'a>(number: u16, operands: &'a [u16]) -> Option<(Op<'a>, u32)>
 }
 
 // LT to IN: comparisons, and operators of sets
+#[inline(always)]
 fn comparison_op<'a>(number: u16, operands: &'a [u16]) -> Option<(Op<'a>, u32)>
     requires low { 18 ≤ number }
     requires high { number ≤ 25 }
@@ -140,6 +144,7 @@ fn comparison_op<'a>(number: u16, operands: &'a [u16]) -> Option<(Op<'a>, u32)>
 }
 
 // MEMBER to LOOP
+#[inline(always)]
 fn jump_op<'a>(number: u16, operands: &'a [u16]) -> Option<(Op<'a>, u32)>
     requires low { 26 ≤ number }
     requires high { number ≤ 32 }
@@ -213,6 +218,7 @@ fn jump_op<'a>(number: u16, operands: &'a [u16]) -> Option<(Op<'a>, u32)>
 }
 
 // ENTRY to HALT
+#[inline(always)]
 fn block_op<'a>(number: u16, operands: &'a [u16]) -> Option<(Op<'a>, u32)>
     requires low { 33 ≤ number }
     requires high { number ≤ 38 }
@@ -279,6 +285,7 @@ fn block_op<'a>(number: u16, operands: &'a [u16]) -> Option<(Op<'a>, u32)>
 }
 
 // WHEN to QUIET, and nothing of the numbers above
+#[inline(always)]
 fn process_op<'a>(number: u16, operands: &'a [u16]) -> Option<(Op<'a>, u32)>
     requires { 39 ≤ number }
     ensures gives { Shows result (shaped (number ∷ operands.now)) }
@@ -326,6 +333,7 @@ fn process_op<'a>(number: u16, operands: &'a [u16]) -> Option<(Op<'a>, u32)>
 }
 
 // An instruction of any operands at the front of the words, and its length.
+#[inline(always)]
 fn op_at(words: &[u16]) -> Option<(Op<'_>, u32)>
     ensures gives { Shows result (shaped words.now) }
     ensures whole { IfSome result (λ r. IsTrue (is_whole r.0)) }
@@ -347,6 +355,7 @@ fn op_at(words: &[u16]) -> Option<(Op<'_>, u32)>
 
 /// The instruction at an address, and the next address. `None` where no instruction of the table stands there whole, or its
 /// operands are not allowed.
+#[inline(always)]
 pub fn read_op(words: &[u16], at: u32) -> Option<(Op<'_>, u32)>
     requires { length words.now < 2 ^ 32 }
     ensures found { IfSome result (λ r. Found words.now at (instruction_of r.0) r.1) }
