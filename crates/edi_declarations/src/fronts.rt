@@ -1,0 +1,67 @@
+//! Whether a part may begin with the symbol in front.
+
+ghost use Rattle.std.specs.Prelude.{◌≡◌};
+ghost use Rattle.edi_grammar.specs.Kind.{front};
+ghost use Rattle.edi_grammar.specs.Parser.{has};
+ghost use Rattle.edi_grammar.specs.Rules as g;
+ghost use Rattle.edi_grammar.specs.Edison as sets;
+
+use edi_lex::{Mark, Symbol};
+
+/// Whether an item or a module is in front.
+pub fn at_declaration(marks: &[Mark]) -> bool
+    ensures exact { result ≡ has (front marks.now) (sets.first g.Declaration) }
+{
+    match marks.first() {
+        Some(mark) => matches!(
+            mark.symbol,
+            Symbol::Array
+                | Symbol::Const
+                | Symbol::Enum
+                | Symbol::Module
+                | Symbol::Post
+                | Symbol::Pre
+                | Symbol::Proc
+                | Symbol::Record
+                | Symbol::Set
+                | Symbol::Var
+        ),
+        None => false,
+    }
+}
+
+/// Whether an item, with or without `*`, or a module is in front.
+pub fn at_member(marks: &[Mark]) -> bool
+    ensures exact { result ≡ has (front marks.now) (sets.first g.Member) }
+{
+    match marks.first() {
+        Some(mark) => matches!(
+            mark.symbol,
+            Symbol::Array
+                | Symbol::Const
+                | Symbol::Enum
+                | Symbol::Module
+                | Symbol::Post
+                | Symbol::Pre
+                | Symbol::Proc
+                | Symbol::Record
+                | Symbol::Set
+                | Symbol::Var
+                | Symbol::Star
+        ),
+        None => false,
+    }
+}
+
+/// Whether a list of constants or the declaration of a type is in front.
+pub fn at_global(marks: &[Mark]) -> bool
+    ensures exact { result ≡ has (front marks.now) (sets.first g.Global) }
+{
+    match marks.first() {
+        Some(mark) => matches!(
+            mark.symbol,
+            Symbol::Array | Symbol::Const | Symbol::Enum | Symbol::Record | Symbol::Set
+        ),
+        None => false,
+    }
+}
