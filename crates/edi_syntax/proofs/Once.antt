@@ -1,12 +1,11 @@
 -- Marks have one syntax fault at most, and then no program.
-use Rattle.std.proofs.Common.{◌≡◌, ℕ, ◌<◌, ◌≤◌, List, [], ◌∷◌, ◌++◌, length, Option, Some, Bool, true, false, refl, sym, ap, ◌∙◌, subst, arith, append_assoc, ◌⊎◌, inl, inr}
+use Rattle.std.proofs.Common.{◌≡◌, ℕ, ◌≤◌, List, [], ◌∷◌, ◌++◌, length, Option, Some, Result, Err, Bool, true, false, refl, sym, ap, ◌∙◌, subst, arith, append_assoc, ◌⊎◌, inl, inr}
 use Rattle.edi_lex.specs.declared.symbol.Mark.{Mark}
 use Rattle.edi_tree.specs.Tree.{Program}
-use Rattle.edi_tree.specs.Spells.{Spells, to_end, Begins}
-use Rattle.edi_tree.specs.Levels.{Level}
+use Rattle.edi_tree.specs.Spells.{Spells, Begins}
 use Rattle.edi_tree.specs.Depth.{depth}
 use Rattle.edi_derivation.specs.Faults.{somes, AreShallow, IsMisplaced, IsTooDeepAt}
-use Rattle.edi_syntax.specs.Refusal.{line_of, is_outside, IsWrong, IsDeep, IsSyntaxFault}
+use Rattle.edi_syntax.specs.Refusal.{line_of, is_outside, IsWrong, IsSyntaxFault, Refuses}
 use Rattle.edi_syntax.specs.declared.fault.SyntaxFault.{SyntaxFault}
 use Rattle.edi_syntax.specs.declared.fault.SyntaxFault.TheVariants as fault
 use Rattle.edi_syntax.proofs.Places.{IsBehind, apart, front_begins, level_in, level_of}
@@ -83,3 +82,20 @@ no_tree marks last (fault.Syntax l i) tree p h small = tree_not_misplaced marks 
 no_tree marks last (fault.TooDeep l i) tree p h small = tree_not_deep marks p.before p.m tree p.deep h small
 no_tree marks last (fault.NotInProfile l i) tree p h small = tree_not_misplaced marks p.before p.here tree p.misplaced h
 no_tree marks last fault.NoMemory tree p h small = p
+
+-- what refuses marks that a program spells is want of memory
+pub refuses_no_program : (marks : List Mark) (last : ℕ) (e : SyntaxFault) (tree : Program) → Refuses marks last e → Spells tree marks → depth tree ≤ 64 → e ≡ fault.NoMemory
+refuses_no_program marks last (fault.Syntax l i) tree r h small = absurd (no_tree marks last (fault.Syntax l i) tree r h small)
+refuses_no_program marks last (fault.TooDeep l i) tree r h small = absurd (no_tree marks last (fault.TooDeep l i) tree r h small)
+refuses_no_program marks last (fault.NotInProfile l i) tree r h small = absurd (no_tree marks last (fault.NotInProfile l i) tree r h small)
+refuses_no_program marks last fault.NoMemory tree r h small = refl
+
+abbrev pub the_err : (A : Type 0) → SyntaxFault → Result A SyntaxFault
+the_err A e = Err e
+
+-- what refuses marks is their fault, or want of memory
+pub refuses_by_it : {A : Type 0} (marks : List Mark) (last : ℕ) (e f : SyntaxFault) → Refuses marks last e → IsSyntaxFault marks last f → (the_err A e ≡ the_err A f) ⊎ (the_err A e ≡ the_err A fault.NoMemory)
+refuses_by_it {A} marks last (fault.Syntax l i) f r h = inl (ap (the_err A) (same_fault marks last (fault.Syntax l i) f r h))
+refuses_by_it {A} marks last (fault.TooDeep l i) f r h = inl (ap (the_err A) (same_fault marks last (fault.TooDeep l i) f r h))
+refuses_by_it {A} marks last (fault.NotInProfile l i) f r h = inl (ap (the_err A) (same_fault marks last (fault.NotInProfile l i) f r h))
+refuses_by_it marks last fault.NoMemory f r h = inr refl

@@ -1,5 +1,5 @@
 -- Whether a `begin` stands in marks whose closing `end` does not.
-use Rattle.std.specs.Prelude.{Bool, true, false, List, [], ◌∷◌, ◌||◌, if◌then◌else◌}
+use Rattle.std.specs.Prelude.{ℕ, zero, suc, Bool, true, false, List, [], ◌∷◌, ◌||◌, if◌then◌else◌}
 use Rattle.edi_lex.specs.declared.symbol.Symbol.{Symbol}
 use Rattle.edi_lex.specs.declared.symbol.Symbol.TheVariants as is
 use Rattle.edi_lex.specs.declared.symbol.Mark.{Mark}
@@ -42,3 +42,12 @@ has_begin (o ∷ waiting) = o || has_begin waiting
 
 abbrev pub is_in_begin : List Mark → Bool
 is_in_begin marks = has_begin (open_behind [] marks)
+
+-- how many wait from the outermost `begin` on, itself counted, where so many do without the innermost
+abbrev pub one_more : ℕ → Bool → ℕ
+one_more zero o = if o then 1 else 0
+one_more (suc h) o = suc (suc h)
+
+abbrev pub height : List Bool → ℕ
+height [] = 0
+height (o ∷ waiting) = one_more (height waiting) o

@@ -2,6 +2,9 @@
 #![tactic(auto)]
 
 mod fault;
+mod inside;
 pub mod laws;
+mod programs;
 
 pub use fault::SyntaxFault;
+pub use programs::parse;
