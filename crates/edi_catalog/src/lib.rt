@@ -4,6 +4,7 @@
 mod blocks;
 mod catalog;
 mod changes;
+mod contents;
 mod ends;
 mod entries;
 mod entry;
@@ -11,13 +12,17 @@ mod faults;
 mod fields;
 mod files;
 mod formatting;
+mod free;
 pub mod laws;
+mod laying;
 mod maps;
 mod mounting;
 mod pages;
+mod putting;
 mod reading;
 mod slots;
 mod stored;
+mod storing;
 mod title;
 mod writing;
 
