@@ -1,18 +1,15 @@
 -- Constructs that the code does in another order than they are stated: what is put behind the others comes first there.
-use Rattle.std.proofs.Common.{◌≡◌, ℕ, Bool, true, false, nat_le, List, [], length, Err, sym, ap, subst, ◌∙◌}
+use Rattle.std.proofs.Common.{◌≡◌, ℕ, Bool, false, List, [], length, sym, ap, ◌∙◌}
 use Rattle.edi_scope.specs.declared.entity.Entity.TheVariants as entity
 use Rattle.edi_tree.specs.declared.names.Name.{Name}
 use Rattle.edi_tree.specs.Tree as text
-use Rattle.edi_unit.specs.Types.{Shape, enumeration, shape_size, size, greatest_size}
+use Rattle.edi_unit.specs.Types.{enumeration}
 use Rattle.edi_unit.specs.Fits.{Formals, no_formal, procedure_then}
-use Rattle.edi_static.specs.declared.faults.StaticFault.{StaticFault}
-use Rattle.edi_static.specs.declared.faults.StaticFault.TheVariants as fault
 use Rattle.edi_static.specs.Judged.{Judged, gives, faults, ◌>>=◌}
-use Rattle.edi_static.specs.Answers.{Answers}
 use Rattle.edi_static.specs.Environment.{Environment, declare, with_type, with_shape, formals_append}
 use Rattle.edi_static.specs.Headings.{Listed, Headed, leave, next_parameter, param_named, procedure_named}
-use Rattle.edi_static.specs.Types.{declare_type, enum_constants, enum_decl, names_count}
-use Rattle.edi_static.proofs.Steps.{typed_decl, typed_enum, shaped_named}
+use Rattle.edi_static.specs.Types.{enum_constants, enum_decl, names_count}
+use Rattle.edi_static.proofs.Steps.{typed_enum, shaped_named}
 
 abbrev given_or : {A : Type 0} → A → Judged A → A
 given_or d (gives a) = a
@@ -20,11 +17,6 @@ given_or d (faults why line) = d
 
 pub given : {A : Type 0} {a b : A} → gives a ≡ gives b → a ≡ b
 given {A} {a} {b} e = ap (given_or a) e
-
--- what stands behind a construct that has no answer has none
-pub stopped : {A B C D : Type 0} (view : C → A) (then_view : D → B) (e : StaticFault) (j : Judged A) (f : A → Judged B) → Answers view (Err e) j → Answers then_view (Err e) (j >>= f)
-stopped view then_view (fault.At why line) j f h = ap (λ j. j >>= f) h
-stopped view then_view fault.NoMemory j f h = tt
 
 -- an enumeration whose type stands behind the others already
 pub enum_behind : (m : Bool) (name : Name) (ns : text.Names) (env next : Environment) (fields : List (List ℕ)) (n of : ℕ) → n ≡ names_count ns → of ≡ length env.types →
@@ -36,15 +28,6 @@ enum_behind m name ns env next fields n of count is none behind =
     ∙ ap (λ k. declare m name (entity.Types of) (with_type (enumeration k) [] env) >>= enum_constants m of 0 ns) (sym count)
     ∙ ap (λ fs. declare m name (entity.Types of) (with_type (enumeration n) fs env) >>= enum_constants m of 0 ns) (sym none)
     ∙ ap (λ e. declare m name (entity.Types of) e >>= enum_constants m of 0 ns) (given behind)
-
--- and any other type
-pub type_behind : (m : Bool) (name : Name) (shape : Shape) (fields : List (List ℕ)) (env next : Environment) (of : ℕ) → nat_le (shape_size (size env.types) shape) greatest_size ≡ true → of ≡ length env.types →
-    gives (with_type shape fields env) ≡ gives next →
-    declare_type m name shape fields env ≡ declare m name (entity.Types of) next
-type_behind m name shape fields env next of small is behind =
-    typed_decl m name shape fields env small
-    ∙ ap (λ t. declare m name (entity.Types t) (with_type shape fields env)) (sym is)
-    ∙ ap (declare m name (entity.Types of)) (given behind)
 
 -- a value or a `var` parameter
 pub param_given : (block before of : ℕ) (one : Formals) (name : Name) (env last : Environment) (fs more : Formals) (variable : ℕ) →
@@ -81,13 +64,3 @@ procedure_behind block before name fs more inner left next last variable shape n
     procedure_is block before name fs inner left next variable shape numbered kept out behind
     ∙ ap (λ j. j >>= named_behind fs inner) declared
     ∙ ap (λ fs. gives (record { env = last; formals = fs })) (sym is)
-
--- and whose name is not new
-pub procedure_stopped : {C D : Type 0} (view : C → Environment) (then_view : D → Listed) (block before : ℕ) (name : Name) (fs : Formals) (inner : Headed) (left next : Environment) (variable shape : ℕ) (e : StaticFault) →
-    gives (next_parameter block before fs) ≡ gives variable → gives (length inner.env.shapes) ≡ gives shape →
-    left ≡ leave inner.env → gives (with_shape inner.asks left) ≡ gives next →
-    Answers view (Err e) (declare false name (entity.Formal block variable shape) next) →
-    Answers then_view (Err e) (procedure_named block before name fs inner)
-procedure_stopped view then_view block before name fs inner left next variable shape e numbered kept out behind declared =
-    subst (Answers then_view (Err e)) (sym (procedure_is block before name fs inner left next variable shape numbered kept out behind))
-    (stopped view then_view e (declare false name (entity.Formal block variable shape) next) (named_behind fs inner) declared)

@@ -1,18 +1,15 @@
 -- Whatever a name means stays known.
-use Rattle.std.proofs.Common.{◌≡◌, ℕ, ◌<◌, ◌+◌, Bool, true, false, cond, if◌then◌else◌, List, [], ◌∷◌, ◌++◌, length, take, set, get_or, map, Option, Some, None, Result, Ok, Err, IsTrue, IfSome, OnOk, refl, sym, ap, subst, ◌∙◌, arith}
+use Rattle.std.proofs.Common.{◌≡◌, ℕ, ◌<◌, ◌+◌, Bool, true, false, cond, List, [], ◌∷◌, ◌++◌, length, set, get_or, map, Option, Some, None, IsTrue, IfSome, sym, ap, subst, ◌∙◌, arith}
 use Rattle.std.proofs.lemmas.List.{length-append, get_or_append_left, length-set, map-append, map-set, get_or-map}
 use Rattle.std.specs.Option.{option_or}
 use Rattle.std.specs.Str.{bytes_eq}
 use Rattle.edi_scope.specs.declared.entity.Entity.{Entity}
 use Rattle.edi_scope.specs.declared.entity.Entity.TheVariants as entity
-use Rattle.edi_scope.specs.declared.entity.ScopeFault.{ScopeFault}
-use Rattle.edi_scope.specs.declared.entity.ScopeFault.TheVariants as scope_fault
-use Rattle.edi_scope.specs.Scope.{Scope, meaning, visible, outside, with_name, exported}
-use Rattle.edi_unit.specs.Types.{Shape, int, is_elementary_shape, IsTypeTable, standard_types}
+use Rattle.edi_scope.specs.Scope.{Scope, meaning, visible, outside}
+use Rattle.edi_unit.specs.Types.{Shape, int, is_elementary_shape, IsTypeTable}
 use Rattle.edi_unit.specs.Tree.{Block}
 use Rattle.edi_unit.specs.Fits.{Heading}
-use Rattle.edi_static.specs.Answers.{told_at}
-use Rattle.edi_static.specs.Environment.{Begun, Environment, at_first, enter, with_type, with_block, with_shape, set_block}
+use Rattle.edi_static.specs.Environment.{Begun, Environment, enter, with_type, with_block, with_shape, set_block}
 use Rattle.edi_static.specs.Headings.{leave}
 use Rattle.edi_static.specs.Proper.{Proper, EntityFits, NumbersFit, NamesFit, ScopesFit}
 
@@ -26,25 +23,9 @@ scopes_fit : (P Q : Entity → Type 0) → ((e : Entity) → P e → Q e) → (s
 scopes_fit P Q f [] h = tt
 scopes_fit P Q f (scope ∷ outer) h = (names_fit P Q f scope.names h.0, scopes_fit P Q f outer h.1)
 
-with_name_fit : (P : Entity → Type 0) (name : List ℕ) (e : Entity) (scopes : List Scope) → P e → ScopesFit P scopes → ScopesFit P (with_name name e scopes)
-with_name_fit P name e [] p h = h
-with_name_fit P name e (scope ∷ outer) p h = ((p, h.0), h.1)
-
-exported_fit : (P : Entity → Type 0) (name : List ℕ) (e : Entity) (scopes : List Scope) → P e → ScopesFit P scopes → ScopesFit P (exported name e scopes)
-exported_fit P name e [] p h = h
-exported_fit P name e (scope ∷ outer) p h = (h.0, with_name_fit P name e outer p h.1)
-
-declared_fit : (P : Entity → Type 0) (m : Bool) (name : List ℕ) (e : Entity) (scopes : List Scope) → P e → ScopesFit P scopes → ScopesFit P (if m then exported name e (with_name name e scopes) else with_name name e scopes)
-declared_fit P true name e scopes p h = exported_fit P name e (with_name name e scopes) p (with_name_fit P name e scopes p h)
-declared_fit P false name e scopes p h = with_name_fit P name e scopes p h
-
 outside_fit : (P : Entity → Type 0) (scopes : List Scope) → ScopesFit P scopes → ScopesFit P (outside scopes)
 outside_fit P [] h = h
 outside_fit P (scope ∷ outer) h = h.1
-
-round_fit : (P : Entity → Type 0) (scopes outer : List Scope) → ScopesFit P scopes → ScopesFit P outer → ScopesFit P (take 1 scopes ++ outer)
-round_fit P [] outer h k = k
-round_fit P (scope ∷ others) outer h k = (h.0, k)
 
 pick : (P : Entity → Type 0) (b : Bool) (e : Entity) (o : Option Entity) → P e → IfSome o P → IfSome (cond b (Some e) o) P
 pick P true e o p h = p
@@ -133,48 +114,11 @@ around_proper around begun env h = record { table = h.table; entities = h.entiti
 
 -- ---- scopes
 
-abbrev with_scopes : List Scope → Environment → Environment
-with_scopes scopes env = record env { scopes = scopes }
-
-pub scopes_proper : (scopes : List Scope) (env : Environment) → ScopesFit (EntityFits env) scopes → Proper env → Proper (with_scopes scopes env)
-scopes_proper scopes env k h = record { table = h.table; entities = k; headings = h.headings }
-
 pub enter_proper : (m : Bool) (env : Environment) → Proper env → Proper (enter m env)
 enter_proper m env h = record { table = h.table; entities = (tt, h.entities); headings = h.headings }
 
 pub leave_proper : (env : Environment) → Proper env → Proper (leave env)
 leave_proper env h = record { table = h.table; entities = outside_fit (EntityFits env) env.scopes h.entities; headings = h.headings }
-
--- a name is declared, where the scopes say so
-pub declared_proper : (told : Result (Unit {0}) ScopeFault) (line : ℕ) (m : Bool) (name : List ℕ) (e : Entity) (env : Environment) (scopes : List Scope) →
-    OnOk told (scopes ≡ (if m then exported name e (with_name name e env.scopes) else with_name name e env.scopes)) →
-    EntityFits env e → Proper env → OnOk (told_at line told) (Proper (with_scopes scopes env))
-declared_proper (Ok u) line m name e env scopes is p h =
-    scopes_proper scopes env (subst (ScopesFit (EntityFits env)) (sym is) (declared_fit (EntityFits env) m name e env.scopes p h.entities)) h
-declared_proper (Err scope_fault.Ambiguous) line m name e env scopes is p h = tt
-declared_proper (Err scope_fault.NoMemory) line m name e env scopes is p h = tt
-
-pub round_proper : (told : Result (Unit {0}) ScopeFault) (line : ℕ) (m : Bool) (name : List ℕ) (e : Entity) (env : Environment) (scopes : List Scope) →
-    OnOk told (scopes ≡ take 1 env.scopes ++ (if m then exported name e (with_name name e (outside env.scopes)) else with_name name e (outside env.scopes))) →
-    EntityFits env e → Proper env → OnOk (told_at line told) (Proper (with_scopes scopes env))
-round_proper (Ok u) line m name e env scopes is p h =
-    let P : Entity → Type 0 = EntityFits env in
-    scopes_proper scopes env
-    (subst (ScopesFit P) (sym is)
-    (round_fit P env.scopes _ h.entities (declared_fit P m name e (outside env.scopes) p (outside_fit P env.scopes h.entities)))) h
-round_proper (Err scope_fault.Ambiguous) line m name e env scopes is p h = tt
-round_proper (Err scope_fault.NoMemory) line m name e env scopes is p h = tt
-
-pub outside_proper : (told : Result (Unit {0}) ScopeFault) (line : ℕ) (name : List ℕ) (e : Entity) (env : Environment) (scopes : List Scope) →
-    OnOk told (scopes ≡ take 1 env.scopes ++ exported name e (outside env.scopes)) →
-    EntityFits env e → Proper env → OnOk (told_at line told) (Proper (with_scopes scopes env))
-outside_proper (Ok u) line name e env scopes is p h =
-    let P : Entity → Type 0 = EntityFits env in
-    scopes_proper scopes env
-    (subst (ScopesFit P) (sym is)
-    (round_fit P env.scopes _ h.entities (exported_fit P name e (outside env.scopes) p (outside_fit P env.scopes h.entities)))) h
-outside_proper (Err scope_fault.Ambiguous) line name e env scopes is p h = tt
-outside_proper (Err scope_fault.NoMemory) line name e env scopes is p h = tt
 
 -- ---- used names
 
@@ -183,24 +127,6 @@ pub means_known : (env : Environment) (name : List ℕ) (e : Entity) → Some e 
 means_known env name e is h = subst (λ o. IfSome o (EntityFits env)) (sym is) (visible_fits (EntityFits env) env.scopes name h.entities)
 
 -- ---- at first
-
-pub at_first_proper : IsTypeTable standard_types → Proper at_first
-at_first_proper table = record {
-  table = table;
-  entities =
-      ((omega arith, (omega arith, (omega arith, ((omega arith, refl), ((omega arith, refl), (tt, tt)))))), tt);
-  headings = refl;
-}
-
--- `int` and `char` are known and elementary
-pub int_known : (types : List Shape) → IsTypeTable types → (0 < length types) × IsTrue (is_elementary_shape (get_or types 0 int))
-int_known [] h = absurd (omega (arith, h.three))
-int_known (a ∷ types) h = (omega arith, subst (λ s. IsTrue (is_elementary_shape s)) (sym (ap (λ xs. get_or xs 0 int) h.standard)) refl)
-
-pub char_known : (types : List Shape) → IsTypeTable types → (1 < length types) × IsTrue (is_elementary_shape (get_or types 1 int))
-char_known [] h = absurd (omega (arith, h.three))
-char_known (a ∷ []) h = absurd (omega (arith, h.three))
-char_known (a ∷ b ∷ types) h = (omega arith, subst (λ s. IsTrue (is_elementary_shape s)) (sym (ap (λ xs. get_or xs 1 int) h.standard)) refl)
 
 -- ---- tables of the code
 
@@ -219,9 +145,6 @@ blocks_proper blocks headings block asks env b a h =
 
 pub shapes_proper : (shapes : List Heading) (asks : Heading) (env : Environment) → shapes ≡ env.shapes ++ asks ∷ [] → Proper env → Proper (record env { shapes = shapes })
 shapes_proper shapes asks env e h = subst (λ ss. Proper (record env { shapes = ss })) (sym e) (with_shape_proper asks env h)
-
-pub changed_proper : (blocks : List Block) (env : Environment) → length blocks ≡ length env.blocks → Proper env → Proper (record env { blocks = blocks })
-changed_proper blocks env e h = record { table = h.table; entities = h.entities; headings = h.headings ∙ sym e }
 
 -- a block of the code is changed
 pub set_seen : {A B : Type 0} (f : A → B) (g : B → B) (xs : List A) (at : ℕ) (x y : A) (d : B) → at < length xs → x ≡ get_or xs at x → f y ≡ g (f x) → set (map f xs) at (g (get_or (map f xs) at d)) ≡ map f (set xs at y)

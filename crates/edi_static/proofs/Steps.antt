@@ -1,22 +1,19 @@
 -- What a declaration gives is the same, whether a type, a block or a heading comes before the name or behind it.
-use Rattle.std.proofs.Common.{◌≡◌, ℕ, suc, Bool, true, false, if◌then◌else◌, ◌||◌, ◌&&◌, nat_lt, nat_le, ◌<◌, ◌≤◌, ◌↔◌, List, [], ◌∷◌, length, All, IsTrue, is_some, refl, sym, ap, ◌∙◌, arith}
+use Rattle.std.proofs.Common.{◌≡◌, ℕ, suc, Bool, true, false, if◌then◌else◌, ◌||◌, ◌&&◌, nat_lt, List, [], ◌∷◌, length, is_some, refl, sym, ap, ◌∙◌}
 use Rattle.edi_scope.specs.declared.entity.Entity.{Entity}
 use Rattle.edi_scope.specs.declared.entity.Entity.TheVariants as entity
 use Rattle.edi_scope.specs.Scope.{declared, outside}
 use Rattle.edi_tree.specs.declared.names.Name.{Name}
 use Rattle.edi_tree.specs.Tree as text
 use Rattle.edi_tree.specs.View.{names}
-use Rattle.edi_unit.specs.Types.{Shape, enumeration, shape_size, size, greatest_size, is_elementary, named_types, ordinal_types, HasOrderedBounds, IsDeclarable}
+use Rattle.edi_unit.specs.Types.{Shape, enumeration}
 use Rattle.edi_unit.specs.Fits.{Heading, Formals, no_formal, procedure_then}
 use Rattle.edi_static.specs.declared.faults.StaticKind.{StaticKind}
 use Rattle.edi_static.specs.declared.faults.StaticKind.TheVariants as kind
 use Rattle.edi_static.specs.Judged.{Judged, gives, faults, ◌>>=◌, must}
 use Rattle.edi_static.specs.Environment.{Environment, declare, with_type, with_shape, formals_append}
 use Rattle.edi_static.specs.Headings.{Listed, Headed, leave, next_parameter, procedure_named}
-use Rattle.edi_static.specs.Types.{declare_type, enum_constant, enum_constants, enum_decl, most_constants, names_count}
-
-false_true : IsTrue false → ⊥
-false_true h = cc
+use Rattle.edi_static.specs.Types.{enum_constant, enum_constants, enum_decl, most_constants, names_count}
 
 -- a change of the environment that stands before a construct can as well stand behind it
 chosen : (b : Bool) (why : StaticKind) (line : ℕ) (f : Environment → Environment) (x : Environment) → (if b then faults why line else gives (f x)) ≡ ((if b then faults why line else gives x) >>= λ e. gives (f e))
@@ -66,52 +63,9 @@ pub count : (ns : List Name) → names_count (names ns) ≡ length ns
 count [] = refl
 count (n ∷ ns) = ap suc (count ns)
 
--- beyond the greatest number of constants a new name is a fault, and so is one that is not new
-pub excess_gives : (b : Bool) (x y after : Environment) (why k : StaticKind) (line l n most : ℕ) → nat_lt n most ≡ false →
-    (if b then faults why line else gives x) ≡ gives after →
-    ((if b then faults why line else gives y) >>= λ e. must (nat_lt n most) k l >>= λ _. gives e) ≡ faults k l
-excess_gives true x y after why k line l n most h e = absurd (cc)
-excess_gives false x y after why k line l n most h e = ap (λ b. must b k l >>= λ _. gives y) h
-
-pub excess_faults : (b : Bool) (x y : Environment) (why k found : StaticKind) (line l at n most : ℕ) →
-    (if b then faults why line else gives x) ≡ faults found at →
-    ((if b then faults why line else gives y) >>= λ e. must (nat_lt n most) k l >>= λ _. gives e) ≡ faults found at
-excess_faults true x y why k found line l at n most e = e
-excess_faults false x y why k found line l at n most e = absurd (cc)
-
--- a rule that holds leaves what is judged
-pub rule_holds : (j : Judged Environment) (b : Bool) (why : StaticKind) (line : ℕ) → b ≡ true → (j >>= λ e. must b why line >>= λ _. gives e) ≡ j
-rule_holds (gives a) b why line h = ap (λ b. must b why line >>= λ _. gives a) h
-rule_holds (faults k l) b why line h = refl
-
 again : {B : Type 0} (j : Judged Environment) (f : Environment → Environment) (g : Environment → Judged B) → ((j >>= λ e. gives (f e)) >>= g) ≡ (j >>= λ e. g (f e))
 again (gives a) f g = refl
 again (faults why line) f g = refl
-
--- a declared type whose size is small enough
-pub typed_decl : (m : Bool) (name : Name) (shape : Shape) (fields : List (List ℕ)) (env : Environment) → nat_le (shape_size (size env.types) shape) greatest_size ≡ true →
-    declare_type m name shape fields env ≡ declare m name (entity.Types (length env.types)) (with_type shape fields env)
-typed_decl m name shape fields env h =
-    ap (λ b. must b kind.Range name.line >>= λ _. declare m name (entity.Types (length env.types)) env >>= λ env. gives (with_type shape fields env)) h
-    ∙ sym (typed_declare m name _ shape fields env)
-
-pub large_decl : (m : Bool) (name : Name) (shape : Shape) (fields : List (List ℕ)) (env : Environment) → nat_le (shape_size (size env.types) shape) greatest_size ≡ false →
-    declare_type m name shape fields env ≡ faults kind.Range name.line
-large_decl m name shape fields env h =
-    ap (λ b. must b kind.Range name.line >>= λ _. declare m name (entity.Types (length env.types)) env >>= λ env. gives (with_type shape fields env)) h
-
-at_most : (a b : ℕ) → a ≤ b → nat_le a b ≡ true
-at_most a b h = grind arith
-
--- where the other parts of what may be declared hold, the size alone decides
-pub size_decides : (types : List Shape) (shape : Shape) (declarable : Bool) → (IsTrue declarable ↔ IsDeclarable types shape) →
-    All (λ t. t < length types) (named_types shape) → All (λ t. IsTrue (is_elementary types t)) (ordinal_types shape) → HasOrderedBounds shape →
-    nat_le (shape_size (size types) shape) greatest_size ≡ declarable
-size_decides types shape true h named elementary ordered = at_most _ _ (h.0 refl).small
-size_decides types shape false h named elementary ordered = go (nat_le (shape_size (size types) shape) greatest_size) refl where
-  go : (b : Bool) → nat_le (shape_size (size types) shape) greatest_size ≡ b → b ≡ false
-  go false e = refl
-  go true e = absurd (false_true (h.1 (record { known = named; elementary = elementary; ordered = ordered; small = grind (arith, e) })))
 
 -- the name of a procedure parameter
 pub shaped_named : (block before : ℕ) (name : Name) (fs : Formals) (inner : Headed) →
