@@ -52,19 +52,24 @@ pub record Cut (es : List Element) (front : List Mark) (m : Mark) : Type 0 where
   pub stand : Stand (marks_among before) front
   pub stands : Stands s m
 
+behind_end : {es : List Element} {front : List Mark} {m : Mark} → Cut es front m → Cut (level_end ∷ es) front m
+behind_end c = record { before = level_end ∷ c.before; s = c.s; after = c.after; cut = ap (λ l. level_end ∷ l) c.cut; stand = c.stand; stands = c.stands }
+
+behind_mark : {es : List Element} {front : List Mark} {m : Mark} (s : Spelled) (b : Mark) → Stands s b → Cut es front m → Cut (mark s ∷ es) (b ∷ front) m
+behind_mark s b st c = record { before = mark s ∷ c.before; s = c.s; after = c.after; cut = ap (λ l. mark s ∷ l) c.cut; stand = (st, c.stand); stands = c.stands }
+
 pub cut_of : (es : List Element) (marks front : List Mark) (m : Mark) (rest : List (Option Mark)) → Stand (marks_among es) marks → to_end marks ≡ somes front ++ Some m ∷ rest → Cut es front m
 cut_of [] [] [] m rest h e = cc
 cut_of [] [] (b ∷ front) m rest h e = cc
 cut_of [] (c ∷ marks) front m rest h e = absurd h
-cut_of (level_end ∷ es) marks front m rest h e = let more = cut_of es marks front m rest h e in record { before = level_end ∷ more.before; s = more.s; after = more.after; cut = ap (λ l. level_end ∷ l) more.cut; stand = more.stand; stands = more.stands }
+cut_of (level_end ∷ es) marks front m rest h e = behind_end (cut_of es marks front m rest h e)
 cut_of (mark s ∷ es) [] front m rest h e = absurd h
 cut_of (mark s ∷ es) (c ∷ marks) [] m rest h e = let same : c ≡ m = cc in record { before = []; s = s; after = es; cut = refl; stand = tt; stands = subst (λ m. Stands s m) same h.0 }
 cut_of (mark s ∷ es) (c ∷ marks) (b ∷ front) m rest h e =
     let heads : Some c ∷ to_end marks ≡ Some b ∷ (somes front ++ Some m ∷ rest) = e in
     let same : c ≡ b = cc in
     let less : to_end marks ≡ somes front ++ Some m ∷ rest = cc in
-    let more = cut_of es marks front m rest h.1 less in
-    record { before = mark s ∷ more.before; s = more.s; after = more.after; cut = ap (λ l. mark s ∷ l) more.cut; stand = (subst (λ m. Stands s m) same h.0, more.stand); stands = more.stands }
+    behind_mark s b (subst (λ m. Stands s m) same h.0) (cut_of es marks front m rest h.1 less)
 
 -- a level in this tree
 abbrev pub LevelIn : Program → List Mark → Mark → Type 0
