@@ -1,4 +1,5 @@
 pub mod Build
+pub mod Changes
 pub mod Ends
 pub mod Entries
 pub mod Files
@@ -7,8 +8,12 @@ pub mod Image
 pub mod Laws
 pub mod Mounted
 pub mod OldImage
+pub mod Plan
+pub mod Putting
 pub mod Reads
 pub mod Records
-pub mod Stored
 pub mod Rules
+pub mod Stored
+pub mod Storing
 pub mod Titles
+pub mod Writing

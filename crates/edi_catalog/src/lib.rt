@@ -3,6 +3,8 @@
 
 mod blocks;
 mod catalog;
+mod changes;
+mod contents;
 mod ends;
 mod entries;
 mod entry;
@@ -10,14 +12,19 @@ mod faults;
 mod fields;
 mod files;
 mod formatting;
+mod free;
 pub mod laws;
+mod laying;
 mod maps;
 mod mounting;
 mod pages;
+mod putting;
 mod reading;
 mod slots;
 mod stored;
+mod storing;
 mod title;
+mod writing;
 
 pub use catalog::Catalog;
 pub use ends::CatEnd;
