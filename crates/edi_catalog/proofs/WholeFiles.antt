@@ -73,7 +73,7 @@ place_same blocks title (file ∷ files) =
     ap (λ b. if b then Some 0 else option_map suc (find_slot (map (option_map (file_of blocks)) files) title)) (titled_same blocks title file)
     ∙ ap (λ o. if is_titled title file then Some 0 else option_map suc o) (place_same blocks title files)
 
-file_same : (blocks : List (List ℕ)) (title : List ℕ) (files : List (Option StoredFile))
+pub file_same : (blocks : List (List ℕ)) (title : List ℕ) (files : List (Option StoredFile))
     → find_file (map (option_map (file_of blocks)) files) title ≡ option_map (file_of blocks) (file_titled title files)
 file_same blocks title files =
     ap (option_and_then (slot_at (map (option_map (file_of blocks)) files))) (place_same blocks title files) ∙ go (find_place title files) where

@@ -1,2 +1,4 @@
 pub mod Told
-pub mod Parts
+pub mod Characters
+pub mod Pages
+pub mod FoundFile

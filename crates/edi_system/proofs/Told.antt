@@ -1,9 +1,7 @@
 -- What four objects tell together, over one call.
-use Rattle.std.proofs.Common.{◌≡◌, ℕ, List, Option, Some, None, refl, sym, ap, subst, ◌∙◌}
+use Rattle.std.proofs.Common.{◌≡◌, Option, Some, None, sym, ap, ◌∙◌}
 use Rattle.edi_told.specs.Told.{WhereTold}
-use Rattle.edi_calls.specs.State.{State}
-use Rattle.edi_system.specs.State.{all_told, drive_in, found_of, input_in, printer_in, state_of, state_with, terminal_in}
-use Rattle.edi_system.specs.declared.system.System.{System}
+use Rattle.edi_system.specs.State.{all_told}
 
 -- nothing has happened to what is told
 pub told_same : {A : Type 0} (a b : Option A) → b ≡ a → WhereTold a b (λ old new. new ≡ old)
@@ -33,12 +31,8 @@ told_together make make' (Some x) (Some x') (Some y) (Some y') (Some z) (Some z'
 told_together make make' (Some x) (Some x') (Some y) (Some y') (Some z) (Some z') (Some w) (Some w') P Q R S W p q r s so =
     so x x' y y' z z' w w' p q r s
 
--- the states before and after a call that changes neither the found file nor the buffer
-pub state_as : {D S T P : Type 0} (before after : System D S T P) (b b' : List (List ℕ)) (i i' s s' p p' : List ℕ)
-    → after.found ≡ before.found → after.buffer ≡ before.buffer → b' ≡ b → i' ≡ i → s' ≡ s → p' ≡ p
-    → state_with after b' i' s' p' ≡ state_with before b i s p
-state_as before after b b' i i' s s' p p' ef eu eb ei es ep =
-    ap (λ x. state_with after x i' s' p') eb ∙ ap (λ x. state_with after b x s' p') ei ∙ ap (λ x. state_with after b i x p') es
-    ∙ ap (λ x. state_with after b i s x) ep
-    ∙ ap (λ x. state_with (record before { found = x; buffer = after.buffer }) b i s p) ef
-    ∙ ap (λ x. state_with (record before { buffer = x }) b i s p) eu
+-- what is told in the end was told at the start
+pub told_back : {A : Type 0} (a b : Option A) → WhereTold a b (λ old new. new ≡ old) → (x : A) → b ≡ Some x → a ≡ Some x
+told_back a None told x e = absurd (let f : None ≡ Some x = e in cc)
+told_back None (Some y) told x e = absurd told
+told_back (Some o) (Some y) told x e = ap Some (sym told) ∙ e

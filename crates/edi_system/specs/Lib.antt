@@ -2,3 +2,4 @@ pub mod State
 pub mod Buffers
 pub mod Ends
 pub mod Parts
+pub mod Reading

@@ -3,6 +3,7 @@
 
 mod buffer;
 mod ends;
+mod finding;
 mod reading;
 mod streams;
 mod system;

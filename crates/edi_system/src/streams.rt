@@ -3,7 +3,7 @@
 ghost use Rattle.std.specs.Prelude.{◌≡◌, ◌%◌, true, false, not, [], ◌∷◌};
 ghost use Rattle.edi_told.specs.Told.{WhereTold};
 ghost use Rattle.edi_host.specs.Streams.{Takes, next_fault};
-ghost use Rattle.edi_calls.specs.Calls.{accept, display, print};
+ghost use Rattle.edi_calls.specs.Calls.{accept, display, print, word_of};
 ghost use Rattle.edi_system.specs.State.{due_in, input_in, state_of, IsReady};
 ghost use Rattle.edi_system.specs.Ends.{is_fault, Keeps, Reaches};
 ghost use Rattle.edi_system.specs.Parts.{due_after, line_end, OnlyInput, OnlyPrinter, OnlyTerminal, Prints, PrintsMore, Shows, ShowsMore};
@@ -23,6 +23,13 @@ pub(crate) fn character(word: u16) -> u8
     ensures { result ≡ word % 128 }
 {
     (word % 128) as u8
+}
+
+/// A truth value as a word.
+pub(crate) fn word_of(value: bool) -> u16
+    ensures { result ≡ word_of value }
+{
+    u16::from(value)
 }
 
 // Whether a line that was begun is not ended, after these bytes were shown.

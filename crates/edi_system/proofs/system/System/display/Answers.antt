@@ -1,6 +1,6 @@
 use Rattle.std.proofs.Common.{false}
 use Rattle.edi_system.proofs.Told.{told_map}
-use Rattle.edi_system.proofs.Parts.{displays}
+use Rattle.edi_system.proofs.Characters.{displays}
 use Rattle.edi_system.proofs.system.System.display.Goals as goal
 
 pub returns-else-show-clause-exact : goal.returns-else-show-clause-exact

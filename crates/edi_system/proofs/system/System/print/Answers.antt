@@ -1,6 +1,6 @@
 use Rattle.std.proofs.Common.{false}
 use Rattle.edi_system.proofs.Told.{told_map}
-use Rattle.edi_system.proofs.Parts.{prints}
+use Rattle.edi_system.proofs.Characters.{prints}
 use Rattle.edi_system.proofs.system.System.print.Goals as goal
 
 pub returns-else-print_out-clause-exact : goal.returns-else-print_out-clause-exact

@@ -1,0 +1,186 @@
+-- The pages of a text, and the byte at a position.
+use Rattle.std.proofs.Common.{◌≡◌, ◌≤◌, ◌<◌, ◌⊎◌, inl, inr, ℕ, zero, suc, ◌+◌, ◌*◌, List, [], ◌∷◌, ◌++◌, length, take, get_or, Option, Some, None, refl, sym, ap, subst, ◌∙◌, arith, length-append}
+use Rattle.std.specs.Prelude.{◌/◌, ◌%◌, min, map, flat_map, slice_get, slice_index, IfSome, Ok, if◌then◌else◌}
+use Rattle.std.specs.Option.{option_map, option_and_then}
+use Rattle.std.proofs.lemmas.List.{get_or_append_left, get_or-append-add, get_or-take, length-take}
+use Rattle.std.proofs.lemmas.Option.{slice_get_past, slice_get-get_or}
+use Rattle.edi_told.specs.Told.{WhereTold}
+use Rattle.edi_disk.specs.Shown.{drive_of}
+use Rattle.edi_calls.specs.declared.kinds.FileKind.{FileKind}
+use Rattle.edi_calls.specs.declared.kinds.FileKind.TheVariants as kind
+use Rattle.edi_calls.specs.State.{find_file, pages_of}
+use Rattle.edi_calls.specs.Calls.{bytes_of, found_as, is_text}
+use Rattle.edi_catalog.specs.declared.catalog.Catalog.{Catalog}
+use Rattle.edi_catalog.specs.Entries.{block_at}
+use Rattle.edi_catalog.specs.Image.{slots_of}
+use Rattle.edi_catalog.specs.Stored.{StoredFile}
+use Rattle.edi_catalog.specs.Files.{bytes_in, entry_of, file_titled, PageIs}
+use Rattle.edi_catalog.specs.Mounted.{disk_of, files_of, IsKeptOf, IsMounted}
+use Rattle.edi_catalog.proofs.FilePlaces.{page_inside}
+use Rattle.edi_catalog.proofs.Mounts.{told_now}
+use Rattle.edi_catalog.proofs.WholeFiles.{file_of, file_same, slots_are}
+use Rattle.edi_system.specs.State.{found_of, HasPages, IsReading}
+use Rattle.edi_system.specs.Reading.{begun, byte_in, text_of}
+use Rattle.edi_system.specs.declared.reading.Reading.{Reading}
+
+-- ---- bytes of whole pages
+
+-- the place of a byte of a page among those of all pages
+page_at : (f : ℕ → List ℕ) (pages : List ℕ) (i k : ℕ) → ((j : ℕ) → j < suc i → length (f (slice_index pages j)) ≡ 512) → k < 512 → i < length pages
+    → (512 * i + k < length (flat_map f pages)) × (get_or (flat_map f pages) (512 * i + k) 0 ≡ get_or (f (slice_index pages i)) k 0)
+page_at f [] i k whole h within = absurd (omega arith)
+page_at f (p ∷ ps) zero k whole h within =
+    let first : length (f p) ≡ 512 = whole 0 (omega arith) in
+    let long : length (f p ++ flat_map f ps) ≡ length (f p) + length (flat_map f ps) = length-append (f p) (flat_map f ps) in
+    let place : 512 * 0 + k ≡ k = omega arith in (
+      omega (arith, first, long),
+      ap (λ n. get_or (f p ++ flat_map f ps) n 0) place ∙ get_or_append_left (f p) (flat_map f ps) 0 k (omega (arith, first)),
+    )
+page_at f (p ∷ ps) (suc i) k whole h within =
+    let first : length (f p) ≡ 512 = whole 0 (omega arith) in
+    let long : length (f p ++ flat_map f ps) ≡ length (f p) + length (flat_map f ps) = length-append (f p) (flat_map f ps) in
+    let place : 512 * suc i + k ≡ length (f p) + (512 * i + k) = omega (arith, first) in
+    let rest = page_at f ps i k (λ j b. whole (suc j) (omega arith)) h (omega arith) in (
+      omega (arith, first, long, rest.0),
+      ap (λ n. get_or (f p ++ flat_map f ps) n 0) place ∙ get_or-append-add (f p) (flat_map f ps) (512 * i + k) 0 ∙ rest.1,
+    )
+
+-- the byte at a position of a text of n bytes, whose page was read
+byte_at : (f : ℕ → List ℕ) (pages : List ℕ) (n position i : ℕ) (page : List ℕ)
+    → ((j : ℕ) → j < suc i → length (f (slice_index pages j)) ≡ 512) → position / 512 ≡ i → i < length pages → position < n
+    → f (slice_index pages i) ≡ page → slice_get (take n (flat_map f pages)) position ≡ Some (slice_index page (position % 512))
+byte_at f pages n position i page whole at within below is =
+    let place : 512 * i + position % 512 ≡ position = omega (arith, at) in
+    let there = page_at f pages i (position % 512) whole (omega arith) within in
+    let many : length (take n (flat_map f pages)) ≡ min n (length (flat_map f pages)) = length-take n (flat_map f pages) in
+    slice_get-get_or (take n (flat_map f pages)) position 0 (omega (arith, many, place, there.0))
+    ∙ ap Some
+    (get_or-take n (flat_map f pages) position 0 below
+    ∙ ap (λ k. get_or (flat_map f pages) k 0) (sym place) ∙ there.1 ∙ ap (λ xs. get_or xs (position % 512) 0) is)
+
+-- ---- the file of a title
+
+-- the file of a title in the image is the one that is kept
+pub file_in : (blocks : List (List ℕ)) (title : List ℕ) (files : List (Option StoredFile)) → IsKeptOf blocks files
+    → find_file (slots_of blocks) title ≡ option_map (file_of blocks) (file_titled title files)
+file_in blocks title files kept =
+    ap (λ s. find_file s title) (slots_are blocks ∙ ap (map (option_map (file_of blocks))) (sym kept.slots)) ∙ file_same blocks title files
+
+byte_of : (blocks : List (List ℕ)) (title : List ℕ) (files : List (Option StoredFile)) (file : StoredFile) (position : ℕ) → IsKeptOf blocks files
+    → file_titled title files ≡ Some file → byte_in blocks title position ≡ slice_get (bytes_in blocks file) position
+byte_of blocks title files file position kept there =
+    ap (λ o. slice_get (bytes_of o) position) (file_in blocks title files kept ∙ ap (option_map (file_of blocks)) there)
+
+-- no byte stands at the end
+pub byte_none : {D : Type 0} (held : D → Option (List (List ℕ))) (count : D → ℕ) (catalog : Catalog D) (page : List ℕ) (reading : Reading) (blocks : List (List ℕ))
+    → IsMounted held count catalog → IsReading held catalog page reading → reading.length ≤ reading.position
+    → held (drive_of (disk_of catalog)) ≡ Some blocks → byte_in blocks reading.title reading.position ≡ None
+byte_none held count catalog page reading blocks mounted r ends told =
+    let many : length (take r.file.record_.length (flat_map (block_at blocks) r.file.pages)) ≡ min r.file.record_.length (length (flat_map (block_at blocks) r.file.pages)) =
+    length-take r.file.record_.length (flat_map (block_at blocks) r.file.pages) in
+    byte_of blocks reading.title (files_of catalog) r.file reading.position (mounted.image blocks told) r.there
+    ∙ slice_get_past (bytes_in blocks r.file) reading.position (omega (arith, many, r.length_, ends))
+
+-- the byte at a position whose page was read
+pub byte_some : {D : Type 0} (held : D → Option (List (List ℕ))) (count : D → ℕ) (catalog : Catalog D) (page : List ℕ) (reading : Reading) (blocks : List (List ℕ))
+    → IsMounted held count catalog → IsReading held catalog page reading → reading.position < reading.length → reading.position < 512 * reading.pages
+    → held (drive_of (disk_of catalog)) ≡ Some blocks → byte_in blocks reading.title reading.position ≡ Some (slice_index page (reading.position % 512))
+byte_some held count catalog page reading blocks mounted r below read told =
+    let i = reading.position / 512 in
+    let last : suc (reading.position / 512) ≡ reading.pages = omega (arith, r.least, read) in
+    let has = r.pages_ blocks told in
+    let there = subst (λ o. IfSome o (λ (file : StoredFile). i < length file.pages)) r.there
+        (page_inside (count (drive_of (disk_of catalog))) reading.title (files_of catalog) i mounted.stored
+        (subst (λ o. IfSome o (λ (file : StoredFile). i < pages_of file.record_.length)) (sym r.there)
+        (few reading.position r.file.record_.length (subst (λ n. reading.position < n) (sym r.length_) below)))) in
+    byte_of blocks reading.title (files_of catalog) r.file reading.position (mounted.image blocks told) r.there
+    ∙ byte_at (block_at blocks) r.file.pages r.file.record_.length reading.position i page
+    (λ j h. has.whole j (subst (λ n. j < n) last h)) refl there (subst (λ n. reading.position < n) (sym r.length_) below) (has.last i last)
+  where
+    few : (position n : ℕ) → position < n → position / 512 < pages_of n
+    few position n h = omega arith
+
+-- ---- a page more
+
+upto : (j n : ℕ) → j < n + 1 → (j < n) ⊎ (j ≡ n)
+upto j zero h = inr (omega arith)
+upto zero (suc n) h = inl (omega arith)
+upto (suc j) (suc n) h = go (upto j n (omega arith)) where
+  go : (j < n) ⊎ (j ≡ n) → (suc j < suc n) ⊎ (suc j ≡ suc n)
+  go (inl less) = inl (omega (arith, less))
+  go (inr same) = inr (ap suc same)
+
+one_page_more : (blocks : List (List ℕ)) (pages : List ℕ) (read : ℕ) (page page' : List ℕ) → HasPages blocks pages read page → length page' ≡ 512
+    → block_at blocks (slice_index pages read) ≡ page' → HasPages blocks pages (read + 1) page'
+one_page_more blocks pages read page page' has long is = record {
+  whole = λ j h. go j (upto j read h);
+  last = λ i e. (let same : i ≡ read = omega (arith, e) in ap (λ k. block_at blocks (slice_index pages k)) same ∙ is);
+} where
+  go : (j : ℕ) → (j < read) ⊎ (j ≡ read) → length (block_at blocks (slice_index pages j)) ≡ 512
+  go j (inl less) = has.whole j less
+  go j (inr same) = ap (λ k. length (block_at blocks (slice_index pages k))) same ∙ ap length is ∙ long
+
+pub page_read : {D X : Type 0} (E : Type 0) (held : D → Option (List (List ℕ))) (x : X) (before after : Catalog D) (page page' : List ℕ) (reading : Reading)
+    → IsReading held before page reading → reading.pages ≤ reading.position / 512 → files_of after ≡ files_of before → length page' ≡ 512
+    → WhereTold (held (drive_of (disk_of before))) (held (drive_of (disk_of after)))
+      (λ old new. (new ≡ old) × PageIs {X = X} {E = E} (Ok x) (file_titled reading.title (files_of before)) reading.pages page' old)
+    → IsReading held after page' (record reading { pages = reading.pages + 1 })
+page_read {D} {X} E held x before after page page' reading r behind same long reads = record {
+  file = r.file;
+  there = ap (file_titled reading.title) same ∙ r.there;
+  text = r.text;
+  length_ = r.length_;
+  within = r.within;
+  least = omega (arith, behind);
+  most = omega (arith, r.most);
+  pages_ = λ blocks told.
+      (let now = told_now (held (drive_of (disk_of before))) (held (drive_of (disk_of after)))
+        (PageIs {X = X} {E = E} (Ok x) (file_titled reading.title (files_of before)) reading.pages page') reads blocks told in
+      one_page_more blocks r.file.pages reading.pages page page' (r.pages_ blocks now.0) long
+          (subst (λ o. PageIs {X = X} {E = E} (Ok x) o reading.pages page' blocks) r.there now.1));
+}
+
+-- the page of a position is one of the file's
+pub page_there : {D : Type 0} (held : D → Option (List (List ℕ))) (catalog : Catalog D) (page : List ℕ) (reading : Reading)
+    → IsReading held catalog page reading → reading.position < reading.length → reading.pages ≤ reading.position / 512
+    → IfSome (file_titled reading.title (files_of catalog)) (λ file. reading.pages < pages_of file.record_.length)
+page_there held catalog page reading r below behind =
+    subst (λ o. IfSome o (λ (file : StoredFile). reading.pages < pages_of file.record_.length)) (sym r.there)
+    (few reading.position r.file.record_.length reading.pages (subst (λ n. reading.position < n) (sym r.length_) below) behind)
+  where
+    few : (position n pages : ℕ) → position < n → pages ≤ position / 512 → pages < pages_of n
+    few position n pages h b = omega arith
+
+-- ---- a text at its start
+
+pub text_ready : {D : Type 0} (held : D → Option (List (List ℕ))) (catalog : Catalog D) (page title : List ℕ)
+    → IfSome (text_of title (option_map entry_of (file_titled title (files_of catalog)))) (IsReading held catalog page)
+text_ready held catalog page title = go (file_titled title (files_of catalog)) refl where
+  by_kind : (file : StoredFile) → file_titled title (files_of catalog) ≡ Some file → (k : FileKind) → file.record_.kind ≡ k
+      → IfSome (if is_text k then Some (begun title file.record_.length) else None) (IsReading held catalog page)
+  by_kind file there kind.Text text = record {
+    file = file;
+    there = there;
+    text = text;
+    length_ = refl;
+    within = omega arith;
+    least = omega arith;
+    most = omega arith;
+    pages_ = λ blocks told. record { whole = λ i h. absurd (omega arith); last = λ i h. absurd (omega arith) };
+  }
+  by_kind file there kind.Code text = tt
+  go : (o : Option StoredFile) → file_titled title (files_of catalog) ≡ o → IfSome (text_of title (option_map entry_of o)) (IsReading held catalog page)
+  go None there = tt
+  go (Some file) there = by_kind file there file.record_.kind refl
+
+-- the text that is found is that of the image
+pub text_found : (blocks : List (List ℕ)) (title : List ℕ) (files : List (Option StoredFile)) → IsKeptOf blocks files
+    → option_and_then (found_as title) (find_file (slots_of blocks) title) ≡ option_map found_of (text_of title (option_map entry_of (file_titled title files)))
+text_found blocks title files kept = ap (option_and_then (found_as title)) (file_in blocks title files kept) ∙ go (file_titled title files) where
+  by_kind : (length : ℕ) (k : FileKind)
+      → (if is_text k then Some (record { title = title; position = 0 }) else None) ≡ option_map found_of (if is_text k then Some (begun title length) else None)
+  by_kind length kind.Text = refl
+  by_kind length kind.Code = refl
+  go : (o : Option StoredFile) → option_and_then (found_as title) (option_map (file_of blocks) o) ≡ option_map found_of (text_of title (option_map entry_of o))
+  go None = refl
+  go (Some file) = by_kind file.record_.length file.record_.kind

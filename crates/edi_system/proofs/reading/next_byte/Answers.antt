@@ -1,0 +1,29 @@
+use Rattle.std.proofs.Common.{◌≡◌, ◌∙◌, ap, sym, arith}
+use Rattle.edi_catalog.proofs.Mounts.{told_same_blocks}
+use Rattle.edi_system.specs.Reading.{byte_in}
+use Rattle.edi_system.specs.declared.reading.Reading.{Reading}
+use Rattle.edi_system.proofs.Told.{told_back}
+use Rattle.edi_system.proofs.Pages.{byte_none, byte_some}
+use Rattle.edi_system.proofs.reading.next_byte.Goals as goal
+
+pub returns-then-reading-clause-byte : goal.returns-then-reading-clause-byte
+returns-then-reading-clause-byte g c =
+    told_same_blocks _ _ _
+    (λ blocks told. (
+      told,
+      sym (byte_none g.D.Drive.held g.D.Drive.count c.args.catalog.now c.args.page.now c.args.reading.now blocks c.requires.mounted c.requires.reading c.if-reading.true told),
+    ))
+
+pub returns-in-Ok-clause-byte : goal.returns-in-Ok-clause-byte
+returns-in-Ok-clause-byte g c =
+    let title : c.load.new.reading.title ≡ c.args.reading.now.title = ap (λ (r : Reading). r.title) c.load.ensures.same in
+    let position : c.load.new.reading.position ≡ c.args.reading.now.position = ap (λ (r : Reading). r.position) c.load.ensures.same in
+    let length_ : c.load.new.reading.length ≡ c.args.reading.now.length = ap (λ (r : Reading). r.length) c.load.ensures.same in
+    told_same_blocks _ _ _
+    (λ blocks told. (
+      told_back _ _ c.load.ensures.blocks blocks told,
+      sym (ap (λ t. byte_in blocks t c.args.reading.now.position) (sym title)
+          ∙ ap (byte_in blocks c.load.new.reading.title) (sym position)
+          ∙ byte_some g.D.Drive.held g.D.Drive.count c.load.new.catalog c.load.new.page c.load.new.reading blocks c.in-Ok.ensures.mounted c.in-Ok.ensures.reading
+            (omega (arith, c.if-reading.false, position, length_)) c.in-Ok.ensures.loaded told),
+    ))

@@ -1,0 +1,57 @@
+-- Reading a text of the catalogue.
+use Rattle.std.specs.Prelude.{◌≡◌, ℕ, ◌≤◌, Bool, true, false, if◌then◌else◌, List, slice_get, Option, Some, None, Result, Ok, Err, ⊤}
+use Rattle.std.specs.Option.{option_map, option_and_then}
+use Rattle.edi_told.specs.Faults.{Rose}
+use Rattle.edi_disk.specs.Shown.{drive_of, reference_of}
+use Rattle.edi_calls.specs.State.{Found, State, find_file, title_of}
+use Rattle.edi_calls.specs.Calls.{bytes_of, found_bytes, is_text}
+use Rattle.edi_calls.specs.Ends.{IsTorn}
+use Rattle.edi_catalog.specs.declared.catalog.Catalog.{Catalog}
+use Rattle.edi_catalog.specs.declared.entry.Entry.{Entry}
+use Rattle.edi_catalog.specs.Files.{entry_of, file_titled}
+use Rattle.edi_catalog.specs.Image.{slots_of}
+use Rattle.edi_catalog.specs.Stored.{StoredFile}
+use Rattle.edi_catalog.specs.Mounted.{disk_of, files_of}
+use Rattle.edi_system.specs.declared.ends.Stop.{Stop}
+use Rattle.edi_system.specs.declared.ends.Stop.TheVariants as stop
+use Rattle.edi_system.specs.declared.reading.Reading.{Reading}
+
+-- a text at its start
+abbrev pub begun : (title : List ℕ) → (length : ℕ) → Reading
+begun title length = record { title = title; position = 0; length = length; pages = 0 }
+
+-- the text that is read where the catalogue tells this of the file of a title; a code is no text
+abbrev pub text_of : (title : List ℕ) → Option Entry → Option Reading
+text_of title None = None
+text_of title (Some entry) = if is_text entry.kind then Some (begun title entry.length) else None
+
+-- the text that is read where words spell a title
+abbrev pub text_spelled : (words : List ℕ) → List (Option StoredFile) → Option Reading
+text_spelled words files = option_and_then (λ title. text_of title (option_map entry_of (file_titled title files))) (title_of words)
+
+abbrev pub is_err : {X E : Type 0} → Result X E → Bool
+is_err (Ok x) = false
+is_err (Err e) = true
+
+-- on Ok this is the byte, if there is one
+abbrev pub GivesByte : {E : Type 0} → Result (Option ℕ) E → Option ℕ → Type 0
+GivesByte (Ok byte) there = byte ≡ there
+GivesByte (Err e) there = ⊤
+
+-- the byte of the file of a title at a position, in the image that blocks are
+abbrev pub byte_in : (blocks : List (List ℕ)) → (title : List ℕ) → (position : ℕ) → Option ℕ
+byte_in blocks title position = slice_get (bytes_of (find_file (slots_of blocks) title)) position
+
+-- The catalogue is only read, and is as it was where the drive has not failed.
+pub record OnlyReads {D : Type 0} (faults : D → ℕ) (fault : Bool) (before after : Catalog D) : Type 0 where
+  pub files : files_of after ≡ files_of before
+  pub same_reference : reference_of (disk_of after) ≡ reference_of (disk_of before)
+  pub later : faults (drive_of (disk_of before)) ≤ faults (drive_of (disk_of after))
+  pub cause : fault ≡ true → Rose (faults (drive_of (disk_of before))) (faults (drive_of (disk_of after)))
+
+-- the next byte of the found file was looked for, which changes nothing
+abbrev pub LooksAt : Result (Option ℕ) Stop → Option Found → State → State → Type 0
+LooksAt (Ok byte) (Some found) before after = (byte ≡ slice_get (found_bytes before found) found.position) × (after ≡ before)
+LooksAt (Err stop.NoFile) None before after = after ≡ before
+LooksAt (Err stop.Fault) (Some found) before after = IsTorn before before after
+LooksAt _ _ before after = ⊥
