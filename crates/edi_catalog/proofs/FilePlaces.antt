@@ -61,7 +61,7 @@ all_sized count (file ∷ files) h =
 
 -- ---- the pages of a file
 
-kept_at : (count : ℕ) (files : List (Option StoredFile)) (place : ℕ) → list_all (is_stored count) files ≡ true
+pub kept_at : (count : ℕ) (files : List (Option StoredFile)) (place : ℕ) → list_all (is_stored count) files ≡ true
     → is_stored count (slice_index_or files place None) ≡ true
 kept_at count [] place h = refl
 kept_at count (file ∷ files) zero h = (both (is_stored count file) (list_all (is_stored count) files) h).0

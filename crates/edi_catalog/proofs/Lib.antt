@@ -1,4 +1,8 @@
+pub mod Changed
+pub mod Changing
 pub mod Empty
+pub mod EntryBytes
+pub mod EntryFrames
 pub mod EntryParts
 pub mod FilePlaces
 pub mod FileRules
@@ -7,9 +11,12 @@ pub mod Lists
 pub mod Told
 pub mod MapRules
 pub mod Mounts
+pub mod OneEntry
+pub mod PutEntry
 pub mod Scans
 pub mod Sequence
 pub mod SlotRules
 pub mod Spelled
+pub mod UsedBlocks
 pub mod WholeFiles
 pub mod Worked

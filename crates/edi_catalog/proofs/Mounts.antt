@@ -22,7 +22,7 @@ use Rattle.edi_catalog.proofs.FileRules.{goes_on, breaks_early}
 
 -- ---- the rules of an image
 
-rules_of : (blocks : List (List ℕ)) → 0 < length blocks
+pub rules_of : (blocks : List (List ℕ)) → 0 < length blocks
     → mount_fault_of blocks ≡ first_broken [] (header_rules 2 blocks ++ slot_rules 33 blocks 0 [] (entries_of blocks))
 unfolding image_rules
 rules_of [] h = absurd (omega arith)

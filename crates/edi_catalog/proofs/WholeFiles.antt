@@ -42,7 +42,7 @@ pages_more blocks pages i before after h so_far more =
 -- ---- the file of a title
 
 -- the file that is kept so
-abbrev file_of : List (List ℕ) → StoredFile → File
+abbrev pub file_of : List (List ℕ) → StoredFile → File
 file_of blocks file = record {
   title = file.record_.title;
   kind = file.record_.kind;
@@ -57,7 +57,7 @@ slots_kept blocks (said.Free ∷ entries) = ap (λ slots. None ∷ slots) (slots
 slots_kept blocks (said.Wrong ∷ entries) = ap (λ slots. None ∷ slots) (slots_kept blocks entries)
 slots_kept blocks (said.File r ∷ entries) = ap (λ slots. slot_in blocks (said.File r) ∷ slots) (slots_kept blocks entries)
 
-slots_are : (blocks : List (List ℕ)) → slots_of blocks ≡ map (option_map (file_of blocks)) (map (stored_of blocks) (entries_of blocks))
+pub slots_are : (blocks : List (List ℕ)) → slots_of blocks ≡ map (option_map (file_of blocks)) (map (stored_of blocks) (entries_of blocks))
 unfolding slots_of
 slots_are blocks = slots_kept blocks (entries_of blocks)
 
@@ -66,7 +66,7 @@ titled_same : (blocks : List (List ℕ)) (title : List ℕ) (file : Option Store
 titled_same blocks title None = refl
 titled_same blocks title (Some file) = nat_list_eq_equiv.symm file.record_.title title
 
-place_same : (blocks : List (List ℕ)) (title : List ℕ) (files : List (Option StoredFile))
+pub place_same : (blocks : List (List ℕ)) (title : List ℕ) (files : List (Option StoredFile))
     → find_slot (map (option_map (file_of blocks)) files) title ≡ find_place title files
 place_same blocks title [] = refl
 place_same blocks title (file ∷ files) =

@@ -1,4 +1,5 @@
 pub mod Build
+pub mod Changes
 pub mod Ends
 pub mod Entries
 pub mod Files
@@ -12,3 +13,4 @@ pub mod Records
 pub mod Stored
 pub mod Rules
 pub mod Titles
+pub mod Writing

@@ -3,6 +3,7 @@
 
 mod blocks;
 mod catalog;
+mod changes;
 mod ends;
 mod entries;
 mod entry;
@@ -18,6 +19,7 @@ mod reading;
 mod slots;
 mod stored;
 mod title;
+mod writing;
 
 pub use catalog::Catalog;
 pub use ends::CatEnd;

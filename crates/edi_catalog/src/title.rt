@@ -5,7 +5,7 @@ ghost use Rattle.std.specs.Str.{bytes_eq};
 ghost use Rattle.std.specs.Cmp.{partial_equiv_from_equiv};
 ghost use Rattle.std.specs.Cmp.Lexicographic.{nat_list_eq_equiv};
 ghost use Rattle.edi_calls.specs.State.{is_title, without_blanks};
-ghost use Rattle.edi_catalog.specs.Titles.{title_from};
+ghost use Rattle.edi_catalog.specs.Titles.{title_from, with_blanks};
 
 use edi_calls::is_title;
 use std::marker::Model;
@@ -68,6 +68,21 @@ impl Title {
         ensures title { is_title self.now ≡ true }
     {
         without_blanks(&self.0)
+    }
+
+    /// The same title; that it is one is known from then on.
+    pub(crate) fn copied(&self) -> Title
+        ensures same { result ≡ self.now }
+        ensures title { is_title self.now ≡ true }
+    {
+        Title(self.0)
+    }
+
+    /// The characters, and blanks behind them, as an entry has them.
+    pub(crate) fn characters(&self) -> &[u8; TITLE]
+        ensures { result.now ≡ with_blanks 24 self.now }
+    {
+        &self.0
     }
 }
 

@@ -1,0 +1,98 @@
+-- The calls that change the files of a catalogue: why they are refused, what they are to leave, and what they leave.
+use Rattle.std.specs.Prelude.{◌≡◌, ◌⊎◌, ◌≤◌, ℕ, Bool, List, slice_set, slice_index_or, Option, Some, None, is_some, if◌then◌else◌, Result, Ok, Err}
+use Rattle.std.specs.Option.{option_and_then}
+use Rattle.edi_told.specs.Faults.{Rose}
+use Rattle.edi_told.specs.Told.{WhereTold}
+use Rattle.edi_disk.specs.Shown.{drive_of, reference_of}
+use Rattle.edi_calls.specs.State.{File, find_slot}
+use Rattle.edi_catalog.specs.Image.{Holds, slots_of}
+use Rattle.edi_catalog.specs.Stored.{StoredFile}
+use Rattle.edi_catalog.specs.Files.{find_place}
+use Rattle.edi_catalog.specs.Mounted.{IsMounted, disk_of, files_of}
+use Rattle.edi_catalog.specs.declared.catalog.Catalog.{Catalog}
+use Rattle.edi_catalog.specs.declared.ends.CatEnd.{CatEnd}
+use Rattle.edi_catalog.specs.declared.ends.CatEnd.TheVariants as cat
+
+-- ---- why a call is refused
+
+-- no file has the title
+abbrev pub not_found : Option StoredFile → Option CatEnd
+not_found None = Some cat.NoSuch
+not_found (Some file) = None
+
+-- a file is neither deleted nor renamed where it is protected
+abbrev pub not_deleted : Option StoredFile → Option CatEnd
+not_deleted None = Some cat.NoSuch
+not_deleted (Some file) = if file.record_.protected then Some cat.Protected else None
+
+-- a file is not renamed where a file has the new title, also where it is itself that file
+abbrev pub not_renamed : (file : Option StoredFile) → (there : Option StoredFile) → Option CatEnd
+not_renamed None there = Some cat.NoSuch
+not_renamed (Some file) there =
+    if file.record_.protected then Some cat.Protected else (if is_some there then Some cat.Taken else None)
+
+-- ---- what is changed
+
+-- slots with what a change makes of the file at a place; a change to None frees the slot
+abbrev pub changed_at : {A : Type 0} → (A → Option A) → Option ℕ → List (Option A) → List (Option A)
+changed_at change None slots = slots
+changed_at change (Some place) slots =
+    slice_set slots place (option_and_then change (slice_index_or slots place None))
+
+-- the file is deleted
+abbrev pub deleted : {A : Type 0} → A → Option A
+deleted file = None
+
+-- changes of a file that is kept
+abbrev pub kept_protected : Bool → StoredFile → Option StoredFile
+kept_protected now file = Some (record file { record_ = record file.record_ { protected = now } })
+
+abbrev pub kept_renamed : List ℕ → StoredFile → Option StoredFile
+kept_renamed title file = Some (record file { record_ = record file.record_ { title = title } })
+
+-- the slots that are kept, with the file of a title changed
+abbrev pub kept_changed : (StoredFile → Option StoredFile) → List ℕ → List (Option StoredFile) → List (Option StoredFile)
+kept_changed change title files = changed_at change (find_place title files) files
+
+-- the same changes of a file in an image
+abbrev pub file_protected : Bool → File → Option File
+file_protected now file = Some (record file { protected = now })
+
+abbrev pub file_renamed : List ℕ → File → Option File
+file_renamed title file = Some (record file { title = title })
+
+-- the slots of an image, with the file of a title changed
+abbrev pub slots_changed : (File → Option File) → List ℕ → List (Option File) → List (Option File)
+slots_changed change title slots = changed_at change (find_slot slots title) slots
+
+-- ---- what a call leaves
+
+-- A call is refused exactly for the first reason against it, and then all slots are as before; on Ok they are the wanted ones.
+abbrev pub Answers : {X : Type 0} → Result X CatEnd → (refusal : Option CatEnd) → (old wanted new : List (Option StoredFile)) → Type 0
+Answers (Ok done) refusal old wanted new = (refusal ≡ None) × (new ≡ wanted)
+Answers (Err cat.Fault) refusal old wanted new = refusal ≡ None
+Answers (Err why) refusal old wanted new = (refusal ≡ Some why) × (new ≡ old)
+
+-- the blocks are a valid image, with the files from before a call or with those that the call was to leave
+pub record BeforeOrAfter (before after : List (Option File)) (blocks : List (List ℕ)) : Type 0 where
+  pub one : Holds blocks before ⊎ Holds blocks after
+
+-- The drive's blocks after a call, where `before` are the files that they held and `after` those that they are to hold: on Ok they
+-- hold these; after a fault of the drive the ones or the others, whatever call of the drive failed; after a refusal the blocks
+-- are as they were.
+abbrev pub Leaves : {X : Type 0} → Result X CatEnd → (before after : List (Option File)) → (old new : List (List ℕ)) → Type 0
+Leaves (Ok done) before after old new = Holds new after
+Leaves (Err cat.Fault) before after old new = BeforeOrAfter before after new
+Leaves (Err why) before after old new = new ≡ old
+
+-- A call on a mounted catalogue, by its answer: `refusal` is the first reason against it, `kept` are the slots that are to be
+-- kept in memory, `wanted` gives the files that the image is to have.
+pub record Changes {D X : Type 0} (held : D → Option (List (List ℕ))) (count faults : D → ℕ) (result : Result X CatEnd) (refusal : Option CatEnd) (kept : List (Option StoredFile)) (wanted : List (Option File) → List (Option File)) (before after : Catalog D) : Type 0 where
+  pub answers : Answers result refusal (files_of before) kept (files_of after)
+  pub mounted : (result ≡ Err cat.Fault) ⊎ IsMounted held count after
+  pub leaves : WhereTold (held (drive_of (disk_of before))) (held (drive_of (disk_of after)))
+      (λ old new. Leaves result (slots_of old) (wanted (slots_of old)) old new)
+  pub same_reference : reference_of (disk_of after) ≡ reference_of (disk_of before)
+  pub count_stays : count (drive_of (disk_of after)) ≡ count (drive_of (disk_of before))
+  pub later : faults (drive_of (disk_of before)) ≤ faults (drive_of (disk_of after))
+  pub cause : result ≡ Err cat.Fault → Rose (faults (drive_of (disk_of before))) (faults (drive_of (disk_of after)))

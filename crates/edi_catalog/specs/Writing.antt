@@ -1,0 +1,122 @@
+-- Writing the entry of a slot.
+use Rattle.std.specs.Prelude.{◌≡◌, ◌⊎◌, ℕ, ◌+◌, ◌*◌, ◌/◌, ◌%◌, ◌^◌, ◌≤◌, Bool, true, false, if◌then◌else◌, List, ◌∷◌, ◌++◌, take, drop, length, replicate, slice_set, slice_index_or, Option, Some, None, IfSome}
+use Rattle.std.specs.Option.{option_and_then}
+use Rattle.edi_told.specs.Faults.{Rose}
+use Rattle.edi_told.specs.Told.{WhereTold}
+use Rattle.edi_calls.specs.State.{File, is_title}
+use Rattle.edi_calls.specs.declared.kinds.FileKind.{FileKind}
+use Rattle.edi_calls.specs.declared.kinds.FileKind.TheVariants as kind
+use Rattle.edi_disk.specs.declared.disk.Disk.{Disk}
+use Rattle.edi_disk.specs.declared.disk.DiskEnd.{DiskEnd}
+use Rattle.edi_disk.specs.declared.disk.DiskEnd.TheVariants as disk
+use Rattle.edi_disk.specs.Shown.{shown, drive_of, reference_of, IsWorking}
+use Rattle.edi_catalog.specs.Build.{two}
+use Rattle.edi_catalog.specs.Titles.{with_blanks}
+use Rattle.edi_catalog.specs.Records.{FileRecord}
+use Rattle.edi_catalog.specs.Entries.{block_at}
+use Rattle.edi_catalog.specs.Stored.{StoredFile}
+use Rattle.edi_catalog.specs.Files.{find_place}
+
+-- ---- the bytes of an entry
+
+abbrev pub kind_number : FileKind → ℕ
+kind_number kind.Text = 1
+kind_number kind.Code = 2
+
+-- The fields behind the title: the kind, whether the file is protected, its first map, its second map or 0, its length.
+abbrev pub field_bytes : FileRecord → List ℕ
+field_bytes r =
+    kind_number r.kind ∷ (if r.protected then 1 else 0)
+    ∷ (two (slice_index_or r.maps 0 0) ++ (two (slice_index_or r.maps 1 0) ++ (two (r.length / 2 ^ 16) ++ two (r.length % 2 ^ 16))))
+
+-- the entry of a file
+unfoldable pub bytes_of_record : FileRecord → List ℕ
+bytes_of_record r = with_blanks 24 r.title ++ (field_bytes r ++ replicate 30 0)
+
+-- the entry of a slot; that of a free one is all zeros
+abbrev pub bytes_of_slot : Option FileRecord → List ℕ
+bytes_of_slot None = replicate 64 0
+bytes_of_slot (Some r) = bytes_of_record r
+
+-- ---- writing it
+
+-- a block with other bytes from an address on
+abbrev pub patched : (at : ℕ) → (bytes block : List ℕ) → List ℕ
+patched at bytes block = take at block ++ (bytes ++ drop (at + length bytes) block)
+
+-- the blocks with another entry of a slot
+abbrev pub with_entry : List (List ℕ) → (slot : ℕ) → List ℕ → List (List ℕ)
+with_entry blocks slot entry =
+    slice_set blocks (1 + slot / 8) (patched (64 * (slot % 8)) entry (block_at blocks (1 + slot / 8)))
+
+-- an entry was written over that of a slot, in a whole block
+pub record IsWritten (slot : ℕ) (entry : List ℕ) (old new : List (List ℕ)) : Type 0 where
+  pub whole : length (block_at old (1 + slot / 8)) ≡ 512
+  pub now : new ≡ with_entry old slot entry
+
+-- on Ok the entry is written, and after a fault it is or it is not
+abbrev pub EntryLeaves : DiskEnd → (slot : ℕ) → List ℕ → (old new : List (List ℕ)) → Type 0
+EntryLeaves disk.Ok slot entry old new = IsWritten slot entry old new
+EntryLeaves disk.Fault slot entry old new = (new ≡ old) ⊎ IsWritten slot entry old new
+
+-- From before to after, on a disk with nothing that is not written, the entry of a slot is written to the drive.
+pub record PutsEntry {D : Type 0} (held : D → Option (List (List ℕ))) (count faults : D → ℕ) (end : DiskEnd) (slot : ℕ) (entry : List ℕ) (before after : Disk D) : Type 0 where
+  pub same_reference : reference_of after ≡ reference_of before
+  pub count_stays : count (drive_of after) ≡ count (drive_of before)
+  pub later : faults (drive_of before) ≤ faults (drive_of after)
+  pub cause : end ≡ disk.Fault → Rose (faults (drive_of before)) (faults (drive_of after))
+  pub works : end ≡ disk.Ok → IsWorking held count after
+  pub settled : end ≡ disk.Ok → held (drive_of after) ≡ shown held after
+  pub leaves : WhereTold (held (drive_of before)) (held (drive_of after)) (EntryLeaves end slot entry)
+
+-- ---- another entry in place of that of a file
+
+-- the file is protected
+abbrev pub is_protected : Option StoredFile → Bool
+is_protected None = false
+is_protected (Some file) = file.record_.protected
+
+-- the record of a file, protected or not, or with another title
+abbrev pub record_protected : Bool → Option StoredFile → Option FileRecord
+record_protected now None = None
+record_protected now (Some file) = Some (record file.record_ { protected = now })
+
+abbrev pub record_renamed : List ℕ → Option StoredFile → Option FileRecord
+record_renamed title None = None
+record_renamed title (Some file) = Some (record file.record_ { title = title })
+
+-- what is kept of a slot, with another record of its file, or freed
+abbrev pub kept_with : FileRecord → StoredFile → Option StoredFile
+kept_with r file = Some (record file { record_ = r })
+
+abbrev pub kept_as : Option FileRecord → Option StoredFile → Option StoredFile
+kept_as None file = None
+kept_as (Some r) file = option_and_then (kept_with r) file
+
+-- the same in the slots that are kept
+abbrev pub put_kept : List (Option StoredFile) → ℕ → Option FileRecord → List (Option StoredFile)
+put_kept files place r = slice_set files place (kept_as r (slice_index_or files place None))
+
+-- and in those of an image
+abbrev pub file_with : FileRecord → File → Option File
+file_with r file = Some (record { title = r.title; kind = r.kind; protected = r.protected; bytes = file.bytes })
+
+abbrev pub file_as : Option FileRecord → Option File → Option File
+file_as None file = None
+file_as (Some r) file = option_and_then (file_with r) file
+
+abbrev pub put_file : ℕ → Option FileRecord → List (Option File) → List (Option File)
+put_file place r slots = slice_set slots place (file_as r (slice_index_or slots place None))
+
+-- The record may stand for that of this file: it has the same blocks, and the same title or one that no file has.
+pub record IsRecordFor (files : List (Option StoredFile)) (file : StoredFile) (r : FileRecord) : Type 0 where
+  pub title : is_title r.title ≡ true
+  pub maps : r.maps ≡ file.record_.maps
+  pub length_ : r.length ≡ file.record_.length
+  pub free : (r.title ≡ file.record_.title) ⊎ (find_place r.title files ≡ None)
+
+-- there is a file at this place, and the record, if there is one, may stand for its own
+pub record IsRecordAt (files : List (Option StoredFile)) (place : ℕ) (r : Option FileRecord) : Type 0 where
+  pub file : StoredFile
+  pub there : slice_index_or files place None ≡ Some file
+  pub fits : IfSome r (IsRecordFor files file)
