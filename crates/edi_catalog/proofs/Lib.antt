@@ -10,7 +10,15 @@ pub mod Headers
 pub mod Lists
 pub mod Told
 pub mod MapRules
+pub mod MigratedBytes
+pub mod MigratedMaps
+pub mod MigratedRules
+pub mod MigratedSlots
+pub mod MigratedSteps
+pub mod Migrations
 pub mod Mounts
+pub mod OldMounts
+pub mod OldRules
 pub mod OneEntry
 pub mod PutEntry
 pub mod Scans

@@ -2,6 +2,7 @@
 #![tactic(auto)]
 
 mod blocks;
+mod building;
 mod catalog;
 mod changes;
 mod ends;
@@ -13,7 +14,9 @@ mod files;
 mod formatting;
 pub mod laws;
 mod maps;
+mod migrating;
 mod mounting;
+mod old;
 mod pages;
 mod reading;
 mod slots;
@@ -26,5 +29,6 @@ pub use ends::CatEnd;
 pub use entry::Entry;
 pub use faults::MountFault;
 pub use formatting::{FormatEnd, format};
+pub use migrating::{MigrateEnd, migrate};
 pub use mounting::mount;
 pub use title::Title;
