@@ -36,7 +36,7 @@ abbrev pub said_of : Option FileRecord → Said
 said_of None = said.Free
 said_of (Some r) = said.File r
 
-says_slot : (count : ℕ) (r : Option FileRecord) → IfSome r (λ q. is_record count q ≡ true) → entry_says count (bytes_of_slot r) ≡ said_of r
+pub says_slot : (count : ℕ) (r : Option FileRecord) → IfSome r (λ q. is_record count q ≡ true) → entry_says count (bytes_of_slot r) ≡ said_of r
 says_slot count None h = refl
 says_slot count (Some q) h = says_record count q h
 

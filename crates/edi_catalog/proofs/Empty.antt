@@ -85,10 +85,10 @@ free_slots : (blocks : List (List ℕ)) (n : ℕ) → map (slot_in blocks) (repl
 free_slots blocks zero = refl
 free_slots blocks (suc n) = ap (λ ss. None ∷ ss) (free_slots blocks n)
 
-kept_rules : (a b : Bool) → a ≡ true → b ≡ true → first_broken [] (needs a fault.Short ∷ needs b fault.Header ∷ []) ≡ None
+pub kept_rules : (a b : Bool) → a ≡ true → b ≡ true → first_broken [] (needs a fault.Short ∷ needs b fault.Header ∷ []) ≡ None
 kept_rules a b ea eb = rw (ea, eb) refl
 
-header_true : (n : ℕ) (xs ys : List ℕ) → n ≤ 4096 → xs ≡ ys → (nat_le n 4096 && bytes_eq xs ys) ≡ true
+pub header_true : (n : ℕ) (xs ys : List ℕ) → n ≤ 4096 → xs ≡ ys → (nat_le n 4096 && bytes_eq xs ys) ≡ true
 header_true n xs ys h e = rw (le-leb n 4096 h) ((bytes_eq-Decides xs ys).1 e)
 
 -- a drive with the catalogue of no files, and any blocks behind it
@@ -108,7 +108,7 @@ catalogue_holds count rest size least most =
       files = ap (map (slot_in blocks)) entries ∙ free_slots blocks 256;
     }
 
-length-resized : (old : List (List ℕ)) (n : ℕ) → length (resized old n) ≡ n
+pub length-resized : (old : List (List ℕ)) (n : ℕ) → length (resized old n) ≡ n
 length-resized old n =
     length-append (take n old) (replicate (n - length old) zero_block)
     ∙ ap (λ k. length (take n old) + k) (length-replicate (n - length old) zero_block)

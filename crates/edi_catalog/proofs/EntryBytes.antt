@@ -59,7 +59,7 @@ over_made at block entry front placed back rest f p r b size =
 
 -- ---- reading it back
 
-length-with_blanks : (title : List ℕ) → is_title title ≡ true → length (with_blanks 24 title) ≡ 24
+pub length-with_blanks : (title : List ℕ) → is_title title ≡ true → length (with_blanks 24 title) ≡ 24
 unfolding with_blanks
 length-with_blanks title h =
     length-append title (replicate (24 - length title) 32)

@@ -14,9 +14,17 @@ pub mod Laid
 pub mod Lists
 pub mod MapBytes
 pub mod MapRules
+pub mod MigratedBytes
+pub mod MigratedMaps
+pub mod MigratedRules
+pub mod MigratedSlots
+pub mod MigratedSteps
+pub mod Migrations
 pub mod Mounts
 pub mod NewFile
 pub mod NewlyLaid
+pub mod OldMounts
+pub mod OldRules
 pub mod OneEntry
 pub mod PutBlocks
 pub mod PutEntry

@@ -40,7 +40,7 @@ image_fails e blocks h broken =
 
 -- ---- no disk
 
-drop-nil : (n : ℕ) → drop {A = ℕ} n [] ≡ []
+pub drop-nil : (n : ℕ) → drop {A = ℕ} n [] ≡ []
 drop-nil zero = refl
 drop-nil (suc n) = refl
 
@@ -53,7 +53,7 @@ no_entries slot (suc n) =
     ap (λ s. stored_of [] s ∷ map (stored_of []) (entries_from [] (slot + 1) n)) (nothing_said slot)
     ∙ ap (λ fs. None ∷ fs) (no_entries (slot + 1) n)
 
-no_blocks : (blocks : List (List ℕ)) → length blocks ≡ 0 → blocks ≡ []
+pub no_blocks : (blocks : List (List ℕ)) → length blocks ≡ 0 → blocks ≡ []
 no_blocks [] e = refl
 no_blocks (b ∷ blocks) e = absurd (omega arith)
 

@@ -110,13 +110,13 @@ pub progress_from : (blocks : List (List ℕ)) (used : List ℕ) (files : List (
 progress_from blocks used files u f =
     subst (λ us. Progress blocks 0 us files) (sym u) (subst (λ fs. Progress blocks 0 [] fs) (sym f) (progress_begins blocks))
 
-titles_of-append : (files : List (Option StoredFile)) (file : Option StoredFile)
+pub titles_of-append : (files : List (Option StoredFile)) (file : Option StoredFile)
     → titles_of (files ++ file ∷ []) ≡ titles_of files ++ titles_of (file ∷ [])
 titles_of-append [] file = refl
 titles_of-append (None ∷ files) file = titles_of-append files file
 titles_of-append (Some f ∷ files) file = ap (λ ts. f.record_.title ∷ ts) (titles_of-append files file)
 
-titles_stored : (blocks : List (List ℕ)) (s : Said) → titles_of (stored_of blocks s ∷ []) ≡ titles_in s
+pub titles_stored : (blocks : List (List ℕ)) (s : Said) → titles_of (stored_of blocks s ∷ []) ≡ titles_in s
 titles_stored blocks said.Free = refl
 titles_stored blocks said.Wrong = refl
 titles_stored blocks (said.File r) = refl
@@ -128,7 +128,7 @@ entries_more blocks first (suc n) =
     (entries_more blocks (first + 1) n
     ∙ ap (λ m. entries_from blocks (first + 1) n ++ said_at blocks m ∷ []) (let place : first + 1 + n ≡ first + suc n = omega arith in place))
 
-map_more : (blocks : List (List ℕ)) (es : List Said) (e : Said) → map (stored_of blocks) (es ++ e ∷ []) ≡ map (stored_of blocks) es ++ stored_of blocks e ∷ []
+pub map_more : (blocks : List (List ℕ)) (es : List Said) (e : Said) → map (stored_of blocks) (es ++ e ∷ []) ≡ map (stored_of blocks) es ++ stored_of blocks e ∷ []
 map_more blocks [] e = refl
 map_more blocks (x ∷ es) e = ap (λ fs. stored_of blocks x ∷ fs) (map_more blocks es e)
 

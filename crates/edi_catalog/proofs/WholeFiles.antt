@@ -50,7 +50,7 @@ file_of blocks file = record {
   bytes = bytes_in blocks file;
 }
 
-slots_kept : (blocks : List (List ℕ)) (entries : List Said)
+pub slots_kept : (blocks : List (List ℕ)) (entries : List Said)
     → map (slot_in blocks) entries ≡ map (option_map (file_of blocks)) (map (stored_of blocks) entries)
 slots_kept blocks [] = refl
 slots_kept blocks (said.Free ∷ entries) = ap (λ slots. None ∷ slots) (slots_kept blocks entries)

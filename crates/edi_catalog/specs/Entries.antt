@@ -97,14 +97,16 @@ old_most_bytes = 130560
 --     bytes 14 and 15   the map block
 --     bytes 16 to 19    the number of the file's bytes
 --     bytes 20 to 31    zeros
-abbrev pub is_old_entry : (count : ℕ) → List ℕ → Bool
-is_old_entry count bytes =
-    is_title (without_blanks (take 12 bytes))
-    && (slice_index bytes 12 == 1 || slice_index bytes 12 == 2)
+abbrev pub old_fields_fit : (count : ℕ) → List ℕ → Bool
+old_fields_fit count bytes =
+    (slice_index bytes 12 == 1 || slice_index bytes 12 == 2)
     && nat_le (slice_index bytes 13) 1
     && nat_le (long_at bytes 16) old_most_bytes
     && is_data 5 count (short_at bytes 14)
     && are_zeros (drop 20 bytes)
+
+abbrev pub is_old_entry : (count : ℕ) → List ℕ → Bool
+is_old_entry count bytes = is_title (without_blanks (take 12 bytes)) && old_fields_fit count bytes
 
 abbrev pub old_record_in : List ℕ → FileRecord
 old_record_in bytes = record {

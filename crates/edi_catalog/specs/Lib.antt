@@ -6,7 +6,9 @@ pub mod Files
 pub mod Formatted
 pub mod Image
 pub mod Laws
+pub mod Migrated
 pub mod Mounted
+pub mod OldFiles
 pub mod OldImage
 pub mod Plan
 pub mod Putting

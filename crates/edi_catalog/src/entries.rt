@@ -139,7 +139,8 @@ fn second_map(length: u32, map: u16) -> Option<u16>
     }
 }
 
-fn kind_of(number: u8) -> FileKind
+/// The kind of a file by its number, 1 for a text.
+pub(crate) fn kind_of(number: u8) -> FileKind
     ensures { result ≡ kind_of number }
 {
     if number == 1 {

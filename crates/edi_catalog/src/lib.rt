@@ -2,6 +2,7 @@
 #![tactic(auto)]
 
 mod blocks;
+mod building;
 mod catalog;
 mod changes;
 mod contents;
@@ -16,7 +17,9 @@ mod free;
 pub mod laws;
 mod laying;
 mod maps;
+mod migrating;
 mod mounting;
+mod old;
 mod pages;
 mod putting;
 mod reading;
@@ -31,5 +34,6 @@ pub use ends::CatEnd;
 pub use entry::Entry;
 pub use faults::MountFault;
 pub use formatting::{FormatEnd, format};
+pub use migrating::{MigrateEnd, migrate};
 pub use mounting::mount;
 pub use title::Title;

@@ -54,7 +54,7 @@ fn check_map<D: Drive>(
     let before = into.len();
     read_numbers(&bytes, count, into);
     let (_, numbers) = into.as_slice().split_at(before);
-    check_pages(used, slot, blocks, numbers)
+    check_pages(used, slot, FIRST, blocks, numbers)
 }
 
 /// Checks the maps of the file in a slot, and gives its page numbers.

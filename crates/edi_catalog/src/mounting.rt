@@ -55,8 +55,8 @@ fn check_header<D: Drive>(disk: &mut Disk<'_, D>) -> Result<(), MountFault>
     }
 }
 
-// So many free slots.
-fn free_slots(alloc: Global, count: u32) -> Result<Vec<Option<StoredFile>>, MountFault>
+/// So many free slots.
+pub(crate) fn free_slots(alloc: Global, count: u32) -> Result<Vec<Option<StoredFile>>, MountFault>
     ensures { MatchResult result (λ files. files.items ≡ replicate count None) (λ fault. fault ≡ MountFault.NoMemory) }
 {
     let mut files = Vec::new(alloc);

@@ -1,15 +1,14 @@
 //! The page numbers of a map block.
 
 ghost use Rattle.std.specs.Prelude.{◌≡◌, ◌≤◌, ◌+◌, ◌*◌, ◌++◌, OnOk, length, drop, true, false};
+ghost use Rattle.std.specs.List.{list_all};
 ghost use Rattle.arrayvec.specs.ArrayVec.{array_vec_len};
 ghost use Rattle.edi_catalog.specs.Rules.{first_broken, page_rules};
 ghost use Rattle.edi_catalog.specs.Entries.{is_data, shorts};
 ghost use Rattle.edi_catalog.specs.Image.{numbers_in};
-ghost use Rattle.edi_catalog.specs.Stored.{are_data};
 ghost use Rattle.edi_catalog.specs.Reads.{Finds, failed};
 
 use crate::blocks::BLOCK;
-use crate::entries::FIRST;
 use crate::faults::MountFault;
 use crate::fields::{is_data, short_at};
 use arrayvec::ArrayVec;
@@ -31,19 +30,21 @@ pub(crate) fn read_numbers(block: &[u8; BLOCK], count: usize, into: &mut Pages)
     }
 }
 
-/// Checks the pages of the file in a slot: each lies behind the catalogue and on the drive, and is used only here.
+/// Checks the pages of the file in a slot: each lies behind the blocks of the catalogue, which are those below `first`, and on
+/// the drive, and is used only here.
 pub(crate) fn check_pages(
     used: &mut Vec<u16>,
     slot: u8,
+    first: u16,
     count: u32,
     pages: &[u16],
 ) -> Result<(), MountFault>
-    ensures finds { Finds result (first_broken used.old.items (page_rules FIRST count slot pages.now)) (λ _. used.new.items ≡ used.old.items ++ pages.now) }
-    ensures range { OnOk result (are_data count pages.now ≡ true) }
+    ensures finds { Finds result (first_broken used.old.items (page_rules first count slot pages.now)) (λ _. used.new.items ≡ used.old.items ++ pages.now) }
+    ensures range { OnOk result (list_all (is_data first count) pages.now ≡ true) }
     ensures alone { failed result ≡ false }
 {
     for page in pages {
-        if !is_data(FIRST, count, *page) {
+        if !is_data(first, count, *page) {
             return Err(MountFault::Page(slot, *page));
         }
         if used.contains(page) {

@@ -68,7 +68,10 @@ fn read_entry<D: Drive>(disk: &mut Disk<'_, D>, slot: u8) -> Result<Said, MountF
 }
 
 /// Puts what is kept of a slot behind the others.
-fn put_file(files: &mut Vec<Option<StoredFile>>, file: Option<StoredFile>) -> Result<(), MountFault>
+pub(crate) fn put_file(
+    files: &mut Vec<Option<StoredFile>>,
+    file: Option<StoredFile>,
+) -> Result<(), MountFault>
     ensures { MatchResult result (λ _. files.new.items ≡ files.old.items ++ file ∷ []) (λ fault. fault ≡ MountFault.NoMemory) }
 {
     match files.push(file) {

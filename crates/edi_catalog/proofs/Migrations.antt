@@ -1,0 +1,104 @@
+-- A migration, from the old image to what the drive has.
+use Rattle.std.proofs.Common.{◌≡◌, ℕ, ◌+◌, ◌≤◌, true, false, List, [], ◌∷◌, ◌++◌, length, drop, refl, ap, sym, subst, ◌∙◌, arith, length-append, length-drop}
+use Rattle.std.specs.Prelude.{nat_le, if◌then◌else◌, Option, Some, None}
+use Rattle.std.specs.List.{list_all}
+use Rattle.std.proofs.lemmas.Bool.{le-leb, and_parts, and_from}
+use Rattle.edi_host.specs.Blocks.{blocks_of, resized}
+use Rattle.edi_calls.specs.State.{most_bytes, pages_of}
+use Rattle.edi_catalog.specs.declared.faults.MountFault.{MountFault}
+use Rattle.edi_catalog.specs.declared.faults.MountFault.TheVariants as fault
+use Rattle.edi_catalog.specs.declared.migrating.MigrateEnd.{MigrateEnd}
+use Rattle.edi_catalog.specs.declared.migrating.MigrateEnd.TheVariants as end
+use Rattle.edi_catalog.specs.Image.{Holds}
+use Rattle.edi_catalog.specs.OldImage.{old_fault_of}
+use Rattle.edi_catalog.specs.OldFiles.{is_old_stored, migrated_slots, old_files_of}
+use Rattle.edi_catalog.specs.Stored.{StoredFile}
+use Rattle.edi_catalog.specs.Files.{blocks_taken, is_sized}
+use Rattle.edi_catalog.specs.Reads.{IsFirst, is_drive_fault}
+use Rattle.edi_catalog.specs.Migrated.{blocks_of_slots, migrated_bytes, HasRoom, MigrateAnswers, MigrateLeaves, refusal, refuses}
+use Rattle.edi_catalog.proofs.Empty.{length-resized}
+use Rattle.edi_catalog.proofs.MigratedRules.{whole_of}
+use Rattle.edi_catalog.proofs.MigratedBytes.{AreFull, old_full, length-old_files, IsMade, is_made, image_holds_old}
+
+-- ---- what is refused
+
+pub refused : (e : MountFault) (count : ℕ) (old : List (List ℕ)) → IsFirst e (old_fault_of old) → is_drive_fault e ≡ false
+    → (refuses (refusal e) ≡ true) × MigrateAnswers (refusal e) count old
+refused fault.Short count old first h = (refl, (first, refl))
+refused fault.Header count old first h = (refl, (first, refl))
+refused (fault.Entry s) count old first h = (refl, (first, refl))
+refused (fault.Page s n) count old first h = (refl, (first, refl))
+refused (fault.Shared n) count old first h = (refl, (first, refl))
+refused fault.Fault count old first h = absurd (let no : true ≡ false = h in cc)
+refused fault.NoMemory count old first h = (refl, tt)
+
+pub refuses_leaves : (e : MigrateEnd) (count : ℕ) (image before : List (List ℕ)) → refuses e ≡ true → MigrateLeaves e count image before before
+refuses_leaves end.Ok count image before h = absurd (let no : false ≡ true = h in cc)
+refuses_leaves (end.Image broken) count image before h = refl
+refuses_leaves (end.Full wanted free) count image before h = refl
+refuses_leaves end.Fault count image before h = tt
+refuses_leaves end.NoMemory count image before h = refl
+
+-- ---- the files of an old image
+
+pub all_old_sized : (n : ℕ) (files : List (Option StoredFile)) → list_all (is_old_stored n) files ≡ true → list_all is_sized files ≡ true
+all_old_sized n [] h = refl
+all_old_sized n (None ∷ files) h = all_old_sized n files h
+all_old_sized n (Some file ∷ files) h =
+    let parts = and_parts (is_old_stored n (Some file)) (list_all (is_old_stored n) files) h in
+    let short : file.record_.length ≤ 130560 = (whole_of n file parts.0).short in
+    and_from (nat_le file.record_.length most_bytes) (list_all is_sized files) (le-leb file.record_.length most_bytes (omega arith))
+    (all_old_sized n files parts.1)
+
+pub taken_same : (n : ℕ) (files : List (Option StoredFile)) → list_all (is_old_stored n) files ≡ true → blocks_taken files ≡ blocks_of_slots files
+taken_same n [] h = refl
+taken_same n (None ∷ files) h = (let later : blocks_taken files ≡ blocks_of_slots files = taken_same n files h in omega (arith, later))
+taken_same n (Some file ∷ files) h =
+    let parts = and_parts (is_old_stored n (Some file)) (list_all (is_old_stored n) files) h in
+    let whole = whole_of n file parts.0 in
+    let many : length file.pages ≡ pages_of file.record_.length = whole.many in
+    let few : nat_le (pages_of file.record_.length) 255 ≡ true = le-leb (pages_of file.record_.length) 255 (subst (λ k. k ≤ 255) many whole.few) in
+    let later : blocks_taken files ≡ blocks_of_slots files = taken_same n files parts.1 in
+    ap (λ b. pages_of file.record_.length + (if b then 1 else 2) + blocks_taken files) few
+    ∙ (let same : pages_of file.record_.length + 1 + blocks_taken files ≡ 1 + length file.pages + blocks_of_slots files =
+    ap (λ k. k + 1 + blocks_taken files) (sym many) ∙ omega (arith, later) in same)
+
+-- ---- the new image
+
+has_room : (count : ℕ) (old : List (List ℕ)) → list_all (is_old_stored (length old)) (old_files_of old) ≡ true → HasRoom count old
+    → 33 + blocks_of_slots (old_files_of old) ≤ count
+has_room count old stored room =
+    let fits : blocks_taken (old_files_of old) + 33 ≤ count = room.1 in
+    omega (arith, fits, taken_same (length old) (old_files_of old) stored)
+
+image_made : (given : List ℕ) (old : List (List ℕ)) (count : ℕ) (bytes : List ℕ) → old ≡ blocks_of given
+    → HasRoom count old → bytes ≡ migrated_bytes old count (old_files_of old) → list_all (is_old_stored (length old)) (old_files_of old) ≡ true
+    → IsMade old count (old_files_of old) bytes
+image_made given old count bytes o room b stored =
+    is_made old count (old_files_of old) bytes (subst AreFull (sym o) (old_full given)) stored (length-old_files old) (has_room count old stored room) b
+
+-- its blocks have room on the drive
+pub image_fits : (given : List ℕ) (old image : List (List ℕ)) (count : ℕ) (bytes seen : List ℕ) → old ≡ blocks_of given
+    → HasRoom count old → bytes ≡ migrated_bytes old count (old_files_of old) → list_all (is_old_stored (length old)) (old_files_of old) ≡ true
+    → seen ≡ bytes → image ≡ blocks_of seen → length image ≤ count
+image_fits given old image count bytes seen o room b stored s i =
+    let many : length (blocks_of bytes) ≡ 33 + blocks_of_slots (old_files_of old) = (image_made given old count bytes o room b stored).many in
+    omega (arith, ap length (i ∙ ap blocks_of s), many, has_room count old stored room)
+
+pub migration_leaves : (given : List ℕ) (old image : List (List ℕ)) (count : ℕ) (bytes seen : List ℕ) (before between after : List (List ℕ))
+    → old ≡ blocks_of given → HasRoom count old → bytes ≡ migrated_bytes old count (old_files_of old)
+    → list_all (is_old_stored (length old)) (old_files_of old) ≡ true → seen ≡ bytes → image ≡ blocks_of seen → 64 ≤ count → count ≤ 4096
+    → between ≡ resized before count → (length image ≤ length between → after ≡ image ++ drop (length image) between)
+    → (length after ≡ count) × Holds after (migrated_slots (blocks_of given))
+migration_leaves given old image count bytes seen before between after o room b stored s i least most r w =
+    let fits : length image ≤ count = image_fits given old image count bytes seen o room b stored s i in
+    let long : length between ≡ count = ap length r ∙ length-resized before count in
+    let whole : after ≡ image ++ drop (length image) between = w (omega (arith, fits, long)) in
+    let size : length after ≡ count =
+    ap length whole ∙ length-append image (drop (length image) between) ∙ ap (λ k. length image + k) (length-drop (length image) between)
+    ∙ omega (arith, fits, long) in (
+      size,
+      subst (λ blocks. Holds after (migrated_slots blocks)) o
+          (image_holds_old after old (drop (length image) between) count bytes room.0 stored (has_room count old stored room) least most size
+          (image_made given old count bytes o room b stored) (whole ∙ ap (λ bs. bs ++ drop (length image) between) (i ∙ ap blocks_of s))),
+    )
