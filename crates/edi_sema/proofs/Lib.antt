@@ -1,0 +1,10 @@
+pub mod Shapes
+pub mod Walked
+pub mod Framed
+pub mod Seen
+pub mod Ends
+pub mod Staying
+pub mod Opening
+pub mod Begun
+pub mod Completed
+pub mod Answered

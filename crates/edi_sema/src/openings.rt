@@ -1,0 +1,147 @@
+//! The begin and the end of procedures and modules, round their declarations; and declarations without a body.
+
+ghost use Rattle.std.specs.Prelude.{◌≡◌, ◌<◌, [], length, map, IsTrue, IfOk, OnOk};
+ghost use Rattle.edi_scope.specs.Scope.{in_module};
+ghost use Rattle.edi_tree.specs.View.{const_list_of, type_decl_of, var_list_of, list_of};
+ghost use Rattle.edi_static.specs.Judged.{gives};
+ghost use Rattle.edi_static.specs.Environment as environments;
+ghost use Rattle.edi_static.specs.Headings as headings;
+ghost use Rattle.edi_static.specs.Types as types;
+ghost use Rattle.edi_static.specs.Declarations as spec;
+ghost use Rattle.edi_static.specs.Answers.{Answers};
+ghost use Rattle.edi_static.specs.Proper.{Proper};
+ghost use Rattle.edi_static.specs.Views.{begun_of, environment};
+ghost use Rattle.edi_sema.specs.Frames.{Comes, Stands};
+ghost use Rattle.edi_sema.specs.Splits.{with_begun};
+ghost use Rattle.edi_sema.specs.Bodies.{finished, finished_module, inside_module};
+
+use crate::blocks::{add_statements, close_block, enter_around};
+use crate::procedures::all_completed;
+use crate::statements::statement_list;
+use edi_static::{Begun, Known, StaticFault, const_list, type_decl, var_list};
+use edi_tree::{ConstList, List, TypeDecl, VarList};
+use std::alloc::Global;
+
+/// Constants.
+pub(crate) fn constants(
+    known: &mut Known,
+    alloc: Global,
+    marked: bool,
+    list: &ConstList,
+) -> Result<(), StaticFault>
+    requires module { IsTrue marked → IsTrue (in_module known.old.scopes) }
+    requires stands { Stands (environment known.old) }
+    ensures exact { Answers (λ _. environment known.new) result (types.const_list marked (const_list_of list.now) (environment known.old)) }
+    ensures comes { OnOk result (Comes (environment known.old) (environment known.new)) }
+{
+    const_list(known, alloc, marked, list)
+}
+
+/// A type.
+pub(crate) fn declared_type(
+    known: &mut Known,
+    alloc: Global,
+    marked: bool,
+    declared: &TypeDecl,
+) -> Result<(), StaticFault>
+    requires module { IsTrue marked → IsTrue (in_module known.old.scopes) }
+    requires stands { Stands (environment known.old) }
+    ensures exact { Answers (λ _. environment known.new) result (types.type_decl marked (type_decl_of declared.now) (environment known.old)) }
+    ensures comes { OnOk result (Comes (environment known.old) (environment known.new)) }
+{
+    type_decl(known, alloc, marked, declared)
+}
+
+/// Variables.
+pub(crate) fn variables(
+    known: &mut Known,
+    alloc: Global,
+    marked: bool,
+    list: &VarList,
+) -> Result<(), StaticFault>
+    requires module { IsTrue marked → IsTrue (in_module known.old.scopes) }
+    requires stands { Stands (environment known.old) }
+    ensures exact { Answers (λ _. environment known.new) result (types.var_list marked (var_list_of list.now) (environment known.old)) }
+    ensures comes { OnOk result (Comes (environment known.old) (environment known.new)) }
+{
+    var_list(known, alloc, marked, list)
+}
+
+/// Takes out the procedures that are begun.
+fn take_begun(known: &mut Known, alloc: Global) -> Vec<Begun>
+    ensures exact { environment known.new ≡ with_begun [] (environment known.old) }
+    ensures begun { map begun_of result.items ≡ (environment known.old).begun }
+{
+    std::mem::replace(&mut known.begun, Vec::new(alloc))
+}
+
+/// Enters a block whose heading's scope is the innermost, and gives the procedures that are begun round it.
+pub(crate) fn open_block(
+    known: &mut Known,
+    alloc: Global,
+    block: u32,
+) -> Result<Vec<Begun>, StaticFault>
+    requires stands { Stands (environment known.old) }
+    ensures exact { Answers (λ _. environment known.new) result (gives (spec.enter_block block (environment known.old))) }
+    ensures begun { IfOk result (λ begun. map begun_of begun.items ≡ (environment known.old).begun) }
+    ensures stands { OnOk result (Stands (environment known.new)) }
+{
+    enter_around(known, block)?;
+    Ok(take_begun(known, alloc))
+}
+
+/// Enters a module, and gives the procedures that are begun round it.
+pub(crate) fn open_module(known: &mut Known, alloc: Global) -> Result<Vec<Begun>, StaticFault>
+    requires stands { Stands (environment known.old) }
+    ensures exact { Answers (λ _. environment known.new) result (gives (inside_module (environment known.old))) }
+    ensures begun { IfOk result (λ begun. map begun_of begun.items ≡ (environment known.old).begun) }
+    ensures stands { OnOk result (Stands (environment known.new)) }
+{
+    known.enter(alloc, true)?;
+    Ok(take_begun(known, alloc))
+}
+
+/// Closes the innermost scope. These procedures are begun round it.
+pub(crate) fn close_scope(known: &mut Known, begun: Vec<Begun>)
+    requires depth { 1 < length known.old.scopes }
+    requires proper { Proper (environment known.old) }
+    ensures exact { environment known.new ≡ headings.leave (with_begun (map begun_of begun.items) (environment known.old)) }
+    ensures proper { Proper (environment known.new) }
+{
+    known.begun = begun;
+    known.leave();
+}
+
+/// The statements of a procedure, and the symbol that closes it.
+pub(crate) fn finish_block(
+    known: &mut Known,
+    alloc: Global,
+    block: u32,
+    list: &List,
+    end: u16,
+) -> Result<(), StaticFault>
+    requires stands { Stands (environment known.old) }
+    ensures exact { Answers (λ _. environment known.new) result (finished block (list_of list.now) end (environment known.old)) }
+    ensures comes { OnOk result (Comes (environment known.old) (environment known.new)) }
+{
+    all_completed(known)?;
+    let acts = statement_list(known, alloc, list)?;
+    close_block(known, alloc, block, acts, end)
+}
+
+/// The statements of a module, which the block where it stands executes when it is entered.
+pub(crate) fn finish_module(
+    known: &mut Known,
+    alloc: Global,
+    list: &List,
+) -> Result<(), StaticFault>
+    requires stands { Stands (environment known.old) }
+    ensures exact { Answers (λ _. environment known.new) result
+        (finished_module (environments.here (environment known.old)) (list_of list.now) (environment known.old)) }
+    ensures comes { OnOk result (Comes (environment known.old) (environment known.new)) }
+{
+    all_completed(known)?;
+    let block = known.here();
+    let acts = statement_list(known, alloc, list)?;
+    add_statements(known, alloc, block, acts)
+}

@@ -1,0 +1,237 @@
+//! The rules on the headings of procedures, also of split ones.
+
+ghost use Rattle.std.specs.Prelude.{◌≡◌, ◌≤◌, ◌<◌, ◌++◌, ◌∷◌, [], length, map, unwrap_or, Err, IsTrue, IfOk, IfSome, OnErr, OnOk};
+ghost use Rattle.edi_scope.specs.declared.entity.Entity.TheVariants as entity;
+ghost use Rattle.edi_scope.specs.Scope.{in_module, outside};
+ghost use Rattle.edi_tree.specs.View.{heading_of};
+ghost use Rattle.edi_unit.specs.Fits.{heading_result};
+ghost use Rattle.edi_static.specs.Environment.{heading_at, same_heading};
+ghost use Rattle.edi_static.specs.Headings.{round};
+ghost use Rattle.edi_static.specs.Environment as environments;
+ghost use Rattle.edi_static.specs.Declarations as spec;
+ghost use Rattle.edi_static.specs.Judged.{gives};
+ghost use Rattle.edi_static.specs.Answers.{Answers};
+ghost use Rattle.edi_static.specs.Proper.{Proper};
+ghost use Rattle.edi_static.specs.Views.{asked_of, begun_of, environment};
+ghost use Rattle.edi_sema.specs.Frames.{Begins, Comes, Stands};
+ghost use Rattle.edi_sema.specs.Splits.{block_named, post_block, posted, with_begun};
+
+use edi_lex::Text;
+use edi_scope::Entity;
+use edi_static::{Asked, Begun, Known, StaticFault, StaticKind, fault, heading_parts, must, no_asked, number, put, same_asked};
+use edi_tree::{Heading, Name};
+use edi_unit::BlockKind;
+use std::alloc::Global;
+
+/// A procedure with a result is a function.
+fn kind_of(asked: &Asked) -> BlockKind
+    ensures exact { result ≡ spec.kind_of (heading_result (asked_of asked.now)) }
+{
+    match asked.result {
+        None => BlockKind::Procedure,
+        Some(_) => BlockKind::Function,
+    }
+}
+
+/// The block of a heading whose scope is the innermost, and its name in the scope round it.
+pub(crate) fn begin_block_of(
+    known: &mut Known,
+    alloc: Global,
+    marked: bool,
+    kind: BlockKind,
+    name: &Name,
+    block: u32,
+    asked: Asked,
+) -> Result<u32, StaticFault>
+    requires depth { 1 < length known.old.scopes }
+    requires module { IsTrue marked → IsTrue (in_module (outside known.old.scopes)) }
+    requires proper { Proper (environment known.old) }
+    requires fits { block ≤ length (environment known.old).headings }
+    ensures exact { Answers (λ _. environment known.new) result
+        (round (environments.declare marked name.now (entity.Procedure block)) (spec.with_heading kind (record { env = environment known.old; asks = asked_of asked }))) }
+    ensures number { IfOk result (λ n. n ≡ block) }
+    ensures proper { OnOk result (Proper (environment known.new)) }
+{
+    known.begin_block(alloc, kind, asked)?;
+    known.declare_round(alloc, marked, name, Entity::Procedure { block })?;
+    Ok(block)
+}
+
+/// A procedure that begins: its block is there and its name is declared.
+pub(crate) fn begin_procedure(
+    known: &mut Known,
+    alloc: Global,
+    marked: bool,
+    heading: &Heading,
+) -> Result<u32, StaticFault>
+    requires module { IsTrue marked → IsTrue (in_module known.old.scopes) }
+    requires stands { Stands (environment known.old) }
+    ensures exact { Answers (λ _. environment known.new) result (spec.begin_procedure marked (heading_of heading.now) (environment known.old)) }
+    ensures number { IfOk result (λ block. block ≡ length (environment known.old).blocks) }
+    ensures begins { OnOk result (Begins (environment known.old) (environment known.new)) }
+{
+    let block = number(known.blocks.len())?;
+    let asked = heading_parts(known, alloc, block, heading)?;
+    let kind = kind_of(&asked);
+    begin_block_of(known, alloc, marked, kind, &heading.name, block, asked)
+}
+
+/// The block of the procedure of this name that is begun, if there is one.
+fn begun_named(begun: &[Begun], name: &[u8]) -> Option<u32>
+    ensures exact { result ≡ block_named (map begun_of begun.now) name.now }
+{
+    for one in begun {
+        if one.name.text.as_slice() == name {
+            return Some(one.block);
+        }
+    }
+    None
+}
+
+/// Whether the heading of a block has this shape; an unknown block asks nothing.
+fn has_shape(known: &Known, alloc: Global, block: u32, asked: &Asked) -> bool
+    ensures exact { result ≡ same_heading (heading_at (environment known.now).headings block) (asked_of asked.now) }
+{
+    match known.headings.get(block as usize) {
+        Some(earlier) => same_asked(earlier, asked),
+        None => same_asked(&no_asked(alloc), asked),
+    }
+}
+
+/// A mark on a `post` gives the name to the scope round the module.
+fn give_marked(
+    known: &mut Known,
+    alloc: Global,
+    marked: bool,
+    name: &Name,
+    block: u32,
+) -> Result<(), StaticFault>
+    requires module { IsTrue marked → IsTrue (in_module (outside known.old.scopes)) }
+    requires proper { Proper (environment known.old) }
+    requires fits { block < length (environment known.old).headings }
+    ensures exact { Answers (λ _. environment known.new) result (spec.post_marked marked name.now block (environment known.old)) }
+    ensures proper { OnOk result (Proper (environment known.new)) }
+{
+    if marked {
+        known.give_outside_round(alloc, name, Entity::Procedure { block })
+    } else {
+        Ok(())
+    }
+}
+
+/// A `post` has an earlier `pre` of its name in the same scope, not completed, and of the same shape.
+fn complete(
+    known: &mut Known,
+    alloc: Global,
+    marked: bool,
+    name: &Name,
+    found: Option<u32>,
+    block: u32,
+    asked: &Asked,
+) -> Result<u32, StaticFault>
+    requires module { IsTrue marked → IsTrue (in_module (outside known.old.scopes)) }
+    requires proper { Proper (environment known.old) }
+    requires fits { IfSome found (λ b. block < length (environment known.old).headings) }
+    requires same { IfSome found (λ b. b ≡ block) }
+    ensures exact { Answers (λ _. environment known.new) result
+        (posted marked name.now found block (asked_of asked.now) (environment known.old)) }
+    ensures number { IfOk result (λ n. n ≡ block) }
+    ensures proper { OnOk result (Proper (environment known.new)) }
+{
+    match found {
+        None => fault(StaticKind::Split, name.line),
+        Some(_) => {
+            must(has_shape(known, alloc, block, asked), StaticKind::Split, name.line)?;
+            give_marked(known, alloc, marked, name, block)?;
+            Ok(block)
+        }
+    }
+}
+
+/// The block of a `post`; without its `pre` it will be refused, and has none.
+fn block_of(known: &Known, found: Option<u32>) -> Result<u32, StaticFault>
+    ensures exact { Answers (λ n. n) result (gives (unwrap_or found (length (environment known.now).blocks))) }
+{
+    match found {
+        Some(block) => Ok(block),
+        None => number(known.blocks.len()),
+    }
+}
+
+/// A `post` is held to its `pre` after its heading's parts.
+pub(crate) fn begin_post(
+    known: &mut Known,
+    alloc: Global,
+    marked: bool,
+    heading: &Heading,
+) -> Result<u32, StaticFault>
+    requires module { IsTrue marked → IsTrue (in_module known.old.scopes) }
+    requires stands { Stands (environment known.old) }
+    ensures exact { Answers (λ _. environment known.new) result (spec.begin_post marked (heading_of heading.now) (environment known.old)) }
+    ensures number { IfOk result (λ block. block ≡ post_block (heading_of heading.now) (environment known.old)) }
+    ensures begins { OnOk result (Begins (environment known.old) (environment known.new)) }
+{
+    let found = begun_named(known.begun.as_slice(), heading.name.text.as_slice());
+    let block = block_of(known, found)?;
+    let asked = heading_parts(known, alloc, block, heading)?;
+    complete(known, alloc, marked, &heading.name, found, block, &asked)
+}
+
+/// A copy of a name.
+fn copy_name(alloc: Global, name: &Name) -> Result<Name, StaticFault>
+    ensures ok { IfOk result (λ copy. copy ≡ name.now) }
+    ensures err { OnErr result (result ≡ Err StaticFault.NoMemory) }
+{
+    match Text::from_slice(alloc, name.text.as_slice()) {
+        Ok(text) => Ok(Name {
+            text,
+            line: name.line,
+        }),
+        Err(_) => Err(StaticFault::NoMemory),
+    }
+}
+
+/// A procedure is begun.
+#[tactic(auto, using(edi_static::proofs::Proper::pushed))]
+fn begin_split(known: &mut Known, begun: Begun) -> Result<(), StaticFault>
+    ensures exact { Answers (λ _. environment known.new) result
+        (gives (with_begun ((environment known.old).begun ++ begun_of begun ∷ []) (environment known.old))) }
+{
+    put(&mut known.begun, begun)
+}
+
+/// A `pre` alone: its heading's scope ends at once.
+pub(crate) fn pre_decl(
+    known: &mut Known,
+    alloc: Global,
+    marked: bool,
+    heading: &Heading,
+) -> Result<(), StaticFault>
+    requires module { IsTrue marked → IsTrue (in_module known.old.scopes) }
+    requires stands { Stands (environment known.old) }
+    ensures exact { Answers (λ _. environment known.new) result (spec.pre_decl marked (heading_of heading.now) (environment known.old)) }
+    ensures comes { OnOk result (Comes (environment known.old) (environment known.new)) }
+{
+    let block = begin_procedure(known, alloc, marked, heading)?;
+    known.leave();
+    let name = copy_name(alloc, &heading.name)?;
+    begin_split(known, Begun { name, block })
+}
+
+/// At the `begin` of a scope each procedure that is begun in it has been completed.
+pub(crate) fn all_completed(known: &Known) -> Result<(), StaticFault>
+    ensures exact { Answers (λ _. tt) result (spec.all_completed (environment known.now).begun) }
+{
+    match known.begun.first() {
+        Some(begun) => fault(StaticKind::Split, begun.name.line),
+        None => Ok(()),
+    }
+}
+
+/// A procedure that is begun no longer waits for its `post`.
+pub(crate) fn completed(known: &mut Known, name: &Name)
+    ensures exact { environment known.new ≡ with_begun (spec.without_begun name.now.text (environment known.old).begun) (environment known.old) }
+{
+    let name = name.text.as_slice();
+    known.begun.retain(|begun| begun.name.text.as_slice() != name);
+}

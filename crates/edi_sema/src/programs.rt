@@ -1,0 +1,118 @@
+//! What a whole program is resolved to.
+
+ghost use Rattle.std.specs.Prelude.{◌≡◌, map, Err, IfOk, OnErr, OnOk};
+ghost use Rattle.edi_tree.specs.View.{globals, global_of, heading_of, procedure_of};
+ghost use Rattle.edi_tree.specs.Whole.{program_of};
+ghost use Rattle.edi_unit.specs.Lists.{list_items};
+ghost use Rattle.edi_unit.specs.View.{unit_of};
+ghost use Rattle.edi_static.specs.Programs as spec;
+ghost use Rattle.edi_static.specs.Answers.{Answers};
+ghost use Rattle.edi_static.specs.Views.{asked_of, environment};
+ghost use Rattle.edi_sema.specs.Frames.{Begins, Comes, Stands};
+ghost use Rattle.edi_static.specs.Judged.{gives};
+ghost use Rattle.edi_sema.specs.Whole.{begun_program, first_place, program_unit};
+
+use crate::calls::program_heading;
+use crate::declarations::procedure_rest;
+use crate::openings::{constants, declared_type};
+use crate::procedures::begin_block_of;
+use edi_static::{Asked, Known, StaticFault, copy_asked, heading_parts};
+use edi_tree::{Global as Declared, Heading, Procedure, Program};
+use edi_unit::{BlockKind, CallList, List, Unit};
+use std::alloc::Global;
+
+/// A declaration before the program's procedure.
+fn global(known: &mut Known, alloc: Global, global: &Declared) -> Result<(), StaticFault>
+    requires stands { Stands (environment known.old) }
+    ensures exact { Answers (λ _. environment known.new) result (spec.global_decl (global_of global.now) (environment known.old)) }
+    ensures comes { OnOk result (Comes (environment known.old) (environment known.new)) }
+{
+    match global {
+        Declared::ConstList(list) => constants(known, alloc, false, list),
+        Declared::TypeDecl(declared) => declared_type(known, alloc, false, declared),
+    }
+}
+
+/// The declarations before the program's procedure.
+fn declare_globals(known: &mut Known, alloc: Global, declared: &[Declared]) -> Result<(), StaticFault>
+    requires stands { Stands (environment known.old) }
+    ensures exact { Answers (λ _. environment known.new) result (spec.global_decls (globals (map global_of declared.now)) (environment known.old)) }
+    ensures comes { OnOk result (Comes (environment known.old) (environment known.new)) }
+{
+    for one in declared {
+        global(known, alloc, one)?;
+    }
+    Ok(())
+}
+
+/// A copy of a heading.
+fn copy_of(alloc: Global, asked: &Asked) -> Result<Asked, StaticFault>
+    ensures ok { IfOk result (λ copy. asked_of copy ≡ asked_of asked.now) }
+    ensures err { OnErr result (result ≡ Err StaticFault.NoMemory) }
+{
+    match copy_asked(alloc, asked) {
+        Ok(copy) => Ok(copy),
+        Err(_) => Err(StaticFault::NoMemory),
+    }
+}
+
+/// The program's own name is declared before its heading is held to the rules on programs.
+fn begin_program(
+    known: &mut Known,
+    alloc: Global,
+    heading: &Heading,
+) -> Result<CallList, StaticFault>
+    requires stands { Stands (environment known.old) }
+    ensures exact { Answers (λ calls. record { calls = list_items calls; env = environment known.new }) result
+        (begun_program (heading_of heading.now) (environment known.old)) }
+    ensures begins { OnOk result (Begins (environment known.old) (environment known.new)) }
+{
+    let asked = heading_parts(known, alloc, 0, heading)?;
+    let asks = copy_of(alloc, &asked)?;
+    begin_block_of(known, alloc, false, BlockKind::Program, &heading.name, 0, asked)?;
+    program_heading(known, alloc, heading, &asks)
+}
+
+/// The program's procedure, whose heading is held to the rules on programs before its declarations are judged.
+fn program_procedure(
+    known: &mut Known,
+    alloc: Global,
+    procedure: &Procedure,
+) -> Result<CallList, StaticFault>
+    requires stands { Stands (environment known.old) }
+    ensures exact { Answers (λ calls. program_unit (list_items calls) (environment known.new)) result
+        (spec.program_procedure (procedure_of procedure.now) (environment known.old)) }
+{
+    let calls = begin_program(known, alloc, &procedure.heading)?;
+    procedure_rest(known, alloc, 0, procedure)?;
+    Ok(calls)
+}
+
+/// What is known before a program, whose scope is open.
+fn before_program(alloc: Global) -> Result<Known, StaticFault>
+    ensures exact { Answers environment result (gives first_place) }
+    ensures stands { IfOk result (λ known. Stands (environment known)) }
+{
+    match Known::at_first(alloc) {
+        Ok(mut known) => {
+            known.enter(alloc, false)?;
+            Ok(known)
+        }
+        Err(_) => Err(StaticFault::NoMemory),
+    }
+}
+
+/// The unit of a program, or the first construct that breaks a static rule.
+pub fn resolve(alloc: Global, tree: &Program) -> Result<Unit, StaticFault>
+    ensures exact { Answers unit_of result (spec.resolve_tree (program_of tree.now)) }
+{
+    let mut known = before_program(alloc)?;
+    declare_globals(&mut known, alloc, tree.globals.items())?;
+    let calls = program_procedure(&mut known, alloc, &tree.procedure)?;
+    Ok(Unit {
+        types: known.types,
+        blocks: List::from_vec(known.blocks),
+        program: 0,
+        calls,
+    })
+}
