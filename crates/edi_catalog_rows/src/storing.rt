@@ -12,14 +12,12 @@ use std::test::Fail;
 // An image of 64 blocks with the file `b` in slot 0: block 33 is its map, and the blocks from 34 on are its pages.
 fn with_pages(alloc: Global, pages: u16) -> Result<Vec<u8>, AllocError> {
     let mut numbers = Vec::new(alloc);
-    let mut length = 0;
     for page in 34..64 {
         if numbers.len() < usize::from(pages) {
             numbers.push(page)?;
-            length += 512;
         }
     }
-    let slots = [(b'b', 1, 33, 0, length)];
+    let slots = [(b'b', 1, 33, 0, u32::from(pages) * 512)];
     image(alloc, b"EDIS\0\x02\0\x40", 64, &slots, &numbers, &[])
 }
 
