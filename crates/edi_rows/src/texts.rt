@@ -41,26 +41,41 @@ fn programs_show_their_characters(rt: HostRuntime) -> Result<(), Fail> {
 
 #[test]
 fn other_texts_are_refused(rt: HostRuntime) -> Result<(), Fail> {
+    let syntax = "line 1 invalid syntax\n";
     let profile = "line 1 not in profile\n";
-    let cases: [(&str, RefusalKind, u16, &str); 13] = [
-        ("", RefusalKind::NotInProfile, 1, profile),
+    let deep =
+        "proc main(proc display(value: char))\nbegin display(((((((((((((((((((((((((((((((((((((((((((((((((((((((((((((((('a'";
+    let cases: [(&str, RefusalKind, u16, &str); 19] = [
+        ("", RefusalKind::InvalidSyntax, 1, syntax),
         (
             "proc main begin skip; end",
-            RefusalKind::NotInProfile,
+            RefusalKind::InvalidSyntax,
             1,
-            profile,
+            syntax,
         ),
         (
             "proc main(proc display(value: char)) begin end",
-            RefusalKind::NotInProfile,
+            RefusalKind::InvalidSyntax,
             1,
-            profile,
+            syntax,
         ),
         (
             "proc main(proc display(value: char)) begin display('a'); end",
-            RefusalKind::NotInProfile,
+            RefusalKind::InvalidSyntax,
             1,
-            profile,
+            syntax,
+        ),
+        (
+            "proc main(proc display(value: char)) begin skip end skip",
+            RefusalKind::InvalidSyntax,
+            1,
+            syntax,
+        ),
+        (
+            "\n\nproc main(proc display(value: char)) begin skip skip end",
+            RefusalKind::InvalidSyntax,
+            3,
+            "line 3 invalid syntax\n",
         ),
         (
             "proc main(proc display(value: char)) begin display('a':char) end",
@@ -69,25 +84,49 @@ fn other_texts_are_refused(rt: HostRuntime) -> Result<(), Fail> {
             profile,
         ),
         (
-            "proc main(proc display(value: char)) begin display('ab') end",
+            "proc main\nlib",
             RefusalKind::NotInProfile,
-            1,
-            profile,
+            2,
+            "line 2 not in profile\n",
         ),
         (
-            "proc main(proc display(value: char)) begin skip end skip",
-            RefusalKind::NotInProfile,
+            deep,
+            RefusalKind::NestingTooDeep,
+            2,
+            "line 2 nesting too deep\n",
+        ),
+        (
+            "proc main(proc display(value: char)) begin display('ab') end",
+            RefusalKind::InvalidConstructor,
             1,
-            profile,
+            "line 1 invalid constructor\n",
+        ),
+        (
+            "\n\nproc main(proc display(value: char)) begin display(value) end",
+            RefusalKind::UndeclaredName,
+            3,
+            "line 3 undeclared name\n",
         ),
         (
             "proc main(proc show(value: char)) begin show('a') end",
-            RefusalKind::NotInProfile,
+            RefusalKind::InvalidProgramHeading,
             1,
-            profile,
+            "line 1 invalid program heading\n",
         ),
         (
-            "\n\nproc main(proc display(value: char)) begin skip skip end",
+            "const a = 1; a = 2\nproc main begin skip end",
+            RefusalKind::AmbiguousName,
+            1,
+            "line 1 ambiguous name\n",
+        ),
+        (
+            "proc main\nvar x: int\nbegin\nx := true end",
+            RefusalKind::IncompatibleTypes,
+            4,
+            "line 4 incompatible types\n",
+        ),
+        (
+            "proc main\nbegin skip end",
             RefusalKind::NotInProfile,
             1,
             profile,
@@ -126,33 +165,43 @@ fn other_texts_are_refused(rt: HostRuntime) -> Result<(), Fail> {
     Ok(())
 }
 
-/// A program with as many blanks behind it as make this length.
-fn padded(alloc: Global, length: usize) -> Result<Vec<u8>, Fail> {
-    let mut text = Vec::from_slice(alloc, SHOWS_A.as_bytes())?;
+/// A text with as many of a byte behind it as make this length.
+fn padded(alloc: Global, text: &str, byte: u8, length: usize) -> Result<Vec<u8>, Fail> {
+    let mut all = Vec::from_slice(alloc, text.as_bytes())?;
     for _ in text.len()..length {
-        text.push(b' ')?;
+        all.push(byte)?;
     }
-    Ok(text)
+    Ok(all)
 }
 
 #[test]
-fn a_text_has_at_most_262144_bytes(rt: HostRuntime) -> Result<(), Fail> {
+fn a_text_has_at_most_262144_bytes_and_65534_line_feeds(rt: HostRuntime) -> Result<(), Fail> {
     let alloc = rt.alloc();
-    let cases: [(usize, Status, &str); 3] = [
-        (262_144, Status::Ok, "a"),
+    let long = Status::Refused(RefusalKind::TextTooLong, 0);
+    let shown_long = "line 0 text too long\n";
+    let cases: [(&str, u8, usize, Status, &str); 7] = [
+        (SHOWS_A, b' ', 262_144, Status::Ok, "a"),
+        (SHOWS_A, b' ', 262_145, long, shown_long),
+        (SHOWS_A, b' ', 262_200, long, shown_long),
         (
-            262_145,
-            Status::Refused(RefusalKind::TextTooLong, 0),
-            "line 0 text too long\n",
+            "",
+            b' ',
+            262_144,
+            Status::Refused(RefusalKind::InvalidSyntax, 1),
+            "line 1 invalid syntax\n",
         ),
+        ("", b' ', 262_145, long, shown_long),
         (
-            262_200,
-            Status::Refused(RefusalKind::TextTooLong, 0),
-            "line 0 text too long\n",
+            "",
+            b'\n',
+            65_534,
+            Status::Refused(RefusalKind::InvalidSyntax, 65_535),
+            "line 65535 invalid syntax\n",
         ),
+        ("", b'\n', 65_535, long, shown_long),
     ];
-    for (length, wanted, shown) in cases {
-        let text = padded(alloc, length)?;
+    for (front, byte, length, wanted, shown) in cases {
+        let text = padded(alloc, front, byte, length)?;
         let (status, terminal) = run(&rt, alloc, &text)?;
         assert_eq!(rt; status, wanted, "{length}");
         assert_eq!(rt; terminal.bytes(), shown.as_bytes(), "{length}");

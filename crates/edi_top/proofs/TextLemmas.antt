@@ -1,7 +1,6 @@
 -- What a program's symbols are, read from the front.
-use Rattle.std.proofs.Common.{◌≡◌, ℕ, ◌≤◌, Bool, true, List, [], ◌∷◌, ◌++◌, length, false, ◌&&◌, Result, Ok, Err, refl, sym, ap, subst, ◌∙◌, arith, append_assoc}
+use Rattle.std.proofs.Common.{◌≡◌, ℕ, ◌≤◌, true, List, [], ◌∷◌, ◌++◌, length, Result, Ok, Err, refl, sym, ap, subst, ◌∙◌, arith, append_assoc, ◌⊎◌, inl, inr}
 use Rattle.std.proofs.lemmas.List.{append-nil}
-use Rattle.std.proofs.lemmas.List.Sums.{sum_by-cons}
 use Rattle.edi_lex.specs.declared.symbol.Symbol.{Symbol}
 use Rattle.edi_lex.specs.declared.symbol.Symbol.TheVariants as is
 use Rattle.edi_lex.specs.declared.symbol.Mark.{Mark}
@@ -11,11 +10,23 @@ use Rattle.edi_top.specs.declared.status.RefusalKind.{RefusalKind}
 use Rattle.edi_top.specs.declared.small.Statement.{Statement}
 use Rattle.edi_top.specs.declared.small.Statement.TheVariants.{Skip, Display}
 use Rattle.edi_top.specs.Small.{AreBytes, behind, heading, heading_end, heading_middle, heading_start, spelled, symbols, Spells}
-use Rattle.edi_lex.specs.Order.{extent, size_of}
-use Rattle.edi_lex.specs.Spelling.{are_spelled, is_spelled}
+use Rattle.edi_lex.specs.Order.{extent}
+use Rattle.edi_lex.specs.Spelling.{are_spelled}
 use Rattle.edi_lex.specs.Symbols.{symbols_of, ScanGives}
 use Rattle.edi_top.specs.declared.status.RefusalKind.TheVariants.{InvalidCharacter, InvalidNumeral, TextTooLong}
-use Rattle.edi_top.specs.Verdict.{AreProgram, AreRefused, IsFault, fault_of}
+use Rattle.edi_top.specs.Verdict.{AreProgram, AreRefused, HaveStaticFault, HaveSyntaxFault, IsFault, IsRefusedAs, RefusesBy, RefusesTree, fault_of, told}
+use Rattle.edi_top.specs.declared.small.CompileFault.{CompileFault}
+use Rattle.edi_top.specs.declared.small.CompileFault.TheVariants as compile
+use Rattle.edi_syntax.specs.Refusal.{Refuses}
+use Rattle.edi_syntax.specs.declared.fault.SyntaxFault.{SyntaxFault}
+use Rattle.edi_syntax.specs.declared.fault.SyntaxFault.TheVariants as syntax
+use Rattle.edi_syntax.proofs.Once.{same_fault, no_tree}
+use Rattle.edi_syntax.proofs.Stopping as stopping
+use Rattle.edi_tree.specs.Tree.{Program}
+use Rattle.edi_derivation.specs.Faults.{IsTheTree}
+use Rattle.edi_unit.specs.Tree.{ProgramUnit}
+use Rattle.edi_static.specs.Judged.{Judged, gives, faults}
+use Rattle.edi_static.specs.Programs.{resolve_tree}
 
 -- no statement begins another
 pub same_rest : (s t : Statement) (x y : List Symbol) → spelled s ++ x ≡ spelled t ++ y → x ≡ y
@@ -90,23 +101,9 @@ pub found_end : (items : List Statement) (all rest : List Symbol) (after : List 
 found_end items all rest [] a none found = subst (λ (l : List Statement). Spells l all) (append-nil items) (found [] a)
 found_end items all rest (m ∷ after) a none found = absurd (omega (arith, none))
 
--- a symbol that is spelled has a size
-has_size : (s : Symbol) → is_spelled s ≡ true → 1 ≤ size_of s
-has_size (is.Chars []) e = cc
-has_size (is.Chars (c ∷ more)) e = omega arith
-has_size _ e = omega arith
-
 -- there are no more symbols than their sizes make
 pub few_marks : (marks : List Mark) → are_spelled marks ≡ true → length marks ≤ extent marks
-few_marks [] e = omega arith
-few_marks (m ∷ marks) e = omega (arith, sum_by-cons (λ (n : Mark). size_of n.symbol) m marks, has_size m.symbol (and_left (is_spelled m.symbol) (are_spelled marks) e), few_marks marks (and_right (is_spelled m.symbol) (are_spelled marks) e)) where
-  and_left : (a b : Bool) → a && b ≡ true → a ≡ true
-  and_left true b e = refl
-  and_left false b e = cc
-
-  and_right : (a b : Bool) → a && b ≡ true → b ≡ true
-  and_right true b e = e
-  and_right false b e = cc
+few_marks marks e = stopping.few_marks marks e
 
 -- the fault of a text that has no symbols
 pub refused_lexically : (text : List ℕ) (fault : LexFault) → ScanGives (Err fault) (symbols_of text) → IsFault text (fault_of fault)
@@ -114,6 +111,23 @@ refused_lexically text (lex.BadCharacter line) e = subst (λ (k : Result (List M
 refused_lexically text (lex.BadNumeral line) e = subst (λ (k : Result (List Mark × ℕ) LexFault). AreRefused k InvalidNumeral line) (sym e) (refl, refl)
 refused_lexically text lex.TooLong e = subst (λ (k : Result (List Mark × ℕ) LexFault). AreRefused k TextTooLong 0) (sym e) (refl, refl)
 refused_lexically text lex.NoMemory e = tt
+
+-- the syntax fault of symbols that are no program of this stage
+pub refused_syntactically : (known : List Mark × ℕ) (f : SyntaxFault) → Refuses known.0 known.1 f → RefusesBy known (told f)
+refused_syntactically known (syntax.Syntax line index) r = inl (syntax.Syntax line index, r, refl)
+refused_syntactically known (syntax.TooDeep line index) r = inl (syntax.TooDeep line index, r, refl)
+refused_syntactically known (syntax.NotInProfile line index) r = inl (syntax.NotInProfile line index, r, refl)
+refused_syntactically known syntax.NoMemory r = tt
+
+-- the fault of a tree is that of its symbols
+pub refused_statically : (known : List Mark × ℕ) (tree : Program) (fault : CompileFault) → IsTheTree known.0 tree → RefusesTree (resolve_tree tree) fault → RefusesBy known fault
+refused_statically known tree (compile.At kind line) it r = inr (tree, it, r)
+refused_statically known tree compile.NoMemory it r = tt
+
+-- the fault of a text that has symbols
+pub refused_symbols : (text : List ℕ) (known : List Mark × ℕ) (fault : CompileFault) → symbols_of text ≡ Ok known → RefusesBy known fault → ((ss : List Statement) → Spells ss (symbols known.0) → ⊥) → IsFault text fault
+refused_symbols text known (compile.At kind line) e r none = subst (λ (k : Result (List Mark × ℕ) LexFault). AreRefused k kind line) (sym e) (none, r)
+refused_symbols text known compile.NoMemory e r none = tt
 
 pub AreBytes-push : (ss : List Statement) (s : Statement) → AreBytes ss → AreBytes (s ∷ []) → AreBytes (ss ++ s ∷ [])
 AreBytes-push [] s a b = b
@@ -145,12 +159,26 @@ one_program (Ok known) ss ts a b = same_spelled ss ts (symbols known.0) a b
 one_program (Err fault) ss ts a b = absurd a
 
 pub not_both : (known : Result (List Mark × ℕ) LexFault) (ss : List Statement) (kind : RefusalKind) (line : ℕ) → AreProgram known ss → AreRefused known kind line → ⊥
-not_both (Ok known) ss kind line a b = b.2 ss a
+not_both (Ok known) ss kind line a b = b.0 ss a
 not_both (Err fault) ss kind line a b = a
+
+told_once : (f : CompileFault) (kind kind' : RefusalKind) (line line' : ℕ) → f ≡ compile.At kind line → f ≡ compile.At kind' line' → (kind ≡ kind') × (line ≡ line')
+told_once f kind kind' line line' a b = let same : compile.At kind line ≡ compile.At kind' line' = sym a ∙ b in (cc, cc)
+
+judged_once : (judged : Judged ProgramUnit) (kind kind' : RefusalKind) (line line' : ℕ) → IsRefusedAs judged kind line → IsRefusedAs judged kind' line' → (kind ≡ kind') × (line ≡ line')
+judged_once (faults why at) kind kind' line line' a b = (a.0 ∙ sym b.0, a.1 ∙ sym b.1)
+judged_once (gives unit) kind kind' line line' a b = (a.0 ∙ sym b.0, a.1 ∙ sym b.1)
+
+one_cause : (known : List Mark × ℕ) (kind kind' : RefusalKind) (line line' : ℕ) → HaveSyntaxFault known kind line ⊎ HaveStaticFault known kind line → HaveSyntaxFault known kind' line' ⊎ HaveStaticFault known kind' line' → (kind ≡ kind') × (line ≡ line')
+one_cause known kind kind' line line' (inl a) (inl b) = told_once (told b.0) kind kind' line line' (ap told (sym (same_fault known.0 known.1 a.0 b.0 a.1 b.1)) ∙ a.2) b.2
+one_cause known kind kind' line line' (inl a) (inr b) = absurd (no_tree known.0 known.1 a.0 b.0 a.1 b.1.spells b.1.shallow)
+one_cause known kind kind' line line' (inr a) (inl b) = absurd (no_tree known.0 known.1 b.0 a.0 b.1 a.1.spells a.1.shallow)
+one_cause known kind kind' line line' (inr a) (inr b) =
+    judged_once (resolve_tree a.0) kind kind' line line' a.2 (subst (λ (t : Program). IsRefusedAs (resolve_tree t) kind' line') (a.1.one b.0 b.1.spells) b.2)
 
 pub one_refusal : (known : Result (List Mark × ℕ) LexFault) (kind kind' : RefusalKind) (line line' : ℕ) → AreRefused known kind line → AreRefused known kind' line' → (kind ≡ kind') × (line ≡ line')
 one_refusal (Err (lex.BadCharacter at)) kind kind' line line' a b = (a.0 ∙ sym b.0, a.1 ∙ sym b.1)
 one_refusal (Err (lex.BadNumeral at)) kind kind' line line' a b = (a.0 ∙ sym b.0, a.1 ∙ sym b.1)
 one_refusal (Err lex.TooLong) kind kind' line line' a b = (a.0 ∙ sym b.0, a.1 ∙ sym b.1)
 one_refusal (Err lex.NoMemory) kind kind' line line' a b = absurd a
-one_refusal (Ok known) kind kind' line line' a b = (a.0 ∙ sym b.0, a.1 ∙ sym b.1)
+one_refusal (Ok known) kind kind' line line' a b = one_cause known kind kind' line line' a.1 b.1

@@ -14,7 +14,18 @@ fn kind_text(kind: RefusalKind) -> &'static str
         RefusalKind::InvalidCharacter => "invalid character",
         RefusalKind::InvalidNumeral => "invalid numeral",
         RefusalKind::TextTooLong => "text too long",
+        RefusalKind::InvalidSyntax => "invalid syntax",
+        RefusalKind::NestingTooDeep => "nesting too deep",
         RefusalKind::NotInProfile => "not in profile",
+        RefusalKind::UndeclaredName => "undeclared name",
+        RefusalKind::AmbiguousName => "ambiguous name",
+        RefusalKind::InvalidNameKind => "invalid name kind",
+        RefusalKind::IncompatibleTypes => "incompatible types",
+        RefusalKind::InvalidRange => "invalid range",
+        RefusalKind::InvalidCall => "invalid call",
+        RefusalKind::InvalidConstructor => "invalid constructor",
+        RefusalKind::InvalidSplitProcedure => "invalid split procedure",
+        RefusalKind::InvalidProgramHeading => "invalid program heading",
     }
 }
 

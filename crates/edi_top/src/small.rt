@@ -6,7 +6,9 @@ ghost use Rattle.edi_told.specs.Faults.{Rose};
 ghost use Rattle.edi_top.specs.declared.status.Status.{Status};
 ghost use Rattle.edi_top.specs.Shown.{Shows};
 ghost use Rattle.edi_top.specs.Small.{AreBytes};
-ghost use Rattle.edi_top.specs.Verdict.{IsProgram, IsFault, Runs, fault_of};
+ghost use Rattle.edi_tree.specs.Whole.{program_of};
+ghost use Rattle.edi_static.specs.Programs.{resolve_tree};
+ghost use Rattle.edi_top.specs.Verdict.{IsProgram, IsFault, RefusesBy, RefusesTree, Runs, fault_of, kind_of, told};
 
 mod eat;
 mod generator;
@@ -15,7 +17,10 @@ mod parser;
 
 use crate::status::{RefusalKind, Status};
 use edi_host::Sink;
-use edi_lex::{LexFault, scan};
+use edi_lex::{LexFault, Symbols, scan};
+use edi_sema::{StaticFault, StaticKind, resolve};
+use edi_syntax::SyntaxFault;
+use edi_tree::Program;
 use generator::generate;
 use machine::{RunEnd, execute};
 use parser::parse;
@@ -49,6 +54,55 @@ fn lexical_fault(fault: LexFault) -> CompileFault
     }
 }
 
+fn syntax_fault(fault: SyntaxFault) -> CompileFault
+    ensures exact { result ≡ told fault }
+{
+    match fault {
+        SyntaxFault::Syntax { line, .. } => CompileFault::At(RefusalKind::InvalidSyntax, line),
+        SyntaxFault::TooDeep { line, .. } => CompileFault::At(RefusalKind::NestingTooDeep, line),
+        SyntaxFault::NotInProfile { line, .. } => CompileFault::At(RefusalKind::NotInProfile, line),
+        SyntaxFault::NoMemory => CompileFault::NoMemory,
+    }
+}
+
+fn static_kind(kind: StaticKind) -> RefusalKind
+    ensures exact { result ≡ kind_of kind }
+{
+    match kind {
+        StaticKind::Undeclared => RefusalKind::UndeclaredName,
+        StaticKind::Ambiguous => RefusalKind::AmbiguousName,
+        StaticKind::Kind => RefusalKind::InvalidNameKind,
+        StaticKind::Types => RefusalKind::IncompatibleTypes,
+        StaticKind::Range => RefusalKind::InvalidRange,
+        StaticKind::Call => RefusalKind::InvalidCall,
+        StaticKind::Constructor => RefusalKind::InvalidConstructor,
+        StaticKind::Split => RefusalKind::InvalidSplitProcedure,
+        StaticKind::Heading => RefusalKind::InvalidProgramHeading,
+        StaticKind::NotInProfile => RefusalKind::NotInProfile,
+    }
+}
+
+// Why a program is refused that is none of this stage.
+fn tree_refusal(alloc: Global, tree: &Program) -> CompileFault
+    ensures exact { RefusesTree (resolve_tree (program_of tree.now)) result }
+{
+    match resolve(alloc, tree) {
+        Ok(_) => CompileFault::At(RefusalKind::NotInProfile, 1),
+        Err(StaticFault::At { kind, line }) => CompileFault::At(static_kind(kind), line),
+        Err(StaticFault::NoMemory) => CompileFault::NoMemory,
+    }
+}
+
+// Why symbols are refused that are no program of this stage.
+fn refusal(alloc: Global, symbols: &Symbols) -> CompileFault
+    ensures exact { RefusesBy (symbols.now.marks, symbols.now.last) result }
+{
+    match edi_syntax::parse(alloc, symbols) {
+        Ok(tree) => tree_refusal(alloc, &tree),
+        Err(fault) => syntax_fault(fault),
+    }
+}
+
 // The statements of a text, or its first fault.
 #[tactic(auto, using(crate::proofs::TextLemmas::few_marks))]
 fn compile(alloc: Global, text: &[u8]) -> Result<Vec<Statement>, CompileFault>
@@ -63,7 +117,7 @@ fn compile(alloc: Global, text: &[u8]) -> Result<Vec<Statement>, CompileFault>
     };
     match parse(alloc, symbols.marks.as_slice()) {
         Ok(Some(statements)) => Ok(statements),
-        Ok(None) => Err(CompileFault::At(RefusalKind::NotInProfile, 1)),
+        Ok(None) => Err(refusal(alloc, &symbols)),
         Err(_) => Err(CompileFault::NoMemory),
     }
 }
