@@ -1,6 +1,6 @@
 -- Answers of functions, by what their callees answer.
 use Rattle.std.specs.Prelude.{⊤}
-use Rattle.std.proofs.Common.{◌≡◌, ℕ, false, Result, Ok, Err, OnOk, refl, ap, subst, sym, ◌∙◌}
+use Rattle.std.proofs.Common.{◌≡◌, ℕ, false, Result, Ok, Err, OnOk, ap, sym, ◌∙◌}
 use Rattle.edi_scope.specs.declared.entity.Entity.TheVariants as entity
 use Rattle.edi_tree.specs.Tree as text
 use Rattle.edi_unit.specs.declared.units.BlockKind.TheVariants as block_kind
@@ -12,7 +12,6 @@ use Rattle.edi_static.specs.Environment.{Environment, declare}
 use Rattle.edi_static.specs.Headings.{round, own_name, heading_parts}
 use Rattle.edi_static.specs.Declarations.{with_heading, procedure_rest}
 use Rattle.edi_static.specs.Programs.{program_heading, program_procedure}
-use Rattle.edi_static.specs.Answers.{Answers}
 use Rattle.edi_sema.specs.Whole.{Heads, begun_program, program_unit}
 use Rattle.edi_sema.proofs.Walked.{assoc, same_behind}
 

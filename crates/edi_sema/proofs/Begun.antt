@@ -1,5 +1,5 @@
 -- The headings of procedures, also of split ones.
-use Rattle.std.proofs.Common.{◌≡◌, ℕ, suc, ◌<◌, ◌≤◌, Bool, true, false, List, [], ◌∷◌, ◌++◌, length, drop, All, if◌then◌else◌, Option, Some, None, option_map, unwrap_or, IfSome, Result, Ok, Err, OnOk, refl, ap, sym, ◌∙◌, subst, arith}
+use Rattle.std.proofs.Common.{◌≡◌, ℕ, suc, ◌<◌, Bool, true, false, List, [], ◌∷◌, ◌++◌, length, drop, if◌then◌else◌, Option, Some, None, option_map, unwrap_or, IfSome, Result, Ok, Err, OnOk, refl, ap, sym, ◌∙◌, subst, arith}
 use Rattle.std.proofs.lemmas.List.{length-append}
 use Rattle.std.proofs.lemmas.List.Elements.{All-push}
 use Rattle.std.specs.Str.{bytes_eq}
@@ -14,7 +14,7 @@ use Rattle.edi_tree.specs.View.{heading_of, params_of, param_step, heading_step}
 use Rattle.edi_unit.specs.declared.units.BlockKind.{BlockKind}
 use Rattle.edi_unit.specs.Fits.{Heading, heading_result}
 use Rattle.edi_static.specs.declared.faults.StaticFault.{StaticFault}
-use Rattle.edi_static.specs.Judged.{Judged, gives, faults, ◌>>=◌, must}
+use Rattle.edi_static.specs.Judged.{Judged, gives, ◌>>=◌}
 use Rattle.edi_static.specs.Environment.{Begun, Environment, declare}
 use Rattle.edi_static.specs.Headings.{Headed, leave, round, own_name, heading_parts}
 use Rattle.edi_static.specs.Declarations.{kind_of, with_heading, begun_named, completes, post_marked, block_of, begin_procedure, begin_post, pre_decl}

@@ -1,19 +1,19 @@
 -- The ends of blocks.
-use Rattle.std.proofs.Common.{◌≡◌, ℕ, zero, suc, ◌<◌, ◌≤◌, Bool, true, false, nat_le, List, [], ◌∷◌, ◌++◌, length, map, min, get_or, refl, ap, sym, ◌∙◌, arith}
+use Rattle.std.proofs.Common.{◌≡◌, ℕ, zero, suc, ◌<◌, ◌≤◌, Bool, true, false, nat_le, List, [], ◌∷◌, ◌++◌, length, map, get_or, refl, ap, sym, ◌∙◌, arith}
 use Rattle.std.proofs.Math.ListN.{set}
 use Rattle.std.proofs.lemmas.List.{map-set, set_past, length-map}
 use Rattle.std.proofs.lemmas.Bool.Decides.{nat_tests}
 use Rattle.edi_unit.specs.declared.statements.Act as code_act
 use Rattle.edi_unit.specs.declared.units.Block as code_block
 use Rattle.edi_unit.specs.Types.{greatest_size}
-use Rattle.edi_unit.specs.Tree.{Acts, Block, act_then}
-use Rattle.edi_unit.specs.Need.{need, block_at, no_block, limited}
+use Rattle.edi_unit.specs.Tree.{Block, act_then}
+use Rattle.edi_unit.specs.Need.{need, block_at, limited}
 use Rattle.edi_unit.specs.View.{acts, act_of, block_of}
 use Rattle.edi_static.specs.declared.faults.StaticKind.{StaticKind}
 use Rattle.edi_static.specs.declared.faults.StaticKind.TheVariants as kind
 use Rattle.edi_static.specs.Judged.{gives, faults, ◌>>=◌, must}
-use Rattle.edi_static.specs.Environment.{Environment, set_block}
-use Rattle.edi_static.specs.Statements.{acts_append, add_statements, with_need, close_block}
+use Rattle.edi_static.specs.Environment.{Environment}
+use Rattle.edi_static.specs.Statements.{acts_append, with_need}
 use Rattle.edi_sema.specs.Blocks.{need_set}
 
 pub acts_joined : (xs ys : List code_act.Act) → acts (map act_of (xs ++ ys)) ≡ acts_append (acts (map act_of xs)) (acts (map act_of ys))
@@ -52,7 +52,7 @@ pub need_told : (n line words : ℕ) (env : Environment) → words ≡ limited (
     must (nat_le words greatest_size) kind.Range line ≡ gives tt → with_need n line env ≡ gives (need_set n words env)
 need_told n line words env e h =
     let small : nat_le (need env.types env.blocks n) greatest_size ≡ true =
-        sym (small_need (need env.types env.blocks n)) ∙ (ap (λ w. nat_le w greatest_size) (sym e) ∙ holds (nat_le words greatest_size) line h) in
+    sym (small_need (need env.types env.blocks n)) ∙ (ap (λ w. nat_le w greatest_size) (sym e) ∙ holds (nat_le words greatest_size) line h) in
     ap (λ b. must b kind.Range line >>= λ _. gives (need_set n (need env.types env.blocks n) env)) small
     ∙ ap (λ w. gives (need_set n w env)) (sym (e ∙ told_need (need env.types env.blocks n) small))
 

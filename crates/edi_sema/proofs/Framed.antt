@@ -1,17 +1,16 @@
 -- What declarations of constants, types and variables, and the parts of headings, leave as it was.
-use Rattle.std.proofs.Common.{◌≡◌, ℕ, suc, Bool, true, false, List, [], ◌∷◌, map, drop, Option, Some, None, nat_lt, is_some, ◌||◌, ◌&&◌, ◌==◌, int_le, refl, ap, sym, ◌∙◌}
+use Rattle.std.proofs.Common.{◌≡◌, ℕ, suc, Bool, true, false, List, [], ◌∷◌, drop, Option, nat_lt, is_some, ◌||◌, ◌&&◌, ◌==◌, int_le, refl, ap, ◌∙◌}
 use Rattle.edi_scope.specs.declared.entity.Entity.{Entity}
-use Rattle.edi_scope.specs.declared.entity.Entity.TheVariants as entity
 use Rattle.edi_scope.specs.Scope.{Scope, declared, outside, with_name, exported}
 use Rattle.edi_tree.specs.declared.names.Name.{Name}
 use Rattle.edi_tree.specs.declared.constants.Constant.{Constant}
 use Rattle.edi_tree.specs.declared.constants.ConstDecl.{ConstDecl}
 use Rattle.edi_tree.specs.Tree as text
 use Rattle.edi_unit.specs.Types.{Shape, record_of, array_of, set_of, is_elementary}
-use Rattle.edi_unit.specs.Fits.{heading, heading_result, Formals}
+use Rattle.edi_unit.specs.Fits.{heading, Formals}
 use Rattle.edi_static.specs.declared.faults.StaticKind.TheVariants as kind
-use Rattle.edi_static.specs.Judged.{gives, ◌>>=◌, must}
-use Rattle.edi_static.specs.Environment.{Environment, type_named, declare, give_outside, enter}
+use Rattle.edi_static.specs.Judged.{gives, must}
+use Rattle.edi_static.specs.Environment.{Environment, type_named, declare}
 use Rattle.edi_static.specs.Types.{constant, const_decl, const_decls, const_list, most_constants, enum_constants, enum_decl, fields_of_groups, no_fields, declare_type, array_decl, set_decl, type_decl, variable_decl, variables_named, variables_of_group, variables_of_groups, var_list}
 use Rattle.edi_static.specs.Headings.{Listed, Headed, leave, own_name, param_named, params_named, param_group, procedure_named, result_named, with_result, heading_parts, parameters, more_parameters, parameter}
 use Rattle.edi_static.proofs.Judging.{Gives, bind, behind, choose, ruled}

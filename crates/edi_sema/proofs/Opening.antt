@@ -1,5 +1,5 @@
 -- The begin and the end of procedures and modules.
-use Rattle.std.proofs.Common.{◌≡◌, ℕ, ◌<◌, ◌≤◌, Bool, true, false, ◌||◌, List, [], ◌∷◌, ◌++◌, length, map, drop, take, All, slice_index_or, is_some, Option, refl, ap, sym, ◌∙◌, subst, arith}
+use Rattle.std.proofs.Common.{◌≡◌, ℕ, ◌<◌, ◌≤◌, Bool, true, false, List, [], ◌∷◌, ◌++◌, length, drop, take, slice_index_or, is_some, refl, ap, sym, ◌∙◌, subst, arith}
 use Rattle.std.proofs.lemmas.List.{length-append}
 use Rattle.edi_scope.specs.declared.entity.Entity.{Entity}
 use Rattle.edi_scope.specs.declared.entity.Entity.TheVariants as entity
@@ -14,11 +14,11 @@ use Rattle.edi_static.specs.Judged.{Judged, gives, faults, ◌>>=◌}
 use Rattle.edi_static.specs.Environment.{Begun, Environment, declare, give_outside, enter, here}
 use Rattle.edi_static.specs.Headings.{Headed, leave, round, own_name, heading_parts}
 use Rattle.edi_static.specs.Statements.{After, add_statements, statement_list}
-use Rattle.edi_static.specs.Declarations.{kind_of, with_heading, begun_named, without_begun, completes, post_marked, all_completed, enter_block, leave_to, leave_module, heading_of, procedure_name, begin_procedure, begin_post, block_of, procedure_rest, item, module_decl, members, declarations}
+use Rattle.edi_static.specs.Declarations.{kind_of, with_heading, begun_named, without_begun, completes, post_marked, all_completed, enter_block, leave_to, leave_module, heading_of, begin_procedure, begin_post, block_of, procedure_rest, item, module_decl, members, declarations}
 use Rattle.edi_static.specs.Proper.{Proper}
 use Rattle.edi_static.proofs.Proper.{around_proper, enter_proper}
 use Rattle.edi_static.proofs.Judging.{Gives, bind, behind, choose}
-use Rattle.edi_sema.specs.Frames.{kinds, frame, Frame, place, BegunFit, Stands, Comes, Begins, Leaves}
+use Rattle.edi_sema.specs.Frames.{kinds, frame, Frame, BegunFit, Stands, Comes, Begins, Leaves}
 use Rattle.edi_sema.specs.Blocks.{outside_block}
 use Rattle.edi_sema.specs.Splits.{with_begun}
 use Rattle.edi_sema.specs.Bodies.{finished, finished_module, inside_module, whole_procedure}

@@ -1,5 +1,5 @@
 -- What stands behind statements and declarations, and what they leave as it was.
-use Rattle.std.proofs.Common.{◌≡◌, ℕ, ◌<◌, ◌≤◌, Bool, true, false, List, [], ◌∷◌, ◌++◌, length, map, drop, take, All, nat_le, Result, Ok, Err, OnOk, refl, ap, sym, ◌∙◌, subst, arith}
+use Rattle.std.proofs.Common.{◌≡◌, ℕ, ◌<◌, ◌≤◌, List, [], ◌∷◌, length, drop, nat_le, Result, Ok, Err, OnOk, refl, ap, sym, ◌∙◌, subst, arith}
 use Rattle.std.proofs.lemmas.List.{length-map, length-append}
 use Rattle.edi_scope.specs.Scope.{Scope, outside}
 use Rattle.edi_unit.specs.Types.{greatest_size}
@@ -8,7 +8,6 @@ use Rattle.edi_unit.specs.Need.{need}
 use Rattle.edi_unit.specs.Fits.{Heading}
 use Rattle.edi_static.specs.declared.faults.StaticKind.TheVariants as kind
 use Rattle.edi_static.specs.declared.faults.StaticFault.{StaticFault}
-use Rattle.edi_static.specs.declared.faults.StaticFault.TheVariants as fault
 use Rattle.edi_static.specs.Judged.{Judged, gives}
 use Rattle.edi_static.specs.Environment.{Begun, Environment, set_block}
 use Rattle.edi_static.specs.Statements.{add_statements, close_block, enter_branch}
@@ -16,7 +15,7 @@ use Rattle.edi_static.specs.Answers.{Answers}
 use Rattle.edi_static.specs.Proper.{Proper}
 use Rattle.edi_static.proofs.Judging.{Gives, ruled}
 use Rattle.edi_static.proofs.Proper.{set_block_proper, around_proper}
-use Rattle.edi_sema.specs.Frames.{kinds, frame, place, without_blocks, BegunFit, Stands, Comes, Stays}
+use Rattle.edi_sema.specs.Frames.{kinds, frame, place, BegunFit, Stands, Comes, Stays}
 use Rattle.edi_sema.specs.Blocks.{outside_block}
 
 -- what holds of whatever a construct gives holds where it is answered

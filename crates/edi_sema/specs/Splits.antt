@@ -1,5 +1,5 @@
 -- Split procedures by their blocks.
-use Rattle.std.specs.Prelude.{ℕ, Bool, List, length, Option, Some, None, option_map, unwrap_or}
+use Rattle.std.specs.Prelude.{ℕ, Bool, List, Option, Some, None, option_map}
 use Rattle.edi_tree.specs.declared.names.Name.{Name}
 use Rattle.edi_tree.specs.Tree as text
 use Rattle.edi_unit.specs.Fits.{Heading}

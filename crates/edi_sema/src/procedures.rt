@@ -18,7 +18,10 @@ ghost use Rattle.edi_sema.specs.Splits.{block_named, post_block, posted, with_be
 
 use edi_lex::Text;
 use edi_scope::Entity;
-use edi_static::{Asked, Begun, Known, StaticFault, StaticKind, fault, heading_parts, must, no_asked, number, put, same_asked};
+use edi_static::{
+    Asked, Begun, Known, StaticFault, StaticKind, fault, heading_parts, must, no_asked, number,
+    put, same_asked,
+};
 use edi_tree::{Heading, Name};
 use edi_unit::BlockKind;
 use std::alloc::Global;
@@ -141,7 +144,11 @@ fn complete(
     match found {
         None => fault(StaticKind::Split, name.line),
         Some(_) => {
-            must(has_shape(known, alloc, block, asked), StaticKind::Split, name.line)?;
+            must(
+                has_shape(known, alloc, block, asked),
+                StaticKind::Split,
+                name.line,
+            )?;
             give_marked(known, alloc, marked, name, block)?;
             Ok(block)
         }
@@ -233,5 +240,7 @@ pub(crate) fn completed(known: &mut Known, name: &Name)
     ensures exact { environment known.new ≡ with_begun (spec.without_begun name.now.text (environment known.old).begun) (environment known.old) }
 {
     let name = name.text.as_slice();
-    known.begun.retain(|begun| begun.name.text.as_slice() != name);
+    known
+        .begun
+        .retain(|begun| begun.name.text.as_slice() != name);
 }

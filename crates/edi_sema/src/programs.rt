@@ -34,7 +34,11 @@ fn global(known: &mut Known, alloc: Global, global: &Declared) -> Result<(), Sta
 }
 
 /// The declarations before the program's procedure.
-fn declare_globals(known: &mut Known, alloc: Global, declared: &[Declared]) -> Result<(), StaticFault>
+fn declare_globals(
+    known: &mut Known,
+    alloc: Global,
+    declared: &[Declared],
+) -> Result<(), StaticFault>
     requires stands { Stands (environment known.old) }
     ensures exact { Answers (λ _. environment known.new) result (spec.global_decls (globals (map global_of declared.now)) (environment known.old)) }
     ensures comes { OnOk result (Comes (environment known.old) (environment known.new)) }
@@ -69,7 +73,15 @@ fn begin_program(
 {
     let asked = heading_parts(known, alloc, 0, heading)?;
     let asks = copy_of(alloc, &asked)?;
-    begin_block_of(known, alloc, false, BlockKind::Program, &heading.name, 0, asked)?;
+    begin_block_of(
+        known,
+        alloc,
+        false,
+        BlockKind::Program,
+        &heading.name,
+        0,
+        asked,
+    )?;
     program_heading(known, alloc, heading, &asks)
 }
 

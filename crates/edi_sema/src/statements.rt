@@ -47,18 +47,17 @@ fn procedure_call(
 ) -> Result<Act, StaticFault>
     ensures exact { Answers act_of result (spec.called (environment known.now) line (fitting.calls (called_of called.entry)) (Some (args_of args.now))) }
 {
-    must(called.is_procedure_of(args_count(args)), StaticKind::Call, line)?;
+    must(
+        called.is_procedure_of(args_count(args)),
+        StaticKind::Call,
+        line,
+    )?;
     let arguments = arguments(known, alloc, line, args, called.formals())?;
     Ok(Act::Call(called.callee, arguments, line))
 }
 
 /// A call of a procedure without arguments.
-fn bare_call(
-    known: &Known,
-    alloc: Global,
-    line: u16,
-    called: Called,
-) -> Result<Act, StaticFault>
+fn bare_call(known: &Known, alloc: Global, line: u16, called: Called) -> Result<Act, StaticFault>
     ensures exact { Answers act_of result (spec.called (environment known.now) line (fitting.calls (called_of called.entry)) None) }
 {
     let _ = known;
@@ -211,11 +210,7 @@ fn condition(
 
 /// The branches from left to right.
 #[cycle(statements)]
-fn cobegin(
-    known: &mut Known,
-    alloc: Global,
-    cobegin: &text::Cobegin,
-) -> Result<Act, StaticFault>
+fn cobegin(known: &mut Known, alloc: Global, cobegin: &text::Cobegin) -> Result<Act, StaticFault>
     requires proper { Proper (environment known.old) }
     ensures exact { Answers (λ act. record { what = act_of act; env = environment known.new }) result
         (spec.statement (cobegin_of cobegin.now) (environment known.old)) }

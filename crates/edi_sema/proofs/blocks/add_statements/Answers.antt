@@ -1,4 +1,4 @@
-use Rattle.std.proofs.Common.{◌<◌, ◌≤◌, ◌≡◌, ◌∷◌, length, refl, ap, sym, ◌∙◌, subst, arith}
+use Rattle.std.proofs.Common.{◌<◌, length, refl, ap, sym, ◌∙◌, arith}
 use Rattle.edi_unit.specs.View.{acts_of, block_of}
 use Rattle.edi_static.specs.Judged.{gives}
 use Rattle.edi_static.specs.Statements.{with_statements, acts_append}

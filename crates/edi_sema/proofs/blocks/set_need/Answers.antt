@@ -1,4 +1,4 @@
-use Rattle.std.proofs.Common.{◌<◌, ◌≤◌, ◌≡◌, ◌∷◌, length, refl, ap, sym, ◌∙◌, subst, arith}
+use Rattle.std.proofs.Common.{◌<◌, length, refl, ap, arith}
 use Rattle.edi_static.specs.Views.{environment}
 use Rattle.edi_sema.proofs.Ends.{block_changed}
 use Rattle.edi_sema.proofs.blocks.set_need.Goals as goal

@@ -1,9 +1,7 @@
-use Rattle.std.proofs.Common.{sym, ◌∙◌, ap, ◌&&◌}
-use Rattle.std.specs.Prelude.{None}
-use Rattle.edi_unit.specs.Fits.{heading, no_formal, value_then, variable_then, heading_result}
-use Rattle.edi_static.specs.Environment.{same_result, no_heading}
-use Rattle.edi_static.specs.Views.{value, variable, asked_of, formal_of, same_one}
-use Rattle.edi_sema.proofs.Shapes.{one_told, not_one, with_result, with_no_result, bare_told, titled_told, not_titled, not_two, and_true}
+use Rattle.std.proofs.Common.{sym, ◌∙◌}
+use Rattle.edi_static.specs.Environment.{no_heading}
+use Rattle.edi_static.specs.Views.{asked_of}
+use Rattle.edi_sema.proofs.Shapes.{with_result, bare_told}
 use Rattle.edi_sema.proofs.calls.is_bare.Goals as goal
 
 pub returns-then-not-is_procedure : goal.returns-then-not-is_procedure

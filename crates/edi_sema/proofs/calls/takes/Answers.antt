@@ -1,9 +1,8 @@
-use Rattle.std.proofs.Common.{sym, ◌∙◌, ap, ◌&&◌}
+use Rattle.std.proofs.Common.{sym, ◌∙◌}
 use Rattle.std.specs.Prelude.{None}
-use Rattle.edi_unit.specs.Fits.{heading, no_formal, value_then, variable_then, heading_result}
-use Rattle.edi_static.specs.Environment.{same_result, no_heading}
-use Rattle.edi_static.specs.Views.{value, variable, asked_of, formal_of, same_one}
-use Rattle.edi_sema.proofs.Shapes.{one_told, not_one, with_result, with_no_result, bare_told, titled_told, not_titled, not_two, and_true}
+use Rattle.edi_unit.specs.Fits.{heading, no_formal, value_then}
+use Rattle.edi_static.specs.Views.{value, asked_of, formal_of, same_one}
+use Rattle.edi_sema.proofs.Shapes.{one_told, not_one, with_result, with_no_result}
 use Rattle.edi_sema.proofs.calls.takes.Goals as goal
 
 pub returns-then-formals-ne1 : goal.returns-then-formals-ne1

@@ -1,9 +1,9 @@
-use Rattle.std.proofs.Common.{◌≡◌, ◌<◌, ◌∷◌, [], ◌+◌, length, drop, refl, ap, sym, ◌∙◌, subst, arith}
+use Rattle.std.proofs.Common.{◌≡◌, ◌<◌, ◌+◌, length, drop, refl, ap, sym, ◌∙◌, subst}
 use Rattle.std.proofs.Math.ListN.{drop_of_length-le}
 use Rattle.std.proofs.lemmas.Result.{err_from_is_err_and}
 use Rattle.std.proofs.lemmas.List.Elements.{All-filter}
 use Rattle.std.specs.Prelude.{map}
-use Rattle.edi_tree.specs.declared.declarations.Declaration.TheViews.{out-Module, out-Procedure}
+use Rattle.edi_tree.specs.declared.declarations.Declaration.TheViews.{out-Procedure}
 use Rattle.edi_tree.specs.Sequences.{items_of}
 use Rattle.edi_tree.specs.View.{declaration_of, declarations, heading_of, list_of}
 use Rattle.edi_unit.proofs.Limits.{drop_item}
@@ -39,8 +39,8 @@ procedure_rest-returns-in_err-declare-clause-exact t c =
     let opened = environment c.open_block.new.known in
     let at : enter_block block env ≡ opened = given (enter_block block env) opened c.in_ok-begun.ensures.exact in
     let begin : spec.declarations (declarations (map declaration_of (items_of p.declarations))) (enter_block block env) ≡ spec.declarations (declarations (map declaration_of (drop i items))) now =
-        ap (λ xs. spec.declarations (declarations (map declaration_of xs)) (enter_block block env)) (sym c.items-declaration-items.ensures.exact)
-        ∙ (ap (spec.declarations (declarations (map declaration_of items))) at ∙ sym c.loop-declaration.invariant.left) in
+    ap (λ xs. spec.declarations (declarations (map declaration_of xs)) (enter_block block env)) (sym c.items-declaration-items.ensures.exact)
+    ∙ (ap (spec.declarations (declarations (map declaration_of items))) at ∙ sym c.loop-declaration.invariant.left) in
     let q = err_from_is_err_and c.from_residual-in_err-declare.result c.from_residual-in_err-declare.ensures.1 in
     rw (q.1, q.2) (part_faults c.in_err-declare.field-0.0 _ _ c.in_err-declare.ensures.exact (λ why line e.
     ap (λ p. whole_procedure block p env) (procedure_seen c.args.procedure.now)
@@ -60,10 +60,10 @@ procedure_rest-returns-in_err-finish_block-clause-exact t c =
     let opened = environment c.open_block.new.known in
     let at : enter_block block env ≡ opened = given (enter_block block env) opened c.in_ok-begun.ensures.exact in
     let begin : spec.declarations (declarations (map declaration_of (items_of p.declarations))) (enter_block block env) ≡ spec.declarations (declarations (map declaration_of (drop i items))) now =
-        ap (λ xs. spec.declarations (declarations (map declaration_of xs)) (enter_block block env)) (sym c.items-declaration-items.ensures.exact)
-        ∙ (ap (spec.declarations (declarations (map declaration_of items))) at ∙ sym c.loop-declaration.invariant.left) in
+    ap (λ xs. spec.declarations (declarations (map declaration_of xs)) (enter_block block env)) (sym c.items-declaration-items.ensures.exact)
+    ∙ (ap (spec.declarations (declarations (map declaration_of items))) at ∙ sym c.loop-declaration.invariant.left) in
     let told : spec.declarations (declarations (map declaration_of (items_of p.declarations))) (enter_block block env) ≡ gives now =
-        begin ∙ ap (λ xs. spec.declarations (declarations (map declaration_of xs)) now) (drop_of_length-le items c.loop-declaration-test.false) in
+    begin ∙ ap (λ xs. spec.declarations (declarations (map declaration_of xs)) now) (drop_of_length-le items c.loop-declaration-test.false) in
     let q = err_from_is_err_and c.from_residual-in_err-finish_block.result c.from_residual-in_err-finish_block.ensures.1 in
     rw (q.1, q.2) (part_faults c.in_err-finish_block.field-0.0 _ _ c.in_err-finish_block.ensures.exact (λ why line e.
     ap (λ p. whole_procedure block p env) (procedure_seen c.args.procedure.now)
@@ -86,15 +86,15 @@ procedure_rest-returns-clause-exact t c =
     let opened = environment c.open_block.new.known in
     let at : enter_block block env ≡ opened = given (enter_block block env) opened c.in_ok-begun.ensures.exact in
     let begin : spec.declarations (declarations (map declaration_of (items_of p.declarations))) (enter_block block env) ≡ spec.declarations (declarations (map declaration_of (drop i items))) now =
-        ap (λ xs. spec.declarations (declarations (map declaration_of xs)) (enter_block block env)) (sym c.items-declaration-items.ensures.exact)
-        ∙ (ap (spec.declarations (declarations (map declaration_of items))) at ∙ sym c.loop-declaration.invariant.left) in
+    ap (λ xs. spec.declarations (declarations (map declaration_of xs)) (enter_block block env)) (sym c.items-declaration-items.ensures.exact)
+    ∙ (ap (spec.declarations (declarations (map declaration_of items))) at ∙ sym c.loop-declaration.invariant.left) in
     let told : spec.declarations (declarations (map declaration_of (items_of p.declarations))) (enter_block block env) ≡ gives now =
-        begin ∙ ap (λ xs. spec.declarations (declarations (map declaration_of xs)) now) (drop_of_length-le items c.loop-declaration-test.false) in
+    begin ∙ ap (λ xs. spec.declarations (declarations (map declaration_of xs)) now) (drop_of_length-le items c.loop-declaration-test.false) in
     let after = environment c.finish_block.new.known in
     let begun = map begun_of c.in_ok-begun.begun.items in
     let body : Comes (enter_block block env) now = subst (λ e. Comes e now) (sym at) c.loop-declaration.invariant.comes in
     let closed : environment c.close_scope.new.known ≡ leave (with_begun begun (outside_block after)) =
-        c.close_scope.ensures.exact ∙ ap (λ e. leave (with_begun begun e)) c.leave_around.ensures.exact in
+    c.close_scope.ensures.exact ∙ ap (λ e. leave (with_begun begun e)) c.leave_around.ensures.exact in
     ap (λ p. whole_procedure block p env) (procedure_seen c.args.procedure.now)
     ∙ (rest_told block (heading_of p.heading) ds (list_of p.list) p.end env now after begun c.in_ok-begun.ensures.begun body c.in_ok-finish_block.ensures.comes told c.in_ok-finish_block.ensures.exact
     ∙ ap gives (sym closed))
@@ -111,13 +111,13 @@ procedure_rest-returns-clause-leaves t c =
     let opened = environment c.open_block.new.known in
     let at : enter_block block env ≡ opened = given (enter_block block env) opened c.in_ok-begun.ensures.exact in
     let begin : spec.declarations (declarations (map declaration_of (items_of p.declarations))) (enter_block block env) ≡ spec.declarations (declarations (map declaration_of (drop i items))) now =
-        ap (λ xs. spec.declarations (declarations (map declaration_of xs)) (enter_block block env)) (sym c.items-declaration-items.ensures.exact)
-        ∙ (ap (spec.declarations (declarations (map declaration_of items))) at ∙ sym c.loop-declaration.invariant.left) in
+    ap (λ xs. spec.declarations (declarations (map declaration_of xs)) (enter_block block env)) (sym c.items-declaration-items.ensures.exact)
+    ∙ (ap (spec.declarations (declarations (map declaration_of items))) at ∙ sym c.loop-declaration.invariant.left) in
     let after = environment c.finish_block.new.known in
     let begun = map begun_of c.in_ok-begun.begun.items in
     let body : Comes (enter_block block env) now = subst (λ e. Comes e now) (sym at) c.loop-declaration.invariant.comes in
     let closed : environment c.close_scope.new.known ≡ leave (with_begun begun (outside_block after)) =
-        c.close_scope.ensures.exact ∙ ap (λ e. leave (with_begun begun e)) c.leave_around.ensures.exact in
+    c.close_scope.ensures.exact ∙ ap (λ e. leave (with_begun begun e)) c.leave_around.ensures.exact in
     subst (Leaves env) (sym closed)
     (rest_leaves block env now after begun c.in_ok-begun.ensures.begun body c.in_ok-finish_block.ensures.comes (subst Proper closed c.close_scope.ensures.proper))
 
@@ -126,5 +126,5 @@ item-returns-in_ok-procedure_rest-in-Post-clause-comes t c =
     let env = environment c.args.known.now in
     let after = environment c.procedure_rest-in-Post.new.known in
     let h : Comes env after =
-        procedure_comes env (environment c.begin_post.new.known) after c.requires.stands c.in_ok-block-in-Post.ensures.begins c.in_ok-procedure_rest-in-Post.ensures.leaves in
+    procedure_comes env (environment c.begin_post.new.known) after c.requires.stands c.in_ok-block-in-Post.ensures.begins c.in_ok-procedure_rest-in-Post.ensures.leaves in
     subst (Comes env) (sym c.completed.ensures.exact) (completed_comes env after _ h (All-filter _ (λ b. b.block < length after.headings) after.begun h.stands.begun_fit))

@@ -1,4 +1,3 @@
-use Rattle.std.proofs.Common.{◌<◌, ◌≤◌, ◌≡◌, ◌∷◌, length, refl, ap, sym, ◌∙◌, subst, arith}
 use Rattle.edi_unit.specs.View.{acts_of}
 use Rattle.edi_static.specs.Views.{environment}
 use Rattle.edi_sema.proofs.Staying.{module_finish_comes}

@@ -1,4 +1,4 @@
-use Rattle.std.proofs.Common.{◌<◌, ◌≤◌, ◌≡◌, ◌∷◌, ◌++◌, [], length, refl, ap, sym, ◌∙◌, subst, arith}
+use Rattle.std.proofs.Common.{[], ap, sym, ◌∙◌, subst}
 use Rattle.edi_static.specs.Views.{environment}
 use Rattle.edi_sema.specs.Blocks.{inside_block}
 use Rattle.edi_sema.specs.Frames.{Stands}

@@ -1,4 +1,4 @@
-use Rattle.std.proofs.Common.{◌<◌, ◌≤◌, ◌≡◌, ◌∷◌, ◌++◌, [], length, refl, ap, sym, ◌∙◌, subst, arith}
+use Rattle.std.proofs.Common.{◌≡◌, length, ap, sym, ◌∙◌, subst}
 use Rattle.std.specs.Prelude.{map, unwrap_or}
 use Rattle.std.proofs.lemmas.Result.{IfOk-weaker}
 use Rattle.edi_tree.specs.declared.headings.Param.TheViews.{out-Heading}
@@ -18,9 +18,9 @@ complete-requires-clause-fits c =
     let env = environment c.args.known.now in
     let name = (out-Heading c.args.heading.now).name in
     let found : c.begun_named-found.result ≡ block_named env.begun name.text =
-        c.begun_named-found.ensures.exact ∙ (ap (λ bs. block_named (map begun_of bs) c.as_slice-2.result.now) c.as_slice.ensures.value ∙ ap (block_named env.begun) c.as_slice-2.ensures.all) in
+    c.begun_named-found.ensures.exact ∙ (ap (λ bs. block_named (map begun_of bs) c.as_slice-2.result.now) c.as_slice.ensures.value ∙ ap (block_named env.begun) c.as_slice-2.ensures.all) in
     let n : c.in_ok-block.block ≡ unwrap_or c.begun_named-found.result (length env.blocks) =
-        sym (given (unwrap_or c.begun_named-found.result (length env.blocks)) c.in_ok-block.block c.in_ok-block.ensures.exact) in
+    sym (given (unwrap_or c.begun_named-found.result (length env.blocks)) c.in_ok-block.block c.in_ok-block.ensures.exact) in
     let headed : Headed = record { env = environment c.heading_parts.new.known; asks = asked_of c.in_ok-asked.asked } in
     post_fits env (environment c.heading_parts.new.known).headings c.begun_named-found.result name.text c.in_ok-block.block (length env.blocks) c.requires.stands.begun_fit
     (headings_kept c.in_ok-block.block (heading_of c.args.heading.now) env headed c.in_ok-asked.ensures.exact) found n
@@ -30,9 +30,9 @@ returns-clause-exact c =
     let env = environment c.args.known.now in
     let name = (out-Heading c.args.heading.now).name in
     let found : c.begun_named-found.result ≡ block_named env.begun name.text =
-        c.begun_named-found.ensures.exact ∙ (ap (λ bs. block_named (map begun_of bs) c.as_slice-2.result.now) c.as_slice.ensures.value ∙ ap (block_named env.begun) c.as_slice-2.ensures.all) in
+    c.begun_named-found.ensures.exact ∙ (ap (λ bs. block_named (map begun_of bs) c.as_slice-2.result.now) c.as_slice.ensures.value ∙ ap (block_named env.begun) c.as_slice-2.ensures.all) in
     let n : c.in_ok-block.block ≡ unwrap_or c.begun_named-found.result (length env.blocks) =
-        sym (given (unwrap_or c.begun_named-found.result (length env.blocks)) c.in_ok-block.block c.in_ok-block.ensures.exact) in
+    sym (given (unwrap_or c.begun_named-found.result (length env.blocks)) c.in_ok-block.block c.in_ok-block.ensures.exact) in
     let headed : Headed = record { env = environment c.heading_parts.new.known; asks = asked_of c.in_ok-asked.asked } in
     (subst (Answers (λ _. environment c.complete.new.known) c.complete.result)
     (sym (post_told c.args.marked (heading_of c.args.heading.now) name env headed c.begun_named-found.result c.in_ok-block.block
@@ -44,9 +44,9 @@ returns-clause-number c =
     let env = environment c.args.known.now in
     let name = (out-Heading c.args.heading.now).name in
     let found : c.begun_named-found.result ≡ block_named env.begun name.text =
-        c.begun_named-found.ensures.exact ∙ (ap (λ bs. block_named (map begun_of bs) c.as_slice-2.result.now) c.as_slice.ensures.value ∙ ap (block_named env.begun) c.as_slice-2.ensures.all) in
+    c.begun_named-found.ensures.exact ∙ (ap (λ bs. block_named (map begun_of bs) c.as_slice-2.result.now) c.as_slice.ensures.value ∙ ap (block_named env.begun) c.as_slice-2.ensures.all) in
     let n : c.in_ok-block.block ≡ unwrap_or c.begun_named-found.result (length env.blocks) =
-        sym (given (unwrap_or c.begun_named-found.result (length env.blocks)) c.in_ok-block.block c.in_ok-block.ensures.exact) in
+    sym (given (unwrap_or c.begun_named-found.result (length env.blocks)) c.in_ok-block.block c.in_ok-block.ensures.exact) in
     let headed : Headed = record { env = environment c.heading_parts.new.known; asks = asked_of c.in_ok-asked.asked } in
     IfOk-weaker c.complete.result (λ b. b ≡ c.in_ok-block.block) (λ b. b ≡ post_block (heading_of c.args.heading.now) env)
     (λ b e. e ∙ post_number (heading_of c.args.heading.now) name env c.begun_named-found.result c.in_ok-block.block (sym (name_seen c.args.heading.now)) found n) c.complete.ensures.number
@@ -56,9 +56,9 @@ returns-clause-begins c =
     let env = environment c.args.known.now in
     let name = (out-Heading c.args.heading.now).name in
     let found : c.begun_named-found.result ≡ block_named env.begun name.text =
-        c.begun_named-found.ensures.exact ∙ (ap (λ bs. block_named (map begun_of bs) c.as_slice-2.result.now) c.as_slice.ensures.value ∙ ap (block_named env.begun) c.as_slice-2.ensures.all) in
+    c.begun_named-found.ensures.exact ∙ (ap (λ bs. block_named (map begun_of bs) c.as_slice-2.result.now) c.as_slice.ensures.value ∙ ap (block_named env.begun) c.as_slice-2.ensures.all) in
     let n : c.in_ok-block.block ≡ unwrap_or c.begun_named-found.result (length env.blocks) =
-        sym (given (unwrap_or c.begun_named-found.result (length env.blocks)) c.in_ok-block.block c.in_ok-block.ensures.exact) in
+    sym (given (unwrap_or c.begun_named-found.result (length env.blocks)) c.in_ok-block.block c.in_ok-block.ensures.exact) in
     let headed : Headed = record { env = environment c.heading_parts.new.known; asks = asked_of c.in_ok-asked.asked } in
     inner_answer env (environment c.complete.new.known) c.complete.result (begin_post c.args.marked (heading_of c.args.heading.now) env)
     (subst (Answers (λ _. environment c.complete.new.known) c.complete.result)

@@ -1,4 +1,4 @@
-use Rattle.std.proofs.Common.{◌<◌, ◌≤◌, ◌≡◌, ◌∷◌, ◌++◌, [], length, refl, ap, sym, ◌∙◌, subst, arith}
+use Rattle.std.proofs.Common.{◌≡◌, length, ap, sym, subst, arith}
 use Rattle.std.proofs.lemmas.List.{length-map}
 use Rattle.edi_tree.specs.declared.headings.Param.TheViews.{out-Heading}
 use Rattle.edi_tree.specs.View.{heading_of}
@@ -17,7 +17,7 @@ begin_block_of-requires-clause-fits c =
     let env = environment c.args.known.now in
     let blocks = c.args.known.now.blocks in
     let n : c.in_ok-block.block ≡ length env.blocks =
-        omega (arith, given c.len.result c.in_ok-block.block c.in_ok-block.ensures.exact, c.len.ensures, blocks.ok.0, length-map blocks.items block_of) in
+    omega (arith, given c.len.result c.in_ok-block.block c.in_ok-block.ensures.exact, c.len.ensures, blocks.ok.0, length-map blocks.items block_of) in
     let headed : Headed = record { env = environment c.heading_parts.new.known; asks = asked_of c.in_ok-asked.asked } in
     let kept = headings_kept c.in_ok-block.block (heading_of c.args.heading.now) env headed c.in_ok-asked.ensures.exact in
     omega (arith, ap length kept, c.requires.stands.proper.headings, n)
@@ -27,7 +27,7 @@ returns-clause-exact c =
     let env = environment c.args.known.now in
     let blocks = c.args.known.now.blocks in
     let n : c.in_ok-block.block ≡ length env.blocks =
-        omega (arith, given c.len.result c.in_ok-block.block c.in_ok-block.ensures.exact, c.len.ensures, blocks.ok.0, length-map blocks.items block_of) in
+    omega (arith, given c.len.result c.in_ok-block.block c.in_ok-block.ensures.exact, c.len.ensures, blocks.ok.0, length-map blocks.items block_of) in
     let headed : Headed = record { env = environment c.heading_parts.new.known; asks = asked_of c.in_ok-asked.asked } in
     subst (Answers (λ _. environment c.begin_block_of.new.known) c.begin_block_of.result)
     (sym (begin_told c.args.marked (heading_of c.args.heading.now) (out-Heading c.args.heading.now).name env headed c.kind_of-kind.result c.in_ok-block.block n
@@ -39,7 +39,7 @@ returns-clause-begins c =
     let env = environment c.args.known.now in
     let blocks = c.args.known.now.blocks in
     let n : c.in_ok-block.block ≡ length env.blocks =
-        omega (arith, given c.len.result c.in_ok-block.block c.in_ok-block.ensures.exact, c.len.ensures, blocks.ok.0, length-map blocks.items block_of) in
+    omega (arith, given c.len.result c.in_ok-block.block c.in_ok-block.ensures.exact, c.len.ensures, blocks.ok.0, length-map blocks.items block_of) in
     let headed : Headed = record { env = environment c.heading_parts.new.known; asks = asked_of c.in_ok-asked.asked } in
     inner_answer env (environment c.begin_block_of.new.known) c.begin_block_of.result (begin_procedure c.args.marked (heading_of c.args.heading.now) env)
     (subst (Answers (λ _. environment c.begin_block_of.new.known) c.begin_block_of.result)

@@ -1,9 +1,7 @@
-use Rattle.std.proofs.Common.{◌<◌, ◌≤◌, ◌≡◌, ◌∷◌, ◌++◌, [], length, refl, ap, sym, ◌∙◌, subst, arith}
-use Rattle.edi_tree.specs.declared.headings.Param.TheViews.{out-Heading}
+use Rattle.std.proofs.Common.{◌∷◌, ◌++◌, [], ap, sym, ◌∙◌, subst}
 use Rattle.edi_tree.specs.View.{heading_of}
 use Rattle.edi_static.specs.Judged.{gives}
 use Rattle.edi_static.specs.Environment.{Begun}
-use Rattle.edi_static.specs.Headings.{leave}
 use Rattle.edi_static.specs.Answers.{Answers}
 use Rattle.edi_static.specs.Proper.{Proper}
 use Rattle.edi_static.specs.Views.{environment}

@@ -1,4 +1,4 @@
-use Rattle.std.proofs.Common.{refl, sym, false}
+use Rattle.std.proofs.Common.{false}
 use Rattle.edi_tree.specs.declared.headings.Param.TheViews.{out-Heading}
 use Rattle.edi_tree.specs.View.{heading_of}
 use Rattle.edi_unit.specs.declared.units.BlockKind.TheVariants as block_kind

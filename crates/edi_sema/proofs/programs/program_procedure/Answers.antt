@@ -1,4 +1,4 @@
-use Rattle.std.proofs.Common.{refl, ap, sym, ◌∙◌}
+use Rattle.std.proofs.Common.{ap, ◌∙◌}
 use Rattle.std.proofs.lemmas.Result.{err_from_is_err_and}
 use Rattle.edi_tree.specs.declared.declarations.Declaration.TheViews.{out-Procedure}
 use Rattle.edi_tree.specs.View.{heading_of, declarations_of, list_of}
@@ -20,6 +20,6 @@ returns-in_err-calls c =
     let q = err_from_is_err_and c.from_residual.result c.from_residual.ensures.1 in
     record {
       exact = rw (q.1, q.2) (part_faults c.in_err-calls.field-0.0 _ _ c.in_err-calls.ensures.exact (λ why line e.
-      ap (λ p. spec.program_procedure p env) (procedure_seen c.args.procedure.now)
-      ∙ program_faults (heading_of p.heading) (declarations_of p.declarations) (list_of p.list) p.end env why line e));
+          ap (λ p. spec.program_procedure p env) (procedure_seen c.args.procedure.now)
+          ∙ program_faults (heading_of p.heading) (declarations_of p.declarations) (list_of p.list) p.end env why line e));
     }

@@ -1,12 +1,10 @@
-use Rattle.std.proofs.Common.{◌≡◌, ◌∷◌, ◌++◌, [], ◌+◌, length, drop, refl, ap, sym, ◌∙◌, subst, arith}
+use Rattle.std.proofs.Common.{◌∷◌, ◌++◌, [], ◌+◌, drop, ap, sym, ◌∙◌, subst}
 use Rattle.std.proofs.Math.ListN.{drop_of_length-le}
 use Rattle.std.proofs.lemmas.Result.{err_from_is_err_and}
 use Rattle.std.specs.Prelude.{map}
 use Rattle.edi_tree.specs.declared.statements.Statement.TheViews.{out-Branch, out-Cobegin, out-Conditions, out-List}
 use Rattle.edi_tree.specs.Sequences.{items_of}
-use Rattle.edi_tree.specs.View.{statement_of, condition_of, branch_of, else_list}
-use Rattle.edi_tree.specs.View as tree
-use Rattle.edi_tree.specs.Tree as text
+use Rattle.edi_tree.specs.View.{statement_of, condition_of, branch_of}
 use Rattle.edi_unit.specs.Lists.{list_items}
 use Rattle.edi_unit.specs.Tree as unit
 use Rattle.edi_unit.specs.View.{acts, acts_of, act_of, clauses, clause_of}
@@ -17,7 +15,7 @@ use Rattle.edi_static.specs.Views.{environment}
 use Rattle.edi_static.proofs.Judging.{Gives}
 use Rattle.edi_static.proofs.Proper.{pushed}
 use Rattle.edi_sema.specs.Frames.{Stays}
-use Rattle.edi_sema.specs.Walks.{walk, behind_these, seen_as, closed_branch}
+use Rattle.edi_sema.specs.Walks.{walk, seen_as, closed_branch}
 use Rattle.edi_sema.proofs.Answered.{part_faults}
 use Rattle.edi_sema.proofs.Seen.{list_seen, conditions_seen, cobegin_seen}
 use Rattle.edi_sema.proofs.Staying.{branch_stays, close_stays, stays_then, given}
@@ -53,7 +51,7 @@ conditions-returns-in_err-clause-clause-exact t c =
     ap (λ cs. conditions cs (environment c.args.known.now)) (conditions_seen c.args.conditions.now) ∙ conditions_are (condition_of (out-Conditions c.args.conditions.now).first) (map condition_of (items_of (out-Conditions c.args.conditions.now).more)) (environment c.args.known.now) ∙ ap (λ xs. seen_as clauses (walk condition ((condition_of (out-Conditions c.args.conditions.now).first) ∷ map condition_of xs) (environment c.args.known.now))) (sym c.items-one-items.ensures.exact)
     ∙ ap (λ m. seen_as clauses (m)) (looped_faults condition (map condition_of (drop i c.items-one-items.result.now)) (map condition_of (drop (i + 1) c.items-one-items.result.now)) (condition_of c.one-item.result) (map clause_of (list_items c.loop-one.clauses)) (environment c.loop-one.known) (walk condition ((condition_of (out-Conditions c.args.conditions.now).first) ∷ map condition_of c.items-one-items.result.now) (environment c.args.known.now))
     (looped condition (condition_of (out-Conditions c.args.conditions.now).first) (map condition_of c.items-one-items.result.now) (map condition_of (drop i c.items-one-items.result.now)) (clause_of c.in_ok-first.first) (map clause_of (list_items c.loop-one.clauses)) (map clause_of (list_items c.add.new.list))
-        (environment c.args.known.now) (environment c.condition.new.known) (environment c.loop-one.known) (ap (map clause_of) (c.in_ok-add.ensures.ok ∙ ap (λ l. l ++ c.in_ok-first.first ∷ []) c.new-clauses.ensures.exact)) c.in_ok-first.ensures.exact c.loop-one.invariant.left) (ap (map condition_of) (drop_item c.items-one-items.result.now i c.one-item.result c.loop-one-test.true c.one-item.is)) why line e)))
+    (environment c.args.known.now) (environment c.condition.new.known) (environment c.loop-one.known) (ap (map clause_of) (c.in_ok-add.ensures.ok ∙ ap (λ l. l ++ c.in_ok-first.first ∷ []) c.new-clauses.ensures.exact)) c.in_ok-first.ensures.exact c.loop-one.invariant.left) (ap (map condition_of) (drop_item c.items-one-items.result.now i c.one-item.result c.loop-one-test.true c.one-item.is)) why line e)))
 
 pub conditions-returns-clause-exact : goal.conditions-returns-clause-exact
 conditions-returns-clause-exact t c =
@@ -61,7 +59,7 @@ conditions-returns-clause-exact t c =
     ap (λ cs. conditions cs (environment c.args.known.now)) (conditions_seen c.args.conditions.now) ∙ conditions_are (condition_of (out-Conditions c.args.conditions.now).first) (map condition_of (items_of (out-Conditions c.args.conditions.now).more)) (environment c.args.known.now) ∙ ap (λ xs. seen_as clauses (walk condition ((condition_of (out-Conditions c.args.conditions.now).first) ∷ map condition_of xs) (environment c.args.known.now))) (sym c.items-one-items.ensures.exact)
     ∙ ap (λ m. seen_as clauses (m)) (looped_done condition (map condition_of (drop i c.items-one-items.result.now)) (map clause_of (list_items c.loop-one.clauses)) (environment c.loop-one.known) (walk condition ((condition_of (out-Conditions c.args.conditions.now).first) ∷ map condition_of c.items-one-items.result.now) (environment c.args.known.now))
     (looped condition (condition_of (out-Conditions c.args.conditions.now).first) (map condition_of c.items-one-items.result.now) (map condition_of (drop i c.items-one-items.result.now)) (clause_of c.in_ok-first.first) (map clause_of (list_items c.loop-one.clauses)) (map clause_of (list_items c.add.new.list))
-        (environment c.args.known.now) (environment c.condition.new.known) (environment c.loop-one.known) (ap (map clause_of) (c.in_ok-add.ensures.ok ∙ ap (λ l. l ++ c.in_ok-first.first ∷ []) c.new-clauses.ensures.exact)) c.in_ok-first.ensures.exact c.loop-one.invariant.left) (ap (map condition_of) (drop_of_length-le c.items-one-items.result.now c.loop-one-test.false)))
+    (environment c.args.known.now) (environment c.condition.new.known) (environment c.loop-one.known) (ap (map clause_of) (c.in_ok-add.ensures.ok ∙ ap (λ l. l ++ c.in_ok-first.first ∷ []) c.new-clauses.ensures.exact)) c.in_ok-first.ensures.exact c.loop-one.invariant.left) (ap (map condition_of) (drop_of_length-le c.items-one-items.result.now c.loop-one-test.false)))
 
 pub statement_list-returns-in_err-act-clause-exact : goal.statement_list-returns-in_err-act-clause-exact
 statement_list-returns-in_err-act-clause-exact t c =
@@ -71,7 +69,7 @@ statement_list-returns-in_err-act-clause-exact t c =
     ap (λ l. statement_list l (environment c.args.known.now)) (list_seen c.args.list.now) ∙ list_is (statement_of (out-List c.args.list.now).first.value) (map statement_of (items_of (out-List c.args.list.now).more)) (environment c.args.known.now) ∙ ap (λ xs. seen_as acts (walk statement ((statement_of (out-List c.args.list.now).first.value) ∷ map statement_of xs) (environment c.args.known.now))) (sym c.items-one-items.ensures.exact)
     ∙ ap (λ m. seen_as acts (m)) (looped_faults statement (map statement_of (drop i c.items-one-items.result.now)) (map statement_of (drop (i + 1) c.items-one-items.result.now)) (statement_of c.one-item.result) (map act_of (list_items c.loop-one.acts)) (environment c.loop-one.known) (walk statement ((statement_of (out-List c.args.list.now).first.value) ∷ map statement_of c.items-one-items.result.now) (environment c.args.known.now))
     (looped statement (statement_of (out-List c.args.list.now).first.value) (map statement_of c.items-one-items.result.now) (map statement_of (drop i c.items-one-items.result.now)) (act_of c.in_ok-first.first) (map act_of (list_items c.loop-one.acts)) (map act_of (list_items c.add.new.list))
-        (environment c.args.known.now) (environment c.statement.new.known) (environment c.loop-one.known) (ap (map act_of) (c.in_ok-add.ensures.ok ∙ ap (λ l. l ++ c.in_ok-first.first ∷ []) c.new-acts.ensures.exact)) (ap (λ s. statement (statement_of s) (environment c.args.known.now)) (sym c.deref.ensures) ∙ c.in_ok-first.ensures.exact) c.loop-one.invariant.left) (ap (map statement_of) (drop_item c.items-one-items.result.now i c.one-item.result c.loop-one-test.true c.one-item.is)) why line e)))
+    (environment c.args.known.now) (environment c.statement.new.known) (environment c.loop-one.known) (ap (map act_of) (c.in_ok-add.ensures.ok ∙ ap (λ l. l ++ c.in_ok-first.first ∷ []) c.new-acts.ensures.exact)) (ap (λ s. statement (statement_of s) (environment c.args.known.now)) (sym c.deref.ensures) ∙ c.in_ok-first.ensures.exact) c.loop-one.invariant.left) (ap (map statement_of) (drop_item c.items-one-items.result.now i c.one-item.result c.loop-one-test.true c.one-item.is)) why line e)))
 
 pub statement_list-returns-clause-exact : goal.statement_list-returns-clause-exact
 statement_list-returns-clause-exact t c =
@@ -79,7 +77,7 @@ statement_list-returns-clause-exact t c =
     ap (λ l. statement_list l (environment c.args.known.now)) (list_seen c.args.list.now) ∙ list_is (statement_of (out-List c.args.list.now).first.value) (map statement_of (items_of (out-List c.args.list.now).more)) (environment c.args.known.now) ∙ ap (λ xs. seen_as acts (walk statement ((statement_of (out-List c.args.list.now).first.value) ∷ map statement_of xs) (environment c.args.known.now))) (sym c.items-one-items.ensures.exact)
     ∙ ap (λ m. seen_as acts (m)) (looped_done statement (map statement_of (drop i c.items-one-items.result.now)) (map act_of (list_items c.loop-one.acts)) (environment c.loop-one.known) (walk statement ((statement_of (out-List c.args.list.now).first.value) ∷ map statement_of c.items-one-items.result.now) (environment c.args.known.now))
     (looped statement (statement_of (out-List c.args.list.now).first.value) (map statement_of c.items-one-items.result.now) (map statement_of (drop i c.items-one-items.result.now)) (act_of c.in_ok-first.first) (map act_of (list_items c.loop-one.acts)) (map act_of (list_items c.add.new.list))
-        (environment c.args.known.now) (environment c.statement.new.known) (environment c.loop-one.known) (ap (map act_of) (c.in_ok-add.ensures.ok ∙ ap (λ l. l ++ c.in_ok-first.first ∷ []) c.new-acts.ensures.exact)) (ap (λ s. statement (statement_of s) (environment c.args.known.now)) (sym c.deref.ensures) ∙ c.in_ok-first.ensures.exact) c.loop-one.invariant.left) (ap (map statement_of) (drop_of_length-le c.items-one-items.result.now c.loop-one-test.false)))
+    (environment c.args.known.now) (environment c.statement.new.known) (environment c.loop-one.known) (ap (map act_of) (c.in_ok-add.ensures.ok ∙ ap (λ l. l ++ c.in_ok-first.first ∷ []) c.new-acts.ensures.exact)) (ap (λ s. statement (statement_of s) (environment c.args.known.now)) (sym c.deref.ensures) ∙ c.in_ok-first.ensures.exact) c.loop-one.invariant.left) (ap (map statement_of) (drop_of_length-le c.items-one-items.result.now c.loop-one-test.false)))
 
 pub cobegin-loop-one-preserved : goal.cobegin-loop-one-preserved
 cobegin-loop-one-preserved t c =
@@ -100,7 +98,7 @@ cobegin-returns-in_err-block-clause-exact t c =
     ap (λ s. statement s (environment c.args.known.now)) (cobegin_seen c.args.cobegin.now) ∙ cobegin_is (out-Cobegin c.args.cobegin.now).line (branch_of (out-Cobegin c.args.cobegin.now).first) (map branch_of (items_of (out-Cobegin c.args.cobegin.now).more)) (environment c.args.known.now) ∙ ap (λ xs. (walk closed_branch ((branch_of (out-Cobegin c.args.cobegin.now).first) ∷ map branch_of xs) (environment c.args.known.now)) >>= λ done. gives (record { what = unit.cobegin done.what (out-Cobegin c.args.cobegin.now).line; env = done.env })) (sym c.items-one-items.ensures.exact)
     ∙ ap (λ m. (m) >>= λ done. gives (record { what = unit.cobegin done.what (out-Cobegin c.args.cobegin.now).line; env = done.env })) (looped_faults closed_branch (map branch_of (drop i c.items-one-items.result.now)) (map branch_of (drop (i + 1) c.items-one-items.result.now)) (branch_of c.one-item.result) (list_items c.loop-one.blocks) (environment c.loop-one.known) (walk closed_branch ((branch_of (out-Cobegin c.args.cobegin.now).first) ∷ map branch_of c.items-one-items.result.now) (environment c.args.known.now))
     (looped closed_branch (branch_of (out-Cobegin c.args.cobegin.now).first) (map branch_of c.items-one-items.result.now) (map branch_of (drop i c.items-one-items.result.now)) c.in_ok-first.first (list_items c.loop-one.blocks) (list_items c.add.new.list)
-        (environment c.args.known.now) (environment c.branch_block.new.known) (environment c.loop-one.known) (c.in_ok-add.ensures.ok ∙ ap (λ l. l ++ c.in_ok-first.first ∷ []) c.new-blocks.ensures.exact) c.in_ok-first.ensures.exact c.loop-one.invariant.left) (ap (map branch_of) (drop_item c.items-one-items.result.now i c.one-item.result c.loop-one-test.true c.one-item.is)) why line e)))
+    (environment c.args.known.now) (environment c.branch_block.new.known) (environment c.loop-one.known) (c.in_ok-add.ensures.ok ∙ ap (λ l. l ++ c.in_ok-first.first ∷ []) c.new-blocks.ensures.exact) c.in_ok-first.ensures.exact c.loop-one.invariant.left) (ap (map branch_of) (drop_item c.items-one-items.result.now i c.one-item.result c.loop-one-test.true c.one-item.is)) why line e)))
 
 pub cobegin-returns-clause-exact : goal.cobegin-returns-clause-exact
 cobegin-returns-clause-exact t c =
@@ -108,7 +106,7 @@ cobegin-returns-clause-exact t c =
     ap (λ s. statement s (environment c.args.known.now)) (cobegin_seen c.args.cobegin.now) ∙ cobegin_is (out-Cobegin c.args.cobegin.now).line (branch_of (out-Cobegin c.args.cobegin.now).first) (map branch_of (items_of (out-Cobegin c.args.cobegin.now).more)) (environment c.args.known.now) ∙ ap (λ xs. (walk closed_branch ((branch_of (out-Cobegin c.args.cobegin.now).first) ∷ map branch_of xs) (environment c.args.known.now)) >>= λ done. gives (record { what = unit.cobegin done.what (out-Cobegin c.args.cobegin.now).line; env = done.env })) (sym c.items-one-items.ensures.exact)
     ∙ ap (λ m. (m) >>= λ done. gives (record { what = unit.cobegin done.what (out-Cobegin c.args.cobegin.now).line; env = done.env })) (looped_done closed_branch (map branch_of (drop i c.items-one-items.result.now)) (list_items c.loop-one.blocks) (environment c.loop-one.known) (walk closed_branch ((branch_of (out-Cobegin c.args.cobegin.now).first) ∷ map branch_of c.items-one-items.result.now) (environment c.args.known.now))
     (looped closed_branch (branch_of (out-Cobegin c.args.cobegin.now).first) (map branch_of c.items-one-items.result.now) (map branch_of (drop i c.items-one-items.result.now)) c.in_ok-first.first (list_items c.loop-one.blocks) (list_items c.add.new.list)
-        (environment c.args.known.now) (environment c.branch_block.new.known) (environment c.loop-one.known) (c.in_ok-add.ensures.ok ∙ ap (λ l. l ++ c.in_ok-first.first ∷ []) c.new-blocks.ensures.exact) c.in_ok-first.ensures.exact c.loop-one.invariant.left) (ap (map branch_of) (drop_of_length-le c.items-one-items.result.now c.loop-one-test.false)))
+    (environment c.args.known.now) (environment c.branch_block.new.known) (environment c.loop-one.known) (c.in_ok-add.ensures.ok ∙ ap (λ l. l ++ c.in_ok-first.first ∷ []) c.new-blocks.ensures.exact) c.in_ok-first.ensures.exact c.loop-one.invariant.left) (ap (map branch_of) (drop_of_length-le c.items-one-items.result.now c.loop-one-test.false)))
     ∙ ap (λ a. gives (record { what = a; env = environment c.loop-one.known })) (sym c.cobegin_act.ensures.exact)
 
 pub cobegin-returns-in_err-first-clause-exact : goal.cobegin-returns-in_err-first-clause-exact

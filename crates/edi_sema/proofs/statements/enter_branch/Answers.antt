@@ -1,4 +1,4 @@
-use Rattle.std.proofs.Common.{◌<◌, ◌≤◌, ◌≡◌, ◌∷◌, length, refl, ap, sym, ◌∙◌, subst, arith}
+use Rattle.std.proofs.Common.{◌∷◌, subst}
 use Rattle.edi_static.specs.Views.{environment}
 use Rattle.edi_static.specs.Proper.{Proper}
 use Rattle.edi_static.proofs.Proper.{around_proper}
