@@ -7,5 +7,6 @@ mod changes;
 mod images;
 #[cfg(test)]
 mod storing;
+mod migration;
 #[cfg(test)]
 mod titles;
