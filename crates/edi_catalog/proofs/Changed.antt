@@ -74,7 +74,7 @@ record_like count r q h title maps long =
 abbrev pub KeepsData : (one two : List (List ℕ)) → Type 0
 KeepsData one two = (n : ℕ) → 33 ≤ n → block_at two n ≡ block_at one n
 
-keeps_written : (old new : List (List ℕ)) (slot : ℕ) (entry : List ℕ) → slot < 256 → IsWritten slot entry old new → KeepsData old new
+pub keeps_written : (old new : List (List ℕ)) (slot : ℕ) (entry : List ℕ) → slot < 256 → IsWritten slot entry old new → KeepsData old new
 keeps_written old new slot entry h written n low =
     ap (λ bs. block_at bs n) written.now
     ∙ block_kept old slot entry n (λ e. (let few : slot / 8 < 32 = omega arith in omega (arith, e, low, few)))
@@ -91,7 +91,7 @@ entry_kept one two count said.Free keeps h = tt
 entry_kept one two count said.Wrong keeps h = tt
 entry_kept one two count (said.File r) keeps h = maps_kept one two count r.maps keeps (record_maps count r h)
 
-all_kept : (one two : List (List ℕ)) (first n : ℕ) → KeepsData one two → AllSame one two (entries_from one first n)
+pub all_kept : (one two : List (List ℕ)) (first n : ℕ) → KeepsData one two → AllSame one two (entries_from one first n)
 all_kept one two first zero keeps = tt
 all_kept one two first (suc n) keeps =
     (entry_kept one two (length one) (said_at one first) keeps (entry_fits (length one) (entry_at one first)), all_kept one two (first + 1) n keeps)
@@ -120,7 +120,7 @@ files_kept one two count (Some f ∷ files) keeps h =
 
 -- ---- the list that is kept
 
-stored_same : (one two : List (List ℕ)) (es : List Said) → AllSame one two es → map (stored_of two) es ≡ map (stored_of one) es
+pub stored_same : (one two : List (List ℕ)) (es : List Said) → AllSame one two es → map (stored_of two) es ≡ map (stored_of one) es
 stored_same one two [] same = refl
 stored_same one two (said.Free ∷ es) same = ap (λ fs. None ∷ fs) (stored_same one two es same.1)
 stored_same one two (said.Wrong ∷ es) same = ap (λ fs. None ∷ fs) (stored_same one two es same.1)
@@ -146,7 +146,7 @@ map_none None h = refl
 map_none (Some n) h = absurd (let some : Some (suc n) ≡ None = h in cc)
 
 -- no entry has a title that no file has
-untitled : (blocks : List (List ℕ)) (title : List ℕ) (es : List Said) → find_place title (map (stored_of blocks) es) ≡ None
+pub untitled : (blocks : List (List ℕ)) (title : List ℕ) (es : List Said) → find_place title (map (stored_of blocks) es) ≡ None
     → list_any (bytes_eq title) (titles_all es) ≡ false
 untitled blocks title [] h = refl
 untitled blocks title (said.Free ∷ es) h = untitled blocks title es (map_none (find_place title (map (stored_of blocks) es)) h)
@@ -160,7 +160,7 @@ untitled blocks title (said.File r ∷ es) h =
       go true e h later = absurd (let some : Some 0 ≡ None = h in cc)
       go false e h later = neither (bytes_eq title r.title) (list_any (bytes_eq title) (titles_all es)) e (later h)
 
-titles_all-append : (xs ys : List Said) → titles_all (xs ++ ys) ≡ titles_all xs ++ titles_all ys
+pub titles_all-append : (xs ys : List Said) → titles_all (xs ++ ys) ≡ titles_all xs ++ titles_all ys
 titles_all-append [] ys = refl
 titles_all-append (x ∷ xs) ys =
     ap (λ ts. titles_in x ++ ts) (titles_all-append xs ys) ∙ sym (append_assoc (titles_in x) (titles_all xs) (titles_all ys))
@@ -168,10 +168,10 @@ titles_all-append (x ∷ xs) ys =
 -- ---- the written image
 
 -- the entries before a slot, and those behind it
-abbrev front_of : List (List ℕ) → ℕ → List Said
+abbrev pub front_of : List (List ℕ) → ℕ → List Said
 front_of blocks slot = entries_from blocks 0 slot
 
-abbrev back_of : List (List ℕ) → ℕ → List Said
+abbrev pub back_of : List (List ℕ) → ℕ → List Said
 back_of blocks slot = entries_from blocks (slot + 1) (255 - slot)
 
 -- what is known of an image whose entry of a slot is that of a file
@@ -181,7 +181,7 @@ record Before (blocks : List (List ℕ)) (files : List (Option StoredFile)) (slo
   pages : file.pages ≡ numbers_of blocks (pages_of file.record_.length) file.record_.maps
   fits : is_record (length blocks) file.record_ ≡ true
 
-length-front : (blocks : List (List ℕ)) (slot : ℕ) → length (map (stored_of blocks) (front_of blocks slot)) ≡ slot
+pub length-front : (blocks : List (List ℕ)) (slot : ℕ) → length (map (stored_of blocks) (front_of blocks slot)) ≡ slot
 length-front blocks slot = length-map (front_of blocks slot) (stored_of blocks) ∙ length-entries_from blocks 0 slot
 
 before_of : (blocks : List (List ℕ)) (files : List (Option StoredFile)) (slot : ℕ) (file : StoredFile) → slot < 256
@@ -212,7 +212,7 @@ header_same one two size same =
     ∷ needs (nat_le (length one) 4096 && bytes_eq b (header_block 2 (length one))) fault.Header ∷ []) same
 
 -- the blocks break no rule where the slots keep theirs
-image_holds : (old new : List (List ℕ)) (slot : ℕ) (entry : List ℕ) → 0 < length old → IsWritten slot entry old new
+pub image_holds : (old new : List (List ℕ)) (slot : ℕ) (entry : List ℕ) → 0 < length old → IsWritten slot entry old new
     → mount_fault_of old ≡ None → first_broken [] (slot_rules 33 new 0 [] (entries_of new)) ≡ None → mount_fault_of new ≡ None
 image_holds old new slot entry some written valid holds =
     let size : length new ≡ length old = ap length written.now ∙ length-set old (1 + slot / 8) _ in
@@ -271,7 +271,7 @@ file_now blocks files file None fits = refl
 file_now blocks files file (Some q) fits =
     ap (λ n. Some (record { title = q.title; kind = q.kind; protected = q.protected; bytes = take n (flat_map (block_at blocks) file.pages) })) fits.length_
 
-all_set : {X : Type 0} (test : X → Bool) (xs : List X) (i : ℕ) (x : X) → list_all test xs ≡ true → test x ≡ true → list_all test (set xs i x) ≡ true
+pub all_set : {X : Type 0} (test : X → Bool) (xs : List X) (i : ℕ) (x : X) → list_all test xs ≡ true → test x ≡ true → list_all test (set xs i x) ≡ true
 all_set test [] i x all h = refl
 all_set test (y ∷ ys) zero x all h = ap (λ b. b && list_all test ys) h ∙ (both (test y) (list_all test ys) all).1
 all_set test (y ∷ ys) (suc i) x all h =

@@ -56,6 +56,7 @@ slot_done {X = X} held count faults x place slot entry r a b mounted h at long i
     works = puts.works refl;
     settled = puts.settled refl;
     many = ap length files ∙ length-set (files_of a) place _ ∙ mounted.many;
+    most = subst (λ n. n ≤ 4096) (sym puts.count_stays) mounted.most;
     stored =
         ap (list_all (is_stored (count (drive_of (disk_of b))))) files
         ∙ subst (λ n. list_all (is_stored n) (put_kept (files_of a) place r) ≡ true) (sym puts.count_stays)

@@ -1,5 +1,5 @@
 -- Mounting: the rules of an image from those of its parts, and what is left of the drive.
-use Rattle.std.proofs.Common.{◌≡◌, ℕ, zero, suc, ◌+◌, ◌*◌, ◌%◌, ◌<◌, Bool, true, false, List, [], ◌∷◌, ◌++◌, length, take, drop, refl, ap, sym, ◌∙◌, subst, arith}
+use Rattle.std.proofs.Common.{◌≡◌, ℕ, zero, suc, ◌+◌, ◌*◌, ◌%◌, ◌<◌, ◌≤◌, Bool, true, false, List, [], ◌∷◌, ◌++◌, length, take, drop, refl, ap, sym, ◌∙◌, subst, arith}
 use Rattle.std.specs.Prelude.{map, replicate, Option, Some, None, Result, Ok, Err, MatchResult, ⊤}
 use Rattle.std.specs.Option.{option_map}
 use Rattle.edi_told.specs.Told.{WhereTold}
@@ -144,6 +144,7 @@ still_mounted held count faults one other P same mounted checks = record {
   works = checks.works refl;
   settled = still_settled held count faults (disk_of one) (disk_of other) P mounted.settled checks;
   many = ap length same ∙ mounted.many;
+  most = subst (λ n. n ≤ 4096) (sym checks.count_stays) mounted.most;
   stored =
       ap (list_all (is_stored (count (drive_of (disk_of other))))) same
       ∙ subst (λ n. list_all (is_stored n) (files_of one) ≡ true) (sym checks.count_stays) mounted.stored;

@@ -10,9 +10,12 @@ pub mod Migrated
 pub mod Mounted
 pub mod OldFiles
 pub mod OldImage
+pub mod Plan
+pub mod Putting
 pub mod Reads
 pub mod Records
-pub mod Stored
 pub mod Rules
+pub mod Stored
+pub mod Storing
 pub mod Titles
 pub mod Writing

@@ -78,6 +78,7 @@ fn read_image<D: Drive>(
     ensures checks { Checks D.held D.count D.faults (failed result) disk.old disk.new
         (λ blocks. Finds result (mount_fault_of blocks) (λ files. files.items ≡ map (stored_of blocks) (entries_of blocks))) }
     ensures many { IfOk result (λ files. length files.items ≡ SLOTS) }
+    ensures most { OnOk result (D.count (drive_of disk.old) ≤ MOST) }
     ensures stored { IfOk result (λ files. list_all (is_stored (D.count (drive_of disk.old))) files.items ≡ true) }
 {
     if disk.blocks() == 0 {

@@ -41,8 +41,8 @@ fn put_map(bytes: &mut Vec<u8>, pages: &[u16]) -> Result<(), AllocError> {
     Ok(())
 }
 
-// An image of so many blocks with these entries in its first slots; blocks 33 and 34 are map blocks of these page numbers.
-fn image(
+/// An image of so many blocks with these entries in its first slots; blocks 33 and 34 are map blocks of these page numbers.
+pub(crate) fn image(
     alloc: Global,
     start: &[u8],
     count: u16,

@@ -1,4 +1,4 @@
-use Rattle.std.proofs.Common.{◌≡◌, true, None, refl, sym, subst}
+use Rattle.std.proofs.Common.{◌≡◌, ◌≤◌, true, None, refl, sym, subst}
 use Rattle.std.specs.List.{list_all}
 use Rattle.edi_catalog.specs.Image.{mount_fault_of}
 use Rattle.edi_catalog.specs.Stored.{is_stored}
@@ -10,6 +10,7 @@ returns-in-Ok-clause-mounted g c = record {
   works = c.in-Ok.ensures.checks.works refl;
   settled = still_settled _ _ _ _ _ _ c.requires.settled c.in-Ok.ensures.checks;
   many = c.in-Ok.ensures.many;
+  most = subst (λ n. n ≤ 4096) (sym c.in-Ok.ensures.checks.count_stays) c.in-Ok.ensures.most;
   stored =
       subst (λ n. list_all (is_stored n) c.in-Ok.files.items ≡ true) (sym c.in-Ok.ensures.checks.count_stays) c.in-Ok.ensures.stored;
   image = λ blocks told.

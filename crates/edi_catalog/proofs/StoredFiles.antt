@@ -1,0 +1,201 @@
+-- A store, from what it writes to what it leaves.
+use Rattle.std.proofs.Common.{◌≡◌, inl, inr, ℕ, ◌+◌, ◌-◌, ◌<◌, ◌≤◌, true, false, List, ◌++◌, length, set, replicate, refl, ap, sym, subst, ◌∙◌, arith, length-set, length-append}
+use Rattle.std.specs.Prelude.{IfSome, Option, Some, None, Ok, Err}
+use Rattle.std.specs.List.{list_all}
+use Rattle.edi_told.specs.Told.{WhereTold}
+use Rattle.std.proofs.lemmas.List.{length-replicate}
+use Rattle.edi_calls.specs.State.{is_title}
+use Rattle.edi_calls.specs.declared.kinds.FileKind.{FileKind}
+use Rattle.edi_disk.specs.declared.disk.DiskEnd.TheVariants as disk
+use Rattle.edi_disk.specs.Shown.{drive_of}
+use Rattle.edi_disk.proofs.Writing as writing
+use Rattle.edi_catalog.specs.declared.ends.CatEnd.TheVariants as cat
+use Rattle.edi_catalog.specs.declared.entry.Entry.{Entry}
+use Rattle.edi_catalog.specs.declared.catalog.Catalog.{Catalog}
+use Rattle.edi_catalog.specs.Image.{Holds, slots_of}
+use Rattle.edi_catalog.specs.Stored.{StoredFile, is_stored}
+use Rattle.edi_catalog.specs.Files.{entry_of, file_titled}
+use Rattle.edi_catalog.specs.Mounted.{IsKeptOf, IsMounted, disk_of, files_of}
+use Rattle.edi_catalog.specs.Changes.{Leaves}
+use Rattle.edi_catalog.specs.Writing.{bytes_of_record, field_bytes, is_protected}
+use Rattle.edi_catalog.specs.Titles.{with_blanks}
+use Rattle.edi_catalog.specs.Build.{two}
+use Rattle.edi_catalog.specs.Records.{FileRecord}
+use Rattle.edi_catalog.specs.Plan.{used_in, AreFree}
+use Rattle.edi_catalog.specs.Putting.{OnlyIn, IsNew, NewLeaves, WritesNew}
+use Rattle.edi_catalog.specs.Storing.{StoreChanges, place_for, put_at, stored_entry, stored_file, slots_stored}
+use Rattle.edi_catalog.proofs.Unchanged.{IsSameImage, free_same, same_kept, same_slots}
+use Rattle.edi_catalog.proofs.StoredPlace.{slot_for_same}
+use Rattle.edi_catalog.proofs.NewlyLaid.{IsLaid}
+use Rattle.edi_catalog.proofs.FileShape.{shape_of}
+use Rattle.edi_catalog.proofs.Spelled.{title_length}
+use Rattle.edi_catalog.proofs.StoredImage.{IsStoredIn, stored_holds}
+use Rattle.edi_catalog.proofs.Changed.{all_set}
+
+-- what is known where a file is stored in a slot
+pub record Stores (count : ℕ) (files : List (Option StoredFile)) (title : List ℕ) (kind : FileKind) (bytes : List ℕ) (slot : ℕ) (file : StoredFile) : Type 0 where
+  pub within : slot < 256
+  pub all : list_all (is_stored count) files ≡ true
+  pub laid : IsLaid count files file
+  pub entry : entry_of file ≡ stored_entry title kind (length bytes)
+  pub whole : length (bytes_of_record file.record_) ≡ 64
+  pub place : place_for title files ≡ Some slot
+  pub open_ : is_protected (file_titled title files) ≡ false
+
+title_is : (title : List ℕ) (kind : FileKind) (size : ℕ) (file : StoredFile) → entry_of file ≡ stored_entry title kind size → file.record_.title ≡ title
+title_is title kind size file e = ap (λ (x : Entry). x.title) e
+
+length_is : (title : List ℕ) (kind : FileKind) (size : ℕ) (file : StoredFile) → entry_of file ≡ stored_entry title kind size → file.record_.length ≡ size
+length_is title kind size file e = ap (λ (x : Entry). x.length) e
+
+file_is : (title : List ℕ) (kind : FileKind) (bytes : List ℕ) (file : StoredFile) → entry_of file ≡ stored_entry title kind (length bytes)
+    → record { title = file.record_.title; kind = file.record_.kind; protected = file.record_.protected; bytes = bytes } ≡ stored_file title kind bytes
+file_is title kind bytes file e =
+    ap (λ (x : Entry). record { title = x.title; kind = x.kind; protected = x.protected; bytes = bytes }) e
+
+module _ (count : ℕ) (files : List (Option StoredFile)) (title : List ℕ) (kind : FileKind) (bytes : List ℕ) (slot : ℕ) (file : StoredFile)
+    (stores : Stores count files title kind bytes slot file) (old : List (List ℕ)) (size : length old ≡ count) (kept : IsKeptOf old files) where
+  -- the image after the entry is written
+  stored : (new : List (List ℕ)) → IsNew slot file bytes old new → IsStoredIn files slot file bytes old new
+  stored new made =
+      stored_holds old new files slot count file bytes stores.within size kept stores.all stores.laid
+      (sym (length_is title kind (length bytes) file stores.entry)) stores.whole
+      (ap (λ t. place_for t files) (title_is title kind (length bytes) file stores.entry) ∙ stores.place) made
+
+  wanted : slots_stored title kind bytes (slots_of old) ≡ set (slots_of old) slot (Some (stored_file title kind bytes))
+  wanted =
+      ap (λ place. put_at place (stored_file title kind bytes) (slots_of old))
+      (slot_for_same old title files kept stores.open_ ∙ stores.place)
+
+  pub stored_kept : (new : List (List ℕ)) → IsNew slot file bytes old new → IsKeptOf new (set files slot (Some file))
+  stored_kept new made = (stored new made).kept
+
+  stored_now : (new : List (List ℕ)) → IsNew slot file bytes old new → Holds new (slots_stored title kind bytes (slots_of old))
+  stored_now new made =
+      let now : IsStoredIn files slot file bytes old new = stored new made in
+      record {
+        valid = now.kept.valid;
+        files =
+            now.slots ∙ ap (λ f. set (slots_of old) slot (Some f)) (file_is title kind bytes file stores.entry) ∙ sym wanted;
+      }
+
+  before_still : (new : List (List ℕ)) → OnlyIn (used_in (Some file)) old new → Holds new (slots_of old)
+  before_still new only =
+      let same : IsSameImage old new files =
+      free_same count files (used_in (Some file)) old new stores.laid.free only.as_many only.others in
+      record { valid = (same_kept old new files kept same).valid; files = same_slots old new files kept same }
+
+  pub done_leaves : (new : List (List ℕ)) → NewLeaves disk.Ok slot file bytes old new → Leaves {X = Unit {0}} (Ok tt) (slots_of old) (slots_stored title kind bytes (slots_of old)) old new
+  done_leaves new made = stored_now new made
+
+  pub fault_leaves : (new : List (List ℕ)) → NewLeaves disk.Fault slot file bytes old new → Leaves {X = Unit {0}} (Err cat.Fault) (slots_of old) (slots_stored title kind bytes (slots_of old)) old new
+  fault_leaves new (inl only) = record { one = inl (before_still new only) }
+  fault_leaves new (inr made) = record { one = inr (stored_now new made) }
+
+module _ {D : Type 0} (held : D → Option (List (List ℕ))) (count faults : D → ℕ)
+    (counted : (drive : D) → IfSome (held drive) (λ blocks. length blocks ≡ count drive)) where
+  pub store_done : (one other : Catalog D) (title : List ℕ) (kind : FileKind) (bytes : List ℕ) (slot : ℕ) (file : StoredFile)
+      → IsMounted held count one → Stores (count (drive_of (disk_of one))) (files_of one) title kind bytes slot file
+      → WritesNew held count faults disk.Ok slot file bytes (disk_of one) (disk_of other)
+      → WhereTold (held (drive_of (disk_of one))) (held (drive_of (disk_of other)))
+      (λ old new. Leaves {X = Unit {0}} (Ok tt) (slots_of old) (slots_stored title kind bytes (slots_of old)) old new)
+  store_done one other title kind bytes slot file mounted stores writes =
+      writing.where_told _ (held (drive_of (disk_of one))) (held (drive_of (disk_of other)))
+      (λ new there.
+      let old = writing.told (NewLeaves disk.Ok slot file bytes) (held (drive_of (disk_of one))) (held (drive_of (disk_of other))) new writes.leaves there in (
+        old.0,
+        old.1,
+        done_leaves (count (drive_of (disk_of one))) (files_of one) title kind bytes slot file stores old.0
+            (writing.many held count faults counted (drive_of (disk_of one)) old.0 old.1) (mounted.image old.0 old.1) new old.2,
+      ))
+
+  pub store_fails : (one other : Catalog D) (title : List ℕ) (kind : FileKind) (bytes : List ℕ) (slot : ℕ) (file : StoredFile)
+      → IsMounted held count one → Stores (count (drive_of (disk_of one))) (files_of one) title kind bytes slot file
+      → WritesNew held count faults disk.Fault slot file bytes (disk_of one) (disk_of other)
+      → WhereTold (held (drive_of (disk_of one))) (held (drive_of (disk_of other)))
+      (λ old new. Leaves {X = Unit {0}} (Err cat.Fault) (slots_of old) (slots_stored title kind bytes (slots_of old)) old new)
+  store_fails one other title kind bytes slot file mounted stores writes =
+      writing.where_told _ (held (drive_of (disk_of one))) (held (drive_of (disk_of other)))
+      (λ new there.
+      let old = writing.told (NewLeaves disk.Fault slot file bytes) (held (drive_of (disk_of one))) (held (drive_of (disk_of other))) new writes.leaves there in (
+        old.0,
+        old.1,
+        fault_leaves (count (drive_of (disk_of one))) (files_of one) title kind bytes slot file stores old.0
+            (writing.many held count faults counted (drive_of (disk_of one)) old.0 old.1) (mounted.image old.0 old.1) new old.2,
+      ))
+
+  pub store_mounted : (one other : Catalog D) (title : List ℕ) (kind : FileKind) (bytes : List ℕ) (slot : ℕ) (file : StoredFile)
+      → IsMounted held count one → Stores (count (drive_of (disk_of one))) (files_of one) title kind bytes slot file
+      → WritesNew held count faults disk.Ok slot file bytes (disk_of one) (disk_of other)
+      → files_of other ≡ set (files_of one) slot (Some file) → IsMounted held count other
+  store_mounted one other title kind bytes slot file mounted stores writes now = record {
+    works = writes.works refl;
+    settled = writes.settled refl;
+    many = ap length now ∙ length-set (files_of one) slot (Some file) ∙ mounted.many;
+    most = subst (λ n. n ≤ 4096) (sym writes.count_stays) mounted.most;
+    stored =
+        ap (list_all (is_stored (count (drive_of (disk_of other))))) now
+        ∙ subst (λ n. list_all (is_stored n) (set (files_of one) slot (Some file)) ≡ true) (sym writes.count_stays)
+        (all_set (is_stored (count (drive_of (disk_of one)))) (files_of one) slot (Some file) stores.all stores.laid.kept);
+    image = λ blocks told.
+        (let old = writing.told (NewLeaves disk.Ok slot file bytes) (held (drive_of (disk_of one))) (held (drive_of (disk_of other))) blocks writes.leaves told in
+        subst (IsKeptOf blocks) (sym now)
+        (stored_kept (count (drive_of (disk_of one))) (files_of one) title kind bytes slot file stores old.0
+        (writing.many held count faults counted (drive_of (disk_of one)) old.0 old.1) (mounted.image old.0 old.1) blocks old.2));
+  }
+
+  pub changes_done : (one other : Catalog D) (title : List ℕ) (kind : FileKind) (bytes : List ℕ) (slot : ℕ) (file : StoredFile)
+      → IsMounted held count one → Stores (count (drive_of (disk_of one))) (files_of one) title kind bytes slot file
+      → WritesNew held count faults disk.Ok slot file bytes (disk_of one) (disk_of other)
+      → files_of other ≡ set (files_of one) slot (Some file)
+      → StoreChanges {X = Unit {0}} held count faults (Ok tt) None title kind bytes one other
+  changes_done one other title kind bytes slot file mounted stores writes now = record {
+    answers = (refl, record { file = file; entry_ = stores.entry; at = slot; place_ = stores.place; others = now });
+    mounted = inr (store_mounted one other title kind bytes slot file mounted stores writes now);
+    leaves = store_done one other title kind bytes slot file mounted stores writes;
+    same_reference = writes.same_reference;
+    count_stays = writes.count_stays;
+    later = writes.later;
+    cause = λ e. absurd (cc);
+  }
+
+  pub changes_failed : (one other : Catalog D) (title : List ℕ) (kind : FileKind) (bytes : List ℕ) (slot : ℕ) (file : StoredFile)
+      → IsMounted held count one → Stores (count (drive_of (disk_of one))) (files_of one) title kind bytes slot file
+      → WritesNew held count faults disk.Fault slot file bytes (disk_of one) (disk_of other)
+      → StoreChanges {X = Unit {0}} held count faults (Err cat.Fault) None title kind bytes one other
+  changes_failed one other title kind bytes slot file mounted stores writes = record {
+    answers = refl;
+    mounted = inl refl;
+    leaves = store_fails one other title kind bytes slot file mounted stores writes;
+    same_reference = writes.same_reference;
+    count_stays = writes.count_stays;
+    later = writes.later;
+    cause = λ e. writes.cause refl;
+  }
+
+-- ---- the entry of a file
+
+pub length_record : (r : FileRecord) → is_title r.title ≡ true → length (bytes_of_record r) ≡ 64
+unfolding bytes_of_record with_blanks two
+length_record r titled =
+    let title : length (r.title ++ replicate (24 - length r.title) 32) ≡ 24 =
+    length-append r.title (replicate (24 - length r.title) 32)
+    ∙ ap (λ n. length r.title + n) (length-replicate (24 - length r.title) 32)
+    ∙ (let short : length r.title ≤ 24 = title_length r.title titled in omega arith) in
+    let back : length (field_bytes r ++ replicate 30 0) ≡ 40 = refl in
+    length-append (r.title ++ replicate (24 - length r.title) 32) (field_bytes r ++ replicate 30 0)
+    ∙ ap (λ n. n + length (field_bytes r ++ replicate 30 0)) title ∙ ap (λ n. 24 + n) back
+
+pub stores_from : (count : ℕ) (files : List (Option StoredFile)) (title : List ℕ) (kind : FileKind) (bytes : List ℕ) (slot : ℕ) (file : StoredFile)
+    → slot < 256 → list_all (is_stored count) files ≡ true → is_stored count (Some file) ≡ true → AreFree count files (used_in (Some file))
+    → entry_of file ≡ stored_entry title kind (length bytes) → place_for title files ≡ Some slot
+    → is_protected (file_titled title files) ≡ false → Stores count files title kind bytes slot file
+stores_from count files title kind bytes slot file within all kept free entry place open_ = record {
+  within = within;
+  all = all;
+  laid = record { kept = kept; free = free };
+  entry = entry;
+  whole = length_record file.record_ (shape_of count file kept).titled;
+  place = place;
+  open_ = open_;
+}

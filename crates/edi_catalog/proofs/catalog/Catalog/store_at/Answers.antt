@@ -1,0 +1,35 @@
+use Rattle.std.proofs.Common.{◌≡◌, true, Some, refl, subst}
+use Rattle.edi_disk.specs.Shown.{drive_of}
+use Rattle.edi_catalog.specs.Mounted.{disk_of, files_of}
+use Rattle.edi_catalog.specs.Stored.{is_stored}
+use Rattle.edi_catalog.specs.Plan.{AreFree, used_in}
+use Rattle.edi_catalog.proofs.StoredFiles.{changes_done, changes_failed, stores_from}
+use Rattle.edi_catalog.proofs.catalog.Catalog.store_at.Goals as goal
+
+pub returns-in-Ok : goal.returns-in-Ok
+returns-in-Ok g c = record {
+  changes =
+      changes_done g.D.Drive.held g.D.Drive.count g.D.Drive.faults g.met.D.Drive.counted c.args.self.now _ c.args.title.now c.args.kind c.args.bytes.now
+      c.args.place c.lay_file-file.result c.requires.mounted
+      (stores_from (g.D.Drive.count (drive_of (disk_of c.args.self.now))) (files_of c.args.self.now) c.args.title.now c.args.kind c.args.bytes.now
+      c.args.place c.lay_file-file.result c.requires.within c.requires.mounted.stored
+      (subst (λ n. is_stored n (Some c.lay_file-file.result) ≡ true) c.blocks-count.ensures.count c.lay_file-file.ensures.kept)
+      (subst (λ fs. AreFree (g.D.Drive.count (drive_of (disk_of c.args.self.now))) fs (used_in (Some c.lay_file-file.result))) c.deref.ensures.value
+      (subst (λ n. AreFree n c.deref.result.now (used_in (Some c.lay_file-file.result))) c.blocks-count.ensures.count c.lay_file-file.ensures.free))
+      c.lay_file-file.ensures.entry c.requires.place c.requires.open)
+      c.in-Ok.ensures.writes refl;
+}
+
+pub returns-in-Fault : goal.returns-in-Fault
+returns-in-Fault g c = record {
+  changes =
+      changes_failed g.D.Drive.held g.D.Drive.count g.D.Drive.faults g.met.D.Drive.counted c.args.self.now _ c.args.title.now c.args.kind c.args.bytes.now
+      c.args.place c.lay_file-file.result c.requires.mounted
+      (stores_from (g.D.Drive.count (drive_of (disk_of c.args.self.now))) (files_of c.args.self.now) c.args.title.now c.args.kind c.args.bytes.now
+      c.args.place c.lay_file-file.result c.requires.within c.requires.mounted.stored
+      (subst (λ n. is_stored n (Some c.lay_file-file.result) ≡ true) c.blocks-count.ensures.count c.lay_file-file.ensures.kept)
+      (subst (λ fs. AreFree (g.D.Drive.count (drive_of (disk_of c.args.self.now))) fs (used_in (Some c.lay_file-file.result))) c.deref.ensures.value
+      (subst (λ n. AreFree n c.deref.result.now (used_in (Some c.lay_file-file.result))) c.blocks-count.ensures.count c.lay_file-file.ensures.free))
+      c.lay_file-file.ensures.entry c.requires.place c.requires.open)
+      c.in-Fault.ensures.writes;
+}

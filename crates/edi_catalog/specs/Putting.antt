@@ -1,0 +1,58 @@
+-- Putting the blocks of a file.
+use Rattle.std.specs.Prelude.{◌≡◌, ◌⊎◌, ℕ, ◌≤◌, ◌<◌, Bool, true, false, List, length, slice_index, Option, Some, ⊤}
+use Rattle.edi_told.specs.Faults.{Rose}
+use Rattle.edi_told.specs.Told.{WhereTold}
+use Rattle.edi_disk.specs.declared.disk.Disk.{Disk}
+use Rattle.edi_disk.specs.declared.disk.DiskEnd.{DiskEnd}
+use Rattle.edi_disk.specs.declared.disk.DiskEnd.TheVariants as disk
+use Rattle.edi_disk.specs.Shown.{shown, drive_of, reference_of, IsWorking}
+use Rattle.edi_disk.specs.Since.{Kept}
+use Rattle.edi_catalog.specs.Rules.{is_in}
+use Rattle.edi_catalog.specs.Entries.{block_at}
+use Rattle.edi_catalog.specs.Stored.{StoredFile}
+use Rattle.edi_catalog.specs.Writing.{IsWritten, bytes_of_record}
+use Rattle.edi_catalog.specs.Plan.{ArePut, content_of, used_in}
+
+-- a set of blocks has each of these contents in its block
+abbrev pub HasAll : (ℕ → List ℕ → Bool) → (numbers : List ℕ) → (ℕ → List ℕ) → Type 0
+HasAll was_put numbers content = (i : ℕ) → i < length numbers → was_put (slice_index numbers i) (content i) ≡ true
+
+-- From before to after the contents were put, each in its block: all of them on Ok, and after a fault of the drive some of them.
+-- No other block was put.
+pub record Puts {D : Type 0} (held : D → Option (List (List ℕ))) (count faults : D → ℕ) (end : DiskEnd) (numbers : List ℕ) (content : ℕ → List ℕ) (many : ℕ) (before after : Disk D) : Type 0 where
+  pub same_reference : reference_of after ≡ reference_of before
+  pub since : (base : List (List ℕ)) (was_put : ℕ → List ℕ → Bool) → HasAll was_put numbers content → Kept held base was_put before → Kept held base was_put after
+  pub count_stays : count (drive_of after) ≡ count (drive_of before)
+  pub later : faults (drive_of before) ≤ faults (drive_of after)
+  pub told : WhereTold (shown held before) (shown held after) (λ old new. ⊤)
+  pub cause : end ≡ disk.Fault → Rose (faults (drive_of before)) (faults (drive_of after))
+  pub works : end ≡ disk.Ok → IsWorking held count after
+  pub shows : end ≡ disk.Ok → WhereTold (shown held before) (shown held after) (ArePut numbers content many)
+
+-- ---- a new file
+
+-- every block but these is as it was
+pub record OnlyIn (numbers : List ℕ) (old new : List (List ℕ)) : Type 0 where
+  pub as_many : length new ≡ length old
+  pub others : (n : ℕ) → is_in n numbers ≡ false → block_at new n ≡ block_at old n
+
+-- the contents of a file were put, and then its entry was written over that of a slot
+pub record IsNew (slot : ℕ) (file : StoredFile) (bytes : List ℕ) (old new : List (List ℕ)) : Type 0 where
+  pub laid : List (List ℕ)
+  pub put : ArePut (used_in (Some file)) (content_of file bytes) (length (used_in (Some file))) old laid
+  pub written : IsWritten slot (bytes_of_record file.record_) laid new
+
+-- on Ok both are done; after a fault of the drive too, or the entry is not written and at most the file's blocks have changed
+abbrev pub NewLeaves : DiskEnd → (slot : ℕ) → StoredFile → List ℕ → (old new : List (List ℕ)) → Type 0
+NewLeaves disk.Ok slot file bytes old new = IsNew slot file bytes old new
+NewLeaves disk.Fault slot file bytes old new = OnlyIn (used_in (Some file)) old new ⊎ IsNew slot file bytes old new
+
+-- From before to after, on a disk with nothing that is not written, a new file is written to the drive, and then its entry.
+pub record WritesNew {D : Type 0} (held : D → Option (List (List ℕ))) (count faults : D → ℕ) (end : DiskEnd) (slot : ℕ) (file : StoredFile) (bytes : List ℕ) (before after : Disk D) : Type 0 where
+  pub same_reference : reference_of after ≡ reference_of before
+  pub count_stays : count (drive_of after) ≡ count (drive_of before)
+  pub later : faults (drive_of before) ≤ faults (drive_of after)
+  pub cause : end ≡ disk.Fault → Rose (faults (drive_of before)) (faults (drive_of after))
+  pub works : end ≡ disk.Ok → IsWorking held count after
+  pub settled : end ≡ disk.Ok → held (drive_of after) ≡ shown held after
+  pub leaves : WhereTold (held (drive_of before)) (held (drive_of after)) (NewLeaves end slot file bytes)

@@ -1,0 +1,73 @@
+//! Putting the blocks of a file.
+
+ghost use Rattle.std.specs.Prelude.{◌≡◌, ◌≤◌, ◌+◌, ◌-◌, ◌*◌, true, length, Some};
+ghost use Rattle.edi_disk.specs.Shown.{drive_of, shown, IsWorking};
+ghost use Rattle.edi_catalog.specs.Stored.{is_stored};
+ghost use Rattle.edi_catalog.specs.Plan.{are_different, content_of, used_in};
+ghost use Rattle.edi_catalog.specs.Putting.{Puts, WritesNew};
+
+use crate::contents::{block_of, content_of};
+use crate::entries::FIRST;
+use crate::stored::StoredFile;
+use crate::writing::{entry_bytes, put_entry};
+use edi_calls::blocks_of;
+use edi_disk::{Disk, DiskEnd};
+use edi_host::Drive;
+
+// Puts the maps and the pages of a file, each in its block.
+fn put_blocks<D: Drive>(disk: &mut Disk<'_, D>, file: &StoredFile, bytes: &[u8]) -> DiskEnd
+    requires works { IsWorking D.held D.count disk.old }
+    requires stored { is_stored (D.count (drive_of disk.old)) (Some file.now) ≡ true }
+    requires different { are_different (used_in (Some file.now)) ≡ true }
+    requires size { length bytes.now ≡ file.now.record_.length }
+    ensures puts { Puts D.held D.count D.faults result (used_in (Some file.now)) (content_of file.now bytes.now) (length (used_in (Some file.now))) disk.old disk.new }
+{
+    for i in 0..blocks_of(bytes.len()) {
+        let number = u32::from(block_of(file, i));
+        match disk.put_page(number, &content_of(file, bytes, i)) {
+            DiskEnd::Ok => {}
+            DiskEnd::Fault => return DiskEnd::Fault,
+        }
+    }
+    DiskEnd::Ok
+}
+
+/// Writes the maps and the pages of a file to the drive.
+pub(crate) fn write_file<D: Drive>(
+    disk: &mut Disk<'_, D>,
+    file: &StoredFile,
+    bytes: &[u8],
+) -> DiskEnd
+    requires works { IsWorking D.held D.count disk.old }
+    requires stored { is_stored (D.count (drive_of disk.old)) (Some file.now) ≡ true }
+    requires different { are_different (used_in (Some file.now)) ≡ true }
+    requires size { length bytes.now ≡ file.now.record_.length }
+    ensures puts { Puts D.held D.count D.faults result (used_in (Some file.now)) (content_of file.now bytes.now) (length (used_in (Some file.now))) disk.old disk.new }
+    ensures settles { result ≡ DiskEnd.Ok → D.held (drive_of disk.new) ≡ shown D.held disk.new }
+{
+    match put_blocks(disk, file, bytes) {
+        DiskEnd::Ok => disk.flush(),
+        DiskEnd::Fault => DiskEnd::Fault,
+    }
+}
+
+/// Writes a new file to the drive: its maps and pages, then, once the drive has them, the entry of its slot.
+pub(crate) fn write_new<D: Drive>(
+    disk: &mut Disk<'_, D>,
+    slot: u8,
+    file: &StoredFile,
+    bytes: &[u8],
+) -> DiskEnd
+    requires works { IsWorking D.held D.count disk.old }
+    requires settled { D.held (drive_of disk.old) ≡ shown D.held disk.old }
+    requires catalogue { FIRST ≤ D.count (drive_of disk.old) }
+    requires stored { is_stored (D.count (drive_of disk.old)) (Some file.now) ≡ true }
+    requires different { are_different (used_in (Some file.now)) ≡ true }
+    requires size { length bytes.now ≡ file.now.record_.length }
+    ensures writes { WritesNew D.held D.count D.faults result slot file.now bytes.now disk.old disk.new }
+{
+    match write_file(disk, file, bytes) {
+        DiskEnd::Ok => put_entry(disk, slot, &entry_bytes(&file.record)),
+        DiskEnd::Fault => DiskEnd::Fault,
+    }
+}
