@@ -86,13 +86,15 @@ shallow_of before h front behind m level cut opens_m l = at_most 64 level (λ de
       somes_both [] v = refl
       somes_both (a ∷ u) v = ap (λ l. Some a ∷ l) (somes_both u v)
 
-pub misplaced : (marks : List Mark) (here : Option Mark) (behind : List (Option Mark)) → Stops edison 64 start (to_end marks) wrong (here ∷ behind) → (before : List Mark) × IsMisplaced marks before here
+pub misplaced : (marks : List Mark) (here : Option Mark) (behind : List (Option Mark)) → Stops edison 64 start (to_end marks) wrong (here ∷ behind) → (before : List Mark) × (to_end marks ≡ somes before ++ here ∷ behind) × IsMisplaced marks before here
 misplaced marks here behind stops =
     let v = first_fault 64 (to_end marks) wrong (here ∷ behind) stops in
-    let b = before_place v.before marks here behind v.cut in (
+    let b = before_place v.before marks here behind v.cut in
+    let cut = v.cut ∙ ap (λ u. u ++ here ∷ behind) b.1 in (
       b.0,
+      cut,
       record {
-        place = (behind, v.cut ∙ ap (λ u. u ++ here ∷ behind) b.1);
+        place = (behind, cut);
         begins = subst (λ u. Begins u) b.1 (begins_of v.before v.lives.1 v.lives.0 v.lives.2 v.lives.3 v.lives.5);
         shallow = shallow_of b.0 (subst (λ u. Shallow edison 64 start u) b.1 v.shallow);
         fails = λ f.
@@ -122,7 +124,7 @@ same_cut (closing ∷ u) (closing ∷ v) a b x y e p =
     let rest : u ++ item.mark a ∷ x ≡ v ++ item.mark b ∷ y = cc in
     same_cut u v a b x y rest p
 
-pub too_deep_at : (marks : List Mark) (m : Mark) (behind : List (Option Mark)) → Stops edison 64 start (to_end marks) too_deep (Some m ∷ behind) → (before : List Mark) × IsTooDeepAt marks before m
+pub too_deep_at : (marks : List Mark) (m : Mark) (behind : List (Option Mark)) → Stops edison 64 start (to_end marks) too_deep (Some m ∷ behind) → (before : List Mark) × (to_end marks ≡ somes before ++ Some m ∷ behind) × IsTooDeepAt marks before m
 too_deep_at marks m behind stops =
     let v = first_fault 64 (to_end marks) too_deep (Some m ∷ behind) stops in
     let b = before_place v.before marks (Some m) behind v.cut in
@@ -130,10 +132,12 @@ too_deep_at marks m behind stops =
     let same_head : Some m ∷ behind ≡ goes.0 ∷ goes.1 = goes.3 in
     let one : goes.0 ≡ Some m = cc in
     let text : plain v.lives.2 ≡ v.before ++ Some m ∷ goes.2 = v.lives.3 ∙ ap (λ more. v.before ++ more) (goes.4 ∙ ap (λ o. o ∷ goes.2) one) in
-    let deep = v.blocks (Some m) behind goes.2 v.lives.0 v.lives.2 refl text v.lives.5 in (
+    let deep = v.blocks (Some m) behind goes.2 v.lives.0 v.lives.2 refl text v.lives.5 in
+    let cut = v.cut ∙ ap (λ u. u ++ Some m ∷ behind) b.1 in (
       b.0,
+      cut,
       record {
-        place = (behind, v.cut ∙ ap (λ u. u ++ Some m ∷ behind) b.1);
+        place = (behind, cut);
         begins = begins_of (somes b.0 ++ Some m ∷ []) goes.2 v.lives.0 v.lives.2 (text ∙ ap (λ u. u ++ Some m ∷ goes.2) b.1 ∙ sym (append_assoc (somes b.0) (Some m ∷ []) goes.2)) v.lives.5;
         shallow = shallow_of b.0 (subst (λ u. Shallow edison 64 start u) b.1 v.shallow);
         opens_level = opens_in m ∙ deep.4;

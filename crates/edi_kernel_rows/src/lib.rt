@@ -2,4 +2,6 @@
 #![tactic(auto)]
 
 #[cfg(test)]
+mod random;
+#[cfg(test)]
 mod runs;

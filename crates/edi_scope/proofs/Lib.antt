@@ -1,3 +1,4 @@
 pub mod Spellings
 pub mod Standings
 pub mod Views
+pub mod Rounds

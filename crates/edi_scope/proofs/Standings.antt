@@ -89,7 +89,7 @@ abbrev pub Changed : (List ℕ → List Declaration) → (List ℕ → List Decl
 Changed old new name f = (q : List ℕ) → new q ≡ cond (bytes_eq name q) (f (old q)) (old q)
 
 -- the lists are those of other scopes, where the one that changed is, and the others are the same
-changed : (old new a b : List ℕ → List Declaration) (name : List ℕ) (f : List Declaration → List Declaration) → Changed old new name f → ((q : List ℕ) → old q ≡ a q) → f (a name) ≡ b name → ((q : List ℕ) → bytes_eq q name ≡ false → a q ≡ b q) → (q : List ℕ) → new q ≡ b q
+pub changed : (old new a b : List ℕ → List Declaration) (name : List ℕ) (f : List Declaration → List Declaration) → Changed old new name f → ((q : List ℕ) → old q ≡ a q) → f (a name) ≡ b name → ((q : List ℕ) → bytes_eq q name ≡ false → a q ≡ b q) → (q : List ℕ) → new q ≡ b q
 changed old new a b name f h was here others q =
     ⊎_elim
     (λ e. subst (λ l. new l ≡ b l) e (h name ∙ ap (λ v. cond v (f (old name)) (old name)) (itself name) ∙ ap f (was name) ∙ here))
@@ -111,7 +111,7 @@ outermost-without_newest [] h = h
 outermost-without_newest (scope ∷ []) h = h
 outermost-without_newest (scope ∷ around ∷ outer) h = h
 
-once-with_name : (scopes : List Scope) (name : List ℕ) (entity : Entity) → declared scopes name ≡ None → EachOnce scopes → EachOnce (with_name name entity scopes)
+pub once-with_name : (scopes : List Scope) (name : List ℕ) (entity : Entity) → declared scopes name ≡ None → EachOnce scopes → EachOnce (with_name name entity scopes)
 once-with_name [] name entity free h = h
 once-with_name (scope ∷ outer) name entity free h = ((free, h.0), h.1)
 
@@ -128,7 +128,7 @@ once-without_newest [] h = h
 once-without_newest (scope ∷ outer) h = (once-shorter scope.names h.0, h.1)
 
 -- the innermost scope has got a name
-standing-with_name : (scopes : List Scope) (name : List ℕ) (entity : Entity) (depth at : ℕ) → declared scopes name ≡ None → depth + 1 ≡ length scopes → at ≡ length (standing scopes name) → insert (standing scopes name) at (record { depth = depth; entity = entity }) ≡ standing (with_name name entity scopes) name
+pub standing-with_name : (scopes : List Scope) (name : List ℕ) (entity : Entity) (depth at : ℕ) → declared scopes name ≡ None → depth + 1 ≡ length scopes → at ≡ length (standing scopes name) → insert (standing scopes name) at (record { depth = depth; entity = entity }) ≡ standing (with_name name entity scopes) name
 standing-with_name [] name entity depth at free e f = absurd (omega arith)
 standing-with_name (scope ∷ outer) name entity depth at free e f =
     let here_none : standing (scope ∷ outer) name ≡ standing outer name = ap (λ o. standing outer name ++ here (length outer) o) free ∙ append-nil (standing outer name) in
@@ -140,7 +140,7 @@ standing-with_name (scope ∷ outer) name entity depth at free e f =
     ∙ ap (λ n. standing outer name ++ record { depth = n; entity = entity } ∷ []) deep
     ∙ ap (λ o. standing outer name ++ here (length outer) o) (sym (meaning-same name entity scope.names))
 
-standing-with_name_other : (scopes : List Scope) (name q : List ℕ) (entity : Entity) → bytes_eq q name ≡ false → standing scopes q ≡ standing (with_name name entity scopes) q
+pub standing-with_name_other : (scopes : List Scope) (name q : List ℕ) (entity : Entity) → bytes_eq q name ≡ false → standing scopes q ≡ standing (with_name name entity scopes) q
 standing-with_name_other [] name q entity n = refl
 standing-with_name_other (scope ∷ outer) name q entity n =
     ap (λ o. standing outer q ++ here (length outer) o) (sym (meaning-other name q entity scope.names n))

@@ -9,12 +9,12 @@ use Rattle.std.specs.Global.{Global}
 use Rattle.edi_scope.specs.declared.scopes.OpenScope.{OpenScope}
 use Rattle.edi_scope.specs.Standing.{scopes_of, scope_of, kept, name_of, innermost_names, without_one, without_newest}
 
-reverse-cons : {A : Type 0} (x : A) (xs : List A) → reverse (x ∷ xs) ≡ reverse xs ++ x ∷ []
+pub reverse-cons : {A : Type 0} (x : A) (xs : List A) → reverse (x ∷ xs) ≡ reverse xs ++ x ∷ []
 reverse-cons x xs = reverse-append (x ∷ []) xs
 
 module _ (f : Scope → Scope) where
   -- a change of the last element of a reversed list is one of the first
-  first : (scope : Scope) (outer : List Scope) (at : ℕ) → at ≡ length outer → set (reverse (scope ∷ outer)) at (f (get_or (reverse (scope ∷ outer)) at standard)) ≡ reverse (f scope ∷ outer)
+  pub first : (scope : Scope) (outer : List Scope) (at : ℕ) → at ≡ length outer → set (reverse (scope ∷ outer)) at (f (get_or (reverse (scope ∷ outer)) at standard)) ≡ reverse (f scope ∷ outer)
   first scope outer at e =
       let len : length (reverse outer) ≡ at = length-reverse outer ∙ sym e in
       ap (λ xs. set xs at (f (get_or xs at standard))) (reverse-cons scope outer)
@@ -33,7 +33,7 @@ module _ (f : Scope → Scope) where
       ∙ sym (reverse-cons scope (f around ∷ outer))
 
 -- a change that is stated of kept scopes, from what holds of them in reverse
-turned : (f : Scope → Scope) (g : List Scope → List Scope) (old new : List Scope) (at : ℕ) → new ≡ set old at (f (get_or old at standard)) → set (reverse (reverse old)) at (f (get_or (reverse (reverse old)) at standard)) ≡ reverse (g (reverse old)) → reverse new ≡ g (reverse old)
+pub turned : (f : Scope → Scope) (g : List Scope → List Scope) (old new : List Scope) (at : ℕ) → new ≡ set old at (f (get_or old at standard)) → set (reverse (reverse old)) at (f (get_or (reverse (reverse old)) at standard)) ≡ reverse (g (reverse old)) → reverse new ≡ g (reverse old)
 turned f g old new at e h =
     ap reverse (e ∙ ap (λ xs. set xs at (f (get_or xs at standard))) (sym (reverse-reverse old)) ∙ h) ∙ reverse-reverse (g (reverse old))
 

@@ -1,5 +1,5 @@
 -- Scopes as callers see them, and what a name means in them.
-use Rattle.std.specs.Prelude.{ℕ, Bool, false, Option, None, List, [], ◌∷◌, codes, drop, pos}
+use Rattle.std.specs.Prelude.{ℕ, zero, suc, Bool, false, Option, None, List, [], ◌∷◌, codes, drop, pos}
 use Rattle.std.specs.Option.{option_or}
 use Rattle.std.specs.Map.{lookup}
 use Rattle.std.specs.Str.{bytes_eq}
@@ -53,6 +53,12 @@ with_name name entity (scope ∷ outer) = with_one name entity scope ∷ outer
 abbrev pub exported : List ℕ → Entity → List Scope → List Scope
 exported name entity [] = []
 exported name entity (scope ∷ outer) = scope ∷ with_name name entity outer
+
+-- the name with its entity in the scope that is so many steps out of the innermost
+abbrev pub with_name_at : (steps : ℕ) → List ℕ → Entity → List Scope → List Scope
+with_name_at steps name entity [] = []
+with_name_at zero name entity (scope ∷ outer) = with_one name entity scope ∷ outer
+with_name_at (suc steps) name entity (scope ∷ outer) = scope ∷ with_name_at steps name entity outer
 
 -- the constants and types that are numbered before any declaration
 abbrev pub int_type : ℕ

@@ -1,7 +1,7 @@
 //! The declarations of each spelling.
 
-ghost use Rattle.std.specs.Prelude.{◌≡◌, ◌<◌, ◌≤◌, ◌==◌, List, ℕ, [], length, OnOk, OnErr, IsTrue, is_some, insert, remove, if◌then◌else◌};
-ghost use Rattle.std.specs.List.{list_any};
+ghost use Rattle.std.specs.Prelude.{◌≡◌, ◌<◌, nat_lt, ◌≤◌, ◌==◌, List, ℕ, [], length, OnOk, OnErr, IsTrue, is_some, insert, remove, if◌then◌else◌};
+ghost use Rattle.std.specs.List.{list_any, prefix_len};
 ghost use Rattle.std.specs.Ordering.{nat_cmp};
 ghost use Rattle.std.specs.Cmp.Lexicographic.{slice_cmp};
 ghost use Rattle.std.specs.BTreeMap.{get_by};
@@ -51,6 +51,13 @@ impl Declarations {
         ensures exact { result ≡ list_any (λ d. d.depth == depth) (listed self.now name.now) }
     {
         self.of(name).iter().any(|d| d.depth == depth)
+    }
+
+    /// How many of the name's declarations, from the outermost on, are less deep than this.
+    pub(crate) fn further_out(&self, name: &[u8], depth: usize) -> usize
+        ensures exact { result ≡ prefix_len (λ d. nat_lt d.depth depth) (listed self.now name.now) }
+    {
+        self.of(name).iter().take_while(|d| d.depth < depth).count()
     }
 
     /// Makes a list for the name, if it has none.

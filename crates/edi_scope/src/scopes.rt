@@ -1,7 +1,7 @@
 //! The open scopes at a place of the text.
 
-ghost use Rattle.std.specs.Prelude.{◌≡◌, ◌<◌, ◌||◌, ◌&&◌, ◌∷◌, [], ◌↔◌, length, vec_len, option_map, slice_set, slice_index_or, false, None, OnOk, OnErr, IfOk, IfSome, IsTrue, is_some, if◌then◌else◌};
-ghost use Rattle.edi_scope.specs.Scope.{standard, visible, outside, in_module, entered, declared, with_name, exported as exported_name, with_one};
+ghost use Rattle.std.specs.Prelude.{◌≡◌, ◌<◌, ◌||◌, ◌&&◌, ◌∷◌, ◌++◌, [], ◌↔◌, length, take, drop, vec_len, option_map, slice_set, slice_index_or, false, None, OnOk, OnErr, IfOk, IfSome, IsTrue, is_some, if◌then◌else◌};
+ghost use Rattle.edi_scope.specs.Scope.{standard, visible, outside, in_module, entered, declared, with_name, exported as exported_name, with_one, with_name_at};
 ghost use Rattle.edi_scope.specs.Standing.{kept, name_of, without_one, without_newest, newest, innermost_names};
 
 use crate::declarations::{Declaration, Declarations};
@@ -145,6 +145,85 @@ impl Scopes {
         }
     }
 
+    /// Declares the name in the scope round the innermost, and, where it is exported, in the scope
+    /// round that one too; then the first of these is the scope of a module.
+    ///
+    /// The answer is `Ambiguous` exactly where a scope that is to get the name has it, and then the
+    /// scopes are as before. Where memory is wanting the first of them may have got the name.
+    pub fn declare_round(
+        &mut self,
+        alloc: Global,
+        name: &[u8],
+        entity: Entity,
+        exported: bool,
+    ) -> Result<(), ScopeFault>
+        requires round { 1 < length self.old }
+        requires module { IsTrue exported → IsTrue (in_module (outside self.old)) }
+        ensures ok { OnOk result (self.new ≡ take 1 self.old ++ (if exported then exported_name name.now entity (with_name name.now entity (outside self.old)) else with_name name.now entity (outside self.old))) }
+        ensures ambiguous { (result ≡ Err ScopeFault.Ambiguous) ↔ IsTrue (is_some (declared (outside self.old) name.now) || (exported && is_some (declared (outside (outside self.old)) name.now))) }
+        ensures same { result ≡ Err ScopeFault.Ambiguous → self.new ≡ self.old }
+    {
+        if self.has_round(name) {
+            return Err(ScopeFault::Ambiguous);
+        }
+        if exported {
+            return self.declare_beyond(alloc, name, entity);
+        }
+        match self.add_at(alloc, 1, name, entity) {
+            Ok(()) => Ok(()),
+            Err(_) => Err(ScopeFault::NoMemory),
+        }
+    }
+
+    /// Declares the name, which the scope round the innermost has not, there and in the scope round it.
+    fn declare_beyond(
+        &mut self,
+        alloc: Global,
+        name: &[u8],
+        entity: Entity,
+    ) -> Result<(), ScopeFault>
+        requires free { declared (outside self.old) name.now ≡ None }
+        requires module { IsTrue (in_module (outside self.old)) }
+        ensures ok { OnOk result (self.new ≡ take 1 self.old ++ exported_name name.now entity (with_name name.now entity (outside self.old))) }
+        ensures ambiguous { (result ≡ Err ScopeFault.Ambiguous) ↔ IsTrue (is_some (declared (outside (outside self.old)) name.now)) }
+        ensures same { result ≡ Err ScopeFault.Ambiguous → self.new ≡ self.old }
+    {
+        if self.has_beyond(name) {
+            return Err(ScopeFault::Ambiguous);
+        }
+        match self.add_at(alloc, 1, name, entity) {
+            Ok(()) => match self.add_at(alloc, 2, name, entity) {
+                Ok(()) => Ok(()),
+                Err(_) => Err(ScopeFault::NoMemory),
+            },
+            Err(_) => Err(ScopeFault::NoMemory),
+        }
+    }
+
+    /// Declares the name in the scope round the one round the innermost, which is that of a module.
+    ///
+    /// The answer is `Ambiguous` exactly where that scope has the name. After a refusal the scopes
+    /// are as before.
+    pub fn export_round(
+        &mut self,
+        alloc: Global,
+        name: &[u8],
+        entity: Entity,
+    ) -> Result<(), ScopeFault>
+        requires module { IsTrue (in_module (outside self.old)) }
+        ensures ok { OnOk result (self.new ≡ take 1 self.old ++ exported_name name.now entity (outside self.old)) }
+        ensures ambiguous { (result ≡ Err ScopeFault.Ambiguous) ↔ IsTrue (is_some (declared (outside (outside self.old)) name.now)) }
+        ensures err { OnErr result (self.new ≡ self.old) }
+    {
+        if self.has_beyond(name) {
+            return Err(ScopeFault::Ambiguous);
+        }
+        match self.add_at(alloc, 2, name, entity) {
+            Ok(()) => Ok(()),
+            Err(_) => Err(ScopeFault::NoMemory),
+        }
+    }
+
     /// What the name means: its entity in the innermost scope that has it, and `None` exactly where
     /// no scope has it.
     pub fn look(&self, name: &[u8]) -> Option<Entity>
@@ -214,6 +293,47 @@ impl Scopes {
         put_name(&mut self.scopes, alloc, depth, name, entity)?;
         let declaration = Declaration { depth, entity };
         if let Err(e) = self.declarations.insert(alloc, name, last, declaration) {
+            let _dropped = take_name(&mut self.scopes, depth);
+            return Err(e);
+        }
+        Ok(())
+    }
+
+    /// Whether the scope round the innermost has the name.
+    fn has_round(&self, name: &[u8]) -> bool
+        requires { 1 < length self.now }
+        ensures exact { result ≡ is_some (declared (outside self.now) name.now) }
+    {
+        self.declarations.is_at(name, self.scopes.len() - 2)
+    }
+
+    /// Whether the scope round the one round the innermost, which is that of a module, has the name.
+    fn has_beyond(&self, name: &[u8]) -> bool
+        requires { IsTrue (in_module (outside self.now)) }
+        ensures exact { result ≡ is_some (declared (outside (outside self.now)) name.now) }
+        ensures beyond { 2 < length self.now }
+    {
+        self.declarations.is_at(name, self.scopes.len() - 3)
+    }
+
+    /// Declares the name in the scope that is so many steps out of the innermost, which has it not.
+    fn add_at(
+        &mut self,
+        alloc: Global,
+        steps: usize,
+        name: &[u8],
+        entity: Entity,
+    ) -> Result<(), AllocError>
+        requires inside { steps < length self.old }
+        requires free { declared (drop steps self.old) name.now ≡ None }
+        ensures ok { OnOk result (self.new ≡ with_name_at steps name.now entity self.old) }
+        ensures err { OnErr result (self.new ≡ self.old) }
+    {
+        let depth = self.scopes.len() - 1 - steps;
+        let place = self.declarations.further_out(name, depth);
+        put_name(&mut self.scopes, alloc, depth, name, entity)?;
+        let declaration = Declaration { depth, entity };
+        if let Err(e) = self.declarations.insert(alloc, name, place, declaration) {
             let _dropped = take_name(&mut self.scopes, depth);
             return Err(e);
         }

@@ -19,7 +19,7 @@ use Rattle.edi_static.specs.declared.faults.StaticKind.TheVariants as kind
 use Rattle.edi_static.specs.Judged.{gives, ◌>>=◌, must}
 use Rattle.edi_static.specs.Environment.{Environment, at_first, look_up, type_named, declare, give_outside, enter, here, set_block}
 use Rattle.edi_static.specs.Types.{constant, const_decl, const_decls, const_list, most_constants, enum_constants, enum_decl, fields_of_groups, no_fields, declare_type, array_decl, set_decl, type_decl, variable_decl, variables_named, variables_of_groups, var_list}
-use Rattle.edi_static.specs.Headings.{Listed, Headed, leave, round, own_name, params_named, value_group, variable_group, procedure_named, result_named, with_result, heading_parts, parameters, more_parameters, parameter}
+use Rattle.edi_static.specs.Headings.{Listed, Headed, leave, round, own_name, params_named, param_group, procedure_named, result_named, with_result, heading_parts, parameters, more_parameters, parameter}
 use Rattle.edi_static.specs.Fitting.{use_of}
 use Rattle.edi_static.specs.Expressions.{expression}
 use Rattle.edi_static.specs.Statements.{After, assigned, called, add_statements, with_need, close_block, enter_branch, leave_branch, statement_list, statements, statement, conditions, elses, condition, branch, branches}
@@ -120,7 +120,9 @@ named_small m of (text.next_name name ns) env h = bind Small Small _ _ (variable
 groups_small : (m : Bool) (gs : text.Groups) (env : Environment) → Small env → Gives Small (variables_of_groups m gs env)
 groups_small m text.no_group env h = h
 groups_small m (text.next_group (text.group first names of) gs) env h =
-    behind Small (type_named env of) _ (λ t. bind Small Small _ _ (named_small m t (text.next_name first names) env h) (λ e k. groups_small m gs e k))
+    bind Small Small _ _
+    (behind Small (type_named env of) _ (λ t. named_small m t (text.next_name first names) env h))
+    (λ e k. groups_small m gs e k)
 
 var_small : (m : Bool) (vs : text.VarList) (env : Environment) → Small env → Gives Small (var_list m vs env)
 var_small m (text.var_list first more) env h = groups_small m (text.next_group first more) env h
@@ -130,13 +132,12 @@ var_small m (text.var_list first more) env h = groups_small m (text.next_group f
 params_small : (block before of : ℕ) (one : Formals) (ns : text.Names) (l : Listed) → SmallListed l → Gives SmallListed (params_named block before of one ns l)
 params_small block before of one text.no_name l h = h
 params_small block before of one (text.next_name name ns) l h =
-    bind Small SmallListed _ _ (declare_small false name _ l.env h) (λ e k. params_small block before of one ns _ k)
+    bind SmallListed SmallListed _ _
+    (bind Small SmallListed _ _ (declare_small false name _ l.env h) (λ e k. k))
+    (λ m k. params_small block before of one ns m k)
 
-group_small : (block before : ℕ) (g : text.Group) (l : Listed) → SmallListed l → Gives SmallListed (value_group block before g l)
-group_small block before (text.group first names of) l h = behind SmallListed (type_named l.env of) _ (λ t. params_small block before t _ (text.next_name first names) l h)
-
-var_group_small : (block before : ℕ) (g : text.Group) (l : Listed) → SmallListed l → Gives SmallListed (variable_group block before g l)
-var_group_small block before (text.group first names of) l h = behind SmallListed (type_named l.env of) _ (λ t. params_small block before t _ (text.next_name first names) l h)
+group_small : (block before : ℕ) (v : Bool) (g : text.Group) (l : Listed) → SmallListed l → Gives SmallListed (param_group block before v g l)
+group_small block before v (text.group first names of) l h = behind SmallListed (type_named l.env of) _ (λ t. params_small block before t _ (text.next_name first names) l h)
 
 procedure_named_small : (block before : ℕ) (name : Name) (fs : Formals) (inner : Headed) → SmallHeaded inner → Gives SmallListed (procedure_named block before name fs inner)
 procedure_named_small block before name fs inner h = bind Small SmallListed _ _ (declare_small false name _ (leave inner.env) h) (λ e k. k)
@@ -161,8 +162,8 @@ mutual
       bind SmallListed SmallListed _ _ (parameter_small block before p l h) (λ m k. more_small block before ps m k)
 
   parameter_small : (block before : ℕ) (p : text.Param) (l : Listed) → SmallListed l → Gives SmallListed (parameter block before p l)
-  parameter_small block before (text.value_param g) l h = group_small block before g l h
-  parameter_small block before (text.var_param g) l h = var_group_small block before g l h
+  parameter_small block before (text.value_param g) l h = group_small block before false g l h
+  parameter_small block before (text.var_param g) l h = group_small block before true g l h
   parameter_small block before (text.procedure_param inner) l h =
       bind SmallHeaded SmallListed _ _ (heading_small block inner l.env h) (λ i k. procedure_named_small block before (own_name inner) l.formals i k)
 

@@ -124,6 +124,10 @@ begun_block block_kind up result parameters =
 abbrev pub with_block : Block → Heading → Environment → Environment
 with_block block asks env = record env { blocks = env.blocks ++ block ∷ []; headings = env.headings ++ asks ∷ [] }
 
+-- one more heading of a procedure parameter
+abbrev pub with_shape : Heading → Environment → Environment
+with_shape asks env = record env { shapes = env.shapes ++ asks ∷ [] }
+
 abbrev pub set_block : ℕ → Block → Environment → Environment
 set_block n block env = record env { blocks = slice_set env.blocks n block }
 

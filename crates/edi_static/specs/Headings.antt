@@ -1,5 +1,5 @@
 -- The rules on headings: their parameters, their result, and their own name.
-use Rattle.std.specs.Prelude.{ℕ, ◌+◌, false, [], ◌∷◌, ◌++◌, length, take, Option, Some, None}
+use Rattle.std.specs.Prelude.{ℕ, ◌+◌, Bool, false, true, ◌++◌, length, take, Option, Some, None}
 use Rattle.edi_scope.specs.declared.entity.Entity.TheVariants as entity
 use Rattle.edi_scope.specs.Scope.{outside}
 use Rattle.edi_tree.specs.declared.names.Name.{Name}
@@ -7,7 +7,7 @@ use Rattle.edi_tree.specs.Tree as text
 use Rattle.edi_tree.specs.Tree.{Names, no_name, next_name}
 use Rattle.edi_unit.specs.Fits.{Heading, heading, Formals, no_formal, value_then, variable_then, procedure_then}
 use Rattle.edi_static.specs.Judged.{Judged, gives, ◌>>=◌}
-use Rattle.edi_static.specs.Environment.{Environment, type_named, declare, enter, formals_append, formals_count}
+use Rattle.edi_static.specs.Environment.{Environment, type_named, declare, enter, with_shape, formals_append, formals_count}
 
 -- after a heading's parameters: the environment, in which the heading's scope is the innermost, and the parameters
 pub record Listed : Type 0 where
@@ -31,6 +31,11 @@ abbrev pub before_parameters : (result : Option Name) → ℕ
 before_parameters None = 0
 before_parameters (Some name) = 1
 
+-- a value or a `var` parameter of a type
+abbrev pub formal_one : (by_variable : Bool) → (of : ℕ) → Formals
+formal_one false t = value_then t no_formal
+formal_one true t = variable_then t no_formal
+
 -- the parameters of a block are variables of it, of which so many stand before them
 module _ (block before : ℕ) where
   -- the number of the next parameter
@@ -38,27 +43,26 @@ module _ (block before : ℕ) where
   next_parameter formals = before + formals_count formals
 
   -- each of the names is a parameter of this kind
+  abbrev pub param_named : (of : ℕ) → (one : Formals) → Name → Listed → Judged Listed
+  param_named of one name listed =
+      declare false name (entity.Variable block (next_parameter listed.formals) of) listed.env >>= λ env.
+      gives (record { env = env; formals = formals_append listed.formals one })
+
   abbrev pub params_named : (of : ℕ) → (one : Formals) → Names → Listed → Judged Listed
   params_named of one no_name listed = gives listed
-  params_named of one (next_name name names) listed =
-      declare false name (entity.Variable block (next_parameter listed.formals) of) listed.env >>= λ env.
-      params_named of one names (record { env = env; formals = formals_append listed.formals one })
+  params_named of one (next_name name names) listed = param_named of one name listed >>= params_named of one names
 
   -- in a group the type is judged first, then the names in their order
-  abbrev pub value_group : text.Group → Listed → Judged Listed
-  value_group (text.group first names of) listed =
-      type_named listed.env of >>= λ t. params_named t (value_then t no_formal) (next_name first names) listed
-
-  abbrev pub variable_group : text.Group → Listed → Judged Listed
-  variable_group (text.group first names of) listed =
-      type_named listed.env of >>= λ t. params_named t (variable_then t no_formal) (next_name first names) listed
+  abbrev pub param_group : (by_variable : Bool) → text.Group → Listed → Judged Listed
+  param_group by_variable (text.group first names of) listed =
+      type_named listed.env of >>= λ t. params_named t (formal_one by_variable t) (next_name first names) listed
 
   -- a procedure parameter is declared after the heading's parts, in the scope round that heading
   abbrev pub procedure_named : Name → Formals → Headed → Judged Listed
   procedure_named name formals inner =
       declare false name (entity.Formal block (next_parameter formals) (length inner.env.shapes)) (leave inner.env) >>= λ env.
       gives (record {
-        env = record env { shapes = env.shapes ++ inner.asks ∷ [] };
+        env = with_shape inner.asks env;
         formals = formals_append formals (procedure_then inner.asks no_formal);
       })
 
@@ -90,7 +94,7 @@ abbrev mutual
       parameter block before p listed >>= more_parameters block before ps
 
   pub parameter : (block before : ℕ) → text.Param → Listed → Judged Listed
-  parameter block before (text.value_param g) listed = value_group block before g listed
-  parameter block before (text.var_param g) listed = variable_group block before g listed
+  parameter block before (text.value_param g) listed = param_group block before false g listed
+  parameter block before (text.var_param g) listed = param_group block before true g listed
   parameter block before (text.procedure_param inner) listed =
       heading_parts block inner listed.env >>= procedure_named block before (own_name inner) listed.formals

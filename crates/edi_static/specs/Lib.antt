@@ -1,5 +1,6 @@
 pub mod Judged
 pub mod Environment
+pub mod Proper
 pub mod Types
 pub mod Headings
 pub mod Operators

@@ -95,17 +95,21 @@ abbrev pub with_field : List ℕ → ℕ → Fields → Fields
 with_field name of fields = record { names = fields.names ++ name ∷ []; types = fields.types ++ of ∷ [] }
 
 -- a field's name must be new in its record
+abbrev pub field_named : (of : ℕ) → Name → Fields → Judged Fields
+field_named of name fields =
+    must (not (list_any (bytes_eq name.text) fields.names)) kind.Ambiguous name.line >>= λ _. gives (with_field name.text of fields)
+
 abbrev pub fields_named : (of : ℕ) → Names → Fields → Judged Fields
 fields_named of no_name fields = gives fields
-fields_named of (next_name name names) fields =
-    must (not (list_any (bytes_eq name.text) fields.names)) kind.Ambiguous name.line >>= λ _.
-    fields_named of names (with_field name.text of fields)
+fields_named of (next_name name names) fields = field_named of name fields >>= fields_named of names
 
 -- in a group the type is judged first, then the names in their order
+abbrev pub fields_of_group : Environment → text.Group → Fields → Judged Fields
+fields_of_group env (text.group first names of) fields = type_named env of >>= λ t. fields_named t (next_name first names) fields
+
 abbrev pub fields_of_groups : Environment → Groups → Fields → Judged Fields
 fields_of_groups env no_group fields = gives fields
-fields_of_groups env (next_group (text.group first names of) groups) fields =
-    type_named env of >>= λ t. fields_named t (next_name first names) fields >>= fields_of_groups env groups
+fields_of_groups env (next_group g groups) fields = fields_of_group env g fields >>= fields_of_groups env groups
 
 -- ---- types
 
@@ -156,10 +160,13 @@ abbrev pub variables_named : Bool → (of : ℕ) → Names → Environment → J
 variables_named marked of no_name env = gives env
 variables_named marked of (next_name name names) env = variable_decl marked of name env >>= variables_named marked of names
 
+abbrev pub variables_of_group : Bool → text.Group → Environment → Judged Environment
+variables_of_group marked (text.group first names of) env =
+    type_named env of >>= λ t. variables_named marked t (next_name first names) env
+
 abbrev pub variables_of_groups : Bool → Groups → Environment → Judged Environment
 variables_of_groups marked no_group env = gives env
-variables_of_groups marked (next_group (text.group first names of) groups) env =
-    type_named env of >>= λ t. variables_named marked t (next_name first names) env >>= variables_of_groups marked groups
+variables_of_groups marked (next_group g groups) env = variables_of_group marked g env >>= variables_of_groups marked groups
 
 abbrev pub var_list : Bool → VarList → Environment → Judged Environment
 var_list marked (text.var_list first more) env = variables_of_groups marked (next_group first more) env

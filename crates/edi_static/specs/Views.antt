@@ -15,12 +15,15 @@ use Rattle.edi_static.specs.declared.operands.Typed as code_typed
 use Rattle.edi_static.specs.declared.operands.Linked as code_linked
 use Rattle.edi_static.specs.declared.constants.Ordinal as code_ordinal
 use Rattle.edi_static.specs.declared.fits.Rooted as code_rooted
-use Rattle.edi_static.specs.Types.{Ordinal}
+use Rattle.edi_static.specs.declared.records.Fields as code_fields
+use Rattle.edi_static.specs.Types.{Ordinal, Fields}
 use Rattle.edi_static.specs.declared.parts.Parted as code_parted
 use Rattle.edi_static.specs.Fitting.{Rooted}
 use Rattle.edi_static.specs.Expressions.{Parted}
 use Rattle.edi_static.specs.Environment.{Begun, Environment, same_heading}
+use Rattle.edi_static.specs.Headings.{Listed, Headed}
 use Rattle.edi_static.specs.Operators.{Typed, Linked}
+use Rattle.edi_unit.specs.declared.lists.List as code_list
 
 -- what is asked for one parameter
 pub data One : Type 0 where
@@ -77,6 +80,13 @@ environment known = record {
   begun = map begun_of known.begun.items;
 }
 
+-- the environment and the parameters of a heading so far, and after its result
+abbrev pub listed_of : Known → code_list.List code_formal.Formal → Listed
+listed_of known fs = record { env = environment known; formals = formals (map formal_of (list_items fs)) }
+
+abbrev pub headed_of : Known → code_asked.Asked → Headed
+headed_of known asked = record { env = environment known; asks = asked_of asked }
+
 -- an expression with its type, and an operator with its right operand
 abbrev pub typed_of : code_typed.Typed → Typed
 typed_of v = record { what = expression_of v.what; of = v.of }
@@ -87,6 +97,10 @@ linked_of l = record { what = link_of l.link; of = l.of }
 -- the value of an elementary type
 abbrev pub ordinal_of : code_ordinal.Ordinal → Ordinal
 ordinal_of c = record { of = c.of; ordinal = c.ordinal }
+
+-- the fields of a record
+abbrev pub fields_of : code_fields.Fields → Fields
+fields_of f = record { names = map (λ name. name.items) f.names.items; types = list_items f.types }
 
 -- a variable of a block that is so many steps out
 abbrev pub rooted_of : code_rooted.Rooted → Rooted

@@ -59,12 +59,7 @@ pub fn single(line: u16, characters: &[u8]) -> Result<Typed, StaticFault>
 }
 
 /// A set type alone is the empty set.
-pub fn empty_set(
-    known: &Known,
-    alloc: Global,
-    line: u16,
-    of: u32,
-) -> Result<Typed, StaticFault>
+pub fn empty_set(known: &Known, alloc: Global, line: u16, of: u32) -> Result<Typed, StaticFault>
     ensures exact { Answers typed_of result (spec.empty_set (environment known.now) line of) }
 {
     must(is_set(known.shape(of)), StaticKind::Constructor, line)?;

@@ -1,11 +1,14 @@
 //! What headings ask of calls.
 
-ghost use Rattle.std.specs.Prelude.{◌≡◌, IfOk, map};
+ghost use Rattle.std.specs.Prelude.{◌≡◌, [], ◌∷◌, Err, IfOk, OnErr, OnOk, map};
+ghost use Rattle.edi_static.specs.Headings.{formal_one};
 ghost use Rattle.edi_unit.specs.Lists.{list_items};
+ghost use Rattle.edi_unit.specs.Fits.{heading, heading_result, heading_formals};
 ghost use Rattle.edi_static.specs.Environment as spec;
 ghost use Rattle.edi_static.specs.Views as view;
 ghost use Rattle.edi_static.specs.Views.{asked_of, formal_of, same_one};
 
+use crate::faults::StaticFault;
 use edi_unit::{List, Parameter, Parameters};
 use std::alloc::{AllocError, Global};
 
@@ -27,6 +30,73 @@ pub enum Formal {
     Variable(u32),
     /// A procedure with such a heading.
     Procedure(Asked),
+}
+
+/// A heading that asks nothing.
+pub fn no_asked(alloc: Global) -> Asked
+    ensures exact { asked_of result ≡ spec.no_heading }
+{
+    Asked {
+        formals: List::new(alloc),
+        result: None,
+    }
+}
+
+/// A heading of these parameters and this result.
+pub fn heading_with(formals: List<Formal>, of: Option<u32>) -> Asked
+    ensures exact { asked_of result ≡ heading (view.formals (map formal_of (list_items formals))) of }
+{
+    Asked {
+        formals,
+        result: of,
+    }
+}
+
+/// A value or a `var` parameter of this type.
+pub fn plain_formal(by_variable: bool, of: u32) -> Formal
+    ensures exact { view.formals (formal_of result ∷ []) ≡ formal_one by_variable of }
+{
+    if by_variable {
+        Formal::Variable(of)
+    } else {
+        Formal::Value(of)
+    }
+}
+
+/// A procedure parameter.
+pub fn procedure_formal(asked: Asked) -> Formal
+    ensures exact { formal_of result ≡ view.procedure (asked_of asked) }
+{
+    Formal::Procedure(asked)
+}
+
+/// One more parameter. Where memory is wanting the list stays as it was.
+pub fn push_formal(
+    formals: &mut List<Formal>,
+    alloc: Global,
+    formal: Formal,
+) -> Result<(), StaticFault>
+    ensures ok { OnOk result (view.formals (map formal_of (list_items formals.new)) ≡ spec.formals_append (view.formals (map formal_of (list_items formals.old))) (view.formals (formal_of formal ∷ []))) }
+    ensures err { OnErr result (result ≡ Err StaticFault.NoMemory) }
+{
+    match formals.push(alloc, formal) {
+        Ok(()) => Ok(()),
+        Err(_) => Err(StaticFault::NoMemory),
+    }
+}
+
+/// What is asked for each parameter.
+pub fn asked_formals(asked: &Asked) -> &List<Formal>
+    ensures exact { view.formals (map formal_of (list_items result.now)) ≡ heading_formals (asked_of asked.now) }
+{
+    &asked.formals
+}
+
+/// The type of the result, if there is one.
+pub fn asked_result(asked: &Asked) -> Option<u32>
+    ensures exact { result ≡ heading_result (asked_of asked.now) }
+{
+    asked.result
 }
 
 /// Whether two headings have one shape.
@@ -113,6 +183,16 @@ pub fn parameters_of(alloc: Global, formals: &List<Formal>) -> Result<Parameters
         parameters.push(alloc, parameter_of(formal))?;
     }
     Ok(parameters)
+}
+
+/// What a block keeps of the parameters of a heading.
+pub fn kept_parameters(alloc: Global, asked: &Asked) -> Result<Parameters, AllocError>
+    ensures exact { IfOk result (λ parameters. list_items parameters ≡ spec.parameters_of (heading_formals (asked_of asked.now))) }
+{
+    match parameters_of(alloc, asked_formals(asked)) {
+        Ok(parameters) => Ok(parameters),
+        Err(error) => Err(error),
+    }
 }
 
 fn parameter_of(formal: &Formal) -> Parameter

@@ -1,14 +1,16 @@
 //! What is known at a place of a text: what each name means there, and what has become of the constructs before it.
 
-ghost use Rattle.std.specs.Prelude.{◌≡◌, ◌++◌, ◌∷◌, [], Err, OnOk, OnErr, IfOk, IfSome, IsTrue, is_some, ◌==◌};
+ghost use Rattle.std.specs.Prelude.{◌≡◌, ◌<◌, ◌++◌, ◌∷◌, [], false, length, Err, OnOk, OnErr, IfOk, IsTrue, ◌==◌};
 ghost use Rattle.std.specs.List.{list_any};
 ghost use Rattle.edi_unit.specs.Types.{shape_at, is_elementary};
 ghost use Rattle.edi_unit.specs.Lists.{list_items};
 ghost use Rattle.edi_unit.specs.ShapeView.{shape_of};
-ghost use Rattle.edi_scope.specs.Scope.{in_module, declared};
+ghost use Rattle.edi_scope.specs.Scope.{in_module, outside};
 ghost use Rattle.edi_static.specs.Judged.{gives};
 ghost use Rattle.edi_static.specs.Judged as judged;
 ghost use Rattle.edi_static.specs.Environment as spec;
+ghost use Rattle.edi_static.specs.Headings.{leave, round};
+ghost use Rattle.edi_static.specs.Proper.{Proper, EntityFits};
 ghost use Rattle.edi_static.specs.Answers.{Answers};
 ghost use Rattle.edi_static.specs.Answers as answers;
 ghost use Rattle.edi_static.specs.Views.{environment};
@@ -127,9 +129,32 @@ fn unknown(spelling: &[u8]) -> StaticKind
 }
 
 impl Known {
+    /// Opens a scope inside the innermost.
+    pub fn enter(&mut self, alloc: Global, is_module: bool) -> Result<(), StaticFault>
+        requires proper { Proper (environment self.old) }
+        ensures exact { Answers (λ _. environment self.new) result (gives (spec.enter is_module (environment self.old))) }
+        ensures proper { OnOk result (Proper (environment self.new)) }
+    {
+        match self.scopes.enter(alloc, is_module) {
+            Ok(()) => Ok(()),
+            Err(_) => Err(StaticFault::NoMemory),
+        }
+    }
+
+    /// Closes the innermost scope, which is not the standard one.
+    pub fn leave(&mut self)
+        requires depth { 1 < length self.old.scopes }
+        requires proper { Proper (environment self.old) }
+        ensures exact { environment self.new ≡ leave (environment self.old) }
+        ensures proper { Proper (environment self.new) }
+    {
+        self.scopes.leave();
+    }
+
     /// What a used name means. It must mean something.
     pub fn look_up(&self, name: &Name) -> Result<Entity, StaticFault>
         ensures exact { Answers (λ e. e) result (spec.look_up (environment self.now) name.now) }
+        ensures known { Proper (environment self.now) → IfOk result (λ e. EntityFits (environment self.now) e) }
     {
         match self.scopes.look(name.text.as_slice()) {
             Some(entity) => Ok(entity),
@@ -140,6 +165,7 @@ impl Known {
     /// A type is asked.
     pub fn type_named(&self, name: &Name) -> Result<u32, StaticFault>
         ensures exact { Answers (λ t. t) result (spec.type_named (environment self.now) name.now) }
+        ensures known { Proper (environment self.now) → IfOk result (λ t. t < length self.now.types) }
     {
         match self.look_up(name)? {
             Entity::Types(t) => Ok(t),
@@ -156,8 +182,14 @@ impl Known {
         entity: Entity,
     ) -> Result<(), StaticFault>
         requires module { IsTrue marked → IsTrue (in_module self.old.scopes) }
+        requires proper { Proper (environment self.old) }
+        requires fits { EntityFits (environment self.old) entity }
         ensures exact { Answers (λ _. environment self.new) result (spec.declare marked name.now entity (environment self.old)) }
         ensures exporting { IsTrue marked → IsTrue (in_module self.new.scopes) }
+        ensures proper { OnOk result (Proper (environment self.new)) }
+        ensures depth { length self.new.scopes ≡ length self.old.scopes }
+        ensures outside { marked ≡ false → outside self.new.scopes ≡ outside self.old.scopes }
+        ensures types { self.new.types ≡ self.old.types }
     {
         let told = self
             .scopes
@@ -165,14 +197,49 @@ impl Known {
         told_at(told, name.line)
     }
 
-    /// Gives a name of the innermost scope, which is that of a module, to the scope round it, where it must be new.
-    pub fn give_outside(&mut self, alloc: Global, name: &Name) -> Result<(), StaticFault>
-        requires module { IsTrue (in_module self.old.scopes) }
-        requires known { IsTrue (is_some (declared self.old.scopes name.now.text)) }
-        ensures exact { IfSome (declared self.old.scopes name.now.text) (λ means.
-            Answers (λ _. environment self.new) result (spec.give_outside name.now means (environment self.old))) }
+    /// Declares a name in the scope round the innermost, where it must be new; where it is marked, in the scope round that one
+    /// too, and the first of these is that of a module.
+    pub fn declare_round(
+        &mut self,
+        alloc: Global,
+        marked: bool,
+        name: &Name,
+        entity: Entity,
+    ) -> Result<(), StaticFault>
+        requires depth { 1 < length self.old.scopes }
+        requires module { IsTrue marked → IsTrue (in_module (outside self.old.scopes)) }
+        requires proper { Proper (environment self.old) }
+        requires fits { EntityFits (environment self.old) entity }
+        ensures exact { Answers (λ _. environment self.new) result (round (spec.declare marked name.now entity) (environment self.old)) }
+        ensures exporting { OnOk result (IsTrue marked → IsTrue (in_module (outside self.new.scopes))) }
+        ensures proper { OnOk result (Proper (environment self.new)) }
+        ensures depth { OnOk result (length self.new.scopes ≡ length self.old.scopes) }
     {
-        let told = self.scopes.export(alloc, name.text.as_slice());
+        let told = self
+            .scopes
+            .declare_round(alloc, name.text.as_slice(), entity, marked);
+        told_at(told, name.line)
+    }
+
+    /// Gives a name with what it means to the scope round the one round the innermost, which is that of a module. It must be new
+    /// there.
+    pub fn give_outside_round(
+        &mut self,
+        alloc: Global,
+        name: &Name,
+        entity: Entity,
+    ) -> Result<(), StaticFault>
+        requires module { IsTrue (in_module (outside self.old.scopes)) }
+        requires proper { Proper (environment self.old) }
+        requires fits { EntityFits (environment self.old) entity }
+        ensures exact { Answers (λ _. environment self.new) result (round (spec.give_outside name.now entity) (environment self.old)) }
+        ensures exporting { OnOk result (IsTrue (in_module (outside self.new.scopes))) }
+        ensures proper { OnOk result (Proper (environment self.new)) }
+        ensures depth { OnOk result (length self.new.scopes ≡ length self.old.scopes) }
+    {
+        let told = self
+            .scopes
+            .export_round(alloc, name.text.as_slice(), entity);
         told_at(told, name.line)
     }
 

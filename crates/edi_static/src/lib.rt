@@ -10,7 +10,12 @@ mod headings;
 mod known;
 pub mod laws;
 mod operands;
+mod params;
 mod parts;
+mod records;
+mod tables;
+mod types;
+mod variables;
 
 pub use constants::{Ordinal, const_list, constant};
 pub use faults::{StaticFault, StaticKind};
@@ -18,10 +23,16 @@ pub use fits::{
     Rooted, as_function, as_variable, character, element_type, empty_set, is_indexed_by, single,
     takes_parts, takes_strings, variable_argument,
 };
-pub use headings::{Asked, Formal, copy_asked, parameters_of, same_asked};
+pub use headings::{
+    Asked, Formal, asked_formals, asked_result, copy_asked, heading_with, kept_parameters,
+    no_asked, parameters_of, plain_formal, procedure_formal, push_formal, same_asked,
+};
 pub use known::{Begun, Known, add, boxed, fault, must, number, put};
 pub use operands::{
     Linked, Typed, addition_operator, is_set, multiplication_operator, operated, relation_operator,
     signed, with_links,
 };
+pub use params::heading_parts;
 pub use parts::{Parted, element_of, field_of};
+pub use types::type_decl;
+pub use variables::var_list;

@@ -154,12 +154,7 @@ fn chain(alloc: Global, first: Value, links: Links, of: u32) -> Result<Typed, St
 
 /// A part without an operator is no chain.
 #[tactic(auto, using(crate::proofs::Lengths::no_chain, crate::proofs::Lengths::a_chain))]
-pub fn with_links(
-    alloc: Global,
-    first: Value,
-    links: Links,
-    of: u32,
-) -> Result<Typed, StaticFault>
+pub fn with_links(alloc: Global, first: Value, links: Links, of: u32) -> Result<Typed, StaticFault>
     ensures exact { Answers typed_of result (gives (record { what = spec.chain_of (expression_of first) (links_of links); of = of })) }
 {
     if links.is_empty() {

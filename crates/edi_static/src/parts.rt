@@ -89,12 +89,7 @@ fn field_at(
 }
 
 /// The field of a record.
-pub fn field_of(
-    known: &Known,
-    line: u16,
-    of: u32,
-    name: &Name,
-) -> Result<Parted, StaticFault>
+pub fn field_of(known: &Known, line: u16, of: u32, name: &Name) -> Result<Parted, StaticFault>
     ensures exact { Answers parted_of result (rule.field_of (environment known.now) line of name.now) }
 {
     must(is_record(known.shape(of)), StaticKind::Types, line)?;

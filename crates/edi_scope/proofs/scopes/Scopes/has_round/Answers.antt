@@ -1,0 +1,18 @@
+use Rattle.std.proofs.Common.{◌≡◌, ◌-◌, ◌<◌, length, drop, ap, sym, subst, ◌∙◌, arith, is_some, eqb}
+use Rattle.std.specs.List.{list_any}
+use Rattle.edi_scope.specs.Scope.{declared}
+use Rattle.edi_scope.specs.Standing.{scopes_of}
+use Rattle.edi_scope.proofs.Standings.{has_depth}
+use Rattle.edi_scope.proofs.Views.{length-scopes_of}
+use Rattle.edi_scope.proofs.scopes.Scopes.has_round.Goals as goal
+
+pub returns : goal.returns
+returns c =
+    let round : 1 < length (scopes_of c.self.inside.scopes) = subst (λ s. 1 < length s) (sym c.self.view_is) c.requires in
+    let len : length (scopes_of c.self.inside.scopes) ≡ c.len.result = length-scopes_of c.self.inside.scopes ∙ omega (arith, c.len.ensures) in
+    record {
+      exact = c.is_at.ensures.exact
+          ∙ ap (list_any (λ d. eqb d.depth (c.len.result - 2))) (c.self.invariant.stands c.args.name.now)
+          ∙ has_depth (scopes_of c.self.inside.scopes) c.args.name.now 1 (c.len.result - 2) (omega arith)
+          ∙ ap (λ s. is_some (declared (drop 1 s) c.args.name.now)) c.self.view_is;
+    }

@@ -1,0 +1,9 @@
+use Rattle.std.proofs.Common.{map, ap, ◌∙◌}
+use Rattle.edi_unit.specs.Lists.{list_items}
+use Rattle.edi_static.specs.Views.{formals, formal_of}
+use Rattle.edi_static.proofs.Askings.{more_formals}
+use Rattle.edi_static.proofs.headings.push_formal.Goals as goal
+
+pub returns-in-Ok-clause-ok : goal.returns-in-Ok-clause-ok
+returns-in-Ok-clause-ok c =
+    ap (λ fs. formals (map formal_of fs)) c.in-Ok.ensures.exact ∙ more_formals (list_items c.args.formals.now) c.args.formal

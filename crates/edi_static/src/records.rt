@@ -1,0 +1,100 @@
+//! The rules on the fields of records.
+
+ghost use Rattle.std.specs.Prelude.{◌≡◌, ◌<◌, ◌∷◌, ◌++◌, [], All, Err, IfOk, OnErr, OnOk, length, map};
+ghost use Rattle.std.specs.List.{list_any};
+ghost use Rattle.std.specs.Str.{bytes_eq};
+ghost use Rattle.edi_tree.specs.Tree as text;
+ghost use Rattle.edi_tree.specs.View.{group_of, groups_of};
+ghost use Rattle.edi_unit.specs.Lists.{list_items};
+ghost use Rattle.edi_static.specs.Answers.{Answers};
+ghost use Rattle.edi_static.specs.Proper.{Proper};
+ghost use Rattle.edi_static.specs.Types as spec;
+ghost use Rattle.edi_static.specs.Views.{environment};
+ghost use Rattle.edi_static.specs.Views as view;
+
+use crate::faults::{StaticFault, StaticKind};
+use crate::known::{Known, add, fault, put};
+use edi_tree::{Group, Name, Record};
+use edi_unit::{List, Numbers};
+use std::alloc::Global;
+
+/// The names of a record's fields, and their types.
+#[derive(Drop)]
+pub(crate) struct Fields {
+    pub(crate) names: Vec<Vec<u8>>,
+    pub(crate) types: Numbers,
+}
+
+/// Whether a record has a field of this name.
+fn has_field(fields: &[Vec<u8>], name: &[u8]) -> bool
+    ensures exact { result ≡ list_any (bytes_eq name.now) (map (λ field. field.items) fields.now) }
+{
+    for field in fields {
+        if name == field.as_slice() {
+            return true;
+        }
+    }
+    false
+}
+
+/// A copy of a name's spelling.
+fn spelling(alloc: Global, name: &[u8]) -> Result<Vec<u8>, StaticFault>
+    ensures exact { IfOk result (λ copy. copy.items ≡ name.now) }
+    ensures err { OnErr result (result ≡ Err StaticFault.NoMemory) }
+{
+    match name.to_vec(alloc) {
+        Ok(copy) => Ok(copy),
+        Err(_) => Err(StaticFault::NoMemory),
+    }
+}
+
+impl Fields {
+    /// A field's name must be new in its record.
+    fn add(&mut self, alloc: Global, name: &Name, of: u32) -> Result<(), StaticFault>
+        ensures exact { Answers (λ _. view.fields_of self.new) result (spec.field_named of name.now (view.fields_of self.old)) }
+        ensures types { OnOk result (list_items self.new.types ≡ list_items self.old.types ++ of ∷ []) }
+    {
+        if has_field(self.names.as_slice(), name.text.as_slice()) {
+            return fault(StaticKind::Ambiguous, name.line);
+        }
+        let copy = spelling(alloc, name.text.as_slice())?;
+        put(&mut self.names, copy)?;
+        add(&mut self.types, alloc, of)
+    }
+
+    /// In a group the type is judged first, then the names in their order.
+    fn add_group(&mut self, known: &Known, alloc: Global, group: &Group) -> Result<(), StaticFault>
+        requires proper { Proper (environment known.now) }
+        requires known { All (λ t. t < length known.now.types) (list_items self.old.types) }
+        ensures exact { Answers (λ _. view.fields_of self.new) result (spec.fields_of_group (environment known.now) (group_of group.now) (view.fields_of self.old)) }
+        ensures known { OnOk result (All (λ t. t < length known.now.types) (list_items self.new.types)) }
+    {
+        let of = known.type_named(&group.type_name)?;
+        self.add(alloc, &group.first, of)?;
+        for name in group.more.items() {
+            self.add(alloc, name, of)?;
+        }
+        Ok(())
+    }
+}
+
+/// The fields of a record, group by group.
+pub(crate) fn fields_of(
+    known: &Known,
+    alloc: Global,
+    declared: &Record,
+) -> Result<Fields, StaticFault>
+    requires proper { Proper (environment known.now) }
+    ensures exact { Answers view.fields_of result (spec.fields_of_groups (environment known.now) (text.next_group (group_of declared.now.first) (groups_of declared.now.more)) spec.no_fields) }
+    ensures known { IfOk result (λ fields. All (λ t. t < length known.now.types) (list_items fields.types)) }
+{
+    let mut fields = Fields {
+        names: Vec::new(alloc),
+        types: List::new(alloc),
+    };
+    fields.add_group(known, alloc, &declared.first)?;
+    for group in declared.more.items() {
+        fields.add_group(known, alloc, group)?;
+    }
+    Ok(fields)
+}

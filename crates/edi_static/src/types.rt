@@ -1,0 +1,224 @@
+//! The rules on types.
+
+ghost use Rattle.std.specs.Prelude.{◌≡◌, ◌<◌, All, IsTrue, OnOk, length, map};
+ghost use Rattle.edi_scope.specs.Scope.{in_module};
+ghost use Rattle.edi_tree.specs.Sequences.{items_of};
+ghost use Rattle.edi_tree.specs.Tree as text;
+ghost use Rattle.edi_tree.specs.View.{names, group_of, groups_of, type_decl_of};
+ghost use Rattle.edi_unit.specs.ShapeView.{shape_of};
+ghost use Rattle.edi_unit.specs.Types.{is_elementary, named_types, ordinal_types, HasOrderedBounds};
+ghost use Rattle.edi_static.specs.Answers.{Answers};
+ghost use Rattle.edi_static.specs.Proper.{Proper};
+ghost use Rattle.edi_static.specs.Types as spec;
+ghost use Rattle.edi_static.specs.Views.{environment};
+
+use crate::constants::constant;
+use crate::faults::{StaticFault, StaticKind};
+use crate::known::{Known, fault, number};
+use crate::records::fields_of;
+use edi_scope::Entity;
+use edi_tree::{Array, Enum, Name, Record, Set, TypeDecl};
+use edi_unit::Shape;
+use std::alloc::Global;
+
+/// An enumeration has at most so many constants.
+const MOST_CONSTANTS: usize = 32768;
+
+/// The constant of this ordinal, whose type is known.
+fn enum_constant(
+    known: &mut Known,
+    alloc: Global,
+    marked: bool,
+    of: u32,
+    ordinal: usize,
+    name: &Name,
+) -> Result<(), StaticFault>
+    requires exporting { IsTrue marked → IsTrue (in_module known.old.scopes) }
+    requires proper { Proper (environment known.old) }
+    requires fits { (of < length known.old.types) × IsTrue (is_elementary known.old.types of) }
+    ensures exact { Answers (λ _. environment known.new) result (spec.enum_constant marked of ordinal name.now (environment known.old)) }
+    ensures exporting { IsTrue marked → IsTrue (in_module known.new.scopes) }
+    ensures proper { OnOk result (Proper (environment known.new)) }
+    ensures depth { length known.new.scopes ≡ length known.old.scopes }
+    ensures types { OnOk result (known.new.types ≡ known.old.types) }
+{
+    if ordinal < MOST_CONSTANTS {
+        let ordinal = ordinal as i16;
+        return known.declare(alloc, marked, name, Entity::Constant { of, ordinal });
+    }
+    known.declare(alloc, marked, name, Entity::Types(of))?;
+    fault(StaticKind::Range, name.line)
+}
+
+/// The constants of an enumeration, whose type is known.
+fn enum_constants(
+    known: &mut Known,
+    alloc: Global,
+    marked: bool,
+    of: u32,
+    declared: &Enum,
+) -> Result<(), StaticFault>
+    requires exporting { IsTrue marked → IsTrue (in_module known.old.scopes) }
+    requires proper { Proper (environment known.old) }
+    requires fits { (of < length known.old.types) × IsTrue (is_elementary known.old.types of) }
+    ensures exact { Answers (λ _. environment known.new) result (spec.enum_constants marked of 0 (text.next_name declared.now.first (names (items_of declared.now.more))) (environment known.old)) }
+    ensures exporting { IsTrue marked → IsTrue (in_module known.new.scopes) }
+    ensures proper { OnOk result (Proper (environment known.new)) }
+    ensures depth { length known.new.scopes ≡ length known.old.scopes }
+{
+    enum_constant(known, alloc, marked, of, 0, &declared.first)?;
+    let mut ordinal = 1;
+    for name in declared.more.items() {
+        enum_constant(known, alloc, marked, of, ordinal, name)?;
+        ordinal += 1;
+    }
+    Ok(())
+}
+
+/// The type is put behind the others, and its name is declared before its constants.
+fn enum_decl(
+    known: &mut Known,
+    alloc: Global,
+    marked: bool,
+    declared: &Enum,
+) -> Result<(), StaticFault>
+    requires exporting { IsTrue marked → IsTrue (in_module known.old.scopes) }
+    requires proper { Proper (environment known.old) }
+    ensures exact { Answers (λ _. environment known.new) result (spec.enum_decl marked declared.now.name (text.next_name declared.now.first (names (items_of declared.now.more))) (environment known.old)) }
+    ensures exporting { IsTrue marked → IsTrue (in_module known.new.scopes) }
+    ensures proper { OnOk result (Proper (environment known.new)) }
+    ensures depth { length known.new.scopes ≡ length known.old.scopes }
+{
+    let of = known.types.len();
+    let constants = number(declared.more.len() + 1)?;
+    known.push_type(alloc, Shape::Enum(constants), Vec::new(alloc))?;
+    known.declare(alloc, marked, &declared.name, Entity::Types(of))?;
+    enum_constants(known, alloc, marked, of, declared)
+}
+
+/// A type takes at most 65,535 words; it is put behind the others, and its name is declared after its parts have been judged.
+fn declare_type(
+    known: &mut Known,
+    alloc: Global,
+    marked: bool,
+    name: &Name,
+    shape: Shape,
+    fields: Vec<Vec<u8>>,
+) -> Result<(), StaticFault>
+    requires exporting { IsTrue marked → IsTrue (in_module known.old.scopes) }
+    requires proper { Proper (environment known.old) }
+    requires named { All (λ t. t < length known.old.types) (named_types (shape_of shape)) }
+    requires elementary { All (λ t. IsTrue (is_elementary known.old.types t)) (ordinal_types (shape_of shape)) }
+    requires ordered { HasOrderedBounds (shape_of shape) }
+    ensures exact { Answers (λ _. environment known.new) result (spec.declare_type marked name.now (shape_of shape) (map (λ field. field.items) fields.items) (environment known.old)) }
+    ensures exporting { IsTrue marked → IsTrue (in_module known.new.scopes) }
+    ensures proper { OnOk result (Proper (environment known.new)) }
+    ensures depth { length known.new.scopes ≡ length known.old.scopes }
+{
+    if !known.types.is_declarable(&shape) {
+        return fault(StaticKind::Range, name.line);
+    }
+    let of = known.types.len();
+    known.push_type(alloc, shape, fields)?;
+    known.declare(alloc, marked, name, Entity::Types(of))
+}
+
+fn record_decl(
+    known: &mut Known,
+    alloc: Global,
+    marked: bool,
+    declared: &Record,
+) -> Result<(), StaticFault>
+    requires exporting { IsTrue marked → IsTrue (in_module known.old.scopes) }
+    requires proper { Proper (environment known.old) }
+    ensures exact { Answers (λ _. environment known.new) result (spec.type_decl marked (text.record_decl declared.now.name (group_of declared.now.first) (groups_of declared.now.more)) (environment known.old)) }
+    ensures exporting { IsTrue marked → IsTrue (in_module known.new.scopes) }
+    ensures proper { OnOk result (Proper (environment known.new)) }
+    ensures depth { length known.new.scopes ≡ length known.old.scopes }
+{
+    let fields = fields_of(known, alloc, declared)?;
+    let shape = Shape::Record(fields.types);
+    declare_type(known, alloc, marked, &declared.name, shape, fields.names)
+}
+
+/// The bounds are of one elementary type, and the lower one is not above the upper one.
+fn array_decl(
+    known: &mut Known,
+    alloc: Global,
+    marked: bool,
+    declared: &Array,
+) -> Result<(), StaticFault>
+    requires exporting { IsTrue marked → IsTrue (in_module known.old.scopes) }
+    requires proper { Proper (environment known.old) }
+    ensures exact { Answers (λ _. environment known.new) result (spec.array_decl marked declared.now.name declared.now.lower declared.now.upper declared.now.element (environment known.old)) }
+    ensures exporting { IsTrue marked → IsTrue (in_module known.new.scopes) }
+    ensures proper { OnOk result (Proper (environment known.new)) }
+    ensures depth { length known.new.scopes ≡ length known.old.scopes }
+{
+    let lower = constant(known, &declared.lower)?;
+    let upper = constant(known, &declared.upper)?;
+    let element = known.type_named(&declared.element)?;
+    if lower.of != upper.of {
+        return fault(StaticKind::Types, declared.name.line);
+    }
+    if lower.ordinal > upper.ordinal {
+        return fault(StaticKind::Range, declared.name.line);
+    }
+    let shape = Shape::Array {
+        index: lower.of,
+        lo: lower.ordinal,
+        hi: upper.ordinal,
+        element,
+    };
+    declare_type(known, alloc, marked, &declared.name, shape, Vec::new(alloc))
+}
+
+/// The base is elementary.
+fn set_decl(
+    known: &mut Known,
+    alloc: Global,
+    marked: bool,
+    declared: &Set,
+) -> Result<(), StaticFault>
+    requires exporting { IsTrue marked → IsTrue (in_module known.old.scopes) }
+    requires proper { Proper (environment known.old) }
+    ensures exact { Answers (λ _. environment known.new) result (spec.set_decl marked declared.now.name declared.now.base (environment known.old)) }
+    ensures exporting { IsTrue marked → IsTrue (in_module known.new.scopes) }
+    ensures proper { OnOk result (Proper (environment known.new)) }
+    ensures depth { length known.new.scopes ≡ length known.old.scopes }
+{
+    let base = known.type_named(&declared.base)?;
+    if !known.is_elementary(base) {
+        return fault(StaticKind::Types, declared.base.line);
+    }
+    declare_type(
+        known,
+        alloc,
+        marked,
+        &declared.name,
+        Shape::Set(base),
+        Vec::new(alloc),
+    )
+}
+
+/// A declaration of a type.
+pub fn type_decl(
+    known: &mut Known,
+    alloc: Global,
+    marked: bool,
+    declared: &TypeDecl,
+) -> Result<(), StaticFault>
+    requires exporting { IsTrue marked → IsTrue (in_module known.old.scopes) }
+    requires proper { Proper (environment known.old) }
+    ensures exact { Answers (λ _. environment known.new) result (spec.type_decl marked (type_decl_of declared.now) (environment known.old)) }
+    ensures exporting { IsTrue marked → IsTrue (in_module known.new.scopes) }
+    ensures proper { OnOk result (Proper (environment known.new)) }
+    ensures depth { length known.new.scopes ≡ length known.old.scopes }
+{
+    match declared {
+        TypeDecl::Enum(declared) => enum_decl(known, alloc, marked, declared),
+        TypeDecl::Record(declared) => record_decl(known, alloc, marked, declared),
+        TypeDecl::Array(declared) => array_decl(known, alloc, marked, declared),
+        TypeDecl::Set(declared) => set_decl(known, alloc, marked, declared),
+    }
+}

@@ -1,0 +1,84 @@
+//! The rules on variables.
+
+ghost use Rattle.std.specs.Prelude.{◌≡◌, ◌<◌, IsTrue, OnOk, length};
+ghost use Rattle.edi_scope.specs.Scope.{in_module};
+ghost use Rattle.edi_tree.specs.View.{group_of, var_list_of};
+ghost use Rattle.edi_static.specs.Answers.{Answers};
+ghost use Rattle.edi_static.specs.Proper.{Proper};
+ghost use Rattle.edi_static.specs.Types as spec;
+ghost use Rattle.edi_static.specs.Views.{environment};
+
+use crate::faults::StaticFault;
+use crate::known::Known;
+use edi_scope::Entity;
+use edi_tree::{Group, Name, VarList};
+use std::alloc::Global;
+
+/// A declared variable belongs to the block in which it stands, also in a module.
+fn variable_decl(
+    known: &mut Known,
+    alloc: Global,
+    marked: bool,
+    of: u32,
+    name: &Name,
+) -> Result<(), StaticFault>
+    requires exporting { IsTrue marked → IsTrue (in_module known.old.scopes) }
+    requires proper { Proper (environment known.old) }
+    requires fits { of < length known.old.types }
+    ensures exact { Answers (λ _. environment known.new) result (spec.variable_decl marked of name.now (environment known.old)) }
+    ensures exporting { IsTrue marked → IsTrue (in_module known.new.scopes) }
+    ensures proper { OnOk result (Proper (environment known.new)) }
+    ensures depth { length known.new.scopes ≡ length known.old.scopes }
+    ensures types { OnOk result (known.new.types ≡ known.old.types) }
+{
+    let entity = Entity::Variable {
+        block: known.here(),
+        variable: known.next_variable()?,
+        of,
+    };
+    known.declare(alloc, marked, name, entity)?;
+    known.add_variable(alloc, of)
+}
+
+/// In a group the type is judged first, then the names in their order.
+fn variable_group(
+    known: &mut Known,
+    alloc: Global,
+    marked: bool,
+    group: &Group,
+) -> Result<(), StaticFault>
+    requires exporting { IsTrue marked → IsTrue (in_module known.old.scopes) }
+    requires proper { Proper (environment known.old) }
+    ensures exact { Answers (λ _. environment known.new) result (spec.variables_of_group marked (group_of group.now) (environment known.old)) }
+    ensures exporting { IsTrue marked → IsTrue (in_module known.new.scopes) }
+    ensures proper { OnOk result (Proper (environment known.new)) }
+    ensures depth { length known.new.scopes ≡ length known.old.scopes }
+{
+    let of = known.type_named(&group.type_name)?;
+    variable_decl(known, alloc, marked, of, &group.first)?;
+    for name in group.more.items() {
+        variable_decl(known, alloc, marked, of, name)?;
+    }
+    Ok(())
+}
+
+/// A declaration of variables.
+pub fn var_list(
+    known: &mut Known,
+    alloc: Global,
+    marked: bool,
+    list: &VarList,
+) -> Result<(), StaticFault>
+    requires exporting { IsTrue marked → IsTrue (in_module known.old.scopes) }
+    requires proper { Proper (environment known.old) }
+    ensures exact { Answers (λ _. environment known.new) result (spec.var_list marked (var_list_of list.now) (environment known.old)) }
+    ensures exporting { IsTrue marked → IsTrue (in_module known.new.scopes) }
+    ensures proper { OnOk result (Proper (environment known.new)) }
+    ensures depth { length known.new.scopes ≡ length known.old.scopes }
+{
+    variable_group(known, alloc, marked, &list.first)?;
+    for group in list.more.items() {
+        variable_group(known, alloc, marked, group)?;
+    }
+    Ok(())
+}

@@ -1,0 +1,4 @@
+pub mod Places
+pub mod Once
+pub mod Waiting
+pub mod Stopping

@@ -1,0 +1,9 @@
+use Rattle.std.proofs.Common.{◌≡◌, true, false}
+use Rattle.edi_system.proofs.system.System.print_out.Goals as goal
+
+pub returns-in-Failed-clause-prints : goal.returns-in-Failed-clause-prints
+returns-in-Failed-clause-prints g c = record {
+  taken = c.put.result.taken;
+  part = record { within = c.put.ensures.within; all = λ e. absurd (let no : false ≡ true = e in cc) };
+  told = c.put.ensures.appends;
+}

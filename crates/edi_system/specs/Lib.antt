@@ -1,0 +1,4 @@
+pub mod State
+pub mod Buffers
+pub mod Ends
+pub mod Parts

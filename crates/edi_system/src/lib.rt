@@ -1,0 +1,11 @@
+//! The system that a program and the shell see, over a drive with files, an input, a terminal and a printer.
+#![tactic(auto)]
+
+mod buffer;
+mod ends;
+mod reading;
+mod streams;
+mod system;
+mod writing;
+
+pub use system::System;

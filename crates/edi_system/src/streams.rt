@@ -1,0 +1,160 @@
+//! The input, the terminal and the printer.
+
+ghost use Rattle.std.specs.Prelude.{◌≡◌, ◌%◌, true, false, not, [], ◌∷◌};
+ghost use Rattle.edi_told.specs.Told.{WhereTold};
+ghost use Rattle.edi_host.specs.Streams.{Takes, next_fault};
+ghost use Rattle.edi_calls.specs.Calls.{accept, display, print};
+ghost use Rattle.edi_system.specs.State.{due_in, input_in, state_of, IsReady};
+ghost use Rattle.edi_system.specs.Ends.{is_fault, Keeps, Reaches};
+ghost use Rattle.edi_system.specs.Parts.{due_after, line_end, OnlyInput, OnlyPrinter, OnlyTerminal, Prints, PrintsMore, Shows, ShowsMore};
+
+use crate::ends::Stop;
+use crate::system::System;
+use edi_calls::Outside;
+use edi_host::{Drive, Next, PutEnd, Sink, Source};
+
+const LINE_FEED: u8 = 10;
+
+/// The character that stands for the end of the input and of a file.
+pub(crate) const END_OF_TEXT: u8 = 25;
+
+/// A word as a character.
+pub(crate) fn character(word: u16) -> u8
+    ensures { result ≡ word % 128 }
+{
+    (word % 128) as u8
+}
+
+// Whether a line that was begun is not ended, after these bytes were shown.
+fn due_after(due: bool, shown: &[u8]) -> bool
+    ensures { result ≡ due_after due shown.now }
+{
+    match shown.last() {
+        Some(byte) => *byte != LINE_FEED,
+        None => due,
+    }
+}
+
+impl<'a, D: Drive, S: Source, T: Sink, P: Sink> System<'a, D, S, T, P> {
+    /// The next byte of the input.
+    pub fn take(&mut self) -> Next
+        requires ready { IsReady D.held D.count self.old }
+        ensures takes { WhereTold (S.left (input_in self.old)) (S.left (input_in self.new)) (Takes result) }
+        ensures only { OnlyInput self.old self.new }
+        ensures ready { next_fault result ≡ false → IsReady D.held D.count self.new }
+        ensures keeps { Keeps D.faults S.faults T.faults P.faults (next_fault result) self.old self.new }
+    {
+        match self.input.next() {
+            Next::Byte(byte) => Next::Byte(byte),
+            Next::End => Next::End,
+            Next::Failed => {
+                self.failed = Some(Outside::Input);
+                Next::Failed
+            }
+        }
+    }
+
+    /// Shows these bytes, and tells whether the terminal has taken them all. Where it has failed it has taken a first part of
+    /// them, perhaps all.
+    pub fn show(&mut self, bytes: &[u8]) -> bool
+        requires ready { IsReady D.held D.count self.old }
+        ensures shows { Shows T.taken result bytes.now self.old self.new }
+        ensures exact { WhereTold (state_of D.held S.left T.taken P.taken self.old) (state_of D.held S.left T.taken P.taken self.new)
+            (ShowsMore result bytes.now) }
+        ensures only { OnlyTerminal self.old self.new }
+        ensures ready { result ≡ true → IsReady D.held D.count self.new }
+        ensures keeps { Keeps D.faults S.faults T.faults P.faults (not result) self.old self.new }
+    {
+        let put = self.terminal.put(bytes);
+        self.due = due_after(self.due, &bytes[..put.taken]);
+        match put.end {
+            PutEnd::Ok => true,
+            PutEnd::Failed => {
+                self.failed = Some(Outside::Terminal);
+                false
+            }
+        }
+    }
+
+    /// Prints these bytes, and tells whether the printer has taken them all. Where it has failed it has taken a first part of
+    /// them, perhaps all.
+    pub fn print_out(&mut self, bytes: &[u8]) -> bool
+        requires ready { IsReady D.held D.count self.old }
+        ensures prints { Prints P.taken result bytes.now self.old self.new }
+        ensures exact { WhereTold (state_of D.held S.left T.taken P.taken self.old) (state_of D.held S.left T.taken P.taken self.new)
+            (PrintsMore result bytes.now) }
+        ensures only { OnlyPrinter self.old self.new }
+        ensures ready { result ≡ true → IsReady D.held D.count self.new }
+        ensures keeps { Keeps D.faults S.faults T.faults P.faults (not result) self.old self.new }
+    {
+        match self.printer.put(bytes).end {
+            PutEnd::Ok => true,
+            PutEnd::Failed => {
+                self.failed = Some(Outside::Printer);
+                false
+            }
+        }
+    }
+
+    /// Shows a line feed where a line was begun on the terminal and is not ended, and else nothing. It answers as `show`.
+    pub fn fresh_line(&mut self) -> bool
+        requires ready { IsReady D.held D.count self.old }
+        ensures shows { Shows T.taken result (line_end (due_in self.old)) self.old self.new }
+        ensures exact { WhereTold (state_of D.held S.left T.taken P.taken self.old) (state_of D.held S.left T.taken P.taken self.new)
+            (ShowsMore result (line_end (due_in self.old))) }
+        ensures only { OnlyTerminal self.old self.new }
+        ensures ready { result ≡ true → IsReady D.held D.count self.new }
+        ensures keeps { Keeps D.faults S.faults T.faults P.faults (not result) self.old self.new }
+    {
+        if self.due {
+            self.show(&[LINE_FEED])
+        } else {
+            true
+        }
+    }
+
+    /// The next byte of the input as a character.
+    pub(crate) fn accept(&mut self) -> Result<Option<u16>, Stop>
+        requires ready { IsReady D.held D.count self.old }
+        ensures exact { WhereTold (state_of D.held S.left T.taken P.taken self.old) (state_of D.held S.left T.taken P.taken self.new)
+            (λ before after. Reaches (accept before) result before after) }
+        ensures ready { is_fault result ≡ false → IsReady D.held D.count self.new }
+        ensures keeps { Keeps D.faults S.faults T.faults P.faults (is_fault result) self.old self.new }
+    {
+        match self.take() {
+            Next::Byte(byte) => Ok(Some(u16::from(byte % 128))),
+            Next::End => Ok(Some(u16::from(END_OF_TEXT))),
+            Next::Failed => Err(Stop::Fault),
+        }
+    }
+
+    /// Shows a character.
+    pub(crate) fn display(&mut self, word: u16) -> Result<Option<u16>, Stop>
+        requires ready { IsReady D.held D.count self.old }
+        ensures exact { WhereTold (state_of D.held S.left T.taken P.taken self.old) (state_of D.held S.left T.taken P.taken self.new)
+            (λ before after. Reaches (display word before) result before after) }
+        ensures ready { is_fault result ≡ false → IsReady D.held D.count self.new }
+        ensures keeps { Keeps D.faults S.faults T.faults P.faults (is_fault result) self.old self.new }
+    {
+        if self.show(&[character(word)]) {
+            Ok(None)
+        } else {
+            Err(Stop::Fault)
+        }
+    }
+
+    /// Prints a character.
+    pub(crate) fn print(&mut self, word: u16) -> Result<Option<u16>, Stop>
+        requires ready { IsReady D.held D.count self.old }
+        ensures exact { WhereTold (state_of D.held S.left T.taken P.taken self.old) (state_of D.held S.left T.taken P.taken self.new)
+            (λ before after. Reaches (print word before) result before after) }
+        ensures ready { is_fault result ≡ false → IsReady D.held D.count self.new }
+        ensures keeps { Keeps D.faults S.faults T.faults P.faults (is_fault result) self.old self.new }
+    {
+        if self.print_out(&[character(word)]) {
+            Ok(None)
+        } else {
+            Err(Stop::Fault)
+        }
+    }
+}

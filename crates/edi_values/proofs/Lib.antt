@@ -1,0 +1,9 @@
+pub mod Counts
+pub mod Making
+pub mod Behind
+pub mod Steps
+pub mod Alone
+pub mod Seen
+pub mod Loops
+pub mod Calls
+pub mod Fitted
