@@ -6,6 +6,8 @@ mod changes;
 #[cfg(test)]
 mod images;
 #[cfg(test)]
+mod migration;
+#[cfg(test)]
 mod storing;
 #[cfg(test)]
 mod titles;

@@ -1,8 +1,7 @@
 use Rattle.std.proofs.Common.{◌≡◌, ◌≤◌, true, refl, sym, subst, ap}
-use Rattle.std.specs.Prelude.{⊤}
 use Rattle.std.specs.List.{list_all}
 use Rattle.edi_catalog.specs.Image.{mount_fault_of}
-use Rattle.edi_catalog.specs.Reads.{Finds, IsFirst, failed}
+use Rattle.edi_catalog.specs.Reads.{IsFirst, failed}
 use Rattle.edi_catalog.specs.Stored.{is_stored}
 use Rattle.edi_catalog.proofs.Mounts.{still_settled, found_of, same_blocks, told_same_blocks, first_found}
 use Rattle.edi_catalog.proofs.checking.check.Goals as goal
