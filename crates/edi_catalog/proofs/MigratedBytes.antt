@@ -59,7 +59,7 @@ chunks_whole (b ∷ blocks) whole =
     ∙ ap (λ bs. b ∷ first_chunks 512 (length blocks) bs) (drop_at b (blocks_bytes blocks) 512 whole.0)
     ∙ ap (λ bs. b ∷ bs) (chunks_whole blocks whole.1)
 
-length-blocks_bytes : (blocks : List (List ℕ)) → AreBlocks blocks → length (blocks_bytes blocks) ≡ 512 * length blocks
+pub length-blocks_bytes : (blocks : List (List ℕ)) → AreBlocks blocks → length (blocks_bytes blocks) ≡ 512 * length blocks
 length-blocks_bytes [] whole = refl
 length-blocks_bytes (b ∷ blocks) whole =
     let later : length (blocks_bytes blocks) ≡ 512 * length blocks = length-blocks_bytes blocks whole.1 in
@@ -144,7 +144,7 @@ entry_of_blocks header bytes rest k h =
 
 -- ---- the blocks of the files
 
-pages_blocks : (old : List (List ℕ)) (pages : List ℕ) → AreFull old → list_all (is_data 5 (length old)) pages ≡ true
+pub pages_blocks : (old : List (List ℕ)) (pages : List ℕ) → AreFull old → list_all (is_data 5 (length old)) pages ≡ true
     → AreBlocks (map (block_at old) pages)
 unfolding AreFull
 pages_blocks old [] full h = tt

@@ -103,7 +103,7 @@ free_files : (old : List (List ℕ)) (n : ℕ) → map (option_map (file_of old)
 free_files old zero = refl
 free_files old (suc n) = ap (λ fs. None ∷ fs) (free_files old n)
 
-old_slots : (old : List (List ℕ)) → map (option_map (file_of old)) (old_files_of old) ≡ migrated_slots old
+pub old_slots : (old : List (List ℕ)) → map (option_map (file_of old)) (old_files_of old) ≡ migrated_slots old
 unfolding old_slots_of
 old_slots old =
     map-append (option_map (file_of old)) (map (stored_of old) (old_entries_of old)) (replicate 192 None)

@@ -17,7 +17,7 @@ use Rattle.edi_catalog.specs.Mounted.{IsKeptOf, IsMounted, disk_of, files_of}
 use Rattle.edi_catalog.specs.declared.catalog.Catalog.{Catalog}
 use Rattle.std.specs.List.{list_all}
 use Rattle.edi_catalog.specs.Stored.{stored_of, is_stored}
-use Rattle.edi_catalog.specs.Reads.{Checks, Finds, IsFirst}
+use Rattle.edi_catalog.specs.Reads.{Checks, Finds, IsFirst, is_drive_fault}
 use Rattle.edi_catalog.proofs.FileRules.{goes_on, breaks_early}
 
 -- ---- the rules of an image
@@ -135,6 +135,23 @@ found_of held count faults a b P settled checks blocks e =
     let there : shown held b ≡ Some blocks = sym (still_settled held count faults a b P settled checks) ∙ e in
     let now : (shown held a ≡ Some blocks) × P blocks = told_now (shown held a) (shown held b) P (checks.shows refl) blocks there in
     (settled ∙ now.0, now.1)
+
+-- a fault of the image is that of the drive's blocks
+pub first_found : {D : Type 0} (held : D → Option (List (List ℕ))) (count faults : D → ℕ) (e : MountFault) (a b : Disk D)
+    → held (drive_of a) ≡ shown held a → Checks held count faults (is_drive_fault e) a b (λ blocks. IsFirst e (mount_fault_of blocks))
+    → (blocks : List (List ℕ)) → held (drive_of b) ≡ Some blocks → IsFirst e (mount_fault_of blocks)
+first_found held count faults fault.Short a b settled checks blocks told =
+    (found_of held count faults a b (λ bs. IsFirst fault.Short (mount_fault_of bs)) settled checks blocks told).1
+first_found held count faults fault.Header a b settled checks blocks told =
+    (found_of held count faults a b (λ bs. IsFirst fault.Header (mount_fault_of bs)) settled checks blocks told).1
+first_found held count faults (fault.Entry s) a b settled checks blocks told =
+    (found_of held count faults a b (λ bs. IsFirst (fault.Entry s) (mount_fault_of bs)) settled checks blocks told).1
+first_found held count faults (fault.Page s n) a b settled checks blocks told =
+    (found_of held count faults a b (λ bs. IsFirst (fault.Page s n) (mount_fault_of bs)) settled checks blocks told).1
+first_found held count faults (fault.Shared n) a b settled checks blocks told =
+    (found_of held count faults a b (λ bs. IsFirst (fault.Shared n) (mount_fault_of bs)) settled checks blocks told).1
+first_found held count faults fault.Fault a b settled checks blocks told = tt
+first_found held count faults fault.NoMemory a b settled checks blocks told = tt
 
 -- a catalogue whose disk was only read
 pub still_mounted : {D : Type 0} (held : D → Option (List (List ℕ))) (count faults : D → ℕ) (one other : Catalog D) (P : List (List ℕ) → Type 0)

@@ -1,5 +1,6 @@
 pub mod Build
 pub mod Changes
+pub mod Checked
 pub mod Ends
 pub mod Entries
 pub mod Files

@@ -2,7 +2,7 @@
 -- file, its map and then its pages.
 use Rattle.std.specs.Prelude.{◌≡◌, ℕ, ◌+◌, ◌-◌, ◌<◌, ◌≤◌, Bool, true, false, drop, List, [], ◌∷◌, ◌++◌, map, flat_map, length, Option, Some, None, ⊤}
 use Rattle.std.specs.Option.{option_map}
-use Rattle.std.specs.List.{range_with_len}
+use Rattle.std.specs.List.{list_all, range_with_len}
 use Rattle.edi_catalog.specs.declared.faults.MountFault.{MountFault}
 use Rattle.edi_catalog.specs.declared.faults.MountFault.TheVariants as fault
 use Rattle.edi_host.specs.declared.drive.DriveEnd.{DriveEnd}
@@ -12,9 +12,8 @@ use Rattle.edi_catalog.specs.Entries.{block_at}
 use Rattle.edi_catalog.specs.Build.{map_block}
 use Rattle.edi_catalog.specs.Image.{header_block, Holds}
 use Rattle.edi_catalog.specs.OldImage.{old_fault_of}
-use Rattle.edi_catalog.specs.OldFiles.{migrated_slots, old_files_of}
+use Rattle.edi_catalog.specs.OldFiles.{is_old_stored, migrated_slots, old_files_of}
 use Rattle.edi_catalog.specs.Stored.{StoredFile}
-use Rattle.edi_catalog.specs.Files.{blocks_taken}
 use Rattle.edi_catalog.specs.Writing.{bytes_of_slot}
 use Rattle.edi_catalog.specs.declared.migrating.MigrateEnd.{MigrateEnd}
 use Rattle.edi_catalog.specs.declared.migrating.MigrateEnd.TheVariants as end
@@ -88,19 +87,38 @@ abbrev pub BlocksLeave : DriveEnd → (blocks before after : List (List ℕ)) �
 BlocksLeave drive.Ok blocks before after = length blocks ≤ length before → after ≡ blocks ++ drop (length blocks) before
 BlocksLeave drive.Failed blocks before after = ⊤
 
--- the files of an image have room in one of so many blocks
-abbrev pub HasRoom : (count : ℕ) → List (List ℕ) → Type 0
-HasRoom count old = (old_fault_of old ≡ None) × (blocks_taken (old_files_of old) + 33 ≤ count)
+-- the image is whole, and files that take so many blocks have room in one of `count`
+abbrev pub HasRoom : (count taken : ℕ) → List (List ℕ) → Type 0
+HasRoom count taken old = (old_fault_of old ≡ None) × (taken + 33 ≤ count)
 
--- why the image is refused, if it is: the first broken rule, and then want of room. A fault of the drive comes only later;
--- want of memory says nothing.
-abbrev pub MigrateAnswers : MigrateEnd → (count : ℕ) → List (List ℕ) → Type 0
-MigrateAnswers end.Ok count old = HasRoom count old
-MigrateAnswers (end.Image broken) count old = (old_fault_of old ≡ Some broken) × (is_image_fault broken ≡ true)
-MigrateAnswers (end.Full wanted free) count old =
-    (old_fault_of old ≡ None) × (wanted ≡ blocks_taken (old_files_of old)) × (free ≡ count - 33) × (free < wanted)
-MigrateAnswers end.Fault count old = HasRoom count old
-MigrateAnswers end.NoMemory count old = ⊤
+-- Why an image is refused whose files take so many blocks, if it is: the first broken rule, and then want of room. A fault of the
+-- drive comes only later; want of memory says nothing.
+abbrev pub MigrateAnswers : MigrateEnd → (count taken : ℕ) → List (List ℕ) → Type 0
+MigrateAnswers end.Ok count taken old = HasRoom count taken old
+MigrateAnswers (end.Image broken) count taken old = (old_fault_of old ≡ Some broken) × (is_image_fault broken ≡ true)
+MigrateAnswers (end.Full wanted free) count taken old =
+    (old_fault_of old ≡ None) × (wanted ≡ taken) × (free ≡ count - 33) × (free < wanted)
+MigrateAnswers end.Fault count taken old = HasRoom count taken old
+MigrateAnswers end.NoMemory count taken old = ⊤
+
+-- what is known of the files of an image that is whole
+abbrev pub AreStored : List (List ℕ) → Type 0
+AreStored old = list_all (is_old_stored (length old)) (old_files_of old) ≡ true
+
+abbrev pub IfFull : MigrateEnd → Type 0 → Type 0
+IfFull (end.Full wanted free) P = P
+IfFull end.Ok P = ⊤
+IfFull (end.Image broken) P = ⊤
+IfFull end.Fault P = ⊤
+IfFull end.NoMemory P = ⊤
+
+-- a refused image leaves the drive itself as it was
+abbrev pub MigrateTouches : {D : Type 0} → MigrateEnd → (before after : D) → Type 0
+MigrateTouches (end.Image broken) before after = after ≡ before
+MigrateTouches (end.Full wanted free) before after = after ≡ before
+MigrateTouches end.Ok before after = ⊤
+MigrateTouches end.Fault before after = ⊤
+MigrateTouches end.NoMemory before after = ⊤
 
 -- On Ok the drive has so many blocks, and they are an image with the old files under their numbers; nothing is known of the
 -- blocks after a fault, and else they are as they were.

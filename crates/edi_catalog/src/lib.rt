@@ -5,6 +5,7 @@ mod blocks;
 mod building;
 mod catalog;
 mod changes;
+mod checking;
 mod contents;
 mod ends;
 mod entries;
@@ -30,6 +31,7 @@ mod title;
 mod writing;
 
 pub use catalog::Catalog;
+pub use checking::{Checked, check, mount_checked};
 pub use ends::CatEnd;
 pub use entry::Entry;
 pub use faults::MountFault;

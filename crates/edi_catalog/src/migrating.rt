@@ -4,9 +4,11 @@ ghost use Rattle.std.specs.Prelude.{◌≡◌, ◌≤◌, ◌<◌, ◌+◌, ◌+
 ghost use Rattle.edi_told.specs.Faults.{Rose};
 ghost use Rattle.edi_told.specs.Told.{WhereTold};
 ghost use Rattle.edi_host.specs.Blocks.{blocks_of};
-ghost use Rattle.edi_catalog.specs.OldFiles.{is_old_stored, old_files_of};
-ghost use Rattle.std.specs.List.{list_all};
-ghost use Rattle.edi_catalog.specs.Migrated.{HasRoom, MigrateAnswers, MigrateCounts, MigrateLeaves, BlocksLeave, migrated_bytes, refusal, refuses};
+ghost use Rattle.edi_calls.specs.State as calls;
+ghost use Rattle.edi_catalog.specs.OldImage.{old_slots_of};
+ghost use Rattle.edi_catalog.specs.OldFiles.{old_files_of};
+ghost use Rattle.edi_catalog.specs.Files.{blocks_taken};
+ghost use Rattle.edi_catalog.specs.Migrated.{AreStored, HasRoom, IfFull, MigrateAnswers, MigrateCounts, MigrateLeaves, MigrateTouches, BlocksLeave, migrated_bytes, refusal, refuses};
 
 use crate::blocks::BLOCK;
 use crate::building::image_bytes;
@@ -54,9 +56,8 @@ fn new_image(alloc: Global, count: u32, old: &[[u8; BLOCK]]) -> Result<Vec<u8>, 
     requires least { 64 ≤ count }
     requires most { count ≤ 4096 }
     ensures { MatchResult result
-        (λ bytes. HasRoom count old.now × (bytes.items ≡ migrated_bytes old.now count (old_files_of old.now))
-        × (list_all (is_old_stored (length old.now)) (old_files_of old.now) ≡ true))
-        (λ end. (refuses end ≡ true) × MigrateAnswers end count old.now) }
+        (λ bytes. HasRoom count (blocks_taken (old_files_of old.now)) old.now × (bytes.items ≡ migrated_bytes old.now count (old_files_of old.now)) × AreStored old.now)
+        (λ end. (refuses end ≡ true) × MigrateAnswers end count (blocks_taken (old_files_of old.now)) old.now × IfFull end (AreStored old.now)) }
 {
     let files = match read_old_image(alloc, old) {
         Ok(files) => files,
@@ -99,7 +100,8 @@ fn write_blocks<D: Drive>(drive: &mut D, blocks: &[[u8; BLOCK]]) -> DriveEnd
 pub fn migrate<D: Drive>(alloc: Global, drive: &mut D, blocks: u32, old: &[u8]) -> MigrateEnd
     requires least { 64 ≤ blocks }
     requires most { blocks ≤ 4096 }
-    ensures answers { MigrateAnswers result blocks (blocks_of old.now) }
+    ensures answers { MigrateAnswers result blocks (calls.blocks_taken (old_slots_of (blocks_of old.now))) (blocks_of old.now) }
+    ensures untouched { MigrateTouches result drive.old drive.new }
     ensures leaves { WhereTold (D.held drive.old) (D.held drive.new) (MigrateLeaves result blocks (blocks_of old.now)) }
     ensures count { MigrateCounts result blocks (D.count drive.old) (D.count drive.new) }
     ensures later { D.faults drive.old ≤ D.faults drive.new }

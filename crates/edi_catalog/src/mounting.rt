@@ -69,8 +69,8 @@ pub(crate) fn free_slots(alloc: Global, count: u32) -> Result<Vec<Option<StoredF
     Ok(files)
 }
 
-// Checks the image of a disk, and gives what is kept of its slots.
-fn read_image<D: Drive>(
+/// Checks the image of a disk, and gives what is kept of its slots.
+pub(crate) fn read_image<D: Drive>(
     alloc: Global,
     disk: &mut Disk<'_, D>,
 ) -> Result<Vec<Option<StoredFile>>, MountFault>
