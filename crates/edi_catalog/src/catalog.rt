@@ -1,6 +1,6 @@
 //! The catalogue of a disk.
 
-ghost use Rattle.std.specs.Prelude.{◌≡◌, ◌≤◌, ◌<◌, ◌+◌, ◌-◌, ◌↔◌, ◌⊎◌, None, Some, Err, IfOk, IfSome, length, slice_index_or};
+ghost use Rattle.std.specs.Prelude.{◌≡◌, ◌≤◌, ◌<◌, ◌+◌, ◌-◌, ◌↔◌, ◌⊎◌, None, Some, Err, IfErr, IfOk, IfSome, length, slice_index_or};
 ghost use Rattle.std.specs.Option.{option_map};
 ghost use Rattle.edi_told.specs.Faults.{Rose};
 ghost use Rattle.edi_told.specs.Told.{WhereTold};
@@ -68,6 +68,7 @@ impl<'a, D: Drive> Catalog<'a, D> {
         requires mounted { IsMounted D.held D.count self.old }
         requires page { IfSome (file_titled title.now (files_of self.old)) (λ file. i < pages_of file.record_.length) }
         ensures no_such { (result ≡ Err CatEnd.NoSuch) ↔ (file_titled title.now (files_of self.old) ≡ None) }
+        ensures refusals { IfErr result (λ why. (why ≡ CatEnd.NoSuch) ⊎ (why ≡ CatEnd.Fault)) }
         ensures files { files_of self.new ≡ files_of self.old }
         ensures mounted { result ≡ Err CatEnd.Fault ⊎ IsMounted D.held D.count self.new }
         ensures reads { WhereTold (D.held (drive_of (disk_of self.old))) (D.held (drive_of (disk_of self.new)))
@@ -95,6 +96,7 @@ impl<'a, D: Drive> Catalog<'a, D> {
         requires room { MOST_BYTES ≤ length into.old }
         ensures no_such { (result ≡ Err CatEnd.NoSuch) ↔ (file_titled title.now (files_of self.old) ≡ None) }
         ensures length { IfOk result (λ n. option_map (λ file. file.record_.length) (file_titled title.now (files_of self.old)) ≡ Some n) }
+        ensures refusals { IfErr result (λ why. (why ≡ CatEnd.NoSuch) ⊎ (why ≡ CatEnd.Fault)) }
         ensures files { files_of self.new ≡ files_of self.old }
         ensures mounted { result ≡ Err CatEnd.Fault ⊎ IsMounted D.held D.count self.new }
         ensures reads { WhereTold (D.held (drive_of (disk_of self.old))) (D.held (drive_of (disk_of self.new)))

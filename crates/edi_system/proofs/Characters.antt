@@ -35,6 +35,7 @@ display_torn before after c n h now = record {
 } where
   shown_now : after.shown ≡ before.shown ++ take n (c ∷ [])
   shown_now = ap (λ (x : State). x.shown) now
+
   go : (take n (c ∷ []) ≡ []) ⊎ (take n (c ∷ []) ≡ c ∷ []) → (after.shown ≡ before.shown) ⊎ (after.shown ≡ before.shown ++ c ∷ [])
   go (inl e) = inl (shown_now ∙ ap (λ x. before.shown ++ x) e ∙ append-nil before.shown)
   go (inr e) = inr (shown_now ∙ ap (λ x. before.shown ++ x) e)
@@ -50,6 +51,7 @@ print_torn before after c n h now = record {
 } where
   printed_now : after.printed ≡ before.printed ++ take n (c ∷ [])
   printed_now = ap (λ (x : State). x.printed) now
+
   go : (take n (c ∷ []) ≡ []) ⊎ (take n (c ∷ []) ≡ c ∷ []) → (after.printed ≡ before.printed) ⊎ (after.printed ≡ before.printed ++ c ∷ [])
   go (inl e) = inl (printed_now ∙ ap (λ x. before.printed ++ x) e ∙ append-nil before.printed)
   go (inr e) = inr (printed_now ∙ ap (λ x. before.printed ++ x) e)

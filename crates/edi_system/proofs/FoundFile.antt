@@ -42,7 +42,7 @@ pub finds_told : {D S T P : Type 0} (held : D → Option (List (List ℕ))) (cou
     (before : System D S T P) (words : List ℕ) (found : Option Reading) (word : ℕ)
     → IsMounted held count (catalog_in before) → found ≡ text_spelled words (files_of (catalog_in before)) → word ≡ word_of (is_some found)
     → WhereTold (state_of held left shown printed before) (state_of held left shown printed (record before { found = found }))
-      (λ b a. Reaches (find words b) (Ok (Some word)) b a)
+    (λ b a. Reaches (find words b) (Ok (Some word)) b a)
 finds_told held count left shown printed before words found word mounted is answer =
     told_together (state_with before) (state_with (record before { found = found })) _ _ _ _ _ _ _ _
     (λ old new. (new ≡ old) × IsKeptOf old (files_of (catalog_in before))) (λ x y. y ≡ x) (λ x y. y ≡ x) (λ x y. y ≡ x)
@@ -51,12 +51,12 @@ finds_told held count left shown printed before words found word mounted is answ
     (told_same (left (input_in before)) (left (input_in before)) refl) (told_same (shown (terminal_in before)) (shown (terminal_in before)) refl)
     (told_same (printed (printer_in before)) (printed (printer_in before)) refl)
     (λ b b' i i' s s' p p' eb ei es ep.
-        (let same = spelled before b i s p words eb.1 in
-        let now : option_and_then (found_in (state_with before b i s p)) (title_of words) ≡ option_map found_of found = same ∙ ap (option_map found_of) (sym is) in (
-          ap (λ w. w ∷ []) (answer ∙ ap word_of (sym (is_some_map found_of found) ∙ ap is_some (sym now))),
-          state_open (record before { found = found }) (record before { found = found }) b b' i i' s s' p p' refl refl eb.0 ei es ep
+    (let same = spelled before b i s p words eb.1 in
+    let now : option_and_then (found_in (state_with before b i s p)) (title_of words) ≡ option_map found_of found = same ∙ ap (option_map found_of) (sym is) in (
+      ap (λ w. w ∷ []) (answer ∙ ap word_of (sym (is_some_map found_of found) ∙ ap is_some (sym now))),
+      state_open (record before { found = found }) (record before { found = found }) b b' i i' s s' p p' refl refl eb.0 ei es ep
           ∙ ap (λ x. record (state_with before b i s p) { found = x }) (sym now),
-        )))
+    )))
 
 pub found_ready : {D S T P : Type 0} (held : D → Option (List (List ℕ))) (count : D → ℕ) (before : System D S T P) (words : List ℕ) (found : Option Reading)
     → IsReady held count before → found ≡ text_spelled words (files_of (catalog_in before)) → IsReady held count (record before { found = found })

@@ -90,9 +90,9 @@ byte_some held count catalog page reading blocks mounted r below read told =
     let last : suc (reading.position / 512) ≡ reading.pages = omega (arith, r.least, read) in
     let has = r.pages_ blocks told in
     let there = subst (λ o. IfSome o (λ (file : StoredFile). i < length file.pages)) r.there
-        (page_inside (count (drive_of (disk_of catalog))) reading.title (files_of catalog) i mounted.stored
-        (subst (λ o. IfSome o (λ (file : StoredFile). i < pages_of file.record_.length)) (sym r.there)
-        (few reading.position r.file.record_.length (subst (λ n. reading.position < n) (sym r.length_) below)))) in
+    (page_inside (count (drive_of (disk_of catalog))) reading.title (files_of catalog) i mounted.stored
+    (subst (λ o. IfSome o (λ (file : StoredFile). i < pages_of file.record_.length)) (sym r.there)
+    (few reading.position r.file.record_.length (subst (λ n. reading.position < n) (sym r.length_) below)))) in
     byte_of blocks reading.title (files_of catalog) r.file reading.position (mounted.image blocks told) r.there
     ∙ byte_at (block_at blocks) r.file.pages r.file.record_.length reading.position i page
     (λ j h. has.whole j (subst (λ n. j < n) last h)) refl there (subst (λ n. reading.position < n) (sym r.length_) below) (has.last i last)
@@ -123,7 +123,7 @@ one_page_more blocks pages read page page' has long is = record {
 pub page_read : {D X : Type 0} (E : Type 0) (held : D → Option (List (List ℕ))) (x : X) (before after : Catalog D) (page page' : List ℕ) (reading : Reading)
     → IsReading held before page reading → reading.pages ≤ reading.position / 512 → files_of after ≡ files_of before → length page' ≡ 512
     → WhereTold (held (drive_of (disk_of before))) (held (drive_of (disk_of after)))
-      (λ old new. (new ≡ old) × PageIs {X = X} {E = E} (Ok x) (file_titled reading.title (files_of before)) reading.pages page' old)
+    (λ old new. (new ≡ old) × PageIs {X = X} {E = E} (Ok x) (file_titled reading.title (files_of before)) reading.pages page' old)
     → IsReading held after page' (record reading { pages = reading.pages + 1 })
 page_read {D} {X} E held x before after page page' reading r behind same long reads = record {
   file = r.file;
@@ -135,9 +135,9 @@ page_read {D} {X} E held x before after page page' reading r behind same long re
   most = omega (arith, r.most);
   pages_ = λ blocks told.
       (let now = told_now (held (drive_of (disk_of before))) (held (drive_of (disk_of after)))
-        (PageIs {X = X} {E = E} (Ok x) (file_titled reading.title (files_of before)) reading.pages page') reads blocks told in
+      (PageIs {X = X} {E = E} (Ok x) (file_titled reading.title (files_of before)) reading.pages page') reads blocks told in
       one_page_more blocks r.file.pages reading.pages page page' (r.pages_ blocks now.0) long
-          (subst (λ o. PageIs {X = X} {E = E} (Ok x) o reading.pages page' blocks) r.there now.1));
+      (subst (λ o. PageIs {X = X} {E = E} (Ok x) o reading.pages page' blocks) r.there now.1));
 }
 
 -- the page of a position is one of the file's
@@ -169,6 +169,7 @@ text_ready held catalog page title = go (file_titled title (files_of catalog)) r
     pages_ = λ blocks told. record { whole = λ i h. absurd (omega arith); last = λ i h. absurd (omega arith) };
   }
   by_kind file there kind.Code text = tt
+
   go : (o : Option StoredFile) → file_titled title (files_of catalog) ≡ o → IfSome (text_of title (option_map entry_of o)) (IsReading held catalog page)
   go None there = tt
   go (Some file) there = by_kind file there file.record_.kind refl
@@ -181,6 +182,7 @@ text_found blocks title files kept = ap (option_and_then (found_as title)) (file
       → (if is_text k then Some (record { title = title; position = 0 }) else None) ≡ option_map found_of (if is_text k then Some (begun title length) else None)
   by_kind length kind.Text = refl
   by_kind length kind.Code = refl
+
   go : (o : Option StoredFile) → option_and_then (found_as title) (option_map (file_of blocks) o) ≡ option_map found_of (text_of title (option_map entry_of o))
   go None = refl
   go (Some file) = by_kind file.record_.length file.record_.kind

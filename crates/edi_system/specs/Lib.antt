@@ -3,3 +3,4 @@ pub mod Buffers
 pub mod Ends
 pub mod Parts
 pub mod Reading
+pub mod Catalogue

@@ -3,6 +3,7 @@
 
 mod buffer;
 mod ends;
+mod files;
 mod finding;
 mod reading;
 mod streams;

@@ -1,0 +1,180 @@
+//! The calls of the catalogue, on a system.
+
+ghost use Rattle.std.specs.Prelude.{◌≡◌, ◌≤◌, ◌<◌, ◌+◌, ◌-◌, ◌^◌, ◌↔◌, true, false, None, Some, Err, IfOk, IfSome, length, slice_index_or};
+ghost use Rattle.std.specs.Option.{option_map};
+ghost use Rattle.edi_told.specs.Told.{WhereTold};
+ghost use Rattle.edi_calls.specs.State.{most_bytes, pages_of};
+ghost use Rattle.edi_catalog.specs.Changes.{Changes, deleted, kept_changed, kept_renamed, file_renamed, not_deleted, not_renamed, slots_changed};
+ghost use Rattle.edi_catalog.specs.Storing.{StoreChanges, blocks_free, not_stored};
+ghost use Rattle.edi_catalog.specs.Files.{entry_of, file_titled, blocks_taken, FileIs, PageIs};
+ghost use Rattle.edi_catalog.specs.Mounted.{files_of};
+ghost use Rattle.edi_system.specs.State.{catalog_in, drive_in, IsReady};
+ghost use Rattle.edi_system.specs.Ends.{Keeps};
+ghost use Rattle.edi_system.specs.Catalogue.{failed_at, is_drive_fault, is_refused, IsClosed, OnlyCatalog, OnlyFiles, OpenStays};
+
+use crate::system::{PAGE, System};
+use edi_calls::{FileKind, Outside};
+use edi_catalog::{CatEnd, Entry, Title};
+use edi_host::{Drive, Sink, Source};
+
+// The object that has failed in a call of the catalogue.
+fn failed_at<X>(answer: &Result<X, CatEnd>) -> Option<Outside>
+    ensures { result ≡ failed_at answer.now }
+{
+    match answer {
+        Err(CatEnd::Fault) => Some(Outside::Drive),
+        Err(CatEnd::NoSuch) => None,
+        Err(CatEnd::Taken) => None,
+        Err(CatEnd::Protected) => None,
+        Err(CatEnd::TooLarge(_)) => None,
+        Err(CatEnd::CatalogFull) => None,
+        Err(CatEnd::Full { .. }) => None,
+        Ok(_) => None,
+    }
+}
+
+// The call is refused for a named reason.
+fn is_refused<X>(answer: &Result<X, CatEnd>) -> bool
+    ensures { result ≡ is_refused answer.now }
+{
+    match answer {
+        Err(CatEnd::Fault) => false,
+        Err(CatEnd::NoSuch) => true,
+        Err(CatEnd::Taken) => true,
+        Err(CatEnd::Protected) => true,
+        Err(CatEnd::TooLarge(_)) => true,
+        Err(CatEnd::CatalogFull) => true,
+        Err(CatEnd::Full { .. }) => true,
+        Ok(_) => false,
+    }
+}
+
+impl<'a, D: Drive, S: Source, T: Sink, P: Sink> System<'a, D, S, T, P> {
+    /// The file with this title; `None` exactly where no file has it.
+    pub fn find(&self, title: &Title) -> Option<Entry>
+        ensures exact { result ≡ option_map entry_of (file_titled title.now (files_of (catalog_in self.now))) }
+    {
+        self.catalog.find(title)
+    }
+
+    /// The file in a slot; `None` exactly where the slot is free, or there is none of this number.
+    pub fn slot(&self, i: usize) -> Option<Entry>
+        ensures exact { result ≡ option_map entry_of (slice_index_or (files_of (catalog_in self.now)) i None) }
+    {
+        self.catalog.slot(i)
+    }
+
+    /// The number of free blocks.
+    pub fn free(&self) -> u32
+        requires ready { IsReady D.held D.count self.now }
+        ensures exact { result ≡ D.count (drive_in self.now) - (33 + blocks_taken (files_of (catalog_in self.now))) }
+    {
+        self.catalog.free()
+    }
+
+    /// Reads page `i` of a file, which has more than `i` pages, where a file has the title. What stands in `into` beyond the
+    /// file's length is open. The one refusal is `NoSuch`.
+    pub fn read_page(&mut self, title: &Title, i: u32, into: &mut [u8; PAGE]) -> Result<(), CatEnd>
+        requires ready { IsReady D.held D.count self.old }
+        requires page { IfSome (file_titled title.now (files_of (catalog_in self.old))) (λ file. i < pages_of file.record_.length) }
+        ensures no_such { (result ≡ Err CatEnd.NoSuch) ↔ (file_titled title.now (files_of (catalog_in self.old)) ≡ None) }
+        ensures files { files_of (catalog_in self.new) ≡ files_of (catalog_in self.old) }
+        ensures reads { WhereTold (D.held (drive_in self.old)) (D.held (drive_in self.new))
+            (λ old new. (new ≡ old) × PageIs result (file_titled title.now (files_of (catalog_in self.old))) i into.new old) }
+        ensures only { OnlyCatalog self.old self.new }
+        ensures ready { is_drive_fault result ≡ false → IsReady D.held D.count self.new }
+        ensures keeps { Keeps D.faults S.faults T.faults P.faults (is_drive_fault result) self.old self.new }
+    {
+        let answer = self.catalog.read_page(title, i, into);
+        self.failed = failed_at(&answer);
+        answer
+    }
+
+    /// Reads a whole file into `into`, which has room for 261,120 bytes, and gives the number of its bytes. What stands in
+    /// `into` beyond them is open. The one refusal is `NoSuch`.
+    pub fn read_into(&mut self, title: &Title, into: &mut [u8]) -> Result<u32, CatEnd>
+        requires ready { IsReady D.held D.count self.old }
+        requires room { most_bytes ≤ length into.old }
+        ensures no_such { (result ≡ Err CatEnd.NoSuch) ↔ (file_titled title.now (files_of (catalog_in self.old)) ≡ None) }
+        ensures length { IfOk result (λ n. option_map (λ file. file.record_.length) (file_titled title.now (files_of (catalog_in self.old))) ≡ Some n) }
+        ensures files { files_of (catalog_in self.new) ≡ files_of (catalog_in self.old) }
+        ensures reads { WhereTold (D.held (drive_in self.old)) (D.held (drive_in self.new))
+            (λ old new. (new ≡ old) × FileIs result title.now into.new old) }
+        ensures only { OnlyCatalog self.old self.new }
+        ensures ready { is_drive_fault result ≡ false → IsReady D.held D.count self.new }
+        ensures keeps { Keeps D.faults S.faults T.faults P.faults (is_drive_fault result) self.old self.new }
+    {
+        let answer = self.catalog.read_into(title, into);
+        self.failed = failed_at(&answer);
+        answer
+    }
+
+    /// Stores fewer than 2^32 bytes as an unprotected file of this title, in place of an unprotected one, and drops the found
+    /// file and the buffer. A named refusal leaves them: in their order `Protected`; `TooLarge` with the number of bytes;
+    /// `CatalogFull`; `Full` with the blocks that the file would take and those that are free.
+    pub fn store(&mut self, title: &Title, kind: FileKind, bytes: &[u8]) -> Result<(), CatEnd>
+        requires ready { IsReady D.held D.count self.old }
+        requires size { length bytes.now < 2 ^ 32 }
+        ensures changes { StoreChanges D.held D.count D.faults result
+            (not_stored title.now (length bytes.now) (blocks_free (D.count (drive_in self.old)) (files_of (catalog_in self.old))) (files_of (catalog_in self.old)))
+            title.now kind bytes.now (catalog_in self.old) (catalog_in self.new) }
+        ensures stays { is_refused result ≡ true → OpenStays self.old self.new }
+        ensures closes { is_refused result ≡ false → IsClosed self.new }
+        ensures only { OnlyFiles self.old self.new }
+        ensures ready { is_drive_fault result ≡ false → IsReady D.held D.count self.new }
+        ensures keeps { Keeps D.faults S.faults T.faults P.faults (is_drive_fault result) self.old self.new }
+    {
+        let answer = self.catalog.store(title, kind, bytes);
+        self.failed = failed_at(&answer);
+        if is_refused(&answer) {
+            return answer;
+        }
+        self.found = None;
+        self.buffer.leave();
+        answer
+    }
+
+    /// Deletes the file with this title, and drops the found file and the buffer. A named refusal leaves them: in their order
+    /// `NoSuch`, `Protected`.
+    pub fn delete(&mut self, title: &Title) -> Result<(), CatEnd>
+        requires ready { IsReady D.held D.count self.old }
+        ensures changes { Changes D.held D.count D.faults result (not_deleted (file_titled title.now (files_of (catalog_in self.old))))
+            (kept_changed deleted title.now (files_of (catalog_in self.old))) (slots_changed deleted title.now) (catalog_in self.old) (catalog_in self.new) }
+        ensures stays { is_refused result ≡ true → OpenStays self.old self.new }
+        ensures closes { is_refused result ≡ false → IsClosed self.new }
+        ensures only { OnlyFiles self.old self.new }
+        ensures ready { is_drive_fault result ≡ false → IsReady D.held D.count self.new }
+        ensures keeps { Keeps D.faults S.faults T.faults P.faults (is_drive_fault result) self.old self.new }
+    {
+        let answer = self.catalog.delete(title);
+        self.failed = failed_at(&answer);
+        if is_refused(&answer) {
+            return answer;
+        }
+        self.found = None;
+        self.buffer.leave();
+        answer
+    }
+
+    /// Gives the file with the title `old` the title `new`, and drops the found file and the buffer. A named refusal leaves
+    /// them: in their order `NoSuch`, `Protected`, `Taken`, also where both titles are the same.
+    pub fn rename(&mut self, old: &Title, new: &Title) -> Result<(), CatEnd>
+        requires ready { IsReady D.held D.count self.old }
+        ensures changes { Changes D.held D.count D.faults result (not_renamed (file_titled old.now (files_of (catalog_in self.old))) (file_titled new.now (files_of (catalog_in self.old))))
+            (kept_changed (kept_renamed new.now) old.now (files_of (catalog_in self.old))) (slots_changed (file_renamed new.now) old.now) (catalog_in self.old) (catalog_in self.new) }
+        ensures stays { is_refused result ≡ true → OpenStays self.old self.new }
+        ensures closes { is_refused result ≡ false → IsClosed self.new }
+        ensures only { OnlyFiles self.old self.new }
+        ensures ready { is_drive_fault result ≡ false → IsReady D.held D.count self.new }
+        ensures keeps { Keeps D.faults S.faults T.faults P.faults (is_drive_fault result) self.old self.new }
+    {
+        let answer = self.catalog.rename(old, new);
+        self.failed = failed_at(&answer);
+        if is_refused(&answer) {
+            return answer;
+        }
+        self.found = None;
+        self.buffer.leave();
+        answer
+    }
+}
