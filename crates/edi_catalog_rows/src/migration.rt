@@ -31,12 +31,7 @@ fn entry_bytes(slot: Slot) -> [u8; 32] {
 
 // An image of 64 blocks with these entries in its first slots; block 5 is a map block of so many pages, from block 6 on, which
 // begin with a 7.
-fn image(
-    alloc: Global,
-    start: &[u8],
-    slots: &[Slot],
-    pages: u8,
-) -> Result<Vec<u8>, AllocError> {
+fn image(alloc: Global, start: &[u8], slots: &[Slot], pages: u8) -> Result<Vec<u8>, AllocError> {
     let mut bytes = Vec::from_slice(alloc, start)?;
     bytes.resize(512, 0)?;
     for slot in slots {
@@ -82,9 +77,17 @@ fn each_end_comes(rt: HostRuntime) -> Result<(), Fail> {
         let bytes = image(alloc, start, slots, pages)?;
         let mut drive = SteadyDrive::new(alloc, &[])?;
         if blocks == 64 {
-            assert_eq!(rt; migrate(alloc, &mut drive, 64, &bytes), expected, "{slots:?}");
+            assert_eq!(rt;
+                migrate(alloc, &mut drive, 64, &bytes),
+                expected,
+                "{slots:?}"
+            );
         } else {
-            assert_eq!(rt; migrate(alloc, &mut drive, 92, &bytes), expected, "{slots:?}");
+            assert_eq!(rt;
+                migrate(alloc, &mut drive, 92, &bytes),
+                expected,
+                "{slots:?}"
+            );
         }
         if expected != MigrateEnd::Ok {
             assert!(rt; drive.bytes().is_empty());
