@@ -26,3 +26,11 @@ choose P false m n h k = k
 pub ruled : {B : Type 0} (Q : B → Type 0) (b : Bool) (why : StaticKind) (line : ℕ) (f : Unit {0} → Judged B) → (b ≡ true → Gives Q (f tt)) → Gives Q (must b why line >>= f)
 ruled Q true why line f k = k refl
 ruled Q false why line f k = tt
+
+pub weaker : {A : Type 0} (P Q : A → Type 0) (m : Judged A) → ((a : A) → P a → Q a) → Gives P m → Gives Q m
+weaker P Q (gives a) f h = f a h
+weaker P Q (faults why line) f h = tt
+
+pub also : {A : Type 0} (P Q : A → Type 0) (m : Judged A) → Gives P m → Gives Q m → Gives (λ a. P a × Q a) m
+also P Q (gives a) h k = (h, k)
+also P Q (faults why line) h k = tt

@@ -15,15 +15,15 @@ use Rattle.edi_static.specs.Proper.{Proper, EntityFits, NumbersFit, NamesFit, Sc
 
 -- ---- lists of names
 
-names_fit : (P Q : Entity → Type 0) → ((e : Entity) → P e → Q e) → (names : List (List ℕ × Entity)) → NamesFit P names → NamesFit Q names
+pub names_fit : (P Q : Entity → Type 0) → ((e : Entity) → P e → Q e) → (names : List (List ℕ × Entity)) → NamesFit P names → NamesFit Q names
 names_fit P Q f [] h = tt
 names_fit P Q f (named ∷ names) h = (f named.1 h.0, names_fit P Q f names h.1)
 
-scopes_fit : (P Q : Entity → Type 0) → ((e : Entity) → P e → Q e) → (scopes : List Scope) → ScopesFit P scopes → ScopesFit Q scopes
+pub scopes_fit : (P Q : Entity → Type 0) → ((e : Entity) → P e → Q e) → (scopes : List Scope) → ScopesFit P scopes → ScopesFit Q scopes
 scopes_fit P Q f [] h = tt
 scopes_fit P Q f (scope ∷ outer) h = (names_fit P Q f scope.names h.0, scopes_fit P Q f outer h.1)
 
-outside_fit : (P : Entity → Type 0) (scopes : List Scope) → ScopesFit P scopes → ScopesFit P (outside scopes)
+pub outside_fit : (P : Entity → Type 0) (scopes : List Scope) → ScopesFit P scopes → ScopesFit P (outside scopes)
 outside_fit P [] h = h
 outside_fit P (scope ∷ outer) h = h.1
 
@@ -39,7 +39,7 @@ either : (P : Entity → Type 0) (o p : Option Entity) → IfSome o P → IfSome
 either P (Some e) p h k = h
 either P None p h k = k
 
-visible_fits : (P : Entity → Type 0) (scopes : List Scope) (name : List ℕ) → ScopesFit P scopes → IfSome (visible scopes name) P
+pub visible_fits : (P : Entity → Type 0) (scopes : List Scope) (name : List ℕ) → ScopesFit P scopes → IfSome (visible scopes name) P
 visible_fits P [] name h = tt
 visible_fits P (scope ∷ outer) name h =
     either P (meaning scope.names name) (visible outer name) (meaning_fits P scope.names name h.0) (visible_fits P outer name h.1)

@@ -16,7 +16,7 @@ use Rattle.edi_static.specs.Headings.{Listed, Headed, leave, next_parameter, pro
 use Rattle.edi_static.specs.Types.{enum_constant, enum_constants, enum_decl, most_constants, names_count}
 
 -- a change of the environment that stands before a construct can as well stand behind it
-chosen : (b : Bool) (why : StaticKind) (line : ℕ) (f : Environment → Environment) (x : Environment) → (if b then faults why line else gives (f x)) ≡ ((if b then faults why line else gives x) >>= λ e. gives (f e))
+pub chosen : (b : Bool) (why : StaticKind) (line : ℕ) (f : Environment → Environment) (x : Environment) → (if b then faults why line else gives (f x)) ≡ ((if b then faults why line else gives x) >>= λ e. gives (f e))
 chosen true why line f x = refl
 chosen false why line f x = refl
 

@@ -1,6 +1,7 @@
 pub mod Judged
 pub mod Environment
 pub mod Proper
+pub mod InRange
 pub mod Types
 pub mod Headings
 pub mod Operators
