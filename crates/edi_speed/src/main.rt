@@ -1,6 +1,6 @@
-//! How fast the kernel runs: `time edi_speed sums`, `calls` or `processes` runs a code of that kind for 20 million turns, which
-//! are 180 million instructions of sums, 20 million calls with their returns, or 50 million instructions of 31 processes that
-//! wait for one another. Without a word it runs each for a short time.
+//! How fast the kernel runs: `time edi_speed sums` runs 180 million instructions of sums (20 million turns), `calls` 20 million
+//! calls with their returns in a loop (60 million turns), and `processes` 50 million instructions of 31 processes, each of
+//! which gives up its turn at a `when` (20 million turns). Without a word it runs each for a short time.
 #![tactic(auto)]
 
 use edi_calls::MemoryCalls;
