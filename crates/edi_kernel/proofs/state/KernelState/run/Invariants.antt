@@ -10,7 +10,8 @@ abbrev pub invariant-rounds : goal.invariant-rounds
 invariant-rounds g l = record {
   kernel : IsKernel l.self;
   taken : IsSome l.self.taken;
-  working : g.C.Calls.failed l.calls ≡ None;
+  working : g.C.Calls.failed l.calls None;
+  references : g.C.Calls.references l.calls ≡ g.C.Calls.references l.initial.calls;
   used : l.self.used ≤ l.bound;
   source : l.choices.source ≡ l.initial.choices.source;
   drawn : l.choices.drawn + 1 ≤ l.initial.choices.drawn + l.self.used;
