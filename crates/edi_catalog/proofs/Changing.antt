@@ -12,17 +12,19 @@ use Rattle.edi_disk.proofs.Writing.{told, where_told}
 use Rattle.edi_catalog.specs.declared.ends.CatEnd.{CatEnd}
 use Rattle.edi_catalog.specs.declared.ends.CatEnd.TheVariants as cat
 use Rattle.edi_catalog.specs.declared.catalog.Catalog.{Catalog}
-use Rattle.edi_catalog.specs.Records.{FileRecord}
-use Rattle.edi_catalog.specs.Image.{slots_of}
-use Rattle.edi_catalog.specs.Stored.{StoredFile, is_record, is_stored, are_data, is_titled}
+use Rattle.edi_image.specs.Records.{FileRecord}
+use Rattle.edi_image.specs.Image.{slots_of}
+use Rattle.edi_image.specs.Stored.{StoredFile, is_record, is_stored, are_data, is_titled, IsKeptOf}
 use Rattle.edi_catalog.specs.Files.{find_place, file_titled}
-use Rattle.edi_catalog.specs.Mounted.{IsKeptOf, IsMounted, disk_of, files_of}
+use Rattle.edi_catalog.specs.Mounted.{IsMounted, disk_of, files_of}
 use Rattle.edi_catalog.specs.Changes.{Answers, BeforeOrAfter, Changes, Leaves, changed_at, kept_changed, not_deleted, not_renamed, slots_changed}
-use Rattle.edi_catalog.specs.Writing.{bytes_of_slot, is_protected, IsWritten, EntryLeaves, PutsEntry, kept_as, put_kept, file_as, put_file, IsRecordFor, IsRecordAt}
-use Rattle.edi_catalog.proofs.Spelled.{both}
+use Rattle.edi_image.specs.Bytes.{bytes_of_slot}
+use Rattle.edi_catalog.specs.Writing.{is_protected, IsWritten, EntryLeaves, PutsEntry, kept_as, put_kept, file_as, put_file, IsRecordFor, IsRecordAt}
+use Rattle.edi_image.proofs.Spelled.{both}
 use Rattle.edi_catalog.proofs.FilePlaces.{kept_at}
-use Rattle.edi_catalog.proofs.Told.{told_same}
-use Rattle.edi_catalog.proofs.WholeFiles.{file_of, slots_are, place_same}
+use Rattle.edi_image.proofs.Told.{told_same}
+use Rattle.edi_image.proofs.KeptFiles.{file_of, slots_are}
+use Rattle.edi_catalog.proofs.WholeFiles.{place_same}
 use Rattle.edi_catalog.proofs.Changed.{IsChangedTo, written_changes, put_stored, record_room}
 
 -- ---- a slot that is written

@@ -6,9 +6,9 @@ use Rattle.std.proofs.lemmas.List.{length-take-le}
 use Rattle.std.proofs.lemmas.List.Folds.{list_all-append}
 use Rattle.edi_calls.specs.State.{is_title, most_bytes, pages_of, blocks_of}
 use Rattle.edi_calls.specs.declared.kinds.FileKind.{FileKind}
-use Rattle.edi_catalog.specs.Records.{maps_of}
-use Rattle.edi_catalog.specs.Entries.{is_data}
-use Rattle.edi_catalog.specs.Stored.{StoredFile, are_data, is_record, is_stored}
+use Rattle.edi_image.specs.Records.{maps_of}
+use Rattle.edi_image.specs.Entries.{is_data}
+use Rattle.edi_image.specs.Stored.{StoredFile, are_data, is_record, is_stored}
 use Rattle.edi_catalog.specs.Plan.{used_in, AreFree}
 
 -- one or two maps

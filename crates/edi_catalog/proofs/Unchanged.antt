@@ -8,17 +8,16 @@ use Rattle.std.proofs.lemmas.List.Folds.{list_any-append}
 use Rattle.edi_disk.specs.Since.{Between}
 use Rattle.edi_disk.proofs.Since.{between_unput}
 use Rattle.edi_calls.specs.State.{pages_of}
-use Rattle.edi_catalog.specs.declared.faults.MountFault.TheVariants as fault
-use Rattle.edi_catalog.specs.declared.entries.Said.{Said}
-use Rattle.edi_catalog.specs.declared.entries.Said.TheVariants as said
-use Rattle.edi_catalog.specs.Records.{FileRecord}
-use Rattle.edi_catalog.specs.Rules.{needs, first_broken, is_in}
-use Rattle.edi_catalog.specs.Entries.{block_at, is_data, entry_says}
-use Rattle.edi_catalog.specs.Image.{header_rules, map_rules, maps_rules, entry_rules, slot_rules, titles_in, numbers_in, numbers_of, bytes_of, slot_in, said_at, entry_at, entries_from, entries_of, image_rules, mount_fault_of, slots_of}
-use Rattle.edi_catalog.specs.Stored.{StoredFile, stored_of, are_data}
-use Rattle.edi_catalog.specs.Mounted.{IsKeptOf}
+use Rattle.edi_image.specs.declared.faults.MountFault.TheVariants as fault
+use Rattle.edi_image.specs.declared.entries.Said.{Said}
+use Rattle.edi_image.specs.declared.entries.Said.TheVariants as said
+use Rattle.edi_image.specs.Records.{FileRecord}
+use Rattle.edi_image.specs.Rules.{needs, first_broken, is_in}
+use Rattle.edi_image.specs.Entries.{block_at, is_data, entry_says}
+use Rattle.edi_image.specs.Image.{header_rules, map_rules, maps_rules, entry_rules, slot_rules, titles_in, numbers_in, numbers_of, bytes_of, slot_in, said_at, entry_at, entries_from, entries_of, image_rules, mount_fault_of, slots_of}
+use Rattle.edi_image.specs.Stored.{StoredFile, stored_of, are_data, IsKeptOf}
 use Rattle.edi_catalog.specs.Plan.{used_in, blocks_used, AreFree}
-use Rattle.edi_catalog.proofs.Spelled.{both}
+use Rattle.edi_image.proofs.Spelled.{both}
 
 -- ---- numbers in lists
 

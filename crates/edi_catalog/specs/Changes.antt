@@ -5,8 +5,8 @@ use Rattle.edi_told.specs.Faults.{Rose}
 use Rattle.edi_told.specs.Told.{WhereTold}
 use Rattle.edi_disk.specs.Shown.{drive_of, reference_of}
 use Rattle.edi_calls.specs.State.{File, find_slot}
-use Rattle.edi_catalog.specs.Image.{Holds, slots_of}
-use Rattle.edi_catalog.specs.Stored.{StoredFile}
+use Rattle.edi_image.specs.Image.{Holds, slots_of}
+use Rattle.edi_image.specs.Stored.{StoredFile}
 use Rattle.edi_catalog.specs.Files.{find_place}
 use Rattle.edi_catalog.specs.Mounted.{IsMounted, disk_of, files_of}
 use Rattle.edi_catalog.specs.declared.catalog.Catalog.{Catalog}

@@ -10,9 +10,9 @@ use Rattle.edi_calls.specs.declared.kinds.FileKind.{FileKind}
 use Rattle.edi_catalog.specs.declared.ends.CatEnd.{CatEnd}
 use Rattle.edi_catalog.specs.declared.ends.CatEnd.TheVariants as cat
 use Rattle.edi_catalog.specs.declared.entry.Entry.{Entry}
-use Rattle.edi_catalog.specs.Stored.{StoredFile}
-use Rattle.edi_catalog.specs.Files.{blocks_taken, entry_of, file_titled, find_place}
-use Rattle.edi_catalog.specs.Image.{slots_of}
+use Rattle.edi_image.specs.Stored.{StoredFile, blocks_taken}
+use Rattle.edi_catalog.specs.Files.{entry_of, file_titled, find_place}
+use Rattle.edi_image.specs.Image.{slots_of}
 use Rattle.edi_catalog.specs.Mounted.{IsMounted, disk_of, files_of}
 use Rattle.edi_catalog.specs.declared.catalog.Catalog.{Catalog}
 use Rattle.edi_catalog.specs.Changes.{Leaves}

@@ -7,18 +7,16 @@ ghost use Rattle.edi_told.specs.Told.{WhereTold};
 ghost use Rattle.edi_disk.specs.Shown.{drive_of, reference_of};
 ghost use Rattle.edi_calls.specs.State.{pages_of};
 ghost use Rattle.edi_catalog.specs.Mounted.{IsMounted, disk_of, files_of};
-ghost use Rattle.edi_catalog.specs.Files.{entry_of, file_titled, blocks_taken, FileIs, PageIs};
+ghost use Rattle.edi_catalog.specs.Files.{entry_of, file_titled, FileIs, PageIs};
+ghost use Rattle.edi_image.specs.Stored.{blocks_taken};
 
-use crate::blocks::BLOCK;
 use crate::ends::CatEnd;
-use crate::entries::MOST_BYTES;
 use crate::entry::Entry;
-use crate::files::{blocks_taken, entry_in, page_of, place_of};
+use crate::files::{entry_in, page_of, place_of};
 use crate::reading::{block, read_stored};
-use crate::stored::StoredFile;
-use crate::title::Title;
 use edi_disk::Disk;
 use edi_host::Drive;
+use edi_image::{BLOCK, MOST_BYTES, StoredFile, Title, blocks_taken};
 
 /// The number of blocks of the catalogue of an image.
 const CATALOGUE: u32 = 33;

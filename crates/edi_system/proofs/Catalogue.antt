@@ -14,7 +14,7 @@ use Rattle.edi_catalog.specs.declared.entry.Entry.{Entry}
 use Rattle.edi_catalog.specs.Changes.{Answers, Leaves}
 use Rattle.edi_catalog.specs.Files.{file_titled}
 use Rattle.edi_catalog.specs.Mounted.{disk_of, files_of}
-use Rattle.edi_catalog.specs.Stored.{StoredFile}
+use Rattle.edi_image.specs.Stored.{StoredFile}
 use Rattle.edi_catalog.specs.Storing.{StoreAnswers}
 use Rattle.edi_system.specs.State.{drive_in, faults_of, input_in, printer_in, terminal_in, IsReading}
 use Rattle.edi_system.specs.Ends.{Blames}

@@ -11,14 +11,15 @@ use Rattle.edi_calls.specs.declared.kinds.FileKind.TheVariants as kind
 use Rattle.edi_calls.specs.State.{find_file, pages_of}
 use Rattle.edi_calls.specs.Calls.{bytes_of, found_as, is_text}
 use Rattle.edi_catalog.specs.declared.catalog.Catalog.{Catalog}
-use Rattle.edi_catalog.specs.Entries.{block_at}
-use Rattle.edi_catalog.specs.Image.{slots_of}
-use Rattle.edi_catalog.specs.Stored.{StoredFile}
-use Rattle.edi_catalog.specs.Files.{bytes_in, entry_of, file_titled, PageIs}
-use Rattle.edi_catalog.specs.Mounted.{disk_of, files_of, IsKeptOf, IsMounted}
+use Rattle.edi_image.specs.Entries.{block_at}
+use Rattle.edi_image.specs.Image.{slots_of}
+use Rattle.edi_image.specs.Stored.{StoredFile, bytes_in, IsKeptOf}
+use Rattle.edi_catalog.specs.Files.{entry_of, file_titled, PageIs}
+use Rattle.edi_catalog.specs.Mounted.{disk_of, files_of, IsMounted}
 use Rattle.edi_catalog.proofs.FilePlaces.{page_inside}
 use Rattle.edi_catalog.proofs.Mounts.{told_now}
-use Rattle.edi_catalog.proofs.WholeFiles.{file_of, file_same, slots_are}
+use Rattle.edi_image.proofs.KeptFiles.{file_of, slots_are}
+use Rattle.edi_catalog.proofs.WholeFiles.{file_same}
 use Rattle.edi_system.specs.State.{found_of, HasPages, IsReading}
 use Rattle.edi_system.specs.Reading.{begun, byte_in, text_of}
 use Rattle.edi_system.specs.declared.reading.Reading.{Reading}

@@ -9,8 +9,8 @@ use Rattle.edi_calls.specs.Ends.{IsTorn}
 use Rattle.edi_catalog.specs.declared.catalog.Catalog.{Catalog}
 use Rattle.edi_catalog.specs.declared.entry.Entry.{Entry}
 use Rattle.edi_catalog.specs.Files.{entry_of, file_titled}
-use Rattle.edi_catalog.specs.Image.{slots_of}
-use Rattle.edi_catalog.specs.Stored.{StoredFile}
+use Rattle.edi_image.specs.Image.{slots_of}
+use Rattle.edi_image.specs.Stored.{StoredFile}
 use Rattle.edi_catalog.specs.Mounted.{disk_of, files_of}
 use Rattle.edi_system.specs.declared.ends.Stop.{Stop}
 use Rattle.edi_system.specs.declared.ends.Stop.TheVariants as stop

@@ -7,9 +7,9 @@ use Rattle.edi_calls.specs.declared.ends.Outside.{Outside}
 use Rattle.edi_calls.specs.declared.ends.Outside.TheVariants as outside
 use Rattle.edi_calls.specs.State.{Found, State}
 use Rattle.edi_catalog.specs.declared.catalog.Catalog.{Catalog}
-use Rattle.edi_catalog.specs.Entries.{block_at}
-use Rattle.edi_catalog.specs.Image.{slots_of}
-use Rattle.edi_catalog.specs.Stored.{StoredFile}
+use Rattle.edi_image.specs.Entries.{block_at}
+use Rattle.edi_image.specs.Image.{slots_of}
+use Rattle.edi_image.specs.Stored.{StoredFile}
 use Rattle.edi_catalog.specs.Files.{file_titled}
 use Rattle.edi_catalog.specs.Mounted.{IsMounted, disk_of, files_of}
 use Rattle.edi_system.specs.declared.reading.Reading.{Reading}
