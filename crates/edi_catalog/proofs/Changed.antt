@@ -194,7 +194,7 @@ before_of blocks files slot file h is there =
       fits = ap (is_fit (length blocks)) (sym said_is.0) ∙ entry_fits (length blocks) (entry_at blocks slot);
     }
 
-header_same : (one two : List (List ℕ)) → length two ≡ length one → block_at two 0 ≡ block_at one 0 → header_rules 2 two ≡ header_rules 2 one
+pub header_same : (one two : List (List ℕ)) → length two ≡ length one → block_at two 0 ≡ block_at one 0 → header_rules 2 two ≡ header_rules 2 one
 header_same one two size same =
     ap (λ n. needs (nat_le 64 n) fault.Short
     ∷ needs (nat_le n 4096 && bytes_eq (block_at two 0) (header_block 2 n)) fault.Header ∷ []) size

@@ -34,12 +34,6 @@ pages_fit size = go (nat_le (pages_of size) 255) where
   go : (few : Bool) → pages_of size ≤ pages_of size + (if few then 1 else 2)
   go few = omega arith
 
-pub some_map : (size : ℕ) → 1 ≤ blocks_of size - pages_of size
-some_map size = subst (λ n. 1 ≤ n) (sym (parts_of size)) (go (nat_le (pages_of size) 255)) where
-  go : (few : Bool) → 1 ≤ (if few then 1 else 2)
-  go true = omega arith
-  go false = omega arith
-
 abbrev pub new_file : (title : List ℕ) → FileKind → (maps pages : List ℕ) → (size : ℕ) → StoredFile
 new_file title kind maps pages size = record {
   record_ = record { title = title; kind = kind; protected = false; maps = maps; length = size };

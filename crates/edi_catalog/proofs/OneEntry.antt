@@ -56,7 +56,7 @@ entry_rules_same one two slot titles (said.File r) size same =
     ap (λ rs. needs (not (list_any (bytes_eq r.title) titles)) (fault.Entry slot) ∷ rs)
     (maps_rules_same one two slot (pages_of r.length) r.maps size same)
 
-slot_rules_same : (one two : List (List ℕ)) (slot : ℕ) (titles : List (List ℕ)) (es : List Said) → length two ≡ length one → AllSame one two es
+pub slot_rules_same : (one two : List (List ℕ)) (slot : ℕ) (titles : List (List ℕ)) (es : List Said) → length two ≡ length one → AllSame one two es
     → slot_rules 33 two slot titles es ≡ slot_rules 33 one slot titles es
 slot_rules_same one two slot titles [] size same = refl
 slot_rules_same one two slot titles (s ∷ es) size same =

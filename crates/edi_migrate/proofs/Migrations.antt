@@ -10,8 +10,6 @@ use Rattle.std.proofs.lemmas.Bool.{le-leb, and_parts, and_from}
 use Rattle.edi_host.specs.Blocks.{blocks_of, resized}
 use Rattle.edi_calls.specs.State.{most_bytes, pages_of}
 use Rattle.edi_calls.specs.State as calls
-use Rattle.edi_image.specs.declared.faults.MountFault.{MountFault}
-use Rattle.edi_image.specs.declared.faults.MountFault.TheVariants as fault
 use Rattle.edi_migrate.specs.declared.migrating.MigrateEnd.{MigrateEnd}
 use Rattle.edi_migrate.specs.declared.migrating.MigrateEnd.TheVariants as end
 use Rattle.edi_image.specs.Image.{Holds}

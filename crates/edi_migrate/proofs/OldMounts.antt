@@ -1,12 +1,10 @@
 -- An image of version 1 as it is checked.
 use Rattle.std.proofs.Common.{◌≡◌, ℕ, zero, suc, ◌+◌, ◌*◌, ◌<◌, ◌%◌, Bool, true, false, List, [], ◌∷◌, ◌++◌, length, take, replicate, refl, ap, sym, ◌∙◌, subst, append_assoc, arith}
-use Rattle.std.specs.Prelude.{◌==◌, map, Option, None, Result, Ok, Err, IfOk, MatchResult}
+use Rattle.std.specs.Prelude.{◌==◌, map, Option, None}
 use Rattle.std.specs.List.{list_all}
-use Rattle.std.proofs.lemmas.Bool.{and_from, eqb-true}
+use Rattle.std.proofs.lemmas.Bool.{eqb-true}
 use Rattle.std.proofs.lemmas.List.{replicate_more}
-use Rattle.std.proofs.lemmas.List.Folds.{list_all-append}
 use Rattle.edi_image.specs.declared.faults.MountFault.{MountFault}
-use Rattle.edi_image.specs.declared.faults.MountFault.TheVariants as fault
 use Rattle.edi_image.specs.declared.entries.Said.TheVariants as said
 use Rattle.edi_image.specs.Rules.{first_broken}
 use Rattle.edi_migrate.specs.OldEntries.{old_entry_says}
@@ -66,18 +64,6 @@ is_some (suc n) empty e h = omega arith
 pub free_stored : (count n : ℕ) → list_all (is_old_stored count) (replicate n None) ≡ true
 free_stored count zero = refl
 free_stored count (suc n) = free_stored count n
-
-pub made_stored : {X : Type 0} (items : X → List (Option StoredFile)) (count n : ℕ) (r : Result X MountFault)
-    → MatchResult r (λ x. items x ≡ replicate n None) (λ e. e ≡ fault.NoMemory)
-    → IfOk r (λ x. list_all (is_old_stored count) (items x) ≡ true)
-made_stored items count n (Ok x) m = ap (list_all (is_old_stored count)) m ∙ free_stored count n
-made_stored items count n (Err e) m = tt
-
-pub all_padded : (count n : ℕ) (files0 files1 : List (Option StoredFile)) → files1 ≡ files0 ++ replicate n None
-    → list_all (is_old_stored count) files0 ≡ true → list_all (is_old_stored count) files1 ≡ true
-all_padded count n files0 files1 f all =
-    ap (list_all (is_old_stored count)) f ∙ list_all-append (is_old_stored count) files0 (replicate n None)
-    ∙ and_from (list_all (is_old_stored count) files0) (list_all (is_old_stored count) (replicate n None)) all (free_stored count n)
 
 -- one more free slot
 pub free_more : (start before after : List (Option StoredFile)) (n : ℕ) → before ≡ start ++ replicate n None → after ≡ before ++ None ∷ []

@@ -1,22 +1,19 @@
 -- The rules on an image of version 1, slot by slot.
-use Rattle.std.proofs.Common.{◌≡◌, ℕ, zero, suc, ◌+◌, ◌-◌, ◌*◌, ◌/◌, ◌%◌, ◌<◌, ◌≤◌, Bool, true, false, List, [], ◌∷◌, ◌++◌, length, take, drop, min, refl, ap, sym, ◌∙◌, subst, arith, append_assoc, append-nil}
-use Rattle.std.specs.Prelude.{◌&&◌, ◌==◌, nat_le, map, if◌then◌else◌, Option, Some, None}
+use Rattle.std.proofs.Common.{◌≡◌, ℕ, zero, suc, ◌+◌, ◌-◌, ◌<◌, ◌≤◌, Bool, true, false, List, [], ◌∷◌, ◌++◌, length, take, min, refl, ap, sym, ◌∙◌, subst, arith, append_assoc, append-nil}
+use Rattle.std.specs.Prelude.{◌&&◌, ◌==◌, nat_le, map, if◌then◌else◌, Option, None}
 use Rattle.std.specs.List.{list_all, list_any}
 use Rattle.std.specs.Str.{bytes_eq}
-use Rattle.std.proofs.lemmas.Bool.{eqb-true, eq-eqb, leb-true, and_parts, and_from}
-use Rattle.std.proofs.lemmas.List.Folds.{list_all-append}
+use Rattle.std.proofs.lemmas.Bool.{eqb-true, leb-true, and_parts}
 use Rattle.edi_calls.specs.State.{is_title, without_blanks, pages_of}
 use Rattle.edi_image.specs.declared.faults.MountFault.{MountFault}
-use Rattle.edi_image.specs.declared.faults.MountFault.TheVariants as fault
-use Rattle.edi_image.specs.declared.entries.Said.{Said}
 use Rattle.edi_image.specs.declared.entries.Said.TheVariants as said
-use Rattle.edi_image.specs.Records.{FileRecord, maps_of}
-use Rattle.edi_image.specs.Rules.{is_in, first_broken, used_by, page_rules}
+use Rattle.edi_image.specs.Records.{FileRecord}
+use Rattle.edi_image.specs.Rules.{is_in, first_broken, page_rules}
 use Rattle.edi_image.specs.Entries.{short_at, block_at, are_zeros, is_data}
 use Rattle.edi_migrate.specs.OldEntries.{is_old_entry, old_fields_fit, old_record_in, old_entry_says, old_most_bytes}
 use Rattle.edi_image.specs.Image.{map_rules, maps_rules, file_rules, entry_rules, slot_rules, titles_in, numbers_in, numbers_of}
 use Rattle.edi_migrate.specs.OldImage.{old_entries_from, old_entries_of}
-use Rattle.edi_migrate.specs.OldFiles.{TakesMap, is_old_fit, is_old_record, is_old_stored, old_said_at}
+use Rattle.edi_migrate.specs.OldFiles.{TakesMap, is_old_fit, is_old_record, old_said_at}
 use Rattle.edi_image.specs.Stored.{StoredFile, stored_of, titles_of}
 use Rattle.edi_image.specs.Finds.{IsFirst, TakesSlot}
 use Rattle.edi_image.proofs.FileRules.{goes_on, breaks_early}
@@ -59,27 +56,7 @@ pub old_entry_fits : (count : ℕ) (bytes : List ℕ) → is_old_fit count (old_
 old_entry_fits count bytes =
     says_old_fit count (are_zeros bytes) (is_old_entry count bytes) (old_record_in bytes) (λ h. old_record_fits count bytes h)
 
--- an entry as it is read
-pub old_entry_read : (blocks : List (List ℕ)) (block rest entry : List ℕ) (slot n at count : ℕ) (s : Said) → block ≡ block_at blocks n
-    → n ≡ 1 + slot / 16 → rest ≡ drop at block → at ≡ 32 * (slot % 16) → entry ≡ take 32 rest → count ≡ length blocks
-    → s ≡ old_entry_says count entry → s ≡ old_said_at blocks slot
-old_entry_read blocks block rest entry slot n at count s is place r a e size says =
-    says
-    ∙ ap (λ k. old_entry_says k entry) size
-    ∙ ap (old_entry_says (length blocks))
-    (e ∙ ap (take 32) (r ∙ ap (λ k. drop k block) a)
-    ∙ ap (λ b. take 32 (drop (32 * (slot % 16)) b)) (is ∙ ap (block_at blocks) place))
-
 -- ---- a map
-
-pub old_map_again : (used : List ℕ) (blocks : List (List ℕ)) (slot pages map : ℕ) → is_in map used ≡ true
-    → first_broken used (map_rules 5 blocks slot pages map) ≡ Some (fault.Shared map)
-old_map_again used blocks slot pages map again = rw again refl
-
-pub old_map_wrong : (used : List ℕ) (blocks : List (List ℕ)) (slot pages map : ℕ) (block : List ℕ) → is_in map used ≡ false
-    → block_at blocks map ≡ block → (short_at block 0 == pages) ≡ false
-    → first_broken used (map_rules 5 blocks slot pages map) ≡ Some (fault.Entry slot)
-old_map_wrong used blocks slot pages map block new is wrong = rw (new, is, wrong) refl
 
 -- the same where files lie from another block on
 map_on : (low : ℕ) (used : List ℕ) (blocks : List (List ℕ)) (slot pages map : ℕ) → is_in map used ≡ false
@@ -112,14 +89,6 @@ old_map_takes used0 used1 used2 blocks slot pages map block seen kept u is s k m
 
 -- ---- a file
 
-pub old_one_map : (first : ℕ) (second : Option ℕ) (maps : List ℕ) → maps_of first second ≡ maps → length maps ≡ 1 → maps ≡ first ∷ []
-old_one_map first None maps m one = sym m
-old_one_map first (Some second) maps m one = absurd (let two : length maps ≡ 2 = ap length (sym m) in omega arith)
-
-pub old_title_again : (used : List ℕ) (blocks : List (List ℕ)) (slot : ℕ) (titles : List (List ℕ)) (r : FileRecord)
-    → list_any (bytes_eq r.title) titles ≡ true → first_broken used (file_rules 5 blocks slot titles r) ≡ Some (fault.Entry slot)
-old_title_again used blocks slot titles r again = rw again refl
-
 pub one_rules : (low : ℕ) (blocks : List (List ℕ)) (slot : ℕ) (r : FileRecord) (first count : ℕ) → r.maps ≡ first ∷ [] → count ≡ pages_of r.length
     → r.length ≤ 130560 → maps_rules low blocks slot (pages_of r.length) r.maps ≡ map_rules low blocks slot count first
 one_rules low blocks slot r first count m c short =
@@ -146,51 +115,6 @@ pub file_goes_on : (low : ℕ) (used : List ℕ) (blocks : List (List ℕ)) (slo
     → first_broken used (file_rules low blocks slot titles r) ≡ first_broken used (map_rules low blocks slot count first)
 file_goes_on low used blocks slot titles r first count new m c short =
     title_on low used blocks slot titles r new ∙ ap (first_broken used) (one_rules low blocks slot r first count m c short)
-
-pub old_file_takes : (used0 used1 : List ℕ) (blocks : List (List ℕ)) (slot : ℕ) (titles : List (List ℕ)) (r : FileRecord) (first count : ℕ)
-    (pages : List ℕ) → r.maps ≡ first ∷ [] → count ≡ pages_of r.length → r.length ≤ 130560
-    → TakesMap used0 used1 (map_rules 5 blocks slot count first) pages (numbers_in (block_at blocks first) count)
-    → (pages ≡ numbers_of blocks (pages_of r.length) r.maps) × (used1 ≡ used0 ++ used_by (file_rules 5 blocks slot titles r))
-old_file_takes used0 used1 blocks slot titles r first count pages m c short takes = (
-  takes.pages_ ∙ sym (one_numbers blocks r first count m c short),
-  takes.used ∙ ap (λ rs. used0 ++ used_by rs) (sym (one_rules 5 blocks slot r first count m c short)),
-)
-
-pub old_stored : (count : ℕ) (r : FileRecord) (pages : List ℕ) (many : ℕ) → is_old_record count r ≡ true → list_all (is_data 5 count) pages ≡ true
-    → length pages ≡ many → many ≡ pages_of r.length → is_old_stored count (Some (record { record_ = r; pages = pages })) ≡ true
-old_stored count r pages many h data_ size m =
-    and_from (is_old_record count r && list_all (is_data 5 count) pages) (length pages == pages_of r.length)
-    (and_from (is_old_record count r) (list_all (is_data 5 count) pages) h data_)
-    (eq-eqb (length pages) (pages_of r.length) (size ∙ m))
-
--- ---- a slot
-
-pub old_file_taken : (used0 used1 : List ℕ) (files0 files1 seen : List (Option StoredFile)) (blocks : List (List ℕ)) (slot : ℕ) (s : Said)
-    (r : FileRecord) (stored : StoredFile) → seen ≡ files0 → s ≡ old_said_at blocks slot → s ≡ said.File r
-    → stored ≡ record { record_ = r; pages = numbers_of blocks (pages_of r.length) r.maps }
-    → used1 ≡ used0 ++ used_by (file_rules 5 blocks slot (titles_of seen) r) → files1 ≡ files0 ++ Some stored ∷ []
-    → TakesSlot used0 used1 (entry_rules 5 blocks slot (titles_of files0) (old_said_at blocks slot)) files0 files1 (stored_of blocks (old_said_at blocks slot))
-old_file_taken used0 used1 files0 files1 seen blocks slot s r stored same says is st u f = record {
-  used =
-      u ∙ ap (λ fs. used0 ++ used_by (file_rules 5 blocks slot (titles_of fs) r)) same
-      ∙ ap (λ x. used0 ++ used_by (entry_rules 5 blocks slot (titles_of files0) x)) (sym is ∙ says);
-  files =
-      f ∙ ap (λ x. files0 ++ Some x ∷ []) st ∙ ap (λ x. files0 ++ stored_of blocks x ∷ []) (sym is ∙ says);
-}
-
-pub old_file_broken : (used0 : List ℕ) (files0 seen : List (Option StoredFile)) (blocks : List (List ℕ)) (slot : ℕ) (s : Said) (r : FileRecord)
-    → seen ≡ files0 → s ≡ old_said_at blocks slot → s ≡ said.File r
-    → first_broken used0 (file_rules 5 blocks slot (titles_of seen) r)
-    ≡ first_broken used0 (entry_rules 5 blocks slot (titles_of files0) (old_said_at blocks slot))
-old_file_broken used0 files0 seen blocks slot s r same says is =
-    ap (λ fs. first_broken used0 (file_rules 5 blocks slot (titles_of fs) r)) same
-    ∙ ap (λ x. first_broken used0 (entry_rules 5 blocks slot (titles_of files0) x)) (sym is ∙ says)
-
-pub all_stored : (count : ℕ) (files0 files1 : List (Option StoredFile)) (file : Option StoredFile) → files1 ≡ files0 ++ file ∷ []
-    → is_old_stored count file ≡ true → list_all (is_old_stored count) files0 ≡ true → list_all (is_old_stored count) files1 ≡ true
-all_stored count files0 files1 file f one all =
-    ap (list_all (is_old_stored count)) f ∙ list_all-append (is_old_stored count) files0 (file ∷ [])
-    ∙ and_from (list_all (is_old_stored count) files0) (is_old_stored count file && true) all (ap (λ b. b && true) one)
 
 -- ---- all slots
 

@@ -1,4 +1,4 @@
-use Rattle.std.proofs.Common.{◌≡◌, ◌≤◌, true, false, refl, sym, subst, ap}
+use Rattle.std.proofs.Common.{◌≡◌, ◌≤◌, true, refl, sym, subst, ap}
 use Rattle.std.specs.List.{list_all}
 use Rattle.edi_image.specs.Image.{mount_fault_of}
 use Rattle.edi_image.specs.Finds.{IsFirst, failed}
