@@ -162,6 +162,8 @@ impl Kernel {
         ensures exact { choices.old.drawn + bound < 2 ^ 64 → WhereTold (C.state calls.old) (C.state calls.new) (λ s t.
             RunsTo code.now s bound choices.old result self.new.store self.new.used t choices.new) }
         ensures used { self.new.used ≤ bound }
+        ensures source { choices.new.source ≡ choices.old.source }
+        ensures drawn { choices.new.drawn ≤ choices.old.drawn + bound }
         ensures later { (outside : Outside) → C.faults calls.old outside ≤ C.faults calls.new outside }
         ensures blame { Blamed (fault_of (Some result)) (C.failed calls.new) (C.faults calls.old) (C.faults calls.new) }
         ensures references { C.references calls.new ≡ C.references calls.old }
