@@ -8,3 +8,6 @@ pub mod Opening
 pub mod Begun
 pub mod Completed
 pub mod Answered
+pub mod Held
+pub mod RangesParts
+pub mod Ranges
