@@ -152,6 +152,7 @@ module _ {D : Type 0} (held : D → Option (List (List ℕ))) (count faults : D 
       → StoreChanges {X = Unit {0}} held count faults (Ok tt) None title kind bytes one other
   changes_done one other title kind bytes slot file mounted stores writes now = record {
     answers = (refl, record { file = file; entry_ = stores.entry; at = slot; place_ = stores.place; others = now });
+    untouched = tt;
     mounted = inr (store_mounted one other title kind bytes slot file mounted stores writes now);
     leaves = store_done one other title kind bytes slot file mounted stores writes;
     same_reference = writes.same_reference;
@@ -166,6 +167,7 @@ module _ {D : Type 0} (held : D → Option (List (List ℕ))) (count faults : D 
       → StoreChanges {X = Unit {0}} held count faults (Err cat.Fault) None title kind bytes one other
   changes_failed one other title kind bytes slot file mounted stores writes = record {
     answers = refl;
+    untouched = tt;
     mounted = inl refl;
     leaves = store_fails one other title kind bytes slot file mounted stores writes;
     same_reference = writes.same_reference;
