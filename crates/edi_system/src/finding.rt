@@ -1,6 +1,6 @@
 //! The found file.
 
-ghost use Rattle.std.specs.Prelude.{◌≡◌, ◌<◌, ◌*◌, false, length, IfOk, IfSome, IsSome};
+ghost use Rattle.std.specs.Prelude.{◌≡◌, ◌<◌, false, length, IfOk, IfSome, IsSome};
 ghost use Rattle.edi_told.specs.Told.{WhereTold};
 ghost use Rattle.edi_calls.specs.Calls.{find, more, read};
 ghost use Rattle.edi_system.specs.State.{state_of, IsReady};
@@ -39,7 +39,6 @@ impl<'a, D: Drive, S: Source, T: Sink, P: Sink> System<'a, D, S, T, P> {
             (λ before after. LooksAt result before.found before after) }
         ensures ready { is_fault result ≡ false → IsReady D.held D.count self.new }
         ensures inside { IfOk result (λ byte. IsSome byte → IfSome self.new.found (λ reading. reading.position < reading.length)) }
-        ensures loaded { IfOk result (λ byte. IsSome byte → IfSome self.new.found (λ reading. reading.position < 512 * reading.pages)) }
         ensures keeps { Keeps D.faults S.faults T.faults P.faults (is_fault result) self.old self.new }
     {
         let Some(mut reading) = self.found.take() else {
