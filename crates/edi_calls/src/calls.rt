@@ -51,6 +51,9 @@ pub trait Calls {
     /// The references that it holds to objects of others. A call keeps them, so whoever lent them sees what it has done.
     ghost references: { Self → List ℕ };
 
+    /// For each number a fact about the object that every call keeps, whatever it answers.
+    ghost lasting: { Self → ℕ → Type 0 };
+
     /// Makes the system call of this number, 1 to 10. `args` and `answer` have the lengths that `words_of` gives;
     /// `answer` takes the answer words; it is as it was where the call is refused, and open after a fault.
     fn call(&mut self, number: u8, args: &[u16], answer: &mut [u16]) -> CallEnd
@@ -64,5 +67,6 @@ pub trait Calls {
         ensures untouched { is_refused result ≡ true → answer.new ≡ answer.old }
         ensures later { (outside : Outside) → faults self.old outside ≤ faults self.new outside }
         ensures blame { Blames result (failed self.new) (faults self.old) (faults self.new) }
-        ensures references { references self.new ≡ references self.old };
+        ensures references { references self.new ≡ references self.old }
+        ensures lasting { (n : ℕ) → lasting self.old n → lasting self.new n };
 }

@@ -156,6 +156,7 @@ impl KernelState {
         ensures later { (outside : Outside) → C.faults calls.old outside ≤ C.faults calls.new outside }
         ensures blame { Blamed (fault_of result) (C.failed calls.new) (C.faults calls.old) (C.faults calls.new) }
         ensures references { C.references calls.new ≡ C.references calls.old }
+        ensures lasting { (n : ℕ) → C.lasting calls.old n → C.lasting calls.new n }
     {
         let end = self.go(code, calls, bound - self.used);
         self.used += used_in(end);
@@ -183,6 +184,7 @@ impl KernelState {
         ensures later { (outside : Outside) → C.faults calls.old outside ≤ C.faults calls.new outside }
         ensures blame { Blamed (fault_of (Some result)) (C.failed calls.new) (C.faults calls.old) (C.faults calls.new) }
         ensures references { C.references calls.new ≡ C.references calls.old }
+        ensures lasting { (n : ℕ) → C.lasting calls.old n → C.lasting calls.new n }
     {
         self.start(code);
         self.entering = false;
@@ -219,6 +221,7 @@ impl KernelState {
         ensures later { (outside : Outside) → C.faults calls.old outside ≤ C.faults calls.new outside }
         ensures blame { Blamed (faulted result) (C.failed calls.new) (C.faults calls.old) (C.faults calls.new) }
         ensures references { C.references calls.new ≡ C.references calls.old }
+        ensures lasting { (n : ℕ) → C.lasting calls.old n → C.lasting calls.new n }
         ensures turns { self.new.used ≡ min (self.old.used + used_in result) (2 ^ 64 - 1) }
     {
         let used_before = self.used;

@@ -136,6 +136,7 @@ fn instruct<C: Calls>(
     ensures later { (outside : Outside) → C.faults calls.old outside ≤ C.faults calls.new outside }
     ensures blame { Blamed result (C.failed calls.new) (C.faults calls.old) (C.faults calls.new) }
     ensures references { C.references calls.new ≡ C.references calls.old }
+    ensures lasting { (n : ℕ) → C.lasting calls.old n → C.lasting calls.new n }
     ensures ordered { IsOrdered progress.new.activity }
     ensures was_whole { IsMemory store.old }
     ensures whole { IsMemory store.new }
@@ -170,6 +171,7 @@ pub(crate) fn advance<C: Calls>(
     ensures later { (outside : Outside) → C.faults calls.old outside ≤ C.faults calls.new outside }
     ensures blame { Blamed (Some result) (C.failed calls.new) (C.faults calls.old) (C.faults calls.new) }
     ensures references { C.references calls.new ≡ C.references calls.old }
+    ensures lasting { (n : ℕ) → C.lasting calls.old n → C.lasting calls.new n }
     ensures ordered { IsOrdered progress.new.activity }
     ensures whole { IsMemory store.new }
 {

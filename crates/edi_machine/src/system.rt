@@ -54,6 +54,7 @@ fn make_call<C: Calls>(calls: &mut C, number: u8, arguments: &[u16]) -> Made
     ensures later { (outside : Outside) → C.faults calls.old outside ≤ C.faults calls.new outside }
     ensures blame { ends.Blames result.end (C.failed calls.new) (C.faults calls.old) (C.faults calls.new) }
     ensures references { C.references calls.new ≡ C.references calls.old }
+    ensures lasting { (n : ℕ) → C.lasting calls.old n → C.lasting calls.new n }
 {
     let (_, answers) = words_of(number);
     let mut answer = [0; 1];
@@ -102,6 +103,7 @@ fn ask<C: Calls>(
     ensures later { (outside : Outside) → C.faults calls.old outside ≤ C.faults calls.new outside }
     ensures blame { Blames result (C.failed calls.new) (C.faults calls.old) (C.faults calls.new) }
     ensures references { C.references calls.new ≡ C.references calls.old }
+    ensures lasting { (n : ℕ) → C.lasting calls.old n → C.lasting calls.new n }
     ensures ordered { IsOrdered activity.new }
 {
     let (count, _) = words_of(number);
@@ -142,6 +144,7 @@ pub fn system_call<C: Calls>(
     ensures later { (outside : Outside) → C.faults calls.old outside ≤ C.faults calls.new outside }
     ensures blame { Blames result (C.failed calls.new) (C.faults calls.old) (C.faults calls.new) }
     ensures references { C.references calls.new ≡ C.references calls.old }
+    ensures lasting { (n : ℕ) → C.lasting calls.old n → C.lasting calls.new n }
     ensures ordered { IsOrdered activity.new }
 {
     if number < 1 || number > 10 {
@@ -199,6 +202,7 @@ pub fn call_described<C: Calls>(
     ensures later { (outside : Outside) → C.faults calls.old outside ≤ C.faults calls.new outside }
     ensures blame { Blames result (C.failed calls.new) (C.faults calls.old) (C.faults calls.new) }
     ensures references { C.references calls.new ≡ C.references calls.old }
+    ensures lasting { (n : ℕ) → C.lasting calls.old n → C.lasting calls.new n }
     ensures ordered { IsOrdered activity.new }
 {
     let base = level_base(store, count, activity.base as u16);

@@ -9,3 +9,5 @@ pub mod Rooms
 pub mod Closing
 pub mod CloseCalls
 pub mod Protecting
+pub mod Calling
+pub mod Due

@@ -36,7 +36,7 @@ impl<'a, D: Drive, S: Source, T: Sink, P: Sink> System<'a, D, S, T, P> {
             (λ before after. Reaches (fresh_buffer before) result before after) }
         ensures only { OnlyOpenFiles self.old self.new }
         ensures ready { IsReady D.held D.count self.new }
-        ensures keeps { Keeps D.faults S.faults T.faults P.faults false self.old self.new }
+        ensures keeps { Keeps D.faults S.faults T.faults P.faults (is_fault result) self.old self.new }
     {
         self.buffer.begin();
         Ok(None)
@@ -49,7 +49,7 @@ impl<'a, D: Drive, S: Source, T: Sink, P: Sink> System<'a, D, S, T, P> {
             (λ before after. Reaches (write word before) result before after) }
         ensures only { OnlyOpenFiles self.old self.new }
         ensures ready { IsReady D.held D.count self.new }
-        ensures keeps { Keeps D.faults S.faults T.faults P.faults false self.old self.new }
+        ensures keeps { Keeps D.faults S.faults T.faults P.faults (is_fault result) self.old self.new }
     {
         match self.buffer.write(character(word)) {
             Ok(()) => Ok(None),
