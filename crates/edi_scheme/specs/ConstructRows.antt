@@ -111,7 +111,7 @@ row_halts = refl
 
 -- ---- sets, records and arrays
 
-pub row_sets : run program_of_sets [] ≡ ends (1 ∷ 2 ∷ 4 ∷ 6 ∷ 7 ∷ 9 ∷ []) outcome.done 2 0
+pub row_sets : run program_of_sets [] ≡ ends (1 ∷ 2 ∷ 4 ∷ 6 ∷ 7 ∷ 9 ∷ 10 ∷ []) outcome.done 2 0
 unfolding decode zero_words size zero_value members_where
 row_sets = refl
 

@@ -116,7 +116,8 @@ program_that_halts =
 -- HEAD var a, b: s; x: int begin x := 5; a := s(1, x); b := s(x, 9);
 --   if 9 in a + b do show 1 end; if 1 in a - b do show 2 end; if 5 in a - b do show 3 end; if 5 in a * b do show 4 end;
 --   if 1 in a * b do show 5 end; if a - a = s do show 6 end; if a <> b do show 7 end; if 200 in a do show 8 end;
---   b := a; if a = b do show 9 end end
+--   b := a; if a = b do show 9 end; if a = b = true do show 10 end end
+-- The last condition, which no text can have, is one chain: its left operand is a set at first, and then a truth value.
 abbrev pub program_of_sets : ProgramUnit
 program_of_sets =
     program_with (set_of 0 ∷ []) (3 ∷ 3 ∷ 0 ∷ [])
@@ -133,6 +134,7 @@ program_of_sets =
     ∷ show_if 0 (two (natural 200) op.In (value_of 0 1) 1) 8
     ∷ assign (variable 0 2) (value_of 0 1)
     ∷ show_if 0 (two (value_of 0 1) op.Equal (value_of 0 2) 1) 9
+    ∷ show_if 0 (chain (value_of 0 1) (links ((op.Equal, value_of 0 2) ∷ (op.Equal, true_value) ∷ []))) 10
     ∷ [])
     []
 
