@@ -4,3 +4,8 @@ pub mod Standing
 pub mod Known
 pub mod Fine
 pub mod Blocks
+pub mod Positions
+pub mod Aims
+pub mod Leading
+pub mod Calls
+pub mod Checked

@@ -3,7 +3,7 @@
 //! nothing of this crate: the functions here only state laws.
 #![tactic(auto)]
 
-ghost use Rattle.edi_scheme.specs.Stands.{CodeIsLong, CodeStands};
+ghost use Rattle.edi_scheme.specs.Stands.{CodeIsLong, CodeIsSound, CodeStands};
 
 /// In the code of every unit that fits, and whose records have fields, the code of each block stands where the block begins,
 /// the code of each statement, expression and place in it one behind the other, each instruction whole and with operands that
@@ -15,4 +15,11 @@ pub fn code_stands()
 /// The code of a unit is as long as its blocks together.
 pub fn code_is_long()
     ensures law { CodeIsLong }
+{}
+
+/// The code of every unit that fits, and whose records have fields, has no fault where it is not longer than a code may be:
+/// each instruction is one, each jump and call leads to an instruction that it may lead to, the program's entry stands at its
+/// first word, and its parameters are at most ten different calls of the system.
+pub fn code_is_sound()
+    ensures law { CodeIsSound }
 {}
