@@ -1,4 +1,4 @@
-//! The files of a disk.
+//! The files of a disk: making an image, checking and mounting one, and the calls that read, change and store files.
 #![tactic(auto)]
 
 mod catalog;

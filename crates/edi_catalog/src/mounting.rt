@@ -35,6 +35,8 @@ fn check_header<D: Drive>(disk: &mut Disk<'_, D>) -> Result<(), MountFault>
         (λ blocks. Finds result (first_broken [] (header_rules 2 blocks)) (λ _. ⊤)) }
     ensures least { OnOk result (LEAST ≤ D.count (drive_of disk.old)) }
     ensures most { OnOk result (D.count (drive_of disk.old) ≤ MOST) }
+    ensures short { D.count (drive_of disk.old) < LEAST → result ≡ Err MountFault.Short }
+    ensures long { MOST < D.count (drive_of disk.old) → result ≡ Err MountFault.Header }
 {
     let count = disk.blocks();
     if count < LEAST {
@@ -66,6 +68,8 @@ fn read_image<D: Drive>(
     ensures many { IfOk result (λ files. length files.items ≡ SLOTS) }
     ensures most { OnOk result (D.count (drive_of disk.old) ≤ MOST) }
     ensures stored { IfOk result (λ files. list_all (is_stored (D.count (drive_of disk.old))) files.items ≡ true) }
+    ensures short { 0 < D.count (drive_of disk.old) → D.count (drive_of disk.old) < LEAST → result ≡ Err MountFault.Short }
+    ensures long { MOST < D.count (drive_of disk.old) → result ≡ Err MountFault.Header }
 {
     if disk.blocks() == 0 {
         return free_slots(alloc, SLOTS);
@@ -92,6 +96,8 @@ pub fn check<D: Drive>(alloc: Global, disk: &mut Disk<'_, D>) -> Result<Checked,
     requires settled { D.held (drive_of disk.old) ≡ shown D.held disk.old }
     ensures checked { IfOk result (λ checked. IsMounted D.held D.count (catalog_of disk.new checked)) }
     ensures leaves { WhereTold (D.held (drive_of disk.old)) (D.held (drive_of disk.new)) (λ old new. (new ≡ old) × Finds result (mount_fault_of old) (λ _. ⊤)) }
+    ensures short { 0 < D.count (drive_of disk.old) → D.count (drive_of disk.old) < LEAST → result ≡ Err MountFault.Short }
+    ensures long { MOST < D.count (drive_of disk.old) → result ≡ Err MountFault.Header }
     ensures works { failed result ≡ false → IsWorking D.held D.count disk.new }
     ensures settled { failed result ≡ false → D.held (drive_of disk.new) ≡ shown D.held disk.new }
     ensures same_reference { reference_of disk.new ≡ reference_of disk.old }

@@ -1,6 +1,7 @@
 pub mod Pieces
 pub mod Long
 pub mod Code
+pub mod Stands
 pub mod Sides
 pub mod Programs
 pub mod ProcessPrograms

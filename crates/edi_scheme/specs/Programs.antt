@@ -116,7 +116,8 @@ program_that_halts =
 -- HEAD var a, b: s; x: int begin x := 5; a := s(1, x); b := s(x, 9);
 --   if 9 in a + b do show 1 end; if 1 in a - b do show 2 end; if 5 in a - b do show 3 end; if 5 in a * b do show 4 end;
 --   if 1 in a * b do show 5 end; if a - a = s do show 6 end; if a <> b do show 7 end; if 200 in a do show 8 end;
---   b := a; if a = b do show 9 end end
+--   b := a; if a = b do show 9 end; if a = b = true do show 10 end end
+-- The last condition, which no text can have, is one chain: its left operand is a set at first, and then a truth value.
 abbrev pub program_of_sets : ProgramUnit
 program_of_sets =
     program_with (set_of 0 ∷ []) (3 ∷ 3 ∷ 0 ∷ [])
@@ -133,6 +134,7 @@ program_of_sets =
     ∷ show_if 0 (two (natural 200) op.In (value_of 0 1) 1) 8
     ∷ assign (variable 0 2) (value_of 0 1)
     ∷ show_if 0 (two (value_of 0 1) op.Equal (value_of 0 2) 1) 9
+    ∷ show_if 0 (chain (value_of 0 1) (links ((op.Equal, value_of 0 2) ∷ (op.Equal, true_value) ∷ []))) 10
     ∷ [])
     []
 
@@ -145,13 +147,14 @@ program_with_member n =
 
 -- ---- records and arrays
 
--- record pair (a, b: int); array row [1:2] (pair)
--- HEAD var x: int; r: row; p, q: pair
+-- record pair (a, b: int); array row [1:2] (pair); record wide (p: pair; c: int)
+-- HEAD var x: int; r: row; p, q: pair; w: wide
 -- begin x := 4; p := pair(x, 6); p := pair(p.b, p.a); r[x - 3] := pair(1, 2); r[2] := p; q := r[2];
---   show q.a; show r[1].b; if q = p do show 7 end; q.a := 0; if q <> p do show 8 end; r := row(q, p); show r[2].a end
+--   show q.a; show r[1].b; if q = p do show 7 end; q.a := 0; if q <> p do show 8 end; r := row(q, p); show r[2].a;
+--   w := wide(p, 9); show w.c; show w.p.b end
 abbrev pub program_of_records : ProgramUnit
 program_of_records =
-    program_with (record_of (0 ∷ 0 ∷ []) ∷ array_of 0 (pos 1) (pos 2) 3 ∷ []) (0 ∷ 4 ∷ 3 ∷ 3 ∷ [])
+    program_with (record_of (0 ∷ 0 ∷ []) ∷ array_of 0 (pos 1) (pos 2) 3 ∷ record_of (3 ∷ 0 ∷ []) ∷ []) (0 ∷ 4 ∷ 3 ∷ 3 ∷ 5 ∷ [])
     (assign (variable 0 1) (natural 4)
     ∷ assign (variable 0 3) (make 3 (expressions (value_of 0 1 ∷ natural 6 ∷ [])) 1)
     ∷ assign (variable 0 3) (make 3 (expressions (load (part_of 0 3 (field 1 ∷ [])) ∷ load (part_of 0 3 (field 0 ∷ [])) ∷ [])) 1)
@@ -165,6 +168,9 @@ program_of_records =
     ∷ show_if 0 (two (value_of 0 4) op.NotEqual (value_of 0 3) 1) 8
     ∷ assign (variable 0 2) (make 4 (expressions (value_of 0 4 ∷ value_of 0 3 ∷ [])) 1)
     ∷ show 0 (load (part_of 0 2 (at 2 ∷ field 0 ∷ [])))
+    ∷ assign (variable 0 5) (make 5 (expressions (value_of 0 3 ∷ natural 9 ∷ [])) 1)
+    ∷ show 0 (load (part_of 0 5 (field 1 ∷ [])))
+    ∷ show 0 (load (part_of 0 5 (field 0 ∷ field 1 ∷ [])))
     ∷ [])
     []
 
