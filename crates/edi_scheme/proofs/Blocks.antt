@@ -4,7 +4,7 @@ use Rattle.std.proofs.lemmas.List.{append-nil}
 use Rattle.edi_target.specs.Fetch.{fetch}
 use Rattle.edi_scheme.specs.Pieces.{Code, words_of_code}
 use Rattle.edi_scheme.specs.Code.{blocks_code, code_of}
-use Rattle.edi_scheme.specs.Stands.{CodeStands, CodeIsLong}
+use Rattle.edi_scheme.specs.Laws.{CodeStands, CodeIsLong}
 use Rattle.edi_scheme.proofs.Laid.{Laid, laid_words}
 use Rattle.edi_scheme.proofs.Lengths.{blocks_are_long}
 use Rattle.edi_scheme.proofs.Standing.{are_blocks}

@@ -20,7 +20,8 @@ use Rattle.edi_target.specs.Check.{is_start, starts_of, is_entry, is_program, fi
 use Rattle.edi_target.specs.declared.code_fault.CodeFault.TheVariants as fault
 use Rattle.edi_scheme.specs.Pieces.{Code, is_branch, result_words, function_flag, entry_of, return_of}
 use Rattle.edi_scheme.specs.Code.{acts_code, entry, block_code, blocks_code, code_of}
-use Rattle.edi_scheme.specs.Stands.{Either, IsProcedure, IsBranch, HaveParts, CodeIsSound}
+use Rattle.edi_scheme.specs.Stands.{Either, IsProcedure, IsBranch}
+use Rattle.edi_scheme.specs.Laws.{HaveParts, CodeIsSound}
 use Rattle.edi_scheme.proofs.Laid.{long_one}
 use Rattle.edi_scheme.proofs.Lengths.{acts_are_long, blocks_are_long}
 use Rattle.edi_scheme.proofs.Fine.{blocks_allowed}

@@ -16,7 +16,7 @@ use Rattle.edi_unit.specs.Fits.{ShapesFit, ShapeFits, Heading, Formals, no_forma
 use Rattle.edi_meaning.specs.Step.{is_quiet}
 use Rattle.edi_target.specs.Op.{Instruction, Branch, has_frame, is_count, is_integer}
 use Rattle.edi_scheme.specs.Pieces.{Code, is_branch, is_address, function_flag, entry_of, variable_code, element_code, on_sets, operation, decision, check_code, constant_words, row_code, Choice, once, repeated, released, close_code, again_code}
-use Rattle.edi_scheme.specs.Stands.{HaveParts}
+use Rattle.edi_scheme.specs.Laws.{HaveParts}
 use Rattle.edi_scheme.specs.Code.{call_code, procedure_code, expression_code, expressions_code, members_code, links_code, place_code, parts_code, part_code, arguments_code, act_code, acts_code, clause_code, clauses_code, entry, block_code, blocks_code}
 use Rattle.edi_scheme.proofs.Laid.{Allowed, AreAllowed, none, one_then, allowed_append, allowed_one}
 use Rattle.edi_scheme.proofs.Known as known

@@ -18,7 +18,7 @@ use Rattle.edi_unit.specs.Fits.{ShapeFits, Heading, is_variable, CalleeFits, Hav
 use Rattle.edi_unit.proofs.Tables.{size-is, size-small, length-before}
 use Rattle.edi_target.specs.Op.{is_integer}
 use Rattle.edi_scheme.specs.Pieces.{result_words}
-use Rattle.edi_scheme.specs.Stands.{HasPart, HaveParts}
+use Rattle.edi_scheme.specs.Laws.{HasPart, HaveParts}
 
 -- ---- lists
 
@@ -143,7 +143,7 @@ module _ (types : List Shape) (table : IsTypeTable types) (parts : HaveParts typ
     up_inside zero h = let up = (each 0 h).outermost refl in omega (arith, up, h)
     up_inside (suc n) h = let up = (each (suc n) h).inner (omega arith) in omega (arith, up, h)
 
-    outer_inside : (levels n : ℕ) → n < length blocks → outer blocks n levels < length blocks
+    pub outer_inside : (levels n : ℕ) → n < length blocks → outer blocks n levels < length blocks
     outer_inside zero n h = h
     outer_inside (suc levels) n h = outer_inside levels (block_at blocks n).up (up_inside n h)
 

@@ -9,3 +9,5 @@ pub mod Aims
 pub mod Leading
 pub mod Calls
 pub mod Checked
+pub mod Worded
+pub mod WordedBlocks

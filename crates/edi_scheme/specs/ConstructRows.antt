@@ -127,7 +127,7 @@ pub row_member_below_zero : run (program_with_member (negsuc 0)) [] ≡ ends (1 
 unfolding decode zero_words size zero_value members_where
 row_member_below_zero = refl
 
-pub row_records : run program_of_records [] ≡ ends (6 ∷ 2 ∷ 7 ∷ 8 ∷ 6 ∷ 9 ∷ 4 ∷ []) outcome.done 2 0
+pub row_records : run program_of_records [] ≡ ends (6 ∷ 2 ∷ 3 ∷ 7 ∷ 8 ∷ 6 ∷ 9 ∷ 4 ∷ []) outcome.done 2 0
 unfolding decode zero_words size zero_value members_where
 row_records = refl
 

@@ -2,6 +2,8 @@ pub mod Pieces
 pub mod Long
 pub mod Code
 pub mod Stands
+pub mod Lines
+pub mod Laws
 pub mod Sides
 pub mod Programs
 pub mod ProcessPrograms

@@ -149,20 +149,21 @@ program_with_member n =
 
 -- record pair (a, b: int); array row [1:2] (pair); record wide (p: pair; c: int)
 -- HEAD var x: int; r: row; p, q: pair; w: wide
--- begin x := 4; p := pair(x, 6); p := pair(p.b, p.a); r[x - 3] := pair(1, 2); r[2] := p; q := r[2];
---   show q.a; show r[1].b; if q = p do show 7 end; q.a := 0; if q <> p do show 8 end; r := row(q, p); show r[2].a;
---   w := wide(p, 9); show w.c; show w.p.b end
+-- begin x := 4; p := pair(x, 6); p := pair(p.b, p.a); r[x - 3] := pair(-1, 2); r[2] := p; q := r[2];
+--   show q.a; show r[1].b; if r[1].a = -1 do show 3 end; if q = p do show 7 end; q.a := 0; if q <> p do show 8 end;
+--   r := row(q, p); show r[2].a; w := wide(p, 9); show w.c; show w.p.b end
 abbrev pub program_of_records : ProgramUnit
 program_of_records =
     program_with (record_of (0 ∷ 0 ∷ []) ∷ array_of 0 (pos 1) (pos 2) 3 ∷ record_of (3 ∷ 0 ∷ []) ∷ []) (0 ∷ 4 ∷ 3 ∷ 3 ∷ 5 ∷ [])
     (assign (variable 0 1) (natural 4)
     ∷ assign (variable 0 3) (make 3 (expressions (value_of 0 1 ∷ natural 6 ∷ [])) 1)
     ∷ assign (variable 0 3) (make 3 (expressions (load (part_of 0 3 (field 1 ∷ [])) ∷ load (part_of 0 3 (field 0 ∷ [])) ∷ [])) 1)
-    ∷ assign (part_of 0 2 (index (two (value_of 0 1) op.Minus (natural 3) 1) 1 ∷ [])) (make 3 (expressions (natural 1 ∷ natural 2 ∷ [])) 1)
+    ∷ assign (part_of 0 2 (index (two (value_of 0 1) op.Minus (natural 3) 1) 1 ∷ [])) (make 3 (expressions (number (negsuc 0) ∷ natural 2 ∷ [])) 1)
     ∷ assign (part_of 0 2 (at 2 ∷ [])) (value_of 0 3)
     ∷ assign (variable 0 4) (load (part_of 0 2 (at 2 ∷ [])))
     ∷ show 0 (load (part_of 0 4 (field 0 ∷ [])))
     ∷ show 0 (load (part_of 0 2 (at 1 ∷ field 1 ∷ [])))
+    ∷ show_if 0 (two (load (part_of 0 2 (at 1 ∷ field 0 ∷ []))) op.Equal (number (negsuc 0)) 1) 3
     ∷ show_if 0 (two (value_of 0 4) op.Equal (value_of 0 3) 1) 7
     ∷ assign (part_of 0 4 (field 0 ∷ [])) (natural 0)
     ∷ show_if 0 (two (value_of 0 4) op.NotEqual (value_of 0 3) 1) 8

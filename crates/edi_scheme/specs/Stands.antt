@@ -1,17 +1,14 @@
 -- Where the code of each construct stands: from an address to the one behind it. What stands at an address is told by any
 -- function, as in the definition of the machine; `entry` tells where each block begins.
-use Rattle.std.specs.Prelude.{◌≡◌, ℕ, ◌<◌, ◌≤◌, Bool, true, false, List, [], ◌∷◌, length, map, Option, Some, None}
-use Rattle.edi_unit.specs.Types.{Shape, record_of, shape_at, is_set_shape, size}
-use Rattle.edi_unit.specs.Tree.{Expression, constant, load, not_of, minus, chain, make, convert, invoke, Expressions, no_expression, expression_then, link, Links, no_link, link_then, Place, place, Part, field, index, Parts, no_part, part_then, Argument, by_value, by_variable, by_procedure, Arguments, no_argument, argument_then, Act, skip, assign, call, halt, conditional, loop, await, cobegin, Acts, no_act, act_then, Clause, clause, Clauses, no_clause, clause_then, Block, ProgramUnit}
+use Rattle.std.specs.Prelude.{◌≡◌, ℕ, ◌<◌, Bool, true, false, List, [], ◌∷◌, length, map, Option, Some, None}
+use Rattle.edi_unit.specs.Types.{Shape, shape_at, is_set_shape, size}
+use Rattle.edi_unit.specs.Tree.{Expression, constant, load, not_of, minus, chain, make, convert, invoke, Expressions, no_expression, expression_then, link, Links, no_link, link_then, Place, place, Part, field, index, Parts, no_part, part_then, Argument, by_value, by_variable, by_procedure, Arguments, no_argument, argument_then, Act, skip, assign, call, halt, conditional, loop, await, cobegin, Acts, no_act, act_then, Clause, clause, Clauses, no_clause, clause_then, Block}
 use Rattle.edi_unit.specs.Need.{block_at, slot_at, slot_type, part_type, operator_type, place_type, expression_type}
-use Rattle.edi_unit.specs.Fits.{Fits}
 use Rattle.edi_meaning.specs.Step.{is_quiet}
 use Rattle.edi_target.specs.Op as instruction
 use Rattle.edi_target.specs.Op.{Instruction, word_of_integer}
-use Rattle.edi_target.specs.Check.{CodeParts, IsSound}
-use Rattle.edi_target.specs.Fetch.{fetch}
 use Rattle.edi_scheme.specs.Pieces.{Code, field_offset, is_branch, entry_of, return_of, variable_code, element_code, operation, decision, check_code, constant_words, Choice, once, repeated, released, close_code, again_code}
-use Rattle.edi_scheme.specs.Code.{slot_offset, call_code, procedure_code, entry, code_of}
+use Rattle.edi_scheme.specs.Code.{slot_offset, call_code, procedure_code}
 
 -- one of two, as a test says
 abbrev pub Either : Bool → Type 0 → Type 0 → Type 0
@@ -161,31 +158,3 @@ module _ (fetched : ℕ → Option (Instruction × ℕ)) where
 
     abbrev pub AreBlocks : Type 0
     AreBlocks = (n : ℕ) → n < length blocks → IsBlock n
-
--- ---- the law
-
--- a record has a field, so that each value takes a word
-abbrev pub HasPart : Shape → Type 0
-HasPart (record_of fs) = 0 < length fs
-HasPart _ = Unit {0}
-
-abbrev pub HaveParts : List Shape → Type 0
-HaveParts types = (t : ℕ) → t < length types → HasPart (shape_at types t)
-
--- in the code of a unit that fits, the code of each block stands where it begins
-abbrev pub CodeStands : Type 0
-CodeStands =
-    (unit : ProgramUnit) → Fits unit → HaveParts unit.types →
-    AreBlocks (fetch (code_of unit)) unit.types unit.blocks (entry unit.types unit.blocks)
-
--- and it is as long as its blocks together
-abbrev pub CodeIsLong : Type 0
-CodeIsLong = (unit : ProgramUnit) → length (code_of unit) ≡ entry unit.types unit.blocks (length unit.blocks)
-
--- the code of a unit, which is entered at its first word
-abbrev pub parts_of : ProgramUnit → CodeParts
-parts_of unit = record { words = code_of unit; entry = 0; calls = unit.calls }
-
--- the code of a unit that fits has no fault, where it is not too long for a code
-abbrev pub CodeIsSound : Type 0
-CodeIsSound = (unit : ProgramUnit) → Fits unit → HaveParts unit.types → length (code_of unit) ≤ 4194304 → IsSound (parts_of unit)

@@ -3,7 +3,7 @@
 //! nothing of this crate: the functions here only state laws.
 #![tactic(auto)]
 
-ghost use Rattle.edi_scheme.specs.Stands.{CodeIsLong, CodeIsSound, CodeStands};
+ghost use Rattle.edi_scheme.specs.Laws.{CodeIsLong, CodeIsSound, CodeIsWords, CodeStands};
 
 /// In the code of every unit that fits, and whose records have fields, the code of each block stands where the block begins,
 /// the code of each statement, expression and place in it one behind the other, each instruction whole and with operands that
@@ -22,4 +22,10 @@ pub fn code_is_long()
 /// first word, and its parameters are at most ten different calls of the system.
 pub fn code_is_sound()
     ensures law { CodeIsSound }
+{}
+
+/// The numbers in the code of every unit that fits, and whose records have fields, are words, where the unit's lines are below
+/// 65,536 and the code has fewer than 2^32 words.
+pub fn code_is_words()
+    ensures law { CodeIsWords }
 {}
