@@ -6,5 +6,5 @@ pub mod Ends
 pub mod Staying
 pub mod Opening
 pub mod Begun
-pub mod Completed
+pub mod Completing
 pub mod Answered
