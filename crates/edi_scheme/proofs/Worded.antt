@@ -151,10 +151,10 @@ again_small false target h = small_one (wt 40 target (omega arith) h)
 -- ---- the constructs of a block, below a limit of addresses
 
 module _ (types : List Shape) (table : IsTypeTable types) (parts : HaveParts types) (shapes : ShapesFit types) (blocks : List Block) (headings : ℕ → ℕ → Heading) (each : (n : ℕ) → n < length blocks → BlockFits types blocks headings n) (entry : ℕ → ℕ) (limit : ℕ) (limited : limit < 2 ^ 32) (entries : (n : ℕ) → n < length blocks → entry n ≤ limit) where
-  size_word : (t : ℕ) → t < length types → size types t < 2 ^ 16
+  pub size_word : (t : ℕ) → t < length types → size types t < 2 ^ 16
   size_word t h = let small = size-small types t table h in omega (arith, small)
 
-  need_word : (n : ℕ) → n < length blocks → (block_at blocks n).need < 2 ^ 16
+  pub need_word : (n : ℕ) → n < length blocks → (block_at blocks n).need < 2 ^ 16
   need_word n h = let small = (each n h).small in omega (arith, small)
 
   -- a variable stands in its frame
@@ -187,7 +187,7 @@ module _ (types : List Shape) (table : IsTypeTable types) (parts : HaveParts typ
       omega (arith, small, size-is types t table h, fields_size (shape_at types t) n)
 
   module _ (b : ℕ) (inside : b < length blocks) where
-    slot_word : (levels v : ℕ) → slot_offset types blocks entry b levels v < 2 ^ 16
+    pub slot_word : (levels v : ℕ) → slot_offset types blocks entry b levels v < 2 ^ 16
     slot_word levels v = offset_word (outer blocks b levels) v (known.outer_inside types table parts blocks headings each b inside levels b inside)
 
     element_small : (s : Shape) (line : ℕ) → HasOrderedBounds s → ShapeFits types s → All (λ u. u < length types) (named_types s) → IsLine line → AreSmall (element_code types s line)

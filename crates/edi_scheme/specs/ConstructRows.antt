@@ -12,7 +12,7 @@ use Rattle.edi_unit.specs.Values.{zero_value}
 use Rattle.edi_unit.specs.Tree.{constant, minus, convert, ProgramUnit}
 use Rattle.edi_meaning.specs.Rows.{empty_system, number, two}
 use Rattle.edi_target.specs.Decode.{decode}
-use Rattle.edi_scheme.specs.Programs.{program_of_operators, program_that_shows_value, program_with_clauses, program_that_halts, program_of_sets, program_with_member, program_of_records, program_with_bound, program_with_string, program_that_hands_on, program_with_parts, program_of_procedures, program_of_functions, program_through_outer, program_that_calls_itself}
+use Rattle.edi_scheme.specs.Programs.{program_of_operators, program_that_shows_value, program_with_clauses, program_that_halts, program_of_sets, program_with_member, program_of_records, program_with_bound, program_with_string, program_that_hands_on, program_with_parts, program_of_procedures, program_of_functions, program_through_outer, program_through_levels, program_that_calls_itself}
 use Rattle.edi_scheme.specs.Sides.{End, both, twice, with_needs}
 
 -- with a bound of a hundred turns
@@ -168,6 +168,10 @@ row_functions = refl
 pub row_through_outer : run program_through_outer [] ≡ ends (0 ∷ 1 ∷ 2 ∷ []) outcome.done 14 0
 unfolding decode zero_words size zero_value members_where
 row_through_outer = refl
+
+pub row_through_levels : run program_through_levels [] ≡ ends (5 ∷ 7 ∷ []) outcome.done 6 0
+unfolding decode zero_words size zero_value members_where
+row_through_levels = refl
 
 pub row_calls_itself : both (with_needs program_that_calls_itself) (record empty_system { input = 97 ∷ 98 ∷ 99 ∷ [] }) 100 (listed [])
     ≡ twice (record empty_system { input = 99 ∷ []; shown = 98 ∷ 97 ∷ [] }, outcome.done, 4, 0)

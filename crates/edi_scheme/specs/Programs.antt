@@ -279,6 +279,22 @@ program_through_outer =
     (conditional (one_clause (two (value_of 1 0) op.Greater (natural 0) 1) (call_block 2 1 (by_value (two (value_of 1 0) op.Minus (natural 1) 1) ∷ []) ∷ [])) ∷ show 2 (value_of 1 0) ∷ [])
     ∷ [])
 
+-- array t [1:2] (int)
+-- HEAD var a: t proc p(var x: t; n: int) proc q(m: t) begin x[2] := n; a[1] := m[2] end begin q(x) end
+-- begin a[2] := 5; p(a, 7); show a[1]; show a[2] end: q means variables of both blocks round it, and has a copy of x
+abbrev pub program_through_levels : ProgramUnit
+program_through_levels =
+    program_with (array_of 0 (pos 1) (pos 2) 0 ∷ []) (3 ∷ [])
+    (assign (part_of 0 1 (at 2 ∷ [])) (natural 5)
+    ∷ call_block 0 1 (by_variable (variable 0 1) ∷ by_value (natural 7) ∷ [])
+    ∷ show 0 (load (part_of 0 1 (at 1 ∷ [])))
+    ∷ show 0 (load (part_of 0 1 (at 2 ∷ [])))
+    ∷ [])
+    (procedure 0 (parameter.Var 3 ∷ parameter.Value 0 ∷ []) [] (call_block 0 2 (by_value (value_of 0 0) ∷ []) ∷ [])
+    ∷ procedure 1 (parameter.Value 3 ∷ []) []
+    (assign (part_of 1 0 (at 2 ∷ [])) (value_of 1 1) ∷ assign (part_of 2 1 (at 1 ∷ [])) (load (part_of 0 0 (at 2 ∷ []))) ∷ [])
+    ∷ [])
+
 -- proc main(proc accept(var c: char); proc display(value: char)) var c: char
 -- begin accept(c); if c = 'a' do main(accept, display) end; display(c) end: the program calls itself
 abbrev pub program_that_calls_itself : ProgramUnit
