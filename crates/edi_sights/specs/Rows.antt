@@ -2,7 +2,7 @@
 use Rattle.std.specs.Prelude.{◌≡◌, ℕ, pos, [], ◌∷◌, Option, Some, None, codes, refl}
 use Prim.Native.String.{String}
 use Rattle.edi_tree.specs.declared.constants.Constant.TheVariants as constant
-use Rattle.edi_tree.specs.Tree.{Program, program, no_global, Declarations, procedure, Heading, heading, no_params, params, no_param, next_param, value_param, var_param, group, Group, no_name, no_group, record_decl, var_list, Item, item_declaration, module_declaration, module_with, Members, item_member, exported_member, no_member, next_member, type_item, var_item, procedure_item, pre_item, post_item, no_declaration, next_declaration, StatementList, list, no_statement, next_statement, Statement, skip, when_statement, if_statement, while_statement, cobegin, Branch, branch, no_branch, next_branch, conditions, condition, no_else, next_else}
+use Rattle.edi_tree.specs.Tree.{Program, program, no_global, Declarations, procedure, Heading, heading, no_params, params, no_param, next_param, value_param, var_param, group, Group, no_name, no_group, record_decl, var_list, Item, item_declaration, module_declaration, module_with, Members, item_member, exported_member, module_member, no_member, next_member, type_item, var_item, procedure_item, pre_item, post_item, no_declaration, next_declaration, StatementList, list, no_statement, next_statement, Statement, skip, when_statement, if_statement, while_statement, cobegin, Branch, branch, no_branch, next_branch, conditions, condition, no_else, next_else}
 use Rattle.edi_unit.specs.Types.{size}
 use Rattle.edi_static.specs.Written.{id, only, named}
 use Rattle.edi_sights.specs.declared.answer.Sight.{Sight}
@@ -132,6 +132,17 @@ pub row_module : sights_of
     ≡ sight 1 0 (slot 1 0) ∷ sight 0 0 (slot 0 0) ∷ sight 0 1 None ∷ []
 unfolding size
 row_module = refl
+
+-- a procedure that a module exports, and a module in a module:
+-- proc main / module var y: int / * proc p begin when true do skip end end / module var x: int begin when true do skip end end begin when true do skip end end
+--   begin skip end
+pub row_inner_module : sights_of
+    (main (module_then (next_member (item_member (variable_of "y" "int")) (next_member (exported_member waits)
+    (next_member (module_member (module_with (next_member (item_member (variable_of "x" "int")) no_member) (one (await 3)))) no_member)))
+    (one (await 3)) no_declaration) (one skip)) 3 (codes "x")
+    ≡ sight 1 0 None ∷ sight 0 0 (slot 0 1) ∷ sight 0 1 None ∷ []
+unfolding size
+row_inner_module = refl
 
 -- but one that the module exports is:
 -- proc main / module * var x: int begin skip end begin when true do skip end end
