@@ -6,7 +6,7 @@ ghost use Rattle.edi_calls.specs.Calls.{argument_words, answer_words};
 use edi_calls::{CallEnd, Calls};
 
 /// A call of a program.
-#[derive(Clone, Copy, Debug, Drop)]
+#[derive(Clone, Copy, Drop)]
 pub(crate) enum Call {
     Accept,
     Display(u16),
@@ -21,7 +21,7 @@ pub(crate) enum Call {
 }
 
 /// How a call was answered.
-#[derive(Clone, Copy, Debug, PartialEq, Eq, Drop)]
+#[derive(Clone, Copy, PartialEq, Drop)]
 pub(crate) enum Answer {
     /// Without an answer word.
     Done,

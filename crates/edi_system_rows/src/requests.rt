@@ -11,7 +11,7 @@ use edi_host::{Drive, Next, Sink, Source};
 use edi_system::System;
 
 /// A call of the shell.
-#[derive(Clone, Copy, Debug, Drop)]
+#[derive(Clone, Copy, Drop)]
 pub(crate) enum Request {
     Take,
     Show(&'static str),
@@ -33,7 +33,7 @@ pub(crate) enum Request {
 }
 
 /// What a call tells.
-#[derive(Clone, Copy, Debug, PartialEq, Eq, Drop)]
+#[derive(Clone, Copy, PartialEq, Drop)]
 pub(crate) enum Told {
     Yes,
     No,
