@@ -9,36 +9,26 @@ use Rattle.std.proofs.Math.ListN.{get_or-map}
 use Rattle.std.proofs.lemmas.Bool.{leb-true, ltb-true}
 use Rattle.std.proofs.lemmas.List.{length-map, map-append, map-set, length-set}
 use Rattle.edi_calls.specs.State.{is_title, most_bytes, pages_of}
-use Rattle.edi_catalog.specs.declared.faults.MountFault.TheVariants as fault
-use Rattle.edi_catalog.specs.declared.entries.Said.{Said}
-use Rattle.edi_catalog.specs.declared.entries.Said.TheVariants as said
-use Rattle.edi_catalog.specs.Records.{FileRecord}
-use Rattle.edi_catalog.specs.Rules.{first_broken, needs}
-use Rattle.edi_catalog.specs.Entries.{block_at, is_data, entry_says}
-use Rattle.edi_catalog.specs.Image.{header_block, header_rules, titles_in, slot_rules, entry_at, said_at, entries_from, entries_of, mount_fault_of, numbers_of, slots_of}
-use Rattle.edi_catalog.specs.Stored.{StoredFile, stored_of, are_data, is_record, is_stored, is_fit}
+use Rattle.edi_image.specs.declared.faults.MountFault.TheVariants as fault
+use Rattle.edi_image.specs.declared.entries.Said.{Said}
+use Rattle.edi_image.specs.declared.entries.Said.TheVariants as said
+use Rattle.edi_image.specs.Records.{FileRecord}
+use Rattle.edi_image.specs.Rules.{first_broken, needs}
+use Rattle.edi_image.specs.Entries.{block_at, is_data}
+use Rattle.edi_image.specs.Image.{header_block, header_rules, titles_in, slot_rules, entry_at, said_at, entries_from, entries_of, mount_fault_of, numbers_of, slots_of}
+use Rattle.edi_image.specs.Stored.{StoredFile, stored_of, are_data, is_record, is_stored, is_fit, IsKeptOf}
 use Rattle.edi_catalog.specs.Files.{find_place}
-use Rattle.edi_catalog.specs.Mounted.{IsKeptOf}
-use Rattle.edi_catalog.specs.Writing.{bytes_of_slot, IsWritten, kept_as, put_kept, file_as, put_file, IsRecordFor, IsRecordAt}
-use Rattle.edi_catalog.proofs.Spelled.{both}
-use Rattle.edi_catalog.proofs.SlotRules.{entry_fits}
+use Rattle.edi_image.specs.Bytes.{bytes_of_slot}
+use Rattle.edi_catalog.specs.Writing.{IsWritten, kept_as, put_kept, file_as, put_file, IsRecordFor, IsRecordAt}
+use Rattle.edi_image.proofs.Spelled.{both}
+use Rattle.edi_image.proofs.SlotRules.{entry_fits}
 use Rattle.edi_catalog.proofs.FilePlaces.{kept_at}
-use Rattle.edi_catalog.proofs.Mounts.{rules_of}
-use Rattle.edi_catalog.proofs.WholeFiles.{file_of, slots_are}
-use Rattle.edi_catalog.proofs.EntryBytes.{says_record, maps_fit_back}
+use Rattle.edi_image.proofs.ImageRules.{rules_of}
+use Rattle.edi_image.proofs.KeptFiles.{file_of, slots_are}
+use Rattle.edi_image.proofs.EntryBytes.{maps_fit_back, said_of, says_slot}
 use Rattle.edi_catalog.proofs.EntryFrames.{block_kept, entries_around, entries_written, length-entries_from}
-use Rattle.edi_catalog.proofs.UsedBlocks.{titles_all, neither, none_left, none_right, none_both}
+use Rattle.edi_image.proofs.UsedBlocks.{titles_all, neither, none_left, none_right, none_both}
 use Rattle.edi_catalog.proofs.OneEntry.{MapsSame, EntrySame, AllSame, Around, around, IsApart, own_apart, new_apart, freed_holds, record_holds, numbers_same, any_left, any_right}
-
--- ---- what the written entry says
-
-abbrev pub said_of : Option FileRecord → Said
-said_of None = said.Free
-said_of (Some r) = said.File r
-
-pub says_slot : (count : ℕ) (r : Option FileRecord) → IfSome r (λ q. is_record count q ≡ true) → entry_says count (bytes_of_slot r) ≡ said_of r
-says_slot count None h = refl
-says_slot count (Some q) h = says_record count q h
 
 -- ---- what is known of a record
 
@@ -204,7 +194,7 @@ before_of blocks files slot file h is there =
       fits = ap (is_fit (length blocks)) (sym said_is.0) ∙ entry_fits (length blocks) (entry_at blocks slot);
     }
 
-header_same : (one two : List (List ℕ)) → length two ≡ length one → block_at two 0 ≡ block_at one 0 → header_rules 2 two ≡ header_rules 2 one
+pub header_same : (one two : List (List ℕ)) → length two ≡ length one → block_at two 0 ≡ block_at one 0 → header_rules 2 two ≡ header_rules 2 one
 header_same one two size same =
     ap (λ n. needs (nat_le 64 n) fault.Short
     ∷ needs (nat_le n 4096 && bytes_eq (block_at two 0) (header_block 2 n)) fault.Header ∷ []) size

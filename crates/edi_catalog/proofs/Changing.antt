@@ -12,17 +12,19 @@ use Rattle.edi_disk.proofs.Writing.{told, where_told}
 use Rattle.edi_catalog.specs.declared.ends.CatEnd.{CatEnd}
 use Rattle.edi_catalog.specs.declared.ends.CatEnd.TheVariants as cat
 use Rattle.edi_catalog.specs.declared.catalog.Catalog.{Catalog}
-use Rattle.edi_catalog.specs.Records.{FileRecord}
-use Rattle.edi_catalog.specs.Image.{slots_of}
-use Rattle.edi_catalog.specs.Stored.{StoredFile, is_record, is_stored, are_data, is_titled}
+use Rattle.edi_image.specs.Records.{FileRecord}
+use Rattle.edi_image.specs.Image.{slots_of}
+use Rattle.edi_image.specs.Stored.{StoredFile, is_record, is_stored, are_data, is_titled, IsKeptOf}
 use Rattle.edi_catalog.specs.Files.{find_place, file_titled}
-use Rattle.edi_catalog.specs.Mounted.{IsKeptOf, IsMounted, disk_of, files_of}
-use Rattle.edi_catalog.specs.Changes.{Answers, BeforeOrAfter, Changes, Leaves, changed_at, kept_changed, not_deleted, not_renamed, slots_changed}
-use Rattle.edi_catalog.specs.Writing.{bytes_of_slot, is_protected, IsWritten, EntryLeaves, PutsEntry, kept_as, put_kept, file_as, put_file, IsRecordFor, IsRecordAt}
-use Rattle.edi_catalog.proofs.Spelled.{both}
+use Rattle.edi_catalog.specs.Mounted.{IsMounted, disk_of, files_of}
+use Rattle.edi_catalog.specs.Changes.{Answers, BeforeOrAfter, Changes, Leaves, Untouched, changed_at, kept_changed, not_deleted, not_renamed, slots_changed}
+use Rattle.edi_image.specs.Bytes.{bytes_of_slot}
+use Rattle.edi_catalog.specs.Writing.{is_protected, IsWritten, EntryLeaves, PutsEntry, kept_as, put_kept, file_as, put_file, IsRecordFor, IsRecordAt}
+use Rattle.edi_image.proofs.Spelled.{both}
 use Rattle.edi_catalog.proofs.FilePlaces.{kept_at}
-use Rattle.edi_catalog.proofs.Told.{told_same}
-use Rattle.edi_catalog.proofs.WholeFiles.{file_of, slots_are, place_same}
+use Rattle.edi_image.proofs.Told.{told_same}
+use Rattle.edi_image.proofs.KeptFiles.{file_of, slots_are}
+use Rattle.edi_catalog.proofs.WholeFiles.{place_same}
 use Rattle.edi_catalog.proofs.Changed.{IsChangedTo, written_changes, put_stored, record_room}
 
 -- ---- a slot that is written
@@ -52,6 +54,7 @@ pub slot_done : {D X : Type 0} (held : D → Option (List (List ℕ))) (count fa
     → Changes held count faults (Ok x) None (put_kept (files_of a) place r) (put_file place r) a b
 slot_done {X = X} held count faults x place slot entry r a b mounted h at long is same puts files = record {
   answers = (refl, files);
+  untouched = tt;
   mounted = inr (record {
     works = puts.works refl;
     settled = puts.settled refl;
@@ -90,6 +93,7 @@ pub slot_failed : {D X : Type 0} (held : D → Option (List (List ℕ))) (count 
     → Changes {X = X} held count faults (Err cat.Fault) None (put_kept (files_of a) place r) (put_file place r) a b
 slot_failed {X = X} held count faults place slot entry r a b mounted h at long is same puts = record {
   answers = refl;
+  untouched = tt;
   mounted = inl refl;
   leaves =
       where_told (λ old new. Leaves {X = X} (Err cat.Fault) (slots_of old) (put_file place r (slots_of old)) old new) (held (drive_of (disk_of a)))
@@ -115,6 +119,16 @@ slot_failed {X = X} held count faults place slot entry r a b mounted h at long i
 
 -- ---- a call that is refused
 
+pub untouched_same : {X C : Type 0} (result : Result X CatEnd) (a : C) → Untouched result a a
+untouched_same (Ok done) a = tt
+untouched_same (Err cat.NoSuch) a = refl
+untouched_same (Err cat.Taken) a = refl
+untouched_same (Err cat.Protected) a = refl
+untouched_same (Err (cat.TooLarge n)) a = refl
+untouched_same (Err cat.CatalogFull) a = refl
+untouched_same (Err (cat.Full wanted free)) a = refl
+untouched_same (Err cat.Fault) a = tt
+
 pub not_changed : {D X : Type 0} (held : D → Option (List (List ℕ))) (count faults : D → ℕ) (result : Result X CatEnd) (refusal : Option CatEnd)
     (kept : List (Option StoredFile)) (wanted : List (Option File) → List (Option File)) (a : Catalog D) → IsMounted held count a
     → Answers result refusal (files_of a) kept (files_of a)
@@ -122,6 +136,7 @@ pub not_changed : {D X : Type 0} (held : D → Option (List (List ℕ))) (count 
     → Changes held count faults result refusal kept wanted a a
 not_changed held count faults result refusal kept wanted a mounted answers leaves no_fault = record {
   answers = answers;
+  untouched = untouched_same result a;
   mounted = inr mounted;
   leaves =
       told_same (held (drive_of (disk_of a))) (λ old new. Leaves result (slots_of old) (wanted (slots_of old)) old new) leaves;
@@ -255,6 +270,7 @@ changes_as held count faults result refusal title place r change change_file fil
   answers =
       subst (λ o. Answers result o (files_of a) (kept_changed change title (files_of a)) (files_of b)) (sym free)
       (subst (λ k. Answers result None (files_of a) k (files_of b)) same_kept changes.answers);
+  untouched = changes.untouched;
   mounted = changes.mounted;
   leaves =
       where_told (λ old new. Leaves result (slots_of old) (slots_changed change_file title (slots_of old)) old new) (held (drive_of (disk_of a)))

@@ -2,8 +2,8 @@
 use Rattle.std.proofs.Common.{◌≡◌, inl, inr, ℕ, Bool, true, false, List, [], ◌∷◌, ◌++◌, Some, None, refl, ap, sym, subst, ◌∙◌, append_assoc, take, drop, take-append-drop}
 use Rattle.std.specs.Prelude.{not, ◌&&◌, ◌||◌, ◌==◌, if◌then◌else◌}
 use Rattle.std.proofs.lemmas.Bool.{eqb-true, or_from, or_parts, or_cases, not-true, not_from_false, and_from, and_parts, false_from_ne_true, true≢false}
-use Rattle.edi_catalog.specs.declared.faults.MountFault.TheVariants as fault
-use Rattle.edi_catalog.specs.Rules.{Rule, needs, uses, first_broken, used_by, is_in}
+use Rattle.edi_image.specs.declared.faults.MountFault.TheVariants as fault
+use Rattle.edi_image.specs.Rules.{Rule, needs, uses, first_broken, used_by, is_in}
 use Rattle.edi_catalog.specs.Plan.{are_different}
 use Rattle.edi_catalog.proofs.Unchanged.{in_append, in_left, in_right, in_first, in_later}
 

@@ -1,13 +1,21 @@
 -- An image in which the entry of one slot is written.
 use Rattle.std.proofs.Common.{◌≡◌, ℕ, zero, suc, ◌+◌, ◌-◌, ◌*◌, ◌/◌, ◌%◌, ◌<◌, ◌≤◌, ◌⊎◌, inl, inr, List, [], ◌∷◌, ◌++◌, length, take, drop, refl, ap, sym, ◌∙◌, arith, length-append, length-drop, append_assoc}
 use Rattle.std.proofs.Math.Seq.{take-append_seam, drop-append_seam, drop-append-add}
-use Rattle.std.proofs.lemmas.List.{take-append-drop, take-append-le, drop-append-le, length-take-le, get_or-set_same, get_or-set_other, length-set}
+use Rattle.std.proofs.lemmas.List.{take-append-drop, take-append-le, drop-append-le, drop-drop, length-take-le, get_or-set_same, get_or-set_other, length-set}
 use Rattle.std.proofs.lemmas.Bool.{cases_order, cases_eq}
-use Rattle.edi_catalog.specs.Entries.{block_at, entry_says}
-use Rattle.edi_catalog.specs.Image.{entry_at, said_at, entries_from}
+use Rattle.edi_image.specs.Entries.{block_at, entry_says}
+use Rattle.edi_image.specs.Image.{entry_at, said_at, entries_from}
 use Rattle.edi_catalog.specs.Writing.{patched, with_entry, IsWritten}
 
 -- ---- in a block
+
+-- a block as it is put together
+pub over_made : (at : ℕ) (block entry front placed back rest : List ℕ) → front ≡ take at block → placed ≡ entry → rest ≡ drop at block
+    → back ≡ drop 64 rest → length entry ≡ 64 → front ++ (placed ++ back) ≡ patched at entry block
+over_made at block entry front placed back rest f p r b size =
+    ap (λ bs. front ++ (placed ++ bs)) (b ∙ ap (drop 64) r ∙ drop-drop 64 at block ∙ ap (λ n. drop (at + n) block) (sym size))
+    ∙ ap (λ bs. front ++ (bs ++ drop (at + length entry) block)) p
+    ∙ ap (λ bs. bs ++ (entry ++ drop (at + length entry) block)) f
 
 patch_here : (at : ℕ) (entry block : List ℕ) → at + 64 ≤ length block → length entry ≡ 64 → take 64 (drop at (patched at entry block)) ≡ entry
 patch_here at entry block h size =

@@ -1,15 +1,15 @@
 -- Places of files in their slots, and the blocks that they take.
-use Rattle.std.proofs.Common.{◌≡◌, ℕ, zero, suc, ◌+◌, ◌<◌, true, false, List, [], ◌∷◌, length, take, Option, Some, None, refl, sym, ap, subst, ◌∙◌, arith}
+use Rattle.std.proofs.Common.{◌≡◌, ℕ, zero, suc, ◌<◌, true, false, List, [], ◌∷◌, length, Option, Some, None, refl, sym, ap, subst, ◌∙◌, arith}
 use Rattle.std.specs.Prelude.{◌&&◌, ◌==◌, nat_le, nat_lt, if◌then◌else◌, slice_index, slice_index_or, IfSome, Ok}
 use Rattle.std.specs.List.{list_all}
 use Rattle.std.specs.Option.{option_map, option_and_then}
 use borrow.Author.Tests.{ltb-true}
 use Rattle.std.proofs.lemmas.Bool.{eqb-true}
 use Rattle.edi_calls.specs.State.{is_title, most_bytes, pages_of}
-use Rattle.edi_catalog.specs.Stored.{StoredFile, is_titled, is_record, is_stored, are_data}
-use Rattle.edi_catalog.specs.Files.{find_place, file_titled, blocks_in, blocks_taken, is_sized, PageIs}
-use Rattle.edi_catalog.specs.Entries.{block_at, is_data}
-use Rattle.edi_catalog.proofs.Spelled.{both}
+use Rattle.edi_image.specs.Stored.{StoredFile, is_titled, is_record, is_stored, are_data, is_sized}
+use Rattle.edi_catalog.specs.Files.{find_place, file_titled, PageIs}
+use Rattle.edi_image.specs.Entries.{block_at, is_data}
+use Rattle.edi_image.proofs.Spelled.{both}
 
 -- the place of a slot that passes, where none before it does
 pub place_at : (title : List ℕ) (files : List (Option StoredFile)) (place : ℕ) (file : Option StoredFile)
@@ -32,16 +32,6 @@ place_none title (file ∷ files) all =
     let first : is_titled title file ≡ false = all 0 (omega arith) in
     let later : find_place title files ≡ None = place_none title files (λ k h. all (suc k) (omega arith)) in
     ap (λ b. if b then Some 0 else option_map suc (find_place title files)) first ∙ ap (option_map suc) later
-
--- one more file
-pub taken_more : (files : List (Option StoredFile)) (i : ℕ) (file : Option StoredFile) → i < length files → file ≡ slice_index_or files i file
-    → blocks_taken (take (i + 1) files) ≡ blocks_taken (take i files) + blocks_in file
-taken_more [] i file h e = absurd (omega arith)
-taken_more (first ∷ files) zero file h e = (let same : blocks_in first ≡ blocks_in file = ap blocks_in (sym e) in omega arith)
-taken_more (first ∷ files) (suc i) file h e =
-    let more : blocks_taken (take (i + 1) files) ≡ blocks_taken (take i files) + blocks_in file = taken_more files i file (omega arith) e in
-    let place : suc i + 1 ≡ suc (i + 1) = omega arith in
-    ap (λ n. blocks_taken (take n (first ∷ files))) place ∙ omega (arith, more)
 
 -- files that are kept are not too long
 sized : (count : ℕ) (file : Option StoredFile) → is_stored count file ≡ true → is_sized file ≡ true

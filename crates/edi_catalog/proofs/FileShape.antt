@@ -4,8 +4,8 @@ use Rattle.std.specs.Prelude.{◌&&◌, ◌==◌, nat_le, if◌then◌else◌, s
 use Rattle.std.proofs.lemmas.Bool.{eqb-true, leb-true, leb-false, ltb-true, and_parts, and_from, cases_Bool}
 use Rattle.std.proofs.lemmas.List.Folds.{list_all-append}
 use Rattle.edi_calls.specs.State.{is_title, most_bytes, pages_of, blocks_of}
-use Rattle.edi_catalog.specs.Entries.{is_data}
-use Rattle.edi_catalog.specs.Stored.{StoredFile, are_data, is_record, is_stored}
+use Rattle.edi_image.specs.Entries.{is_data}
+use Rattle.edi_image.specs.Stored.{StoredFile, are_data, is_record, is_stored}
 use Rattle.edi_catalog.specs.Plan.{used_in}
 use Rattle.edi_catalog.proofs.FreeBlocks.{length-used_in}
 use Rattle.edi_catalog.proofs.Unchanged.{all_in}

@@ -3,13 +3,12 @@ use Rattle.std.proofs.Common.{◌≡◌, ℕ, zero, suc, ◌+◌, ◌-◌, ◌�
 use Rattle.std.specs.Prelude.{not, ◌&&◌, ◌||◌, ◌==◌, nat_le, nat_lt, if◌then◌else◌}
 use Rattle.std.specs.List.{list_all}
 use Rattle.edi_calls.specs.State.{pages_of}
-use Rattle.edi_catalog.specs.Rules.{is_in}
-use Rattle.edi_catalog.specs.Entries.{is_data}
-use Rattle.edi_catalog.specs.Stored.{StoredFile, are_data, is_record, is_stored}
-use Rattle.edi_catalog.specs.Files.{blocks_in, blocks_taken}
+use Rattle.edi_image.specs.Rules.{is_in}
+use Rattle.edi_image.specs.Entries.{is_data}
+use Rattle.edi_image.specs.Stored.{StoredFile, are_data, is_record, is_stored, blocks_in, blocks_taken}
 use Rattle.edi_catalog.specs.Plan.{used_in, blocks_used, are_different, AreFree}
 use Rattle.std.proofs.lemmas.Bool.{eqb-true, or_from, le-leb, lt-ltb}
-use Rattle.edi_catalog.proofs.Spelled.{both}
+use Rattle.edi_image.proofs.Spelled.{both}
 use Rattle.edi_calls.specs.State.{is_title, most_bytes}
 use Rattle.std.proofs.Common.{ne_eqb}
 

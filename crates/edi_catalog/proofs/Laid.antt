@@ -6,14 +6,14 @@ use Rattle.std.proofs.Common.{inl, inr}
 use Rattle.std.proofs.lemmas.List.{length-take, get_or_append_left, get_or-append-add, take_at, take_all, nil_from_length}
 use Rattle.std.proofs.Math.Seq.{take-append-add}
 use Rattle.std.proofs.lemmas.List.Folds.{list_all-append}
-use Rattle.edi_catalog.specs.Build.{filled, two, all_two, map_block}
-use Rattle.edi_catalog.specs.Rules.{first_broken, used_by, page_rules}
-use Rattle.edi_catalog.specs.Entries.{short_at, shorts, block_at, is_data}
-use Rattle.edi_catalog.specs.Image.{map_rules, maps_rules, numbers_in, numbers_of}
-use Rattle.edi_catalog.specs.Stored.{StoredFile, are_data}
+use Rattle.edi_image.specs.Build.{filled, two, all_two, map_block}
+use Rattle.edi_image.specs.Rules.{first_broken, used_by, page_rules}
+use Rattle.edi_image.specs.Entries.{short_at, shorts, block_at, is_data}
+use Rattle.edi_image.specs.Image.{map_rules, maps_rules, numbers_in, numbers_of}
+use Rattle.edi_image.specs.Stored.{StoredFile, are_data}
 use Rattle.edi_catalog.specs.Plan.{part, content_of, used_in, are_different, ArePut}
-use Rattle.edi_catalog.proofs.MapRules.{used_by-page_rules}
-use Rattle.edi_catalog.proofs.FileRules.{used_by-append}
+use Rattle.edi_image.proofs.MapRules.{used_by-page_rules}
+use Rattle.edi_image.proofs.FileRules.{used_by-append}
 use Rattle.edi_catalog.proofs.Different.{passes, passes_append, none_broken, woven, woven_different}
 
 -- ---- a map block

@@ -2,7 +2,7 @@
 use Rattle.std.proofs.Common.{◌≡◌, ℕ, ◌+◌, ◌-◌, ◌*◌, ◌/◌, ◌%◌, ◌^◌, ◌≤◌, ◌<◌, List, [], ◌∷◌, ◌++◌, length, take, drop, replicate, get_or, refl, ap, sym, ◌∙◌, arith, min, append_assoc, append-nil, length-append}
 use Rattle.std.specs.Int.{bytes_high_first}
 use Rattle.std.proofs.lemmas.List.{take_at, drop-replicate, take_more, take_all, length-take-le, drop-drop, drop_at, take_min}
-use Rattle.edi_catalog.specs.Build.{filled, two, all_two, map_block}
+use Rattle.edi_image.specs.Build.{filled, two, all_two, map_block}
 use Rattle.edi_catalog.specs.Plan.{part}
 
 pub two_written : (n : ℕ) → n < 2 ^ 16 → bytes_high_first 2 n ≡ two n
@@ -24,13 +24,6 @@ all_two_more : (numbers : List ℕ) (n : ℕ) → all_two (numbers ++ n ∷ []) 
 all_two_more [] n = append-nil (two n)
 all_two_more (m ∷ numbers) n =
     ap (λ bs. two m ++ bs) (all_two_more numbers n) ∙ sym (append_assoc (two m) (all_two numbers) (two n))
-
-pub map_begun : (pages block after : List ℕ) (n : ℕ) → n ≡ length pages → block ≡ replicate 512 0
-    → after ≡ take 0 block ++ (two n ++ drop (0 + 2) block)
-    → after ≡ two (length pages) ++ (all_two (take 0 pages) ++ replicate (512 - (2 + 2 * 0)) 0)
-map_begun pages block after n size zeros e =
-    e ∙ ap (λ k. two k ++ drop 2 block) size ∙ ap (λ b. two (length pages) ++ drop 2 b) zeros
-    ∙ ap (λ b. two (length pages) ++ b) (drop-replicate 2 512 0)
 
 pub map_more : (pages before after : List ℕ) (i page : ℕ) → i < length pages → page ≡ get_or pages i 0
     → before ≡ two (length pages) ++ (all_two (take i pages) ++ replicate (512 - (2 + 2 * i)) 0)

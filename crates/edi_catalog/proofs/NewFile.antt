@@ -9,8 +9,9 @@ use Rattle.edi_disk.specs.Shown.{over, shown, drive_of}
 use Rattle.edi_disk.specs.Since.{Between, Kept}
 use Rattle.edi_disk.proofs.Since.{between_unput, kept_settled}
 use Rattle.edi_disk.proofs.Writing as writing
-use Rattle.edi_catalog.specs.Stored.{StoredFile}
-use Rattle.edi_catalog.specs.Writing.{EntryLeaves, PutsEntry, bytes_of_record}
+use Rattle.edi_image.specs.Stored.{StoredFile}
+use Rattle.edi_catalog.specs.Writing.{EntryLeaves, PutsEntry}
+use Rattle.edi_image.specs.Bytes.{bytes_of_record}
 use Rattle.edi_catalog.specs.Plan.{ArePut, content_of, used_in}
 use Rattle.edi_catalog.specs.Putting.{HasAll, Puts, OnlyIn, NewLeaves, WritesNew}
 use Rattle.edi_catalog.proofs.Unchanged.{among, gets_same}

@@ -6,9 +6,9 @@ use Rattle.std.proofs.lemmas.List.{length-take-le}
 use Rattle.std.proofs.lemmas.List.Folds.{list_all-append}
 use Rattle.edi_calls.specs.State.{is_title, most_bytes, pages_of, blocks_of}
 use Rattle.edi_calls.specs.declared.kinds.FileKind.{FileKind}
-use Rattle.edi_catalog.specs.Records.{maps_of}
-use Rattle.edi_catalog.specs.Entries.{is_data}
-use Rattle.edi_catalog.specs.Stored.{StoredFile, are_data, is_record, is_stored}
+use Rattle.edi_image.specs.Records.{maps_of}
+use Rattle.edi_image.specs.Entries.{is_data}
+use Rattle.edi_image.specs.Stored.{StoredFile, are_data, is_record, is_stored}
 use Rattle.edi_catalog.specs.Plan.{used_in, AreFree}
 
 -- one or two maps
@@ -33,12 +33,6 @@ pub pages_fit : (size : ℕ) → pages_of size ≤ blocks_of size
 pages_fit size = go (nat_le (pages_of size) 255) where
   go : (few : Bool) → pages_of size ≤ pages_of size + (if few then 1 else 2)
   go few = omega arith
-
-pub some_map : (size : ℕ) → 1 ≤ blocks_of size - pages_of size
-some_map size = subst (λ n. 1 ≤ n) (sym (parts_of size)) (go (nat_le (pages_of size) 255)) where
-  go : (few : Bool) → 1 ≤ (if few then 1 else 2)
-  go true = omega arith
-  go false = omega arith
 
 abbrev pub new_file : (title : List ℕ) → FileKind → (maps pages : List ℕ) → (size : ℕ) → StoredFile
 new_file title kind maps pages size = record {

@@ -6,14 +6,14 @@ use Rattle.std.specs.Str.{bytes_eq}
 use Rattle.std.proofs.lemmas.List.Folds.{list_any-append}
 use Rattle.std.proofs.lemmas.Slice.Eq.{bytes_eq-Decides}
 use Rattle.edi_calls.specs.State.{pages_of}
-use Rattle.edi_catalog.specs.declared.faults.MountFault.TheVariants as fault
-use Rattle.edi_catalog.specs.declared.entries.Said.{Said}
-use Rattle.edi_catalog.specs.declared.entries.Said.TheVariants as said
-use Rattle.edi_catalog.specs.Records.{FileRecord}
-use Rattle.edi_catalog.specs.Rules.{Rule, needs, uses, is_in, first_broken, used_by, page_rules}
-use Rattle.edi_catalog.specs.Entries.{block_at, short_at}
-use Rattle.edi_catalog.specs.Image.{numbers_in, numbers_of, map_rules, maps_rules, entry_rules, titles_in, slot_rules}
-use Rattle.edi_catalog.proofs.UsedBlocks.{or_left, or_right, neither, or_true, or_first, in_left, in_right, in_neither, none_left, none_right, none_both, need_holds, not_used, others_used, uses_of, uses_all, titles_all, used_same, slot_used, slot_cut}
+use Rattle.edi_image.specs.declared.faults.MountFault.TheVariants as fault
+use Rattle.edi_image.specs.declared.entries.Said.{Said}
+use Rattle.edi_image.specs.declared.entries.Said.TheVariants as said
+use Rattle.edi_image.specs.Records.{FileRecord}
+use Rattle.edi_image.specs.Rules.{Rule, needs, uses, is_in, first_broken, used_by, page_rules}
+use Rattle.edi_image.specs.Entries.{block_at, short_at}
+use Rattle.edi_image.specs.Image.{numbers_in, numbers_of, map_rules, maps_rules, entry_rules, titles_in, slot_rules}
+use Rattle.edi_image.proofs.UsedBlocks.{or_left, or_right, neither, or_true, or_first, in_left, in_right, in_neither, none_left, none_right, none_both, need_holds, not_used, others_used, uses_of, uses_all, titles_all, used_same, slot_used, slot_cut}
 
 -- ---- images that have the same map blocks
 
@@ -56,7 +56,7 @@ entry_rules_same one two slot titles (said.File r) size same =
     ap (λ rs. needs (not (list_any (bytes_eq r.title) titles)) (fault.Entry slot) ∷ rs)
     (maps_rules_same one two slot (pages_of r.length) r.maps size same)
 
-slot_rules_same : (one two : List (List ℕ)) (slot : ℕ) (titles : List (List ℕ)) (es : List Said) → length two ≡ length one → AllSame one two es
+pub slot_rules_same : (one two : List (List ℕ)) (slot : ℕ) (titles : List (List ℕ)) (es : List Said) → length two ≡ length one → AllSame one two es
     → slot_rules 33 two slot titles es ≡ slot_rules 33 one slot titles es
 slot_rules_same one two slot titles [] size same = refl
 slot_rules_same one two slot titles (s ∷ es) size same =

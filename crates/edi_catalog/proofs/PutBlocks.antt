@@ -9,10 +9,10 @@ use Rattle.edi_disk.specs.declared.disk.DiskEnd.{DiskEnd}
 use Rattle.edi_disk.specs.declared.disk.DiskEnd.TheVariants as disk
 use Rattle.edi_disk.specs.Shown.{shown, drive_of, reference_of, IsWorking}
 use Rattle.edi_disk.specs.Since.{Kept, PutLeaves}
-use Rattle.edi_catalog.specs.Rules.{is_in}
+use Rattle.edi_image.specs.Rules.{is_in}
 use Rattle.edi_catalog.specs.Plan.{are_different, ArePut}
 use Rattle.edi_catalog.specs.Putting.{Puts}
-use Rattle.edi_catalog.proofs.Told.{told_then, told_same}
+use Rattle.edi_image.proofs.Told.{told_then, told_same}
 use Rattle.edi_catalog.proofs.Unchanged.{in_first, in_later}
 
 -- ---- numbers of which none stands twice

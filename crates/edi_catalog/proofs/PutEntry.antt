@@ -13,10 +13,10 @@ use Rattle.edi_disk.specs.Shown.{over, shown, drive_of, reference_of, IsWorking}
 use Rattle.edi_disk.specs.Since.{Kept, only}
 use Rattle.edi_disk.proofs.Since.{kept_settled, between_only}
 use Rattle.edi_disk.proofs.Writing.{told, where_told, shown_some}
-use Rattle.edi_catalog.specs.Entries.{block_at}
+use Rattle.edi_image.specs.Entries.{block_at}
 use Rattle.edi_catalog.specs.Reads.{Checks}
 use Rattle.edi_catalog.specs.Writing.{patched, IsWritten, EntryLeaves, PutsEntry}
-use Rattle.edi_catalog.proofs.Told.{told_then}
+use Rattle.edi_image.proofs.Told.{told_then}
 use Rattle.edi_catalog.proofs.Mounts.{same_blocks, told_now}
 
 -- the block could not be read

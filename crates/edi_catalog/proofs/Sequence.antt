@@ -1,13 +1,11 @@
 -- One check after another.
 use Rattle.std.proofs.Common.{◌≡◌, ℕ, ◌+◌, ◌-◌, ◌^◌, ◌≤◌, Bool, true, false, List, refl, sym, ◌∙◌, subst, min, arith}
-use Rattle.std.specs.Prelude.{Option, Some, None, Result, Ok, Err, IfSome, ⊤}
+use Rattle.std.specs.Prelude.{Option, Some, None, IfSome, ⊤}
 use Rattle.edi_told.specs.Told.{WhereTold}
 use Rattle.edi_disk.specs.declared.disk.Disk.{Disk}
 use Rattle.edi_disk.specs.Shown.{shown, drive_of, IsWorking}
-use Rattle.edi_catalog.specs.declared.faults.MountFault.{MountFault}
-use Rattle.edi_catalog.specs.declared.faults.MountFault.TheVariants as fault
-use Rattle.edi_catalog.specs.Reads.{Checks, Finds, IsFirst, is_drive_fault}
-use Rattle.edi_catalog.proofs.Told.{told_then, told_map, told_same}
+use Rattle.edi_catalog.specs.Reads.{Checks}
+use Rattle.edi_image.proofs.Told.{told_then, told_map, told_same}
 
 pub checks_then : {D : Type 0} (held : D → Option (List (List ℕ))) (count faults : D → ℕ) (broke : Bool) (a b c : Disk D)
     (P Q R : List (List ℕ) → Type 0) → ((blocks : List (List ℕ)) → P blocks → Q blocks → R blocks)
@@ -87,20 +85,3 @@ checks_with held count faults broke a b P L l one = record {
 pub checks_as : {D : Type 0} (held : D → Option (List (List ℕ))) (count faults : D → ℕ) (broke : Bool) (a b : Disk D)
     (P : List (List ℕ) → Type 0) → broke ≡ false → Checks held count faults false a b P → Checks held count faults broke a b P
 checks_as held count faults broke a b P fine one = subst (λ f. Checks held count faults f a b P) (sym fine) one
-
--- ---- the first broken rule
-
--- of a fault of the drive nothing is said
-pub drive_first : (e : MountFault) (broken : Option MountFault) → is_drive_fault e ≡ true → IsFirst e broken
-drive_first fault.Short broken h = absurd (let no : false ≡ true = h in cc)
-drive_first fault.Header broken h = absurd (let no : false ≡ true = h in cc)
-drive_first (fault.Entry s) broken h = absurd (let no : false ≡ true = h in cc)
-drive_first (fault.Page s n) broken h = absurd (let no : false ≡ true = h in cc)
-drive_first (fault.Shared n) broken h = absurd (let no : false ≡ true = h in cc)
-drive_first fault.Fault broken h = tt
-drive_first fault.NoMemory broken h = tt
-
-pub finds_map : {X : Type 0} (r : Result X MountFault) (one other : Option MountFault) (P Q : X → Type 0)
-    → one ≡ other → ((x : X) → P x → Q x) → Finds r one P → Finds r other Q
-finds_map (Ok x) one other P Q same so found = (sym same ∙ found.0, so x found.1)
-finds_map (Err e) one other P Q same so found = subst (IsFirst e) same found

@@ -12,15 +12,16 @@ use Rattle.edi_disk.proofs.Writing as writing
 use Rattle.edi_catalog.specs.declared.ends.CatEnd.TheVariants as cat
 use Rattle.edi_catalog.specs.declared.entry.Entry.{Entry}
 use Rattle.edi_catalog.specs.declared.catalog.Catalog.{Catalog}
-use Rattle.edi_catalog.specs.Image.{Holds, slots_of}
-use Rattle.edi_catalog.specs.Stored.{StoredFile, is_stored}
+use Rattle.edi_image.specs.Image.{Holds, slots_of}
+use Rattle.edi_image.specs.Stored.{StoredFile, is_stored, IsKeptOf}
 use Rattle.edi_catalog.specs.Files.{entry_of, file_titled}
-use Rattle.edi_catalog.specs.Mounted.{IsKeptOf, IsMounted, disk_of, files_of}
+use Rattle.edi_catalog.specs.Mounted.{IsMounted, disk_of, files_of}
 use Rattle.edi_catalog.specs.Changes.{Leaves}
-use Rattle.edi_catalog.specs.Writing.{bytes_of_record, field_bytes, is_protected}
-use Rattle.edi_catalog.specs.Titles.{with_blanks}
-use Rattle.edi_catalog.specs.Build.{two}
-use Rattle.edi_catalog.specs.Records.{FileRecord}
+use Rattle.edi_image.specs.Bytes.{bytes_of_record, field_bytes}
+use Rattle.edi_catalog.specs.Writing.{is_protected}
+use Rattle.edi_image.specs.Titles.{with_blanks}
+use Rattle.edi_image.specs.Build.{two}
+use Rattle.edi_image.specs.Records.{FileRecord}
 use Rattle.edi_catalog.specs.Plan.{used_in, AreFree}
 use Rattle.edi_catalog.specs.Putting.{OnlyIn, IsNew, NewLeaves, WritesNew}
 use Rattle.edi_catalog.specs.Storing.{StoreChanges, place_for, put_at, stored_entry, stored_file, slots_stored}
@@ -28,7 +29,7 @@ use Rattle.edi_catalog.proofs.Unchanged.{IsSameImage, free_same, same_kept, same
 use Rattle.edi_catalog.proofs.StoredPlace.{slot_for_same}
 use Rattle.edi_catalog.proofs.NewlyLaid.{IsLaid}
 use Rattle.edi_catalog.proofs.FileShape.{shape_of}
-use Rattle.edi_catalog.proofs.Spelled.{title_length}
+use Rattle.edi_image.proofs.Spelled.{title_length}
 use Rattle.edi_catalog.proofs.StoredImage.{IsStoredIn, stored_holds}
 use Rattle.edi_catalog.proofs.Changed.{all_set}
 
@@ -151,6 +152,7 @@ module _ {D : Type 0} (held : D → Option (List (List ℕ))) (count faults : D 
       → StoreChanges {X = Unit {0}} held count faults (Ok tt) None title kind bytes one other
   changes_done one other title kind bytes slot file mounted stores writes now = record {
     answers = (refl, record { file = file; entry_ = stores.entry; at = slot; place_ = stores.place; others = now });
+    untouched = tt;
     mounted = inr (store_mounted one other title kind bytes slot file mounted stores writes now);
     leaves = store_done one other title kind bytes slot file mounted stores writes;
     same_reference = writes.same_reference;
@@ -165,6 +167,7 @@ module _ {D : Type 0} (held : D → Option (List (List ℕ))) (count faults : D 
       → StoreChanges {X = Unit {0}} held count faults (Err cat.Fault) None title kind bytes one other
   changes_failed one other title kind bytes slot file mounted stores writes = record {
     answers = refl;
+    untouched = tt;
     mounted = inl refl;
     leaves = store_fails one other title kind bytes slot file mounted stores writes;
     same_reference = writes.same_reference;

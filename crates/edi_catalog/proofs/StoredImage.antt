@@ -10,26 +10,25 @@ use Rattle.std.proofs.lemmas.List.{map-append, map-set, length-set}
 use Rattle.std.proofs.lemmas.List.Folds.{list_all-append}
 use Rattle.std.proofs.lemmas.Slice.Eq.{bytes_eq-Decides}
 use Rattle.edi_calls.specs.State.{pages_of}
-use Rattle.edi_catalog.specs.declared.faults.MountFault.TheVariants as fault
-use Rattle.edi_catalog.specs.declared.entries.Said.{Said}
-use Rattle.edi_catalog.specs.declared.entries.Said.TheVariants as said
-use Rattle.edi_catalog.specs.Rules.{first_broken, used_by, is_in}
-use Rattle.edi_catalog.specs.Entries.{block_at, is_data}
-use Rattle.edi_catalog.specs.Image.{header_rules, titles_in, map_rules, maps_rules, numbers_in, numbers_of, slot_rules, said_at, entries_of, slots_of}
-use Rattle.edi_catalog.specs.Stored.{StoredFile, stored_of, are_data, is_record, is_stored, is_titled}
-use Rattle.edi_catalog.specs.Files.{bytes_in, find_place}
-use Rattle.edi_catalog.specs.Mounted.{IsKeptOf}
-use Rattle.edi_catalog.specs.Writing.{bytes_of_record}
+use Rattle.edi_image.specs.declared.faults.MountFault.TheVariants as fault
+use Rattle.edi_image.specs.declared.entries.Said.{Said}
+use Rattle.edi_image.specs.declared.entries.Said.TheVariants as said
+use Rattle.edi_image.specs.Rules.{first_broken, used_by, is_in}
+use Rattle.edi_image.specs.Entries.{block_at, is_data}
+use Rattle.edi_image.specs.Image.{header_rules, titles_in, map_rules, maps_rules, numbers_in, numbers_of, slot_rules, said_at, entries_of, slots_of}
+use Rattle.edi_image.specs.Stored.{StoredFile, stored_of, are_data, is_record, is_stored, is_titled, bytes_in, IsKeptOf}
+use Rattle.edi_catalog.specs.Files.{find_place}
+use Rattle.edi_image.specs.Bytes.{bytes_of_record}
 use Rattle.edi_catalog.specs.Plan.{used_in, blocks_used, AreFree}
 use Rattle.edi_catalog.specs.Putting.{IsNew}
 use Rattle.edi_catalog.specs.Storing.{free_place, place_for}
-use Rattle.edi_catalog.proofs.FileRules.{used_by-append}
-use Rattle.edi_catalog.proofs.MapRules.{used_by-page_rules}
-use Rattle.edi_catalog.proofs.Mounts.{rules_of}
-use Rattle.edi_catalog.proofs.WholeFiles.{file_of, slots_are}
-use Rattle.edi_catalog.proofs.EntryBytes.{says_record}
+use Rattle.edi_image.proofs.FileRules.{used_by-append}
+use Rattle.edi_image.proofs.MapRules.{used_by-page_rules}
+use Rattle.edi_image.proofs.ImageRules.{rules_of}
+use Rattle.edi_image.proofs.KeptFiles.{file_of, slots_are}
+use Rattle.edi_image.proofs.EntryBytes.{says_record}
 use Rattle.edi_catalog.proofs.EntryFrames.{entries_around, entries_written}
-use Rattle.edi_catalog.proofs.UsedBlocks.{uses_of, uses_all, titles_all, others_used, none_right}
+use Rattle.edi_image.proofs.UsedBlocks.{uses_of, uses_all, titles_all, others_used, none_right}
 use Rattle.edi_catalog.proofs.OneEntry.{Around, around, one_changed, IsApart, own_apart, new_apart, any_left, any_right}
 use Rattle.edi_catalog.proofs.Changed.{KeepsData, keeps_written, all_kept, stored_same, untitled, titles_all-append, front_of, back_of, length-front, image_holds, files_kept, record_room}
 use Rattle.edi_catalog.proofs.Unchanged.{in_append, in_left, in_right, in_later, same_kept, same_slots, free_same, IsSameImage, not_both, all_in}

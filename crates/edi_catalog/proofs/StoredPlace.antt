@@ -6,13 +6,13 @@ use Rattle.std.proofs.Math.ListN.{get_or-map}
 use Rattle.edi_calls.specs.State.{File, first_free, slot_at}
 use Rattle.edi_calls.specs.Calls.{open_slot, slot_for}
 use Rattle.edi_calls.specs.Calls as calls
-use Rattle.edi_catalog.specs.Image.{slots_of}
-use Rattle.edi_catalog.specs.Stored.{StoredFile}
+use Rattle.edi_image.specs.Image.{slots_of}
+use Rattle.edi_image.specs.Stored.{StoredFile, IsKeptOf}
 use Rattle.edi_catalog.specs.Files.{find_place, file_titled}
-use Rattle.edi_catalog.specs.Mounted.{IsKeptOf}
 use Rattle.edi_catalog.specs.Writing.{is_protected}
 use Rattle.edi_catalog.specs.Storing.{free_place, place_for}
-use Rattle.edi_catalog.proofs.WholeFiles.{file_of, slots_are, place_same}
+use Rattle.edi_image.proofs.KeptFiles.{file_of, slots_are}
+use Rattle.edi_catalog.proofs.WholeFiles.{place_same}
 
 -- ---- the place of the first free slot
 

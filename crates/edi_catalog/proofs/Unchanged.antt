@@ -1,24 +1,23 @@
 -- Blocks that differ only where no file lies hold the same files.
-use Rattle.std.proofs.Common.{◌≡◌, inl, inr, ℕ, zero, suc, ◌+◌, ◌-◌, ◌*◌, ◌/◌, ◌%◌, ◌≤◌, ◌<◌, Bool, true, false, List, [], ◌∷◌, ◌++◌, length, take, drop, map, Option, Some, None, refl, ap, sym, subst, ◌∙◌, arith, min}
+use Rattle.std.proofs.Common.{◌≡◌, inl, inr, ℕ, zero, suc, ◌+◌, ◌*◌, ◌/◌, ◌%◌, ◌≤◌, ◌<◌, Bool, true, false, List, [], ◌∷◌, ◌++◌, length, take, drop, map, Option, Some, None, refl, ap, sym, subst, ◌∙◌, arith}
 use Rattle.std.specs.Prelude.{not, ◌||◌, ◌==◌, nat_le, nat_lt, flat_map, slice_get, slice_index_or}
-use Rattle.std.specs.List.{list_all, list_any}
-use Rattle.std.specs.Str.{bytes_eq}
+use Rattle.std.specs.List.{list_all}
 use Rattle.std.proofs.lemmas.Bool.{eq-eqb, eqb-true, or_right, or_left, or_cases, not-true, leb-true, false_from_ne_true, true≢false}
 use Rattle.std.proofs.lemmas.List.Folds.{list_any-append}
-use Rattle.edi_disk.specs.Since.{Between}
-use Rattle.edi_disk.proofs.Since.{between_unput}
 use Rattle.edi_calls.specs.State.{pages_of}
-use Rattle.edi_catalog.specs.declared.faults.MountFault.TheVariants as fault
-use Rattle.edi_catalog.specs.declared.entries.Said.{Said}
-use Rattle.edi_catalog.specs.declared.entries.Said.TheVariants as said
-use Rattle.edi_catalog.specs.Records.{FileRecord}
-use Rattle.edi_catalog.specs.Rules.{needs, first_broken, is_in}
-use Rattle.edi_catalog.specs.Entries.{block_at, is_data, entry_says}
-use Rattle.edi_catalog.specs.Image.{header_rules, map_rules, maps_rules, entry_rules, slot_rules, titles_in, numbers_in, numbers_of, bytes_of, slot_in, said_at, entry_at, entries_from, entries_of, image_rules, mount_fault_of, slots_of}
-use Rattle.edi_catalog.specs.Stored.{StoredFile, stored_of, are_data}
-use Rattle.edi_catalog.specs.Mounted.{IsKeptOf}
+use Rattle.edi_image.specs.declared.entries.Said.{Said}
+use Rattle.edi_image.specs.declared.entries.Said.TheVariants as said
+use Rattle.edi_image.specs.Rules.{first_broken, is_in}
+use Rattle.edi_image.specs.Entries.{block_at, is_data, entry_says}
+use Rattle.edi_image.specs.Image.{header_rules, slot_rules, numbers_of, said_at, entry_at, entries_from, entries_of, image_rules, mount_fault_of, slots_of}
+use Rattle.edi_image.specs.Stored.{StoredFile, stored_of, are_data, IsKeptOf}
 use Rattle.edi_catalog.specs.Plan.{used_in, blocks_used, AreFree}
-use Rattle.edi_catalog.proofs.Spelled.{both}
+use Rattle.std.specs.Option.{option_map}
+use Rattle.edi_image.proofs.Spelled.{both}
+use Rattle.edi_image.proofs.KeptFiles.{file_of, slots_are}
+use Rattle.edi_catalog.proofs.EntryFrames.{entries_same}
+use Rattle.edi_catalog.proofs.OneEntry.{MapsSame, EntrySame, AllSame, slot_rules_same}
+use Rattle.edi_catalog.proofs.Changed.{stored_same, header_same}
 
 -- ---- numbers in lists
 
@@ -69,83 +68,38 @@ flat_same (n ∷ numbers) old new same =
     ap (λ b. b ++ flat_map (block_at new) numbers) (same n (in_first n numbers))
     ∙ ap (λ bs. block_at old n ++ bs) (flat_same numbers old new (same_rest n numbers old new same))
 
-pub numbers_same : (pages : ℕ) (maps : List ℕ) (old new : List (List ℕ)) → SameAt maps old new
-    → numbers_of new pages maps ≡ numbers_of old pages maps
-numbers_same pages [] old new same = refl
-numbers_same pages (m ∷ maps) old new same =
-    ap (λ b. numbers_in b (min pages 255) ++ numbers_of new (pages - 255) maps) (same m (in_first m maps))
-    ∙ ap (λ ns. numbers_in (block_at old m) (min pages 255) ++ ns)
-    (numbers_same (pages - 255) maps old new (same_rest m maps old new same))
-
-map_rules_same : (slot pages m : ℕ) (old new : List (List ℕ)) → length new ≡ length old → block_at new m ≡ block_at old m
-    → map_rules 33 new slot pages m ≡ map_rules 33 old slot pages m
-map_rules_same slot pages m old new size same = rw (size, same) refl
-
-maps_rules_same : (slot pages : ℕ) (maps : List ℕ) (old new : List (List ℕ)) → length new ≡ length old → SameAt maps old new
-    → maps_rules 33 new slot pages maps ≡ maps_rules 33 old slot pages maps
-maps_rules_same slot pages [] old new size same = refl
-maps_rules_same slot pages (m ∷ maps) old new size same =
-    ap (λ rs. rs ++ maps_rules 33 new slot (pages - 255) maps)
-    (map_rules_same slot (min pages 255) m old new size (same m (in_first m maps)))
-    ∙ ap (λ rs. map_rules 33 old slot (min pages 255) m ++ rs)
-    (maps_rules_same slot (pages - 255) maps old new size (same_rest m maps old new same))
-
 -- ---- entries
 
-entry_rules_same : (slot : ℕ) (titles : List (List ℕ)) (s : Said) (old new : List (List ℕ)) → length new ≡ length old
-    → SameAt (used_in (stored_of old s)) old new → entry_rules 33 new slot titles s ≡ entry_rules 33 old slot titles s
-entry_rules_same slot titles said.Free old new size same = refl
-entry_rules_same slot titles said.Wrong old new size same = refl
-entry_rules_same slot titles (said.File r) old new size same =
-    ap (λ rs. needs (not (list_any (bytes_eq r.title) titles)) (fault.Entry slot) ∷ rs)
-    (maps_rules_same slot (pages_of r.length) r.maps old new size
-    (same_left r.maps (numbers_of old (pages_of r.length) r.maps) old new same))
+-- what the rules of an entry look at is the same
+maps_same : (maps : List ℕ) (old new : List (List ℕ)) → SameAt maps old new → MapsSame old new maps
+maps_same [] old new same = tt
+maps_same (m ∷ maps) old new same = (same m (in_first m maps), maps_same maps old new (same_rest m maps old new same))
 
-stored_same : (s : Said) (old new : List (List ℕ)) → SameAt (used_in (stored_of old s)) old new → stored_of new s ≡ stored_of old s
-stored_same said.Free old new same = refl
-stored_same said.Wrong old new same = refl
-stored_same (said.File r) old new same =
-    ap (λ ns. Some (record { record_ = r; pages = ns }))
-    (numbers_same (pages_of r.length) r.maps old new (same_left r.maps (numbers_of old (pages_of r.length) r.maps) old new same))
+entry_same : (s : Said) (old new : List (List ℕ)) → SameAt (used_in (stored_of old s)) old new → EntrySame old new s
+entry_same said.Free old new same = tt
+entry_same said.Wrong old new same = tt
+entry_same (said.File r) old new same =
+    maps_same r.maps old new (same_left r.maps (numbers_of old (pages_of r.length) r.maps) old new same)
 
-bytes_same : (r : FileRecord) (old new : List (List ℕ)) → SameAt (r.maps ++ numbers_of old (pages_of r.length) r.maps) old new
-    → bytes_of new r ≡ bytes_of old r
-bytes_same r old new same =
-    ap (λ ns. take r.length (flat_map (block_at new) ns))
-    (numbers_same (pages_of r.length) r.maps old new (same_left r.maps (numbers_of old (pages_of r.length) r.maps) old new same))
-    ∙ ap (take r.length)
-    (flat_same (numbers_of old (pages_of r.length) r.maps) old new
-    (same_right r.maps (numbers_of old (pages_of r.length) r.maps) old new same))
+all_same : (entries : List Said) (old new : List (List ℕ)) → SameAt (blocks_used (map (stored_of old) entries)) old new → AllSame old new entries
+all_same [] old new same = tt
+all_same (s ∷ entries) old new same = (
+  entry_same s old new (same_left (used_in (stored_of old s)) (blocks_used (map (stored_of old) entries)) old new same),
+  all_same entries old new (same_right (used_in (stored_of old s)) (blocks_used (map (stored_of old) entries)) old new same),
+)
 
-slot_same : (s : Said) (old new : List (List ℕ)) → SameAt (used_in (stored_of old s)) old new → slot_in new s ≡ slot_in old s
-slot_same said.Free old new same = refl
-slot_same said.Wrong old new same = refl
-slot_same (said.File r) old new same =
-    ap (λ bs. Some (record { title = r.title; kind = r.kind; protected = r.protected; bytes = bs })) (bytes_same r old new same)
-
-slot_rules_same : (slot : ℕ) (titles : List (List ℕ)) (entries : List Said) (old new : List (List ℕ)) → length new ≡ length old
-    → SameAt (blocks_used (map (stored_of old) entries)) old new
-    → slot_rules 33 new slot titles entries ≡ slot_rules 33 old slot titles entries
-slot_rules_same slot titles [] old new size same = refl
-slot_rules_same slot titles (s ∷ entries) old new size same =
-    ap (λ rs. rs ++ slot_rules 33 new (slot + 1) (titles ++ titles_in s) entries)
-    (entry_rules_same slot titles s old new size (same_left (used_in (stored_of old s)) _ old new same))
-    ∙ ap (λ rs. entry_rules 33 old slot titles s ++ rs)
-    (slot_rules_same (slot + 1) (titles ++ titles_in s) entries old new size (same_right (used_in (stored_of old s)) _ old new same))
-
-all_stored_same : (entries : List Said) (old new : List (List ℕ)) → SameAt (blocks_used (map (stored_of old) entries)) old new
-    → map (stored_of new) entries ≡ map (stored_of old) entries
-all_stored_same [] old new same = refl
-all_stored_same (s ∷ entries) old new same =
-    ap (λ f. f ∷ map (stored_of new) entries) (stored_same s old new (same_left (used_in (stored_of old s)) _ old new same))
-    ∙ ap (λ fs. stored_of old s ∷ fs) (all_stored_same entries old new (same_right (used_in (stored_of old s)) _ old new same))
-
-all_slots_same : (entries : List Said) (old new : List (List ℕ)) → SameAt (blocks_used (map (stored_of old) entries)) old new
-    → map (slot_in new) entries ≡ map (slot_in old) entries
-all_slots_same [] old new same = refl
-all_slots_same (s ∷ entries) old new same =
-    ap (λ f. f ∷ map (slot_in new) entries) (slot_same s old new (same_left (used_in (stored_of old s)) _ old new same))
-    ∙ ap (λ fs. slot_in old s ∷ fs) (all_slots_same entries old new (same_right (used_in (stored_of old s)) _ old new same))
+-- the files that are kept have the same bytes
+files_same : (files : List (Option StoredFile)) (old new : List (List ℕ)) → SameAt (blocks_used files) old new
+    → map (option_map (file_of new)) files ≡ map (option_map (file_of old)) files
+files_same [] old new same = refl
+files_same (None ∷ files) old new same = ap (λ fs. None ∷ fs) (files_same files old new same)
+files_same (Some file ∷ files) old new same =
+    let used : List ℕ = file.record_.maps ++ file.pages in
+    ap (λ bs. Some (record { title = file.record_.title; kind = file.record_.kind; protected = file.record_.protected; bytes = take file.record_.length bs })
+    ∷ map (option_map (file_of new)) files)
+    (flat_same file.pages old new
+    (same_right file.record_.maps file.pages old new (same_left used (blocks_used files) old new same)))
+    ∙ ap (λ fs. option_map (file_of old) (Some file) ∷ fs) (files_same files old new (same_right used (blocks_used files) old new same))
 
 -- the blocks of the catalogue are the same
 abbrev pub SameStart : (old new : List (List ℕ)) → Type 0
@@ -156,12 +110,8 @@ said_same slot old new size start h =
     ap (λ n. entry_says n (entry_at new slot)) size
     ∙ ap (λ b. entry_says (length old) (take 64 (drop (64 * (slot % 8)) b))) (start (1 + slot / 8) (omega arith))
 
-pub entries_same : (slot n : ℕ) (old new : List (List ℕ)) → length new ≡ length old → SameStart old new → slot + n ≤ 256
-    → entries_from new slot n ≡ entries_from old slot n
-entries_same slot zero old new size start h = refl
-entries_same slot (suc n) old new size start h =
-    ap (λ s. s ∷ entries_from new (slot + 1) n) (said_same slot old new size start (omega arith))
-    ∙ ap (λ ss. said_at old slot ∷ ss) (entries_same (slot + 1) n old new size start (omega arith))
+all_said_same : (old new : List (List ℕ)) → length new ≡ length old → SameStart old new → entries_from new 0 256 ≡ entries_from old 0 256
+all_said_same old new size start = entries_same new old 0 256 (λ slot low high. said_same slot old new size start high)
 
 -- ---- images
 
@@ -171,18 +121,15 @@ pub record IsSameImage (old new : List (List ℕ)) (files : List (Option StoredF
   pub start : SameStart old new
   pub used : SameAt (blocks_used files) old new
 
-header_same : (old new : List (List ℕ)) → length new ≡ length old → SameStart old new → header_rules 2 new ≡ header_rules 2 old
-header_same old new size start = let first : block_at new 0 ≡ block_at old 0 = start 0 (omega arith) in rw (size, first) refl
-
 rules_same : (old new : List (List ℕ)) (files : List (Option StoredFile)) → IsKeptOf old files → IsSameImage old new files
     → image_rules new ≡ image_rules old
 unfolding image_rules entries_of
 rules_same old new files kept same =
     let used : SameAt (blocks_used (map (stored_of old) (entries_from old 0 256))) old new =
     subst (λ fs. SameAt (blocks_used fs) old new) kept.slots same.used in
-    ap (λ hs. hs ++ slot_rules 33 new 0 [] (entries_from new 0 256)) (header_same old new same.size same.start)
-    ∙ ap (λ es. header_rules 2 old ++ slot_rules 33 new 0 [] es) (entries_same 0 256 old new same.size same.start (omega arith))
-    ∙ ap (λ rs. header_rules 2 old ++ rs) (slot_rules_same 0 [] (entries_from old 0 256) old new same.size used)
+    ap (λ hs. hs ++ slot_rules 33 new 0 [] (entries_from new 0 256)) (header_same old new same.size (same.start 0 (omega arith)))
+    ∙ ap (λ es. header_rules 2 old ++ slot_rules 33 new 0 [] es) (all_said_same old new same.size same.start)
+    ∙ ap (λ rs. header_rules 2 old ++ rs) (slot_rules_same old new 0 [] (entries_from old 0 256) same.size (all_same (entries_from old 0 256) old new used))
 
 fault_same : (old new : List (List ℕ)) → length new ≡ length old → image_rules new ≡ image_rules old → mount_fault_of new ≡ mount_fault_of old
 fault_same [] [] size rules = refl
@@ -199,18 +146,16 @@ same_kept old new files kept same =
     record {
       valid = fault_same old new same.size (rules_same old new files kept same) ∙ kept.valid;
       slots =
-          kept.slots ∙ sym (all_stored_same (entries_from old 0 256) old new used)
-          ∙ ap (map (stored_of new)) (sym (entries_same 0 256 old new same.size same.start (omega arith)));
+          kept.slots ∙ sym (stored_same old new (entries_from old 0 256) (all_same (entries_from old 0 256) old new used))
+          ∙ ap (map (stored_of new)) (sym (all_said_same old new same.size same.start));
     }
 
 pub same_slots : (old new : List (List ℕ)) (files : List (Option StoredFile)) → IsKeptOf old files → IsSameImage old new files
     → slots_of new ≡ slots_of old
-unfolding entries_of slots_of
 same_slots old new files kept same =
-    let used : SameAt (blocks_used (map (stored_of old) (entries_from old 0 256))) old new =
-    subst (λ fs. SameAt (blocks_used fs) old new) kept.slots same.used in
-    ap (map (slot_in new)) (entries_same 0 256 old new same.size same.start (omega arith))
-    ∙ all_slots_same (entries_from old 0 256) old new used
+    slots_are new ∙ ap (map (option_map (file_of new))) (sym (same_kept old new files kept same).slots)
+    ∙ files_same files old new same.used
+    ∙ ap (map (option_map (file_of old))) kept.slots ∙ sym (slots_are old)
 
 -- ---- free blocks
 
@@ -249,9 +194,3 @@ gets_same (a ∷ old) (b ∷ new) (suc n) e = gets_same old new n e
 -- a set of blocks: all those of these numbers
 abbrev pub among : List ℕ → ℕ → List ℕ → Bool
 among numbers n block = is_in n numbers
-
-pub between_same : (count : ℕ) (files : List (Option StoredFile)) (numbers : List ℕ) (old new : List (List ℕ)) → AreFree count files numbers
-    → Between old (among numbers) new → IsSameImage old new files
-between_same count files numbers old new free between =
-    free_same count files numbers old new free between.as_many
-    (λ n h. gets_same old new n (between_unput old (among numbers) new n between (λ block. h)))

@@ -7,15 +7,13 @@ use Rattle.std.proofs.Math.Seq.{take-append_seam}
 use Rattle.std.proofs.Math.ListN.{get_or-map}
 use Rattle.std.proofs.lemmas.List.{take_more, append-nil, get_or_default}
 use Rattle.std.proofs.lemmas.Grind.{flat_map-append}
-use Rattle.edi_calls.specs.State.{File, find_file, find_slot, slot_at}
+use Rattle.edi_calls.specs.State.{find_file, find_slot, slot_at}
 use Rattle.edi_calls.specs.State as calls
-use Rattle.edi_catalog.specs.Entries.{block_at}
-use Rattle.edi_catalog.specs.Image.{slot_in, slots_of, entries_of}
-use Rattle.edi_catalog.specs.Stored.{StoredFile, stored_of, is_titled}
-use Rattle.edi_catalog.specs.Files.{find_place, file_titled, bytes_in, Starts, FoundIs}
-use Rattle.edi_catalog.specs.Mounted.{IsKeptOf}
-use Rattle.edi_catalog.specs.declared.entries.Said.{Said}
-use Rattle.edi_catalog.specs.declared.entries.Said.TheVariants as said
+use Rattle.edi_image.specs.Entries.{block_at}
+use Rattle.edi_image.specs.Image.{slots_of}
+use Rattle.edi_image.specs.Stored.{StoredFile, is_titled, bytes_in, IsKeptOf}
+use Rattle.edi_catalog.specs.Files.{find_place, file_titled, Starts, FoundIs}
+use Rattle.edi_image.proofs.KeptFiles.{file_of, slots_are}
 
 -- a page behind the bytes up to an address
 pub page_put : (at : ℕ) (into front copied bytes back : List ℕ) → front ≡ take at into → length front ≡ at → copied ≡ bytes → length copied ≡ 512
@@ -40,26 +38,6 @@ pages_more blocks pages i before after h so_far more =
     ∙ ap (flat_map (block_at blocks)) (sym (take_more pages i 0 h))
 
 -- ---- the file of a title
-
--- the file that is kept so
-abbrev pub file_of : List (List ℕ) → StoredFile → File
-file_of blocks file = record {
-  title = file.record_.title;
-  kind = file.record_.kind;
-  protected = file.record_.protected;
-  bytes = bytes_in blocks file;
-}
-
-pub slots_kept : (blocks : List (List ℕ)) (entries : List Said)
-    → map (slot_in blocks) entries ≡ map (option_map (file_of blocks)) (map (stored_of blocks) entries)
-slots_kept blocks [] = refl
-slots_kept blocks (said.Free ∷ entries) = ap (λ slots. None ∷ slots) (slots_kept blocks entries)
-slots_kept blocks (said.Wrong ∷ entries) = ap (λ slots. None ∷ slots) (slots_kept blocks entries)
-slots_kept blocks (said.File r ∷ entries) = ap (λ slots. slot_in blocks (said.File r) ∷ slots) (slots_kept blocks entries)
-
-pub slots_are : (blocks : List (List ℕ)) → slots_of blocks ≡ map (option_map (file_of blocks)) (map (stored_of blocks) (entries_of blocks))
-unfolding slots_of
-slots_are blocks = slots_kept blocks (entries_of blocks)
 
 titled_same : (blocks : List (List ℕ)) (title : List ℕ) (file : Option StoredFile)
     → calls.is_titled title (option_map (file_of blocks) file) ≡ is_titled title file

@@ -1,12 +1,12 @@
 -- The calls that change the files of a catalogue: why they are refused, what they are to leave, and what they leave.
-use Rattle.std.specs.Prelude.{◌≡◌, ◌⊎◌, ◌≤◌, ℕ, Bool, List, slice_set, slice_index_or, Option, Some, None, is_some, if◌then◌else◌, Result, Ok, Err}
+use Rattle.std.specs.Prelude.{◌≡◌, ◌⊎◌, ◌≤◌, ℕ, Bool, List, slice_set, slice_index_or, Option, Some, None, is_some, if◌then◌else◌, Result, Ok, Err, ⊤}
 use Rattle.std.specs.Option.{option_and_then}
 use Rattle.edi_told.specs.Faults.{Rose}
 use Rattle.edi_told.specs.Told.{WhereTold}
 use Rattle.edi_disk.specs.Shown.{drive_of, reference_of}
 use Rattle.edi_calls.specs.State.{File, find_slot}
-use Rattle.edi_catalog.specs.Image.{Holds, slots_of}
-use Rattle.edi_catalog.specs.Stored.{StoredFile}
+use Rattle.edi_image.specs.Image.{Holds, slots_of}
+use Rattle.edi_image.specs.Stored.{StoredFile}
 use Rattle.edi_catalog.specs.Files.{find_place}
 use Rattle.edi_catalog.specs.Mounted.{IsMounted, disk_of, files_of}
 use Rattle.edi_catalog.specs.declared.catalog.Catalog.{Catalog}
@@ -85,10 +85,17 @@ Leaves (Ok done) before after old new = Holds new after
 Leaves (Err cat.Fault) before after old new = BeforeOrAfter before after new
 Leaves (Err why) before after old new = new ≡ old
 
+-- a call that is refused leaves the catalogue itself as it was
+abbrev pub Untouched : {X C : Type 0} → Result X CatEnd → (before after : C) → Type 0
+Untouched (Ok done) before after = ⊤
+Untouched (Err cat.Fault) before after = ⊤
+Untouched (Err why) before after = after ≡ before
+
 -- A call on a mounted catalogue, by its answer: `refusal` is the first reason against it, `kept` are the slots that are to be
 -- kept in memory, `wanted` gives the files that the image is to have.
 pub record Changes {D X : Type 0} (held : D → Option (List (List ℕ))) (count faults : D → ℕ) (result : Result X CatEnd) (refusal : Option CatEnd) (kept : List (Option StoredFile)) (wanted : List (Option File) → List (Option File)) (before after : Catalog D) : Type 0 where
   pub answers : Answers result refusal (files_of before) kept (files_of after)
+  pub untouched : Untouched result before after
   pub mounted : (result ≡ Err cat.Fault) ⊎ IsMounted held count after
   pub leaves : WhereTold (held (drive_of (disk_of before))) (held (drive_of (disk_of after)))
       (λ old new. Leaves result (slots_of old) (wanted (slots_of old)) old new)

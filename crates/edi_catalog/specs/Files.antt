@@ -1,10 +1,10 @@
 -- The files of a mounted catalogue.
-use Rattle.std.specs.Prelude.{◌≡◌, ℕ, suc, ◌+◌, ◌*◌, Bool, true, nat_le, if◌then◌else◌, List, [], ◌∷◌, ◌++◌, take, length, flat_map, slice_index, slice_index_or, Option, Some, None, Result, Ok, Err, ⊤}
+use Rattle.std.specs.Prelude.{◌≡◌, ℕ, suc, ◌+◌, ◌*◌, if◌then◌else◌, List, [], ◌∷◌, ◌++◌, take, length, flat_map, slice_index, slice_index_or, Option, Some, None, Result, Ok, Err, ⊤}
 use Rattle.std.specs.Option.{option_map, option_and_then}
-use Rattle.edi_calls.specs.State.{File, blocks_of, find_file, most_bytes}
-use Rattle.edi_catalog.specs.Entries.{block_at}
-use Rattle.edi_catalog.specs.Stored.{StoredFile, is_titled}
-use Rattle.edi_catalog.specs.Image.{slots_of}
+use Rattle.edi_calls.specs.State.{File, find_file}
+use Rattle.edi_image.specs.Entries.{block_at}
+use Rattle.edi_image.specs.Stored.{StoredFile, is_titled, bytes_in}
+use Rattle.edi_image.specs.Image.{slots_of}
 use Rattle.edi_catalog.specs.declared.entry.Entry.{Entry}
 
 -- what the catalogue tells of a file
@@ -25,20 +25,6 @@ find_place title (file ∷ files) = if is_titled title file then Some 0 else opt
 abbrev pub file_titled : List ℕ → List (Option StoredFile) → Option StoredFile
 file_titled title files = option_and_then (λ place. slice_index_or files place None) (find_place title files)
 
--- the blocks that files take: their pages, and a map block for the first 255 of them and one for the others
-abbrev pub blocks_in : Option StoredFile → ℕ
-blocks_in None = 0
-blocks_in (Some file) = blocks_of file.record_.length
-
-abbrev pub blocks_taken : List (Option StoredFile) → ℕ
-blocks_taken [] = 0
-blocks_taken (file ∷ files) = blocks_in file + blocks_taken files
-
--- the file is not too long
-abbrev pub is_sized : Option StoredFile → Bool
-is_sized None = true
-is_sized (Some file) = nat_le file.record_.length most_bytes
-
 -- on Ok this is a page of the file
 abbrev pub PageIs : {X E : Type 0} → Result X E → Option StoredFile → ℕ → List ℕ → List (List ℕ) → Type 0
 PageIs (Ok x) (Some file) i bytes blocks = block_at blocks (slice_index file.pages i) ≡ bytes
@@ -54,10 +40,6 @@ PagesAre (Err e) pages bytes blocks = ⊤
 abbrev pub PageAt : {X E : Type 0} → Result X E → (page at : ℕ) → (old new : List ℕ) → List (List ℕ) → Type 0
 PageAt (Ok x) page at old new blocks = take (at + 512) new ≡ take at old ++ block_at blocks page
 PageAt (Err e) page at old new blocks = ⊤
-
--- the bytes of a file: its pages one after another, cut to its length
-abbrev pub bytes_in : List (List ℕ) → StoredFile → List ℕ
-bytes_in blocks file = take file.record_.length (flat_map (block_at blocks) file.pages)
 
 -- the bytes start with these, and so many they are
 abbrev pub Starts : ℕ → List ℕ → List ℕ → Type 0

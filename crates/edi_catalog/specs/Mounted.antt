@@ -1,11 +1,10 @@
 -- A catalogue between two calls.
-use Rattle.std.specs.Prelude.{◌≡◌, ◌≤◌, ℕ, true, List, map, length, Option, None}
+use Rattle.std.specs.Prelude.{◌≡◌, ◌≤◌, ℕ, true, List, length, Option}
 use Rattle.std.specs.List.{list_all}
 use Rattle.std.specs.Option.{ForSome}
 use Rattle.edi_disk.specs.declared.disk.Disk.{Disk}
 use Rattle.edi_disk.specs.Shown.{shown, drive_of, IsWorking}
-use Rattle.edi_catalog.specs.Image.{entries_of, mount_fault_of}
-use Rattle.edi_catalog.specs.Stored.{StoredFile, is_stored, stored_of}
+use Rattle.edi_image.specs.Stored.{StoredFile, is_stored, IsKeptOf}
 use Rattle.edi_catalog.specs.declared.catalog.Catalog.{Catalog}
 
 abbrev pub disk_of : {D : Type 0} → Catalog D → Disk D
@@ -14,11 +13,6 @@ disk_of catalog = catalog.disk
 -- what is kept of the slots
 abbrev pub files_of : {D : Type 0} → Catalog D → List (Option StoredFile)
 files_of catalog = catalog.files.items
-
--- the blocks are a valid image, and this is what is kept of its slots
-pub record IsKeptOf (blocks : List (List ℕ)) (files : List (Option StoredFile)) : Type 0 where
-  pub valid : mount_fault_of blocks ≡ None
-  pub slots : files ≡ map (stored_of blocks) (entries_of blocks)
 
 -- What is known of a catalogue: its disk may be called, has nothing that is not written and has at most 4096 blocks; it has 256
 -- slots, with the files of the image, where the drive tells its blocks.

@@ -1,10 +1,10 @@
 -- Free blocks, and what is put in the blocks of a new file.
 use Rattle.std.specs.Prelude.{◌≡◌, ℕ, ◌-◌, ◌*◌, ◌<◌, Bool, true, false, not, ◌&&◌, nat_lt, if◌then◌else◌, List, [], ◌∷◌, ◌++◌, take, drop, length, slice_index, Option, Some, None}
 use Rattle.std.specs.List.{list_all}
-use Rattle.edi_catalog.specs.Rules.{is_in}
-use Rattle.edi_catalog.specs.Entries.{block_at}
-use Rattle.edi_catalog.specs.Stored.{StoredFile, are_data}
-use Rattle.edi_catalog.specs.Build.{filled, map_block}
+use Rattle.edi_image.specs.Rules.{is_in}
+use Rattle.edi_image.specs.Entries.{block_at}
+use Rattle.edi_image.specs.Stored.{StoredFile, are_data}
+use Rattle.edi_image.specs.Build.{filled, map_block}
 
 -- the blocks that a file uses: its maps, then its pages
 abbrev pub used_in : Option StoredFile → List ℕ

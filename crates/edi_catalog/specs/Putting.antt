@@ -7,10 +7,11 @@ use Rattle.edi_disk.specs.declared.disk.DiskEnd.{DiskEnd}
 use Rattle.edi_disk.specs.declared.disk.DiskEnd.TheVariants as disk
 use Rattle.edi_disk.specs.Shown.{shown, drive_of, reference_of, IsWorking}
 use Rattle.edi_disk.specs.Since.{Kept}
-use Rattle.edi_catalog.specs.Rules.{is_in}
-use Rattle.edi_catalog.specs.Entries.{block_at}
-use Rattle.edi_catalog.specs.Stored.{StoredFile}
-use Rattle.edi_catalog.specs.Writing.{IsWritten, bytes_of_record}
+use Rattle.edi_image.specs.Rules.{is_in}
+use Rattle.edi_image.specs.Entries.{block_at}
+use Rattle.edi_image.specs.Stored.{StoredFile}
+use Rattle.edi_catalog.specs.Writing.{IsWritten}
+use Rattle.edi_image.specs.Bytes.{bytes_of_record}
 use Rattle.edi_catalog.specs.Plan.{ArePut, content_of, used_in}
 
 -- a set of blocks has each of these contents in its block

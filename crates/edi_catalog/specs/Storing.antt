@@ -10,12 +10,12 @@ use Rattle.edi_calls.specs.declared.kinds.FileKind.{FileKind}
 use Rattle.edi_catalog.specs.declared.ends.CatEnd.{CatEnd}
 use Rattle.edi_catalog.specs.declared.ends.CatEnd.TheVariants as cat
 use Rattle.edi_catalog.specs.declared.entry.Entry.{Entry}
-use Rattle.edi_catalog.specs.Stored.{StoredFile}
-use Rattle.edi_catalog.specs.Files.{blocks_taken, entry_of, file_titled, find_place}
-use Rattle.edi_catalog.specs.Image.{slots_of}
+use Rattle.edi_image.specs.Stored.{StoredFile, blocks_taken}
+use Rattle.edi_catalog.specs.Files.{entry_of, file_titled, find_place}
+use Rattle.edi_image.specs.Image.{slots_of}
 use Rattle.edi_catalog.specs.Mounted.{IsMounted, disk_of, files_of}
 use Rattle.edi_catalog.specs.declared.catalog.Catalog.{Catalog}
-use Rattle.edi_catalog.specs.Changes.{Leaves}
+use Rattle.edi_catalog.specs.Changes.{Leaves, Untouched}
 use Rattle.edi_catalog.specs.Writing.{is_protected}
 
 -- ---- where it is stored
@@ -80,6 +80,7 @@ slots_stored title kind bytes slots = put_at (slot_for slots title) (stored_file
 -- A store on a mounted catalogue, by its answer: `refusal` is the first reason against it.
 pub record StoreChanges {D X : Type 0} (held : D → Option (List (List ℕ))) (count faults : D → ℕ) (result : Result X CatEnd) (refusal : Option CatEnd) (title : List ℕ) (kind : FileKind) (bytes : List ℕ) (before after : Catalog D) : Type 0 where
   pub answers : StoreAnswers result refusal (place_for title (files_of before)) (stored_entry title kind (length bytes)) (files_of before) (files_of after)
+  pub untouched : Untouched result before after
   pub mounted : (result ≡ Err cat.Fault) ⊎ IsMounted held count after
   pub leaves : WhereTold (held (drive_of (disk_of before))) (held (drive_of (disk_of after)))
       (λ old new. Leaves result (slots_of old) (slots_stored title kind bytes (slots_of old)) old new)

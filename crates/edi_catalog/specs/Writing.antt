@@ -1,42 +1,17 @@
 -- Writing the entry of a slot.
-use Rattle.std.specs.Prelude.{◌≡◌, ◌⊎◌, ℕ, ◌+◌, ◌*◌, ◌/◌, ◌%◌, ◌^◌, ◌≤◌, Bool, true, false, if◌then◌else◌, List, ◌∷◌, ◌++◌, take, drop, length, replicate, slice_set, slice_index_or, Option, Some, None, IfSome}
+use Rattle.std.specs.Prelude.{◌≡◌, ◌⊎◌, ℕ, ◌+◌, ◌*◌, ◌/◌, ◌%◌, ◌≤◌, Bool, true, false, List, ◌++◌, take, drop, length, slice_set, slice_index_or, Option, Some, None, IfSome}
 use Rattle.std.specs.Option.{option_and_then}
 use Rattle.edi_told.specs.Faults.{Rose}
 use Rattle.edi_told.specs.Told.{WhereTold}
 use Rattle.edi_calls.specs.State.{File, is_title}
-use Rattle.edi_calls.specs.declared.kinds.FileKind.{FileKind}
-use Rattle.edi_calls.specs.declared.kinds.FileKind.TheVariants as kind
 use Rattle.edi_disk.specs.declared.disk.Disk.{Disk}
 use Rattle.edi_disk.specs.declared.disk.DiskEnd.{DiskEnd}
 use Rattle.edi_disk.specs.declared.disk.DiskEnd.TheVariants as disk
 use Rattle.edi_disk.specs.Shown.{shown, drive_of, reference_of, IsWorking}
-use Rattle.edi_catalog.specs.Build.{two}
-use Rattle.edi_catalog.specs.Titles.{with_blanks}
-use Rattle.edi_catalog.specs.Records.{FileRecord}
-use Rattle.edi_catalog.specs.Entries.{block_at}
-use Rattle.edi_catalog.specs.Stored.{StoredFile}
+use Rattle.edi_image.specs.Records.{FileRecord}
+use Rattle.edi_image.specs.Entries.{block_at}
+use Rattle.edi_image.specs.Stored.{StoredFile}
 use Rattle.edi_catalog.specs.Files.{find_place}
-
--- ---- the bytes of an entry
-
-abbrev pub kind_number : FileKind → ℕ
-kind_number kind.Text = 1
-kind_number kind.Code = 2
-
--- The fields behind the title: the kind, whether the file is protected, its first map, its second map or 0, its length.
-abbrev pub field_bytes : FileRecord → List ℕ
-field_bytes r =
-    kind_number r.kind ∷ (if r.protected then 1 else 0)
-    ∷ (two (slice_index_or r.maps 0 0) ++ (two (slice_index_or r.maps 1 0) ++ (two (r.length / 2 ^ 16) ++ two (r.length % 2 ^ 16))))
-
--- the entry of a file
-unfoldable pub bytes_of_record : FileRecord → List ℕ
-bytes_of_record r = with_blanks 24 r.title ++ (field_bytes r ++ replicate 30 0)
-
--- the entry of a slot; that of a free one is all zeros
-abbrev pub bytes_of_slot : Option FileRecord → List ℕ
-bytes_of_slot None = replicate 64 0
-bytes_of_slot (Some r) = bytes_of_record r
 
 -- ---- writing it
 

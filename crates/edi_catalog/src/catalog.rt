@@ -7,24 +7,22 @@ ghost use Rattle.edi_told.specs.Told.{WhereTold};
 ghost use Rattle.edi_disk.specs.Shown.{drive_of, reference_of};
 ghost use Rattle.edi_calls.specs.State.{pages_of};
 ghost use Rattle.edi_catalog.specs.Mounted.{IsMounted, disk_of, files_of};
-ghost use Rattle.edi_catalog.specs.Files.{entry_of, file_titled, blocks_taken, FileIs, PageIs};
+ghost use Rattle.edi_catalog.specs.Files.{entry_of, file_titled, FileIs, PageIs};
+ghost use Rattle.edi_image.specs.Stored.{blocks_taken};
 
-use crate::blocks::BLOCK;
 use crate::ends::CatEnd;
-use crate::entries::MOST_BYTES;
 use crate::entry::Entry;
-use crate::files::{blocks_taken, entry_in, page_of, place_of};
+use crate::files::{entry_in, page_of, place_of};
 use crate::reading::{block, read_stored};
-use crate::stored::StoredFile;
-use crate::title::Title;
 use edi_disk::Disk;
 use edi_host::Drive;
+use edi_image::{BLOCK, MOST_BYTES, StoredFile, Title, blocks_taken};
 
 /// The number of blocks of the catalogue of an image.
 const CATALOGUE: u32 = 33;
 
-/// The files of a disk, in 256 slots. All entries and page numbers are kept in memory, so that only the pages of files are
-/// read from the drive.
+/// The files of a disk, in 256 slots. All entries and page numbers are kept in memory, so that of the drive only pages of files
+/// are read, and the block with the entry that a call changes.
 #[derive(Drop)]
 pub struct Catalog<'a, D: Drive> {
     pub(crate) disk: Disk<'a, D>,
@@ -69,11 +67,13 @@ impl<'a, D: Drive> Catalog<'a, D> {
         requires page { IfSome (file_titled title.now (files_of self.old)) (λ file. i < pages_of file.record_.length) }
         ensures no_such { (result ≡ Err CatEnd.NoSuch) ↔ (file_titled title.now (files_of self.old) ≡ None) }
         ensures refusals { IfErr result (λ why. (why ≡ CatEnd.NoSuch) ⊎ (why ≡ CatEnd.Fault)) }
+        ensures untouched { result ≡ Err CatEnd.NoSuch → (self.new ≡ self.old) × (into.new ≡ into.old) }
         ensures files { files_of self.new ≡ files_of self.old }
         ensures mounted { result ≡ Err CatEnd.Fault ⊎ IsMounted D.held D.count self.new }
         ensures reads { WhereTold (D.held (drive_of (disk_of self.old))) (D.held (drive_of (disk_of self.new)))
             (λ old new. (new ≡ old) × PageIs result (file_titled title.now (files_of self.old)) i into.new old) }
         ensures same_reference { reference_of (disk_of self.new) ≡ reference_of (disk_of self.old) }
+        ensures count { D.count (drive_of (disk_of self.new)) ≡ D.count (drive_of (disk_of self.old)) }
         ensures later { D.faults (drive_of (disk_of self.old)) ≤ D.faults (drive_of (disk_of self.new)) }
         ensures cause { result ≡ Err CatEnd.Fault → Rose (D.faults (drive_of (disk_of self.old))) (D.faults (drive_of (disk_of self.new))) }
     {
@@ -97,11 +97,13 @@ impl<'a, D: Drive> Catalog<'a, D> {
         ensures no_such { (result ≡ Err CatEnd.NoSuch) ↔ (file_titled title.now (files_of self.old) ≡ None) }
         ensures length { IfOk result (λ n. option_map (λ file. file.record_.length) (file_titled title.now (files_of self.old)) ≡ Some n) }
         ensures refusals { IfErr result (λ why. (why ≡ CatEnd.NoSuch) ⊎ (why ≡ CatEnd.Fault)) }
+        ensures untouched { result ≡ Err CatEnd.NoSuch → (self.new ≡ self.old) × (into.new ≡ into.old) }
         ensures files { files_of self.new ≡ files_of self.old }
         ensures mounted { result ≡ Err CatEnd.Fault ⊎ IsMounted D.held D.count self.new }
         ensures reads { WhereTold (D.held (drive_of (disk_of self.old))) (D.held (drive_of (disk_of self.new)))
             (λ old new. (new ≡ old) × FileIs result title.now into.new old) }
         ensures same_reference { reference_of (disk_of self.new) ≡ reference_of (disk_of self.old) }
+        ensures count { D.count (drive_of (disk_of self.new)) ≡ D.count (drive_of (disk_of self.old)) }
         ensures later { D.faults (drive_of (disk_of self.old)) ≤ D.faults (drive_of (disk_of self.new)) }
         ensures cause { result ≡ Err CatEnd.Fault → Rose (D.faults (drive_of (disk_of self.old))) (D.faults (drive_of (disk_of self.new))) }
     {

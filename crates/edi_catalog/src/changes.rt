@@ -9,13 +9,11 @@ ghost use Rattle.edi_catalog.specs.Writing.{IsRecordAt, is_protected, kept_as, p
 
 use crate::catalog::Catalog;
 use crate::ends::CatEnd;
-use crate::entries::FileRecord;
 use crate::files::place_of;
-use crate::stored::StoredFile;
-use crate::title::Title;
-use crate::writing::{put_entry, slot_bytes};
+use crate::writing::put_entry;
 use edi_disk::DiskEnd;
 use edi_host::Drive;
+use edi_image::{FileRecord, StoredFile, Title, slot_bytes};
 
 // The file of a slot is protected.
 fn is_protected(file: &Option<StoredFile>) -> bool

@@ -1,14 +1,12 @@
 //! What is put in the blocks of a file.
 
 ghost use Rattle.std.specs.Prelude.{◌≡◌, ◌≤◌, ◌<◌, ◌+◌, ◌-◌, ◌*◌, ◌++◌, true, length, take, drop, slice_index, Some};
-ghost use Rattle.edi_catalog.specs.Build.{filled, map_block, two};
-ghost use Rattle.edi_catalog.specs.Stored.{is_stored};
+ghost use Rattle.edi_image.specs.Build.{filled, map_block, two};
+ghost use Rattle.edi_image.specs.Stored.{is_stored};
 ghost use Rattle.edi_catalog.specs.Plan.{content_of, part, used_in};
 
-use crate::blocks::BLOCK;
-use crate::entries::{FileRecord, MAP_PAGES};
-use crate::stored::StoredFile;
 use byteorder::{BigEndian, ByteOrder};
+use edi_image::{BLOCK, FileRecord, MAP_PAGES, StoredFile};
 
 // The i-th part of bytes that are cut into parts of 512.
 fn bytes_part(bytes: &[u8], i: usize) -> &[u8]
@@ -66,10 +64,10 @@ fn page_block(bytes: &[u8]) -> [u8; BLOCK]
 }
 
 // The number of maps of a file.
-fn maps_of(record: &FileRecord) -> usize
-    ensures { result ≡ length record.now.maps }
+fn maps_of(entry: &FileRecord) -> usize
+    ensures { result ≡ length entry.now.maps }
 {
-    match record.second_map {
+    match entry.second_map {
         Some(_) => 2,
         None => 1,
     }

@@ -1,7 +1,7 @@
 //! What the catalogue tells of a file.
 
-use crate::title::Title;
 use edi_calls::FileKind;
+use edi_image::Title;
 
 /// What the catalogue tells of a file.
 #[derive(Clone, Copy, Debug, PartialEq, Eq)]

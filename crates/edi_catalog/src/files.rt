@@ -1,15 +1,11 @@
 //! The slots of a mounted catalogue.
 
-ghost use Rattle.std.specs.Prelude.{◌≡◌, ◌≤◌, ◌<◌, ◌*◌, true, IfSome, length, slice_index};
-ghost use Rattle.std.specs.List.{list_all};
+ghost use Rattle.std.specs.Prelude.{◌≡◌, ◌<◌, IfSome, length, slice_index};
 ghost use Rattle.std.specs.Option.{option_map};
-ghost use Rattle.edi_catalog.specs.Stored.{is_stored};
-ghost use Rattle.edi_catalog.specs.Files.{entry_of, file_titled, find_place, blocks_in, blocks_taken, is_sized};
+ghost use Rattle.edi_catalog.specs.Files.{entry_of, file_titled, find_place};
 
 use crate::entry::Entry;
-use crate::stored::{StoredFile, is_titled};
-use crate::title::Title;
-use edi_calls::blocks_of;
+use edi_image::{StoredFile, Title, is_titled};
 
 /// The place of the file with this title.
 pub(crate) fn place_of(files: &[Option<StoredFile>], title: &Title) -> Option<usize>
@@ -37,32 +33,6 @@ pub(crate) fn entry_in(file: &Option<StoredFile>) -> Option<Entry>
         }),
         None => None,
     }
-}
-
-/// The number of blocks that the file in a slot takes.
-fn blocks_in(file: &Option<StoredFile>) -> u32
-    requires { is_sized file.now ≡ true }
-    ensures exact { result ≡ blocks_in file.now }
-    ensures most { result ≤ 512 }
-{
-    match file {
-        Some(file) => blocks_of(file.record.length as usize) as u32,
-        None => 0,
-    }
-}
-
-/// The number of blocks that all files take.
-pub(crate) fn blocks_taken(files: &[Option<StoredFile>]) -> u32
-    requires slots { length files.now ≤ 256 }
-    requires sized { list_all is_sized files.now ≡ true }
-    ensures exact { result ≡ blocks_taken files.now }
-    ensures most { result ≤ 512 * length files.now }
-{
-    let mut taken = 0;
-    for file in files {
-        taken += blocks_in(file);
-    }
-    taken
 }
 
 /// The number of page `i` of the file with this title, if there is one.

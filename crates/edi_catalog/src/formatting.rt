@@ -5,8 +5,8 @@ ghost use Rattle.edi_told.specs.Faults.{Rose};
 ghost use Rattle.edi_told.specs.Told.{WhereTold};
 ghost use Rattle.edi_catalog.specs.Ends.{CatalogueLeaves, FormatLeaves, FormatCounts};
 
-use crate::blocks::new_block;
 use edi_host::{Drive, DriveEnd, ResizeEnd};
+use edi_image::new_block;
 use std::alloc::Global;
 
 /// How a format ended.

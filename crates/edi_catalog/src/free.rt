@@ -2,14 +2,12 @@
 
 ghost use Rattle.std.specs.Prelude.{◌≡◌, ◌≤◌, ◌+◌, true, length};
 ghost use Rattle.std.specs.List.{list_all};
-ghost use Rattle.edi_catalog.specs.Rules.{is_in};
-ghost use Rattle.edi_catalog.specs.Stored.{is_stored};
-ghost use Rattle.edi_catalog.specs.Files.{blocks_taken};
+ghost use Rattle.edi_image.specs.Rules.{is_in};
+ghost use Rattle.edi_image.specs.Stored.{is_stored, blocks_taken};
 ghost use Rattle.edi_catalog.specs.Plan.{used_in, blocks_used, AreFree};
 
-use crate::entries::FIRST;
-use crate::stored::StoredFile;
 use arrayvec::ArrayVec;
+use edi_image::{FIRST, StoredFile};
 
 /// The greatest number of blocks of a file: 510 pages and two maps.
 pub(crate) const FILE_BLOCKS: usize = 512;

@@ -3,17 +3,14 @@
 ghost use Rattle.std.specs.Prelude.{◌≡◌, ◌≤◌, ◌+◌, true, length, slice_get, Some};
 ghost use Rattle.std.specs.List.{list_all};
 ghost use Rattle.edi_calls.specs.State.{blocks_of};
-ghost use Rattle.edi_catalog.specs.Stored.{is_stored};
-ghost use Rattle.edi_catalog.specs.Files.{blocks_taken, entry_of};
+ghost use Rattle.edi_image.specs.Stored.{is_stored, blocks_taken};
+ghost use Rattle.edi_catalog.specs.Files.{entry_of};
 ghost use Rattle.edi_catalog.specs.Plan.{AreFree, used_in};
 ghost use Rattle.edi_catalog.specs.Storing.{stored_entry};
 
-use crate::entries::{FileRecord, MOST_BYTES, pages_of};
 use crate::free::free_blocks;
-use crate::pages::{PAGES, Pages};
-use crate::stored::StoredFile;
-use crate::title::Title;
 use edi_calls::{FileKind, blocks_of};
+use edi_image::{FileRecord, MOST_BYTES, PAGES, Pages, StoredFile, Title, pages_of};
 
 // The second of these numbers, if there is one.
 fn second_of(maps: &[u16]) -> Option<u16>

@@ -4,19 +4,20 @@ ghost use Rattle.std.specs.Prelude.{◌≡◌, ◌≤◌, ◌<◌, ◌+◌, ◌+
 ghost use Rattle.arrayvec.specs.ArrayVec.{array_vec_len};
 ghost use Rattle.edi_disk.specs.Shown.{drive_of, IsWorking};
 ghost use Rattle.edi_calls.specs.State.{pages_of};
-ghost use Rattle.edi_catalog.specs.Rules.{first_broken};
-ghost use Rattle.edi_catalog.specs.Entries.{block_at, is_data};
-ghost use Rattle.edi_catalog.specs.Image.{map_rules, maps_rules, numbers_in, numbers_of};
-ghost use Rattle.edi_catalog.specs.Stored.{are_data, is_record};
-ghost use Rattle.edi_catalog.specs.Reads.{Checks, Finds, failed, Takes};
+ghost use Rattle.edi_image.specs.Rules.{first_broken};
+ghost use Rattle.edi_image.specs.Entries.{block_at, is_data};
+ghost use Rattle.edi_image.specs.Image.{map_rules, maps_rules, numbers_in, numbers_of};
+ghost use Rattle.edi_image.specs.Stored.{are_data, is_record};
+ghost use Rattle.edi_catalog.specs.Reads.{Checks};
+ghost use Rattle.edi_image.specs.Finds.{Finds, failed, Takes};
 
-use crate::entries::{FIRST, FileRecord, MAP_PAGES, pages_of};
-use crate::faults::MountFault;
-use crate::fields::short_at;
-use crate::pages::{PAGES, Pages, check_pages, read_numbers};
 use crate::reading::block;
 use edi_disk::Disk;
 use edi_host::Drive;
+use edi_image::{
+    FIRST, FileRecord, MAP_PAGES, MountFault, PAGES, Pages, check_pages, pages_of, read_numbers,
+    short_at,
+};
 
 /// Checks one map block of the file in a slot, which has so many pages, and puts the page numbers behind the others.
 fn check_map<D: Drive>(

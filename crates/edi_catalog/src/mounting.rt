@@ -1,24 +1,24 @@
-//! Mounting an image.
+//! Mounting an image: it is checked first, by a call that only borrows the disk.
 
-ghost use Rattle.std.specs.Prelude.{◌≡◌, ◌≤◌, ◌<◌, [], OnOk, IfOk, IfErr, IsSome, MatchResult, None, true, length, map, replicate, ⊤};
+ghost use Rattle.std.specs.Prelude.{◌≡◌, ◌≤◌, ◌<◌, [], OnOk, IfOk, Err, true, false, length, map, ⊤};
 ghost use Rattle.std.specs.List.{list_all};
-ghost use Rattle.std.specs.Option.{ForSome};
+ghost use Rattle.edi_told.specs.Faults.{Rose};
 ghost use Rattle.edi_told.specs.Told.{WhereTold};
 ghost use Rattle.edi_disk.specs.Shown.{drive_of, reference_of, shown, IsWorking};
-ghost use Rattle.edi_catalog.specs.Rules.{first_broken};
-ghost use Rattle.edi_catalog.specs.Image.{header_rules, entries_of, mount_fault_of};
-ghost use Rattle.edi_catalog.specs.Stored.{is_stored, stored_of};
-ghost use Rattle.edi_catalog.specs.Reads.{Checks, Finds, IsFirst, failed};
-ghost use Rattle.edi_catalog.specs.Mounted.{IsMounted, disk_of};
+ghost use Rattle.edi_image.specs.Rules.{first_broken};
+ghost use Rattle.edi_image.specs.Image.{header_rules, entries_of, mount_fault_of};
+ghost use Rattle.edi_image.specs.Stored.{is_stored, stored_of};
+ghost use Rattle.edi_image.specs.Finds.{Finds, failed};
+ghost use Rattle.edi_catalog.specs.Reads.{Checks};
+ghost use Rattle.edi_catalog.specs.Mounted.{IsMounted};
+ghost use Rattle.edi_catalog.specs.Checked.{catalog_of};
 
-use crate::blocks::{VERSION, header_block};
 use crate::catalog::Catalog;
-use crate::faults::MountFault;
 use crate::reading::block;
 use crate::slots::{SLOTS, read_slots};
-use crate::stored::StoredFile;
 use edi_disk::Disk;
 use edi_host::Drive;
+use edi_image::{MountFault, StoredFile, VERSION, free_slots, header_block};
 use std::alloc::Global;
 
 /// The least number of blocks of an image.
@@ -35,6 +35,8 @@ fn check_header<D: Drive>(disk: &mut Disk<'_, D>) -> Result<(), MountFault>
         (λ blocks. Finds result (first_broken [] (header_rules 2 blocks)) (λ _. ⊤)) }
     ensures least { OnOk result (LEAST ≤ D.count (drive_of disk.old)) }
     ensures most { OnOk result (D.count (drive_of disk.old) ≤ MOST) }
+    ensures short { D.count (drive_of disk.old) < LEAST → result ≡ Err MountFault.Short }
+    ensures long { MOST < D.count (drive_of disk.old) → result ≡ Err MountFault.Header }
 {
     let count = disk.blocks();
     if count < LEAST {
@@ -55,22 +57,8 @@ fn check_header<D: Drive>(disk: &mut Disk<'_, D>) -> Result<(), MountFault>
     }
 }
 
-/// So many free slots.
-pub(crate) fn free_slots(alloc: Global, count: u32) -> Result<Vec<Option<StoredFile>>, MountFault>
-    ensures { MatchResult result (λ files. files.items ≡ replicate count None) (λ fault. fault ≡ MountFault.NoMemory) }
-{
-    let mut files = Vec::new(alloc);
-    for _slot in 0..count {
-        match files.push(None) {
-            Ok(()) => {}
-            Err(_) => return Err(MountFault::NoMemory),
-        }
-    }
-    Ok(files)
-}
-
-/// Checks the image of a disk, and gives what is kept of its slots.
-pub(crate) fn read_image<D: Drive>(
+// Checks the image of a disk, and gives what is kept of its slots.
+fn read_image<D: Drive>(
     alloc: Global,
     disk: &mut Disk<'_, D>,
 ) -> Result<Vec<Option<StoredFile>>, MountFault>
@@ -80,6 +68,8 @@ pub(crate) fn read_image<D: Drive>(
     ensures many { IfOk result (λ files. length files.items ≡ SLOTS) }
     ensures most { OnOk result (D.count (drive_of disk.old) ≤ MOST) }
     ensures stored { IfOk result (λ files. list_all (is_stored (D.count (drive_of disk.old))) files.items ≡ true) }
+    ensures short { 0 < D.count (drive_of disk.old) → D.count (drive_of disk.old) < LEAST → result ≡ Err MountFault.Short }
+    ensures long { MOST < D.count (drive_of disk.old) → result ≡ Err MountFault.Header }
 {
     if disk.blocks() == 0 {
         return free_slots(alloc, SLOTS);
@@ -90,22 +80,44 @@ pub(crate) fn read_image<D: Drive>(
     }
 }
 
-/// The files of a disk. Of the faults of the image the first is answered, in the order of the slots.
+/// What a check has found of the slots of a disk.
+#[derive(Drop)]
+pub struct Checked {
+    pub(crate) files: Vec<Option<StoredFile>>,
+}
+
+/// Checks the image of a disk, and makes room for all that is kept of it. Of the faults of the image the first is answered, in
+/// the order of the slots. The disk keeps its blocks, and but for `Fault` it may be called after every answer.
 ///
-/// No call of the disk has answered `Fault`, and what was put was flushed. A drive of 0 blocks is no disk: it has no files
-/// and no free block.
-pub fn mount<'a, D: Drive>(alloc: Global, disk: Disk<'a, D>) -> Result<Catalog<'a, D>, MountFault>
-    requires works { IsWorking D.held D.count disk }
-    requires settled { D.held (drive_of disk) ≡ shown D.held disk }
-    ensures mounted { IfOk result (IsMounted D.held D.count) }
-    ensures same_reference { IfOk result (λ catalog. reference_of (disk_of catalog) ≡ reference_of disk.entry) }
-    ensures valid { IfOk result (λ catalog. WhereTold (D.held (drive_of disk.entry)) (D.held (drive_of (disk_of catalog))) (λ old new. (new ≡ old) × (mount_fault_of old ≡ None))) }
-    ensures later { IfOk result (λ catalog. D.faults (drive_of disk.entry) ≤ D.faults (drive_of (disk_of catalog))) }
-    ensures refused { IfErr result (λ fault. ((drive : D) → IsSome (D.held drive)) → ForSome (D.held (drive_of disk.entry)) (λ blocks. IsFirst fault (mount_fault_of blocks))) }
+/// No call of the disk has answered `Fault`, and what was put was flushed. A drive of 0 blocks is no disk: it has no files and
+/// no free block.
+pub fn check<D: Drive>(alloc: Global, disk: &mut Disk<'_, D>) -> Result<Checked, MountFault>
+    requires works { IsWorking D.held D.count disk.old }
+    requires settled { D.held (drive_of disk.old) ≡ shown D.held disk.old }
+    ensures checked { IfOk result (λ checked. IsMounted D.held D.count (catalog_of disk.new checked)) }
+    ensures leaves { WhereTold (D.held (drive_of disk.old)) (D.held (drive_of disk.new)) (λ old new. (new ≡ old) × Finds result (mount_fault_of old) (λ _. ⊤)) }
+    ensures short { 0 < D.count (drive_of disk.old) → D.count (drive_of disk.old) < LEAST → result ≡ Err MountFault.Short }
+    ensures long { MOST < D.count (drive_of disk.old) → result ≡ Err MountFault.Header }
+    ensures works { failed result ≡ false → IsWorking D.held D.count disk.new }
+    ensures settled { failed result ≡ false → D.held (drive_of disk.new) ≡ shown D.held disk.new }
+    ensures same_reference { reference_of disk.new ≡ reference_of disk.old }
+    ensures count { D.count (drive_of disk.new) ≡ D.count (drive_of disk.old) }
+    ensures later { D.faults (drive_of disk.old) ≤ D.faults (drive_of disk.new) }
+    ensures cause { result ≡ Err MountFault.Fault → Rose (D.faults (drive_of disk.old)) (D.faults (drive_of disk.new)) }
 {
-    let mut disk = disk;
-    match read_image(alloc, &mut disk) {
-        Ok(files) => Ok(Catalog { disk, files }),
+    match read_image(alloc, disk) {
+        Ok(files) => Ok(Checked { files }),
         Err(fault) => Err(fault),
+    }
+}
+
+/// The files of a disk that has been checked.
+pub fn mount<'a, D: Drive>(disk: Disk<'a, D>, checked: Checked) -> Catalog<'a, D>
+    requires { IsMounted D.held D.count (catalog_of disk checked) }
+    ensures { result ≡ catalog_of disk.entry checked }
+{
+    Catalog {
+        disk,
+        files: checked.files,
     }
 }

@@ -2,17 +2,16 @@
 
 ghost use Rattle.std.specs.Prelude.{◌≡◌, ◌≤◌, ◌+◌, ◌-◌, ◌*◌, true, length, Some};
 ghost use Rattle.edi_disk.specs.Shown.{drive_of, shown, IsWorking};
-ghost use Rattle.edi_catalog.specs.Stored.{is_stored};
+ghost use Rattle.edi_image.specs.Stored.{is_stored};
 ghost use Rattle.edi_catalog.specs.Plan.{are_different, content_of, used_in};
 ghost use Rattle.edi_catalog.specs.Putting.{Puts, WritesNew};
 
 use crate::contents::{block_of, content_of};
-use crate::entries::FIRST;
-use crate::stored::StoredFile;
-use crate::writing::{entry_bytes, put_entry};
+use crate::writing::put_entry;
 use edi_calls::blocks_of;
 use edi_disk::{Disk, DiskEnd};
 use edi_host::Drive;
+use edi_image::{FIRST, StoredFile, entry_bytes};
 
 // Puts the maps and the pages of a file, each in its block.
 fn put_blocks<D: Drive>(disk: &mut Disk<'_, D>, file: &StoredFile, bytes: &[u8]) -> DiskEnd

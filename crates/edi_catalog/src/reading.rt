@@ -2,17 +2,15 @@
 
 ghost use Rattle.std.specs.Prelude.{◌≡◌, ◌≤◌, ◌<◌, ◌+◌, ◌*◌, OnErr, IfOk, Some, true, length};
 ghost use Rattle.edi_disk.specs.Shown.{drive_of, IsWorking};
-ghost use Rattle.edi_catalog.specs.Entries.{block_at};
-ghost use Rattle.edi_catalog.specs.Stored.{are_data, is_stored};
+ghost use Rattle.edi_image.specs.Entries.{block_at};
+ghost use Rattle.edi_image.specs.Stored.{are_data, is_stored};
 ghost use Rattle.edi_catalog.specs.Files.{PageAt, PagesAre, StoredIs};
-ghost use Rattle.edi_catalog.specs.Reads.{Checks, failed, BlockIs};
+ghost use Rattle.edi_catalog.specs.Reads.{Checks, BlockIs};
+ghost use Rattle.edi_image.specs.Finds.{failed};
 
-use crate::blocks::BLOCK;
-use crate::entries::MOST_BYTES;
-use crate::faults::MountFault;
-use crate::stored::StoredFile;
 use edi_disk::{Disk, DiskEnd};
 use edi_host::Drive;
+use edi_image::{BLOCK, MOST_BYTES, MountFault, StoredFile};
 
 /// Block `n` of the disk. No fault but that of the drive comes.
 pub(crate) fn block<D: Drive>(disk: &mut Disk<'_, D>, n: u32) -> Result<[u8; BLOCK], MountFault>

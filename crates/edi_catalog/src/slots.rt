@@ -1,21 +1,22 @@
 //! The slots of an image.
 
-ghost use Rattle.std.specs.Prelude.{◌≡◌, ◌≤◌, ◌<◌, ◌+◌, ◌++◌, ◌∷◌, [], map, true, Some, IfOk, OnOk, OnErr, MatchResult, length};
+ghost use Rattle.std.specs.Prelude.{◌≡◌, ◌≤◌, ◌<◌, ◌+◌, ◌++◌, [], map, true, Some, IfOk, OnOk, OnErr, length};
 ghost use Rattle.std.specs.List.{list_all};
 ghost use Rattle.edi_disk.specs.Shown.{drive_of, IsWorking};
 ghost use Rattle.edi_calls.specs.State.{pages_of};
-ghost use Rattle.edi_catalog.specs.Rules.{first_broken, used_by};
-ghost use Rattle.edi_catalog.specs.Image.{file_rules, entry_rules, entries_of, slot_rules, numbers_of, said_at};
-ghost use Rattle.edi_catalog.specs.Stored.{is_fit, is_record, is_stored, stored_of, titles_of};
-ghost use Rattle.edi_catalog.specs.Reads.{Checks, Finds, SaysSlot, TakesSlot, failed};
+ghost use Rattle.edi_image.specs.Rules.{first_broken, used_by};
+ghost use Rattle.edi_image.specs.Image.{file_rules, entry_rules, entries_of, slot_rules, numbers_of, said_at};
+ghost use Rattle.edi_image.specs.Stored.{is_fit, is_record, is_stored, stored_of, titles_of};
+ghost use Rattle.edi_catalog.specs.Reads.{Checks, SaysSlot};
+ghost use Rattle.edi_image.specs.Finds.{Finds, TakesSlot, failed};
 
-use crate::entries::{ENTRY, FIRST, FileRecord, Said, entry_says};
-use crate::faults::MountFault;
 use crate::maps::read_maps;
 use crate::reading::block;
-use crate::stored::{StoredFile, has_title};
 use edi_disk::Disk;
 use edi_host::Drive;
+use edi_image::{
+    ENTRY, FIRST, FileRecord, MountFault, Said, StoredFile, entry_says, has_title, put_file,
+};
 use std::alloc::Global;
 
 /// The number of slots.
@@ -65,19 +66,6 @@ fn read_entry<D: Drive>(disk: &mut Disk<'_, D>, slot: u8) -> Result<Said, MountF
     let (_, rest) = bytes.split_at(ENTRY * (usize::from(slot) % 8));
     let (entry, _) = rest.split_at(ENTRY);
     Ok(entry_says(count, entry))
-}
-
-/// Puts what is kept of a slot behind the others.
-pub(crate) fn put_file(
-    files: &mut Vec<Option<StoredFile>>,
-    file: Option<StoredFile>,
-) -> Result<(), MountFault>
-    ensures { MatchResult result (λ _. files.new.items ≡ files.old.items ++ file ∷ []) (λ fault. fault ≡ MountFault.NoMemory) }
-{
-    match files.push(file) {
-        Ok(()) => Ok(()),
-        Err(_) => Err(MountFault::NoMemory),
-    }
 }
 
 /// Checks the entry of a slot, and puts what is kept of it behind the others.

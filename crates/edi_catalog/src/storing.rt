@@ -3,22 +3,21 @@
 ghost use Rattle.std.specs.Prelude.{◌≡◌, ◌⊎◌, ◌≤◌, ◌<◌, ◌^◌, ◌+◌, true, false, length, Some, None, Err, IfSome, IfOk, MatchResult};
 ghost use Rattle.edi_calls.specs.State.{blocks_of};
 ghost use Rattle.edi_disk.specs.Shown.{drive_of};
-ghost use Rattle.edi_catalog.specs.Files.{blocks_taken, file_titled};
+ghost use Rattle.edi_image.specs.Stored.{blocks_taken};
+ghost use Rattle.edi_catalog.specs.Files.{file_titled};
 ghost use Rattle.edi_catalog.specs.Mounted.{IsMounted, disk_of, files_of};
 ghost use Rattle.edi_catalog.specs.Writing.{is_protected};
 ghost use Rattle.edi_catalog.specs.Storing.{StoreChanges, blocks_free, free_place, not_stored, place_for};
 
 use crate::catalog::Catalog;
 use crate::ends::CatEnd;
-use crate::entries::MOST_BYTES;
 use crate::files::place_of;
 use crate::laying::lay_file;
 use crate::putting::write_new;
-use crate::stored::StoredFile;
-use crate::title::Title;
 use edi_calls::{FileKind, blocks_of};
 use edi_disk::DiskEnd;
 use edi_host::Drive;
+use edi_image::{MOST_BYTES, StoredFile, Title};
 
 // The place of the first free slot.
 fn free_place(files: &[Option<StoredFile>]) -> Option<usize>

@@ -1,7 +1,7 @@
 //! Files that are protected, released, deleted and renamed.
 
 use crate::images::image;
-use edi_catalog::{CatEnd, Title, mount};
+use edi_catalog::{CatEnd, Title, check, mount};
 use edi_disk::Disk;
 use edi_host::MemoryDrive;
 use std::alloc::{AllocError, Global};
@@ -53,9 +53,11 @@ fn made(
     let (numbers, lands) = failing;
     let mut drive = MemoryDrive::new(alloc, bytes, numbers, lands)?;
     let answer = {
-        let Ok(mut catalog) = mount(alloc, Disk::attach(&mut drive)) else {
+        let mut disk = Disk::attach(&mut drive);
+        let Ok(checked) = check(alloc, &mut disk) else {
             return Err("not mounted")?;
         };
+        let mut catalog = mount(disk, checked);
         match call {
             Call::Protect => catalog.protect(&title),
             Call::Release => catalog.release(&title),

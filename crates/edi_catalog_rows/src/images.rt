@@ -1,7 +1,7 @@
 //! Images: a new one, one for each rule that is broken, and one with files.
 
 use edi_calls::FileKind;
-use edi_catalog::{FormatEnd, MountFault, Title, format, mount};
+use edi_catalog::{FormatEnd, MountFault, Title, check, format, mount};
 use edi_disk::Disk;
 use edi_host::{Drive, MemoryDrive, SteadyDrive};
 use std::alloc::{AllocError, Global};
@@ -63,14 +63,17 @@ pub(crate) fn image(
     Ok(bytes)
 }
 
-// What mounting these blocks finds.
+// What a check of these blocks finds. The drive keeps them, whatever the answer.
 fn fault_of(rt: &impl Abort, alloc: Global, bytes: &[u8]) -> Result<Option<MountFault>, Fail> {
     assert!(rt; bytes.len() % 512 == 0);
     let mut drive = SteadyDrive::new(alloc, bytes)?;
-    match mount(alloc, Disk::attach(&mut drive)) {
-        Ok(_) => Ok(None),
-        Err(fault) => Ok(Some(fault)),
-    }
+    let mut disk = Disk::attach(&mut drive);
+    let fault = match check(alloc, &mut disk) {
+        Ok(_) => None,
+        Err(fault) => Some(fault),
+    };
+    assert_eq!(rt; drive.bytes(), bytes);
+    Ok(fault)
 }
 
 #[test]
@@ -163,9 +166,11 @@ fn a_new_image_has_no_files(rt: HostRuntime) -> Result<(), Fail> {
     assert_eq!(rt; format(alloc, &mut drive, 64), FormatEnd::Ok);
     let expected = image(alloc, b"EDIS\0\x02\0\x40", 64, &[], &[], &[])?;
     assert_eq!(rt; drive.bytes(), expected.as_slice());
-    let Ok(catalog) = mount(alloc, Disk::attach(&mut drive)) else {
+    let mut disk = Disk::attach(&mut drive);
+    let Ok(checked) = check(alloc, &mut disk) else {
         return Err("not mounted")?;
     };
+    let catalog = mount(disk, checked);
     assert_eq!(rt; catalog.free(), 31);
     assert_eq!(rt; catalog.slot(0), None);
     assert_eq!(rt; catalog.slot(256), None);
@@ -179,9 +184,11 @@ fn files_are_found_and_read(rt: HostRuntime) -> Result<(), Fail> {
     let bytes = image(alloc, b"EDIS\0\x02\0\x40", 64, &slots, &[], &[40, 39])?;
     assert!(rt; bytes.len() % 512 == 0);
     let mut drive = SteadyDrive::new(alloc, &bytes)?;
-    let Ok(catalog) = mount(alloc, Disk::attach(&mut drive)) else {
+    let mut disk = Disk::attach(&mut drive);
+    let Ok(checked) = check(alloc, &mut disk) else {
         return Err("not mounted")?;
     };
+    let catalog = mount(disk, checked);
     let title = Title::new(b"b").ok_or("no title")?;
     let entry = catalog.find(&title).ok_or("not found")?;
     assert_eq!(rt;
@@ -208,7 +215,8 @@ fn a_drive_that_fails_is_answered(rt: HostRuntime) -> Result<(), Fail> {
         let mut drive = MemoryDrive::new(alloc, &bytes, &[n], false)?;
         assert_eq!(rt; format(alloc, &mut drive, 64), end, "{n}");
         let mut other = MemoryDrive::new(alloc, &bytes, &[n], false)?;
-        let fault = match mount(alloc, Disk::attach(&mut other)) {
+        let mut disk = Disk::attach(&mut other);
+        let fault = match check(alloc, &mut disk) {
             Ok(_) => None,
             Err(fault) => Some(fault),
         };
@@ -227,9 +235,11 @@ fn pages_are_read(rt: HostRuntime) -> Result<(), Fail> {
     }
     assert!(rt; bytes.len() % 512 == 0);
     let mut drive = SteadyDrive::new(alloc, &bytes)?;
-    let Ok(mut catalog) = mount(alloc, Disk::attach(&mut drive)) else {
+    let mut disk = Disk::attach(&mut drive);
+    let Ok(checked) = check(alloc, &mut disk) else {
         return Err("not mounted")?;
     };
+    let mut catalog = mount(disk, checked);
     let mut page = [1; 512];
     let title = Title::new(b"b").ok_or("no title")?;
     let Some(entry) = catalog.find(&title) else {

@@ -6,7 +6,7 @@ mod changes;
 #[cfg(test)]
 mod images;
 #[cfg(test)]
-mod migration;
+mod reading;
 #[cfg(test)]
 mod storing;
 #[cfg(test)]

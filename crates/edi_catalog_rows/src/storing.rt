@@ -2,7 +2,7 @@
 
 use crate::images::image;
 use edi_calls::FileKind;
-use edi_catalog::{CatEnd, Title, mount};
+use edi_catalog::{CatEnd, FormatEnd, Title, check, format, mount};
 use edi_disk::Disk;
 use edi_host::{MemoryDrive, SteadyDrive};
 use std::alloc::{AllocError, Global};
@@ -36,9 +36,11 @@ fn stored(
     let title = Title::new(b"a").ok_or("no title")?;
     let mut drive = MemoryDrive::new(alloc, bytes, &[failing], lands)?;
     let answer = {
-        let Ok(mut catalog) = mount(alloc, Disk::attach(&mut drive)) else {
+        let mut disk = Disk::attach(&mut drive);
+        let Ok(checked) = check(alloc, &mut disk) else {
             return Err("not mounted")?;
         };
+        let mut catalog = mount(disk, checked);
         catalog.store(&title, FileKind::Text, contents)
     };
     Ok((answer, Vec::from_slice(alloc, drive.bytes())?))
@@ -54,9 +56,11 @@ fn page_of(
     assert!(rt; bytes.len() % 512 == 0);
     let title = Title::new(b"a").ok_or("no title")?;
     let mut drive = SteadyDrive::new(alloc, bytes)?;
-    let Ok(mut catalog) = mount(alloc, Disk::attach(&mut drive)) else {
+    let mut disk = Disk::attach(&mut drive);
+    let Ok(checked) = check(alloc, &mut disk) else {
         return Err("not mounted")?;
     };
+    let mut catalog = mount(disk, checked);
     let free = catalog.free();
     let Some(entry) = catalog.find(&title) else {
         return Ok((None, free));
@@ -128,6 +132,57 @@ fn a_fault_leaves_the_files_before_or_after(rt: HostRuntime) -> Result<(), Fail>
         assert_eq!(rt; answer, expected, "{n}");
         let files = if is_stored { after } else { before };
         assert_eq!(rt; page_of(&rt, alloc, &left, 3)?, files, "{n}");
+    }
+    Ok(())
+}
+
+// The answer to storing so many bytes as the file `a` on a new image of so many blocks, and the number of blocks that are then
+// free.
+fn stored_anew(
+    rt: &impl Abort,
+    alloc: Global,
+    blocks: u32,
+    size: usize,
+) -> Result<(Result<(), CatEnd>, u32), Fail> {
+    assert!(rt; 64 <= blocks && blocks <= 4096);
+    let title = Title::new(b"a").ok_or("no title")?;
+    let mut contents = Vec::new(alloc);
+    contents.resize(size, 7)?;
+    assert!(rt; contents.len() <= 300_000);
+    let mut drive = SteadyDrive::new(alloc, &[])?;
+    assert_eq!(rt; format(alloc, &mut drive, blocks), FormatEnd::Ok);
+    let mut disk = Disk::attach(&mut drive);
+    let Ok(checked) = check(alloc, &mut disk) else {
+        return Err("not mounted")?;
+    };
+    let mut catalog = mount(disk, checked);
+    let answer = catalog.store(&title, FileKind::Text, &contents);
+    if let Err(CatEnd::Fault) = answer {
+        return Err("the drive has failed")?;
+    }
+    Ok((answer, catalog.free()))
+}
+
+#[test]
+fn a_file_takes_its_pages_and_maps(rt: HostRuntime) -> Result<(), Fail> {
+    let alloc = rt.alloc();
+    let full = Err(CatEnd::Full {
+        wanted: 512,
+        free: 511,
+    });
+    let large = Err(CatEnd::TooLarge(261_121));
+    let cases: [(u32, usize, Result<(), CatEnd>, u32); 7] = [
+        (64, 0, Ok(()), 30),
+        (64, 1, Ok(()), 29),
+        (64, 512, Ok(()), 29),
+        (300, 130_561, Ok(()), 9),
+        (545, 261_120, Ok(()), 0),
+        (544, 261_120, full, 511),
+        (64, 261_121, large, 31),
+    ];
+    for (blocks, size, expected, free) in cases {
+        let found = stored_anew(&rt, alloc, blocks, size)?;
+        assert_eq!(rt; found, (expected, free), "{blocks} {size}");
     }
     Ok(())
 }

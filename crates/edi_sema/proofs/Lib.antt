@@ -6,7 +6,7 @@ pub mod Ends
 pub mod Staying
 pub mod Opening
 pub mod Begun
-pub mod Completed
+pub mod Completing
 pub mod Answered
 pub mod Held
 pub mod RangesParts

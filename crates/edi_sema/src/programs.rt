@@ -36,7 +36,7 @@ fn global(known: &mut Known, alloc: Global, global: &Declared) -> Result<(), Sta
 }
 
 /// The declarations before the program's procedure.
-fn declare_globals(
+pub fn declare_globals(
     known: &mut Known,
     alloc: Global,
     declared: &[Declared],
@@ -63,7 +63,7 @@ fn copy_of(alloc: Global, asked: &Asked) -> Result<Asked, StaticFault>
 }
 
 /// The program's own name is declared before its heading is held to the rules on programs.
-fn begin_program(
+pub fn begin_program(
     known: &mut Known,
     alloc: Global,
     heading: &Heading,
@@ -104,7 +104,7 @@ fn program_procedure(
 }
 
 /// What is known before a program, whose scope is open.
-fn before_program(alloc: Global) -> Result<Known, StaticFault>
+pub fn before_program(alloc: Global) -> Result<Known, StaticFault>
     ensures exact { Answers environment result (gives first_place) }
     ensures stands { IfOk result (λ known. Stands (environment known)) }
 {

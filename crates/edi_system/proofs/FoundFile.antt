@@ -6,7 +6,8 @@ use Rattle.edi_told.specs.Told.{WhereTold}
 use Rattle.edi_calls.specs.State.{title_of}
 use Rattle.edi_calls.specs.Calls.{find, found_in, word_of}
 use Rattle.edi_catalog.specs.Files.{entry_of, file_titled}
-use Rattle.edi_catalog.specs.Mounted.{files_of, IsKeptOf, IsMounted}
+use Rattle.edi_catalog.specs.Mounted.{files_of, IsMounted}
+use Rattle.edi_image.specs.Stored.{IsKeptOf}
 use Rattle.edi_catalog.proofs.Mounts.{told_same_blocks}
 use Rattle.edi_system.specs.State.{catalog_in, drive_in, found_of, input_in, printer_in, state_of, state_with, terminal_in, IsReading, IsReady}
 use Rattle.edi_system.specs.Ends.{Reaches}

@@ -1,5 +1,5 @@
 use Rattle.std.proofs.Common.{◌≡◌, ◌++◌, ◌-◌, ◌+◌, ◌*◌, length, take, replicate}
-use Rattle.edi_catalog.specs.Build.{two, all_two}
+use Rattle.edi_image.specs.Build.{two, all_two}
 use Rattle.edi_catalog.proofs.contents.map_block.Given as goal
 
 abbrev pub invariant-loop-i : goal.invariant-loop-i

@@ -1,6 +1,6 @@
 use Rattle.std.proofs.Common.{◌≡◌, ℕ, ◌<◌, false, None}
 use Rattle.std.specs.Prelude.{slice_index_or}
-use Rattle.edi_catalog.specs.Stored.{is_titled}
+use Rattle.edi_image.specs.Stored.{is_titled}
 use Rattle.edi_catalog.proofs.files.place_of.Given as goal
 
 abbrev pub invariant-loop-place : goal.invariant-loop-place

@@ -1,5 +1,5 @@
-use Rattle.edi_catalog.proofs.Told.{told_then}
-use Rattle.edi_catalog.proofs.Empty.{formatted_from}
+use Rattle.edi_image.proofs.Told.{told_then}
+use Rattle.edi_image.proofs.Empty.{formatted_from}
 use Rattle.edi_catalog.proofs.formatting.format.Goals as goal
 
 pub returns-in-Ok-write_catalogue-clause-leaves : goal.returns-in-Ok-write_catalogue-clause-leaves

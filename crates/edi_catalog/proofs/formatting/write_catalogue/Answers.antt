@@ -1,6 +1,6 @@
 use Rattle.std.proofs.Common.{◌∙◌, arith}
-use Rattle.edi_catalog.proofs.Told.{told_then, told_map}
-use Rattle.edi_catalog.proofs.Empty.{written_next, written_all}
+use Rattle.edi_image.proofs.Told.{told_then, told_map}
+use Rattle.edi_image.proofs.Empty.{written_next, written_all}
 use Rattle.edi_catalog.proofs.formatting.write_catalogue.Goals as goal
 
 pub loop-n-preserved : goal.loop-n-preserved

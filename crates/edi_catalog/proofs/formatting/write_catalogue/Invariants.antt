@@ -1,6 +1,6 @@
 use Rattle.std.proofs.Common.{◌≡◌, ◌≤◌, ◌++◌, take, drop, length}
 use Rattle.edi_told.specs.Told.{WhereTold}
-use Rattle.edi_catalog.specs.Formatted.{new_catalogue}
+use Rattle.edi_image.specs.Formatted.{new_catalogue}
 use Rattle.edi_catalog.proofs.formatting.write_catalogue.Given as goal
 
 abbrev pub invariant-loop-n : goal.invariant-loop-n

@@ -1,5 +1,5 @@
 use Rattle.std.proofs.Common.{◌≡◌, drop}
-use Rattle.edi_catalog.specs.Rules.{is_in}
+use Rattle.edi_image.specs.Rules.{is_in}
 use Rattle.edi_catalog.specs.Plan.{blocks_used}
 use Rattle.edi_catalog.proofs.free.is_used.Given as goal
 

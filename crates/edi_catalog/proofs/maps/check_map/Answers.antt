@@ -1,8 +1,8 @@
 use Rattle.std.proofs.Common.{◌≡◌, ◌∙◌, ◌++◌, rules, ap, sym, subst, eq-eqb, ne_eqb, length, arith}
-use Rattle.edi_catalog.specs.Rules.{is_in}
-use Rattle.edi_catalog.specs.Entries.{block_at}
+use Rattle.edi_image.specs.Rules.{is_in}
+use Rattle.edi_image.specs.Entries.{block_at}
 use Rattle.edi_catalog.proofs.Sequence.{checks_none, checks_map, checks_with, checks_as}
-use Rattle.edi_catalog.proofs.MapRules.{map_again, map_wrong, map_found, numbers_behind, length-numbers_in, length_behind, on_ok}
+use Rattle.edi_image.proofs.MapRules.{map_again, map_wrong, map_found, numbers_behind, length-numbers_in, length_behind, on_ok}
 use Rattle.edi_catalog.proofs.maps.check_map.Goals as goal
 
 pub returns-then-contains-clause-checks : goal.returns-then-contains-clause-checks

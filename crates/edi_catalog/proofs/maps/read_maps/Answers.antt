@@ -1,8 +1,8 @@
 use Rattle.std.proofs.Common.{◌∙◌, ap}
 use Rattle.edi_calls.specs.State.{pages_of}
-use Rattle.edi_catalog.specs.Records.{FileRecord}
+use Rattle.edi_image.specs.Records.{FileRecord}
 use Rattle.edi_catalog.proofs.Sequence.{checks_map, checks_then}
-use Rattle.edi_catalog.proofs.FileRules.{first_map_fails, second_map_fails, both_maps}
+use Rattle.edi_image.proofs.FileRules.{first_map_fails, second_map_fails, both_maps}
 use Rattle.edi_catalog.proofs.maps.read_maps.Goals as goal
 
 pub returns-in-Err-clause-checks : goal.returns-in-Err-clause-checks

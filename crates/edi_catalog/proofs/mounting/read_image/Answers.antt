@@ -1,8 +1,9 @@
 use Rattle.std.proofs.Common.{◌≡◌, ◌<◌, ◌∙◌, sym, subst, length, arith}
 use Rattle.std.specs.Prelude.{⊤}
-use Rattle.edi_catalog.proofs.Sequence.{checks_none, checks_map, checks_with, checks_as, checks_then, finds_map}
-use Rattle.edi_catalog.proofs.SlotRules.{put_fine}
-use Rattle.edi_catalog.proofs.Mounts.{image_goes_on, image_fails, no_disk, made_finds}
+use Rattle.edi_catalog.proofs.Sequence.{checks_none, checks_map, checks_with, checks_as, checks_then}
+use Rattle.edi_image.proofs.First.{finds_map}
+use Rattle.edi_image.proofs.SlotRules.{put_fine}
+use Rattle.edi_image.proofs.ImageRules.{image_goes_on, image_fails, no_disk, made_finds}
 use Rattle.edi_catalog.proofs.mounting.read_image.Goals as goal
 
 pub returns-then-blocks-eq0-clause-checks : goal.returns-then-blocks-eq0-clause-checks

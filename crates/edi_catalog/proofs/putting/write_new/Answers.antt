@@ -1,6 +1,7 @@
 use Rattle.std.proofs.Common.{ap, subst, refl, ◌∙◌}
-use Rattle.edi_catalog.specs.Stored.{StoredFile}
-use Rattle.edi_catalog.specs.Writing.{PutsEntry, bytes_of_record}
+use Rattle.edi_image.specs.Stored.{StoredFile}
+use Rattle.edi_catalog.specs.Writing.{PutsEntry}
+use Rattle.edi_image.specs.Bytes.{bytes_of_record}
 use Rattle.edi_catalog.proofs.NewFile.{new_fails, new_entry}
 use Rattle.edi_catalog.proofs.putting.write_new.Goals as goal
 

@@ -1,5 +1,5 @@
 use Rattle.std.proofs.Common.{◌∙◌, ap, sym, arith}
-use Rattle.edi_catalog.specs.Entries.{block_at}
+use Rattle.edi_image.specs.Entries.{block_at}
 use Rattle.edi_catalog.proofs.Sequence.{checks_map}
 use Rattle.edi_catalog.proofs.WholeFiles.{page_put}
 use Rattle.edi_catalog.proofs.reading.read_page_at.Goals as goal

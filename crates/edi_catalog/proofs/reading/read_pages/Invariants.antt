@@ -1,6 +1,6 @@
 use Rattle.std.proofs.Common.{◌≡◌, ◌*◌, false, length, take}
 use Rattle.std.specs.Prelude.{flat_map}
-use Rattle.edi_catalog.specs.Entries.{block_at}
+use Rattle.edi_image.specs.Entries.{block_at}
 use Rattle.edi_catalog.specs.Reads.{Checks}
 use Rattle.edi_catalog.proofs.reading.read_pages.Given as goal
 

@@ -1,7 +1,7 @@
 use Rattle.std.proofs.Common.{◌≡◌, ◌+◌, ◌/◌, ◌*◌, ◌%◌, ◌∙◌, ap, subst, length, true}
-use Rattle.edi_catalog.specs.Stored.{is_fit}
+use Rattle.edi_image.specs.Stored.{is_fit}
 use Rattle.edi_catalog.proofs.Sequence.{checks_map, checks_with}
-use Rattle.edi_catalog.proofs.SlotRules.{entry_fits, entry_read}
+use Rattle.edi_image.proofs.SlotRules.{entry_fits, entry_read}
 use Rattle.edi_catalog.proofs.slots.read_entry.Goals as goal
 
 pub returns-clause-checks : goal.returns-clause-checks

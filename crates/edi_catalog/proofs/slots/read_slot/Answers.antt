@@ -1,7 +1,8 @@
 use Rattle.std.proofs.Common.{◌∙◌, sym, subst}
-use Rattle.edi_catalog.specs.Reads.{IsFirst}
-use Rattle.edi_catalog.proofs.Sequence.{checks_map, checks_then, checks_as, drive_first}
-use Rattle.edi_catalog.proofs.SlotRules.{put_fine, put_finds, file_taken, file_broken}
+use Rattle.edi_image.specs.Finds.{IsFirst}
+use Rattle.edi_catalog.proofs.Sequence.{checks_map, checks_then, checks_as}
+use Rattle.edi_image.proofs.First.{drive_first}
+use Rattle.edi_image.proofs.SlotRules.{put_fine, put_finds, file_taken, file_broken}
 use Rattle.edi_catalog.proofs.slots.read_slot.Goals as goal
 
 pub returns-in-Ok-clause-checks : goal.returns-in-Ok-clause-checks

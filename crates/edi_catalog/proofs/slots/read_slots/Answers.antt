@@ -1,9 +1,9 @@
 use Rattle.std.proofs.Common.{◌≡◌, true, length, refl, sym, ap, subst, arith}
 use Rattle.std.specs.List.{list_all}
 use Rattle.edi_disk.specs.Shown.{drive_of}
-use Rattle.edi_catalog.specs.Stored.{is_stored}
+use Rattle.edi_image.specs.Stored.{is_stored}
 use Rattle.edi_catalog.proofs.Sequence.{checks_none, checks_then, checks_map}
-use Rattle.edi_catalog.proofs.SlotRules.{progress_from, progress_on, progress_fails, progress_ends}
+use Rattle.edi_image.proofs.SlotRules.{progress_from, progress_on, progress_fails, progress_ends}
 use Rattle.edi_catalog.proofs.slots.read_slots.Goals as goal
 
 pub loop-slot-init : goal.loop-slot-init

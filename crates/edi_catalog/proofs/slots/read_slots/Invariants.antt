@@ -1,9 +1,9 @@
 use Rattle.std.proofs.Common.{◌≡◌, false, true, length}
 use Rattle.std.specs.List.{list_all}
 use Rattle.edi_disk.specs.Shown.{drive_of}
-use Rattle.edi_catalog.specs.Stored.{is_stored}
+use Rattle.edi_image.specs.Stored.{is_stored}
 use Rattle.edi_catalog.specs.Reads.{Checks}
-use Rattle.edi_catalog.proofs.SlotRules.{Progress}
+use Rattle.edi_image.proofs.SlotRules.{Progress}
 use Rattle.edi_catalog.proofs.slots.read_slots.Given as goal
 
 abbrev pub invariant-loop-slot : goal.invariant-loop-slot

@@ -1,6 +1,6 @@
 use Rattle.std.proofs.Common.{◌+◌, ◌/◌, ◌*◌, ◌%◌, ◌∙◌, ap, rules, refl}
 use Rattle.edi_catalog.specs.Writing.{patched}
-use Rattle.edi_catalog.proofs.Told.{told_map}
+use Rattle.edi_image.proofs.Told.{told_map}
 use Rattle.edi_catalog.proofs.PutEntry.{puts_unread, puts_made, put_failed, put_flushed}
 use Rattle.edi_catalog.proofs.writing.put_entry.Goals as goal
 

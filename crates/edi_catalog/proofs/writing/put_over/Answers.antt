@@ -1,5 +1,5 @@
 use Rattle.std.proofs.Common.{rules}
-use Rattle.edi_catalog.proofs.EntryBytes.{over_made}
+use Rattle.edi_catalog.proofs.EntryFrames.{over_made}
 use Rattle.edi_catalog.proofs.writing.put_over.Goals as goal
 
 pub returns : goal.returns

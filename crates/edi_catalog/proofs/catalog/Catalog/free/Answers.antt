@@ -2,7 +2,7 @@ use Rattle.std.proofs.Common.{◌∙◌, ap}
 use Rattle.std.specs.List.{list_all}
 use Rattle.edi_disk.specs.Shown.{drive_of}
 use Rattle.edi_catalog.specs.Mounted.{disk_of, files_of}
-use Rattle.edi_catalog.specs.Files.{is_sized}
+use Rattle.edi_image.specs.Stored.{is_sized}
 use Rattle.edi_catalog.proofs.FilePlaces.{all_sized}
 use Rattle.edi_catalog.proofs.catalog.Catalog.free.Goals as goal
 

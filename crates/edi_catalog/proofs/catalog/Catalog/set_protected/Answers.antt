@@ -3,7 +3,7 @@ use Rattle.edi_catalog.specs.Mounted.{files_of}
 use Rattle.edi_catalog.specs.Files.{find_place}
 use Rattle.edi_catalog.specs.Changes.{file_protected, kept_protected, not_found}
 use Rattle.edi_catalog.specs.Writing.{file_as, kept_as, record_protected}
-use Rattle.edi_catalog.proofs.WholeFiles.{file_of}
+use Rattle.edi_image.proofs.KeptFiles.{file_of}
 use Rattle.edi_catalog.proofs.Changing.{changes_as, entry_is, has_file, inside, kept_title, record_at}
 use Rattle.edi_catalog.proofs.catalog.Catalog.set_protected.Goals as goal
 

@@ -1,7 +1,7 @@
 use Rattle.std.proofs.Common.{◌≡◌, true, Some, refl, subst}
 use Rattle.edi_disk.specs.Shown.{drive_of}
 use Rattle.edi_catalog.specs.Mounted.{disk_of, files_of}
-use Rattle.edi_catalog.specs.Stored.{is_stored}
+use Rattle.edi_image.specs.Stored.{is_stored}
 use Rattle.edi_catalog.specs.Plan.{AreFree, used_in}
 use Rattle.edi_catalog.proofs.StoredFiles.{changes_done, changes_failed, stores_from}
 use Rattle.edi_catalog.proofs.catalog.Catalog.store_at.Goals as goal

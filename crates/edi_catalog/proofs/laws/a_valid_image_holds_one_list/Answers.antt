@@ -1,5 +1,0 @@
-use Rattle.edi_catalog.proofs.Lists.{holds_one_list}
-use Rattle.edi_catalog.proofs.laws.a_valid_image_holds_one_list.Goals as goal
-
-pub returns : goal.returns
-returns c = holds_one_list

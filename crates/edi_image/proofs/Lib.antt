@@ -1,0 +1,16 @@
+pub mod Empty
+pub mod EntryBytes
+pub mod EntryParts
+pub mod FileRules
+pub mod First
+pub mod Headers
+pub mod ImageRules
+pub mod KeptFiles
+pub mod Lists
+pub mod MapRules
+pub mod Scans
+pub mod SlotRules
+pub mod Spelled
+pub mod Told
+pub mod UsedBlocks
+pub mod Worked

@@ -1,0 +1,11 @@
+pub mod Build
+pub mod Bytes
+pub mod Entries
+pub mod Finds
+pub mod Formatted
+pub mod Image
+pub mod Laws
+pub mod Records
+pub mod Rules
+pub mod Stored
+pub mod Titles

@@ -1,0 +1,10 @@
+pub mod MigratedBytes
+pub mod MigratedMaps
+pub mod MigratedRules
+pub mod MigratedSlots
+pub mod MigratedSteps
+pub mod Migrations
+pub mod OldLists
+pub mod OldMounts
+pub mod OldRules
+pub mod OldWorked

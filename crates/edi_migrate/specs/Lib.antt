@@ -1,0 +1,6 @@
+pub mod Migrated
+pub mod OldBuild
+pub mod OldEntries
+pub mod OldFiles
+pub mod OldImage
+pub mod OldLaws

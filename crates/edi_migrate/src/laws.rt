@@ -1,0 +1,8 @@
+//! Laws of images of version 1. Each stands on a function that does nothing.
+
+ghost use Rattle.edi_migrate.specs.OldLaws.{OldHoldsOneList};
+
+/// A list of blocks that breaks no rule of version 1 holds one list of files, and only one; any other list of blocks holds none.
+pub fn a_valid_old_image_holds_one_list()
+    ensures { OldHoldsOneList }
+{}
