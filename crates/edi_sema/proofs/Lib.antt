@@ -11,3 +11,4 @@ pub mod Answered
 pub mod Held
 pub mod RangesParts
 pub mod Ranges
+pub mod Soundness

@@ -1,6 +1,6 @@
 //! What a whole program is resolved to.
 
-ghost use Rattle.std.specs.Prelude.{◌≡◌, map, Err, IfOk, OnErr, OnOk};
+ghost use Rattle.std.specs.Prelude.{◌≡◌, map, Err, IfErr, IfOk, OnErr, OnOk};
 ghost use Rattle.edi_tree.specs.View.{globals, global_of, heading_of, procedure_of};
 ghost use Rattle.edi_tree.specs.Whole.{program_of};
 ghost use Rattle.edi_unit.specs.Fits.{Fits};
@@ -117,11 +117,8 @@ pub fn before_program(alloc: Global) -> Result<Known, StaticFault>
     }
 }
 
-/// The unit of a program, or the first construct that breaks a static rule.
-///
-/// A unit fits: each number in it names a type, block or variable that is there, types agree in every expression, statement
-/// and call, each block's need is as it says, and the program's parameters are calls of the system, no two the same.
-pub fn resolve(alloc: Global, tree: &Program) -> Result<Unit, StaticFault>
+/// A tree judged construct by construct: its unit, or its first fault.
+fn judge_tree(alloc: Global, tree: &Program) -> Result<Unit, StaticFault>
     ensures exact { Answers unit_of result (spec.resolve_tree (program_of tree.now)) }
     ensures fits { IfOk result (λ unit. Fits (unit_of unit)) }
 {
@@ -134,4 +131,17 @@ pub fn resolve(alloc: Global, tree: &Program) -> Result<Unit, StaticFault>
         program: 0,
         calls,
     })
+}
+
+/// The unit of a sound program, or the first construct that breaks a static rule, and then the program is not sound.
+///
+/// A unit fits: each number in it names a type, block or variable that is there, types agree in every expression, statement
+/// and call, each block's need is as it says, and the program's parameters are calls of the system, no two the same.
+pub fn resolve(alloc: Global, tree: &Program) -> Result<Unit, StaticFault>
+    ensures exact { Answers unit_of result (spec.resolve_tree (program_of tree.now)) }
+    ensures fits { IfOk result (λ unit. Fits (unit_of unit)) }
+    ensures sound { IfOk result (λ _. spec.Sound (program_of tree.now)) }
+    ensures refuses { IfErr result (λ fault. spec.Refuses (program_of tree.now) fault) }
+{
+    judge_tree(alloc, tree)
 }

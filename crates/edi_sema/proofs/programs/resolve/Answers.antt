@@ -1,20 +1,11 @@
-use Rattle.std.proofs.Common.{◌≡◌, rules}
 use Rattle.edi_tree.specs.Whole.{program_of}
-use Rattle.edi_unit.specs.View.{unit_of}
-use Rattle.edi_static.specs.Judged.{gives}
-use Rattle.edi_static.specs.Programs.{resolve_tree}
-use Rattle.edi_static.proofs.FitnessPrograms.{units_fit}
-use Rattle.edi_sema.proofs.Ranges.{held_in_range}
+use Rattle.edi_sema.proofs.Soundness.{sound_if_given, unsound_if_refused}
 use Rattle.edi_sema.proofs.programs.resolve.Goals as goal
 
-pub returns-clause-fits : goal.returns-clause-fits
-returns-clause-fits c =
-    let tree = program_of c.args.tree.now in
-    let unit = unit_of (record {
-      types = c.program_procedure.new.known.types;
-      blocks = c.from_vec.result;
-      program = 0;
-      calls = c.in_ok-calls.calls;
-    }) in
-    let exact : resolve_tree tree ≡ gives unit = search rules in
-    units_fit tree unit c.args.tree.now.shallow (held_in_range tree c.args.tree.now.held) c.in_ok-calls.ensures.table.bounded exact
+pub returns-clause-sound : goal.returns-clause-sound
+returns-clause-sound c =
+    let tree = c.args.tree.now in
+    sound_if_given (program_of tree) c.judge_tree.result tree.held tree.shallow c.judge_tree.ensures.exact
+
+pub returns-clause-refuses : goal.returns-clause-refuses
+returns-clause-refuses c = unsound_if_refused (program_of c.args.tree.now) c.judge_tree.result c.judge_tree.ensures.exact
