@@ -30,23 +30,16 @@ due_from start bytes more due from = record {
   is = ap (λ d. due_after d more) from.is ∙ due_on false (drop start bytes) more ∙ ap (due_after false) (sym (drop-append-le start bytes more from.within));
 }
 
-module _ {T : Type 0} (shown : T → Option (List ℕ)) (before after : T) (was is : Bool) where
-  -- the terminal and the line are as they were
-  pub same_due : after ≡ before → is ≡ was → (start : ℕ)
-      → IfSome (shown before) (λ bytes. IsDueFrom start bytes was) → IfSome (shown after) (λ bytes. IsDueFrom start bytes is)
-  same_due terminal due start since =
-      subst (λ t. IfSome (shown t) (λ bytes. IsDueFrom start bytes is)) (sym terminal)
-      (subst (λ d. IfSome (shown before) (λ bytes. IsDueFrom start bytes d)) (sym due) since)
-
-  -- more was shown
-  pub more_due : (more : List ℕ) → WhereTold (shown before) (shown after) (λ old new. new ≡ old ++ more) → is ≡ due_after was more → (start : ℕ)
-      → IfSome (shown before) (λ bytes. IsDueFrom start bytes was) → IfSome (shown after) (λ bytes. IsDueFrom start bytes is)
-  more_due more told due start = go (shown before) (shown after) told
-    where
-      go : (old new : Option (List ℕ)) → WhereTold old new (λ old new. new ≡ old ++ more)
-          → IfSome old (λ bytes. IsDueFrom start bytes was) → IfSome new (λ bytes. IsDueFrom start bytes is)
-      go old None told since = tt
-      go None (Some new) told since = absurd told
-      go (Some old) (Some new) told since =
-          subst (λ bytes. IsDueFrom start bytes is) (sym told)
-          (subst (λ d. IsDueFrom start (old ++ more) d) (sym due) (due_from start old more was since))
+-- more was shown on the terminal
+pub more_due : {T : Type 0} (shown : T → Option (List ℕ)) (before after : T) (was is : Bool) (more : List ℕ)
+    → WhereTold (shown before) (shown after) (λ old new. new ≡ old ++ more) → is ≡ due_after was more → (start : ℕ)
+    → IfSome (shown before) (λ bytes. IsDueFrom start bytes was) → IfSome (shown after) (λ bytes. IsDueFrom start bytes is)
+more_due shown before after was is more told due start = go (shown before) (shown after) told
+  where
+    go : (old new : Option (List ℕ)) → WhereTold old new (λ old new. new ≡ old ++ more)
+        → IfSome old (λ bytes. IsDueFrom start bytes was) → IfSome new (λ bytes. IsDueFrom start bytes is)
+    go old None told since = tt
+    go None (Some new) told since = absurd told
+    go (Some old) (Some new) told since =
+        subst (λ bytes. IsDueFrom start bytes is) (sym told)
+        (subst (λ d. IsDueFrom start (old ++ more) d) (sym due) (due_from start old more was since))

@@ -25,6 +25,7 @@ impl<'a, D: Drive, S: Source, T: Sink, P: Sink> System<'a, D, S, T, P> {
             (λ before after. Reaches (find words.now before) result before after) }
         ensures only { OnlyOpenFiles self.old self.new }
         ensures ready { IsReady D.held D.count self.new }
+        ensures due { KeepsDue T.taken self.old self.new }
         ensures keeps { Keeps D.faults S.faults T.faults P.faults (is_fault result) self.old self.new }
     {
         let found = text_spelled(&self.catalog, words);

@@ -5,6 +5,7 @@ ghost use Rattle.edi_told.specs.Told.{WhereTold};
 ghost use Rattle.edi_calls.specs.Calls.{close, fresh_buffer, remove, write};
 ghost use Rattle.edi_system.specs.Catalogue.{done, is_refused, OnlyFiles};
 ghost use Rattle.edi_system.specs.State.{state_of, IsReady};
+ghost use Rattle.edi_system.specs.AsCalls.{KeepsDue};
 ghost use Rattle.edi_system.specs.Ends.{is_fault, Keeps, Reaches};
 ghost use Rattle.edi_system.specs.Parts.{OnlyOpenFiles};
 
@@ -36,6 +37,7 @@ impl<'a, D: Drive, S: Source, T: Sink, P: Sink> System<'a, D, S, T, P> {
             (λ before after. Reaches (fresh_buffer before) result before after) }
         ensures only { OnlyOpenFiles self.old self.new }
         ensures ready { IsReady D.held D.count self.new }
+        ensures due { KeepsDue T.taken self.old self.new }
         ensures keeps { Keeps D.faults S.faults T.faults P.faults (is_fault result) self.old self.new }
     {
         self.buffer.begin();
@@ -49,6 +51,7 @@ impl<'a, D: Drive, S: Source, T: Sink, P: Sink> System<'a, D, S, T, P> {
             (λ before after. Reaches (write word before) result before after) }
         ensures only { OnlyOpenFiles self.old self.new }
         ensures ready { IsReady D.held D.count self.new }
+        ensures due { KeepsDue T.taken self.old self.new }
         ensures keeps { Keeps D.faults S.faults T.faults P.faults (is_fault result) self.old self.new }
     {
         match self.buffer.write(character(word)) {
@@ -65,6 +68,7 @@ impl<'a, D: Drive, S: Source, T: Sink, P: Sink> System<'a, D, S, T, P> {
             (λ before after. Reaches (close words.now before) result before after) }
         ensures only { OnlyFiles self.old self.new }
         ensures ready { is_fault result ≡ false → IsReady D.held D.count self.new }
+        ensures due { KeepsDue T.taken self.old self.new }
         ensures keeps { Keeps D.faults S.faults T.faults P.faults (is_fault result) self.old self.new }
     {
         let Some(bytes) = self.buffer.bytes() else {
@@ -91,6 +95,7 @@ impl<'a, D: Drive, S: Source, T: Sink, P: Sink> System<'a, D, S, T, P> {
             (λ before after. Reaches (remove words.now before) result before after) }
         ensures only { OnlyFiles self.old self.new }
         ensures ready { is_fault result ≡ false → IsReady D.held D.count self.new }
+        ensures due { KeepsDue T.taken self.old self.new }
         ensures keeps { Keeps D.faults S.faults T.faults P.faults (is_fault result) self.old self.new }
     {
         let Some(title) = title_of(words) else {
