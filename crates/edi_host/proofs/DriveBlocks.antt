@@ -1,10 +1,14 @@
 -- The blocks that a form in memory tells, over its calls.
-use Rattle.std.proofs.Common.{◌≡◌, ◌⊎◌, inl, inr, ℕ, zero, suc, ◌-◌, List, ◌∷◌, ◌++◌, length, map, take, replicate, Some, refl, sym, ap, ◌∙◌}
+use Rattle.std.proofs.Common.{◌≡◌, ◌≤◌, ◌⊎◌, inl, inr, ℕ, zero, suc, ◌-◌, ◌*◌, Bool, true, false, ◌&&◌, List, [], ◌∷◌, ◌++◌, length, map, take, drop, replicate, Some, refl, sym, ap, ◌∙◌, arith}
 use Rattle.std.specs.Prelude.{slice_set}
 use Rattle.std.specs.Option.{option_map}
-use Rattle.std.proofs.lemmas.List.{length-map, length-replicate, map-append, map-set, take-map}
+use Rattle.std.specs.List.{list_all}
+use Rattle.std.specs.Simd.{first_chunks}
+use Rattle.std.proofs.lemmas.Bool.{eq-eqb, eqb-true}
+use Rattle.std.proofs.lemmas.List.Folds.{list_all-append}
+use Rattle.std.proofs.lemmas.List.{length-drop, length-map, length-replicate, length-take-le, map-append, map-set, take-map}
 use Rattle.std.proofs.lemmas.Option.{slice_get-map}
-use Rattle.edi_host.specs.Blocks.{block_of, resized, zero_block, ReadLeaves, ResizeLeaves, ResizesOrNot, WriteLeaves}
+use Rattle.edi_host.specs.Blocks.{block_of, is_block, resized, zero_block, ReadLeaves, ResizeLeaves, ResizesOrNot, WriteLeaves}
 use Rattle.edi_host.specs.Sized.{block_of-is_block}
 use Rattle.edi_host.specs.declared.drive.DriveEnd.{DriveEnd}
 use Rattle.edi_host.specs.declared.drive.DriveEnd.TheVariants as drive
@@ -57,3 +61,54 @@ pub told_resize : (end : ResizeEnd) (n : ℕ) (old new : List (List ℕ)) → Re
 told_resize resize.Ok n old new leaves = ap (map block_of) leaves ∙ told_resized old n
 told_resize resize.Failed n old new leaves = tt
 told_resize resize.NoMemory n old new leaves = ap (map block_of) leaves
+
+-- ---- what is kept are blocks
+
+-- the first passes a test and the others do
+both : (a b : Bool) → (a && b) ≡ true → (a ≡ true) × (b ≡ true)
+both true b h = (refl, h)
+both false b h = absurd (let no : false ≡ true = h in cc)
+
+one_more : (block : List ℕ) (blocks : List (List ℕ)) → is_block block ≡ true → list_all is_block blocks ≡ true → list_all is_block (block ∷ blocks) ≡ true
+one_more block blocks first rest = ap (λ b. b && list_all is_block blocks) first ∙ rest
+
+pub chunks_are_blocks : (n : ℕ) (bytes : List ℕ) → 512 * n ≤ length bytes → list_all is_block (first_chunks 512 n bytes) ≡ true
+chunks_are_blocks zero bytes within = refl
+chunks_are_blocks (suc n) bytes within =
+    one_more (take 512 bytes) (first_chunks 512 n (drop 512 bytes)) (eq-eqb (length (take 512 bytes)) 512 (length-take-le 512 bytes (omega (arith, within))))
+    (chunks_are_blocks n (drop 512 bytes) (let rest : length (drop 512 bytes) ≡ length bytes - 512 = length-drop 512 bytes in omega (arith, rest, within)))
+
+pub blocks_set : (blocks : List (List ℕ)) (n : ℕ) (block : List ℕ) → list_all is_block blocks ≡ true → length block ≡ 512
+    → list_all is_block (slice_set blocks n block) ≡ true
+blocks_set [] n block all long = refl
+blocks_set (first ∷ blocks) zero block all long = one_more block blocks (eq-eqb (length block) 512 long) (both (is_block first) (list_all is_block blocks) all).1
+blocks_set (first ∷ blocks) (suc n) block all long =
+    let parts = both (is_block first) (list_all is_block blocks) all in
+    one_more first (slice_set blocks n block) parts.0 (blocks_set blocks n block parts.1 long)
+
+first_blocks : (n : ℕ) (blocks : List (List ℕ)) → list_all is_block blocks ≡ true → list_all is_block (take n blocks) ≡ true
+first_blocks zero blocks all = refl
+first_blocks (suc n) [] all = refl
+first_blocks (suc n) (first ∷ blocks) all =
+    let parts = both (is_block first) (list_all is_block blocks) all in
+    one_more first (take n blocks) parts.0 (first_blocks n blocks parts.1)
+
+zero_blocks : (n : ℕ) → list_all is_block (replicate n zero_block) ≡ true
+zero_blocks zero = refl
+zero_blocks (suc n) =
+    one_more zero_block (replicate n zero_block) (eq-eqb (length zero_block) 512 (length-replicate {A = ℕ} 512 0)) (zero_blocks n)
+
+pub blocks_resized : (end : ResizeEnd) (n : ℕ) (old new : List (List ℕ)) → list_all is_block old ≡ true → ResizesOrNot end n old new
+    → list_all is_block new ≡ true
+blocks_resized resize.Ok n old new all leaves =
+    ap (list_all is_block) leaves ∙ list_all-append is_block (take n old) (replicate (n - length old) zero_block)
+    ∙ ap (λ b. b && list_all is_block (replicate (n - length old) zero_block)) (first_blocks n old all) ∙ zero_blocks (n - length old)
+blocks_resized resize.Failed n old new all leaves = ap (list_all is_block) leaves ∙ all
+blocks_resized resize.NoMemory n old new all leaves = ap (list_all is_block) leaves ∙ all
+
+-- what is told of them is what they are
+pub told_as_kept : (blocks : List (List ℕ)) → list_all is_block blocks ≡ true → map block_of blocks ≡ blocks
+told_as_kept [] all = refl
+told_as_kept (block ∷ blocks) all =
+    let parts = both (is_block block) (list_all is_block blocks) all in
+    ap (λ x. x ∷ map block_of blocks) (block_of-is_block block (eqb-true (length block) 512 parts.0)) ∙ ap (λ xs. block ∷ xs) (told_as_kept blocks parts.1)

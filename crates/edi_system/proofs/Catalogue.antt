@@ -1,29 +1,14 @@
 -- Calls of the catalogue, on a system.
-use Rattle.std.proofs.Common.{◌≡◌, ◌≤◌, ◌⊎◌, inl, inr, ℕ, true, false, List, Option, Some, None, refl, sym, ap, subst, ◌∙◌, arith}
-use Rattle.std.specs.Prelude.{Result, Ok, Err, IfSome, slice_index}
-use Rattle.std.specs.Option.{ForSome}
-use Rattle.edi_told.specs.Faults.{Rose}
-use Rattle.edi_told.specs.Told.{WhereTold}
-use Rattle.edi_disk.specs.Shown.{drive_of}
+use Rattle.std.proofs.Common.{◌≡◌, ◌⊎◌, inl, inr, true, false, Option, None, refl, sym, ap, ◌∙◌}
+use Rattle.std.specs.Prelude.{Result, Ok, Err}
 use Rattle.edi_calls.specs.declared.ends.Outside.{Outside}
-use Rattle.edi_calls.specs.declared.ends.Outside.TheVariants as outside
-use Rattle.edi_calls.specs.State.{File}
 use Rattle.edi_catalog.specs.declared.catalog.Catalog.{Catalog}
 use Rattle.edi_catalog.specs.declared.ends.CatEnd.{CatEnd}
 use Rattle.edi_catalog.specs.declared.ends.CatEnd.TheVariants as cat
-use Rattle.edi_catalog.specs.declared.entry.Entry.{Entry}
-use Rattle.edi_catalog.specs.Changes.{Answers, Leaves}
-use Rattle.edi_image.specs.Entries.{block_at}
-use Rattle.edi_catalog.specs.Files.{file_titled}
-use Rattle.edi_catalog.specs.Mounted.{disk_of, files_of}
-use Rattle.edi_image.specs.Stored.{StoredFile}
-use Rattle.edi_catalog.specs.Storing.{StoreAnswers}
-use Rattle.edi_system.specs.State.{drive_in, faults_of, input_in, printer_in, terminal_in, IsReading}
-use Rattle.edi_system.specs.Ends.{Blames}
+use Rattle.edi_catalog.specs.Changes.{Untouched}
+use Rattle.edi_system.specs.State.{catalog_in, failed_in}
 use Rattle.edi_system.specs.Catalogue.{failed_at, is_drive_fault, is_refused}
-use Rattle.edi_system.specs.declared.reading.Reading.{Reading}
 use Rattle.edi_system.specs.declared.system.System.{System}
-use Rattle.edi_system.proofs.Told.{told_back, told_map}
 
 -- ---- what the answer says
 
@@ -41,92 +26,42 @@ pub no_fault : {X M : Type 0} (r : Result X CatEnd) → (r ≡ Err cat.Fault) �
 no_fault r (inr m) e = m
 no_fault r (inl f) e = absurd (let no : true ≡ false = sym (ap is_drive_fault f) ∙ e in cc)
 
-pub blamed : {X : Type 0} (r : Result X CatEnd) (failed : Option Outside) (before now : Outside → ℕ) → failed ≡ failed_at r
-    → (r ≡ Err cat.Fault → Rose (before outside.Drive) (now outside.Drive)) → Blames (is_drive_fault r) failed before now
-blamed {X} r failed before now is cause = subst (λ o. Blames (is_drive_fault r) o before now) (sym is) (go r cause) where
-  go : (q : Result X CatEnd) → (q ≡ Err cat.Fault → Rose (before outside.Drive) (now outside.Drive)) → Blames (is_drive_fault q) (failed_at q) before now
-  go (Ok x) h = tt
-  go (Err cat.NoSuch) h = tt
-  go (Err cat.Taken) h = tt
-  go (Err cat.Protected) h = tt
-  go (Err (cat.TooLarge n)) h = tt
-  go (Err cat.CatalogFull) h = tt
-  go (Err (cat.Full n m)) h = tt
-  go (Err cat.Fault) h = h refl
+-- ---- a refusal
 
--- a refusal changes no file
-refused_same : {X : Type 0} (r : Result X CatEnd) (before after : List (Option File)) (old new : List (List ℕ)) → is_refused r ≡ true
-    → Leaves r before after old new → new ≡ old
-refused_same (Ok x) before after old new e l = absurd (let no : false ≡ true = e in cc)
-refused_same (Err cat.NoSuch) before after old new e l = l
-refused_same (Err cat.Taken) before after old new e l = l
-refused_same (Err cat.Protected) before after old new e l = l
-refused_same (Err (cat.TooLarge n)) before after old new e l = l
-refused_same (Err cat.CatalogFull) before after old new e l = l
-refused_same (Err (cat.Full n m)) before after old new e l = l
-refused_same (Err cat.Fault) before after old new e l = absurd (let no : false ≡ true = e in cc)
+-- it leaves what was there
+pub refused_untouched : {X C : Type 0} (r : Result X CatEnd) (before after : C) → is_refused r ≡ true → Untouched r before after → after ≡ before
+refused_untouched (Ok x) before after e u = absurd (let no : false ≡ true = e in cc)
+refused_untouched (Err cat.NoSuch) before after e u = u
+refused_untouched (Err cat.Taken) before after e u = u
+refused_untouched (Err cat.Protected) before after e u = u
+refused_untouched (Err (cat.TooLarge n)) before after e u = u
+refused_untouched (Err cat.CatalogFull) before after e u = u
+refused_untouched (Err (cat.Full n m)) before after e u = u
+refused_untouched (Err cat.Fault) before after e u = absurd (let no : false ≡ true = e in cc)
 
-pub told_refused : {X : Type 0} (r : Result X CatEnd) (before after : List (List ℕ) → List (Option File)) (a b : Option (List (List ℕ)))
-    → is_refused r ≡ true → WhereTold a b (λ old new. Leaves r (before old) (after old) old new) → WhereTold a b (λ old new. new ≡ old)
-told_refused r before after a b e = told_map (λ old new. Leaves r (before old) (after old) old new) (λ old new. new ≡ old) a b
-    (λ old new l. refused_same r (before old) (after old) old new e l)
+pub untouched_if : {X C : Type 0} (r : Result X CatEnd) (before after : C) → (is_refused r ≡ true → after ≡ before) → Untouched r before after
+untouched_if (Ok x) before after same = tt
+untouched_if (Err cat.NoSuch) before after same = same refl
+untouched_if (Err cat.Taken) before after same = same refl
+untouched_if (Err cat.Protected) before after same = same refl
+untouched_if (Err (cat.TooLarge n)) before after same = same refl
+untouched_if (Err cat.CatalogFull) before after same = same refl
+untouched_if (Err (cat.Full n m)) before after same = same refl
+untouched_if (Err cat.Fault) before after same = tt
 
-pub refused_files : {X : Type 0} (r : Result X CatEnd) (refusal : Option CatEnd) (old wanted new : List (Option StoredFile)) → is_refused r ≡ true
-    → Answers r refusal old wanted new → new ≡ old
-refused_files (Ok x) refusal old wanted new e a = absurd (let no : false ≡ true = e in cc)
-refused_files (Err cat.NoSuch) refusal old wanted new e a = a.1
-refused_files (Err cat.Taken) refusal old wanted new e a = a.1
-refused_files (Err cat.Protected) refusal old wanted new e a = a.1
-refused_files (Err (cat.TooLarge n)) refusal old wanted new e a = a.1
-refused_files (Err cat.CatalogFull) refusal old wanted new e a = a.1
-refused_files (Err (cat.Full n m)) refusal old wanted new e a = a.1
-refused_files (Err cat.Fault) refusal old wanted new e a = absurd (let no : false ≡ true = e in cc)
+not_fault : {X : Type 0} (r : Result X CatEnd) → is_refused r ≡ true → is_drive_fault r ≡ false
+not_fault (Ok x) e = refl
+not_fault (Err cat.NoSuch) e = refl
+not_fault (Err cat.Taken) e = refl
+not_fault (Err cat.Protected) e = refl
+not_fault (Err (cat.TooLarge n)) e = refl
+not_fault (Err cat.CatalogFull) e = refl
+not_fault (Err (cat.Full n m)) e = refl
+not_fault (Err cat.Fault) e = absurd (let no : false ≡ true = e in cc)
 
-pub refused_store : {X : Type 0} (r : Result X CatEnd) (refusal : Option CatEnd) (place : Option ℕ) (entry : Entry) (old new : List (Option StoredFile)) → is_refused r ≡ true
-    → StoreAnswers r refusal place entry old new → new ≡ old
-refused_store (Ok x) refusal place entry old new e a = absurd (let no : false ≡ true = e in cc)
-refused_store (Err cat.NoSuch) refusal place entry old new e a = a.1
-refused_store (Err cat.Taken) refusal place entry old new e a = a.1
-refused_store (Err cat.Protected) refusal place entry old new e a = a.1
-refused_store (Err (cat.TooLarge n)) refusal place entry old new e a = a.1
-refused_store (Err cat.CatalogFull) refusal place entry old new e a = a.1
-refused_store (Err (cat.Full n m)) refusal place entry old new e a = a.1
-refused_store (Err cat.Fault) refusal place entry old new e a = absurd (let no : false ≡ true = e in cc)
-
--- ---- what is read stays
-
-page_kept : {D : Type 0} (held : D → Option (List (List ℕ))) (before after : Catalog D) (page : List ℕ) (file : StoredFile) (kept : Option ℕ)
-    → WhereTold (held (drive_of (disk_of before))) (held (drive_of (disk_of after))) (λ old new. new ≡ old)
-    → IfSome kept (λ i. ForSome (held (drive_of (disk_of before))) (λ blocks. block_at blocks (slice_index file.pages i) ≡ page))
-    → IfSome kept (λ i. ForSome (held (drive_of (disk_of after))) (λ blocks. block_at blocks (slice_index file.pages i) ≡ page))
-page_kept held before after page file None told k = tt
-page_kept held before after page file (Some i) told k =
-    λ blocks is. k blocks (told_back (held (drive_of (disk_of before))) (held (drive_of (disk_of after))) told blocks is)
-
-pub reading_kept : {D : Type 0} (held : D → Option (List (List ℕ))) (before after : Catalog D) (page : List ℕ) (found : Option Reading)
-    → files_of after ≡ files_of before → WhereTold (held (drive_of (disk_of before))) (held (drive_of (disk_of after))) (λ old new. new ≡ old)
-    → IfSome found (IsReading held before page) → IfSome found (IsReading held after page)
-reading_kept held before after page None same told r = tt
-reading_kept held before after page (Some reading) same told r = record {
-  file = r.file;
-  there = ap (file_titled reading.title) same ∙ r.there;
-  text = r.text;
-  length_ = r.length_;
-  within = r.within;
-  kept = page_kept held before after page r.file reading.kept told r.kept;
-}
-
-pub told_read : {A : Type 0} (P : A → A → Type 0) (a b : Option A) → WhereTold a b (λ old new. (new ≡ old) × P old new) → WhereTold a b (λ old new. new ≡ old)
-told_read P a b = told_map (λ old new. (new ≡ old) × P old new) (λ old new. new ≡ old) a b (λ old new p. p.0)
-
-at_least : (n m : ℕ) → m ≡ n → n ≤ m
-at_least n m e = omega (arith, e)
-
--- each count is as great as before, where that of the drive is and the other objects are the same
-pub drive_later : {D S T P : Type 0} (drive : D → ℕ) (input : S → ℕ) (terminal : T → ℕ) (printer : P → ℕ) (before after : System D S T P)
-    → drive (drive_in before) ≤ drive (drive_in after) → input_in after ≡ input_in before → terminal_in after ≡ terminal_in before → printer_in after ≡ printer_in before
-    → (other : Outside) → faults_of drive input terminal printer before other ≤ faults_of drive input terminal printer after other
-drive_later drive input terminal printer before after d i t p outside.Drive = d
-drive_later drive input terminal printer before after d i t p outside.Input = at_least _ _ (ap input i)
-drive_later drive input terminal printer before after d i t p outside.Terminal = at_least _ _ (ap terminal t)
-drive_later drive input terminal printer before after d i t p outside.Printer = at_least _ _ (ap printer p)
+-- a system after a call of the catalogue that was refused
+pub refused_system : {D S T P X : Type 0} (before : System D S T P) (catalog : Catalog D) (failed : Option Outside) (r : Result X CatEnd) → is_refused r ≡ true
+    → Untouched r (catalog_in before) catalog → failed ≡ failed_at r → failed_in before ≡ None → record before { catalog = catalog; failed = failed } ≡ before
+refused_system before catalog failed r e u is none =
+    ap (λ x. record before { catalog = x; failed = failed }) (refused_untouched r (catalog_in before) catalog e u)
+    ∙ ap (λ x. record before { failed = x }) (is ∙ none_failed r (not_fault r e) ∙ sym none)

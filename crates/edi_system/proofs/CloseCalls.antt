@@ -25,7 +25,7 @@ use Rattle.edi_system.specs.Reading.{not_titled}
 use Rattle.edi_system.specs.Catalogue.{done, failed_at, is_drive_fault, is_refused}
 use Rattle.edi_system.specs.declared.ends.Stop.{Stop}
 use Rattle.edi_system.specs.declared.system.System.{System}
-use Rattle.edi_system.proofs.Catalogue.{no_fault, none_failed, told_refused}
+use Rattle.edi_system.proofs.Catalogue.{no_fault, none_failed, refused_untouched}
 use Rattle.edi_system.proofs.Closing.{closes, done_fault, nothing_against, nothing_to_store, open_answer, removes, something_against, something_to_store}
 use Rattle.edi_system.proofs.FoundFile.{state_open}
 use Rattle.edi_system.proofs.OtherFiles.{not_titled_ready, removed_others, stored_others}
@@ -105,7 +105,7 @@ module _ {D S T P : Type 0} (held : D → Option (List (List ℕ))) (left : S �
           → WhereTold (state_of held left shown printed before) (state_of held left shown printed after) (λ b a. Reaches (close words b) (Ok (Some word)) b a)
       close_refused_told bytes word says most closed changes written found kept =
           over_blocks before after (λ old new. new ≡ old) (λ b a. Reaches (close words b) (Ok (Some word)) b a)
-          (told_refused answer slots_of (λ old. slots_stored title kind.Text bytes (slots_of old)) (held (drive_in before)) (held (drive_in after)) closed changes.leaves)
+          (told_same (held (drive_in before)) (held (drive_in after)) (ap (λ (c : Catalog D). held (drive_of (disk_of c))) (refused_untouched answer (catalog_in before) (catalog_in after) closed changes.untouched)))
           same_input same_terminal same_printer
           (λ b b' i s p told told' same.
           (let why = something_to_store answer _ _ _ _ _ closed changes.answers in
@@ -140,7 +140,7 @@ module _ {D S T P : Type 0} (held : D → Option (List (List ℕ))) (left : S �
           → WhereTold (state_of held left shown printed before) (state_of held left shown printed after) (λ b a. Reaches (remove words b) (Ok (Some word)) b a)
       remove_refused_told word says closed changes found kept =
           over_blocks before after (λ old new. new ≡ old) (λ b a. Reaches (remove words b) (Ok (Some word)) b a)
-          (told_refused answer slots_of (λ old. slots_changed deleted title (slots_of old)) (held (drive_in before)) (held (drive_in after)) closed changes.leaves)
+          (told_same (held (drive_in before)) (held (drive_in after)) (ap (λ (c : Catalog D). held (drive_of (disk_of c))) (refused_untouched answer (catalog_in before) (catalog_in after) closed changes.untouched)))
           same_input same_terminal same_printer
           (λ b b' i s p told told' same.
           (let why = something_against answer _ _ _ _ closed changes.answers in

@@ -13,7 +13,7 @@ use Rattle.edi_system.specs.Reading.{forgotten}
 use Rattle.edi_system.specs.Catalogue.{failed_at, is_drive_fault, is_refused}
 use Rattle.edi_system.specs.declared.reading.Reading.{Reading}
 use Rattle.edi_system.specs.declared.system.System.{System}
-use Rattle.edi_system.proofs.Catalogue.{no_fault, none_failed, refused_files}
+use Rattle.edi_system.proofs.Catalogue.{no_fault, none_failed, refused_untouched}
 use Rattle.edi_system.proofs.Closing.{open_answer}
 use Rattle.edi_system.proofs.OtherFiles.{AreAlike, alike_same, forgotten_ready, protected_alike}
 
@@ -37,7 +37,7 @@ protects_ready {D} {S} {T} {P} {X} held count faults before after answer protect
 } where
   alike : (b : Bool) → is_refused answer ≡ b → (other : List ℕ) → AreAlike (file_titled other (files_of (catalog_in before))) (file_titled other (files_of (catalog_in after)))
   alike true closed other =
-      subst (λ fs. AreAlike (file_titled other (files_of (catalog_in before))) (file_titled other fs)) (sym (refused_files answer _ _ _ _ closed changes.answers))
+      subst (λ fs. AreAlike (file_titled other (files_of (catalog_in before))) (file_titled other fs)) (sym (ap files_of (refused_untouched answer (catalog_in before) (catalog_in after) closed changes.untouched)))
       (alike_same (file_titled other (files_of (catalog_in before))))
   alike false open_ other = go (open_answer answer open_) where
     go : ((x : X) × (answer ≡ Ok x)) ⊎ (answer ≡ Err cat.Fault) → AreAlike (file_titled other (files_of (catalog_in before))) (file_titled other (files_of (catalog_in after)))

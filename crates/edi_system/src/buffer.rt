@@ -14,7 +14,7 @@ pub(crate) const MOST_BYTES: usize = 261_120;
 
 /// The bytes of the file that is being written, if one is. Its room is made once.
 #[derive(Drop)]
-pub(crate) struct Buffer {
+pub struct Buffer {
     bytes: Vec<u8>,
     begun: bool,
 }
@@ -42,7 +42,7 @@ impl Buffer {
     }
 
     /// Begins an empty buffer.
-    pub fn begin(&mut self)
+    pub(crate) fn begin(&mut self)
         ensures { self.new ≡ Some [] }
     {
         self.bytes.clear();
@@ -50,7 +50,7 @@ impl Buffer {
     }
 
     /// The bytes of the buffer, at most 261,120, if there is one.
-    pub fn bytes(&self) -> Option<&[u8]>
+    pub(crate) fn bytes(&self) -> Option<&[u8]>
         ensures exact { option_map (λ bytes. bytes.now) result ≡ self.now }
         ensures most { IfSome result (λ bytes. length bytes.now ≤ most_bytes) }
     {
@@ -62,14 +62,14 @@ impl Buffer {
     }
 
     /// Drops the buffer.
-    pub fn leave(&mut self)
+    pub(crate) fn leave(&mut self)
         ensures { self.new ≡ None }
     {
         self.begun = false;
     }
 
     /// Appends a character. The refusals are `NoFile` and `FileLimit`.
-    pub fn write(&mut self, c: u8) -> Result<(), Stop>
+    pub(crate) fn write(&mut self, c: u8) -> Result<(), Stop>
         ensures { WritesTo result c self.old self.new }
     {
         if !self.begun {

@@ -4,12 +4,12 @@ ghost use Rattle.std.specs.Prelude.{◌≡◌, ◌≤◌, ◌<◌, ◌+◌, ◌-
 ghost use Rattle.std.specs.Option.{option_map};
 ghost use Rattle.edi_told.specs.Told.{WhereTold};
 ghost use Rattle.edi_calls.specs.State.{most_bytes, pages_of};
-ghost use Rattle.edi_catalog.specs.Changes.{Changes, deleted, file_protected, file_renamed, kept_changed, kept_protected, kept_renamed, not_deleted, not_found, not_renamed, slots_changed};
+ghost use Rattle.edi_catalog.specs.Changes.{Changes, deleted, file_protected, file_renamed, kept_changed, kept_protected, kept_renamed, not_deleted, not_found, not_renamed, slots_changed, Untouched};
 ghost use Rattle.edi_catalog.specs.Storing.{StoreChanges, blocks_free, not_stored};
 ghost use Rattle.edi_catalog.specs.Files.{entry_of, file_titled, FileIs, PageIs};
 ghost use Rattle.edi_image.specs.Stored.{blocks_taken};
 ghost use Rattle.edi_catalog.specs.Mounted.{files_of};
-ghost use Rattle.edi_system.specs.State.{catalog_in, drive_in, IsReady};
+ghost use Rattle.edi_system.specs.State.{catalog_in, drive_in, failed_in, IsReady};
 ghost use Rattle.edi_system.specs.Ends.{Keeps};
 ghost use Rattle.edi_system.specs.Catalogue.{failed_at, is_drive_fault, is_refused, IsClosed, OnlyCatalog, OnlyFiles, OpenStays, PlaceStays};
 
@@ -80,10 +80,13 @@ impl<'a, D: Drive, S: Source, T: Sink, P: Sink> System<'a, D, S, T, P> {
         requires ready { IsReady D.held D.count self.old }
         requires page { IfSome (file_titled title.now (files_of (catalog_in self.old))) (λ file. i < pages_of file.record_.length) }
         ensures no_such { (result ≡ Err CatEnd.NoSuch) ↔ (file_titled title.now (files_of (catalog_in self.old)) ≡ None) }
+        ensures untouched { result ≡ Err CatEnd.NoSuch → (self.new ≡ self.old) × (into.new ≡ into.old) }
         ensures files { files_of (catalog_in self.new) ≡ files_of (catalog_in self.old) }
         ensures reads { WhereTold (D.held (drive_in self.old)) (D.held (drive_in self.new))
             (λ old new. (new ≡ old) × PageIs result (file_titled title.now (files_of (catalog_in self.old))) i into.new old) }
+        ensures count { D.count (drive_in self.new) ≡ D.count (drive_in self.old) }
         ensures only { OnlyCatalog self.old self.new }
+        ensures failed { failed_in self.new ≡ failed_at result }
         ensures ready { is_drive_fault result ≡ false → IsReady D.held D.count self.new }
         ensures keeps { Keeps D.faults S.faults T.faults P.faults (is_drive_fault result) self.old self.new }
     {
@@ -99,10 +102,13 @@ impl<'a, D: Drive, S: Source, T: Sink, P: Sink> System<'a, D, S, T, P> {
         requires room { most_bytes ≤ length into.old }
         ensures no_such { (result ≡ Err CatEnd.NoSuch) ↔ (file_titled title.now (files_of (catalog_in self.old)) ≡ None) }
         ensures length { IfOk result (λ n. option_map (λ file. file.record_.length) (file_titled title.now (files_of (catalog_in self.old))) ≡ Some n) }
+        ensures untouched { result ≡ Err CatEnd.NoSuch → (self.new ≡ self.old) × (into.new ≡ into.old) }
         ensures files { files_of (catalog_in self.new) ≡ files_of (catalog_in self.old) }
         ensures reads { WhereTold (D.held (drive_in self.old)) (D.held (drive_in self.new))
             (λ old new. (new ≡ old) × FileIs result title.now into.new old) }
+        ensures count { D.count (drive_in self.new) ≡ D.count (drive_in self.old) }
         ensures only { OnlyCatalog self.old self.new }
+        ensures failed { failed_in self.new ≡ failed_at result }
         ensures ready { is_drive_fault result ≡ false → IsReady D.held D.count self.new }
         ensures keeps { Keeps D.faults S.faults T.faults P.faults (is_drive_fault result) self.old self.new }
     {
@@ -120,9 +126,11 @@ impl<'a, D: Drive, S: Source, T: Sink, P: Sink> System<'a, D, S, T, P> {
         ensures changes { StoreChanges D.held D.count D.faults result
             (not_stored title.now (length bytes.now) (blocks_free (D.count (drive_in self.old)) (files_of (catalog_in self.old))) (files_of (catalog_in self.old)))
             title.now kind bytes.now (catalog_in self.old) (catalog_in self.new) }
+        ensures untouched { Untouched result self.old self.new }
         ensures stays { is_refused result ≡ true → OpenStays self.old self.new }
         ensures closes { is_refused result ≡ false → IsClosed self.new }
         ensures only { OnlyFiles self.old self.new }
+        ensures failed { failed_in self.new ≡ failed_at result }
         ensures ready { is_drive_fault result ≡ false → IsReady D.held D.count self.new }
         ensures keeps { Keeps D.faults S.faults T.faults P.faults (is_drive_fault result) self.old self.new }
     {
@@ -142,13 +150,18 @@ impl<'a, D: Drive, S: Source, T: Sink, P: Sink> System<'a, D, S, T, P> {
         requires ready { IsReady D.held D.count self.old }
         ensures changes { Changes D.held D.count D.faults result (not_found (file_titled title.now (files_of (catalog_in self.old))))
             (kept_changed (kept_protected true) title.now (files_of (catalog_in self.old))) (slots_changed (file_protected true) title.now) (catalog_in self.old) (catalog_in self.new) }
+        ensures untouched { Untouched result self.old self.new }
         ensures stays { PlaceStays self.old self.new }
         ensures only { OnlyFiles self.old self.new }
+        ensures failed { failed_in self.new ≡ failed_at result }
         ensures ready { is_drive_fault result ≡ false → IsReady D.held D.count self.new }
         ensures keeps { Keeps D.faults S.faults T.faults P.faults (is_drive_fault result) self.old self.new }
     {
         let answer = self.catalog.protect(title);
         self.failed = failed_at(&answer);
+        if is_refused(&answer) {
+            return answer;
+        }
         forget_page(&mut self.found);
         answer
     }
@@ -159,13 +172,18 @@ impl<'a, D: Drive, S: Source, T: Sink, P: Sink> System<'a, D, S, T, P> {
         requires ready { IsReady D.held D.count self.old }
         ensures changes { Changes D.held D.count D.faults result (not_found (file_titled title.now (files_of (catalog_in self.old))))
             (kept_changed (kept_protected false) title.now (files_of (catalog_in self.old))) (slots_changed (file_protected false) title.now) (catalog_in self.old) (catalog_in self.new) }
+        ensures untouched { Untouched result self.old self.new }
         ensures stays { PlaceStays self.old self.new }
         ensures only { OnlyFiles self.old self.new }
+        ensures failed { failed_in self.new ≡ failed_at result }
         ensures ready { is_drive_fault result ≡ false → IsReady D.held D.count self.new }
         ensures keeps { Keeps D.faults S.faults T.faults P.faults (is_drive_fault result) self.old self.new }
     {
         let answer = self.catalog.release(title);
         self.failed = failed_at(&answer);
+        if is_refused(&answer) {
+            return answer;
+        }
         forget_page(&mut self.found);
         answer
     }
@@ -176,9 +194,11 @@ impl<'a, D: Drive, S: Source, T: Sink, P: Sink> System<'a, D, S, T, P> {
         requires ready { IsReady D.held D.count self.old }
         ensures changes { Changes D.held D.count D.faults result (not_deleted (file_titled title.now (files_of (catalog_in self.old))))
             (kept_changed deleted title.now (files_of (catalog_in self.old))) (slots_changed deleted title.now) (catalog_in self.old) (catalog_in self.new) }
+        ensures untouched { Untouched result self.old self.new }
         ensures stays { is_refused result ≡ true → OpenStays self.old self.new }
         ensures closes { is_refused result ≡ false → IsClosed self.new }
         ensures only { OnlyFiles self.old self.new }
+        ensures failed { failed_in self.new ≡ failed_at result }
         ensures ready { is_drive_fault result ≡ false → IsReady D.held D.count self.new }
         ensures keeps { Keeps D.faults S.faults T.faults P.faults (is_drive_fault result) self.old self.new }
     {
@@ -198,9 +218,11 @@ impl<'a, D: Drive, S: Source, T: Sink, P: Sink> System<'a, D, S, T, P> {
         requires ready { IsReady D.held D.count self.old }
         ensures changes { Changes D.held D.count D.faults result (not_renamed (file_titled old.now (files_of (catalog_in self.old))) (file_titled new.now (files_of (catalog_in self.old))))
             (kept_changed (kept_renamed new.now) old.now (files_of (catalog_in self.old))) (slots_changed (file_renamed new.now) old.now) (catalog_in self.old) (catalog_in self.new) }
+        ensures untouched { Untouched result self.old self.new }
         ensures stays { is_refused result ≡ true → OpenStays self.old self.new }
         ensures closes { is_refused result ≡ false → IsClosed self.new }
         ensures only { OnlyFiles self.old self.new }
+        ensures failed { failed_in self.new ≡ failed_at result }
         ensures ready { is_drive_fault result ≡ false → IsReady D.held D.count self.new }
         ensures keeps { Keeps D.faults S.faults T.faults P.faults (is_drive_fault result) self.old self.new }
     {

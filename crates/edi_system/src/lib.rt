@@ -11,4 +11,5 @@ mod streams;
 mod system;
 mod writing;
 
+pub use buffer::Buffer;
 pub use system::System;

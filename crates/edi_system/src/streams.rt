@@ -1,10 +1,10 @@
 //! The input, the terminal and the printer.
 
-ghost use Rattle.std.specs.Prelude.{◌≡◌, ◌%◌, true, false, not, [], ◌∷◌};
+ghost use Rattle.std.specs.Prelude.{◌≡◌, ◌%◌, true, false, not, None, Some, if◌then◌else◌, [], ◌∷◌};
 ghost use Rattle.edi_told.specs.Told.{WhereTold};
 ghost use Rattle.edi_host.specs.Streams.{Takes, next_fault};
 ghost use Rattle.edi_calls.specs.Calls.{accept, display, print, word_of};
-ghost use Rattle.edi_system.specs.State.{due_in, input_in, state_of, IsReady};
+ghost use Rattle.edi_system.specs.State.{due_in, failed_in, input_in, state_of, IsReady};
 ghost use Rattle.edi_system.specs.Ends.{is_fault, Keeps, Reaches};
 ghost use Rattle.edi_system.specs.AsCalls.{KeepsDue};
 ghost use Rattle.edi_system.specs.Parts.{due_after, line_end, OnlyInput, OnlyPrinter, OnlyTerminal, Prints, PrintsMore, Shows, ShowsMore};
@@ -49,6 +49,7 @@ impl<'a, D: Drive, S: Source, T: Sink, P: Sink> System<'a, D, S, T, P> {
         requires ready { IsReady D.held D.count self.old }
         ensures takes { WhereTold (S.left (input_in self.old)) (S.left (input_in self.new)) (Takes result) }
         ensures only { OnlyInput self.old self.new }
+        ensures failed { failed_in self.new ≡ (if next_fault result then Some Outside.Input else None) }
         ensures ready { next_fault result ≡ false → IsReady D.held D.count self.new }
         ensures due { KeepsDue T.taken self.old self.new }
         ensures keeps { Keeps D.faults S.faults T.faults P.faults (next_fault result) self.old self.new }
@@ -71,6 +72,7 @@ impl<'a, D: Drive, S: Source, T: Sink, P: Sink> System<'a, D, S, T, P> {
         ensures exact { WhereTold (state_of D.held S.left T.taken P.taken self.old) (state_of D.held S.left T.taken P.taken self.new)
             (ShowsMore result bytes.now) }
         ensures only { OnlyTerminal self.old self.new }
+        ensures failed { failed_in self.new ≡ (if result then None else Some Outside.Terminal) }
         ensures ready { result ≡ true → IsReady D.held D.count self.new }
         ensures due { KeepsDue T.taken self.old self.new }
         ensures keeps { Keeps D.faults S.faults T.faults P.faults (not result) self.old self.new }
@@ -94,6 +96,7 @@ impl<'a, D: Drive, S: Source, T: Sink, P: Sink> System<'a, D, S, T, P> {
         ensures exact { WhereTold (state_of D.held S.left T.taken P.taken self.old) (state_of D.held S.left T.taken P.taken self.new)
             (PrintsMore result bytes.now) }
         ensures only { OnlyPrinter self.old self.new }
+        ensures failed { failed_in self.new ≡ (if result then None else Some Outside.Printer) }
         ensures ready { result ≡ true → IsReady D.held D.count self.new }
         ensures due { KeepsDue T.taken self.old self.new }
         ensures keeps { Keeps D.faults S.faults T.faults P.faults (not result) self.old self.new }
@@ -114,6 +117,7 @@ impl<'a, D: Drive, S: Source, T: Sink, P: Sink> System<'a, D, S, T, P> {
         ensures exact { WhereTold (state_of D.held S.left T.taken P.taken self.old) (state_of D.held S.left T.taken P.taken self.new)
             (ShowsMore result (line_end (due_in self.old))) }
         ensures only { OnlyTerminal self.old self.new }
+        ensures failed { failed_in self.new ≡ (if result then None else Some Outside.Terminal) }
         ensures ready { result ≡ true → IsReady D.held D.count self.new }
         ensures keeps { Keeps D.faults S.faults T.faults P.faults (not result) self.old self.new }
     {

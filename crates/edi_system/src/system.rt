@@ -35,7 +35,8 @@ pub struct System<'a, D: Drive, S: Source, T: Sink, P: Sink> {
 
 impl<'a, D: Drive, S: Source, T: Sink, P: Sink> System<'a, D, S, T, P> {
     /// A system over these objects, with no found file and no buffer, on a terminal where no line was begun. The room of the
-    /// buffer is made here, so that no call takes memory. No call of the catalogue has answered `Fault`.
+    /// buffer is made here, so that no call takes memory. No call of the catalogue has answered `Fault`. What is left of the
+    /// objects where there is no memory is not said: make the buffer first, and then `with_buffer`, where that is wanted.
     pub fn new(
         alloc: Global,
         catalog: Catalog<'a, D>,
@@ -51,17 +52,38 @@ impl<'a, D: Drive, S: Source, T: Sink, P: Sink> System<'a, D, S, T, P> {
         ensures printer { IfOk result (λ system. (printer_reference system ≡ printer.entry.ghost_name) × (printer_in system ≡ printer.old)) }
         ensures begins { IfOk result Begins }
     {
-        Ok(System {
+        let buffer = Buffer::new(alloc)?;
+        Ok(System::with_buffer(buffer, catalog, input, terminal, printer))
+    }
+
+    /// The same with the room of a buffer that was made before; what was written to it is dropped. It takes no memory.
+    pub fn with_buffer(
+        mut buffer: Buffer,
+        catalog: Catalog<'a, D>,
+        input: &'a mut S,
+        terminal: &'a mut T,
+        printer: &'a mut P,
+    ) -> System<'a, D, S, T, P>
+        requires mounted { IsMounted D.held D.count catalog }
+        ensures ready { IsReady D.held D.count result }
+        ensures catalog { catalog_in result ≡ catalog.entry }
+        ensures input { (input_reference result ≡ input.entry.ghost_name) × (input_in result ≡ input.old) }
+        ensures terminal { (terminal_reference result ≡ terminal.entry.ghost_name) × (terminal_in result ≡ terminal.old) }
+        ensures printer { (printer_reference result ≡ printer.entry.ghost_name) × (printer_in result ≡ printer.old) }
+        ensures begins { Begins result }
+    {
+        buffer.leave();
+        System {
             catalog,
             input,
             terminal,
             printer,
             found: None,
             page: [0; PAGE],
-            buffer: Buffer::new(alloc)?,
+            buffer,
             due: false,
             failed: None,
-        })
+        }
     }
 
     /// Drops the found file and the buffer, as at the start of each program.

@@ -46,9 +46,10 @@ impl MemoryDrive {
         })
     }
 
-    /// The blocks one after another.
+    /// The blocks one after another, as they are told.
     pub fn bytes(&self) -> &[u8]
         ensures blocks { result.now ≡ bytes_of self.now.blocks }
+        ensures tells { map block_of self.now.blocks ≡ self.now.blocks }
     {
         self.drive.bytes()
     }

@@ -14,13 +14,15 @@ pub struct SteadyDrive {
 }
 
 impl Model for SteadyDrive {
-    ghost use Rattle.std.specs.Prelude.{ℕ, ◌<◌, ◌^◌, List, length};
+    ghost use Rattle.std.specs.Prelude.{ℕ, ◌≡◌, ◌<◌, ◌^◌, true, List, length};
+    ghost use Rattle.std.specs.List.{list_all};
+    ghost use Rattle.edi_host.specs.Blocks.{is_block};
 
     ghost Value = { List (List ℕ) };
 
     ghost view = { λ d. d.blocks.items };
 
-    ghost invariant = { λ d. length d.blocks.items < 2 ^ 32 };
+    ghost invariant = { λ d. (length d.blocks.items < 2 ^ 32) × (list_all is_block d.blocks.items ≡ true) };
 }
 
 impl SteadyDrive {
@@ -39,9 +41,10 @@ impl SteadyDrive {
         })
     }
 
-    /// The blocks one after another.
+    /// The blocks one after another, as they are told.
     pub fn bytes(&self) -> &[u8]
         ensures blocks { result.now ≡ bytes_of self.now }
+        ensures tells { map block_of self.now ≡ self.now }
     {
         self.blocks.as_slice().as_flattened()
     }

@@ -1,15 +1,20 @@
-use Rattle.std.proofs.Common.{◌≡◌, ◌∙◌, sym, true}
+use Rattle.std.proofs.Common.{◌≡◌, ◌∙◌, sym, subst, true, false}
 use Rattle.edi_system.specs.Catalogue.{is_refused}
-use Rattle.edi_system.proofs.Catalogue.{no_fault, none_failed, reading_kept, refused_files, told_refused}
+use Rattle.edi_system.specs.State.{IsReady}
+use Rattle.edi_system.proofs.Catalogue.{refused_system, untouched_if}
 use Rattle.edi_system.proofs.system.System.delete.Goals as goal
 
+pub returns-then-is_refused-clause-untouched : goal.returns-then-is_refused-clause-untouched
+returns-then-is_refused-clause-untouched g c =
+    untouched_if _ c.args.self.now (record c.args.self.now { catalog = c.delete-answer.new.self; failed = c.failed_at-self.result })
+    (λ refused. refused_system c.args.self.now c.delete-answer.new.self _ _ refused c.delete-answer.ensures.changes.untouched c.failed_at-self.ensures c.requires.ready.nothing_failed)
+
 pub returns-then-is_refused-clause-ready : goal.returns-then-is_refused-clause-ready
-returns-then-is_refused-clause-ready g c = λ e.
+returns-then-is_refused-clause-ready g c = λ _.
     let refused : is_refused c.delete-answer.result ≡ true = sym c.is_refused.ensures ∙ c.if-is_refused.true in
-    record {
-      nothing_failed = c.failed_at-self.ensures ∙ none_failed _ e;
-      mounted = no_fault _ c.delete-answer.ensures.changes.mounted e;
-      reading =
-          reading_kept _ _ _ _ _ (refused_files _ _ _ _ _ refused c.delete-answer.ensures.changes.answers)
-          (told_refused _ _ _ _ _ refused c.delete-answer.ensures.changes.leaves) c.requires.ready.reading;
-    }
+    subst (IsReady g.D.Drive.held g.D.Drive.count)
+    (sym (refused_system c.args.self.now c.delete-answer.new.self _ _ refused c.delete-answer.ensures.changes.untouched c.failed_at-self.ensures c.requires.ready.nothing_failed)) c.requires.ready
+
+pub returns-clause-untouched : goal.returns-clause-untouched
+returns-clause-untouched g c =
+    untouched_if _ c.args.self.now _ (λ refused. absurd (let no : true ≡ false = sym refused ∙ (sym c.is_refused.ensures ∙ c.if-is_refused.false) in cc))
