@@ -15,7 +15,7 @@ use Rattle.edi_static.specs.Statements.{After, statement_list, close_block}
 use Rattle.edi_static.specs.Declarations as spec
 use Rattle.edi_static.specs.Declarations.{enter_block, leave_to, leave_module, with_heading, kind_of, all_completed, begun_named, without_begun, completes, post_marked, block_of, begin_procedure, begin_post, pre_decl, heading_of, procedure_name}
 use Rattle.edi_static.specs.Programs as programs
-use Rattle.edi_static.specs.Programs.{Sound, resolve_tree}
+use Rattle.edi_static.specs.Programs.{Resolved, resolve_tree}
 use Rattle.edi_static.proofs.Judging.{Gives, bind, behind, choose, weaker}
 use Rattle.edi_names.specs.Uses.{ListKnown}
 use Rattle.edi_names.specs.Visible.{item_names, marked_names, module_names, members_names, declaration_names, declarations_names, heading_name, parameter_names, HeadingKnown, inside, ProcedureKnown, ItemKnown, ModuleKnown, MembersKnown, DeclarationKnown, DeclarationsKnown, standard_names, global_names, globals_names, GlobalKnown, GlobalsKnown, NamesAreVisible}
@@ -202,5 +202,5 @@ resolved_known (text.program gs p) =
     weaker (λ (u : ProgramUnit). ProcedureKnown (globals_names gs ++ standard_names) p) (λ (u : ProgramUnit). NamesAreVisible (text.program gs p)) (programs.program_procedure p e) (λ u j. (k.0, j))
     (program_known p e (globals_names gs ++ standard_names) (sees_behind standard_names standard_seen k.1)))
 
-pub names_are_visible : (tree : text.Program) → Sound tree → NamesAreVisible tree
-names_are_visible tree sound = subst (Gives (λ (u : ProgramUnit). NamesAreVisible tree)) sound.1 (resolved_known tree)
+pub names_are_visible : (tree : text.Program) (unit : ProgramUnit) → Resolved tree unit → NamesAreVisible tree
+names_are_visible tree unit resolved = subst (Gives (λ (u : ProgramUnit). NamesAreVisible tree)) resolved (resolved_known tree)

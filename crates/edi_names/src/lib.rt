@@ -2,10 +2,11 @@
 #![tactic(auto)]
 
 ghost use Rattle.edi_tree.specs.Tree.{Program};
-ghost use Rattle.edi_static.specs.Programs.{Sound};
+ghost use Rattle.edi_unit.specs.Tree.{ProgramUnit};
+ghost use Rattle.edi_static.specs.Programs.{Resolved};
 ghost use Rattle.edi_names.specs.Visible.{NamesAreVisible};
 
-/// Each name of a sound program is visible where it is used.
+/// Each name of a program that breaks no static rule is visible where it is used.
 pub fn names_are_visible()
-    ensures law { (tree : Program) → Sound tree → NamesAreVisible tree }
+    ensures law { (tree : Program) (unit : ProgramUnit) → Resolved tree unit → NamesAreVisible tree }
 {}
