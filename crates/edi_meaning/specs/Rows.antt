@@ -87,7 +87,7 @@ row_shows = refl
 -- HEAD var x: int begin while x < 3 do display('k'); x := x + 1 end end
 abbrev pub program_that_counts : ProgramUnit
 program_that_counts =
-    program_of [] (2 ∷ []) (head (0 ∷ []) 11 (loop (one_clause (two (value_of 0 1) op.Less (number (pos 3)) 1) (display 0 (pos 107) ∷ assign (variable 0 1) (two (value_of 0 1) op.Plus (number (pos 1)) 1) ∷ [])) ∷ []) ∷ [])
+    program_of [] (2 ∷ []) (head (0 ∷ []) 12 (loop (one_clause (two (value_of 0 1) op.Less (number (pos 3)) 1) (display 0 (pos 107) ∷ assign (variable 0 1) (two (value_of 0 1) op.Plus (number (pos 1)) 1) ∷ [])) ∷ []) ∷ [])
 
 pub row_counts : selected program_that_counts [] ≡ (107 ∷ 107 ∷ 107 ∷ [], outcome.done, 5, 0)
 unfolding zero_value
@@ -96,7 +96,7 @@ row_counts = refl
 -- HEAD var x: int begin display('a'); x := 32767 + 1 end, the sum on line 4: output before a failure stays
 abbrev pub program_that_overflows : ProgramUnit
 program_that_overflows =
-    program_of [] (2 ∷ []) (head (0 ∷ []) 11 (display 0 (pos 97) ∷ assign (variable 0 1) (two (number (pos 32767)) op.Plus (number (pos 1)) 4) ∷ []) ∷ [])
+    program_of [] (2 ∷ []) (head (0 ∷ []) 12 (display 0 (pos 97) ∷ assign (variable 0 1) (two (number (pos 32767)) op.Plus (number (pos 1)) 4) ∷ []) ∷ [])
 
 pub row_overflows : selected program_that_overflows [] ≡ (97 ∷ [], outcome.failed cause.Range 4, 1, 0)
 unfolding zero_value
@@ -129,7 +129,7 @@ row_with_index = refl
 abbrev pub program_with_alias : ProgramUnit
 program_with_alias =
     program_of [] (2 ∷ [])
-    (head (0 ∷ []) 11 (call (callee.Block 0 1) (argument_then (by_variable (variable 0 1)) no_argument) 1 ∷ [])
+    (head (0 ∷ []) 10 (call (callee.Block 0 1) (argument_then (by_variable (variable 0 1)) no_argument) 1 ∷ [])
     ∷ block_of kind.Procedure 0 None (parameter.Var 0 ∷ []) [] 8
     (assign (variable 0 0) (number (pos 1))
     ∷ conditional (one_clause (two (value_of 1 1) op.Equal (number (pos 1)) 1) (display 1 (pos 49) ∷ []))
