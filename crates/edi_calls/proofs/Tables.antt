@@ -1,5 +1,5 @@
 -- Names, and what stands in a table by name after a change.
-use Rattle.std.proofs.Common.{◌≡◌, ℕ, ◌⊎◌, inl, inr, Bool, true, false, if◌then◌else◌, List, [], ◌∷◌, Option, Some, None, refl, sym, subst, ap, ◌∙◌, ◌&&◌, nat_eq, eq-eqb}
+use Rattle.std.proofs.Common.{◌≡◌, ◌⊎◌, inl, inr, Bool, true, false, if◌then◌else◌, [], ◌∷◌, Some, None, refl, sym, subst, ap, ◌∙◌, ◌&&◌, nat_eq, eq-eqb}
 use Rattle.std.proofs.lemmas.Bool.{eqb-true}
 use Rattle.edi_calls.specs.Names.{Name, Table, same, find, with_at, without}
 

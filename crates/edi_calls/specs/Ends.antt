@@ -1,5 +1,5 @@
 -- How a call may end that was to have this result, on an object that tells its state.
-use Rattle.std.specs.Prelude.{◌≡◌, ℕ, ◌⊎◌, List, Option, Some, None, ⊤}
+use Rattle.std.specs.Prelude.{◌≡◌, ℕ, ◌⊎◌, Bool, true, false, List, Option, Some, None}
 use Rattle.edi_told.specs.Faults.{Rose}
 use Rattle.edi_calls.specs.declared.ends.CallEnd.{CallEnd}
 use Rattle.edi_calls.specs.declared.ends.CallEnd.TheVariants as end
@@ -24,10 +24,15 @@ Meets no_file end.NoFile answer before after = after ≡ before
 Meets file_limit end.FileLimit answer before after = after ≡ before
 Meets _ _ answer before after = ⊥
 
--- what has failed after a call before which nothing had: one object, at an outside fault, and its count of faults
--- rose in this call; nothing at any other end
-abbrev pub Blames : CallEnd → Option Outside → (Outside → ℕ) → (Outside → ℕ) → Type 0
-Blames end.OutsideFault (Some outside) before now = Rose (before outside) (now outside)
-Blames end.OutsideFault None before now = ⊥
-Blames _ (Some outside) before now = ⊥
-Blames _ None before now = ⊤
+-- the call is refused: there is no file, or the file has its greatest length
+abbrev pub is_refused : CallEnd → Bool
+is_refused end.NoFile = true
+is_refused end.FileLimit = true
+is_refused end.Ok = false
+is_refused end.OutsideFault = false
+
+-- What has failed after a call before which nothing had: one object, at an outside fault, and its count of faults
+-- rose in this call; nothing at any other end.
+abbrev pub Blames : CallEnd → (failed : Option Outside → Type 0) → (before now : Outside → ℕ) → Type 0
+Blames end.OutsideFault failed before now = (outside : Outside) × failed (Some outside) × Rose (before outside) (now outside)
+Blames _ failed before now = failed None

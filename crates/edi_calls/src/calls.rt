@@ -1,11 +1,11 @@
 //! The system calls of any object that has a system.
 
-ghost use Rattle.std.specs.Prelude.{◌≡◌, ◌≢◌, ◌≤◌, ℕ, length, ◌||◌, Option, None};
+ghost use Rattle.std.specs.Prelude.{true, ◌≡◌, ◌≢◌, ◌≤◌, ℕ, List, length, ◌||◌, Option, None};
 ghost use Rattle.edi_told.specs.Told.{WhereTold};
 ghost use Rattle.edi_calls.specs.declared.ends.Outside.{Outside};
 ghost use Rattle.edi_calls.specs.State.{State};
 ghost use Rattle.edi_calls.specs.Calls.{argument_words, answer_words, call};
-ghost use Rattle.edi_calls.specs.Ends.{Meets, Blames};
+ghost use Rattle.edi_calls.specs.Ends.{Meets, Blames, is_refused};
 
 use crate::ends::CallEnd;
 
@@ -45,19 +45,28 @@ pub trait Calls {
     /// How often each object outside has failed. A count never falls, and stands still at `u64::MAX`.
     ghost faults: { Self → Outside → ℕ };
 
-    /// The object outside that has failed, if one has. After that no call can be made.
-    ghost failed: { Self → Option Outside };
+    /// This is the object outside that has failed. With `None`: nothing has failed, and a call may be made.
+    ghost failed: { Self → Option Outside → Type 0 };
+
+    /// The references that it holds to objects of others. A call keeps them, so whoever lent them sees what it has done.
+    ghost references: { Self → List ℕ };
+
+    /// For each number a fact about the object that every call keeps, whatever it answers.
+    ghost lasting: { Self → ℕ → Type 0 };
 
     /// Makes the system call of this number, 1 to 10. `args` and `answer` have the lengths that `words_of` gives;
-    /// `answer` takes the answer words, and is open unless the end is `Ok`.
+    /// `answer` takes the answer words; it is as it was where the call is refused, and open after a fault.
     fn call(&mut self, number: u8, args: &[u16], answer: &mut [u16]) -> CallEnd
         requires from { 1 ≤ number }
         requires to { number ≤ 10 }
         requires arguments { length args.now ≡ argument_words number }
         requires answers { length answer.old ≡ answer_words number }
-        requires working { failed self.old ≡ None }
+        requires working { failed self.old None }
         ensures exact { WhereTold (state self.old) (state self.new)
             (λ before after. Meets (call number args.now before) result answer.new before after) }
+        ensures untouched { is_refused result ≡ true → answer.new ≡ answer.old }
         ensures later { (outside : Outside) → faults self.old outside ≤ faults self.new outside }
-        ensures blame { Blames result (failed self.new) (faults self.old) (faults self.new) };
+        ensures blame { Blames result (failed self.new) (faults self.old) (faults self.new) }
+        ensures references { references self.new ≡ references self.old }
+        ensures lasting { (n : ℕ) → lasting self.old n → lasting self.new n };
 }

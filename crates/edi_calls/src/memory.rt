@@ -147,14 +147,18 @@ impl MemoryCalls {
 }
 
 impl Calls for MemoryCalls {
-    ghost use Rattle.std.specs.Prelude.{Some};
+    ghost use Rattle.std.specs.Prelude.{◌≡◌, Some, [], ⊤};
     ghost use Rattle.edi_calls.specs.MemoryCalls.{system_of, faults_of, failed_of};
 
     ghost state = { λ calls. Some (system_of calls) };
 
     ghost faults = { faults_of };
 
-    ghost failed = { failed_of };
+    ghost failed = { λ calls outside. failed_of calls ≡ outside };
+
+    ghost references = { λ calls. [] };
+
+    ghost lasting = { λ calls n. ⊤ };
 
     fn call(&mut self, number: u8, args: &[u16], answer: &mut [u16]) -> CallEnd {
         match self.system.step(number, args) {

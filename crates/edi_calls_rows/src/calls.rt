@@ -30,7 +30,7 @@ const REMOVE: u8 = 10;
 fn ask<C: Calls>(rt: &impl Abort, calls: &mut C, number: u8, args: &[u16]) -> (CallEnd, u16)
     requires from { 1 ≤ number }
     requires to { number ≤ 10 }
-    requires working { C.failed calls.old ≡ None }
+    requires working { C.failed calls.old None }
 {
     let (arguments, answers) = words_of(number);
     assert_eq!(rt; args.len(), arguments);
@@ -44,7 +44,7 @@ fn ask<C: Calls>(rt: &impl Abort, calls: &mut C, number: u8, args: &[u16]) -> (C
 fn tell<C: Calls>(rt: &impl Abort, calls: &mut C, number: u8, args: &[u16]) -> CallEnd
     requires from { 1 ≤ number }
     requires to { number ≤ 10 }
-    requires working { C.failed calls.old ≡ None }
+    requires working { C.failed calls.old None }
 {
     let (arguments, answers) = words_of(number);
     assert_eq!(rt; args.len(), arguments);

@@ -1,1 +1,2 @@
+pub mod DriveBlocks
 pub mod FileMaps

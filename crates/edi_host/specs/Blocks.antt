@@ -1,5 +1,5 @@
 -- The blocks of a drive, each a list of 512 bytes.
-use Rattle.std.specs.Prelude.{◌≡◌, ◌⊎◌, ℕ, ◌-◌, ◌/◌, Bool, true, false, List, ◌++◌, length, take, replicate, slice_get, slice_set, flat_map, Some, ⊤}
+use Rattle.std.specs.Prelude.{◌≡◌, ◌⊎◌, ℕ, ◌-◌, ◌/◌, Bool, true, false, ◌==◌, List, ◌++◌, length, take, replicate, slice_get, slice_set, flat_map, Some, ⊤}
 use Rattle.std.specs.Simd.{first_chunks}
 use Rattle.edi_host.specs.declared.drive.DriveEnd.{DriveEnd}
 use Rattle.edi_host.specs.declared.drive.DriveEnd.TheVariants as drive
@@ -8,6 +8,14 @@ use Rattle.edi_host.specs.declared.drive.ResizeEnd.TheVariants as resize
 
 abbrev pub zero_block : List ℕ
 zero_block = replicate 512 0
+
+-- a block has 512 bytes
+abbrev pub is_block : List ℕ → Bool
+is_block block = length block == 512
+
+-- the first 512 bytes, with zeros behind them where they are fewer: a block is that of its own bytes
+unfoldable pub block_of : List ℕ → List ℕ
+block_of bytes = take 512 (bytes ++ replicate 512 0)
 
 -- the blocks cut to n, or with blocks of zeros added up to n
 abbrev pub resized : List (List ℕ) → ℕ → List (List ℕ)

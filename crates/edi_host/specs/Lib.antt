@@ -3,4 +3,5 @@ pub mod Files
 pub mod Forms
 pub mod Images
 pub mod Plan
+pub mod Sized
 pub mod Streams

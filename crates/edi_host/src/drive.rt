@@ -1,9 +1,10 @@
 //! A drive of blocks.
 
-ghost use Rattle.std.specs.Prelude.{◌≡◌, ◌≤◌, ◌<◌, ℕ, List, length, Option, IfSome};
+ghost use Rattle.std.specs.Prelude.{◌≡◌, ◌≤◌, ◌<◌, ℕ, true, List, length, Option, IfSome};
+ghost use Rattle.std.specs.List.{list_all};
 ghost use Rattle.edi_told.specs.Faults.{Rose};
 ghost use Rattle.edi_told.specs.Told.{WhereTold};
-ghost use Rattle.edi_host.specs.Blocks.{ReadLeaves, WriteLeaves, ResizeLeaves, CountLeaves};
+ghost use Rattle.edi_host.specs.Blocks.{is_block, ReadLeaves, WriteLeaves, ResizeLeaves, CountLeaves};
 
 use std::alloc::Global;
 
@@ -68,4 +69,7 @@ pub trait Drive {
 
     /// Where the blocks are told, the number is theirs.
     ghost counted: { (drive : Self) → IfSome (held drive) (λ blocks. length blocks ≡ count drive) };
+
+    /// Where the blocks are told, each of them has 512 bytes.
+    ghost sized: { (drive : Self) → IfSome (held drive) (λ blocks. list_all is_block blocks ≡ true) };
 }

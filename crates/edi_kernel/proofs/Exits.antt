@@ -4,7 +4,7 @@ use Rattle.std.proofs.lemmas.Bool.{cases_eq, ne_eqb, leb-true, leb-false}
 use Rattle.std.proofs.lemmas.List.{length_push, append-nil}
 use Rattle.edi_calls.specs.Names.{Name, same, find, with_at, without, names}
 use Rattle.edi_calls.specs.Ready.{has, child, parent_of, joins}
-use Rattle.edi_calls.proofs.Tables.{find-with_at-same, find-with_at-other, find-without-other}
+use Rattle.edi_calls.proofs.Tables.{same-or-other, find-with_at-same, find-with_at-other, find-without-same, find-without-other}
 use Rattle.edi_target.specs.Mach as mach
 use Rattle.edi_target.specs.Mach.{Machine, Running, Stepped, went, activity_of, awaits, freed, one_less, told, exited}
 use Rattle.edi_ring.specs.Lists.{home_of}
@@ -194,6 +194,31 @@ module _ {X : Type 0} (part : Machine → X) (same : (m : Machine) (es : List (N
       part machine ≡ part (record { memory = r.local.memory; activities = without k.activities p; marks = []; turns = r.turns; system = r.system })
   kept k p r machine joined e =
       sym (ap part_of e) ∙ kept_told (record { memory = r.local.memory; activities = without k.activities p; marks = []; turns = r.turns; system = r.system }) (parent_of p) (find (without k.activities p) (parent_of p))
+
+-- the process has gone
+abbrev found_in : Stepped → Name → Option mach.Activity
+found_in (went m next) p = find m.activities p
+found_in (mach.ended ending m) p = find m.activities p
+
+none_told_one : (m : Machine) (q p : Name) (a : mach.Activity) (s : mach.Standing) → find m.activities q ≡ Some a → find m.activities p ≡ None → found_in (one_less m q a s) p ≡ None
+none_told_one m q p a mach.ready f e = e
+none_told_one m q p a mach.at_when f e = e
+none_told_one m q p a (mach.waiting n) f e = elim (same-or-other p q) [
+  | inl is ↦ absurd (no_some (sym e ∙ ap (find m.activities) is ∙ f))
+  | inr other ↦ find-with_at-other m.activities q p (record a { standing = awaits (n - 1) }) other ∙ e
+]
+  where
+    no_some : None ≡ Some a → ⊥
+    no_some e = cc
+
+none_told : (m : Machine) (q p : Name) (o : Option mach.Activity) → find m.activities q ≡ o → find m.activities p ≡ None → found_in (told m q o) p ≡ None
+none_told m q p None f e = e
+none_told m q p (Some a) f e = none_told_one m q p a a.standing f e
+
+pub none_left : (k : Machine) (p : Name) (r : Running) (machine : Machine) (joined : List Name) → exited k p r ≡ went machine (joins joined) → find machine.activities p ≡ None
+none_left k p r machine joined e =
+    let rest : Machine = record { memory = r.local.memory; activities = without k.activities p; marks = []; turns = r.turns; system = r.system } in
+    sym (ap (λ s. found_in s p) e) ∙ none_told rest (parent_of p) p (find rest.activities (parent_of p)) refl (find-without-same k.activities p)
 
 -- ---- the end of a branch
 

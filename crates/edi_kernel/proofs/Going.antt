@@ -6,7 +6,7 @@ use Rattle.std.proofs.lemmas.Bool.{cases_eq, ne_eqb, eqb-false}
 use Rattle.edi_told.specs.Told.{WhereTold}
 use Rattle.edi_calls.specs.State.{State}
 use Rattle.edi_calls.specs.Calls.{call}
-use Rattle.edi_calls.specs.Names.{Name, same}
+use Rattle.edi_calls.specs.Names.{Name, same, find}
 use Rattle.edi_calls.specs.Outcome as outcome
 use Rattle.edi_calls.specs.Ready.{child, children, all_marked, joins}
 use Rattle.edi_calls.proofs.Tables.{find-with_at-same, find-with_at-other}
@@ -39,14 +39,14 @@ use Rattle.edi_kernel.specs.Stretch.{Paused, going, pausing, stopping, stretch, 
 use Rattle.edi_kernel.specs.Stints as stints
 use Rattle.edi_kernel.specs.Stints.{stint, stint_after}
 use Rattle.edi_kernel.specs.Forks.{HaveBegun, share_in}
-use Rattle.edi_kernel.specs.Kernel.{IsKernel, IsTakenIn, Holds, Switches, EndsRun, BreaksOff, TellsStanding, GoesTo, attempt_end, HandlesTurn, Handles}
+use Rattle.edi_kernel.specs.Kernel.{IsKernel, IsTakenIn, Holds, Switches, EndsRun, BreaksOff, TellsStanding, ForksInto, GoesTo, attempt_end, HandlesTurn, Handles}
 use Rattle.edi_kernel.proofs.Names.{child_some, same_ends}
 use Rattle.edi_kernel.proofs.Counts.{marked_few, map-append, where_same}
 use Rattle.edi_kernel.proofs.Changes.{length-names, one_changes, at_set_same, at_set_other}
 use Rattle.edi_kernel.proofs.Lists.{written_table, unmarked_at}
 use Rattle.edi_kernel.proofs.Walks.{Follows, follows_itself, names-with_at, marks_after, Comes, comes, Walked, walks}
 use Rattle.edi_kernel.proofs.Switches.{At, taken_live, follows_marks, unmarked_table, unmarked_taken, unmarked_at_place, marked_at_place, stood, stood_ready, all_ready}
-use Rattle.edi_kernel.proofs.Exits.{Exited, exits, kept}
+use Rattle.edi_kernel.proofs.Exits.{Exited, exits, kept, none_left}
 use Rattle.edi_kernel.proofs.Handled.{handled}
 use Rattle.edi_kernel.proofs.Forking.{Starts, Grown, grown, drop_all}
 
@@ -271,25 +271,27 @@ module _ (words : List ℕ) (old mid new : KernelState) (place left left1 used :
 
     gone : (k : Machine) (b : mach.Activity) (ms : List Name) (r : Running) (steps rest : ℕ) → Follows m k p (n.forks place) ms b → now ≡ r → 0 < place →
         stint (fetch words) steps m p others ≡ stint_after (λ m. stint (fetch words) rest m p others) (exited k p r) →
-        Removed place (unmarked mid.table) new.table → new.store ≡ mid.store → Switches words (left - used) new t m p others
+        Removed place (unmarked mid.table) new.table → new.store ≡ mid.store → (h : Switches words (left - used) new t m p others) × (find h.machine.activities p ≡ None)
     gone k b ms r steps rest f e pos is removed same =
         let x : Exited new.table n (map n.name (ready_places (unmarked mid.table))) (map n.name (ready_places new.table)) (exited k p r) =
-        exits (unmarked mid.table) new.table n (record m { marks = [] }) k place b ms r removed at_clear pos (follows_marks m k p (n.forks place) ms [] b f) refl in
-        record {
-          steps = steps;
-          machine = x.machine;
-          joined = x.joined;
-          is = is ∙ ap (stint_after (λ m. stint (fetch words) rest m p others)) x.is;
-          holds = record {
-            naming = n;
-            stands = x.stands;
-            memory = kept (λ m. m.memory) (λ m es. refl) k p r x.machine x.joined x.is ∙ sym (ap (λ x. x.local.memory) e) ∙ sym same;
-            is_taken = sym (ap (option_map n.name) g.none_taken);
-            is_ready = sym (x.ready ∙ ap (λ xs. map n.name xs ++ x.joined) same_ready);
-          };
-          system = kept (λ m. m.system) (λ m es. refl) k p r x.machine x.joined x.is ∙ sym (ap (λ x. x.system) e);
-          turns = kept (λ m. m.turns) (λ m es. refl) k p r x.machine x.joined x.is ∙ sym (ap (λ x. x.turns) e) ∙ sym g.spent;
-        }
+        exits (unmarked mid.table) new.table n (record m { marks = [] }) k place b ms r removed at_clear pos (follows_marks m k p (n.forks place) ms [] b f) refl in (
+          record {
+            steps = steps;
+            machine = x.machine;
+            joined = x.joined;
+            is = is ∙ ap (stint_after (λ m. stint (fetch words) rest m p others)) x.is;
+            holds = record {
+              naming = n;
+              stands = x.stands;
+              memory = kept (λ m. m.memory) (λ m es. refl) k p r x.machine x.joined x.is ∙ sym (ap (λ x. x.local.memory) e) ∙ sym same;
+              is_taken = sym (ap (option_map n.name) g.none_taken);
+              is_ready = sym (x.ready ∙ ap (λ xs. map n.name xs ++ x.joined) same_ready);
+            };
+            system = kept (λ m. m.system) (λ m es. refl) k p r x.machine x.joined x.is ∙ sym (ap (λ x. x.system) e);
+            turns = kept (λ m. m.turns) (λ m es. refl) k p r x.machine x.joined x.is ∙ sym (ap (λ x. x.turns) e) ∙ sym g.spent;
+          },
+          none_left k p r x.machine x.joined x.is,
+        )
 
     -- ---- a fork
 
@@ -384,27 +386,30 @@ module _ (words : List ℕ) (old mid new : KernelState) (place left left1 used :
           ]
 
       forks : (steps rest : ℕ) → stint (fetch words) steps m p others ≡ stint_after (λ m. stint (fetch words) rest m p others) (at_turn k p others b (forking branches) now) →
-          HaveBegun place a branches mid.store table_now (length branches) new.store new.table → Switches words (left - used) new t m p others
-      forks steps rest is begun =
+          HaveBegun place a branches mid.store table_now (length branches) new.store new.table → 0 < length branches →
+          (h : Switches words (left - used) new t m p others) × ForksInto p h.joined
+      forks steps rest is begun some =
           let x : Grown place a branches mid.store table_now naming_now machine_now fork_number (length branches) new.store new.table =
           grown place a branches mid.store table_now naming_now machine_now fork_number begins (length branches) new.store new.table (omega arith) begun in
           let chain : x.machine ≡ with_children p fork_number 0 a.base a.end (share_in a branches) branches machine_now =
-          ap (λ bs. with_children p fork_number (length branches) a.base (a.end + length branches * share_in a branches) (share_in a branches) bs x.machine) (sym (drop_all branches)) ∙ x.chain in
-          record {
-            steps = steps;
-            machine = x.machine;
-            joined = children p fork_number 0 (length branches);
-            is = is ∙ ap (λ z. stints.switched z (children p fork_number 0 (length branches))) (sym chain);
-            holds = record {
-              naming = x.naming;
-              stands = x.stands;
-              memory = x.memory;
-              is_taken = sym (ap (option_map x.naming.name) g.none_taken);
-              is_ready = sym (x.ready ∙ ap (λ xs. map n.name xs ++ children p fork_number 0 (length branches)) same_ready);
-            };
-            system = x.system;
-            turns = x.turns ∙ sym g.spent;
-          }
+          ap (λ bs. with_children p fork_number (length branches) a.base (a.end + length branches * share_in a branches) (share_in a branches) bs x.machine) (sym (drop_all branches)) ∙ x.chain in (
+            record {
+              steps = steps;
+              machine = x.machine;
+              joined = children p fork_number 0 (length branches);
+              is = is ∙ ap (λ z. stints.switched z (children p fork_number 0 (length branches))) (sym chain);
+              holds = record {
+                naming = x.naming;
+                stands = x.stands;
+                memory = x.memory;
+                is_taken = sym (ap (option_map x.naming.name) g.none_taken);
+                is_ready = sym (x.ready ∙ ap (λ xs. map n.name xs ++ children p fork_number 0 (length branches)) same_ready);
+              };
+              system = x.system;
+              turns = x.turns ∙ sym g.spent;
+            },
+            record { fork = fork_number; number = length branches; some = some; are = refl },
+          )
 
     -- ---- all pauses
 
@@ -424,7 +429,7 @@ module _ (words : List ℕ) (old mid new : KernelState) (place left left1 used :
         subst (λ x. GoesTo words x left new t m p others) (sym d.1)
         (forks w.machine w.activity (marks_after (fetch words) m p others (n.forks place) c) w.follows (branches_at words at) steps w.rest
         (subst (λ x. stint (fetch words) steps m p others ≡ stint_after (λ m. stint (fetch words) w.rest m p others) (at_turn w.machine p others w.activity (forking (branches_at words at)) x)) (sym h.1)
-        (subst (λ x. stint (fetch words) steps m p others ≡ stint_after (λ m. stint (fetch words) w.rest m p others) (at_turn w.machine p others w.activity (forking x) r)) (sym h.0) w.is)) d.0)
+        (subst (λ x. stint (fetch words) steps m p others ≡ stint_after (λ m. stint (fetch words) w.rest m p others) (at_turn w.machine p others w.activity (forking x) r)) (sym h.0) w.is)) d.0 allowed.0.some)
     at_turns kind.Exit steps (pausing exiting r c) result l w h allowed d =
         subst (λ x. GoesTo words x left new t m p others) (sym d.2)
         (gone w.machine w.activity (marks_after (fetch words) m p others (n.forks place) c) r steps w.rest w.follows h.1 (later_place allowed) w.is d.0 d.1)

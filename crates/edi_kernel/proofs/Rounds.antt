@@ -165,8 +165,8 @@ module _ (words : List ℕ) (bound : ℕ) (k : KernelState) (old : Drawn) (left 
       GoesTo words end left k now m p others → Rounds words bound result new now old drawn m p others
   round_goes (stint_end.Over used e) result new drawn now m p others h turns store c g = absurd (cc)
   round_goes (stint_end.Arrived used) result new drawn now m p others h turns store c g = round_on words bound k new now old drawn m p others left used turns store result g.0 c
-  round_goes (stint_end.Forked used) result new drawn now m p others h turns store c g = round_on words bound k new now old drawn m p others left used turns store result g c
-  round_goes (stint_end.Exited used) result new drawn now m p others h turns store c g = round_on words bound k new now old drawn m p others left used turns store result g c
+  round_goes (stint_end.Forked used) result new drawn now m p others h turns store c g = round_on words bound k new now old drawn m p others left used turns store result g.0 c
+  round_goes (stint_end.Exited used) result new drawn now m p others h turns store c g = round_on words bound k new now old drawn m p others left used turns store result g.0 c
 
 -- what is kept beside the processes and the memory is free
 pub holds_same : (k new : KernelState) (m : Machine) (taken : Option Name) (ready : List Name) → new.store ≡ k.store → new.table ≡ k.table → new.taken ≡ k.taken → Holds k m taken ready → Holds new m taken ready

@@ -52,8 +52,8 @@ module _ (words : List ℕ) (k new : KernelState) (left n : ℕ) (store : new.st
   pub goes_later : (end : StintEnd) (t : State) (m : Machine) (p : Name) (others : List Name) → GoesTo words end (left - n) k t m p others → GoesTo words (later_by n end) left new t m p others
   unfolding switches ends
   goes_later (stint_end.Arrived used) t m p others h = (switches used t m p others h.0, tells h.0.machine p h.1)
-  goes_later (stint_end.Forked used) t m p others h = switches used t m p others h
-  goes_later (stint_end.Exited used) t m p others h = switches used t m p others h
+  goes_later (stint_end.Forked used) t m p others h = (switches used t m p others h.0, h.1)
+  goes_later (stint_end.Exited used) t m p others h = (switches used t m p others h.0, h.1)
   goes_later (stint_end.Over used ending.Done) t m p others h = ends used ending.Done t m p others h
   goes_later (stint_end.Over used (ending.Halted line)) t m p others h = ends used (ending.Halted line) t m p others h
   goes_later (stint_end.Over used (ending.Failed cause line)) t m p others h = ends used (ending.Failed cause line) t m p others h

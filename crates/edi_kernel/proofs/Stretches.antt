@@ -14,8 +14,7 @@ use Rattle.edi_machine.specs.declared.ends.StepEnd.TheVariants as end
 use Rattle.edi_kernel.specs.declared.ends.Ending.TheVariants as ending
 use Rattle.edi_kernel.specs.declared.stretch.Pause.{Pause}
 use Rattle.edi_kernel.specs.declared.stretch.Pause.TheVariants as pause
-use Rattle.edi_kernel.specs.Stretch.{Paused, pausing, after_turn, after_answer, walk_turn, walk_on, walked, stretch, OneStep, Reaches, Stretches, Falls, Blamed, Spends, pause_by, pause_with, pause_of, left_after}
-use Rattle.edi_calls.specs.declared.ends.Outside.{Outside}
+use Rattle.edi_kernel.specs.Stretch.{Paused, pausing, after_turn, after_answer, walk_turn, walk_on, walked, stretch, OneStep, Reaches, Stretches, Falls, Spends, pause_by, pause_with, pause_of, left_after}
 
 -- an activity that goes on is after the step where the stretch goes on from
 walks_on : (c e : Bool) (answer : Answer) (now : Running) → ((more : Running → Bool → Paused) → after_answer more c answer ≡ more now e) →
@@ -86,11 +85,6 @@ measure_falls words left pc new_left new_pc (inl h) = turn (length words) left n
         more : (long k left new_left pc new_pc : ℕ) → left ≡ new_left + 1 + k → new_left * (long + 1) + (long - new_pc) < left * (long + 1) + (long - pc)
         more long k left new_left pc new_pc e = rw e (omega arith)
 measure_falls words left pc new_left new_pc (inr h) = rw h.0 (omega (arith, h.1, h.2))
-
--- nothing has failed where the activity goes on
-pub unblamed : (failed : Option Outside) (old new : Outside → ℕ) → Blamed None failed old new → failed ≡ None
-unblamed None old new h = refl
-unblamed (Some outside) old new h = absurd h
 
 -- ---- turns that are spent
 

@@ -1,8 +1,9 @@
 -- What the kernel keeps, and how it stands for a machine.
-use Rattle.std.specs.Prelude.{◌≡◌, ℕ, ◌+◌, ◌-◌, ◌==◌, ◌++◌, Bool, true, false, List, [], length, map, Option, Some, None, is_some, ⊤}
+use Rattle.std.specs.Prelude.{◌≡◌, ℕ, ◌+◌, ◌-◌, ◌<◌, ◌==◌, ◌++◌, Bool, true, false, List, [], length, map, Option, Some, None, is_some, ⊤}
 use Rattle.std.specs.Option.{option_map}
 use Rattle.edi_calls.specs.Names.{Name, find}
 use Rattle.edi_calls.specs.Outcome as outcome
+use Rattle.edi_calls.specs.Ready.{children}
 use Rattle.edi_calls.specs.State.{State}
 use Rattle.edi_calls.specs.Calls.{call}
 use Rattle.edi_target.specs.Fetch.{fetch}
@@ -116,6 +117,13 @@ pub record TellsStanding (k : KernelState) (m : Machine) (p : Name) : Type 0 whe
   pub told : k.arrived ≡ Some activity
   pub found : find m.activities p ≡ Some (activity_of (local_of [] activity) forks mach.at_when)
 
+-- the processes that join are the children of a fork of p, one at least
+pub record ForksInto (p : Name) (joined : List Name) : Type 0 where
+  pub fork : ℕ
+  pub number : ℕ
+  pub some : 0 < number
+  pub are : joined ≡ children p fork 0 number
+
 -- how the stint of p ends, where so many turns were left at its start
 abbrev pub GoesTo : List ℕ → StintEnd → (left : ℕ) → KernelState → State → Machine → Name → List Name → Type 0
 GoesTo words (stint_end.Over used ending.Fault) left k now m p others = BreaksOff words (left - used) now m p others
@@ -124,8 +132,10 @@ GoesTo words (stint_end.Over used ending.Standstill) left k now m p others =
 GoesTo words (stint_end.Over used e) left k now m p others = EndsRun words (left - used) e k now m p others
 GoesTo words (stint_end.Arrived used) left k now m p others =
     (h : Switches words (left - used) k now m p others) × TellsStanding k h.machine p
-GoesTo words (stint_end.Forked used) left k now m p others = Switches words (left - used) k now m p others
-GoesTo words (stint_end.Exited used) left k now m p others = Switches words (left - used) k now m p others
+GoesTo words (stint_end.Forked used) left k now m p others =
+    (h : Switches words (left - used) k now m p others) × ForksInto p h.joined
+GoesTo words (stint_end.Exited used) left k now m p others =
+    (h : Switches words (left - used) k now m p others) × (find h.machine.activities p ≡ None)
 
 abbrev pub used_in : StintEnd → ℕ
 used_in (stint_end.Arrived used) = used

@@ -220,8 +220,6 @@ Spends (Some (pause.At kind)) left new_left = new_left < left
 Spends _ left new_left = ⊤
 
 -- an object outside has failed exactly at a fault, and its count of faults rose
-abbrev pub Blamed : Option Pause → Option Outside → (old new : Outside → ℕ) → Type 0
-Blamed (Some (pause.Over ending.Fault)) (Some outside) old new = Rose (old outside) (new outside)
-Blamed (Some (pause.Over ending.Fault)) None old new = ⊥
-Blamed _ (Some outside) old new = ⊥
-Blamed _ None old new = ⊤
+abbrev pub Blamed : Option Pause → (failed : Option Outside → Type 0) → (old new : Outside → ℕ) → Type 0
+Blamed (Some (pause.Over ending.Fault)) failed old new = (outside : Outside) × failed (Some outside) × Rose (old outside) (new outside)
+Blamed _ failed old new = failed None

@@ -113,7 +113,7 @@ impl Kernel {
     /// a system call that was to be answered, after as many turns, and the state of the system is one that it may leave.
     pub fn stint<C: Calls>(&mut self, code: &Code, calls: &mut C, turns_left: u64) -> StintEnd
         requires taken { IsSome self.old.taken }
-        requires working { C.failed calls.old ≡ None }
+        requires working { C.failed calls.old None }
         ensures exact { WhereTold (C.state calls.old) (C.state calls.new) (λ s t. (m : Machine) (p : Name) (others : List Name) →
             IsAt code.now self.old s turns_left m p others → GoesTo code.now.words result turns_left self.new t m p others) }
         ensures entry { self.old.entering ≡ true → turns_left ≡ 0 → result ≡ StintEnd.Over 0 Ending.Turns }
@@ -123,6 +123,8 @@ impl Kernel {
         ensures used { used_in result ≤ turns_left }
         ensures later { (outside : Outside) → C.faults calls.old outside ≤ C.faults calls.new outside }
         ensures blame { Blamed (faulted result) (C.failed calls.new) (C.faults calls.old) (C.faults calls.new) }
+        ensures references { C.references calls.new ≡ C.references calls.old }
+        ensures lasting { (n : ℕ) → C.lasting calls.old n → C.lasting calls.new n }
         ensures turns { self.new.used ≡ min (self.old.used + used_in result) (2 ^ 64 - 1) }
     {
         self.state.stint(code, calls, turns_left)
@@ -157,12 +159,16 @@ impl Kernel {
         bound: u64,
         choices: &mut Choices,
     ) -> Ending
-        requires working { C.failed calls.old ≡ None }
+        requires working { C.failed calls.old None }
         ensures exact { choices.old.drawn + bound < 2 ^ 64 → WhereTold (C.state calls.old) (C.state calls.new) (λ s t.
             RunsTo code.now s bound choices.old result self.new.store self.new.used t choices.new) }
         ensures used { self.new.used ≤ bound }
+        ensures source { choices.new.source ≡ choices.old.source }
+        ensures drawn { choices.new.drawn ≤ choices.old.drawn + bound }
         ensures later { (outside : Outside) → C.faults calls.old outside ≤ C.faults calls.new outside }
         ensures blame { Blamed (fault_of (Some result)) (C.failed calls.new) (C.faults calls.old) (C.faults calls.new) }
+        ensures references { C.references calls.new ≡ C.references calls.old }
+        ensures lasting { (n : ℕ) → C.lasting calls.old n → C.lasting calls.new n }
     {
         self.state.run(code, calls, bound, choices)
     }

@@ -142,7 +142,7 @@ impl KernelState {
     ) -> Option<Ending>
         requires kernel { IsKernel self.old }
         requires taken { IsSome self.old.taken }
-        requires working { C.failed calls.old ≡ None }
+        requires working { C.failed calls.old None }
         requires used { self.old.used ≤ bound }
         ensures exact { choices.old.drawn < 2 ^ 64 - 1 → WhereTold (C.state calls.old) (C.state calls.new) (λ s t. (m : Machine) (p : Name) (others : List Name) →
             Holds self.old m (Some p) others → m.system ≡ s → m.turns ≡ bound - self.old.used →
@@ -155,6 +155,8 @@ impl KernelState {
         ensures drawn { choices.new.drawn ≤ choices.old.drawn + 1 }
         ensures later { (outside : Outside) → C.faults calls.old outside ≤ C.faults calls.new outside }
         ensures blame { Blamed (fault_of result) (C.failed calls.new) (C.faults calls.old) (C.faults calls.new) }
+        ensures references { C.references calls.new ≡ C.references calls.old }
+        ensures lasting { (n : ℕ) → C.lasting calls.old n → C.lasting calls.new n }
     {
         let end = self.go(code, calls, bound - self.used);
         self.used += used_in(end);
@@ -172,13 +174,17 @@ impl KernelState {
         bound: u64,
         choices: &mut Choices,
     ) -> Ending
-        requires working { C.failed calls.old ≡ None }
+        requires working { C.failed calls.old None }
         ensures exact { choices.old.drawn + bound < 2 ^ 64 → WhereTold (C.state calls.old) (C.state calls.new) (λ s t.
             RunsTo code.now s bound choices.old result self.new.store self.new.used t choices.new) }
         ensures kernel { IsKernel self.new }
         ensures used { self.new.used ≤ bound }
+        ensures source { choices.new.source ≡ choices.old.source }
+        ensures drawn { choices.new.drawn ≤ choices.old.drawn + bound }
         ensures later { (outside : Outside) → C.faults calls.old outside ≤ C.faults calls.new outside }
         ensures blame { Blamed (fault_of (Some result)) (C.failed calls.new) (C.faults calls.old) (C.faults calls.new) }
+        ensures references { C.references calls.new ≡ C.references calls.old }
+        ensures lasting { (n : ℕ) → C.lasting calls.old n → C.lasting calls.new n }
     {
         self.start(code);
         self.entering = false;
@@ -203,7 +209,7 @@ impl KernelState {
     ) -> StintEnd
         requires kernel { IsKernel self.old }
         requires taken { IsSome self.old.taken }
-        requires working { C.failed calls.old ≡ None }
+        requires working { C.failed calls.old None }
         ensures exact { WhereTold (C.state calls.old) (C.state calls.new) (λ s t. (m : Machine) (p : Name) (others : List Name) →
             IsAt code.now self.old s turns_left m p others → GoesTo code.now.words result turns_left self.new t m p others) }
         ensures entry { self.old.entering ≡ true → turns_left ≡ 0 → result ≡ StintEnd.Over 0 Ending.Turns }
@@ -214,6 +220,8 @@ impl KernelState {
         ensures used { used_in result ≤ turns_left }
         ensures later { (outside : Outside) → C.faults calls.old outside ≤ C.faults calls.new outside }
         ensures blame { Blamed (faulted result) (C.failed calls.new) (C.faults calls.old) (C.faults calls.new) }
+        ensures references { C.references calls.new ≡ C.references calls.old }
+        ensures lasting { (n : ℕ) → C.lasting calls.old n → C.lasting calls.new n }
         ensures turns { self.new.used ≡ min (self.old.used + used_in result) (2 ^ 64 - 1) }
     {
         let used_before = self.used;

@@ -171,7 +171,7 @@ impl KernelState {
     ) -> (Pause, Progress)
         requires table { IsTable self.old.table }
         requires place { place < 32 }
-        requires working { C.failed calls.old ≡ None }
+        requires working { C.failed calls.old None }
         ensures exact { WhereTold (C.state calls.old) (C.state calls.new) (λ s t.
             Stretches code.now.words (32 - length (free_places self.old.table)) (place == 0)
             (running_in self.old.store (resumed (process_at self.old.table place)) s left) false
@@ -183,6 +183,8 @@ impl KernelState {
         ensures spends { Spends (Some result.0) left result.1.left }
         ensures later { (outside : Outside) → C.faults calls.old outside ≤ C.faults calls.new outside }
         ensures blame { Blamed (Some result.0) (C.failed calls.new) (C.faults calls.old) (C.faults calls.new) }
+        ensures references { C.references calls.new ≡ C.references calls.old }
+        ensures lasting { (n : ℕ) → C.lasting calls.old n → C.lasting calls.new n }
         ensures ordered { IsOrdered result.1.activity }
     {
         let mut progress = Progress {
@@ -207,7 +209,7 @@ impl KernelState {
     pub(crate) fn go<C: Calls>(&mut self, code: &Code, calls: &mut C, left: u64) -> StintEnd
         requires kernel { IsKernel self.old }
         requires taken { IsSome self.old.taken }
-        requires working { C.failed calls.old ≡ None }
+        requires working { C.failed calls.old None }
         ensures exact { WhereTold (C.state calls.old) (C.state calls.new) (λ s t. (m : Machine) (p : Name) (others : List Name) →
             Holds self.old m (Some p) others → m.system ≡ s → m.turns ≡ left → GoesTo code.now.words result left self.new t m p others) }
         ensures kernel { IsKernel self.new }
@@ -217,6 +219,8 @@ impl KernelState {
         ensures spent { is_over result ≡ false → 0 < used_in result }
         ensures later { (outside : Outside) → C.faults calls.old outside ≤ C.faults calls.new outside }
         ensures blame { Blamed (faulted result) (C.failed calls.new) (C.faults calls.old) (C.faults calls.new) }
+        ensures references { C.references calls.new ≡ C.references calls.old }
+        ensures lasting { (n : ℕ) → C.lasting calls.old n → C.lasting calls.new n }
         ensures entering { self.new.entering ≡ self.old.entering }
         ensures turns { self.new.used ≡ self.old.used }
     {

@@ -122,7 +122,7 @@ fn instruct<C: Calls>(
     first: bool,
     calls: &mut C,
 ) -> Option<Pause>
-    requires working { C.failed calls.old ≡ None }
+    requires working { C.failed calls.old None }
     requires live { live ≤ 32 }
     requires ordered { IsOrdered progress.old.activity }
     ensures exact { WhereTold (C.state calls.old) (C.state calls.new) (λ s t.
@@ -135,6 +135,8 @@ fn instruct<C: Calls>(
     ensures spends { Spends result progress.old.left progress.new.left }
     ensures later { (outside : Outside) → C.faults calls.old outside ≤ C.faults calls.new outside }
     ensures blame { Blamed result (C.failed calls.new) (C.faults calls.old) (C.faults calls.new) }
+    ensures references { C.references calls.new ≡ C.references calls.old }
+    ensures lasting { (n : ℕ) → C.lasting calls.old n → C.lasting calls.new n }
     ensures ordered { IsOrdered progress.new.activity }
     ensures was_whole { IsMemory store.old }
     ensures whole { IsMemory store.new }
@@ -156,7 +158,7 @@ pub(crate) fn advance<C: Calls>(
     first: bool,
     calls: &mut C,
 ) -> Pause
-    requires working { C.failed calls.old ≡ None }
+    requires working { C.failed calls.old None }
     requires live { live ≤ 32 }
     requires ordered { IsOrdered progress.old.activity }
     ensures exact { WhereTold (C.state calls.old) (C.state calls.new) (λ s t.
@@ -168,6 +170,8 @@ pub(crate) fn advance<C: Calls>(
     ensures spends { Spends (Some result) progress.old.left progress.new.left }
     ensures later { (outside : Outside) → C.faults calls.old outside ≤ C.faults calls.new outside }
     ensures blame { Blamed (Some result) (C.failed calls.new) (C.faults calls.old) (C.faults calls.new) }
+    ensures references { C.references calls.new ≡ C.references calls.old }
+    ensures lasting { (n : ℕ) → C.lasting calls.old n → C.lasting calls.new n }
     ensures ordered { IsOrdered progress.new.activity }
     ensures whole { IsMemory store.new }
 {

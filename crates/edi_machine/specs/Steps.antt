@@ -88,11 +88,9 @@ Keeps (asks number arguments address line l) old new = ⊤
 Keeps effect old new = new ≡ old
 
 -- an object outside has failed exactly at a fault, and its count of faults rose in this step
-abbrev pub Blames : StepEnd → Option Outside → (old new : Outside → ℕ) → Type 0
-Blames end.Fault (Some outside) old new = Rose (old outside) (new outside)
-Blames end.Fault None old new = ⊥
-Blames _ (Some outside) old new = ⊥
-Blames _ None old new = ⊤
+abbrev pub Blames : StepEnd → (failed : Option Outside → Type 0) → (old new : Outside → ℕ) → Type 0
+Blames end.Fault failed old new = (outside : Outside) × failed (Some outside) × Rose (old outside) (new outside)
+Blames _ failed old new = failed None
 
 -- the effect ends a critical phase
 abbrev pub is_released : Effect → Bool

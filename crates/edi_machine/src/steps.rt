@@ -32,7 +32,7 @@ fn execute<C: Calls>(
     calls: &mut C,
 ) -> StepEnd
     requires size { length words.now < 2 ^ 32 }
-    requires working { C.failed calls.old ≡ None }
+    requires working { C.failed calls.old None }
     requires live { live ≤ 32 }
     requires ordered { IsOrdered activity.old }
     requires allowed { is_allowed (instruction_of op) ≡ true }
@@ -43,6 +43,8 @@ fn execute<C: Calls>(
         Keeps (perform (fetch words.now) live first (instruction_of op.entry) next l) calls.old calls.new }
     ensures later { (outside : Outside) → C.faults calls.old outside ≤ C.faults calls.new outside }
     ensures blame { Blames result (C.failed calls.new) (C.faults calls.old) (C.faults calls.new) }
+    ensures references { C.references calls.new ≡ C.references calls.old }
+    ensures lasting { (n : ℕ) → C.lasting calls.old n → C.lasting calls.new n }
     ensures ordered { IsOrdered activity.new }
 {
     match op {
@@ -68,7 +70,7 @@ pub fn step<C: Calls>(
     first: bool,
     calls: &mut C,
 ) -> StepEnd
-    requires working { C.failed calls.old ≡ None }
+    requires working { C.failed calls.old None }
     requires live { live ≤ 32 }
     requires ordered { IsOrdered activity.old }
     ensures exact { let before = local_of store.old activity.old in
@@ -76,6 +78,8 @@ pub fn step<C: Calls>(
     ensures keeps { Keeps (effect_of code.now.words live first (local_of store.old activity.old)) calls.old calls.new }
     ensures later { (outside : Outside) → C.faults calls.old outside ≤ C.faults calls.new outside }
     ensures blame { Blames result (C.failed calls.new) (C.faults calls.old) (C.faults calls.new) }
+    ensures references { C.references calls.new ≡ C.references calls.old }
+    ensures lasting { (n : ℕ) → C.lasting calls.old n → C.lasting calls.new n }
     ensures phase { let before = local_of store.old activity.old in
         ends_phase result before (local_of store.new activity.new) ≡ is_released (effect_of code.now.words live first before) }
     ensures fork { let before = local_of store.old activity.old in

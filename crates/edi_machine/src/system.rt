@@ -48,11 +48,13 @@ fn make_call<C: Calls>(calls: &mut C, number: u8, arguments: &[u16]) -> Made
     requires from { 1 ≤ number }
     requires to { number ≤ 10 }
     requires arguments { length arguments.now ≡ argument_words number }
-    requires working { C.failed calls.old ≡ None }
+    requires working { C.failed calls.old None }
     ensures exact { WhereTold (C.state calls.old) (C.state calls.new)
         (λ s t. Meets (call number arguments.now s) result.end (take (answer_words number) (result.word ∷ [])) s t) }
     ensures later { (outside : Outside) → C.faults calls.old outside ≤ C.faults calls.new outside }
     ensures blame { ends.Blames result.end (C.failed calls.new) (C.faults calls.old) (C.faults calls.new) }
+    ensures references { C.references calls.new ≡ C.references calls.old }
+    ensures lasting { (n : ℕ) → C.lasting calls.old n → C.lasting calls.new n }
 {
     let (_, answers) = words_of(number);
     let mut answer = [0; 1];
@@ -92,7 +94,7 @@ fn ask<C: Calls>(
     requires ordered { IsOrdered activity.old }
     requires frame { activity.old.base + 5 ≤ top }
     requires within { top ≤ activity.old.top }
-    requires working { C.failed calls.old ≡ None }
+    requires working { C.failed calls.old None }
     ensures exact { let l = local_of store.old activity.old in
         Takes (pop (argument_words number) (record l { top = top }) (λ arguments m. asks number arguments address line (record m { pc = next })))
         result l (local_of store.new activity.new) (C.state calls.old) (C.state calls.new) }
@@ -100,6 +102,8 @@ fn ask<C: Calls>(
         Keeps (pop (argument_words number) (record l { top = top }) (λ arguments m. asks number arguments address line (record m { pc = next }))) calls.old calls.new }
     ensures later { (outside : Outside) → C.faults calls.old outside ≤ C.faults calls.new outside }
     ensures blame { Blames result (C.failed calls.new) (C.faults calls.old) (C.faults calls.new) }
+    ensures references { C.references calls.new ≡ C.references calls.old }
+    ensures lasting { (n : ℕ) → C.lasting calls.old n → C.lasting calls.new n }
     ensures ordered { IsOrdered activity.new }
 {
     let (count, _) = words_of(number);
@@ -133,12 +137,14 @@ pub fn system_call<C: Calls>(
     calls: &mut C,
 ) -> StepEnd
     requires ordered { IsOrdered activity.old }
-    requires working { C.failed calls.old ≡ None }
+    requires working { C.failed calls.old None }
     ensures exact { let l = local_of store.old activity.old in
         Takes (system_call number line next l) result l (local_of store.new activity.new) (C.state calls.old) (C.state calls.new) }
     ensures keeps { Keeps (system_call number line next (local_of store.old activity.old)) calls.old calls.new }
     ensures later { (outside : Outside) → C.faults calls.old outside ≤ C.faults calls.new outside }
     ensures blame { Blames result (C.failed calls.new) (C.faults calls.old) (C.faults calls.new) }
+    ensures references { C.references calls.new ≡ C.references calls.old }
+    ensures lasting { (n : ℕ) → C.lasting calls.old n → C.lasting calls.new n }
     ensures ordered { IsOrdered activity.new }
 {
     if number < 1 || number > 10 {
@@ -187,7 +193,7 @@ pub fn call_described<C: Calls>(
 ) -> StepEnd
     requires size { length words.now < 2 ^ 32 }
     requires ordered { IsOrdered activity.old }
-    requires working { C.failed calls.old ≡ None }
+    requires working { C.failed calls.old None }
     ensures exact { let l = local_of store.old activity.old in
         let effect = perform (fetch words.now) 0 true (op.call_p count offset line) next l in
         Takes effect result l (local_of store.new activity.new) (C.state calls.old) (C.state calls.new) }
@@ -195,6 +201,8 @@ pub fn call_described<C: Calls>(
         Keeps (perform (fetch words.now) 0 true (op.call_p count offset line) next l) calls.old calls.new }
     ensures later { (outside : Outside) → C.faults calls.old outside ≤ C.faults calls.new outside }
     ensures blame { Blames result (C.failed calls.new) (C.faults calls.old) (C.faults calls.new) }
+    ensures references { C.references calls.new ≡ C.references calls.old }
+    ensures lasting { (n : ℕ) → C.lasting calls.old n → C.lasting calls.new n }
     ensures ordered { IsOrdered activity.new }
 {
     let base = level_base(store, count, activity.base as u16);

@@ -21,63 +21,63 @@ use Rattle.edi_meaning.specs.Select.{Selected, unfinished, finished, select_from
 
 -- ---- writing programs down
 
-abbrev empty_system : State
+abbrev pub empty_system : State
 empty_system = record { input = []; shown = []; printed = []; slots = replicate 256 None; blocks = 0; found = None; buffer = None }
 
-abbrev list_of : List Act → Acts
+abbrev pub list_of : List Act → Acts
 list_of [] = no_act
 list_of (a ∷ as') = act_then a (list_of as')
 
-abbrev variable : ℕ → ℕ → Place
+abbrev pub variable : ℕ → ℕ → Place
 variable levels v = place levels v no_part
 
-abbrev value_of : ℕ → ℕ → Expression
+abbrev pub value_of : ℕ → ℕ → Expression
 value_of levels v = load (variable levels v)
 
-abbrev number : ℤ → Expression
+abbrev pub number : ℤ → Expression
 number n = constant 0 n
 
-abbrev true_value : Expression
+abbrev pub true_value : Expression
 true_value = constant 2 (pos 1)
 
-abbrev false_value : Expression
+abbrev pub false_value : Expression
 false_value = constant 2 (pos 0)
 
-abbrev two : Expression → Operator → Expression → ℕ → Expression
+abbrev pub two : Expression → Operator → Expression → ℕ → Expression
 two a o b line = chain a (link_then (link o b line) no_link)
 
-abbrev one_clause : Expression → List Act → Clauses
+abbrev pub one_clause : Expression → List Act → Clauses
 one_clause e as' = clause_then (clause e (list_of as')) no_clause
 
-abbrev two_clauses : Expression → List Act → Expression → List Act → Clauses
+abbrev pub two_clauses : Expression → List Act → Expression → List Act → Clauses
 two_clauses e as' f bs = clause_then (clause e (list_of as')) (one_clause f bs)
 
 -- display is variable 0 of the program
-abbrev display : ℕ → ℤ → Act
+abbrev pub display : ℕ → ℤ → Act
 display levels c = call (callee.Formal levels 0) (argument_then (by_value (constant 1 c)) no_argument) 1
 
-abbrev block_of : BlockKind → ℕ → Option ℕ → List Parameter → List ℕ → ℕ → List Act → Block
+abbrev pub block_of : BlockKind → ℕ → Option ℕ → List Parameter → List ℕ → ℕ → List Act → Block
 block_of k up result parameters variables need body = record { kind = k; up = up; result = result; parameters = parameters; variables = variables; need = need; body = list_of body }
 
-abbrev program_of : List Shape → List ℕ → List Block → ProgramUnit
+abbrev pub program_of : List Shape → List ℕ → List Block → ProgramUnit
 program_of types calls blocks = record { types = standard_types ++ types; blocks = blocks; program = 0; calls = calls }
 
 -- HEAD, with variables and a body
-abbrev head : List ℕ → ℕ → List Act → Block
+abbrev pub head : List ℕ → ℕ → List Act → Block
 head variables need body = block_of kind.Program 0 None (parameter.Formal None ∷ []) variables need body
 
 -- what is shown, how it ends, how many of the twenty turns it took, and how many choices it drew
-abbrev summary : Selected → List ℕ × Ending × ℕ × ℕ
+abbrev pub summary : Selected → List ℕ × Ending × ℕ × ℕ
 summary unfinished = ([], outcome.turns, 0, 0)
 summary (finished ending system turns drawn order) = (system.shown, ending, 20 - turns, drawn)
 
-abbrev selected : ProgramUnit → List ℕ → List ℕ × Ending × ℕ × ℕ
+abbrev pub selected : ProgramUnit → List ℕ → List ℕ × Ending × ℕ × ℕ
 selected unit choices = summary (select_from_start unit empty_system 20 (listed choices) 60)
 
 -- ---- sequential programs
 
 -- HEAD begin display('a') end
-abbrev program_that_shows : ProgramUnit
+abbrev pub program_that_shows : ProgramUnit
 program_that_shows = program_of [] (2 ∷ []) (head [] 9 (display 0 (pos 97) ∷ []) ∷ [])
 
 pub row_shows : selected program_that_shows [] ≡ (97 ∷ [], outcome.done, 2, 0)
@@ -85,7 +85,7 @@ unfolding zero_value
 row_shows = refl
 
 -- HEAD var x: int begin while x < 3 do display('k'); x := x + 1 end end
-abbrev program_that_counts : ProgramUnit
+abbrev pub program_that_counts : ProgramUnit
 program_that_counts =
     program_of [] (2 ∷ []) (head (0 ∷ []) 11 (loop (one_clause (two (value_of 0 1) op.Less (number (pos 3)) 1) (display 0 (pos 107) ∷ assign (variable 0 1) (two (value_of 0 1) op.Plus (number (pos 1)) 1) ∷ [])) ∷ []) ∷ [])
 
@@ -94,7 +94,7 @@ unfolding zero_value
 row_counts = refl
 
 -- HEAD var x: int begin display('a'); x := 32767 + 1 end, the sum on line 4: output before a failure stays
-abbrev program_that_overflows : ProgramUnit
+abbrev pub program_that_overflows : ProgramUnit
 program_that_overflows =
     program_of [] (2 ∷ []) (head (0 ∷ []) 11 (display 0 (pos 97) ∷ assign (variable 0 1) (two (number (pos 32767)) op.Plus (number (pos 1)) 4) ∷ []) ∷ [])
 
@@ -105,10 +105,10 @@ row_overflows = refl
 -- HEAD array t [1:2] (char) var a: t; i: int proc f: char begin i := 2; val f := 'q' end
 -- begin i := 1; a[i] := f; display(a[1]); if a[2] = char(0) do display('z') end end
 -- The index is determined before the function changes i.
-abbrev element : ℕ → Expression → Place
+abbrev pub element : ℕ → Expression → Place
 element levels e = place levels 1 (part_then (index e 1) no_part)
 
-abbrev program_with_index : ProgramUnit
+abbrev pub program_with_index : ProgramUnit
 program_with_index =
     program_of (array_of 0 (pos 1) (pos 2) 1 ∷ []) (2 ∷ [])
     (head (3 ∷ 0 ∷ []) 13
@@ -126,7 +126,7 @@ row_with_index = refl
 
 -- HEAD var g: int proc p(var v: int) begin v := 1; if g = 1 do display('1') end; g := 2; if v = 2 do display('2') end end
 -- begin p(g) end: one variable under two names
-abbrev program_with_alias : ProgramUnit
+abbrev pub program_with_alias : ProgramUnit
 program_with_alias =
     program_of [] (2 ∷ [])
     (head (0 ∷ []) 11 (call (callee.Block 0 1) (argument_then (by_variable (variable 0 1)) no_argument) 1 ∷ [])
@@ -147,10 +147,10 @@ row_with_alias = refl
 --   begin if n = 1 do go(2, r) else true do q end end
 -- proc none begin skip end
 -- begin go(1, none) end: r means the n of the instance in which it was passed
-abbrev go_with : ℕ → ℤ → Callee → Act
+abbrev pub go_with : ℕ → ℤ → Callee → Act
 go_with levels n q = call (callee.Block levels 1) (argument_then (by_value (number n)) (argument_then (by_procedure q) no_argument)) 1
 
-abbrev program_with_procedure : ProgramUnit
+abbrev pub program_with_procedure : ProgramUnit
 program_with_procedure =
     program_of [] (2 ∷ [])
     (head [] 12 (go_with 0 (pos 1) (callee.Block 0 3) ∷ [])
@@ -167,7 +167,7 @@ row_with_procedure = refl
 
 -- HEAD proc p(n: int) begin if n = 1 do p(2) else true do display('x') end end begin p(1) end: the second instance of p
 -- is called from the first, and means the variables of the program all the same
-abbrev program_that_recurs : ProgramUnit
+abbrev pub program_that_recurs : ProgramUnit
 program_that_recurs =
     program_of [] (2 ∷ [])
     (head [] 9 (call (callee.Block 0 1) (argument_then (by_value (number (pos 1))) no_argument) 1 ∷ [])
@@ -180,7 +180,7 @@ unfolding zero_value
 row_recurs = refl
 
 -- HEAD var x: int proc f: int begin when true do val f := 1 end end begin x := f end, the `when` on line 5
-abbrev program_that_is_held : ProgramUnit
+abbrev pub program_that_is_held : ProgramUnit
 program_that_is_held =
     program_of [] (2 ∷ [])
     (head (0 ∷ []) 11 (assign (variable 0 1) (invoke (callee.Block 0 1) no_argument 7) ∷ [])
@@ -192,7 +192,7 @@ unfolding zero_value
 row_held = refl
 
 -- HEAD begin if false and (1 div 0 = 1) do skip else true do display('k') end end: `and` looks no further
-abbrev program_that_decides : ProgramUnit
+abbrev pub program_that_decides : ProgramUnit
 program_that_decides =
     program_of [] (2 ∷ [])
     (head [] 10 (conditional (two_clauses (two false_value op.And (two (two (number (pos 1)) op.Div (number (pos 0)) 1) op.Equal (number (pos 1)) 1) 1) (skip ∷ []) true_value (display 0 (pos 107) ∷ [])) ∷ []) ∷ [])
@@ -202,7 +202,7 @@ unfolding zero_value
 row_decides = refl
 
 -- proc main begin p end with a procedure p that needs n words, called on line 3, beside the 5 words of main
-abbrev program_that_needs : ℕ → ProgramUnit
+abbrev pub program_that_needs : ℕ → ProgramUnit
 program_that_needs n =
     program_of [] []
     (block_of kind.Program 0 None [] [] 5 (call (callee.Block 0 1) no_argument 3 ∷ [])
@@ -220,7 +220,7 @@ row_does_not_fit = refl
 -- ---- processes
 
 -- HEAD var x: int begin cobegin 1 do when x = 0 do display('a'); x := 1 end also 2 do when true do display('b') end end end
-abbrev program_that_forks : ProgramUnit
+abbrev pub program_that_forks : ProgramUnit
 program_that_forks =
     program_of [] (2 ∷ [])
     (head (0 ∷ []) 9 (cobegin (1 ∷ 2 ∷ []) 3 ∷ [])
@@ -242,7 +242,7 @@ unfolding zero_value
 row_forks_at_once = refl
 
 -- proc main begin when false do skip end end: the entry, the arrival and one attempt
-abbrev program_that_waits : ProgramUnit
+abbrev pub program_that_waits : ProgramUnit
 program_that_waits = program_of [] [] (block_of kind.Program 0 None [] [] 6 (await (one_clause false_value (skip ∷ [])) 1 ∷ []) ∷ [])
 
 pub row_waits : selected program_that_waits [] ≡ ([], outcome.standstill, 3, 0)
@@ -250,7 +250,7 @@ unfolding zero_value
 row_waits = refl
 
 -- proc main begin cobegin 1 do when false do skip end also 2 do when false do skip end end end
-abbrev program_where_two_wait : ProgramUnit
+abbrev pub program_where_two_wait : ProgramUnit
 program_where_two_wait =
     program_of [] []
     (block_of kind.Program 0 None [] [] 5 (cobegin (1 ∷ 2 ∷ []) 1 ∷ [])
@@ -264,7 +264,7 @@ row_two_wait = refl
 
 -- proc main proc f: bool begin val f := false end begin when f do skip end end: a condition that calls a function marks
 -- nothing, so this waits until its turns are used up
-abbrev program_that_asks : ProgramUnit
+abbrev pub program_that_asks : ProgramUnit
 program_that_asks =
     program_of [] []
     (block_of kind.Program 0 None [] [] 6 (await (one_clause (invoke (callee.Block 0 1) no_argument 1) (skip ∷ [])) 1 ∷ [])
@@ -277,7 +277,7 @@ row_asks = refl
 
 -- var x, y: int begin cobegin 1 do when x = 1 do y := 1 end also 2 do when y = 1 do display('b') end
 -- also 3 do when true do x := 1 end end end: the third branch empties the marks of the others
-abbrev program_that_goes_on : ProgramUnit
+abbrev pub program_that_goes_on : ProgramUnit
 program_that_goes_on =
     program_of [] (2 ∷ [])
     (head (0 ∷ 0 ∷ []) 10 (cobegin (1 ∷ 2 ∷ 3 ∷ []) 3 ∷ [])
@@ -291,7 +291,7 @@ unfolding zero_value
 row_goes_on = refl
 
 -- proc main begin cobegin 1 do skip also .. end end, with the word `cobegin` on line 2: 31 branches, and 32
-abbrev program_of_branches : ℕ → ProgramUnit
+abbrev pub program_of_branches : ℕ → ProgramUnit
 program_of_branches n =
     program_of [] []
     (block_of kind.Program 0 None [] [] 5 (cobegin (replicate n 1) 2 ∷ [])
@@ -299,7 +299,7 @@ program_of_branches n =
     ∷ [])
 
 -- with a hundred turns and steps enough
-abbrev ending_of : Selected → Ending × ℕ
+abbrev pub ending_of : Selected → Ending × ℕ
 ending_of unfinished = (outcome.bad 0, 0)
 ending_of (finished ending system turns drawn order) = (ending, 100 - turns)
 

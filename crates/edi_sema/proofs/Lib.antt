@@ -6,5 +6,8 @@ pub mod Ends
 pub mod Staying
 pub mod Opening
 pub mod Begun
-pub mod Completed
+pub mod Completing
 pub mod Answered
+pub mod Held
+pub mod RangesParts
+pub mod Ranges

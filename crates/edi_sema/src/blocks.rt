@@ -72,7 +72,7 @@ pub(crate) fn close_block(
 }
 
 /// Enters a block.
-pub(crate) fn enter_around(known: &mut Known, block: u32) -> Result<(), StaticFault>
+pub fn enter_around(known: &mut Known, block: u32) -> Result<(), StaticFault>
     ensures exact { Answers (λ _. environment known.new) result (gives (inside_block block (environment known.old))) }
 {
     match known.around.insert(0, block) {
@@ -82,7 +82,7 @@ pub(crate) fn enter_around(known: &mut Known, block: u32) -> Result<(), StaticFa
 }
 
 /// Leaves the innermost block.
-pub(crate) fn leave_around(known: &mut Known)
+pub fn leave_around(known: &mut Known)
     ensures exact { environment known.new ≡ outside_block (environment known.old) }
 {
     if !known.around.is_empty() {

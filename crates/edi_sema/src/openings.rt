@@ -23,7 +23,7 @@ use edi_tree::{ConstList, List, TypeDecl, VarList};
 use std::alloc::Global;
 
 /// Constants.
-pub(crate) fn constants(
+pub fn constants(
     known: &mut Known,
     alloc: Global,
     marked: bool,
@@ -38,7 +38,7 @@ pub(crate) fn constants(
 }
 
 /// A type.
-pub(crate) fn declared_type(
+pub fn declared_type(
     known: &mut Known,
     alloc: Global,
     marked: bool,
@@ -53,7 +53,7 @@ pub(crate) fn declared_type(
 }
 
 /// Variables.
-pub(crate) fn variables(
+pub fn variables(
     known: &mut Known,
     alloc: Global,
     marked: bool,
@@ -76,11 +76,7 @@ fn take_begun(known: &mut Known, alloc: Global) -> Vec<Begun>
 }
 
 /// Enters a block whose heading's scope is the innermost, and gives the procedures that are begun round it.
-pub(crate) fn open_block(
-    known: &mut Known,
-    alloc: Global,
-    block: u32,
-) -> Result<Vec<Begun>, StaticFault>
+pub fn open_block(known: &mut Known, alloc: Global, block: u32) -> Result<Vec<Begun>, StaticFault>
     requires stands { Stands (environment known.old) }
     ensures exact { Answers (λ _. environment known.new) result (gives (spec.enter_block block (environment known.old))) }
     ensures begun { IfOk result (λ begun. map begun_of begun.items ≡ (environment known.old).begun) }
@@ -91,7 +87,7 @@ pub(crate) fn open_block(
 }
 
 /// Enters a module, and gives the procedures that are begun round it.
-pub(crate) fn open_module(known: &mut Known, alloc: Global) -> Result<Vec<Begun>, StaticFault>
+pub fn open_module(known: &mut Known, alloc: Global) -> Result<Vec<Begun>, StaticFault>
     requires stands { Stands (environment known.old) }
     ensures exact { Answers (λ _. environment known.new) result (gives (inside_module (environment known.old))) }
     ensures begun { IfOk result (λ begun. map begun_of begun.items ≡ (environment known.old).begun) }
@@ -102,7 +98,7 @@ pub(crate) fn open_module(known: &mut Known, alloc: Global) -> Result<Vec<Begun>
 }
 
 /// Closes the innermost scope. These procedures are begun round it.
-pub(crate) fn close_scope(known: &mut Known, begun: Vec<Begun>)
+pub fn close_scope(known: &mut Known, begun: Vec<Begun>)
     requires depth { 1 < length known.old.scopes }
     requires proper { Proper (environment known.old) }
     ensures exact { environment known.new ≡ headings.leave (with_begun (map begun_of begun.items) (environment known.old)) }
@@ -113,7 +109,7 @@ pub(crate) fn close_scope(known: &mut Known, begun: Vec<Begun>)
 }
 
 /// The statements of a procedure, and the symbol that closes it.
-pub(crate) fn finish_block(
+pub fn finish_block(
     known: &mut Known,
     alloc: Global,
     block: u32,
@@ -130,11 +126,7 @@ pub(crate) fn finish_block(
 }
 
 /// The statements of a module, which the block where it stands executes when it is entered.
-pub(crate) fn finish_module(
-    known: &mut Known,
-    alloc: Global,
-    list: &List,
-) -> Result<(), StaticFault>
+pub fn finish_module(known: &mut Known, alloc: Global, list: &List) -> Result<(), StaticFault>
     requires stands { Stands (environment known.old) }
     ensures exact { Answers (λ _. environment known.new) result
         (finished_module (environments.here (environment known.old)) (list_of list.now) (environment known.old)) }

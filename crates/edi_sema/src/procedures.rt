@@ -61,7 +61,7 @@ pub(crate) fn begin_block_of(
 }
 
 /// A procedure that begins: its block is there and its name is declared.
-pub(crate) fn begin_procedure(
+pub fn begin_procedure(
     known: &mut Known,
     alloc: Global,
     marked: bool,
@@ -166,7 +166,7 @@ fn block_of(known: &Known, found: Option<u32>) -> Result<u32, StaticFault>
 }
 
 /// A `post` is held to its `pre` after its heading's parts.
-pub(crate) fn begin_post(
+pub fn begin_post(
     known: &mut Known,
     alloc: Global,
     marked: bool,
@@ -208,7 +208,7 @@ fn begin_split(known: &mut Known, begun: Begun) -> Result<(), StaticFault>
 }
 
 /// A `pre` alone: its heading's scope ends at once.
-pub(crate) fn pre_decl(
+pub fn pre_decl(
     known: &mut Known,
     alloc: Global,
     marked: bool,
@@ -236,7 +236,7 @@ pub(crate) fn all_completed(known: &Known) -> Result<(), StaticFault>
 }
 
 /// A procedure that is begun no longer waits for its `post`.
-pub(crate) fn completed(known: &mut Known, name: &Name)
+pub fn completed(known: &mut Known, name: &Name)
     ensures exact { environment known.new ≡ with_begun (spec.without_begun name.now.text (environment known.old).begun) (environment known.old) }
 {
     let name = name.text.as_slice();

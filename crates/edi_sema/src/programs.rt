@@ -3,7 +3,9 @@
 ghost use Rattle.std.specs.Prelude.{◌≡◌, map, Err, IfOk, OnErr, OnOk};
 ghost use Rattle.edi_tree.specs.View.{globals, global_of, heading_of, procedure_of};
 ghost use Rattle.edi_tree.specs.Whole.{program_of};
+ghost use Rattle.edi_unit.specs.Fits.{Fits};
 ghost use Rattle.edi_unit.specs.Lists.{list_items};
+ghost use Rattle.edi_unit.specs.Types.{IsTypeTable};
 ghost use Rattle.edi_unit.specs.View.{unit_of};
 ghost use Rattle.edi_static.specs.Programs as spec;
 ghost use Rattle.edi_static.specs.Answers.{Answers};
@@ -34,7 +36,7 @@ fn global(known: &mut Known, alloc: Global, global: &Declared) -> Result<(), Sta
 }
 
 /// The declarations before the program's procedure.
-fn declare_globals(
+pub fn declare_globals(
     known: &mut Known,
     alloc: Global,
     declared: &[Declared],
@@ -61,7 +63,7 @@ fn copy_of(alloc: Global, asked: &Asked) -> Result<Asked, StaticFault>
 }
 
 /// The program's own name is declared before its heading is held to the rules on programs.
-fn begin_program(
+pub fn begin_program(
     known: &mut Known,
     alloc: Global,
     heading: &Heading,
@@ -94,6 +96,7 @@ fn program_procedure(
     requires stands { Stands (environment known.old) }
     ensures exact { Answers (λ calls. program_unit (list_items calls) (environment known.new)) result
         (spec.program_procedure (procedure_of procedure.now) (environment known.old)) }
+    ensures table { OnOk result (IsTypeTable known.new.types) }
 {
     let calls = begin_program(known, alloc, &procedure.heading)?;
     procedure_rest(known, alloc, 0, procedure)?;
@@ -101,7 +104,7 @@ fn program_procedure(
 }
 
 /// What is known before a program, whose scope is open.
-fn before_program(alloc: Global) -> Result<Known, StaticFault>
+pub fn before_program(alloc: Global) -> Result<Known, StaticFault>
     ensures exact { Answers environment result (gives first_place) }
     ensures stands { IfOk result (λ known. Stands (environment known)) }
 {
@@ -115,8 +118,12 @@ fn before_program(alloc: Global) -> Result<Known, StaticFault>
 }
 
 /// The unit of a program, or the first construct that breaks a static rule.
+///
+/// A unit fits: each number in it names a type, block or variable that is there, types agree in every expression, statement
+/// and call, each block's need is as it says, and the program's parameters are calls of the system, no two the same.
 pub fn resolve(alloc: Global, tree: &Program) -> Result<Unit, StaticFault>
     ensures exact { Answers unit_of result (spec.resolve_tree (program_of tree.now)) }
+    ensures fits { IfOk result (λ unit. Fits (unit_of unit)) }
 {
     let mut known = before_program(alloc)?;
     declare_globals(&mut known, alloc, tree.globals.items())?;

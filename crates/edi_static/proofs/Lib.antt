@@ -6,6 +6,7 @@ pub mod Behind
 pub mod Fields
 pub mod Lengths
 pub mod Needs
+pub mod Refusing
 pub mod Fitness
 pub mod FitnessGrowth
 pub mod FitnessActs

@@ -1,16 +1,20 @@
 -- The rules on a program's heading, and what a whole program is resolved to.
-use Rattle.std.specs.Prelude.{◌≡◌, ℕ, pos, Bool, false, ◌&&◌, ◌==◌, if◌then◌else◌, List, [], ◌∷◌, Option, Some, None, codes}
+use Rattle.std.specs.Prelude.{◌≡◌, ◌≤◌, ⊤, ℕ, pos, Bool, false, ◌&&◌, ◌==◌, if◌then◌else◌, List, [], ◌∷◌, Option, Some, None, codes}
 use Rattle.std.specs.Ordering.{int_eq}
 use Rattle.std.specs.Str.{bytes_eq}
 use Rattle.edi_scope.specs.declared.entity.Entity.TheVariants as entity
 use Rattle.edi_tree.specs.declared.names.Name.{Name}
 use Rattle.edi_tree.specs.Tree as text
+use Rattle.edi_tree.specs.Depth.{depth}
+use Rattle.edi_tree.specs.Spells.{IsHeld}
 use Rattle.edi_unit.specs.declared.units.BlockKind.TheVariants as block_kind
 use Rattle.edi_unit.specs.Types.{Shape, array_of, shape_at, int_type, char_type, bool_type}
 use Rattle.edi_unit.specs.Tree.{ProgramUnit}
 use Rattle.edi_unit.specs.Fits.{Heading, heading, Formals, no_formal, value_then, variable_then, procedure_then, heading_formals}
 use Rattle.edi_static.specs.declared.faults.StaticKind.{StaticKind}
 use Rattle.edi_static.specs.declared.faults.StaticKind.TheVariants as kind
+use Rattle.edi_static.specs.declared.faults.StaticFault.{StaticFault}
+use Rattle.edi_static.specs.declared.faults.StaticFault.TheVariants as fault
 use Rattle.edi_static.specs.Judged.{Judged, gives, faults, ◌>>=◌}
 use Rattle.edi_static.specs.Environment.{Environment, at_first, declare, enter, same_heading, no_heading}
 use Rattle.edi_static.specs.Types.{const_list, type_decl}
@@ -126,6 +130,19 @@ FirstStatic tree why line = resolve_tree tree ≡ faults why line
 abbrev pub Resolved : text.Program → ProgramUnit → Type 0
 Resolved tree unit = resolve_tree tree ≡ gives unit
 
--- no construct breaks a rule
-abbrev pub Sound : text.Program → Type 0
-Sound tree = (unit : ProgramUnit) × Resolved tree unit
+-- The tree spells marks that `Symbols` can hold, at most 64 levels are open in it at once, and no construct of it breaks a
+-- rule.
+pub record Sound (tree : text.Program) : Type 0 where
+  pub held : ∥ IsHeld tree ∥₁
+  pub shallow : depth tree ≤ 64
+  pub resolved : (unit : ProgramUnit) × Resolved tree unit
+
+-- the tree is not sound, and this is its first fault
+pub record IsUnsound (tree : text.Program) (why : StaticKind) (line : ℕ) : Type 0 where
+  pub first : FirstStatic tree why line
+  pub not_sound : Sound tree → ⊥
+
+-- what the fault says of the tree; want of memory says nothing
+abbrev pub Refuses : text.Program → StaticFault → Type 0
+Refuses tree (fault.At why line) = IsUnsound tree why line
+Refuses tree fault.NoMemory = ⊤

@@ -1,6 +1,7 @@
 -- Calls of the catalogue, on a system.
-use Rattle.std.proofs.Common.{◌≡◌, ◌≤◌, ◌⊎◌, inl, inr, ℕ, Bool, true, false, List, Option, Some, None, refl, sym, ap, subst, ◌∙◌, arith}
-use Rattle.std.specs.Prelude.{Result, Ok, Err, IfSome}
+use Rattle.std.proofs.Common.{◌≡◌, ◌≤◌, ◌⊎◌, inl, inr, ℕ, true, false, List, Option, Some, None, refl, sym, ap, subst, ◌∙◌, arith}
+use Rattle.std.specs.Prelude.{Result, Ok, Err, IfSome, slice_index}
+use Rattle.std.specs.Option.{ForSome}
 use Rattle.edi_told.specs.Faults.{Rose}
 use Rattle.edi_told.specs.Told.{WhereTold}
 use Rattle.edi_disk.specs.Shown.{drive_of}
@@ -12,6 +13,7 @@ use Rattle.edi_catalog.specs.declared.ends.CatEnd.{CatEnd}
 use Rattle.edi_catalog.specs.declared.ends.CatEnd.TheVariants as cat
 use Rattle.edi_catalog.specs.declared.entry.Entry.{Entry}
 use Rattle.edi_catalog.specs.Changes.{Answers, Leaves}
+use Rattle.edi_image.specs.Entries.{block_at}
 use Rattle.edi_catalog.specs.Files.{file_titled}
 use Rattle.edi_catalog.specs.Mounted.{disk_of, files_of}
 use Rattle.edi_image.specs.Stored.{StoredFile}
@@ -93,6 +95,14 @@ refused_store (Err cat.Fault) refusal place entry old new e a = absurd (let no :
 
 -- ---- what is read stays
 
+page_kept : {D : Type 0} (held : D → Option (List (List ℕ))) (before after : Catalog D) (page : List ℕ) (file : StoredFile) (kept : Option ℕ)
+    → WhereTold (held (drive_of (disk_of before))) (held (drive_of (disk_of after))) (λ old new. new ≡ old)
+    → IfSome kept (λ i. ForSome (held (drive_of (disk_of before))) (λ blocks. block_at blocks (slice_index file.pages i) ≡ page))
+    → IfSome kept (λ i. ForSome (held (drive_of (disk_of after))) (λ blocks. block_at blocks (slice_index file.pages i) ≡ page))
+page_kept held before after page file None told k = tt
+page_kept held before after page file (Some i) told k =
+    λ blocks is. k blocks (told_back (held (drive_of (disk_of before))) (held (drive_of (disk_of after))) told blocks is)
+
 pub reading_kept : {D : Type 0} (held : D → Option (List (List ℕ))) (before after : Catalog D) (page : List ℕ) (found : Option Reading)
     → files_of after ≡ files_of before → WhereTold (held (drive_of (disk_of before))) (held (drive_of (disk_of after))) (λ old new. new ≡ old)
     → IfSome found (IsReading held before page) → IfSome found (IsReading held after page)
@@ -103,9 +113,7 @@ reading_kept held before after page (Some reading) same told r = record {
   text = r.text;
   length_ = r.length_;
   within = r.within;
-  least = r.least;
-  most = r.most;
-  pages_ = λ blocks is. r.pages_ blocks (told_back (held (drive_of (disk_of before))) (held (drive_of (disk_of after))) told blocks is);
+  kept = page_kept held before after page r.file reading.kept told r.kept;
 }
 
 pub told_read : {A : Type 0} (P : A → A → Type 0) (a b : Option A) → WhereTold a b (λ old new. (new ≡ old) × P old new) → WhereTold a b (λ old new. new ≡ old)

@@ -1,11 +1,13 @@
 -- The pages of a text, and the byte at a position.
-use Rattle.std.proofs.Common.{◌≡◌, ◌≤◌, ◌<◌, ◌⊎◌, inl, inr, ℕ, zero, suc, ◌+◌, ◌*◌, List, [], ◌∷◌, ◌++◌, length, take, get_or, Option, Some, None, refl, sym, ap, subst, ◌∙◌, arith, length-append}
+use Rattle.std.proofs.Common.{◌≡◌, true, ◌≤◌, ◌<◌, ℕ, zero, suc, ◌+◌, ◌*◌, List, [], ◌∷◌, ◌++◌, length, take, get_or, Option, Some, None, refl, sym, ap, subst, ◌∙◌, arith, length-append}
 use Rattle.std.specs.Prelude.{◌/◌, ◌%◌, min, map, flat_map, slice_get, slice_index, IfSome, Ok, if◌then◌else◌}
-use Rattle.std.specs.Option.{option_map, option_and_then}
+use Rattle.std.specs.List.{list_all}
+use Rattle.std.specs.Option.{option_map, option_and_then, ForSome}
 use Rattle.std.proofs.lemmas.List.{get_or_append_left, get_or-append-add, get_or-take, length-take}
 use Rattle.std.proofs.lemmas.Option.{slice_get_past, slice_get-get_or}
 use Rattle.edi_told.specs.Told.{WhereTold}
 use Rattle.edi_disk.specs.Shown.{drive_of}
+use Rattle.edi_host.specs.Blocks.{is_block}
 use Rattle.edi_calls.specs.declared.kinds.FileKind.{FileKind}
 use Rattle.edi_calls.specs.declared.kinds.FileKind.TheVariants as kind
 use Rattle.edi_calls.specs.State.{find_file, pages_of}
@@ -13,21 +15,21 @@ use Rattle.edi_calls.specs.Calls.{bytes_of, found_as, is_text}
 use Rattle.edi_catalog.specs.declared.catalog.Catalog.{Catalog}
 use Rattle.edi_image.specs.Entries.{block_at}
 use Rattle.edi_image.specs.Image.{slots_of}
-use Rattle.edi_image.specs.Stored.{StoredFile, bytes_in, IsKeptOf}
+use Rattle.edi_image.specs.Stored.{StoredFile, is_stored, bytes_in, IsKeptOf}
 use Rattle.edi_catalog.specs.Files.{entry_of, file_titled, PageIs}
 use Rattle.edi_catalog.specs.Mounted.{disk_of, files_of, IsMounted}
-use Rattle.edi_catalog.proofs.FilePlaces.{page_inside}
 use Rattle.edi_catalog.proofs.Mounts.{told_now}
 use Rattle.edi_image.proofs.KeptFiles.{file_of, slots_are}
 use Rattle.edi_catalog.proofs.WholeFiles.{file_same}
-use Rattle.edi_system.specs.State.{found_of, HasPages, IsReading}
+use Rattle.edi_system.specs.State.{found_of, IsReading}
 use Rattle.edi_system.specs.Reading.{begun, byte_in, text_of}
 use Rattle.edi_system.specs.declared.reading.Reading.{Reading}
+use Rattle.edi_system.proofs.Sizes.{kept_pages, page_sized, some_fact, titled_kept}
 
 -- ---- bytes of whole pages
 
 -- the place of a byte of a page among those of all pages
-page_at : (f : ℕ → List ℕ) (pages : List ℕ) (i k : ℕ) → ((j : ℕ) → j < suc i → length (f (slice_index pages j)) ≡ 512) → k < 512 → i < length pages
+page_at : (f : ℕ → List ℕ) (pages : List ℕ) (i k : ℕ) → ((j : ℕ) → j < length pages → length (f (slice_index pages j)) ≡ 512) → k < 512 → i < length pages
     → (512 * i + k < length (flat_map f pages)) × (get_or (flat_map f pages) (512 * i + k) 0 ≡ get_or (f (slice_index pages i)) k 0)
 page_at f [] i k whole h within = absurd (omega arith)
 page_at f (p ∷ ps) zero k whole h within =
@@ -46,9 +48,9 @@ page_at f (p ∷ ps) (suc i) k whole h within =
       ap (λ n. get_or (f p ++ flat_map f ps) n 0) place ∙ get_or-append-add (f p) (flat_map f ps) (512 * i + k) 0 ∙ rest.1,
     )
 
--- the byte at a position of a text of n bytes, whose page was read
+-- the byte at a position of a text of n bytes, whose page is kept
 byte_at : (f : ℕ → List ℕ) (pages : List ℕ) (n position i : ℕ) (page : List ℕ)
-    → ((j : ℕ) → j < suc i → length (f (slice_index pages j)) ≡ 512) → position / 512 ≡ i → i < length pages → position < n
+    → ((j : ℕ) → j < length pages → length (f (slice_index pages j)) ≡ 512) → position / 512 ≡ i → i < length pages → position < n
     → f (slice_index pages i) ≡ page → slice_get (take n (flat_map f pages)) position ≡ Some (slice_index page (position % 512))
 byte_at f pages n position i page whole at within below is =
     let place : 512 * i + position % 512 ≡ position = omega (arith, at) in
@@ -82,75 +84,47 @@ byte_none held count catalog page reading blocks mounted r ends told =
     byte_of blocks reading.title (files_of catalog) r.file reading.position (mounted.image blocks told) r.there
     ∙ slice_get_past (bytes_in blocks r.file) reading.position (omega (arith, many, r.length_, ends))
 
--- the byte at a position whose page was read
-pub byte_some : {D : Type 0} (held : D → Option (List (List ℕ))) (count : D → ℕ) (catalog : Catalog D) (page : List ℕ) (reading : Reading) (blocks : List (List ℕ))
-    → IsMounted held count catalog → IsReading held catalog page reading → reading.position < reading.length → reading.position < 512 * reading.pages
-    → held (drive_of (disk_of catalog)) ≡ Some blocks → byte_in blocks reading.title reading.position ≡ Some (slice_index page (reading.position % 512))
-byte_some held count catalog page reading blocks mounted r below read told =
+-- the byte at a position whose page is kept
+pub byte_some : {D : Type 0} (held : D → Option (List (List ℕ))) (count : D → ℕ)
+    → ((drive : D) → IfSome (held drive) (λ blocks. length blocks ≡ count drive)) → ((drive : D) → IfSome (held drive) (λ blocks. list_all is_block blocks ≡ true))
+    → (catalog : Catalog D) (page : List ℕ) (reading : Reading) (blocks : List (List ℕ)) → IsMounted held count catalog → IsReading held catalog page reading
+    → reading.position < reading.length → reading.kept ≡ Some (reading.position / 512) → held (drive_of (disk_of catalog)) ≡ Some blocks
+    → byte_in blocks reading.title reading.position ≡ Some (slice_index page (reading.position % 512))
+byte_some {D} held count counted sized catalog page reading blocks mounted r below loaded told =
     let i = reading.position / 512 in
-    let last : suc (reading.position / 512) ≡ reading.pages = omega (arith, r.least, read) in
-    let has = r.pages_ blocks told in
-    let there = subst (λ o. IfSome o (λ (file : StoredFile). i < length file.pages)) r.there
-    (page_inside (count (drive_of (disk_of catalog))) reading.title (files_of catalog) i mounted.stored
-    (subst (λ o. IfSome o (λ (file : StoredFile). i < pages_of file.record_.length)) (sym r.there)
-    (few reading.position r.file.record_.length (subst (λ n. reading.position < n) (sym r.length_) below)))) in
+    let drive : D = drive_of (disk_of catalog) in
+    let stored = subst (λ o. is_stored (count drive) o ≡ true) r.there (titled_kept (count drive) reading.title (files_of catalog) mounted.stored) in
+    let fits = kept_pages (count drive) r.file stored in
+    let here = some_fact (λ i. ForSome (held drive) (λ blocks. block_at blocks (slice_index r.file.pages i) ≡ page)) reading.kept i loaded r.kept in
     byte_of blocks reading.title (files_of catalog) r.file reading.position (mounted.image blocks told) r.there
     ∙ byte_at (block_at blocks) r.file.pages r.file.record_.length reading.position i page
-    (λ j h. has.whole j (subst (λ n. j < n) last h)) refl there (subst (λ n. reading.position < n) (sym r.length_) below) (has.last i last)
+    (λ j h. page_sized blocks (count drive) r.file.pages j
+    (some_fact (λ b. list_all is_block b ≡ true) (held drive) blocks told (sized drive)) (some_fact (λ b. length b ≡ count drive) (held drive) blocks told (counted drive)) fits.0 h)
+    refl (few reading.position reading.length r.file.record_.length (length r.file.pages) below r.length_ fits.1)
+    (subst (λ n. reading.position < n) (sym r.length_) below) (here blocks told)
   where
-    few : (position n : ℕ) → position < n → position / 512 < pages_of n
-    few position n h = omega arith
+    few : (position n length pages : ℕ) → position < n → length ≡ n → pages ≡ pages_of length → position / 512 < pages
+    few position n length pages h l p = omega (arith, h, l, p)
 
--- ---- a page more
+-- ---- a page that is read
 
-upto : (j n : ℕ) → j < n + 1 → (j < n) ⊎ (j ≡ n)
-upto j zero h = inr (omega arith)
-upto zero (suc n) h = inl (omega arith)
-upto (suc j) (suc n) h = go (upto j n (omega arith)) where
-  go : (j < n) ⊎ (j ≡ n) → (suc j < suc n) ⊎ (suc j ≡ suc n)
-  go (inl less) = inl (omega (arith, less))
-  go (inr same) = inr (ap suc same)
-
-one_page_more : (blocks : List (List ℕ)) (pages : List ℕ) (read : ℕ) (page page' : List ℕ) → HasPages blocks pages read page → length page' ≡ 512
-    → block_at blocks (slice_index pages read) ≡ page' → HasPages blocks pages (read + 1) page'
-one_page_more blocks pages read page page' has long is = record {
-  whole = λ j h. go j (upto j read h);
-  last = λ i e. (let same : i ≡ read = omega (arith, e) in ap (λ k. block_at blocks (slice_index pages k)) same ∙ is);
-} where
-  go : (j : ℕ) → (j < read) ⊎ (j ≡ read) → length (block_at blocks (slice_index pages j)) ≡ 512
-  go j (inl less) = has.whole j less
-  go j (inr same) = ap (λ k. length (block_at blocks (slice_index pages k))) same ∙ ap length is ∙ long
-
-pub page_read : {D X : Type 0} (E : Type 0) (held : D → Option (List (List ℕ))) (x : X) (before after : Catalog D) (page page' : List ℕ) (reading : Reading)
-    → IsReading held before page reading → reading.pages ≤ reading.position / 512 → files_of after ≡ files_of before → length page' ≡ 512
+-- the text with the page of its position kept
+pub page_read : {D X : Type 0} (E : Type 0) (held : D → Option (List (List ℕ))) (x : X) (before after : Catalog D) (page page' : List ℕ) (reading : Reading) (i : ℕ)
+    → IsReading held before page reading → files_of after ≡ files_of before
     → WhereTold (held (drive_of (disk_of before))) (held (drive_of (disk_of after)))
-    (λ old new. (new ≡ old) × PageIs {X = X} {E = E} (Ok x) (file_titled reading.title (files_of before)) reading.pages page' old)
-    → IsReading held after page' (record reading { pages = reading.pages + 1 })
-page_read {D} {X} E held x before after page page' reading r behind same long reads = record {
+    (λ old new. (new ≡ old) × PageIs {X = X} {E = E} (Ok x) (file_titled reading.title (files_of before)) i page' old)
+    → IsReading held after page' (record reading { kept = Some i })
+page_read {D} {X} E held x before after page page' reading i r same reads = record {
   file = r.file;
   there = ap (file_titled reading.title) same ∙ r.there;
   text = r.text;
   length_ = r.length_;
   within = r.within;
-  least = omega (arith, behind);
-  most = omega (arith, r.most);
-  pages_ = λ blocks told.
-      (let now = told_now (held (drive_of (disk_of before))) (held (drive_of (disk_of after)))
-      (PageIs {X = X} {E = E} (Ok x) (file_titled reading.title (files_of before)) reading.pages page') reads blocks told in
-      one_page_more blocks r.file.pages reading.pages page page' (r.pages_ blocks now.0) long
-      (subst (λ o. PageIs {X = X} {E = E} (Ok x) o reading.pages page' blocks) r.there now.1));
+  kept = λ blocks told.
+      subst (λ o. PageIs {X = X} {E = E} (Ok x) o i page' blocks) r.there
+      (told_now (held (drive_of (disk_of before))) (held (drive_of (disk_of after)))
+      (λ old. PageIs {X = X} {E = E} (Ok x) (file_titled reading.title (files_of before)) i page' old) reads blocks told).1;
 }
-
--- the page of a position is one of the file's
-pub page_there : {D : Type 0} (held : D → Option (List (List ℕ))) (catalog : Catalog D) (page : List ℕ) (reading : Reading)
-    → IsReading held catalog page reading → reading.position < reading.length → reading.pages ≤ reading.position / 512
-    → IfSome (file_titled reading.title (files_of catalog)) (λ file. reading.pages < pages_of file.record_.length)
-page_there held catalog page reading r below behind =
-    subst (λ o. IfSome o (λ (file : StoredFile). reading.pages < pages_of file.record_.length)) (sym r.there)
-    (few reading.position r.file.record_.length reading.pages (subst (λ n. reading.position < n) (sym r.length_) below) behind)
-  where
-    few : (position n pages : ℕ) → position < n → pages ≤ position / 512 → pages < pages_of n
-    few position n pages h b = omega arith
 
 -- ---- a text at its start
 
@@ -165,9 +139,7 @@ text_ready held catalog page title = go (file_titled title (files_of catalog)) r
     text = text;
     length_ = refl;
     within = omega arith;
-    least = omega arith;
-    most = omega arith;
-    pages_ = λ blocks told. record { whole = λ i h. absurd (omega arith); last = λ i h. absurd (omega arith) };
+    kept = tt;
   }
   by_kind file there kind.Code text = tt
 

@@ -1,9 +1,13 @@
 -- The calls of the catalogue, on a system.
-use Rattle.std.specs.Prelude.{◌≡◌, Bool, true, false, Option, Some, None, Result, Ok, Err}
+use Rattle.std.specs.Prelude.{◌≡◌, ℕ, Bool, true, false, Option, Some, None, Result, Ok, Err}
+use Rattle.std.specs.Option.{option_map}
 use Rattle.edi_calls.specs.declared.ends.Outside.{Outside}
 use Rattle.edi_calls.specs.declared.ends.Outside.TheVariants as outside
 use Rattle.edi_catalog.specs.declared.ends.CatEnd.{CatEnd}
 use Rattle.edi_catalog.specs.declared.ends.CatEnd.TheVariants as cat
+use Rattle.edi_system.specs.State.{found_of}
+use Rattle.edi_system.specs.declared.ends.Stop.{Stop}
+use Rattle.edi_system.specs.declared.ends.Stop.TheVariants as stop
 use Rattle.edi_system.specs.declared.system.System.{System}
 
 -- the drive has failed
@@ -22,6 +26,11 @@ abbrev pub failed_at : {X : Type 0} → Result X CatEnd → Option Outside
 failed_at (Err cat.Fault) = Some outside.Drive
 failed_at other = None
 
+-- what is answered to a program, where the call was not refused: it was done, or the drive has failed
+abbrev pub done : {X : Type 0} → Result X CatEnd → Result (Option ℕ) Stop
+done (Ok x) = Ok (Some 1)
+done (Err why) = Err stop.Fault
+
 -- only the catalogue was used
 abbrev pub OnlyCatalog : {D S T P : Type 0} → System D S T P → System D S T P → Type 0
 OnlyCatalog before after = after ≡ record before { catalog = after.catalog; failed = after.failed }
@@ -37,3 +46,7 @@ OpenStays before after = (after.found ≡ before.found) × (after.buffer ≡ bef
 
 abbrev pub IsClosed : {D S T P : Type 0} → System D S T P → Type 0
 IsClosed system = (system.found ≡ None) × (system.buffer ≡ None)
+
+-- the found file stays with its position, and the buffer stays
+abbrev pub PlaceStays : {D S T P : Type 0} → System D S T P → System D S T P → Type 0
+PlaceStays before after = (option_map found_of after.found ≡ option_map found_of before.found) × (after.buffer ≡ before.buffer)

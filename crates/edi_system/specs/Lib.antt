@@ -4,3 +4,4 @@ pub mod Ends
 pub mod Parts
 pub mod Reading
 pub mod Catalogue
+pub mod AsCalls

@@ -1,6 +1,7 @@
 -- Reading a text of the catalogue.
-use Rattle.std.specs.Prelude.{◌≡◌, ℕ, ◌≤◌, Bool, true, false, if◌then◌else◌, List, slice_get, Option, Some, None, Result, Ok, Err, ⊤}
+use Rattle.std.specs.Prelude.{◌≡◌, ℕ, ◌≤◌, Bool, true, false, ◌==◌, if◌then◌else◌, List, slice_get, Option, Some, None, Result, Ok, Err, ⊤}
 use Rattle.std.specs.Option.{option_map, option_and_then}
+use Rattle.std.specs.Str.{bytes_eq}
 use Rattle.edi_told.specs.Faults.{Rose}
 use Rattle.edi_disk.specs.Shown.{drive_of, reference_of}
 use Rattle.edi_calls.specs.State.{Found, State, find_file, title_of}
@@ -18,7 +19,7 @@ use Rattle.edi_system.specs.declared.reading.Reading.{Reading}
 
 -- a text at its start
 abbrev pub begun : (title : List ℕ) → (length : ℕ) → Reading
-begun title length = record { title = title; position = 0; length = length; pages = 0 }
+begun title length = record { title = title; position = 0; length = length; kept = None }
 
 -- the text that is read where the catalogue tells this of the file of a title; a code is no text
 abbrev pub text_of : (title : List ℕ) → Option Entry → Option Reading
@@ -28,6 +29,24 @@ text_of title (Some entry) = if is_text entry.kind then Some (begun title entry.
 -- the text that is read where words spell a title
 abbrev pub text_spelled : (words : List ℕ) → List (Option StoredFile) → Option Reading
 text_spelled words files = option_and_then (λ title. text_of title (option_map entry_of (file_titled title files))) (title_of words)
+
+-- this page is kept
+abbrev pub is_kept : ℕ → Option ℕ → Bool
+is_kept page None = false
+is_kept page (Some other) = other == page
+
+-- ---- the file after a change of the catalogue
+
+-- the same, with no page kept
+abbrev pub forgotten : Reading → Reading
+forgotten reading = record reading { kept = None }
+
+-- the text, with no page kept, unless it has this title
+abbrev pub not_titled : (title : List ℕ) → Option Reading → Option Reading
+not_titled title None = None
+not_titled title (Some reading) = if bytes_eq reading.title title then None else Some (forgotten reading)
+
+-- ---- its bytes
 
 abbrev pub is_err : {X E : Type 0} → Result X E → Bool
 is_err (Ok x) = false

@@ -1,5 +1,5 @@
 -- What a system over its devices stands for: a catalogue of files, an input, a terminal and a printer.
-use Rattle.std.specs.Prelude.{◌≡◌, ℕ, suc, ◌+◌, ◌*◌, ◌≤◌, ◌<◌, Bool, List, length, slice_index, Option, Some, None, IfSome}
+use Rattle.std.specs.Prelude.{◌≡◌, ℕ, ◌≤◌, Bool, List, length, slice_index, Option, Some, None, IfSome}
 use Rattle.std.specs.Option.{option_map, option_and_then, ForSome}
 use Rattle.edi_disk.specs.Shown.{drive_of}
 use Rattle.edi_calls.specs.declared.kinds.FileKind.TheVariants as kind
@@ -87,21 +87,15 @@ state_of held left shown printed system =
 
 -- ---- what is known of a system that has not failed
 
--- So many pages of a file were read, the last of which is kept.
-pub record HasPages (blocks : List (List ℕ)) (pages : List ℕ) (read : ℕ) (page : List ℕ) : Type 0 where
-  pub whole : (i : ℕ) → i < read → length (block_at blocks (slice_index pages i)) ≡ 512
-  pub last : (i : ℕ) → suc i ≡ read → block_at blocks (slice_index pages i) ≡ page
-
--- A text of the catalogue is being read: its position is not behind its end, and the pages up to the position were read.
+-- A text of the catalogue is being read: its position is not behind its end, and where a page is kept, it is that page of the
+-- text.
 pub record IsReading {D : Type 0} (held : D → Option (List (List ℕ))) (catalog : Catalog D) (page : List ℕ) (reading : Reading) : Type 0 where
   pub file : StoredFile
   pub there : file_titled reading.title (files_of catalog) ≡ Some file
   pub text : file.record_.kind ≡ kind.Text
   pub length_ : file.record_.length ≡ reading.length
   pub within : reading.position ≤ reading.length
-  pub least : 512 * reading.pages ≤ reading.position + 512
-  pub most : reading.position ≤ 512 * reading.pages
-  pub pages_ : ForSome (held (drive_of (disk_of catalog))) (λ blocks. HasPages blocks file.pages reading.pages page)
+  pub kept : IfSome reading.kept (λ i. ForSome (held (drive_of (disk_of catalog))) (λ blocks. block_at blocks (slice_index file.pages i) ≡ page))
 
 -- A call may be made: nothing has failed, the catalogue is mounted, and the file that is being read is there.
 pub record IsReady {D S T P : Type 0} (held : D → Option (List (List ℕ))) (count : D → ℕ) (system : System D S T P) : Type 0 where

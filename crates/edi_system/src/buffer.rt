@@ -1,6 +1,8 @@
 //! The buffer of the file that is being written.
 
-ghost use Rattle.std.specs.Prelude.{◌≡◌, [], None, Some, IfOk};
+ghost use Rattle.std.specs.Prelude.{◌≡◌, ◌≤◌, [], None, Some, IfOk, IfSome, length};
+ghost use Rattle.std.specs.Option.{option_map};
+ghost use Rattle.edi_calls.specs.State.{most_bytes};
 ghost use Rattle.edi_system.specs.Buffers.{WritesTo};
 
 use crate::ends::Stop;
@@ -45,6 +47,18 @@ impl Buffer {
     {
         self.bytes.clear();
         self.begun = true;
+    }
+
+    /// The bytes of the buffer, at most 261,120, if there is one.
+    pub fn bytes(&self) -> Option<&[u8]>
+        ensures exact { option_map (λ bytes. bytes.now) result ≡ self.now }
+        ensures most { IfSome result (λ bytes. length bytes.now ≤ most_bytes) }
+    {
+        if self.begun {
+            Some(self.bytes.as_slice())
+        } else {
+            None
+        }
     }
 
     /// Drops the buffer.

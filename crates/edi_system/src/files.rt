@@ -4,22 +4,23 @@ ghost use Rattle.std.specs.Prelude.{◌≡◌, ◌≤◌, ◌<◌, ◌+◌, ◌-
 ghost use Rattle.std.specs.Option.{option_map};
 ghost use Rattle.edi_told.specs.Told.{WhereTold};
 ghost use Rattle.edi_calls.specs.State.{most_bytes, pages_of};
-ghost use Rattle.edi_catalog.specs.Changes.{Changes, deleted, kept_changed, kept_renamed, file_renamed, not_deleted, not_renamed, slots_changed};
+ghost use Rattle.edi_catalog.specs.Changes.{Changes, deleted, file_protected, file_renamed, kept_changed, kept_protected, kept_renamed, not_deleted, not_found, not_renamed, slots_changed};
 ghost use Rattle.edi_catalog.specs.Storing.{StoreChanges, blocks_free, not_stored};
 ghost use Rattle.edi_catalog.specs.Files.{entry_of, file_titled, FileIs, PageIs};
 ghost use Rattle.edi_image.specs.Stored.{blocks_taken};
 ghost use Rattle.edi_catalog.specs.Mounted.{files_of};
 ghost use Rattle.edi_system.specs.State.{catalog_in, drive_in, IsReady};
 ghost use Rattle.edi_system.specs.Ends.{Keeps};
-ghost use Rattle.edi_system.specs.Catalogue.{failed_at, is_drive_fault, is_refused, IsClosed, OnlyCatalog, OnlyFiles, OpenStays};
+ghost use Rattle.edi_system.specs.Catalogue.{failed_at, is_drive_fault, is_refused, IsClosed, OnlyCatalog, OnlyFiles, OpenStays, PlaceStays};
 
+use crate::reading::forget_page;
 use crate::system::{PAGE, System};
 use edi_calls::{FileKind, Outside};
 use edi_catalog::{CatEnd, Entry, Title};
 use edi_host::{Drive, Sink, Source};
 
-// The object that has failed in a call of the catalogue.
-fn failed_at<X>(answer: &Result<X, CatEnd>) -> Option<Outside>
+/// The object that has failed in a call of the catalogue.
+pub(crate) fn failed_at<X>(answer: &Result<X, CatEnd>) -> Option<Outside>
     ensures { result ≡ failed_at answer.now }
 {
     match answer {
@@ -34,8 +35,8 @@ fn failed_at<X>(answer: &Result<X, CatEnd>) -> Option<Outside>
     }
 }
 
-// The call is refused for a named reason.
-fn is_refused<X>(answer: &Result<X, CatEnd>) -> bool
+/// The call is refused for a named reason.
+pub(crate) fn is_refused<X>(answer: &Result<X, CatEnd>) -> bool
     ensures { result ≡ is_refused answer.now }
 {
     match answer {
@@ -132,6 +133,40 @@ impl<'a, D: Drive, S: Source, T: Sink, P: Sink> System<'a, D, S, T, P> {
         }
         self.found = None;
         self.buffer.leave();
+        answer
+    }
+
+    /// Protects the file with this title, which may be protected already. The found file, with its
+    /// position, and the buffer stay. The one refusal is `NoSuch`.
+    pub fn protect(&mut self, title: &Title) -> Result<(), CatEnd>
+        requires ready { IsReady D.held D.count self.old }
+        ensures changes { Changes D.held D.count D.faults result (not_found (file_titled title.now (files_of (catalog_in self.old))))
+            (kept_changed (kept_protected true) title.now (files_of (catalog_in self.old))) (slots_changed (file_protected true) title.now) (catalog_in self.old) (catalog_in self.new) }
+        ensures stays { PlaceStays self.old self.new }
+        ensures only { OnlyFiles self.old self.new }
+        ensures ready { is_drive_fault result ≡ false → IsReady D.held D.count self.new }
+        ensures keeps { Keeps D.faults S.faults T.faults P.faults (is_drive_fault result) self.old self.new }
+    {
+        let answer = self.catalog.protect(title);
+        self.failed = failed_at(&answer);
+        forget_page(&mut self.found);
+        answer
+    }
+
+    /// Takes the protection from the file with this title, which may have none. The found file, with its
+    /// position, and the buffer stay. The one refusal is `NoSuch`.
+    pub fn release(&mut self, title: &Title) -> Result<(), CatEnd>
+        requires ready { IsReady D.held D.count self.old }
+        ensures changes { Changes D.held D.count D.faults result (not_found (file_titled title.now (files_of (catalog_in self.old))))
+            (kept_changed (kept_protected false) title.now (files_of (catalog_in self.old))) (slots_changed (file_protected false) title.now) (catalog_in self.old) (catalog_in self.new) }
+        ensures stays { PlaceStays self.old self.new }
+        ensures only { OnlyFiles self.old self.new }
+        ensures ready { is_drive_fault result ≡ false → IsReady D.held D.count self.new }
+        ensures keeps { Keeps D.faults S.faults T.faults P.faults (is_drive_fault result) self.old self.new }
+    {
+        let answer = self.catalog.release(title);
+        self.failed = failed_at(&answer);
+        forget_page(&mut self.found);
         answer
     }
 

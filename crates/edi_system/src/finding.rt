@@ -1,10 +1,11 @@
 //! The found file.
 
-ghost use Rattle.std.specs.Prelude.{◌≡◌, ◌<◌, ◌*◌, false, length, IfOk, IfSome, IsSome};
+ghost use Rattle.std.specs.Prelude.{◌≡◌, ◌<◌, false, length, IfOk, IfSome, IsSome};
 ghost use Rattle.edi_told.specs.Told.{WhereTold};
 ghost use Rattle.edi_calls.specs.Calls.{find, more, read};
 ghost use Rattle.edi_system.specs.State.{state_of, IsReady};
 ghost use Rattle.edi_system.specs.Ends.{is_fault, Keeps, Reaches};
+ghost use Rattle.edi_system.specs.AsCalls.{KeepsDue};
 ghost use Rattle.edi_system.specs.Parts.{OnlyOpenFiles};
 ghost use Rattle.edi_system.specs.Reading.{LooksAt};
 
@@ -24,6 +25,7 @@ impl<'a, D: Drive, S: Source, T: Sink, P: Sink> System<'a, D, S, T, P> {
             (λ before after. Reaches (find words.now before) result before after) }
         ensures only { OnlyOpenFiles self.old self.new }
         ensures ready { IsReady D.held D.count self.new }
+        ensures due { KeepsDue T.taken self.old self.new }
         ensures keeps { Keeps D.faults S.faults T.faults P.faults (is_fault result) self.old self.new }
     {
         let found = text_spelled(&self.catalog, words);
@@ -39,7 +41,7 @@ impl<'a, D: Drive, S: Source, T: Sink, P: Sink> System<'a, D, S, T, P> {
             (λ before after. LooksAt result before.found before after) }
         ensures ready { is_fault result ≡ false → IsReady D.held D.count self.new }
         ensures inside { IfOk result (λ byte. IsSome byte → IfSome self.new.found (λ reading. reading.position < reading.length)) }
-        ensures loaded { IfOk result (λ byte. IsSome byte → IfSome self.new.found (λ reading. reading.position < 512 * reading.pages)) }
+        ensures due { KeepsDue T.taken self.old self.new }
         ensures keeps { Keeps D.faults S.faults T.faults P.faults (is_fault result) self.old self.new }
     {
         let Some(mut reading) = self.found.take() else {
@@ -63,6 +65,7 @@ impl<'a, D: Drive, S: Source, T: Sink, P: Sink> System<'a, D, S, T, P> {
         ensures exact { WhereTold (state_of D.held S.left T.taken P.taken self.old) (state_of D.held S.left T.taken P.taken self.new)
             (λ before after. Reaches (more before) result before after) }
         ensures ready { is_fault result ≡ false → IsReady D.held D.count self.new }
+        ensures due { KeepsDue T.taken self.old self.new }
         ensures keeps { Keeps D.faults S.faults T.faults P.faults (is_fault result) self.old self.new }
     {
         match self.next_found() {
@@ -77,6 +80,7 @@ impl<'a, D: Drive, S: Source, T: Sink, P: Sink> System<'a, D, S, T, P> {
         ensures exact { WhereTold (state_of D.held S.left T.taken P.taken self.old) (state_of D.held S.left T.taken P.taken self.new)
             (λ before after. Reaches (read before) result before after) }
         ensures ready { is_fault result ≡ false → IsReady D.held D.count self.new }
+        ensures due { KeepsDue T.taken self.old self.new }
         ensures keeps { Keeps D.faults S.faults T.faults P.faults (is_fault result) self.old self.new }
     {
         match self.next_found() {

@@ -2,6 +2,7 @@
 #![tactic(auto)]
 
 mod buffer;
+mod calls;
 mod ends;
 mod files;
 mod finding;

@@ -1,6 +1,6 @@
 //! Reading a text of the catalogue, page by page.
 
-ghost use Rattle.std.specs.Prelude.{◌≡◌, ◌*◌, ◌<◌, length, IfOk, OnOk, IsSome};
+ghost use Rattle.std.specs.Prelude.{◌≡◌, ◌/◌, ◌<◌, length, Some, IfOk, OnOk, IsSome};
 ghost use Rattle.std.specs.Option.{option_map};
 ghost use Rattle.edi_told.specs.Told.{WhereTold};
 ghost use Rattle.edi_disk.specs.Shown.{drive_of};
@@ -8,7 +8,7 @@ ghost use Rattle.edi_calls.specs.State.{title_of};
 ghost use Rattle.edi_catalog.specs.Files.{entry_of, file_titled};
 ghost use Rattle.edi_catalog.specs.Mounted.{IsMounted, disk_of, files_of};
 ghost use Rattle.edi_system.specs.State.{IsReading};
-ghost use Rattle.edi_system.specs.Reading.{byte_in, is_err, text_of, text_spelled, GivesByte, OnlyReads};
+ghost use Rattle.edi_system.specs.Reading.{byte_in, forgotten, is_err, is_kept, not_titled, text_of, text_spelled, GivesByte, OnlyReads};
 
 use crate::streams::character;
 use crate::system::PAGE;
@@ -25,12 +25,12 @@ pub(crate) struct Reading {
     pub position: u32,
     /// The number of its bytes.
     pub length: u32,
-    /// The number of its pages that were read, of which the last is kept.
-    pub pages: u32,
+    /// The number of the page that is kept, if one is.
+    pub kept: Option<u32>,
 }
 
-// The title that the words of a call spell, if they spell one.
-fn title_of(words: &[u16]) -> Option<Title>
+/// The title that the words of a call spell, if they spell one.
+pub(crate) fn title_of(words: &[u16]) -> Option<Title>
     requires { length words.now ≡ 12 }
     ensures { result ≡ title_of words.now }
 {
@@ -39,6 +39,16 @@ fn title_of(words: &[u16]) -> Option<Title>
         characters[place] = character(*word);
     }
     Title::new(&characters)
+}
+
+// Whether this page is kept.
+fn is_kept(kept: Option<u32>, page: u32) -> bool
+    ensures { result ≡ is_kept page kept }
+{
+    match kept {
+        Some(other) => other == page,
+        None => false,
+    }
 }
 
 // The text with this title, at its start. A code is no text.
@@ -53,7 +63,7 @@ fn text_titled<D: Drive>(catalog: &Catalog<'_, D>, title: Title) -> Option<Readi
             title,
             position: 0,
             length: entry.length,
-            pages: 0,
+            kept: None,
         }),
         FileKind::Code => None,
     }
@@ -70,7 +80,29 @@ pub(crate) fn text_spelled<D: Drive>(catalog: &Catalog<'_, D>, words: &[u16]) ->
     }
 }
 
-// Reads the page with the position of a text, unless it was read. The text is not at its end.
+/// Forgets the page of a text that is kept, since its file may have other blocks from now on.
+pub(crate) fn forget_page(found: &mut Option<Reading>)
+    ensures { found.new ≡ option_map forgotten found.old }
+{
+    if let Some(reading) = found {
+        reading.kept = None;
+    }
+}
+
+/// Drops a text where it has this title, and else forgets its page.
+pub(crate) fn drop_titled(found: &mut Option<Reading>, title: &Title)
+    ensures { found.new ≡ not_titled title.now found.old }
+{
+    if let Some(reading) = found {
+        if reading.title == *title {
+            *found = None;
+        } else {
+            reading.kept = None;
+        }
+    }
+}
+
+// Reads the page with the position of a text, unless it is kept. The text is not at its end.
 fn load<D: Drive>(
     catalog: &mut Catalog<'_, D>,
     reading: &mut Reading,
@@ -81,24 +113,25 @@ fn load<D: Drive>(
     requires more { reading.old.position < reading.old.length }
     ensures mounted { OnOk result (IsMounted D.held D.count catalog.new) }
     ensures reading { OnOk result (IsReading D.held catalog.new page.new reading.new) }
-    ensures loaded { OnOk result (reading.new.position < PAGE * reading.new.pages) }
-    ensures same { reading.new ≡ record reading.old { pages = reading.new.pages } }
+    ensures loaded { OnOk result (reading.new.kept ≡ Some (reading.new.position / PAGE)) }
+    ensures same { reading.new ≡ record reading.old { kept = reading.new.kept } }
     ensures reads { OnlyReads D.faults (is_err result) catalog.old catalog.new }
     ensures blocks { WhereTold (D.held (drive_of (disk_of catalog.old))) (D.held (drive_of (disk_of catalog.new))) (λ old new. new ≡ old) }
 {
-    if reading.position / (PAGE as u32) < reading.pages {
+    let wanted = reading.position / (PAGE as u32);
+    if is_kept(reading.kept, wanted) {
         return Ok(());
     }
-    match catalog.read_page(&reading.title, reading.pages, page) {
+    match catalog.read_page(&reading.title, wanted, page) {
         Ok(()) => {
-            reading.pages += 1;
+            reading.kept = Some(wanted);
             Ok(())
         }
         Err(why) => Err(why),
     }
 }
 
-/// The byte of a text at its position, or nothing at its end. The drive is read once for each page.
+/// The byte of a text at its position, or nothing at its end. While the text is read on, the drive is read once for each page.
 pub(crate) fn next_byte<D: Drive>(
     catalog: &mut Catalog<'_, D>,
     reading: &mut Reading,
@@ -109,8 +142,7 @@ pub(crate) fn next_byte<D: Drive>(
     ensures mounted { OnOk result (IsMounted D.held D.count catalog.new) }
     ensures reading { OnOk result (IsReading D.held catalog.new page.new reading.new) }
     ensures inside { IfOk result (λ byte. IsSome byte → reading.new.position < reading.new.length) }
-    ensures loaded { IfOk result (λ byte. IsSome byte → reading.new.position < PAGE * reading.new.pages) }
-    ensures same { reading.new ≡ record reading.old { pages = reading.new.pages } }
+    ensures same { reading.new ≡ record reading.old { kept = reading.new.kept } }
     ensures reads { OnlyReads D.faults (is_err result) catalog.old catalog.new }
     ensures byte { WhereTold (D.held (drive_of (disk_of catalog.old))) (D.held (drive_of (disk_of catalog.new)))
         (λ old new. (new ≡ old) × GivesByte result (byte_in old reading.old.title reading.old.position)) }

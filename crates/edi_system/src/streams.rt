@@ -6,6 +6,7 @@ ghost use Rattle.edi_host.specs.Streams.{Takes, next_fault};
 ghost use Rattle.edi_calls.specs.Calls.{accept, display, print, word_of};
 ghost use Rattle.edi_system.specs.State.{due_in, input_in, state_of, IsReady};
 ghost use Rattle.edi_system.specs.Ends.{is_fault, Keeps, Reaches};
+ghost use Rattle.edi_system.specs.AsCalls.{KeepsDue};
 ghost use Rattle.edi_system.specs.Parts.{due_after, line_end, OnlyInput, OnlyPrinter, OnlyTerminal, Prints, PrintsMore, Shows, ShowsMore};
 
 use crate::ends::Stop;
@@ -49,6 +50,7 @@ impl<'a, D: Drive, S: Source, T: Sink, P: Sink> System<'a, D, S, T, P> {
         ensures takes { WhereTold (S.left (input_in self.old)) (S.left (input_in self.new)) (Takes result) }
         ensures only { OnlyInput self.old self.new }
         ensures ready { next_fault result ≡ false → IsReady D.held D.count self.new }
+        ensures due { KeepsDue T.taken self.old self.new }
         ensures keeps { Keeps D.faults S.faults T.faults P.faults (next_fault result) self.old self.new }
     {
         match self.input.next() {
@@ -70,6 +72,7 @@ impl<'a, D: Drive, S: Source, T: Sink, P: Sink> System<'a, D, S, T, P> {
             (ShowsMore result bytes.now) }
         ensures only { OnlyTerminal self.old self.new }
         ensures ready { result ≡ true → IsReady D.held D.count self.new }
+        ensures due { KeepsDue T.taken self.old self.new }
         ensures keeps { Keeps D.faults S.faults T.faults P.faults (not result) self.old self.new }
     {
         let put = self.terminal.put(bytes);
@@ -92,6 +95,7 @@ impl<'a, D: Drive, S: Source, T: Sink, P: Sink> System<'a, D, S, T, P> {
             (PrintsMore result bytes.now) }
         ensures only { OnlyPrinter self.old self.new }
         ensures ready { result ≡ true → IsReady D.held D.count self.new }
+        ensures due { KeepsDue T.taken self.old self.new }
         ensures keeps { Keeps D.faults S.faults T.faults P.faults (not result) self.old self.new }
     {
         match self.printer.put(bytes).end {
@@ -126,6 +130,7 @@ impl<'a, D: Drive, S: Source, T: Sink, P: Sink> System<'a, D, S, T, P> {
         ensures exact { WhereTold (state_of D.held S.left T.taken P.taken self.old) (state_of D.held S.left T.taken P.taken self.new)
             (λ before after. Reaches (accept before) result before after) }
         ensures ready { is_fault result ≡ false → IsReady D.held D.count self.new }
+        ensures due { KeepsDue T.taken self.old self.new }
         ensures keeps { Keeps D.faults S.faults T.faults P.faults (is_fault result) self.old self.new }
     {
         match self.take() {
@@ -141,6 +146,7 @@ impl<'a, D: Drive, S: Source, T: Sink, P: Sink> System<'a, D, S, T, P> {
         ensures exact { WhereTold (state_of D.held S.left T.taken P.taken self.old) (state_of D.held S.left T.taken P.taken self.new)
             (λ before after. Reaches (display word before) result before after) }
         ensures ready { is_fault result ≡ false → IsReady D.held D.count self.new }
+        ensures due { KeepsDue T.taken self.old self.new }
         ensures keeps { Keeps D.faults S.faults T.faults P.faults (is_fault result) self.old self.new }
     {
         if self.show(&[character(word)]) {
@@ -156,6 +162,7 @@ impl<'a, D: Drive, S: Source, T: Sink, P: Sink> System<'a, D, S, T, P> {
         ensures exact { WhereTold (state_of D.held S.left T.taken P.taken self.old) (state_of D.held S.left T.taken P.taken self.new)
             (λ before after. Reaches (print word before) result before after) }
         ensures ready { is_fault result ≡ false → IsReady D.held D.count self.new }
+        ensures due { KeepsDue T.taken self.old self.new }
         ensures keeps { Keeps D.faults S.faults T.faults P.faults (is_fault result) self.old self.new }
     {
         if self.print_out(&[character(word)]) {

@@ -1,16 +1,33 @@
-//! Writing a file.
+//! Writing, storing and removing a file.
 
-ghost use Rattle.std.specs.Prelude.{◌≡◌, false};
+ghost use Rattle.std.specs.Prelude.{◌≡◌, false, length};
 ghost use Rattle.edi_told.specs.Told.{WhereTold};
-ghost use Rattle.edi_calls.specs.Calls.{fresh_buffer, write};
+ghost use Rattle.edi_calls.specs.Calls.{close, fresh_buffer, remove, write};
+ghost use Rattle.edi_system.specs.Catalogue.{done, is_refused, OnlyFiles};
 ghost use Rattle.edi_system.specs.State.{state_of, IsReady};
+ghost use Rattle.edi_system.specs.AsCalls.{KeepsDue};
 ghost use Rattle.edi_system.specs.Ends.{is_fault, Keeps, Reaches};
 ghost use Rattle.edi_system.specs.Parts.{OnlyOpenFiles};
 
 use crate::ends::Stop;
-use crate::streams::character;
+use crate::files::{failed_at, is_refused};
+use crate::reading::{drop_titled, title_of};
+use crate::streams::{character, word_of};
 use crate::system::System;
+use edi_calls::FileKind;
+use edi_catalog::CatEnd;
 use edi_host::{Drive, Sink, Source};
+
+// What a call of the catalogue answers to a program, where it was not refused.
+fn done(answer: Result<(), CatEnd>) -> Result<Option<u16>, Stop>
+    requires { is_refused answer ≡ false }
+    ensures { result ≡ done answer }
+{
+    match answer {
+        Ok(()) => Ok(Some(word_of(true))),
+        Err(_) => Err(Stop::Fault),
+    }
+}
 
 impl<'a, D: Drive, S: Source, T: Sink, P: Sink> System<'a, D, S, T, P> {
     /// Begins an empty file.
@@ -20,7 +37,8 @@ impl<'a, D: Drive, S: Source, T: Sink, P: Sink> System<'a, D, S, T, P> {
             (λ before after. Reaches (fresh_buffer before) result before after) }
         ensures only { OnlyOpenFiles self.old self.new }
         ensures ready { IsReady D.held D.count self.new }
-        ensures keeps { Keeps D.faults S.faults T.faults P.faults false self.old self.new }
+        ensures due { KeepsDue T.taken self.old self.new }
+        ensures keeps { Keeps D.faults S.faults T.faults P.faults (is_fault result) self.old self.new }
     {
         self.buffer.begin();
         Ok(None)
@@ -33,11 +51,62 @@ impl<'a, D: Drive, S: Source, T: Sink, P: Sink> System<'a, D, S, T, P> {
             (λ before after. Reaches (write word before) result before after) }
         ensures only { OnlyOpenFiles self.old self.new }
         ensures ready { IsReady D.held D.count self.new }
-        ensures keeps { Keeps D.faults S.faults T.faults P.faults false self.old self.new }
+        ensures due { KeepsDue T.taken self.old self.new }
+        ensures keeps { Keeps D.faults S.faults T.faults P.faults (is_fault result) self.old self.new }
     {
         match self.buffer.write(character(word)) {
             Ok(()) => Ok(None),
             Err(stop) => Err(stop),
         }
+    }
+
+    /// Stores the file that is being written as the text of a title, and tells whether that was done.
+    pub(crate) fn close(&mut self, words: &[u16]) -> Result<Option<u16>, Stop>
+        requires ready { IsReady D.held D.count self.old }
+        requires words { length words.now ≡ 12 }
+        ensures exact { WhereTold (state_of D.held S.left T.taken P.taken self.old) (state_of D.held S.left T.taken P.taken self.new)
+            (λ before after. Reaches (close words.now before) result before after) }
+        ensures only { OnlyFiles self.old self.new }
+        ensures ready { is_fault result ≡ false → IsReady D.held D.count self.new }
+        ensures due { KeepsDue T.taken self.old self.new }
+        ensures keeps { Keeps D.faults S.faults T.faults P.faults (is_fault result) self.old self.new }
+    {
+        let Some(bytes) = self.buffer.bytes() else {
+            return Err(Stop::NoFile);
+        };
+        let Some(title) = title_of(words) else {
+            return Ok(Some(word_of(false)));
+        };
+        let answer = self.catalog.store(&title, FileKind::Text, bytes);
+        self.failed = failed_at(&answer);
+        if is_refused(&answer) {
+            return Ok(Some(word_of(false)));
+        }
+        drop_titled(&mut self.found, &title);
+        self.buffer.leave();
+        done(answer)
+    }
+
+    /// Removes the file of a title, and tells whether that was done.
+    pub(crate) fn remove(&mut self, words: &[u16]) -> Result<Option<u16>, Stop>
+        requires ready { IsReady D.held D.count self.old }
+        requires words { length words.now ≡ 12 }
+        ensures exact { WhereTold (state_of D.held S.left T.taken P.taken self.old) (state_of D.held S.left T.taken P.taken self.new)
+            (λ before after. Reaches (remove words.now before) result before after) }
+        ensures only { OnlyFiles self.old self.new }
+        ensures ready { is_fault result ≡ false → IsReady D.held D.count self.new }
+        ensures due { KeepsDue T.taken self.old self.new }
+        ensures keeps { Keeps D.faults S.faults T.faults P.faults (is_fault result) self.old self.new }
+    {
+        let Some(title) = title_of(words) else {
+            return Ok(Some(word_of(false)));
+        };
+        let answer = self.catalog.delete(&title);
+        self.failed = failed_at(&answer);
+        if is_refused(&answer) {
+            return Ok(Some(word_of(false)));
+        }
+        drop_titled(&mut self.found, &title);
+        done(answer)
     }
 }

@@ -163,6 +163,8 @@ impl<'a, R: rt::Files> Drive for HostDrive<'a, R> {
 
     ghost counted = { λ s. tt };
 
+    ghost sized = { λ s. tt };
+
     fn blocks(&self) -> u32 {
         self.blocks
     }

@@ -1,7 +1,7 @@
 //! A drive in memory of which chosen calls fail.
 
-ghost use Rattle.std.specs.Prelude.{◌≡◌, ◌<◌, ◌%◌, IfOk, length};
-ghost use Rattle.edi_host.specs.Blocks.{blocks_of, bytes_of, drive_fault, resize_fault, written, ReadLeaves, ResizesOrNot};
+ghost use Rattle.std.specs.Prelude.{◌≡◌, ◌<◌, ◌%◌, IfOk, length, map};
+ghost use Rattle.edi_host.specs.Blocks.{block_of, blocks_of, bytes_of, drive_fault, resize_fault, written, ReadLeaves, ResizeLeaves, ResizesOrNot, WriteLeaves};
 ghost use Rattle.edi_host.specs.Plan.{planned, strikes, after_call};
 
 use crate::drive::{Drive, DriveEnd, ResizeEnd};
@@ -55,15 +55,20 @@ impl MemoryDrive {
 }
 
 impl Drive for MemoryDrive {
-    ghost use Rattle.std.specs.Prelude.{Some, length, refl};
+    ghost use Rattle.std.specs.Prelude.{Some, length, map};
+    ghost use Rattle.std.proofs.lemmas.List.{length-map};
+    ghost use Rattle.edi_host.specs.Blocks.{block_of};
+    ghost use Rattle.edi_host.specs.Sized.{all_are_blocks};
 
-    ghost held = { λ s. Some s.blocks };
+    ghost held = { λ s. Some (map block_of s.blocks) };
 
     ghost count = { λ s. length s.blocks };
 
     ghost faults = { λ s. s.plan.faults };
 
-    ghost counted = { λ s. refl };
+    ghost counted = { λ s. length-map s.blocks block_of };
+
+    ghost sized = { λ s. all_are_blocks s.blocks };
 
     fn blocks(&self) -> u32 {
         self.drive.blocks()
@@ -73,6 +78,7 @@ impl Drive for MemoryDrive {
         requires { n < length self.old.blocks }
         ensures fails { drive_fault result ≡ strikes self.old.plan }
         ensures leaves { ReadLeaves result n into.new self.old.blocks self.new.blocks }
+        ensures tells { ReadLeaves result n into.new (map block_of self.old.blocks) (map block_of self.new.blocks) }
         ensures lands { self.new.lands ≡ self.old.lands }
         ensures plan { self.new.plan ≡ after_call (strikes self.old.plan) self.old.plan }
     {
@@ -88,6 +94,7 @@ impl Drive for MemoryDrive {
         requires { n < length self.old.blocks }
         ensures fails { drive_fault result ≡ strikes self.old.plan }
         ensures leaves { self.new.blocks ≡ written (strikes self.old.plan) self.old.lands self.old.blocks n from.now }
+        ensures tells { WriteLeaves result n from.now (map block_of self.old.blocks) (map block_of self.new.blocks) }
         ensures lands { self.new.lands ≡ self.old.lands }
         ensures plan { self.new.plan ≡ after_call (strikes self.old.plan) self.old.plan }
     {
@@ -103,6 +110,7 @@ impl Drive for MemoryDrive {
     fn resize(&mut self, alloc: Global, n: u32) -> ResizeEnd
         ensures fails { resize_fault result ≡ strikes self.old.plan }
         ensures leaves { ResizesOrNot result n self.old.blocks self.new.blocks }
+        ensures tells { ResizeLeaves result n (map block_of self.old.blocks) (map block_of self.new.blocks) }
         ensures lands { self.new.lands ≡ self.old.lands }
         ensures plan { self.new.plan ≡ after_call (strikes self.old.plan) self.old.plan }
     {

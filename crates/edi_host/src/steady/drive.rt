@@ -1,7 +1,7 @@
 //! A drive in memory that never fails.
 
-ghost use Rattle.std.specs.Prelude.{◌≡◌, ◌%◌, IfOk, length};
-ghost use Rattle.edi_host.specs.Blocks.{blocks_of, bytes_of};
+ghost use Rattle.std.specs.Prelude.{◌≡◌, ◌<◌, ◌%◌, false, IfOk, length, map, slice_set};
+ghost use Rattle.edi_host.specs.Blocks.{block_of, blocks_of, bytes_of, resize_fault, ReadLeaves, ResizeLeaves, ResizesOrNot, WriteLeaves};
 
 use crate::drive::{Drive, DriveEnd, ResizeEnd};
 use std::alloc::{AllocError, Global};
@@ -48,31 +48,50 @@ impl SteadyDrive {
 }
 
 impl Drive for SteadyDrive {
-    ghost use Rattle.std.specs.Prelude.{Some, length, refl};
+    ghost use Rattle.std.specs.Prelude.{Some, length, map};
+    ghost use Rattle.std.proofs.lemmas.List.{length-map};
+    ghost use Rattle.edi_host.specs.Blocks.{block_of};
+    ghost use Rattle.edi_host.specs.Sized.{all_are_blocks};
 
-    ghost held = { λ s. Some s };
+    ghost held = { λ s. Some (map block_of s) };
 
     ghost count = { λ s. length s };
 
     ghost faults = { λ s. 0 };
 
-    ghost counted = { λ s. refl };
+    ghost counted = { λ s. length-map s block_of };
+
+    ghost sized = { all_are_blocks };
 
     fn blocks(&self) -> u32 {
         self.blocks.len() as u32
     }
 
-    fn read(&mut self, n: u32, into: &mut [u8; 512]) -> DriveEnd {
-        *into = self.blocks[n as usize];
+    fn read(&mut self, n: u32, into: &mut [u8; 512]) -> DriveEnd
+        requires { n < length self.old }
+        ensures ok { result ≡ DriveEnd.Ok }
+        ensures leaves { ReadLeaves result n into.new self.old self.new }
+        ensures tells { ReadLeaves result n into.new (map block_of self.old) (map block_of self.new) }
+    {
+        into.copy_from_slice(&self.blocks[n as usize]);
         DriveEnd::Ok
     }
 
-    fn write(&mut self, n: u32, from: &[u8; 512]) -> DriveEnd {
+    fn write(&mut self, n: u32, from: &[u8; 512]) -> DriveEnd
+        requires { n < length self.old }
+        ensures ok { result ≡ DriveEnd.Ok }
+        ensures leaves { self.new ≡ slice_set self.old n from.now }
+        ensures tells { WriteLeaves result n from.now (map block_of self.old) (map block_of self.new) }
+    {
         self.blocks[n as usize] = *from;
         DriveEnd::Ok
     }
 
-    fn resize(&mut self, alloc: Global, n: u32) -> ResizeEnd {
+    fn resize(&mut self, alloc: Global, n: u32) -> ResizeEnd
+        ensures works { resize_fault result ≡ false }
+        ensures leaves { ResizesOrNot result n self.old self.new }
+        ensures tells { ResizeLeaves result n (map block_of self.old) (map block_of self.new) }
+    {
         let _ = alloc;
         match self.blocks.resize(n as usize, [0; 512]) {
             Ok(()) => ResizeEnd::Ok,

@@ -1,7 +1,7 @@
 -- A stretch is one more instruction, until the last.
-use Rattle.std.proofs.Common.{arith}
+use Rattle.std.proofs.Common.{◌∙◌, arith}
 use Rattle.edi_kernel.specs.Stretch.{running_in}
-use Rattle.edi_kernel.proofs.Stretches.{told_more, told_last, unblamed, spends_less}
+use Rattle.edi_kernel.proofs.Stretches.{told_more, told_last, spends_less}
 use Rattle.edi_kernel.proofs.stretch.advance.Goals as goal
 
 pub returns-in-Some-clause-exact : goal.returns-in-Some-clause-exact
@@ -22,7 +22,9 @@ stretch-preserved g c = record {
       (λ s. running_in c.instruct.new.store c.instruct.new.progress.activity s c.instruct.new.progress.left)
       c.args.progress.now.cleared c.stretch.progress.cleared c.instruct.new.progress.cleared
       _ (g.C.Calls.state c.stretch.calls) _ c.stretch.invariant.reached c.in_default.ensures.exact;
-  working = unblamed _ _ _ c.in_default.ensures.blame;
+  working = c.in_default.ensures.blame;
+  references = c.in_default.ensures.references ∙ c.stretch.invariant.references;
+  lasting = λ n h. c.in_default.ensures.lasting n (c.stretch.invariant.lasting n h);
   ordered = c.in_default.ensures.ordered;
   less = omega (arith, c.in_default.ensures.less, c.stretch.invariant.less);
   later = λ outside. omega (arith, c.in_default.ensures.later outside, c.stretch.invariant.later outside);

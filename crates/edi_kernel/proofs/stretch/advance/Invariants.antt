@@ -1,4 +1,4 @@
-use Rattle.std.proofs.Common.{◌≡◌, ◌+◌, ◌-◌, ◌*◌, ◌≤◌, length, None}
+use Rattle.std.proofs.Common.{◌≡◌, ℕ, ◌+◌, ◌-◌, ◌*◌, ◌≤◌, length, None}
 use Rattle.edi_told.specs.Told.{WhereTold}
 use Rattle.edi_calls.specs.declared.ends.Outside.{Outside}
 use Rattle.edi_machine.specs.Activities.{IsOrdered}
@@ -10,7 +10,9 @@ invariant-stretch g l = record {
   reached : WhereTold (g.C.Calls.state l.initial.calls) (g.C.Calls.state l.calls) (λ s t.
       Reaches l.code.words l.live l.first (running_in l.initial.store l.initial.progress.activity s l.initial.progress.left) l.initial.progress.cleared
       (running_in l.store l.progress.activity t l.progress.left) l.progress.cleared);
-  working : g.C.Calls.failed l.calls ≡ None;
+  working : g.C.Calls.failed l.calls None;
+  references : g.C.Calls.references l.calls ≡ g.C.Calls.references l.initial.calls;
+  lasting : (n : ℕ) → g.C.Calls.lasting l.initial.calls n → g.C.Calls.lasting l.calls n;
   ordered : IsOrdered l.progress.activity;
   less : l.progress.left ≤ l.initial.progress.left;
   later : (outside : Outside) → g.C.Calls.faults l.initial.calls outside ≤ g.C.Calls.faults l.calls outside;

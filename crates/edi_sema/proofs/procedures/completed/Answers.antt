@@ -3,7 +3,7 @@ use Rattle.std.proofs.lemmas.Fn.{filter_same}
 use Rattle.std.specs.Prelude.{map}
 use Rattle.std.specs.Str.{bytes_eq}
 use Rattle.edi_static.specs.Views.{environment, begun_of}
-use Rattle.edi_sema.proofs.Completed.{without_mapped}
+use Rattle.edi_sema.proofs.Completing.{without_mapped}
 use Rattle.edi_sema.proofs.procedures.completed.Goals as goal
 
 pub returns : goal.returns

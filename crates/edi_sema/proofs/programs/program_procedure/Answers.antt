@@ -13,13 +13,11 @@ pub procedure_rest-requires-clause-depth : goal.procedure_rest-requires-clause-d
 procedure_rest-requires-clause-depth c =
     begins_deep (environment c.args.known.now) (environment c.begin_program.new.known) c.requires.stands c.in_ok-calls.ensures.begins
 
-pub returns-in_err-calls : goal.returns-in_err-calls
-returns-in_err-calls c =
+pub returns-in_err-calls-clause-exact : goal.returns-in_err-calls-clause-exact
+returns-in_err-calls-clause-exact c =
     let env = environment c.args.known.now in
     let p = out-Procedure c.args.procedure.now in
     let q = err_from_is_err_and c.from_residual.result c.from_residual.ensures.1 in
-    record {
-      exact = rw (q.1, q.2) (part_faults c.in_err-calls.field-0.0 _ _ c.in_err-calls.ensures.exact (λ why line e.
-          ap (λ p. spec.program_procedure p env) (procedure_seen c.args.procedure.now)
-          ∙ program_faults (heading_of p.heading) (declarations_of p.declarations) (list_of p.list) p.end env why line e));
-    }
+    rw (q.1, q.2) (part_faults c.in_err-calls.field-0.0 _ _ c.in_err-calls.ensures.exact (λ why line e.
+    ap (λ p. spec.program_procedure p env) (procedure_seen c.args.procedure.now)
+    ∙ program_faults (heading_of p.heading) (declarations_of p.declarations) (list_of p.list) p.end env why line e))

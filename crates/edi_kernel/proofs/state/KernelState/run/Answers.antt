@@ -1,7 +1,6 @@
 -- A run of the kernel is the machine's.
 use Rattle.std.proofs.Common.{refl, ap, arith, ◌∙◌, false}
 use Rattle.std.specs.Prelude.{is_some}
-use Rattle.edi_kernel.proofs.Stretches.{unblamed}
 use Rattle.edi_kernel.proofs.Rounds.{told_never, told_begins, told_ends, told_more}
 use Rattle.edi_kernel.proofs.state.KernelState.run.Goals as goal
 
@@ -15,6 +14,8 @@ rounds-init g c = record {
   kernel = record { table = c.start.ensures.kernel.table; taken = c.start.ensures.kernel.taken };
   taken = ap is_some c.start.ensures.taken;
   working = c.requires.working;
+  references = refl;
+  lasting = λ n h. h;
   used = omega (arith, c.if-bound-eq0.false);
   source = refl;
   drawn = omega arith;
@@ -33,7 +34,9 @@ pub rounds-preserved : goal.rounds-preserved
 rounds-preserved g c = record {
   kernel = c.in_default.ensures.kernel;
   taken = c.in_default.ensures.taken refl;
-  working = unblamed _ _ _ c.in_default.ensures.blame;
+  working = c.in_default.ensures.blame;
+  references = c.in_default.ensures.references ∙ c.rounds.invariant.references;
+  lasting = λ n h. c.in_default.ensures.lasting n (c.rounds.invariant.lasting n h);
   used = c.in_default.ensures.used;
   source = c.in_default.ensures.source ∙ c.rounds.invariant.source;
   drawn = omega (arith, c.in_default.ensures.drawn, c.in_default.ensures.spent refl, c.rounds.invariant.drawn);

@@ -1,4 +1,4 @@
-use Rattle.std.proofs.Common.{◌≡◌, ◌+◌, ◌-◌, ◌^◌, ◌<◌, ◌≤◌, None}
+use Rattle.std.proofs.Common.{◌≡◌, ℕ, ◌+◌, ◌-◌, ◌^◌, ◌<◌, ◌≤◌, None}
 use Rattle.std.specs.Prelude.{IsSome}
 use Rattle.edi_told.specs.Told.{WhereTold}
 use Rattle.edi_calls.specs.declared.ends.Outside.{Outside}
@@ -10,7 +10,9 @@ abbrev pub invariant-rounds : goal.invariant-rounds
 invariant-rounds g l = record {
   kernel : IsKernel l.self;
   taken : IsSome l.self.taken;
-  working : g.C.Calls.failed l.calls ≡ None;
+  working : g.C.Calls.failed l.calls None;
+  references : g.C.Calls.references l.calls ≡ g.C.Calls.references l.initial.calls;
+  lasting : (n : ℕ) → g.C.Calls.lasting l.initial.calls n → g.C.Calls.lasting l.calls n;
   used : l.self.used ≤ l.bound;
   source : l.choices.source ≡ l.initial.choices.source;
   drawn : l.choices.drawn + 1 ≤ l.initial.choices.drawn + l.self.used;

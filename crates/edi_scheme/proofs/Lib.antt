@@ -1,0 +1,13 @@
+pub mod Laid
+pub mod Lengths
+pub mod Standing
+pub mod Known
+pub mod Fine
+pub mod Blocks
+pub mod Positions
+pub mod Aims
+pub mod Leading
+pub mod Calls
+pub mod Checked
+pub mod Worded
+pub mod WordedBlocks

@@ -1,0 +1,12 @@
+pub mod Pieces
+pub mod Long
+pub mod Code
+pub mod Stands
+pub mod Lines
+pub mod Laws
+pub mod Sides
+pub mod Programs
+pub mod ProcessPrograms
+pub mod Rows
+pub mod ConstructRows
+pub mod ProcessRows

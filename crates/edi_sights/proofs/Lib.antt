@@ -1,0 +1,5 @@
+pub mod Folded
+pub mod Counted
+pub mod Walking
+pub mod Faulting
+pub mod Agreeing

@@ -1,0 +1,28 @@
+use Rattle.std.proofs.Common.{ap, ◌∙◌}
+use Rattle.std.specs.Prelude.{replicate}
+use Rattle.edi_system.proofs.Told.{told_map}
+use Rattle.edi_system.proofs.Calling.{answers, does, has_no_file, is_full}
+use Rattle.edi_system.proofs.calls.SystemCalls.call.Goals as goal
+
+pub returns-in-Ok-Some-clause-exact : goal.returns-in-Ok-Some-clause-exact
+returns-in-Ok-Some-clause-exact g c =
+    let filled = c.fill.ensures.after (λ y e. e) ∙ ap (λ n. replicate n c.in-Ok-Some.word) c.requires.answers in
+    told_map _ _ _ _
+    (answers c.args.number c.args.args.now c.fill.new.self c.in-Ok-Some.word c.in-Ok-Some.field-0 c.in-Ok-Some.field-0-is c.requires.from c.requires.to filled)
+    c.in-Ok-Some.ensures.exact
+
+pub returns-in-Ok-None-clause-exact : goal.returns-in-Ok-None-clause-exact
+returns-in-Ok-None-clause-exact g c =
+    told_map _ _ _ _
+    (does c.args.number c.args.args.now c.args.answer.now c.in-Ok-None.field-0 c.in-Ok-None.field-0-is c.requires.from c.requires.to c.requires.answers)
+    c.in-Ok-None.ensures.exact
+
+pub returns-in-Err-NoFile-clause-exact : goal.returns-in-Err-NoFile-clause-exact
+returns-in-Err-NoFile-clause-exact g c =
+    told_map _ _ _ _ (has_no_file c.args.number c.args.args.now c.args.answer.now c.in-Err-NoFile.field-0 c.in-Err-NoFile.field-0-is)
+    c.in-Err-NoFile.ensures.exact
+
+pub returns-in-Err-FileLimit-clause-exact : goal.returns-in-Err-FileLimit-clause-exact
+returns-in-Err-FileLimit-clause-exact g c =
+    told_map _ _ _ _ (is_full c.args.number c.args.args.now c.args.answer.now c.in-Err-FileLimit.field-0 c.in-Err-FileLimit.field-0-is)
+    c.in-Err-FileLimit.ensures.exact

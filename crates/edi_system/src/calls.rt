@@ -1,0 +1,69 @@
+//! The ten calls of a program.
+
+ghost use Rattle.std.specs.Prelude.{◌≡◌, ◌≤◌, false, length};
+ghost use Rattle.edi_told.specs.Told.{WhereTold};
+ghost use Rattle.edi_calls.specs.Calls.{argument_words, call};
+ghost use Rattle.edi_system.specs.State.{state_of, IsReady};
+ghost use Rattle.edi_system.specs.AsCalls.{KeepsDue};
+ghost use Rattle.edi_system.specs.Ends.{is_fault, Keeps, Reaches};
+
+use crate::ends::Stop;
+use crate::system::System;
+use edi_calls::{CallEnd, Calls};
+use edi_host::{Drive, Sink, Source};
+
+impl<'a, D: Drive, S: Source, T: Sink, P: Sink> System<'a, D, S, T, P> {
+    // Makes the call of this number.
+    fn step(&mut self, number: u8, args: &[u16]) -> Result<Option<u16>, Stop>
+        requires ready { IsReady D.held D.count self.old }
+        requires from { 1 ≤ number }
+        requires to { number ≤ 10 }
+        requires arguments { length args.now ≡ argument_words number }
+        ensures exact { WhereTold (state_of D.held S.left T.taken P.taken self.old) (state_of D.held S.left T.taken P.taken self.new)
+            (λ before after. Reaches (call number args.now before) result before after) }
+        ensures ready { is_fault result ≡ false → IsReady D.held D.count self.new }
+        ensures due { KeepsDue T.taken self.old self.new }
+        ensures keeps { Keeps D.faults S.faults T.faults P.faults (is_fault result) self.old self.new }
+    {
+        match number {
+            1 => self.accept(),
+            2 => self.display(args[0]),
+            3 => self.print(args[0]),
+            4 => self.find_text(args),
+            5 => self.more(),
+            6 => self.read(),
+            7 => self.fresh(),
+            8 => self.write(args[0]),
+            9 => self.close(args),
+            _ => self.remove(args),
+        }
+    }
+}
+
+impl<'a, D: Drive, S: Source, T: Sink, P: Sink> Calls for System<'a, D, S, T, P> {
+    ghost use Rattle.edi_system.specs.State.{faults_of, state_of};
+    ghost use Rattle.edi_system.specs.AsCalls.{HasFailed, IsDueSince, references_in};
+
+    ghost state = { λ system. state_of D.held S.left T.taken P.taken system };
+
+    ghost faults = { λ system. faults_of D.faults S.faults T.faults P.faults system };
+
+    ghost failed = { λ system outside. HasFailed D.held D.count system outside };
+
+    ghost references = { λ system. references_in system };
+
+    ghost lasting = { λ system start. IsDueSince T.taken system start };
+
+    fn call(&mut self, number: u8, args: &[u16], answer: &mut [u16]) -> CallEnd {
+        match self.step(number, args) {
+            Ok(Some(word)) => {
+                answer.fill(word);
+                CallEnd::Ok
+            }
+            Ok(None) => CallEnd::Ok,
+            Err(Stop::NoFile) => CallEnd::NoFile,
+            Err(Stop::FileLimit) => CallEnd::FileLimit,
+            Err(Stop::Fault) => CallEnd::OutsideFault,
+        }
+    }
+}

@@ -1,0 +1,5 @@
+use Rattle.std.proofs.Common.{None}
+use Rattle.edi_system_rows.proofs.calls.answered.Given as goal
+
+abbrev pub invariant-loop-i : goal.invariant-loop-i
+invariant-loop-i g l = g.C.Calls.failed l.calls None

@@ -1,0 +1,107 @@
+//! Calls of a program as values, so that an example is a table.
+
+ghost use Rattle.std.specs.Prelude.{◌≡◌, ◌≤◌, None, IsSome, length};
+ghost use Rattle.edi_calls.specs.Calls.{argument_words, answer_words};
+
+use edi_calls::{CallEnd, Calls};
+
+/// A call of a program.
+#[derive(Clone, Copy, Debug, Drop)]
+pub(crate) enum Call {
+    Accept,
+    Display(u16),
+    Print(u16),
+    Find(&'static str),
+    More,
+    Read,
+    Fresh,
+    Write(u16),
+    Close(&'static str),
+    Remove(&'static str),
+}
+
+/// How a call was answered.
+#[derive(Clone, Copy, Debug, PartialEq, Eq, Drop)]
+pub(crate) enum Answer {
+    /// Without an answer word.
+    Done,
+    /// By this word.
+    Word(u16),
+    NoFile,
+    FileLimit,
+}
+
+// A title as a program passes it, filled with blanks.
+fn name(title: &str) -> [u16; 12] {
+    let mut words = [32; 12];
+    for (word, byte) in words.iter_mut().zip(title.as_bytes()) {
+        *word = u16::from(*byte);
+    }
+    words
+}
+
+// Makes a call with an answer word; `None` where an object has failed.
+fn ask<C: Calls>(calls: &mut C, number: u8, args: &[u16]) -> Option<Answer>
+    requires from { 1 ≤ number }
+    requires to { number ≤ 10 }
+    requires arguments { length args.now ≡ argument_words number }
+    requires answer { answer_words number ≡ 1 }
+    requires working { C.failed calls.old None }
+    ensures working { IsSome result → C.failed calls.new None }
+{
+    let mut answer = [999; 1];
+    match calls.call(number, args, &mut answer) {
+        CallEnd::Ok => Some(Answer::Word(answer[0])),
+        CallEnd::NoFile => Some(Answer::NoFile),
+        CallEnd::FileLimit => Some(Answer::FileLimit),
+        CallEnd::OutsideFault => None,
+    }
+}
+
+// Makes a call without an answer word; `None` where an object has failed.
+fn tell<C: Calls>(calls: &mut C, number: u8, args: &[u16]) -> Option<Answer>
+    requires from { 1 ≤ number }
+    requires to { number ≤ 10 }
+    requires arguments { length args.now ≡ argument_words number }
+    requires answer { answer_words number ≡ 0 }
+    requires working { C.failed calls.old None }
+    ensures working { IsSome result → C.failed calls.new None }
+{
+    match calls.call(number, args, &mut []) {
+        CallEnd::Ok => Some(Answer::Done),
+        CallEnd::NoFile => Some(Answer::NoFile),
+        CallEnd::FileLimit => Some(Answer::FileLimit),
+        CallEnd::OutsideFault => None,
+    }
+}
+
+// Makes a call; `None` where an object has failed.
+fn make<C: Calls>(calls: &mut C, call: Call) -> Option<Answer>
+    requires working { C.failed calls.old None }
+    ensures working { IsSome result → C.failed calls.new None }
+{
+    match call {
+        Call::Accept => ask(calls, 1, &[]),
+        Call::Display(c) => tell(calls, 2, &[c]),
+        Call::Print(c) => tell(calls, 3, &[c]),
+        Call::Find(title) => ask(calls, 4, &name(title)),
+        Call::More => ask(calls, 5, &[]),
+        Call::Read => ask(calls, 6, &[]),
+        Call::Fresh => tell(calls, 7, &[]),
+        Call::Write(c) => tell(calls, 8, &[c]),
+        Call::Close(title) => ask(calls, 9, &name(title)),
+        Call::Remove(title) => ask(calls, 10, &name(title)),
+    }
+}
+
+/// How many of the calls are answered as the table says, from the first on. No call is made after one that is not.
+pub(crate) fn answered<C: Calls>(calls: &mut C, table: &[(Call, Answer)]) -> usize
+    requires working { C.failed calls.old None }
+{
+    for (i, (call, answer)) in table.iter().enumerate() {
+        if make(calls, *call) != Some(*answer) {
+            return i;
+        }
+    }
+    table.len()
+}
