@@ -1,5 +1,5 @@
 -- What the calls that change one file leave.
-use Rattle.std.proofs.Common.{◌≡◌, ℕ, suc, ◌<◌, ◌≤◌, inl, inr, Bool, true, false, List, [], ◌∷◌, length, set, get_or, refl, ap, sym, subst, ◌∙◌, arith}
+use Rattle.std.proofs.Common.{◌≡◌, ℕ, suc, ◌<◌, ◌≤◌, inl, inr, Bool, true, false, List, [], ◌∷◌, length, set, get_or, refl, ap, sym, subst, ◌∙◌, arith, ◌*◌, ◌/◌, ◌%◌}
 use Rattle.std.specs.Prelude.{◌&&◌, ◌==◌, nat_le, is_some, if◌then◌else◌, map, Option, Some, None, IfSome, Result, Ok, Err}
 use Rattle.std.specs.List.{list_all}
 use Rattle.std.specs.Option.{option_map, option_and_then}
@@ -16,15 +16,16 @@ use Rattle.edi_image.specs.Records.{FileRecord}
 use Rattle.edi_image.specs.Image.{slots_of}
 use Rattle.edi_image.specs.Stored.{StoredFile, is_record, is_stored, are_data, is_titled, IsKeptOf}
 use Rattle.edi_catalog.specs.Files.{find_place, file_titled}
-use Rattle.edi_catalog.specs.Mounted.{IsMounted, disk_of, files_of}
+use Rattle.edi_catalog.specs.Mounted.{AreEntries, IsMounted, disk_of, entry_blocks_of, files_of}
 use Rattle.edi_catalog.specs.Changes.{Answers, BeforeOrAfter, Changes, Leaves, Untouched, changed_at, kept_changed, not_deleted, not_renamed, slots_changed}
 use Rattle.edi_image.specs.Bytes.{bytes_of_slot}
-use Rattle.edi_catalog.specs.Writing.{is_protected, IsWritten, EntryLeaves, PutsEntry, kept_as, put_kept, file_as, put_file, IsRecordFor, IsRecordAt}
+use Rattle.edi_catalog.specs.Writing.{patched, is_protected, IsWritten, EntryLeaves, PutsEntry, kept_as, put_kept, file_as, put_file, IsRecordFor, IsRecordAt}
 use Rattle.edi_image.proofs.Spelled.{both}
 use Rattle.edi_catalog.proofs.FilePlaces.{kept_at}
 use Rattle.edi_image.proofs.Told.{told_same}
 use Rattle.edi_image.proofs.KeptFiles.{file_of, slots_are}
 use Rattle.edi_catalog.proofs.WholeFiles.{place_same}
+use Rattle.edi_catalog.proofs.EntryBlocks.{entries_over}
 use Rattle.edi_catalog.proofs.Changed.{IsChangedTo, written_changes, put_stored, record_room}
 
 -- ---- a slot that is written
@@ -39,6 +40,13 @@ has_catalogue count files place r all at =
     let room : 33 < count = record_room count file.record_ (both (is_record count file.record_) (are_data count file.pages) pages.0).0 in
     omega (arith, room)
 
+-- the blocks with the entries are kept
+pub slot_room : {D : Type 0} (held : D → Option (List (List ℕ))) (count : D → ℕ) (a : Catalog D) (place : ℕ) (r : Option FileRecord)
+    → IsMounted held count a → IsRecordAt (files_of a) place r → length (entry_blocks_of a) ≡ 32
+slot_room held count a place r mounted at =
+    mounted.room (let room : 33 ≤ count (drive_of (disk_of a)) = has_catalogue (count (drive_of (disk_of a))) (files_of a) place r mounted.stored at in
+    omega (arith, room))
+
 -- the slot as it is kept
 pub slot_kept : (files : List (Option StoredFile)) (place : ℕ) (x y taken there : Option StoredFile) (r : Option FileRecord) → length files ≡ 256 → place < 256
     → y ≡ kept_as r taken → taken ≡ there → there ≡ get_or files place there → set (set files place x) place y ≡ put_kept files place r
@@ -51,8 +59,9 @@ slot_kept files place x y taken there r many h kept took is =
 pub slot_done : {D X : Type 0} (held : D → Option (List (List ℕ))) (count faults : D → ℕ) (x : X) (place slot : ℕ) (entry : List ℕ) (r : Option FileRecord)
     (a b : Catalog D) → IsMounted held count a → place < 256 → IsRecordAt (files_of a) place r → length entry ≡ 64 → entry ≡ bytes_of_slot r
     → slot ≡ place → PutsEntry held count faults disk.Ok slot entry (disk_of a) (disk_of b) → files_of b ≡ put_kept (files_of a) place r
+    → entry_blocks_of b ≡ set (entry_blocks_of a) (place / 8) (patched (64 * (place % 8)) entry (get_or (entry_blocks_of a) (place / 8) []))
     → Changes held count faults (Ok x) None (put_kept (files_of a) place r) (put_file place r) a b
-slot_done {X = X} held count faults x place slot entry r a b mounted h at long is same puts files = record {
+slot_done {X = X} held count faults x place slot entry r a b mounted h at long is same puts files blocks = record {
   answers = (refl, files);
   untouched = tt;
   mounted = inr (record {
@@ -64,6 +73,11 @@ slot_done {X = X} held count faults x place slot entry r a b mounted h at long i
         ap (list_all (is_stored (count (drive_of (disk_of b))))) files
         ∙ subst (λ n. list_all (is_stored n) (put_kept (files_of a) place r) ≡ true) (sym puts.count_stays)
         (put_stored (count (drive_of (disk_of a))) (files_of a) place r mounted.stored at);
+    room = λ some. ap length blocks ∙ length-set (entry_blocks_of a) (place / 8) _ ∙ many;
+    entries = λ new e.
+        (let was = told (EntryLeaves disk.Ok slot entry) (held (drive_of (disk_of a))) (held (drive_of (disk_of b))) new puts.leaves e in
+        subst (λ es. AreEntries es new) (sym blocks)
+        (entries_over place entry (entry_blocks_of a) was.0 new h many (mounted.entries was.0 was.1) (subst (λ n. IsWritten n entry was.0 new) same was.2)));
     image = λ new e. (let was = written new e in subst (IsKeptOf new) (sym files) was.2.kept);
   });
   leaves =
@@ -74,6 +88,9 @@ slot_done {X = X} held count faults x place slot entry r a b mounted h at long i
   later = puts.later;
   cause = λ e. absurd (let not_err : Ok x ≡ Err cat.Fault = e in cc);
 } where
+  many : length (entry_blocks_of a) ≡ 32
+  many = slot_room held count a place r mounted at
+
   written : (new : List (List ℕ)) → held (drive_of (disk_of b)) ≡ Some new
       → (old : List (List ℕ)) × (held (drive_of (disk_of a)) ≡ Some old) × IsChangedTo (files_of a) place r old new
   written new e =

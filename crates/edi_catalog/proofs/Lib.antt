@@ -1,6 +1,7 @@
 pub mod Changed
 pub mod Changing
 pub mod Different
+pub mod EntryBlocks
 pub mod EntryFrames
 pub mod FilePlaces
 pub mod FileShape

@@ -1,5 +1,5 @@
 -- What a check leaves of the drive.
-use Rattle.std.proofs.Common.{◌≡◌, ℕ, ◌≤◌, Bool, true, false, List, length, refl, ap, sym, ◌∙◌, subst}
+use Rattle.std.proofs.Common.{◌≡◌, ℕ, ◌≤◌, ◌<◌, Bool, true, false, List, length, refl, ap, sym, ◌∙◌, subst}
 use Rattle.std.specs.Prelude.{Option, Some, None, ⊤}
 use Rattle.std.specs.Option.{option_map}
 use Rattle.edi_told.specs.Told.{WhereTold}
@@ -11,7 +11,7 @@ use Rattle.edi_image.specs.declared.faults.MountFault.{MountFault}
 use Rattle.edi_image.specs.declared.faults.MountFault.TheVariants as fault
 use Rattle.edi_image.specs.Image.{mount_fault_of}
 use Rattle.edi_image.specs.Stored.{IsKeptOf, is_stored}
-use Rattle.edi_catalog.specs.Mounted.{IsMounted, disk_of, files_of}
+use Rattle.edi_catalog.specs.Mounted.{AreEntries, IsMounted, disk_of, entry_blocks_of, files_of}
 use Rattle.edi_catalog.specs.declared.catalog.Catalog.{Catalog}
 use Rattle.std.specs.List.{list_all}
 use Rattle.edi_catalog.specs.Reads.{Checks}
@@ -101,9 +101,9 @@ first_found held count faults fault.NoMemory a b settled checks blocks told = tt
 
 -- a catalogue whose disk was only read
 pub still_mounted : {D : Type 0} (held : D → Option (List (List ℕ))) (count faults : D → ℕ) (one other : Catalog D) (P : List (List ℕ) → Type 0)
-    → files_of other ≡ files_of one → IsMounted held count one → Checks held count faults false (disk_of one) (disk_of other) P
+    → files_of other ≡ files_of one → entry_blocks_of other ≡ entry_blocks_of one → IsMounted held count one → Checks held count faults false (disk_of one) (disk_of other) P
     → IsMounted held count other
-still_mounted held count faults one other P same mounted checks = record {
+still_mounted held count faults one other P same entries_same mounted checks = record {
   works = checks.works refl;
   settled = still_settled held count faults (disk_of one) (disk_of other) P mounted.settled checks;
   many = ap length same ∙ mounted.many;
@@ -111,6 +111,10 @@ still_mounted held count faults one other P same mounted checks = record {
   stored =
       ap (list_all (is_stored (count (drive_of (disk_of other))))) same
       ∙ subst (λ n. list_all (is_stored n) (files_of one) ≡ true) (sym checks.count_stays) mounted.stored;
+  room = λ some. ap length entries_same ∙ mounted.room (subst (λ n. 0 < n) checks.count_stays some);
+  entries = λ blocks told.
+      subst (λ es. AreEntries es blocks) (sym entries_same)
+      (mounted.entries blocks (found_of held count faults (disk_of one) (disk_of other) P mounted.settled checks blocks told).0);
   image = λ blocks told.
       subst (λ fs. IsKeptOf blocks fs) (sym same)
       (mounted.image blocks (found_of held count faults (disk_of one) (disk_of other) P mounted.settled checks blocks told).0);

@@ -45,7 +45,7 @@ puts_only held count faults end numbers content many a b settled puts =
     (before.0, base, only_from_between numbers before.0 new (kept.on_drive new there)))
 
 -- on Ok they are put
-puts_there : {D : Type 0} (held : D → Option (List (List ℕ))) (count faults : D → ℕ) (numbers : List ℕ) (content : ℕ → List ℕ)
+pub puts_there : {D : Type 0} (held : D → Option (List (List ℕ))) (count faults : D → ℕ) (numbers : List ℕ) (content : ℕ → List ℕ)
     (many : ℕ) (a b : Disk D) → held (drive_of a) ≡ shown held a → held (drive_of b) ≡ shown held b
     → Puts held count faults disk.Ok numbers content many a b
     → WhereTold (held (drive_of a)) (held (drive_of b)) (ArePut numbers content many)

@@ -1,5 +1,5 @@
 -- The calls of the disk by which the entry of a slot is written.
-use Rattle.std.proofs.Common.{◌≡◌, ℕ, ◌+◌, ◌*◌, ◌/◌, ◌%◌, ◌-◌, ◌^◌, ◌≤◌, ◌⊎◌, inl, inr, Bool, true, false, List, length, min, refl, ap, sym, ◌∙◌, arith}
+use Rattle.std.proofs.Common.{◌≡◌, ℕ, ◌+◌, ◌*◌, ◌/◌, ◌%◌, ◌-◌, ◌^◌, ◌≤◌, ◌⊎◌, inl, inr, Bool, true, List, length, min, refl, ap, sym, ◌∙◌, arith}
 use Rattle.std.specs.Prelude.{◌==◌, Option, Some, slice_set, ⊤}
 use Rattle.std.specs.Str.{bytes_eq}
 use Rattle.std.proofs.lemmas.Bool.{and_from, eq-eqb}
@@ -14,26 +14,8 @@ use Rattle.edi_disk.specs.Since.{Kept, only}
 use Rattle.edi_disk.proofs.Since.{kept_settled, between_only}
 use Rattle.edi_disk.proofs.Writing.{told, where_told, shown_some}
 use Rattle.edi_image.specs.Entries.{block_at}
-use Rattle.edi_catalog.specs.Reads.{Checks}
 use Rattle.edi_catalog.specs.Writing.{patched, IsWritten, EntryLeaves, PutsEntry}
 use Rattle.edi_image.proofs.Told.{told_then}
-use Rattle.edi_catalog.proofs.Mounts.{same_blocks, told_now}
-
--- the block could not be read
-pub puts_unread : {D : Type 0} (held : D → Option (List (List ℕ))) (count faults : D → ℕ) (broke : Bool) (slot : ℕ) (entry : List ℕ) (a b : Disk D)
-    (P : List (List ℕ) → Type 0) → held (drive_of a) ≡ shown held a → broke ≡ true → Checks held count faults broke a b P
-    → PutsEntry held count faults disk.Fault slot entry a b
-puts_unread held count faults broke slot entry a b P settled fails checks = record {
-  same_reference = checks.same_reference;
-  count_stays = checks.count_stays;
-  later = checks.later;
-  cause = λ e. checks.cause fails;
-  works = λ e. absurd (let not_ok : disk.Fault ≡ disk.Ok = e in cc);
-  settled = λ e. absurd (let not_ok : disk.Fault ≡ disk.Ok = e in cc);
-  leaves =
-      where_told (EntryLeaves disk.Fault slot entry) (held (drive_of a)) (held (drive_of b))
-      (λ new e. (new, same_blocks held count faults broke a b P settled checks new e, inl refl));
-}
 
 -- From before to after one block is put, with these bytes, and on Ok it is written.
 pub record Puts {D : Type 0} (held : D → Option (List (List ℕ))) (count faults : D → ℕ) (end : DiskEnd) (n : ℕ) (bytes : List ℕ) (before after : Disk D) : Type 0 where
@@ -61,55 +43,57 @@ written_from slot n entry bytes read old new place long made is now =
           ∙ ap (slice_set old (1 + slot / 8)) (made ∙ ap (patched (64 * (slot % 8)) entry) (sym here));
     }
 
-leaves_ok : {D : Type 0} (held : D → Option (List (List ℕ))) (count faults : D → ℕ) (slot n : ℕ) (entry bytes read : List ℕ) (a b d : Disk D)
-    → held (drive_of a) ≡ shown held a → Checks held count faults false a b (λ blocks. block_at blocks n ≡ read) → n ≡ 1 + slot / 8
-    → length read ≡ 512 → bytes ≡ patched (64 * (slot % 8)) entry read → Puts held count faults disk.Ok n bytes b d
-    → WhereTold (held (drive_of a)) (held (drive_of d)) (EntryLeaves disk.Ok slot entry)
-leaves_ok held count faults slot n entry bytes read a b d settled checks place long made puts =
-    where_told (EntryLeaves disk.Ok slot entry) (held (drive_of a)) (held (drive_of d))
-    (λ new e. (let between = told (λ old new. new ≡ slice_set old n bytes) (shown held b) (shown held d) new (puts.shows refl) (sym (puts.settled refl) ∙ e) in
-    let was = told_now (shown held a) (shown held b) (λ blocks. block_at blocks n ≡ read) (checks.shows refl) between.0 between.1 in
-    (between.0, settled ∙ was.0, written_from slot n entry bytes read between.0 new place long made was.1 between.2)))
+-- what is known of the block that is put: it is the drive's, with the entry
+pub record IsOver (slot n : ℕ) (entry bytes read : List ℕ) : Type 0 where
+  pub place : n ≡ 1 + slot / 8
+  pub long : length read ≡ 512
+  pub made : bytes ≡ patched (64 * (slot % 8)) entry read
 
-leaves_fault : {D : Type 0} (held : D → Option (List (List ℕ))) (count faults : D → ℕ) (slot n : ℕ) (entry bytes read : List ℕ) (a b d : Disk D)
-    → held (drive_of a) ≡ shown held a → Checks held count faults false a b (λ blocks. block_at blocks n ≡ read) → n ≡ 1 + slot / 8
-    → length read ≡ 512 → bytes ≡ patched (64 * (slot % 8)) entry read → Puts held count faults disk.Fault n bytes b d
-    → WhereTold (held (drive_of a)) (held (drive_of d)) (EntryLeaves disk.Fault slot entry)
-leaves_fault held count faults slot n entry bytes read a b d settled checks place long made puts =
-    where_told (EntryLeaves disk.Fault slot entry) (held (drive_of a)) (held (drive_of d)) each where
+leaves_ok : {D : Type 0} (held : D → Option (List (List ℕ))) (count faults : D → ℕ) (slot n : ℕ) (entry bytes read : List ℕ) (b d : Disk D)
+    → held (drive_of b) ≡ shown held b → ((blocks : List (List ℕ)) → held (drive_of b) ≡ Some blocks → block_at blocks n ≡ read)
+    → IsOver slot n entry bytes read → Puts held count faults disk.Ok n bytes b d
+    → WhereTold (held (drive_of b)) (held (drive_of d)) (EntryLeaves disk.Ok slot entry)
+leaves_ok held count faults slot n entry bytes read b d settled kept over_it puts =
+    where_told (EntryLeaves disk.Ok slot entry) (held (drive_of b)) (held (drive_of d))
+    (λ new e. (let was = told (λ old new. new ≡ slice_set old n bytes) (shown held b) (shown held d) new (puts.shows refl) (sym (puts.settled refl) ∙ e) in
+    (was.0, settled ∙ was.1, written_from slot n entry bytes read was.0 new over_it.place over_it.long over_it.made (kept was.0 (settled ∙ was.1)) was.2)))
+
+leaves_fault : {D : Type 0} (held : D → Option (List (List ℕ))) (count faults : D → ℕ) (slot n : ℕ) (entry bytes read : List ℕ) (b d : Disk D)
+    → held (drive_of b) ≡ shown held b → ((blocks : List (List ℕ)) → held (drive_of b) ≡ Some blocks → block_at blocks n ≡ read)
+    → IsOver slot n entry bytes read → Puts held count faults disk.Fault n bytes b d
+    → WhereTold (held (drive_of b)) (held (drive_of d)) (EntryLeaves disk.Fault slot entry)
+leaves_fault held count faults slot n entry bytes read b d settled kept over_it puts =
+    where_told (EntryLeaves disk.Fault slot entry) (held (drive_of b)) (held (drive_of d)) each where
       ends : (old new : List (List ℕ)) → block_at old n ≡ read → (new ≡ old) ⊎ (new ≡ slice_set old n bytes) → EntryLeaves disk.Fault slot entry old new
       ends old new is (inl same) = inl same
-      ends old new is (inr wrote) = inr (written_from slot n entry bytes read old new place long made is wrote)
+      ends old new is (inr wrote) = inr (written_from slot n entry bytes read old new over_it.place over_it.long over_it.made is wrote)
 
       each : (new : List (List ℕ)) → held (drive_of d) ≡ Some new
-          → (old : List (List ℕ)) × (held (drive_of a) ≡ Some old) × EntryLeaves disk.Fault slot entry old new
+          → (old : List (List ℕ)) × (held (drive_of b) ≡ Some old) × EntryLeaves disk.Fault slot entry old new
       each new e =
-          let between = told (λ old new. ⊤) (shown held b) (shown held d) (over new d.cache) puts.told_too (shown_some held (drive_of d) d.cache new e) in
-          let was = told_now (shown held a) (shown held b) (λ blocks. block_at blocks n ≡ read) (checks.shows refl) between.0 between.1 in
-          let kept : Kept held between.0 (only n bytes) d =
-          puts.since between.0 (only n bytes) (only_itself n bytes)
-          (checks.since between.0 (only n bytes) (kept_settled held between.0 (only n bytes) a (settled ∙ was.0) was.0)) in
-          (between.0, settled ∙ was.0, ends between.0 new was.1 (between_only between.0 new n bytes (kept.on_drive new e)))
+          let was = told (λ old new. ⊤) (shown held b) (shown held d) (over new d.cache) puts.told_too (shown_some held (drive_of d) d.cache new e) in
+          let base : held (drive_of b) ≡ Some was.0 = settled ∙ was.1 in
+          let since : Kept held was.0 (only n bytes) d =
+          puts.since was.0 (only n bytes) (only_itself n bytes) (kept_settled held was.0 (only n bytes) b base was.1) in
+          (was.0, base, ends was.0 new (kept was.0 base) (between_only was.0 new n bytes (since.on_drive new e)))
 
--- the block was read, and then put
-pub puts_made : {D : Type 0} (held : D → Option (List (List ℕ))) (count faults : D → ℕ) (end : DiskEnd) (slot n : ℕ) (entry bytes read : List ℕ) (a b d : Disk D)
-    → held (drive_of a) ≡ shown held a → Checks held count faults false a b (λ blocks. block_at blocks n ≡ read) → n ≡ 1 + slot / 8
-    → length read ≡ 512 → bytes ≡ patched (64 * (slot % 8)) entry read → Puts held count faults end n bytes b d
-    → PutsEntry held count faults end slot entry a d
-puts_made held count faults end slot n entry bytes read a b d settled checks place long made puts = record {
-  same_reference = puts.same_reference ∙ checks.same_reference;
-  count_stays = puts.count_stays ∙ checks.count_stays;
-  later = omega (arith, checks.later, puts.later);
-  cause = λ e. (let later : faults (drive_of a) ≤ faults (drive_of b) = checks.later in
-      let rose : min (faults (drive_of b) + 1) (2 ^ 64 - 1) ≤ faults (drive_of d) = puts.cause e in omega arith);
+-- the block was put
+pub puts_made : {D : Type 0} (held : D → Option (List (List ℕ))) (count faults : D → ℕ) (end : DiskEnd) (slot n : ℕ) (entry bytes read : List ℕ) (b d : Disk D)
+    → held (drive_of b) ≡ shown held b → ((blocks : List (List ℕ)) → held (drive_of b) ≡ Some blocks → block_at blocks n ≡ read)
+    → IsOver slot n entry bytes read → Puts held count faults end n bytes b d → PutsEntry held count faults end slot entry b d
+puts_made held count faults end slot n entry bytes read b d settled kept over_it puts = record {
+  same_reference = puts.same_reference;
+  count_stays = puts.count_stays;
+  later = puts.later;
+  cause = puts.cause;
   works = puts.works;
   settled = puts.settled;
   leaves = go end puts;
 } where
   go : (end : DiskEnd) → Puts held count faults end n bytes b d
-      → WhereTold (held (drive_of a)) (held (drive_of d)) (EntryLeaves end slot entry)
-  go disk.Ok puts = leaves_ok held count faults slot n entry bytes read a b d settled checks place long made puts
-  go disk.Fault puts = leaves_fault held count faults slot n entry bytes read a b d settled checks place long made puts
+      → WhereTold (held (drive_of b)) (held (drive_of d)) (EntryLeaves end slot entry)
+  go disk.Ok puts = leaves_ok held count faults slot n entry bytes read b d settled kept over_it puts
+  go disk.Fault puts = leaves_fault held count faults slot n entry bytes read b d settled kept over_it puts
 
 -- ---- the put, and the flush behind it
 

@@ -1,5 +1,5 @@
 -- A store, from what it writes to what it leaves.
-use Rattle.std.proofs.Common.{◌≡◌, inl, inr, ℕ, ◌+◌, ◌-◌, ◌<◌, ◌≤◌, true, false, List, ◌++◌, length, set, replicate, refl, ap, sym, subst, ◌∙◌, arith, length-set, length-append}
+use Rattle.std.proofs.Common.{◌≡◌, inl, inr, ℕ, ◌+◌, ◌-◌, ◌<◌, ◌≤◌, true, false, List, ◌++◌, length, set, replicate, refl, ap, sym, subst, ◌∙◌, arith, length-set, length-append, ◌*◌, ◌/◌, ◌%◌, [], get_or}
 use Rattle.std.specs.Prelude.{IfSome, Option, Some, None, Ok, Err}
 use Rattle.std.specs.List.{list_all}
 use Rattle.edi_told.specs.Told.{WhereTold}
@@ -15,10 +15,10 @@ use Rattle.edi_catalog.specs.declared.catalog.Catalog.{Catalog}
 use Rattle.edi_image.specs.Image.{Holds, slots_of}
 use Rattle.edi_image.specs.Stored.{StoredFile, is_stored, IsKeptOf}
 use Rattle.edi_catalog.specs.Files.{entry_of, file_titled}
-use Rattle.edi_catalog.specs.Mounted.{IsMounted, disk_of, files_of}
+use Rattle.edi_catalog.specs.Mounted.{IsMounted, disk_of, files_of, AreEntries, entry_blocks_of}
 use Rattle.edi_catalog.specs.Changes.{Leaves}
 use Rattle.edi_image.specs.Bytes.{bytes_of_record, field_bytes}
-use Rattle.edi_catalog.specs.Writing.{is_protected}
+use Rattle.edi_catalog.specs.Writing.{is_protected, patched}
 use Rattle.edi_image.specs.Titles.{with_blanks}
 use Rattle.edi_image.specs.Build.{two}
 use Rattle.edi_image.specs.Records.{FileRecord}
@@ -32,6 +32,7 @@ use Rattle.edi_catalog.proofs.FileShape.{shape_of}
 use Rattle.edi_image.proofs.Spelled.{title_length}
 use Rattle.edi_catalog.proofs.StoredImage.{IsStoredIn, stored_holds}
 use Rattle.edi_catalog.proofs.Changed.{all_set}
+use Rattle.edi_catalog.proofs.EntryBlocks.{entries_over, entries_laid}
 
 -- what is known where a file is stored in a slot
 pub record Stores (count : ℕ) (files : List (Option StoredFile)) (title : List ℕ) (kind : FileKind) (bytes : List ℕ) (slot : ℕ) (file : StoredFile) : Type 0 where
@@ -128,8 +129,10 @@ module _ {D : Type 0} (held : D → Option (List (List ℕ))) (count faults : D 
   pub store_mounted : (one other : Catalog D) (title : List ℕ) (kind : FileKind) (bytes : List ℕ) (slot : ℕ) (file : StoredFile)
       → IsMounted held count one → Stores (count (drive_of (disk_of one))) (files_of one) title kind bytes slot file
       → WritesNew held count faults disk.Ok slot file bytes (disk_of one) (disk_of other)
-      → files_of other ≡ set (files_of one) slot (Some file) → IsMounted held count other
-  store_mounted one other title kind bytes slot file mounted stores writes now = record {
+      → files_of other ≡ set (files_of one) slot (Some file) → length (entry_blocks_of one) ≡ 32
+      → entry_blocks_of other ≡ set (entry_blocks_of one) (slot / 8) (patched (64 * (slot % 8)) (bytes_of_record file.record_) (get_or (entry_blocks_of one) (slot / 8) []))
+      → IsMounted held count other
+  store_mounted one other title kind bytes slot file mounted stores writes now many blocks_now = record {
     works = writes.works refl;
     settled = writes.settled refl;
     many = ap length now ∙ length-set (files_of one) slot (Some file) ∙ mounted.many;
@@ -138,6 +141,13 @@ module _ {D : Type 0} (held : D → Option (List (List ℕ))) (count faults : D 
         ap (list_all (is_stored (count (drive_of (disk_of other))))) now
         ∙ subst (λ n. list_all (is_stored n) (set (files_of one) slot (Some file)) ≡ true) (sym writes.count_stays)
         (all_set (is_stored (count (drive_of (disk_of one)))) (files_of one) slot (Some file) stores.all stores.laid.kept);
+    room = λ some. ap length blocks_now ∙ length-set (entry_blocks_of one) (slot / 8) _ ∙ many;
+    entries = λ blocks told.
+        (let old = writing.told (NewLeaves disk.Ok slot file bytes) (held (drive_of (disk_of one))) (held (drive_of (disk_of other))) blocks writes.leaves told in
+        subst (λ es. AreEntries es blocks) (sym blocks_now)
+        (entries_over slot (bytes_of_record file.record_) (entry_blocks_of one) old.2.laid blocks stores.within many
+        (entries_laid (count (drive_of (disk_of one))) (used_in (Some file)) (entry_blocks_of one) old.0 old.2.laid stores.laid.free.on_drive
+        old.2.put.others (mounted.entries old.0 old.1)) old.2.written));
     image = λ blocks told.
         (let old = writing.told (NewLeaves disk.Ok slot file bytes) (held (drive_of (disk_of one))) (held (drive_of (disk_of other))) blocks writes.leaves told in
         subst (IsKeptOf blocks) (sym now)
@@ -148,12 +158,13 @@ module _ {D : Type 0} (held : D → Option (List (List ℕ))) (count faults : D 
   pub changes_done : (one other : Catalog D) (title : List ℕ) (kind : FileKind) (bytes : List ℕ) (slot : ℕ) (file : StoredFile)
       → IsMounted held count one → Stores (count (drive_of (disk_of one))) (files_of one) title kind bytes slot file
       → WritesNew held count faults disk.Ok slot file bytes (disk_of one) (disk_of other)
-      → files_of other ≡ set (files_of one) slot (Some file)
+      → files_of other ≡ set (files_of one) slot (Some file) → length (entry_blocks_of one) ≡ 32
+      → entry_blocks_of other ≡ set (entry_blocks_of one) (slot / 8) (patched (64 * (slot % 8)) (bytes_of_record file.record_) (get_or (entry_blocks_of one) (slot / 8) []))
       → StoreChanges {X = Unit {0}} held count faults (Ok tt) None title kind bytes one other
-  changes_done one other title kind bytes slot file mounted stores writes now = record {
+  changes_done one other title kind bytes slot file mounted stores writes now many blocks_now = record {
     answers = (refl, record { file = file; entry_ = stores.entry; at = slot; place_ = stores.place; others = now });
     untouched = tt;
-    mounted = inr (store_mounted one other title kind bytes slot file mounted stores writes now);
+    mounted = inr (store_mounted one other title kind bytes slot file mounted stores writes now many blocks_now);
     leaves = store_done one other title kind bytes slot file mounted stores writes;
     same_reference = writes.same_reference;
     count_stays = writes.count_stays;

@@ -165,7 +165,7 @@ not_both numbers used n unused h =
     (λ there. let no : is_in n used ≡ false = not-true (is_in n used) (all_in (λ m. not (is_in m used)) numbers n unused there) in
     true≢false (sym h ∙ no))
 
-not_early : (count : ℕ) (numbers : List ℕ) (n : ℕ) → are_data count numbers ≡ true → n < 33 → is_in n numbers ≡ false
+pub not_early : (count : ℕ) (numbers : List ℕ) (n : ℕ) → are_data count numbers ≡ true → n < 33 → is_in n numbers ≡ false
 not_early count numbers n data_ h =
     false_from_ne_true (is_in n numbers)
     (λ there. let low : 33 ≤ n = leb-true 33 n (both (nat_le 33 n) (nat_lt n count) (all_in (is_data 33 count) numbers n data_ there)).0 in

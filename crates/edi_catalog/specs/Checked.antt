@@ -5,4 +5,4 @@ use Rattle.edi_catalog.specs.declared.mounting.Checked.{Checked}
 
 -- the catalogue of a disk, with what a check has found of its slots
 abbrev pub catalog_of : {D : Type 0} → Disk D → Checked → Catalog D
-catalog_of disk checked = record { disk = disk; files = checked.files }
+catalog_of disk checked = record { disk = disk; files = checked.files; entries = checked.entries }

@@ -21,12 +21,13 @@ use edi_image::{BLOCK, MOST_BYTES, StoredFile, Title, blocks_taken};
 /// The number of blocks of the catalogue of an image.
 const CATALOGUE: u32 = 33;
 
-/// The files of a disk, in 256 slots. All entries and page numbers are kept in memory, so that of the drive only pages of files
-/// are read, and the block with the entry that a call changes.
+/// The files of a disk, in 256 slots. All entries and page numbers are kept in memory, so that only the pages of files are
+/// read from the drive.
 #[derive(Drop)]
 pub struct Catalog<'a, D: Drive> {
     pub(crate) disk: Disk<'a, D>,
     pub(crate) files: Vec<Option<StoredFile>>,
+    pub(crate) entries: Vec<[u8; BLOCK]>,
 }
 
 impl<'a, D: Drive> Catalog<'a, D> {

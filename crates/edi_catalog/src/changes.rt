@@ -86,7 +86,12 @@ impl<'a, D: Drive> Catalog<'a, D> {
             (put_kept (files_of self.old) place entry) (put_file place entry) self.old self.new }
     {
         let bytes = slot_bytes(&entry);
-        match put_entry(&mut self.disk, place as u8, &bytes) {
+        match put_entry(
+            &mut self.disk,
+            &mut self.entries[place / 8],
+            place as u8,
+            &bytes,
+        ) {
             DiskEnd::Ok => {
                 let file = self.files[place].take();
                 self.files[place] = kept_as(entry, file);

@@ -6,6 +6,7 @@ mod changes;
 mod contents;
 mod ends;
 mod entry;
+mod entry_blocks;
 mod files;
 mod formatting;
 mod free;

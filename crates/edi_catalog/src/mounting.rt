@@ -10,15 +10,16 @@ ghost use Rattle.edi_image.specs.Image.{header_rules, entries_of, mount_fault_of
 ghost use Rattle.edi_image.specs.Stored.{is_stored, stored_of};
 ghost use Rattle.edi_image.specs.Finds.{Finds, failed};
 ghost use Rattle.edi_catalog.specs.Reads.{Checks};
-ghost use Rattle.edi_catalog.specs.Mounted.{IsMounted};
+ghost use Rattle.edi_catalog.specs.Mounted.{AreEntries, IsMounted};
 ghost use Rattle.edi_catalog.specs.Checked.{catalog_of};
 
 use crate::catalog::Catalog;
+use crate::entry_blocks::entry_blocks;
 use crate::reading::block;
 use crate::slots::{SLOTS, read_slots};
 use edi_disk::Disk;
 use edi_host::Drive;
-use edi_image::{MountFault, StoredFile, VERSION, free_slots, header_block};
+use edi_image::{BLOCK, FIRST, MountFault, StoredFile, VERSION, free_slots, header_block};
 use std::alloc::Global;
 
 /// The least number of blocks of an image.
@@ -66,6 +67,7 @@ fn read_image<D: Drive>(
     ensures checks { Checks D.held D.count D.faults (failed result) disk.old disk.new
         (λ blocks. Finds result (mount_fault_of blocks) (λ files. files.items ≡ map (stored_of blocks) (entries_of blocks))) }
     ensures many { IfOk result (λ files. length files.items ≡ SLOTS) }
+    ensures least { OnOk result (0 < D.count (drive_of disk.old) → FIRST ≤ D.count (drive_of disk.old)) }
     ensures most { OnOk result (D.count (drive_of disk.old) ≤ MOST) }
     ensures stored { IfOk result (λ files. list_all (is_stored (D.count (drive_of disk.old))) files.items ≡ true) }
     ensures short { 0 < D.count (drive_of disk.old) → D.count (drive_of disk.old) < LEAST → result ≡ Err MountFault.Short }
@@ -84,6 +86,30 @@ fn read_image<D: Drive>(
 #[derive(Drop)]
 pub struct Checked {
     pub(crate) files: Vec<Option<StoredFile>>,
+    pub(crate) entries: Vec<[u8; BLOCK]>,
+}
+
+// Checks the image of a disk, and gives all that is kept of it.
+fn read_disk<D: Drive>(alloc: Global, disk: &mut Disk<'_, D>) -> Result<Checked, MountFault>
+    requires works { IsWorking D.held D.count disk.old }
+    ensures checks { Checks D.held D.count D.faults (failed result) disk.old disk.new
+        (λ blocks. Finds result (mount_fault_of blocks)
+        (λ checked. (checked.files.items ≡ map (stored_of blocks) (entries_of blocks)) × AreEntries checked.entries.items blocks)) }
+    ensures many { IfOk result (λ checked. length checked.files.items ≡ SLOTS) }
+    ensures room { IfOk result (λ checked. 0 < D.count (drive_of disk.old) → length checked.entries.items ≡ 32) }
+    ensures most { OnOk result (D.count (drive_of disk.old) ≤ MOST) }
+    ensures stored { IfOk result (λ checked. list_all (is_stored (D.count (drive_of disk.old))) checked.files.items ≡ true) }
+    ensures short { 0 < D.count (drive_of disk.old) → D.count (drive_of disk.old) < LEAST → result ≡ Err MountFault.Short }
+    ensures long { MOST < D.count (drive_of disk.old) → result ≡ Err MountFault.Header }
+{
+    let files = match read_image(alloc, disk) {
+        Ok(files) => files,
+        Err(fault) => return Err(fault),
+    };
+    match entry_blocks(alloc, disk) {
+        Ok(entries) => Ok(Checked { files, entries }),
+        Err(fault) => Err(fault),
+    }
 }
 
 /// Checks the image of a disk, and makes room for all that is kept of it. Of the faults of the image the first is answered, in
@@ -105,8 +131,8 @@ pub fn check<D: Drive>(alloc: Global, disk: &mut Disk<'_, D>) -> Result<Checked,
     ensures later { D.faults (drive_of disk.old) ≤ D.faults (drive_of disk.new) }
     ensures cause { result ≡ Err MountFault.Fault → Rose (D.faults (drive_of disk.old)) (D.faults (drive_of disk.new)) }
 {
-    match read_image(alloc, disk) {
-        Ok(files) => Ok(Checked { files }),
+    match read_disk(alloc, disk) {
+        Ok(checked) => Ok(checked),
         Err(fault) => Err(fault),
     }
 }
@@ -119,5 +145,6 @@ pub fn mount<'a, D: Drive>(disk: Disk<'a, D>, checked: Checked) -> Catalog<'a, D
     Catalog {
         disk,
         files: checked.files,
+        entries: checked.entries,
     }
 }

@@ -1,9 +1,13 @@
 //! Putting the blocks of a file.
 
-ghost use Rattle.std.specs.Prelude.{◌≡◌, ◌≤◌, ◌+◌, ◌-◌, ◌*◌, true, length, Some};
+ghost use Rattle.std.specs.Prelude.{◌≡◌, ◌≤◌, ◌+◌, ◌-◌, ◌*◌, ◌/◌, ◌%◌, true, length, Some};
+ghost use Rattle.std.specs.Option.{ForSome};
 ghost use Rattle.edi_disk.specs.Shown.{drive_of, shown, IsWorking};
+ghost use Rattle.edi_image.specs.Bytes.{bytes_of_record};
+ghost use Rattle.edi_image.specs.Entries.{block_at};
 ghost use Rattle.edi_image.specs.Stored.{is_stored};
 ghost use Rattle.edi_catalog.specs.Plan.{are_different, content_of, used_in};
+ghost use Rattle.edi_catalog.specs.Writing.{patched};
 ghost use Rattle.edi_catalog.specs.Putting.{Puts, WritesNew};
 
 use crate::contents::{block_of, content_of};
@@ -11,7 +15,7 @@ use crate::writing::put_entry;
 use edi_calls::blocks_of;
 use edi_disk::{Disk, DiskEnd};
 use edi_host::Drive;
-use edi_image::{FIRST, StoredFile, entry_bytes};
+use edi_image::{BLOCK, FIRST, StoredFile, entry_bytes};
 
 // Puts the maps and the pages of a file, each in its block.
 fn put_blocks<D: Drive>(disk: &mut Disk<'_, D>, file: &StoredFile, bytes: &[u8]) -> DiskEnd
@@ -50,9 +54,11 @@ pub(crate) fn write_file<D: Drive>(
     }
 }
 
-/// Writes a new file to the drive: its maps and pages, then, once the drive has them, the entry of its slot.
+/// Writes a new file to the drive: its maps and pages, then, once the drive has them, the entry of its slot, in its block, which
+/// is kept.
 pub(crate) fn write_new<D: Drive>(
     disk: &mut Disk<'_, D>,
+    kept: &mut [u8; BLOCK],
     slot: u8,
     file: &StoredFile,
     bytes: &[u8],
@@ -63,10 +69,12 @@ pub(crate) fn write_new<D: Drive>(
     requires stored { is_stored (D.count (drive_of disk.old)) (Some file.now) ≡ true }
     requires different { are_different (used_in (Some file.now)) ≡ true }
     requires size { length bytes.now ≡ file.now.record_.length }
+    requires kept { ForSome (D.held (drive_of disk.old)) (λ blocks. block_at blocks (1 + slot / 8) ≡ kept.old) }
+    ensures kept { result ≡ DiskEnd.Ok → kept.new ≡ patched (64 * (slot % 8)) (bytes_of_record file.now.record_) kept.old }
     ensures writes { WritesNew D.held D.count D.faults result slot file.now bytes.now disk.old disk.new }
 {
     match write_file(disk, file, bytes) {
-        DiskEnd::Ok => put_entry(disk, slot, &entry_bytes(&file.record)),
+        DiskEnd::Ok => put_entry(disk, kept, slot, &entry_bytes(&file.record)),
         DiskEnd::Fault => DiskEnd::Fault,
     }
 }

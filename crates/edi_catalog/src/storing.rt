@@ -104,7 +104,13 @@ impl<'a, D: Drive> Catalog<'a, D> {
     {
         let count = self.disk.blocks();
         let file = lay_file(&self.files, count, title, kind, bytes.len() as u32);
-        match write_new(&mut self.disk, place as u8, &file, bytes) {
+        match write_new(
+            &mut self.disk,
+            &mut self.entries[place / 8],
+            place as u8,
+            &file,
+            bytes,
+        ) {
             DiskEnd::Ok => {
                 self.files[place] = Some(file);
                 Ok(())

@@ -1,4 +1,4 @@
-use Rattle.std.proofs.Common.{◌≡◌, ◌≤◌, true, refl, sym, subst, ap}
+use Rattle.std.proofs.Common.{◌≡◌, ◌≤◌, ◌<◌, true, refl, sym, subst, ap}
 use Rattle.std.specs.List.{list_all}
 use Rattle.edi_image.specs.Image.{mount_fault_of}
 use Rattle.edi_image.specs.Finds.{IsFirst, failed}
@@ -14,10 +14,12 @@ returns-in-Ok-clause-checked g c = record {
   many = c.in-Ok.ensures.many;
   most = subst (λ n. n ≤ 4096) (sym c.in-Ok.ensures.checks.count_stays) c.in-Ok.ensures.most;
   stored =
-      subst (λ n. list_all (is_stored n) c.in-Ok.files.items ≡ true) (sym c.in-Ok.ensures.checks.count_stays) c.in-Ok.ensures.stored;
+      subst (λ n. list_all (is_stored n) c.in-Ok.checked.files.items ≡ true) (sym c.in-Ok.ensures.checks.count_stays) c.in-Ok.ensures.stored;
   image = λ blocks told.
       (let found = found_of _ _ _ _ _ _ c.requires.settled c.in-Ok.ensures.checks blocks told in
-      record { valid = found.1.0; slots = found.1.1 });
+      record { valid = found.1.0; slots = found.1.1.0 });
+  room = λ some. c.in-Ok.ensures.room (subst (λ n. 0 < n) c.in-Ok.ensures.checks.count_stays some);
+  entries = λ blocks told. (found_of _ _ _ _ _ _ c.requires.settled c.in-Ok.ensures.checks blocks told).1.1.1;
 }
 
 pub returns-in-Ok-clause-leaves : goal.returns-in-Ok-clause-leaves
@@ -39,7 +41,7 @@ returns-in-Err-clause-cause g c = λ is. c.in-Err.ensures.checks.cause (ap faile
 pub returns-in-Err-clause-settled : goal.returns-in-Err-clause-settled
 returns-in-Err-clause-settled g c = λ fine.
     still_settled _ _ _ _ _ (λ blocks. IsFirst c.in-Err.fault (mount_fault_of blocks)) c.requires.settled
-    (subst (λ b. Checks g.D.Drive.held g.D.Drive.count g.D.Drive.faults b c.args.disk.now c.read_image.new.disk
+    (subst (λ b. Checks g.D.Drive.held g.D.Drive.count g.D.Drive.faults b c.args.disk.now c.read_disk.new.disk
     (λ blocks. IsFirst c.in-Err.fault (mount_fault_of blocks))) fine c.in-Err.ensures.checks)
 
 pub returns-in-Ok-clause-settled : goal.returns-in-Ok-clause-settled

@@ -1,22 +1,41 @@
-use Rattle.std.proofs.Common.{ap, subst, refl, ◌∙◌}
+use Rattle.std.proofs.Common.{◌+◌, ◌/◌, ◌*◌, ◌%◌, Some, ap, subst, refl, length, ◌∙◌, arith}
+use Rattle.edi_disk.specs.Shown.{drive_of}
+use Rattle.edi_disk.proofs.Writing as writing
 use Rattle.edi_image.specs.Stored.{StoredFile}
-use Rattle.edi_catalog.specs.Writing.{PutsEntry}
 use Rattle.edi_image.specs.Bytes.{bytes_of_record}
-use Rattle.edi_catalog.proofs.NewFile.{new_fails, new_entry}
+use Rattle.edi_catalog.specs.Plan.{ArePut, content_of, used_in}
+use Rattle.edi_catalog.specs.Writing.{PutsEntry, patched}
+use Rattle.edi_catalog.proofs.FileShape.{shape_of, used_data}
+use Rattle.edi_catalog.proofs.NewFile.{new_fails, new_entry, puts_there}
+use Rattle.edi_catalog.proofs.Unchanged.{not_early}
 use Rattle.edi_catalog.proofs.putting.write_new.Goals as goal
 
-pub returns-in-Ok : goal.returns-in-Ok
-returns-in-Ok g c = record {
-  writes =
-      new_entry g.D.Drive.held g.D.Drive.count g.D.Drive.faults c.put_entry.result c.args.slot c.args.file.now c.args.bytes.now
-      c.args.disk.now c.write_file.new.disk c.put_entry.new.disk c.requires.settled (c.in-Ok.ensures.settles refl) c.in-Ok.ensures.puts
-      (subst (λ e. PutsEntry g.D.Drive.held g.D.Drive.count g.D.Drive.faults c.put_entry.result c.args.slot e c.write_file.new.disk c.put_entry.new.disk)
-      (c.entry_bytes.ensures ∙ ap bytes_of_record (ap (λ (f : StoredFile). f.record_) c.file.view_is)) c.put_entry.ensures.puts);
-}
+pub put_entry-requires-clause-kept : goal.put_entry-requires-clause-kept
+put_entry-requires-clause-kept g c = λ laid told.
+    (let old = writing.told (ArePut (used_in (Some c.args.file.now)) (content_of c.args.file.now c.args.bytes.now) (length (used_in (Some c.args.file.now))))
+    (g.D.Drive.held (drive_of c.args.disk.now)) (g.D.Drive.held (drive_of c.write_file.new.disk)) laid
+    (puts_there g.D.Drive.held g.D.Drive.count g.D.Drive.faults _ _ _ c.args.disk.now c.write_file.new.disk c.requires.settled
+    (c.in-Ok.ensures.settles refl) c.in-Ok.ensures.puts) told in
+    old.2.others (1 + c.args.slot / 8)
+    (not_early (g.D.Drive.count (drive_of c.args.disk.now)) (used_in (Some c.args.file.now)) (1 + c.args.slot / 8)
+    (used_data (g.D.Drive.count (drive_of c.args.disk.now)) c.args.file.now
+    (shape_of (g.D.Drive.count (drive_of c.args.disk.now)) c.args.file.now c.requires.stored)) (omega arith))
+    ∙ c.requires.kept old.0 old.1)
 
-pub returns-in-Fault : goal.returns-in-Fault
-returns-in-Fault g c = record {
-  writes =
-      new_fails g.D.Drive.held g.D.Drive.count g.D.Drive.faults c.args.slot c.args.file.now c.args.bytes.now c.args.disk.now c.write_file.new.disk
-      c.requires.settled c.in-Fault.ensures.puts;
-}
+pub returns-in-Ok-clause-writes : goal.returns-in-Ok-clause-writes
+returns-in-Ok-clause-writes g c =
+    new_entry g.D.Drive.held g.D.Drive.count g.D.Drive.faults c.put_entry.result c.args.slot c.args.file.now c.args.bytes.now
+    c.args.disk.now c.write_file.new.disk c.put_entry.new.disk c.requires.settled (c.in-Ok.ensures.settles refl) c.in-Ok.ensures.puts
+    (subst (λ e. PutsEntry g.D.Drive.held g.D.Drive.count g.D.Drive.faults c.put_entry.result c.args.slot e c.write_file.new.disk c.put_entry.new.disk)
+    (c.entry_bytes.ensures ∙ ap bytes_of_record (ap (λ (f : StoredFile). f.record_) c.file.view_is)) c.put_entry.ensures.puts)
+
+pub returns-in-Ok-clause-kept : goal.returns-in-Ok-clause-kept
+returns-in-Ok-clause-kept g c = λ done.
+    c.put_entry.ensures.kept
+    ∙ ap (λ bytes. patched (64 * (c.args.slot % 8)) bytes c.args.kept.now)
+    (c.entry_bytes.ensures ∙ ap bytes_of_record (ap (λ (f : StoredFile). f.record_) c.file.view_is))
+
+pub returns-in-Fault-clause-writes : goal.returns-in-Fault-clause-writes
+returns-in-Fault-clause-writes g c =
+    new_fails g.D.Drive.held g.D.Drive.count g.D.Drive.faults c.args.slot c.args.file.now c.args.bytes.now c.args.disk.now c.write_file.new.disk
+    c.requires.settled c.in-Fault.ensures.puts

@@ -23,7 +23,7 @@ block-requires-clause-in_range g c =
 
 pub returns-in-Ok-clause-mounted : goal.returns-in-Ok-clause-mounted
 returns-in-Ok-clause-mounted g c =
-    inr (still_mounted _ _ _ c.args.self.now _ _ refl c.requires.mounted c.in-Ok.ensures.checks)
+    inr (still_mounted _ _ _ c.args.self.now _ _ refl refl c.requires.mounted c.in-Ok.ensures.checks)
 
 pub returns-in-Ok-clause-reads : goal.returns-in-Ok-clause-reads
 returns-in-Ok-clause-reads g c =
