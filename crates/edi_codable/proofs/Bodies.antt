@@ -2,7 +2,7 @@
 -- each mark that is still to come, never grow.
 use Rattle.std.proofs.Common.{◌≡◌, ℕ, zero, suc, ◌+◌, ◌*◌, ◌≤◌, Bool, true, false, List, [], ◌∷◌, ◌++◌, length, Option, Some, None, All, nat_lt, nat_le, ◌==◌, refl, arith, subst, sym}
 use Rattle.std.specs.Prelude.{slice_set}
-use Rattle.std.proofs.lemmas.List.{get_or_past}
+use Rattle.std.proofs.lemmas.List.{get_or_past, length-append}
 use Rattle.std.proofs.lemmas.List.Elements.{All-set, All-get_or, All-push}
 use Rattle.edi_lex.specs.declared.symbol.Symbol.TheVariants as is
 use Rattle.edi_tree.specs.declared.names.Name.{Name}
@@ -84,25 +84,30 @@ appended_most : (a s : Acts) → acts_most (acts_append a s) ≡ acts_most a + a
 appended_most no_act s = omega arith
 appended_most (act_then x a) s = omega (arith, appended_most a s)
 
--- the blocks take at most so many words
-abbrev pub Counted : ℕ → List Shape → List Block → Type 0
-Counted n types blocks = All BodyLines blocks × (total blocks ≤ n)
+-- the blocks take at most so many words, with 8 for each type
+pub record Counted (n : ℕ) (types : List Shape) (blocks : List Block) : Type 0 where
+  pub bodies : All BodyLines blocks
+  pub standard : 3 ≤ length types
+  pub within : total blocks + 8 * length types ≤ n
 
-pub typed : (n : ℕ) (types : List Shape) (blocks : List Block) (shape : Shape) → HasPart shape → Counted n types blocks → Counted n (types ++ shape ∷ []) blocks
-typed n types blocks shape part h = h
+pub typed : (n : ℕ) (types : List Shape) (blocks : List Block) (shape : Shape) → HasPart shape → Counted n types blocks → Counted (n + 8) (types ++ shape ∷ []) blocks
+typed n types blocks shape part h =
+    let one_more = length-append types (shape ∷ []) in
+    record { bodies = h.bodies; standard = omega (arith, h.standard, one_more); within = omega (arith, h.within, one_more) }
 
 pub varied : (m : ℕ) (types : List Shape) (blocks : List Block) (n : ℕ) (block : Block) → block.body ≡ (block_at blocks n).body → Counted m types blocks → Counted m types (slice_set blocks n block)
 varied m types blocks n block e h =
-    let body : ActsLines block.body = subst ActsLines (sym e) (at_lined blocks n h.0) in
+    let body : ActsLines block.body = subst ActsLines (sym e) (at_lined blocks n h.bodies) in
     let most : acts_most block.body ≤ acts_most (block_at blocks n).body + 0 = subst (λ s. acts_most s ≤ acts_most (block_at blocks n).body + 0) (sym e) (omega arith) in
-    (All-set BodyLines blocks n block body h.0, omega (arith, set_total blocks n block 0 most, h.1))
+    record { bodies = All-set BodyLines blocks n block body h.bodies; standard = h.standard; within = omega (arith, set_total blocks n block 0 most, h.within) }
 
 -- of a program that may take so many words
 module _ (budget : ℕ) where
   -- a place of the text, where so many words are spent on what belongs to no block yet
   pub record Good (spent : ℕ) (env : Environment) (front : List Spelled) : Type 0 where
     pub bodies : All BodyLines env.blocks
-    pub within : total env.blocks + spent + 8 * weight front ≤ budget
+    pub standard : 3 ≤ length env.types
+    pub within : total env.blocks + 8 * length env.types + spent + 8 * weight front ≤ budget
     pub lined : Lined front
 
   abbrev pub ActDone : ℕ → List Spelled → After Act → Type 0
@@ -122,7 +127,7 @@ module _ (budget : ℕ) where
   BranchesDone spent more done = Good (spent + 3 * length done.what) done.env more
 
   pub moved : {n m : ℕ} {env : Environment} {a b : List Spelled} → Good n env a → Lined b → m + 8 * weight b ≤ n + 8 * weight a → Good m env b
-  moved g h less = record { bodies = g.bodies; within = omega (arith, g.within, less); lined = h }
+  moved g h less = record { bodies = g.bodies; standard = g.standard; within = omega (arith, g.within, less); lined = h }
 
   -- ---- ends of blocks
 
@@ -132,13 +137,13 @@ module _ (budget : ℕ) where
       let body : ActsLines (acts_append old.body s) = appended_lines old.body s (at_lined env.blocks n g.bodies) h in
       let most : acts_most (acts_append old.body s) ≤ acts_most old.body + acts_most s = omega (arith, appended_most old.body s) in
       let all : total (add_statements n s env).blocks ≤ total env.blocks + acts_most s = set_total env.blocks n _ (acts_most s) most in
-      record { bodies = All-set BodyLines env.blocks n _ body g.bodies; within = omega (arith, g.within, all); lined = g.lined }
+      record { bodies = All-set BodyLines env.blocks n _ body g.bodies; standard = g.standard; within = omega (arith, g.within, all); lined = g.lined }
 
   need_good : (n line : ℕ) (env : Environment) (spent : ℕ) (front : List Spelled) → Good spent env front → Gives (λ e. Good spent e front) (with_need n line env)
   need_good n line env spent front g =
       ruled (λ e. Good spent e front) (nat_le (need env.types env.blocks n) greatest_size) kind.Range line _ (λ e.
-      let kept = varied (total env.blocks) env.types env.blocks n (record (block_at env.blocks n) { need = need env.types env.blocks n }) refl (g.bodies, omega arith) in
-      record { bodies = kept.0; within = omega (arith, g.within, kept.1); lined = g.lined })
+      let kept = varied (total env.blocks + 8 * length env.types) env.types env.blocks n (record (block_at env.blocks n) { need = need env.types env.blocks n }) refl (record { bodies = g.bodies; standard = g.standard; within = omega arith }) in
+      record { bodies = kept.bodies; standard = kept.standard; within = omega (arith, g.within, kept.within); lined = g.lined })
 
   pub close_good : (n : ℕ) (s : Acts) (line : ℕ) (env : Environment) (spent : ℕ) (front : List Spelled) → ActsLines s → Good (spent + acts_most s) env front → Gives (λ e. Good spent e front) (close_block n s line env)
   close_good n s line env spent front h g = need_good n line (add_statements n s env) spent front (add_good n s env spent front h g)
@@ -146,12 +151,12 @@ module _ (budget : ℕ) where
   leave_good : (before : Environment) (line : ℕ) (done : After Acts) (spent : ℕ) (front : List Spelled) → ActsDone spent front done → Gives (λ one. Good spent one.env front) (leave_branch before line done)
   leave_good before line done spent front h =
       bind (λ e. Good spent e front) (λ one. Good spent one.env front) (close_block (length before.blocks) done.what line done.env) _
-      (close_good (length before.blocks) done.what line done.env spent front h.0 h.1) (λ e k. record { bodies = k.bodies; within = k.within; lined = k.lined })
+      (close_good (length before.blocks) done.what line done.env spent front h.0 h.1) (λ e k. record { bodies = k.bodies; standard = k.standard; within = k.within; lined = k.lined })
 
   enter_good : (env : Environment) (spent : ℕ) (front more : List Spelled) → Good spent env front → Lined more → 2 + weight more ≤ weight front → Good spent (enter_branch env) more
   enter_good env spent front more g h less =
       let block : Block = begun_block block_kind.Branch (here env) None [] in
-      record { bodies = All-push BodyLines env.blocks block g.bodies tt; within = omega (arith, g.within, push_total env.blocks block, less); lined = h }
+      record { bodies = All-push BodyLines env.blocks block g.bodies tt; standard = g.standard; within = omega (arith, g.within, push_total env.blocks block, less); lined = h }
 
   -- ---- statements
 

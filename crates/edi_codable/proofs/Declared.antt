@@ -1,5 +1,5 @@
--- What constants, types, variables and headings keep of the types and blocks that are known: whatever is kept by a new type,
--- which has a part, and by a block that changes but for its body, is kept by each of them.
+-- What constants, types, variables and headings keep of the types and blocks that are known: whatever is kept by a block that
+-- changes but for its body is kept by each of them but types, and a type adds a shape that has a part.
 use Rattle.std.proofs.Common.{◌≡◌, ℕ, suc, ◌≤◌, Bool, true, false, List, [], ◌∷◌, ◌++◌, length, Option, nat_lt, nat_le, is_some, ◌||◌, ◌&&◌, ◌==◌, refl, arith}
 use Rattle.std.specs.Prelude.{int_le, not, slice_set}
 use Rattle.std.specs.List.{list_any}
@@ -53,11 +53,15 @@ record_filled env first more =
 -- ---- whatever is kept
 
 module _
-    (P : List Shape → List Block → Type 0)
-    (typed : (types : List Shape) (blocks : List Block) (shape : Shape) → HasPart shape → P types blocks → P (types ++ shape ∷ []) blocks)
+    (P Q : List Shape → List Block → Type 0)
+    (typed : (types : List Shape) (blocks : List Block) (shape : Shape) → HasPart shape → P types blocks → Q (types ++ shape ∷ []) blocks)
     (varied : (types : List Shape) (blocks : List Block) (n : ℕ) (block : Block) → block.body ≡ (block_at blocks n).body → P types blocks → P types (slice_set blocks n block)) where
   abbrev pub Kept : Environment → Type 0
   Kept env = P env.types env.blocks
+
+  -- after one more type
+  abbrev pub Grown : Environment → Type 0
+  Grown env = Q env.types env.blocks
 
   abbrev pub KeptListed : Listed → Type 0
   KeptListed listed = Kept listed.env
@@ -94,33 +98,33 @@ module _
       behind Kept (must (nat_lt n most_constants) kind.Range name.line) (λ _. gives e) (λ _. k)))
       (λ e k. enum_kept m of (suc n) ns e k)
 
-  type_kept : (m : Bool) (name : Name) (shape : Shape) (fields : List (List ℕ)) (env : Environment) → HasPart shape → Kept env → Gives Kept (declare_type m name shape fields env)
+  type_kept : (m : Bool) (name : Name) (shape : Shape) (fields : List (List ℕ)) (env : Environment) → HasPart shape → Kept env → Gives Grown (declare_type m name shape fields env)
   type_kept m name shape fields env part h =
-      ruled Kept (nat_le (shape_size (size env.types) shape) greatest_size) kind.Range name.line _ (λ _.
-      bind Kept Kept _ _ (declare_kept m name _ env h) (λ e k. typed e.types e.blocks shape part k))
+      ruled Grown (nat_le (shape_size (size env.types) shape) greatest_size) kind.Range name.line _ (λ _.
+      bind Kept Grown _ _ (declare_kept m name _ env h) (λ e k. typed e.types e.blocks shape part k))
 
-  enum_decl_kept : (m : Bool) (name : Name) (ns : text.Names) (env : Environment) → Kept env → Gives Kept (enum_decl m name ns env)
+  enum_decl_kept : (m : Bool) (name : Name) (ns : text.Names) (env : Environment) → Kept env → Gives Grown (enum_decl m name ns env)
   enum_decl_kept m name ns env h =
-      bind Kept Kept _ _
+      bind Kept Grown _ _
       (bind Kept Kept _ _ (declare_kept m name _ env h) (λ e k. enum_kept m _ 0 ns e k))
       (λ e k. typed e.types e.blocks (enumeration (names_count ns)) tt k)
 
-  array_kept : (m : Bool) (name : Name) (lower upper : Constant) (element : Name) (env : Environment) → Kept env → Gives Kept (array_decl m name lower upper element env)
+  array_kept : (m : Bool) (name : Name) (lower upper : Constant) (element : Name) (env : Environment) → Kept env → Gives Grown (array_decl m name lower upper element env)
   array_kept m name lower upper element env h =
-      behind Kept (constant env lower) _ (λ lo.
-      behind Kept (constant env upper) _ (λ hi.
-      behind Kept (type_named env element) _ (λ e.
-      ruled Kept (lo.of == hi.of) _ _ _ (λ _.
-      ruled Kept (int_le lo.ordinal hi.ordinal) _ _ _ (λ _. type_kept m name (array_of lo.of lo.ordinal hi.ordinal e) [] env tt h)))))
+      behind Grown (constant env lower) _ (λ lo.
+      behind Grown (constant env upper) _ (λ hi.
+      behind Grown (type_named env element) _ (λ e.
+      ruled Grown (lo.of == hi.of) _ _ _ (λ _.
+      ruled Grown (int_le lo.ordinal hi.ordinal) _ _ _ (λ _. type_kept m name (array_of lo.of lo.ordinal hi.ordinal e) [] env tt h)))))
 
-  set_decl_kept : (m : Bool) (name base : Name) (env : Environment) → Kept env → Gives Kept (set_decl m name base env)
+  set_decl_kept : (m : Bool) (name base : Name) (env : Environment) → Kept env → Gives Grown (set_decl m name base env)
   set_decl_kept m name base env h =
-      behind Kept (type_named env base) _ (λ b. ruled Kept (is_elementary env.types b) _ _ _ (λ _. type_kept m name (set_of b) [] env tt h))
+      behind Grown (type_named env base) _ (λ b. ruled Grown (is_elementary env.types b) _ _ _ (λ _. type_kept m name (set_of b) [] env tt h))
 
-  pub type_decl_kept : (m : Bool) (t : text.TypeDecl) (env : Environment) → Kept env → Gives Kept (type_decl m t env)
+  pub type_decl_kept : (m : Bool) (t : text.TypeDecl) (env : Environment) → Kept env → Gives Grown (type_decl m t env)
   type_decl_kept m (text.enum_decl name first more) env h = enum_decl_kept m name (text.next_name first more) env h
   type_decl_kept m (text.record_decl name first more) env h =
-      bind (Filled 1) Kept (fields_of_groups env (text.next_group first more) no_fields) _ (record_filled env first more) (λ fields k. type_kept m name (record_of fields.types) fields.names env k h)
+      bind (Filled 1) Grown (fields_of_groups env (text.next_group first more) no_fields) _ (record_filled env first more) (λ fields k. type_kept m name (record_of fields.types) fields.names env k h)
   type_decl_kept m (text.array_decl name line lower upper element) env h = array_kept m name lower upper element env h
   type_decl_kept m (text.set_decl name base) env h = set_decl_kept m name base env h
 

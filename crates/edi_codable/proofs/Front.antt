@@ -148,15 +148,19 @@ groups_front : (x : Groups) (more : List Spelled) → Front 0 (groups_then x mor
 groups_front no_group more = same more
 groups_front (next_group g gs) more = mark (two (group_front g (groups_then gs more)) (groups_front gs more))
 
-pub type_decl_front : (x : TypeDecl) (more : List Spelled) → Front 0 (type_decl_then x more) more
-type_decl_front (enum_decl n m ms) more = mark (mark (mark (mark (then_mark (names_front ms (just is.Close ∷ more))))))
+-- a word symbol in front
+worded : {n : ℕ} {s : Spelled} {a b : List Spelled} → Front n a b → size_of s.symbol ≡ 1 → Front 1 (s ∷ a) b
+worded x e = record { lined = λ h. x.lined h.1; fewer = omega (arith, x.fewer, e) }
+
+pub type_decl_front : (x : TypeDecl) (more : List Spelled) → Front 1 (type_decl_then x more) more
+type_decl_front (enum_decl n m ms) more = worded (mark (mark (mark (then_mark (names_front ms (just is.Close ∷ more)))))) refl
 type_decl_front (record_decl n g gs) more =
-    mark (mark (mark (two (group_front g (groups_then gs (just is.Close ∷ more))) (then_mark (groups_front gs (just is.Close ∷ more))))))
+    worded (mark (mark (two (group_front g (groups_then gs (just is.Close ∷ more))) (then_mark (groups_front gs (just is.Close ∷ more)))))) refl
 type_decl_front (array_decl n line lower upper e) more =
     let last : List Spelled = just is.CloseBracket ∷ just is.Open ∷ name_mark e ∷ just is.Close ∷ more in
     let x = then_mark (constant_front lower (just is.Colon ∷ constant_then upper last)) in
-    mark (mark (mark (two x (then_mark (then_mark (then_mark (then_mark (constant_front upper last))))))))
-type_decl_front (set_decl n b) more = mark (mark (mark (mark (mark (same more)))))
+    worded (mark (mark (two x (then_mark (then_mark (then_mark (then_mark (constant_front upper last)))))))) refl
+type_decl_front (set_decl n b) more = worded (mark (mark (mark (mark (same more))))) refl
 
 pub var_list_front : (x : VarList) (more : List Spelled) → Front 0 (var_list_then x more) more
 var_list_front (var_list g gs) more = mark (two (group_front g (groups_then gs more)) (groups_front gs more))

@@ -1,12 +1,15 @@
--- What is true of the unit of every sound program, beside that it fits.
+-- What is true of the unit of every sound program, and of its code.
 use Rattle.std.specs.Prelude.{◌*◌, ◌≤◌, length}
 use Rattle.edi_tree.specs.Tree.{Program}
 use Rattle.edi_tree.specs.Spells.{IsHeld}
 use Rattle.edi_unit.specs.Tree.{ProgramUnit}
-use Rattle.edi_static.specs.Programs.{Resolved}
+use Rattle.edi_unit.specs.Fits.{Fits}
+use Rattle.edi_static.specs.Programs.{Resolved, Sound}
+use Rattle.edi_target.specs.Check.{IsSound}
+use Rattle.edi_target.specs.Decode.{AreWords}
 use Rattle.edi_scheme.specs.Lines.{UnitLines}
 use Rattle.edi_scheme.specs.Code.{code_of}
-use Rattle.edi_scheme.specs.Laws.{HaveParts}
+use Rattle.edi_scheme.specs.Laws.{HaveParts, parts_of}
 
 -- each record of a sound program has a field
 abbrev pub RecordsHaveFields : Type 0
@@ -20,3 +23,15 @@ LinesAreSmall = (tree : Program) (unit : ProgramUnit) → ∥ IsHeld tree ∥₁
 -- code may have
 abbrev pub CodeIsShort : Type 0
 CodeIsShort = (tree : Program) (unit : ProgramUnit) → ∥ IsHeld tree ∥₁ → Resolved tree unit → length (code_of unit) ≤ 8 * 262144
+
+-- the unit of a sound program fits
+abbrev pub SoundUnitsFit : Type 0
+SoundUnitsFit = (tree : Program) (unit : ProgramUnit) → Sound tree → Resolved tree unit → Fits unit
+
+-- the code of a sound program has no fault
+abbrev pub SoundCode : Type 0
+SoundCode = (tree : Program) (unit : ProgramUnit) → Sound tree → Resolved tree unit → IsSound (parts_of unit)
+
+-- and the numbers in it are words
+abbrev pub CodeIsWords : Type 0
+CodeIsWords = (tree : Program) (unit : ProgramUnit) → Sound tree → Resolved tree unit → AreWords (code_of unit)

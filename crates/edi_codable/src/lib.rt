@@ -1,8 +1,16 @@
-//! What a code generator may count on in the resolved unit of a sound program, beside that the unit fits. The definitions and
-//! proofs are in `specs/` and `proofs/`; the functions here only state the laws.
+//! What a code generator may count on in the resolved unit of a sound program, and what follows for its code: the laws of
+//! `edi_scheme` without their premises. The definitions and proofs are in `specs/` and `proofs/`; the functions here only
+//! state the laws.
 #![tactic(auto)]
 
-ghost use Rattle.edi_codable.specs.Laws.{CodeIsShort, LinesAreSmall, RecordsHaveFields};
+ghost use Rattle.edi_codable.specs.Laws.{
+  CodeIsShort,
+  CodeIsWords,
+  LinesAreSmall,
+  RecordsHaveFields,
+  SoundCode,
+  SoundUnitsFit,
+};
 
 /// Each record of a sound program's unit has a field, so that each value of each type takes a word or more.
 pub fn records_have_fields()
@@ -19,4 +27,17 @@ pub fn lines_are_small()
 /// that spell symbols which `Symbols` can hold. So it is no longer than a code may be.
 pub fn code_is_short()
     ensures law { CodeIsShort }
+{}
+
+/// The resolved unit of a sound program fits: each number in it names a type, block or variable that is there, and types agree
+/// in every expression, statement and call.
+pub fn units_fit()
+    ensures law { SoundUnitsFit }
+{}
+
+/// The code of a sound program's unit has no fault: each instruction is one, each jump and call leads to an instruction that
+/// it may lead to, and it is not too long; and each number in it is a word.
+pub fn code_is_sound()
+    ensures sound { SoundCode }
+    ensures words { CodeIsWords }
 {}

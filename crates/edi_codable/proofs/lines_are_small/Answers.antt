@@ -1,4 +1,4 @@
-use Rattle.edi_codable.proofs.Wholes.{lines_are_small}
+use Rattle.edi_codable.proofs.Following.{lines_are_small}
 use Rattle.edi_codable.proofs.lines_are_small.Goals as goal
 
 pub returns : goal.returns
