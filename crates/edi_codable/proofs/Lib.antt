@@ -1,0 +1,8 @@
+pub mod Declared
+pub mod Fielded
+pub mod Front
+pub mod Most
+pub mod Costs
+pub mod Expressions
+pub mod Bodies
+pub mod Wholes
