@@ -2,8 +2,16 @@
 #![tactic(auto)]
 
 #[cfg(test)]
+mod calls;
+#[cfg(test)]
 mod judging;
 #[cfg(test)]
 mod limits;
 #[cfg(test)]
-mod tests;
+mod names;
+#[cfg(test)]
+mod programs;
+#[cfg(test)]
+mod sound;
+#[cfg(test)]
+mod types;

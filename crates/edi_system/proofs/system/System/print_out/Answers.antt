@@ -7,3 +7,10 @@ returns-in-Failed-clause-prints g c = record {
   part = record { within = c.put.ensures.within; all = λ e. absurd (let no : false ≡ true = e in cc) };
   told = c.put.ensures.appends;
 }
+
+pub returns-in-Ok-clause-prints : goal.returns-in-Ok-clause-prints
+returns-in-Ok-clause-prints g c = record {
+  taken = c.put.result.taken;
+  part = record { within = c.put.ensures.within; all = λ e. c.put.ensures.whole c.in-Ok.is };
+  told = c.put.ensures.appends;
+}

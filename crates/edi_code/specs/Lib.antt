@@ -1,0 +1,4 @@
+pub mod Scope
+pub mod Emits
+pub mod Writable
+pub mod InScope

@@ -1,0 +1,227 @@
+//! Sizes and lengths that depend on types, operators and kinds alone.
+
+ghost use Rattle.std.specs.Prelude.{◌≡◌, ◌≤◌, ◌<◌, ℕ, is_some, length, slice_get};
+ghost use Rattle.std.specs.Option.{option_map_or};
+ghost use Rattle.edi_unit.specs.Types.{IsTypeTable, field_type, greatest_size, is_set_shape, shape_at, size};
+ghost use Rattle.edi_unit.specs.Tree.{Clauses};
+ghost use Rattle.edi_unit.specs.View.{expressions_of};
+ghost use Rattle.edi_unit.specs.Need as need;
+ghost use Rattle.edi_scheme.specs.Long as long;
+ghost use Rattle.edi_scheme.specs.Pieces as pieces;
+ghost use Rattle.edi_scheme.specs.Pieces.{code_long};
+ghost use Rattle.edi_code.specs.Scope.{IsScope, blocks_in, choice_of, is_end, types_in};
+ghost use Rattle.edi_code.specs.InScope as in_scope;
+
+use crate::scope::{Closing, Scope};
+use edi_unit::{
+    Callee, INT, Operator, Parameter, Shape, TypeTable, Value, Values, outer, slot, type_words,
+};
+
+// The words that each instance of a block keeps besides its variables.
+const LINK_WORDS: u32 = 5;
+
+/// Whether type `of` is a set.
+pub fn is_set(types: &TypeTable, of: u32) -> bool
+    ensures exact { result ≡ is_set_shape (shape_at types.now of) }
+{
+    of < types.len() && matches!(types.shape(of), Shape::Set(_))
+}
+
+/// The type of a variable.
+pub fn slot_type(variable: Option<Parameter>) -> u32
+    ensures exact { result ≡ need.slot_type variable }
+{
+    match variable {
+        Some(Parameter::Value(of) | Parameter::Var(of)) => of,
+        _ => INT,
+    }
+}
+
+/// Whether a variable keeps the address of the one that it means.
+pub fn is_address(variable: Option<Parameter>) -> bool
+    ensures exact { result ≡ pieces.is_address variable }
+{
+    matches!(variable, Some(Parameter::Var(_)))
+}
+
+/// Whether all of these are constants, whose code is one text.
+pub fn are_constants(values: &Values) -> bool
+    ensures exact { result ≡ is_some (pieces.constant_words (expressions_of values.now)) }
+{
+    for value in values.items() {
+        if !matches!(value, Value::Constant { .. }) {
+            return false;
+        }
+    }
+    true
+}
+
+// ---- lengths
+
+/// The words of a call.
+pub fn call_long(callee: Callee) -> u32
+    ensures exact { result ≡ long.call_long callee }
+    ensures small { result ≤ 5 }
+{
+    match callee {
+        Callee::Block { .. } => 5,
+        Callee::Formal { .. } => 4,
+    }
+}
+
+/// The words of a procedure that is passed on.
+pub fn procedure_long(callee: Callee) -> u32
+    ensures exact { result ≡ long.procedure_long callee }
+    ensures small { result ≤ 5 }
+{
+    match callee {
+        Callee::Block { .. } => 4,
+        Callee::Formal { .. } => 5,
+    }
+}
+
+/// The words that give the address of a variable.
+pub fn variable_long(variable: Option<Parameter>) -> u32
+    ensures exact { result ≡ code_long (pieces.variable_code 0 0 variable) }
+    ensures small { result ≤ 5 }
+{
+    if is_address(variable) { 5 } else { 3 }
+}
+
+/// The words that go from an array of type `of` to an element.
+pub fn element_long(types: &TypeTable, of: u32) -> u32
+    ensures exact { (line : ℕ) → result ≡ code_long (pieces.element_code types.now (shape_at types.now of) line) }
+    ensures small { result ≤ 5 }
+{
+    if of >= types.len() {
+        return 0;
+    }
+    match types.shape(of) {
+        Shape::Array { .. } => 5,
+        _ => 0,
+    }
+}
+
+/// The words that hold an ordinal to type `of`.
+pub fn check_long(types: &TypeTable, of: u32) -> u32
+    ensures exact { (line : ℕ) → result ≡ code_long (pieces.check_code (shape_at types.now of) line) }
+    ensures small { result ≤ 4 }
+{
+    if of >= types.len() {
+        return 0;
+    }
+    match types.shape(of) {
+        Shape::Char | Shape::Bool | Shape::Enum(_) => 4,
+        _ => 0,
+    }
+}
+
+/// The words before a right operand.
+pub fn decision_long(operator: Operator) -> u32
+    ensures exact { (behind : ℕ) → result ≡ code_long (pieces.decision operator behind) }
+    ensures small { result ≤ 3 }
+{
+    match operator {
+        Operator::And | Operator::Or => 3,
+        _ => 0,
+    }
+}
+
+/// The words of an operator behind its operands, the left one of type `left`.
+pub fn operation_long(types: &TypeTable, left: u32, operator: Operator) -> u32
+    ensures exact { (line : ℕ) → result ≡ code_long (pieces.operation types.now left operator line) }
+    ensures small { result ≤ 2 }
+{
+    match operator {
+        Operator::Equal | Operator::NotEqual | Operator::Div | Operator::Mod => 2,
+        Operator::Plus | Operator::Minus | Operator::Times => 2 - u32::from(is_set(types, left)),
+        Operator::And | Operator::Or => 0,
+        _ => 1,
+    }
+}
+
+/// The words that close the list of a clause; `last` tells whether no clause follows.
+pub fn close_long(closing: Closing, last: bool) -> u32
+    ensures exact { (target : ℕ) (clauses : Clauses) → last ≡ is_end clauses → result ≡ code_long (pieces.close_code (choice_of closing) target clauses) }
+    ensures small { result ≤ 4 }
+{
+    match closing {
+        Closing::Once => { if last { 0 } else { 3 } }
+        Closing::Repeated => 3,
+        Closing::Released => 4,
+    }
+}
+
+// ---- sizes
+
+// The words of a variable.
+fn slot_words(types: &TypeTable, variable: Parameter) -> u32
+    ensures exact { result ≡ need.slot_words types.now variable }
+    ensures small { result ≤ greatest_size }
+{
+    match variable {
+        Parameter::Value(of) => type_words(types, of),
+        Parameter::Var(_) => 1,
+        Parameter::Formal(_) => 3,
+    }
+}
+
+// The words of a variable of a block, and 0 where it is not there.
+fn words_at(scope: &Scope<'_>, block: u32, variable: u32) -> u32
+    ensures exact { result ≡ option_map_or (need.slot_words (types_in scope.now)) (slice_get (need.slots (need.block_at (blocks_in scope.now) block)) variable) 0 }
+    ensures small { result ≤ greatest_size }
+{
+    match slot(scope.blocks, block, 0, variable) {
+        Some(found) => slot_words(scope.types, found),
+        None => 0,
+    }
+}
+
+/// Where a variable stands in the frame of the block `levels` steps out.
+pub fn slot_offset(scope: &Scope<'_>, levels: u32, variable: u32) -> u16
+    requires scope { IsScope scope.now }
+    ensures exact { result ≡ in_scope.slot_offset scope.now levels variable }
+{
+    let home = outer(scope.blocks, scope.block, levels);
+    let mut words = LINK_WORDS;
+    for before in 0..variable {
+        words += words_at(scope, home, before);
+    }
+    words as u16
+}
+
+// The words of a field, and 0 where there is none.
+fn field_words(types: &TypeTable, of: u32, field: u32) -> u32
+    requires known { of < length types.now }
+    ensures exact { result ≡ option_map_or (size types.now) (field_type types.now of field) 0 }
+    ensures small { result ≤ greatest_size }
+{
+    match types.field(of, field as usize) {
+        Some(found) => type_words(types, found),
+        None => 0,
+    }
+}
+
+// Where field `field` stands in a record of type `of`, which is there.
+fn record_offset(types: &TypeTable, of: u32, field: u32) -> u16
+    requires table { IsTypeTable types.now }
+    requires known { of < length types.now }
+    ensures exact { result ≡ pieces.field_offset types.now of field }
+{
+    let mut words: u32 = 0;
+    for before in 0..field {
+        words += field_words(types, of, before);
+    }
+    words as u16
+}
+
+/// Where field `field` stands in a record of type `of`.
+pub fn field_offset(types: &TypeTable, of: u32, field: u32) -> u16
+    ensures exact { result ≡ pieces.field_offset types.now of field }
+{
+    if of < types.len() {
+        record_offset(types, of, field)
+    } else {
+        0
+    }
+}

@@ -1,0 +1,25 @@
+//! What the code of a construct depends on besides the construct.
+
+use edi_unit::{Block, TypeTable};
+
+/// A block in its unit.
+#[derive(Clone, Copy)]
+pub struct Scope<'a> {
+    pub types: &'a TypeTable,
+    pub blocks: &'a [Block],
+    /// The address where the code of each block begins.
+    pub entries: &'a [u32],
+    /// The number of the block.
+    pub block: u32,
+}
+
+/// What the clauses of a statement belong to.
+#[derive(Clone, Copy)]
+pub enum Closing {
+    /// An `if`.
+    Once,
+    /// A `while`.
+    Repeated,
+    /// A `when`.
+    Released,
+}
