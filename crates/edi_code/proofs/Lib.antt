@@ -5,3 +5,5 @@ pub mod Cobegins
 pub mod Links
 pub mod Clauses
 pub mod Layers
+pub mod Entries
+pub mod Fitting

@@ -6,12 +6,11 @@ mod expressions;
 mod instructions;
 mod lengths;
 mod pieces;
+mod program;
 mod quiet;
 mod rows;
 mod scope;
 mod statement_lengths;
 mod statements;
 
-pub use scope::Scope;
-pub use statement_lengths::block_words;
-pub use statements::emit_acts;
+pub use program::code_words;
