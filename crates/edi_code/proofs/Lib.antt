@@ -1,3 +1,9 @@
+pub mod Emitting
 pub mod Frames
 pub mod Constants
+pub mod Cobegins
+pub mod Links
 pub mod Clauses
+pub mod Layers
+pub mod Entries
+pub mod Fitting

@@ -17,16 +17,20 @@ use edi_target::{Op, write_op};
 use edi_unit::{Callee, Operator, Parameter, Shape, TypeTable, type_words};
 use std::alloc::{AllocError, Global};
 
-/// Appends an instruction.
-pub fn put(alloc: Global, op: &Op<'_>, out: &mut Vec<u16>) -> Result<(), AllocError>
+// Appends an instruction.
+pub(crate) fn put(alloc: Global, op: &Op<'_>, out: &mut Vec<u16>) -> Result<(), AllocError>
     requires allowed { IsWhole op.now }
     ensures emits { OnOk result (Emits out.old.items out.new.items (code_of_op op.now)) }
 {
     write_op(alloc, out, op)
 }
 
-/// Appends an instruction where there is one.
-pub fn put_any(alloc: Global, op: Option<Op<'_>>, out: &mut Vec<u16>) -> Result<(), AllocError>
+// Appends an instruction where there is one.
+pub(crate) fn put_any(
+    alloc: Global,
+    op: Option<Op<'_>>,
+    out: &mut Vec<u16>,
+) -> Result<(), AllocError>
     requires allowed { IfSome op IsWhole }
     ensures emits { OnOk result (Emits out.old.items out.new.items (code_of_option op.entry)) }
 {
@@ -48,8 +52,13 @@ fn on_sets(types: &TypeTable, of: u32, sets: Op<'static>, integers: Op<'static>)
     if is_set(types, of) { sets } else { integers }
 }
 
-/// What an operator does behind its operands, the left one of type `left`.
-pub fn operation(types: &TypeTable, left: u32, operator: Operator, line: u16) -> Option<Op<'static>>
+// What an operator does behind its operands, the left one of type `left`.
+pub(crate) fn operation(
+    types: &TypeTable,
+    left: u32,
+    operator: Operator,
+    line: u16,
+) -> Option<Op<'static>>
     requires writable { OperatorIsWritable types.now operator left }
     ensures exact { code_of_option result ≡ pieces.operation types.now left operator line }
     ensures allowed { IfSome result IsWhole }
@@ -75,8 +84,8 @@ pub fn operation(types: &TypeTable, left: u32, operator: Operator, line: u16) ->
     }
 }
 
-/// What decides before a right operand, which ends at `behind`.
-pub fn decision(operator: Operator, behind: u32) -> Option<Op<'static>>
+// What decides before a right operand, which ends at `behind`.
+pub(crate) fn decision(operator: Operator, behind: u32) -> Option<Op<'static>>
     ensures exact { code_of_option result ≡ pieces.decision operator behind }
     ensures allowed { IfSome result IsWhole }
 {
@@ -87,8 +96,8 @@ pub fn decision(operator: Operator, behind: u32) -> Option<Op<'static>>
     }
 }
 
-/// What holds an ordinal to type `of`.
-pub fn check(types: &TypeTable, of: u32, line: u16) -> Option<Op<'static>>
+// What holds an ordinal to type `of`.
+pub(crate) fn check(types: &TypeTable, of: u32, line: u16) -> Option<Op<'static>>
     requires shapes { ShapesFit types.now }
     ensures exact { code_of_option result ≡ pieces.check_code (shape_at types.now of) line }
     ensures allowed { IfSome result IsWhole }
@@ -116,8 +125,8 @@ pub fn check(types: &TypeTable, of: u32, line: u16) -> Option<Op<'static>>
     }
 }
 
-/// What goes from the address of an array of type `of` to that of an element.
-pub fn element(types: &TypeTable, of: u32, line: u16) -> Option<Op<'static>>
+// What goes from the address of an array of type `of` to that of an element.
+pub(crate) fn element(types: &TypeTable, of: u32, line: u16) -> Option<Op<'static>>
     ensures exact { code_of_option result ≡ pieces.element_code types.now (shape_at types.now of) line }
     ensures allowed { IfSome result IsWhole }
 {
@@ -142,8 +151,8 @@ pub fn element(types: &TypeTable, of: u32, line: u16) -> Option<Op<'static>>
 
 // ---- variables and callees
 
-/// Appends the address of a variable.
-pub fn emit_variable(
+// Appends the address of a variable.
+pub(crate) fn emit_variable(
     alloc: Global,
     scope: &Scope<'_>,
     levels: u32,
@@ -171,8 +180,8 @@ pub fn emit_variable(
     Ok(())
 }
 
-/// The address where block `block` begins.
-pub fn entry_of(scope: &Scope<'_>, block: u32) -> u32
+// The address where block `block` begins.
+pub(crate) fn entry_of(scope: &Scope<'_>, block: u32) -> u32
     requires scope { IsScope scope.now }
     requires known { block < length (blocks_in scope.now) }
     ensures exact { result ≡ entry_in scope.now block }
@@ -180,8 +189,8 @@ pub fn entry_of(scope: &Scope<'_>, block: u32) -> u32
     scope.entries[block as usize]
 }
 
-/// A call.
-pub fn call(scope: &Scope<'_>, callee: Callee, line: u16) -> Op<'static>
+// A call.
+pub(crate) fn call(scope: &Scope<'_>, callee: Callee, line: u16) -> Op<'static>
     requires scope { IsScope scope.now }
     requires writable { CalleeIsWritable scope.now callee }
     ensures exact { code_of_op result ≡ in_scope.call_code scope.now callee line }
@@ -201,8 +210,8 @@ pub fn call(scope: &Scope<'_>, callee: Callee, line: u16) -> Op<'static>
     }
 }
 
-/// Appends a procedure that is passed on.
-pub fn emit_procedure(
+// Appends a procedure that is passed on.
+pub(crate) fn emit_procedure(
     alloc: Global,
     scope: &Scope<'_>,
     callee: Callee,
@@ -241,8 +250,8 @@ pub fn emit_procedure(
 
 // ---- the ends of lists
 
-/// What gives up a failed attempt of a `when`, to begin at `top` again.
-pub fn again(quiet: bool, top: u32) -> Op<'static>
+// What gives up a failed attempt of a `when`, to begin at `top` again.
+pub(crate) fn again(quiet: bool, top: u32) -> Op<'static>
     ensures exact { code_of_op result ≡ pieces.again_code quiet top }
     ensures allowed { IsWhole result }
 {

@@ -24,9 +24,9 @@ use edi_unit::{
     part_type, slot,
 };
 
-/// The words of an expression.
+// The words of an expression.
 #[cycle(lengths)]
-pub fn value_long(value: &Value, scope: &Scope<'_>) -> u32
+pub(crate) fn value_long(value: &Value, scope: &Scope<'_>) -> u32
     requires small { long.expression_long scope.now (expression_of value.now) < 2 ^ 32 }
     ensures exact { result ≡ long.expression_long scope.now (expression_of value.now) }
 {
@@ -104,9 +104,9 @@ fn links_long(links: &Links, scope: &Scope<'_>, left: u32) -> u32
     words
 }
 
-/// The words of a place.
+// The words of a place.
 #[cycle(lengths)]
-pub fn place_long(place: &Place, scope: &Scope<'_>) -> u32
+pub(crate) fn place_long(place: &Place, scope: &Scope<'_>) -> u32
     requires small { long.place_long scope.now (place_of place.now) < 2 ^ 32 }
     ensures exact { result ≡ long.place_long scope.now (place_of place.now) }
 {
@@ -129,9 +129,9 @@ fn parts_long(parts: &Parts, scope: &Scope<'_>, root: u32) -> u32
     words
 }
 
-/// The words of one step, from a variable of type `of`.
+// The words of one step, from a variable of type `of`.
 #[cycle(lengths)]
-pub fn part_long(part: &Part, scope: &Scope<'_>, of: u32) -> u32
+pub(crate) fn part_long(part: &Part, scope: &Scope<'_>, of: u32) -> u32
     requires small { long.part_long scope.now of (part_of part.now) < 2 ^ 32 }
     ensures exact { result ≡ long.part_long scope.now of (part_of part.now) }
 {
@@ -141,9 +141,9 @@ pub fn part_long(part: &Part, scope: &Scope<'_>, of: u32) -> u32
     }
 }
 
-/// The words of an argument.
+// The words of an argument.
 #[cycle(lengths)]
-pub fn argument_long(argument: &Argument, scope: &Scope<'_>) -> u32
+pub(crate) fn argument_long(argument: &Argument, scope: &Scope<'_>) -> u32
     requires small { long.argument_long scope.now (argument_of argument.now) < 2 ^ 32 }
     ensures exact { result ≡ long.argument_long scope.now (argument_of argument.now) }
 {
@@ -154,9 +154,9 @@ pub fn argument_long(argument: &Argument, scope: &Scope<'_>) -> u32
     }
 }
 
-/// The words of the arguments of a call.
+// The words of the arguments of a call.
 #[cycle(lengths)]
-pub fn arguments_long(arguments: &Arguments, scope: &Scope<'_>) -> u32
+pub(crate) fn arguments_long(arguments: &Arguments, scope: &Scope<'_>) -> u32
     requires small { long.arguments_long scope.now (arguments_of arguments.now) < 2 ^ 32 }
     ensures exact { result ≡ long.arguments_long scope.now (arguments_of arguments.now) }
 {

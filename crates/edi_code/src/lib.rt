@@ -1,11 +1,16 @@
-//! What the code generator is put together from: the number of words of the code of each construct, as `edi_scheme` defines
-//! it, and the instructions that depend on types, operators, variables and callees alone.
+//! The code generator: from a checked program to its code for the abstract machine. The code of each construct is defined in
+//! `edi_scheme`.
 #![tactic(auto)]
 
-pub mod instructions;
-pub mod lengths;
-pub mod pieces;
-pub mod quiet;
-pub mod rows;
-pub mod scope;
-pub mod statement_lengths;
+mod expressions;
+mod instructions;
+mod lengths;
+mod pieces;
+mod program;
+mod quiet;
+mod rows;
+mod scope;
+mod statement_lengths;
+mod statements;
+
+pub use program::code_words;

@@ -1,7 +1,8 @@
 //! Sizes and lengths that depend on types, operators and kinds alone.
 
-ghost use Rattle.std.specs.Prelude.{◌≡◌, ◌≤◌, ◌<◌, ℕ, is_some, length, slice_get};
+ghost use Rattle.std.specs.Prelude.{◌≡◌, ◌≤◌, ◌<◌, ℕ, is_some, length, slice_get, sum_by};
 ghost use Rattle.std.specs.Option.{option_map_or};
+ghost use Rattle.edi_unit.specs.Lists.{list_items};
 ghost use Rattle.edi_unit.specs.Types.{IsTypeTable, field_type, greatest_size, is_set_shape, shape_at, size};
 ghost use Rattle.edi_unit.specs.Tree.{Clauses};
 ghost use Rattle.edi_unit.specs.View.{expressions_of};
@@ -14,21 +15,22 @@ ghost use Rattle.edi_code.specs.InScope as in_scope;
 
 use crate::scope::{Closing, Scope};
 use edi_unit::{
-    Callee, INT, Operator, Parameter, Shape, TypeTable, Value, Values, outer, slot, type_words,
+    Callee, INT, Numbers, Operator, Parameter, Parameters, Shape, TypeTable, Value, Values, outer,
+    slot, type_words,
 };
 
 // The words that each instance of a block keeps besides its variables.
 const LINK_WORDS: u32 = 5;
 
-/// Whether type `of` is a set.
-pub fn is_set(types: &TypeTable, of: u32) -> bool
+// Whether type `of` is a set.
+pub(crate) fn is_set(types: &TypeTable, of: u32) -> bool
     ensures exact { result ≡ is_set_shape (shape_at types.now of) }
 {
     of < types.len() && matches!(types.shape(of), Shape::Set(_))
 }
 
-/// The type of a variable.
-pub fn slot_type(variable: Option<Parameter>) -> u32
+// The type of a variable.
+pub(crate) fn slot_type(variable: Option<Parameter>) -> u32
     ensures exact { result ≡ need.slot_type variable }
 {
     match variable {
@@ -37,15 +39,15 @@ pub fn slot_type(variable: Option<Parameter>) -> u32
     }
 }
 
-/// Whether a variable keeps the address of the one that it means.
-pub fn is_address(variable: Option<Parameter>) -> bool
+// Whether a variable keeps the address of the one that it means.
+pub(crate) fn is_address(variable: Option<Parameter>) -> bool
     ensures exact { result ≡ pieces.is_address variable }
 {
     matches!(variable, Some(Parameter::Var(_)))
 }
 
-/// Whether all of these are constants, whose code is one text.
-pub fn are_constants(values: &Values) -> bool
+// Whether all of these are constants, whose code is one text.
+pub(crate) fn are_constants(values: &Values) -> bool
     ensures exact { result ≡ is_some (pieces.constant_words (expressions_of values.now)) }
 {
     for value in values.items() {
@@ -58,8 +60,8 @@ pub fn are_constants(values: &Values) -> bool
 
 // ---- lengths
 
-/// The words of a call.
-pub fn call_long(callee: Callee) -> u32
+// The words of a call.
+pub(crate) fn call_long(callee: Callee) -> u32
     ensures exact { result ≡ long.call_long callee }
     ensures small { result ≤ 5 }
 {
@@ -69,8 +71,8 @@ pub fn call_long(callee: Callee) -> u32
     }
 }
 
-/// The words of a procedure that is passed on.
-pub fn procedure_long(callee: Callee) -> u32
+// The words of a procedure that is passed on.
+pub(crate) fn procedure_long(callee: Callee) -> u32
     ensures exact { result ≡ long.procedure_long callee }
     ensures small { result ≤ 5 }
 {
@@ -80,16 +82,16 @@ pub fn procedure_long(callee: Callee) -> u32
     }
 }
 
-/// The words that give the address of a variable.
-pub fn variable_long(variable: Option<Parameter>) -> u32
+// The words that give the address of a variable.
+pub(crate) fn variable_long(variable: Option<Parameter>) -> u32
     ensures exact { result ≡ code_long (pieces.variable_code 0 0 variable) }
     ensures small { result ≤ 5 }
 {
     if is_address(variable) { 5 } else { 3 }
 }
 
-/// The words that go from an array of type `of` to an element.
-pub fn element_long(types: &TypeTable, of: u32) -> u32
+// The words that go from an array of type `of` to an element.
+pub(crate) fn element_long(types: &TypeTable, of: u32) -> u32
     ensures exact { (line : ℕ) → result ≡ code_long (pieces.element_code types.now (shape_at types.now of) line) }
     ensures small { result ≤ 5 }
 {
@@ -102,8 +104,8 @@ pub fn element_long(types: &TypeTable, of: u32) -> u32
     }
 }
 
-/// The words that hold an ordinal to type `of`.
-pub fn check_long(types: &TypeTable, of: u32) -> u32
+// The words that hold an ordinal to type `of`.
+pub(crate) fn check_long(types: &TypeTable, of: u32) -> u32
     ensures exact { (line : ℕ) → result ≡ code_long (pieces.check_code (shape_at types.now of) line) }
     ensures small { result ≤ 4 }
 {
@@ -116,8 +118,8 @@ pub fn check_long(types: &TypeTable, of: u32) -> u32
     }
 }
 
-/// The words before a right operand.
-pub fn decision_long(operator: Operator) -> u32
+// The words before a right operand.
+pub(crate) fn decision_long(operator: Operator) -> u32
     ensures exact { (behind : ℕ) → result ≡ code_long (pieces.decision operator behind) }
     ensures small { result ≤ 3 }
 {
@@ -127,8 +129,8 @@ pub fn decision_long(operator: Operator) -> u32
     }
 }
 
-/// The words of an operator behind its operands, the left one of type `left`.
-pub fn operation_long(types: &TypeTable, left: u32, operator: Operator) -> u32
+// The words of an operator behind its operands, the left one of type `left`.
+pub(crate) fn operation_long(types: &TypeTable, left: u32, operator: Operator) -> u32
     ensures exact { (line : ℕ) → result ≡ code_long (pieces.operation types.now left operator line) }
     ensures small { result ≤ 2 }
 {
@@ -140,8 +142,8 @@ pub fn operation_long(types: &TypeTable, left: u32, operator: Operator) -> u32
     }
 }
 
-/// The words that close the list of a clause; `last` tells whether no clause follows.
-pub fn close_long(closing: Closing, last: bool) -> u32
+// The words that close the list of a clause; `last` tells whether no clause follows.
+pub(crate) fn close_long(closing: Closing, last: bool) -> u32
     ensures exact { (target : ℕ) (clauses : Clauses) → last ≡ is_end clauses → result ≡ code_long (pieces.close_code (choice_of closing) target clauses) }
     ensures small { result ≤ 4 }
 {
@@ -177,8 +179,8 @@ fn words_at(scope: &Scope<'_>, block: u32, variable: u32) -> u32
     }
 }
 
-/// Where a variable stands in the frame of the block `levels` steps out.
-pub fn slot_offset(scope: &Scope<'_>, levels: u32, variable: u32) -> u16
+// Where a variable stands in the frame of the block `levels` steps out.
+pub(crate) fn slot_offset(scope: &Scope<'_>, levels: u32, variable: u32) -> u16
     requires scope { IsScope scope.now }
     ensures exact { result ≡ in_scope.slot_offset scope.now levels variable }
 {
@@ -215,8 +217,8 @@ fn record_offset(types: &TypeTable, of: u32, field: u32) -> u16
     words as u16
 }
 
-/// Where field `field` stands in a record of type `of`.
-pub fn field_offset(types: &TypeTable, of: u32, field: u32) -> u16
+// Where field `field` stands in a record of type `of`.
+pub(crate) fn field_offset(types: &TypeTable, of: u32, field: u32) -> u16
     ensures exact { result ≡ pieces.field_offset types.now of field }
 {
     if of < types.len() {
@@ -224,4 +226,39 @@ pub fn field_offset(types: &TypeTable, of: u32, field: u32) -> u16
     } else {
         0
     }
+}
+
+// The words of a result: none where there is no result.
+pub(crate) fn result_words(types: &TypeTable, of: Option<u32>) -> u32
+    ensures exact { result ≡ pieces.result_words types.now of }
+    ensures small { result ≤ greatest_size }
+{
+    match of {
+        Some(of) => type_words(types, of),
+        None => 0,
+    }
+}
+
+// The words of parameters.
+pub(crate) fn parameters_words(types: &TypeTable, parameters: &Parameters) -> u32
+    requires small { sum_by (need.slot_words types.now) (list_items parameters.now) ≤ greatest_size }
+    ensures exact { result ≡ sum_by (need.slot_words types.now) (list_items parameters.now) }
+{
+    let mut words: u32 = 0;
+    for parameter in parameters.items() {
+        words += slot_words(types, *parameter);
+    }
+    words
+}
+
+// The words of declared variables.
+pub(crate) fn declared_words(types: &TypeTable, variables: &Numbers) -> u32
+    requires small { sum_by (size types.now) (list_items variables.now) ≤ greatest_size }
+    ensures exact { result ≡ sum_by (size types.now) (list_items variables.now) }
+{
+    let mut words: u32 = 0;
+    for variable in variables.items() {
+        words += type_words(types, *variable);
+    }
+    words
 }

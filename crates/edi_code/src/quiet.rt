@@ -70,8 +70,8 @@ fn parts_call(parts: &Parts) -> bool
     false
 }
 
-/// Whether none of these conditions calls a function.
-pub fn is_quiet(conditions: &Clauses) -> bool
+// Whether none of these conditions calls a function.
+pub(crate) fn is_quiet(conditions: &Clauses) -> bool
     ensures exact { result ≡ step.is_quiet (clauses_of conditions.now) }
 {
     for clause in conditions.items() {

@@ -8,8 +8,8 @@ ghost use Rattle.edi_code.specs.Emits.{kept_words};
 use edi_unit::{Value, Values};
 use std::alloc::{AllocError, Global};
 
-/// The words of expressions that are all constants, or `None` where one of them is not.
-pub fn constant_row(alloc: Global, values: &Values) -> Result<Option<Vec<u16>>, AllocError>
+// The words of expressions that are all constants, or `None` where one of them is not.
+pub(crate) fn constant_row(alloc: Global, values: &Values) -> Result<Option<Vec<u16>>, AllocError>
     ensures exact { IfOk result (λ row. kept_words row ≡ constant_words (expressions_of values.now)) }
 {
     let mut words: Vec<u16> = Vec::new(alloc);

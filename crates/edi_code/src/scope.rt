@@ -15,7 +15,7 @@ pub struct Scope<'a> {
 
 /// What the clauses of a statement belong to.
 #[derive(Clone, Copy)]
-pub enum Closing {
+pub(crate) enum Closing {
     /// An `if`.
     Once,
     /// A `while`.

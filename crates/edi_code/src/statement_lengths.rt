@@ -11,9 +11,9 @@ use crate::pieces::{call_long, close_long};
 use crate::scope::{Closing, Scope};
 use edi_unit::{Act, Acts, BlockKind, Clause, Clauses};
 
-/// The words of a statement.
+// The words of a statement.
 #[cycle(statement_lengths)]
-pub fn act_long(act: &Act, scope: &Scope<'_>) -> u32
+pub(crate) fn act_long(act: &Act, scope: &Scope<'_>) -> u32
     requires small { long.act_long scope.now (act_of act.now) < 2 ^ 32 }
     ensures exact { result ≡ long.act_long scope.now (act_of act.now) }
 {
@@ -29,9 +29,9 @@ pub fn act_long(act: &Act, scope: &Scope<'_>) -> u32
     }
 }
 
-/// The words of statements.
+// The words of statements.
 #[cycle(statement_lengths)]
-pub fn acts_long(acts: &Acts, scope: &Scope<'_>) -> u32
+pub(crate) fn acts_long(acts: &Acts, scope: &Scope<'_>) -> u32
     requires small { long.acts_long scope.now (acts_of acts.now) < 2 ^ 32 }
     ensures exact { result ≡ long.acts_long scope.now (acts_of acts.now) }
 {
@@ -42,18 +42,18 @@ pub fn acts_long(acts: &Acts, scope: &Scope<'_>) -> u32
     words
 }
 
-/// The words of a condition with its jump, and its list.
+// The words of a condition with its jump, and its list.
 #[cycle(statement_lengths)]
-pub fn clause_long(clause: &Clause, scope: &Scope<'_>) -> u32
+pub(crate) fn clause_long(clause: &Clause, scope: &Scope<'_>) -> u32
     requires small { long.clause_long scope.now (clause_of clause.now) < 2 ^ 32 }
     ensures exact { result ≡ long.clause_long scope.now (clause_of clause.now) }
 {
     value_long(&clause.condition, scope) + 3 + acts_long(&clause.body, scope)
 }
 
-/// The words of clauses.
+// The words of clauses.
 #[cycle(statement_lengths)]
-pub fn clauses_long(clauses: &Clauses, scope: &Scope<'_>, closing: Closing) -> u32
+pub(crate) fn clauses_long(clauses: &Clauses, scope: &Scope<'_>, closing: Closing) -> u32
     requires small { long.clauses_long scope.now (choice_of closing) (clauses_of clauses.now) < 2 ^ 32 }
     ensures exact { result ≡ long.clauses_long scope.now (choice_of closing) (clauses_of clauses.now) }
 {

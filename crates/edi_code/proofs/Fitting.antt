@@ -1,0 +1,154 @@
+-- The code of a unit that fits, and whose records have fields, can be written.
+use Rattle.std.proofs.Common.{◌≡◌, ℕ, suc, ◌<◌, ◌≤◌, ◌^◌, List, ◌∷◌, length, All, Option, Some, None, IfSome, refl, arith}
+use Rattle.std.specs.Option.{option_map}
+use Rattle.edi_unit.specs.declared.expressions.Operator.{Operator}
+use Rattle.edi_unit.specs.declared.expressions.Operator.TheVariants as op
+use Rattle.edi_unit.specs.declared.expressions.Callee.{Callee}
+use Rattle.edi_unit.specs.declared.expressions.Callee.TheVariants as callee
+use Rattle.edi_unit.specs.Types.{Shape, size, greatest_size, IsTypeTable}
+use Rattle.edi_unit.specs.Tree.{Expression, constant, load, not_of, minus, chain, make, convert, invoke, Expressions, no_expression, expression_then, link, Links, no_link, link_then, Place, place, Part, field, index, Parts, no_part, part_then, by_value, by_variable, by_procedure, Arguments, no_argument, argument_then, Act, skip, assign, call, halt, conditional, loop, await, cobegin, Acts, no_act, act_then, Clause, clause, Clauses, no_clause, clause_then, Block, ProgramUnit}
+use Rattle.edi_unit.specs.Need.{block_at, slot_at, slot_type, part_type, operator_type, place_type, expression_type}
+use Rattle.edi_unit.specs.Fits.{Heading, Formals, no_formal, value_then, variable_then, procedure_then, CalleeFits, ExpressionFits, ExpressionsFit, LinksFit, PlaceFits, PartFits, PartsFit, ArgumentsFit, BranchFits, ActFits, ActsFit, ClauseFits, ClausesFit, BlockFits, Fits}
+use Rattle.edi_scheme.specs.Pieces.{constant_words}
+use Rattle.edi_scheme.specs.Code.{code_of}
+use Rattle.edi_scheme.specs.Laws.{HaveParts}
+use Rattle.edi_scheme.proofs.Lengths.{blocks_are_long}
+use Rattle.edi_scheme.proofs.Known as known
+use Rattle.edi_code.specs.Writable.{RowIsWritable, OperatorIsWritable, CalleeIsWritable, ExpressionIsWritable, ExpressionsAreWritable, LinksAreWritable, PlaceIsWritable, PartIsWritable, PartsAreWritable, ArgumentsAreWritable, ActIsWritable, ActsAreWritable, ClauseIsWritable, ClausesAreWritable, IsWritable}
+
+operator_writable : (types : List Shape) (o : Operator) (t : ℕ) → 1 ≤ size types t → OperatorIsWritable types o t
+operator_writable types op.Equal t h = h
+operator_writable types op.NotEqual t h = h
+operator_writable types op.Less t h = tt
+operator_writable types op.LessOrEqual t h = tt
+operator_writable types op.Greater t h = tt
+operator_writable types op.GreaterOrEqual t h = tt
+operator_writable types op.In t h = tt
+operator_writable types op.Plus t h = tt
+operator_writable types op.Minus t h = tt
+operator_writable types op.Times t h = tt
+operator_writable types op.Div t h = tt
+operator_writable types op.Mod t h = tt
+operator_writable types op.And t h = tt
+operator_writable types op.Or t h = tt
+
+module _ (types : List Shape) (table : IsTypeTable types) (parts : HaveParts types) (blocks : List Block) (headings : ℕ → ℕ → Heading) (each : (n : ℕ) → n < length blocks → BlockFits types blocks headings n) (b : ℕ) (inside : b < length blocks) where
+  positive : (t : ℕ) → t < length types → 1 ≤ size types t
+  positive = known.size_positive types table parts
+
+  place_known : (p : Place) → PlaceFits types blocks headings b p → place_type types blocks b p < length types
+  place_known = known.place_known types table parts blocks headings each b inside
+
+  abbrev count : Expressions → ℕ
+  count = known.count_of types table parts blocks headings each b inside
+
+  one_more : (w n : ℕ) (ws : Option (List ℕ)) → IfSome ws (λ ws. length ws ≡ n) → IfSome (option_map (λ ws. w ∷ ws) ws) (λ ws. length ws ≡ suc n)
+  one_more w n None h = tt
+  one_more w n (Some ws) h = omega (arith, h)
+
+  constants_count : (es : Expressions) → IfSome (constant_words es) (λ ws. length ws ≡ count es)
+  constants_count no_expression = refl
+  constants_count (expression_then (constant t n) es) = one_more _ (count es) (constant_words es) (constants_count es)
+  constants_count (expression_then (load p) es) = tt
+  constants_count (expression_then (not_of e) es) = tt
+  constants_count (expression_then (minus e line) es) = tt
+  constants_count (expression_then (chain e ls) es) = tt
+  constants_count (expression_then (make t fs line) es) = tt
+  constants_count (expression_then (convert t e line) es) = tt
+  constants_count (expression_then (invoke c xs line) es) = tt
+
+  row_writable : (ws : Option (List ℕ)) (n : ℕ) → 1 ≤ n → n ≤ greatest_size → IfSome ws (λ ws. length ws ≡ n) → RowIsWritable ws
+  row_writable None n some few h = tt
+  row_writable (Some ws) n some few h = (omega (arith, some, h), omega (arith, few, h))
+
+  callee_writable : (c : Callee) → CalleeFits blocks b c → CalleeIsWritable blocks c
+  callee_writable (callee.Block levels n) h = (h.0, h.1)
+  callee_writable (callee.Formal levels v) h = h.0
+
+  mutual
+    expression_writable : (e : Expression) → ExpressionFits types blocks headings b e → ExpressionIsWritable types blocks b e
+    expression_writable (constant t n) h = tt
+    expression_writable (load p) h = (place_writable p h, positive _ (place_known p h))
+    expression_writable (not_of e) h = expression_writable e h.1
+    expression_writable (minus e line) h = expression_writable e h.1
+    expression_writable (chain e ls) h =
+        (expression_writable e h.1, links_writable (expression_type types blocks b e) ls (known.expression_known types table parts blocks headings each b inside e h.1) h.2)
+    expression_writable (make t es line) h = (
+      λ q.
+          let n = known.parts_count types table parts blocks headings each b inside t es h.0 q h.1 in
+          row_writable (constant_words es) (count es) n.0 n.1 (constants_count es),
+      expressions_writable es h.2,
+    )
+    expression_writable (convert t e line) h = expression_writable e h.3
+    expression_writable (invoke c xs line) h = (callee_writable c h.0, arguments_writable xs _ h.2)
+
+    expressions_writable : (es : Expressions) → ExpressionsFit types blocks headings b es → ExpressionsAreWritable types blocks b es
+    expressions_writable no_expression h = tt
+    expressions_writable (expression_then e es) h = (expression_writable e h.0, expressions_writable es h.1)
+
+    links_writable : (t : ℕ) (ls : Links) → t < length types → LinksFit types blocks headings b t ls → LinksAreWritable types blocks b t ls
+    links_writable t no_link k h = tt
+    links_writable t (link_then (link o e line) ls) k h =
+        (operator_writable types o t (positive t k), expression_writable e h.1, links_writable (operator_type o t) ls (known.operator_known types table parts o t k) h.2)
+
+    place_writable : (p : Place) → PlaceFits types blocks headings b p → PlaceIsWritable types blocks b p
+    place_writable (place levels v ps) h = (h.0, parts_writable (slot_type (slot_at blocks b levels v)) ps h.2)
+
+    parts_writable : (t : ℕ) (ps : Parts) → PartsFit types blocks headings b t ps → PartsAreWritable types blocks b ps
+    parts_writable t no_part h = tt
+    parts_writable t (part_then p ps) h = (part_writable t p h.0, parts_writable (part_type types t p) ps h.1)
+
+    part_writable : (t : ℕ) (p : Part) → PartFits types blocks headings b t p → PartIsWritable types blocks b p
+    part_writable t (field n) h = tt
+    part_writable t (index e line) h = expression_writable e h.1
+
+    arguments_writable : (xs : Arguments) (fs : Formals) → ArgumentsFit types blocks headings b xs fs → ArgumentsAreWritable types blocks b xs
+    arguments_writable no_argument fs h = tt
+    arguments_writable (argument_then (by_value e) xs) (value_then t fs) h = (expression_writable e h.1, arguments_writable xs fs h.2)
+    arguments_writable (argument_then (by_variable p) xs) (variable_then t fs) h = (place_writable p h.1, arguments_writable xs fs h.2)
+    arguments_writable (argument_then (by_procedure c) xs) (procedure_then hd fs) h = (callee_writable c h.1, arguments_writable xs fs h.2)
+    arguments_writable (argument_then (by_value e) xs) no_formal h = absurd h
+    arguments_writable (argument_then (by_value e) xs) (variable_then t fs) h = absurd h
+    arguments_writable (argument_then (by_value e) xs) (procedure_then hd fs) h = absurd h
+    arguments_writable (argument_then (by_variable p) xs) no_formal h = absurd h
+    arguments_writable (argument_then (by_variable p) xs) (value_then t fs) h = absurd h
+    arguments_writable (argument_then (by_variable p) xs) (procedure_then hd fs) h = absurd h
+    arguments_writable (argument_then (by_procedure c) xs) no_formal h = absurd h
+    arguments_writable (argument_then (by_procedure c) xs) (value_then t fs) h = absurd h
+    arguments_writable (argument_then (by_procedure c) xs) (variable_then t fs) h = absurd h
+
+  branches_writable : (bs : List ℕ) → All (BranchFits types blocks headings b) bs → All (λ n. n < length blocks) bs
+  branches_writable bs h k d l = (h k d l).0
+
+  mutual
+    act_writable : (s : Act) → ActFits types blocks headings b s → ActIsWritable types blocks b s
+    act_writable skip h = tt
+    act_writable (assign p e) h = (place_writable p h.1, expression_writable e h.2, positive _ (place_known p h.1))
+    act_writable (call c xs line) h = (callee_writable c h.0, arguments_writable xs _ h.2)
+    act_writable (halt line) h = tt
+    act_writable (conditional cs) h = clauses_writable cs h
+    act_writable (loop cs) h = clauses_writable cs h
+    act_writable (await cs line) h = clauses_writable cs h
+    act_writable (cobegin bs line) h = ((h.0, h.1), branches_writable bs h.2)
+
+    acts_writable : (s : Acts) → ActsFit types blocks headings b s → ActsAreWritable types blocks b s
+    acts_writable no_act h = tt
+    acts_writable (act_then s ss) h = (act_writable s h.0, acts_writable ss h.1)
+
+    clause_writable : (c : Clause) → ClauseFits types blocks headings b c → ClauseIsWritable types blocks b c
+    clause_writable (clause e s) h = (expression_writable e h.1, acts_writable s h.2)
+
+    clauses_writable : (cs : Clauses) → ClausesFit types blocks headings b cs → ClausesAreWritable types blocks b cs
+    clauses_writable no_clause h = tt
+    clauses_writable (clause_then c cs) h = (clause_writable c h.0, clauses_writable cs h.1)
+
+-- a unit that fits can be written, where its code has fewer than 2 ^ 32 words
+pub is_writable : (unit : ProgramUnit) → Fits unit → HaveParts unit.types → length (code_of unit) < 2 ^ 32 → IsWritable unit
+is_writable unit fits parts small = record {
+  shapes = fits.shapes;
+  frames = λ n h.
+      let is = (fits.fits_blocks n h).needs in
+      record { roomy = omega (arith, is); small = (fits.fits_blocks n h).small };
+  statements = λ n h. acts_writable unit.types fits.table parts unit.blocks fits.headings fits.fits_blocks n h (block_at unit.blocks n).body (fits.fits_blocks n h).statements;
+  room = let long = (blocks_are_long unit.types unit.blocks (length unit.blocks)).is in omega (arith, small, long);
+}

@@ -1,0 +1,22 @@
+use Rattle.std.proofs.Common.{◌+◌, ◌++◌, ◌∷◌, [], refl, ap, ◌∙◌}
+use Rattle.edi_unit.specs.Types.{size}
+use Rattle.edi_unit.specs.View.{expression_of, place_of}
+use Rattle.edi_target.specs.Op as instruction
+use Rattle.edi_code.specs.Scope.{types_in}
+use Rattle.edi_code.specs.InScope.{expression_code, place_long}
+use Rattle.edi_code.proofs.Emitting.{two}
+use Rattle.edi_code.proofs.statements.emit_assign.Goals as goal
+
+pub returns : goal.returns
+returns c =
+    let s = c.args.scope.now in
+    let value = expression_of c.args.value.now in
+    let place = place_of c.args.place.now in
+    let count = c.type_words-count.ensures.exact ∙ ap (size (types_in s)) c.place_type-of.ensures.exact in
+    record {
+      emits =
+          two c.put.result _ _ _ _ _ _ _ c.in_ok-emit_place.ensures.emits
+          (two c.put.result _ _ _ _ _ _ _ c.in_ok-emit_value.ensures.emits c.put.ensures.emits refl refl)
+          (ap (λ k. expression_code s (c.args.at + k) value ++ instruction.store c.type_words-count.result ∷ []) c.place_long.ensures.exact
+          ∙ ap (λ k. expression_code s (c.args.at + place_long s place) value ++ instruction.store k ∷ []) count) refl;
+    }

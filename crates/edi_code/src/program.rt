@@ -1,0 +1,166 @@
+//! The code of blocks and programs.
+
+ghost use Rattle.std.specs.Prelude.{◌≡◌, ◌+◌, ◌<◌, ◌^◌, [], ◌∷◌, ◌++◌, IfOk, OnOk, length, map};
+ghost use Rattle.edi_unit.specs.View.{acts_of, block_of, unit_of};
+ghost use Rattle.edi_unit.specs.Need.{block_at};
+ghost use Rattle.edi_target.specs.Op.{exit};
+ghost use Rattle.edi_scheme.specs.Long.{block_long};
+ghost use Rattle.edi_scheme.specs.Pieces as pieces;
+ghost use Rattle.edi_scheme.specs.Code.{block_code, blocks_code, code_of, entry};
+ghost use Rattle.edi_code.specs.Emits.{Emits, IsWhole, code_of_op};
+ghost use Rattle.edi_code.specs.InScope.{ActsAreWritable, acts_code, acts_long};
+ghost use Rattle.edi_code.specs.Scope.{IsScope, blocks_in, entry_in, types_in};
+ghost use Rattle.edi_code.specs.Writable.{AreEntries, AreWritable, IsRoomy, IsWritable};
+
+use crate::instructions::put;
+use crate::pieces::{declared_words, parameters_words, result_words};
+use crate::scope::Scope;
+use crate::statement_lengths::block_words;
+use crate::statements::emit_acts;
+use edi_target::Op;
+use edi_unit::{Acts, Block, BlockKind, TypeTable, Unit};
+use std::alloc::{AllocError, Global};
+
+// The address where each block begins: behind the blocks of lower numbers.
+fn block_entries(alloc: Global, types: &TypeTable, blocks: &[Block]) -> Result<Vec<u32>, AllocError>
+    requires room { entry types.now (map block_of blocks.now) (length blocks.now) < 2 ^ 32 }
+    ensures exact { IfOk result (λ entries. AreEntries types.now (map block_of blocks.now) entries.items) }
+{
+    let mut entries: Vec<u32> = Vec::new(alloc);
+    let mut here: u32 = 0;
+    for block in 0..blocks.len() as u32 {
+        entries.push(here)?;
+        let scope = Scope {
+            types,
+            blocks,
+            entries: &[],
+            block,
+        };
+        here += block_words(&scope);
+    }
+    Ok(entries)
+}
+
+// The instruction with which a procedure, a function or the program begins.
+fn entry_of(types: &TypeTable, block: &Block) -> Op<'static>
+    requires frame { IsRoomy types.now (block_of block.now) }
+    ensures exact { code_of_op result ≡ pieces.entry_of types.now (block_of block.now) ∷ [] }
+    ensures allowed { IsWhole result }
+{
+    Op::Entry {
+        need: block.need as u16,
+        results: result_words(types, block.result) as u16,
+        parameters: parameters_words(types, &block.parameters) as u16,
+        variables: declared_words(types, &block.variables) as u16,
+        function: u16::from(block.result.is_some()),
+    }
+}
+
+// The one with which it ends.
+fn return_of(types: &TypeTable, block: &Block) -> Op<'static>
+    ensures exact { code_of_op result ≡ pieces.return_of types.now (block_of block.now) ∷ [] }
+    ensures allowed { IsWhole result }
+{
+    Op::Return {
+        results: result_words(types, block.result) as u16,
+        function: u16::from(block.result.is_some()),
+    }
+}
+
+// Whether a block is a branch of a `cobegin`.
+fn is_branch(kind: BlockKind) -> bool
+    ensures exact { result ≡ pieces.is_branch kind }
+{
+    matches!(kind, BlockKind::Branch)
+}
+
+// The code of a branch, which stands at `at`.
+fn emit_branch(
+    alloc: Global,
+    body: &Acts,
+    scope: &Scope<'_>,
+    at: u32,
+    out: &mut Vec<u16>,
+) -> Result<(), AllocError>
+    requires scope { IsScope scope.now }
+    requires writable { ActsAreWritable scope.now (acts_of body.now) }
+    requires room { at + acts_long scope.now (acts_of body.now) < 2 ^ 32 }
+    ensures emits { OnOk result (Emits out.old.items out.new.items (acts_code scope.now at (acts_of body.now) ++ exit ∷ [])) }
+{
+    emit_acts(alloc, body, scope, at, out)?;
+    put(alloc, &Op::Exit, out)
+}
+
+// The code of a procedure, a function or the program, which stands at `at`.
+fn emit_procedure(
+    alloc: Global,
+    block: &Block,
+    scope: &Scope<'_>,
+    at: u32,
+    out: &mut Vec<u16>,
+) -> Result<(), AllocError>
+    requires scope { IsScope scope.now }
+    requires frame { IsRoomy (types_in scope.now) (block_of block.now) }
+    requires writable { ActsAreWritable scope.now (block_of block.now).body }
+    requires room { at + 6 + acts_long scope.now (block_of block.now).body < 2 ^ 32 }
+    ensures emits { OnOk result (Emits out.old.items out.new.items
+        (pieces.entry_of (types_in scope.now) (block_of block.now)
+        ∷ (acts_code scope.now (at + 6) (block_of block.now).body ++ pieces.return_of (types_in scope.now) (block_of block.now) ∷ []))) }
+{
+    put(alloc, &entry_of(scope.types, block), out)?;
+    emit_acts(alloc, &block.body, scope, at + 6, out)?;
+    put(alloc, &return_of(scope.types, block), out)
+}
+
+// The code of the block of a scope.
+fn emit_block(alloc: Global, scope: &Scope<'_>, out: &mut Vec<u16>) -> Result<(), AllocError>
+    requires scope { IsScope scope.now }
+    requires known { scope.now.block < length (blocks_in scope.now) }
+    requires writable { ActsAreWritable scope.now (block_at (blocks_in scope.now) scope.now.block).body }
+    requires room { entry_in scope.now scope.now.block + block_long (types_in scope.now) (blocks_in scope.now) scope.now.block < 2 ^ 32 }
+    ensures emits { OnOk result (Emits out.old.items out.new.items
+        (block_code (types_in scope.now) (blocks_in scope.now) (entry_in scope.now scope.now.block) scope.now.block)) }
+{
+    let block = &scope.blocks[scope.block as usize];
+    let at = scope.entries[scope.block as usize];
+    if is_branch(block.kind) {
+        return emit_branch(alloc, &block.body, scope, at, out);
+    }
+    emit_procedure(alloc, block, scope, at, out)
+}
+
+// The code of all blocks, in the order of their numbers.
+fn emit_blocks(
+    alloc: Global,
+    types: &TypeTable,
+    blocks: &[Block],
+    entries: &[u32],
+    out: &mut Vec<u16>,
+) -> Result<(), AllocError>
+    requires writable { AreWritable types.now (map block_of blocks.now) }
+    requires entries { AreEntries types.now (map block_of blocks.now) entries.now }
+    ensures emits { OnOk result (Emits out.old.items out.new.items (blocks_code types.now (map block_of blocks.now) (length blocks.now))) }
+{
+    for block in 0..blocks.len() as u32 {
+        let scope = Scope {
+            types,
+            blocks,
+            entries,
+            block,
+        };
+        emit_block(alloc, &scope, out)?;
+    }
+    Ok(())
+}
+
+/// The words of the code of a program, whose entry is at address 0.
+pub fn code_words(alloc: Global, unit: &Unit) -> Result<Vec<u16>, AllocError>
+    requires writable { IsWritable (unit_of unit.now) }
+    ensures exact { IfOk result (λ words. words.items ≡ code_of (unit_of unit.now)) }
+{
+    let blocks = unit.blocks.items();
+    let entries = block_entries(alloc, &unit.types, blocks)?;
+    let mut words: Vec<u16> = Vec::new(alloc);
+    emit_blocks(alloc, &unit.types, blocks, &entries, &mut words)?;
+    Ok(words)
+}
