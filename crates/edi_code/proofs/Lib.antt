@@ -7,3 +7,4 @@ pub mod Clauses
 pub mod Layers
 pub mod Entries
 pub mod Fitting
+pub mod Faultless

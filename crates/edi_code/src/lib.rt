@@ -13,4 +13,4 @@ mod scope;
 mod statement_lengths;
 mod statements;
 
-pub use program::code_words;
+pub use program::{code_words, generate};

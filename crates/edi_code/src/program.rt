@@ -1,9 +1,11 @@
 //! The code of blocks and programs.
 
-ghost use Rattle.std.specs.Prelude.{◌≡◌, ◌+◌, ◌<◌, ◌^◌, [], ◌∷◌, ◌++◌, IfOk, OnOk, length, map};
+ghost use Rattle.std.specs.Prelude.{◌≡◌, ◌+◌, ◌<◌, ◌≤◌, ◌^◌, [], ◌∷◌, ◌++◌, IfOk, OnOk, length, map};
 ghost use Rattle.edi_unit.specs.View.{acts_of, block_of, unit_of};
 ghost use Rattle.edi_unit.specs.Need.{block_at};
 ghost use Rattle.edi_target.specs.Op.{exit};
+ghost use Rattle.edi_unit.specs.Fits.{Fits};
+ghost use Rattle.edi_scheme.specs.Laws.{HaveParts, parts_of};
 ghost use Rattle.edi_scheme.specs.Long.{block_long};
 ghost use Rattle.edi_scheme.specs.Pieces as pieces;
 ghost use Rattle.edi_scheme.specs.Code.{block_code, blocks_code, code_of, entry};
@@ -17,7 +19,7 @@ use crate::pieces::{declared_words, parameters_words, result_words};
 use crate::scope::Scope;
 use crate::statement_lengths::block_words;
 use crate::statements::emit_acts;
-use edi_target::Op;
+use edi_target::{Code, CodeFault, Op};
 use edi_unit::{Acts, Block, BlockKind, TypeTable, Unit};
 use std::alloc::{AllocError, Global};
 
@@ -153,8 +155,8 @@ fn emit_blocks(
     Ok(())
 }
 
-/// The words of the code of a program, whose entry is at address 0.
-pub fn code_words(alloc: Global, unit: &Unit) -> Result<Vec<u16>, AllocError>
+// The words of the code of a unit that can be written.
+fn unit_words(alloc: Global, unit: &Unit) -> Result<Vec<u16>, AllocError>
     requires writable { IsWritable (unit_of unit.now) }
     ensures exact { IfOk result (λ words. words.items ≡ code_of (unit_of unit.now)) }
 {
@@ -163,4 +165,33 @@ pub fn code_words(alloc: Global, unit: &Unit) -> Result<Vec<u16>, AllocError>
     let mut words: Vec<u16> = Vec::new(alloc);
     emit_blocks(alloc, &unit.types, blocks, &entries, &mut words)?;
     Ok(words)
+}
+
+/// The words of the code of a program, whose entry is at address 0. It takes a unit that fits, whose records have fields, and
+/// whose code has fewer than 2^32 words. The only error is want of memory.
+pub fn code_words(alloc: Global, unit: &Unit) -> Result<Vec<u16>, AllocError>
+    requires fits { Fits (unit_of unit.now) }
+    requires parts { HaveParts (unit_of unit.now).types }
+    requires small { length (code_of (unit_of unit.now)) < 2 ^ 32 }
+    ensures exact { IfOk result (λ words. words.items ≡ code_of (unit_of unit.now)) }
+{
+    unit_words(alloc, unit)
+}
+
+/// The code of a program, which is entered at address 0 and is given the calls that the program's parameters are. It takes a
+/// unit that fits, whose records have fields, and whose code has at most 4,194,304 words. The only error is want of memory.
+pub fn generate(alloc: Global, unit: &Unit) -> Result<Code, AllocError>
+    requires fits { Fits (unit_of unit.now) }
+    requires parts { HaveParts (unit_of unit.now).types }
+    requires short { length (code_of (unit_of unit.now)) ≤ 4194304 }
+    ensures exact { IfOk result (λ code. code ≡ parts_of (unit_of unit.now)) }
+{
+    let words = code_words(alloc, unit)?;
+    match Code::check(alloc, words, 0, unit.calls.items()) {
+        Ok(code) => Ok(code),
+        Err(fault) => match fault {
+            CodeFault::NoMemory => Err(AllocError),
+            _ => unreachable!(),
+        },
+    }
 }
