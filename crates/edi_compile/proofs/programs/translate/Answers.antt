@@ -2,7 +2,7 @@ use Rattle.std.proofs.Common.{arith}
 use Rattle.edi_tree.specs.Whole.{program_of}
 use Rattle.edi_unit.specs.View.{unit_of}
 use Rattle.edi_codable.proofs.Fielded.{records_have_fields}
-use Rattle.edi_codable.proofs.Wholes.{code_is_short}
+use Rattle.edi_codable.proofs.Following.{code_is_short}
 use Rattle.edi_compile.proofs.programs.translate.Goals as goal
 
 pub generate-requires : goal.generate-requires
