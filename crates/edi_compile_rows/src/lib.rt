@@ -1,0 +1,5 @@
+//! Whole programs: from their texts to the ends of their runs.
+#![tactic(auto)]
+
+#[cfg(test)]
+mod programs;
