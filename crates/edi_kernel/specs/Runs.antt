@@ -45,7 +45,7 @@ Proceeds (Some e) k m old new ready = ⊥
 
 -- ---- the start
 
--- the first process of this code is taken, and the turn of its entry is still due
+-- the first process of this code is taken, the turn of its entry is still due, and none stands at a `when`
 pub record Started (code : CodeParts) (k : KernelState) : Type 0 where
   pub kernel : IsKernel k
   pub first : Activity
@@ -54,6 +54,7 @@ pub record Started (code : CodeParts) (k : KernelState) : Type 0 where
   pub taken : k.taken ≡ Some 0
   pub entering : k.entering ≡ true
   pub used : k.used ≡ 0
+  pub arrived : k.arrived ≡ None
 
 -- ---- a round of a run: a stint, and the choice of the next process
 

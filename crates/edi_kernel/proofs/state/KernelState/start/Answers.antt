@@ -15,4 +15,5 @@ returns c = record {
   taken = refl;
   entering = refl;
   used = refl;
+  arrived = refl;
 }
