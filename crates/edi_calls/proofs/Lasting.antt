@@ -71,7 +71,7 @@ writes (Some bytes) word s =
 closes_as : (bytes title : List ℕ) (s : State) → Leaves 1 s (calls.close_as bytes title s)
 closes_as bytes title s =
     by_option 1 s _ (calls.room_for s title (length bytes)) _
-    (λ place. record { counted = refl; goes = stays s _ refl refl refl (length-set s.slots place _) refl })
+    (λ index. record { counted = refl; goes = stays s _ refl refl refl (length-set s.slots index _) refl })
     (record { counted = refl; goes = stays s _ refl refl refl refl refl })
 
 closes : (buffer : Option (List ℕ)) (words : List ℕ) (s : State) → Leaves 1 s (calls.close_of buffer words s)
@@ -82,7 +82,7 @@ closes (Some bytes) words s =
 removes_as : (title : List ℕ) (s : State) → Leaves 1 s (calls.remove_as title s)
 removes_as title s =
     by_option 1 s _ (calls.open_slot s.slots title) _
-    (λ place. record { counted = refl; goes = stays s _ refl refl refl (length-set s.slots place _) refl })
+    (λ index. record { counted = refl; goes = stays s _ refl refl refl (length-set s.slots index _) refl })
     (record { counted = refl; goes = stays s _ refl refl refl refl refl })
 
 removes : (words : List ℕ) (s : State) → Leaves 1 s (calls.remove words s)

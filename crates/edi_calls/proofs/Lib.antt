@@ -1,6 +1,7 @@
 pub mod Blanks
 pub mod Lasting
-pub mod Places
+pub mod Parts
+pub mod Indices
 pub mod Reached
 pub mod Rising
 pub mod Sound

@@ -12,23 +12,23 @@ use Rattle.edi_calls.proofs.Lasting.{Leaves}
 
 module _ {V : Type 0} (items : V → List ℕ) where
   -- no place for a file, and nothing happens
-  pub unstored : (buffer : Option V) (title : List ℕ) (state : State) (size : ℕ) (place : Option ℕ)
-      → IfSome buffer (λ bytes. size ≡ length (items bytes)) → place ≡ room_for state title size → place ≡ None
+  pub unstored : (buffer : Option V) (title : List ℕ) (state : State) (size : ℕ) (index : Option ℕ)
+      → IfSome buffer (λ bytes. size ≡ length (items bytes)) → index ≡ room_for state title size → index ≡ None
       → IfSome buffer (λ bytes. Reaches (close_as (items bytes) title state) (Ok (Some 0)) state state)
-  unstored None title state size place counted room none = tt
-  unstored (Some bytes) title state size place counted room none =
+  unstored None title state size index counted room none = tt
+  unstored (Some bytes) title state size index counted room none =
       let full : room_for state title (length (items bytes)) ≡ None = ap (room_for state title) (sym counted) ∙ sym room ∙ none in
       subst
       (λ p. Reaches (option_map_or (λ n. gives 1 (stored title (items bytes) n state)) p (gives 0 state)) (Ok (Some 0)) state state)
       (sym full) (refl, refl)
 
   -- the file is stored at the place that there is for it
-  pub stored_so : (buffer : Option V) (title : List ℕ) (state after : State) (size : ℕ) (place : Option ℕ) (n : ℕ)
-      → IfSome buffer (λ bytes. size ≡ length (items bytes)) → place ≡ room_for state title size → place ≡ Some n
+  pub stored_so : (buffer : Option V) (title : List ℕ) (state after : State) (size : ℕ) (index : Option ℕ) (n : ℕ)
+      → IfSome buffer (λ bytes. size ≡ length (items bytes)) → index ≡ room_for state title size → index ≡ Some n
       → IfSome buffer (λ bytes. after ≡ stored title (items bytes) n state)
       → IfSome buffer (λ bytes. Reaches (close_as (items bytes) title state) (Ok (Some 1)) state after)
-  stored_so None title state after size place n counted room some is = tt
-  stored_so (Some bytes) title state after size place n counted room some is =
+  stored_so None title state after size index n counted room some is = tt
+  stored_so (Some bytes) title state after size index n counted room some is =
       let there : room_for state title (length (items bytes)) ≡ Some n = ap (room_for state title) (sym counted) ∙ sym room ∙ some in
       subst
       (λ p. Reaches (option_map_or (λ n. gives 1 (stored title (items bytes) n state)) p (gives 0 state)) (Ok (Some 1)) state after)

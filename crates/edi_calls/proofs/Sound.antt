@@ -11,7 +11,7 @@ use Rattle.edi_calls.specs.State.{File, Found, State, IsState, IsFoundAs, IsFoun
 use Rattle.edi_calls.specs.Calls as calls
 use Rattle.edi_calls.specs.Calls.{CallResult, answered, no_file, file_limit, gives, call, text_file, other_than, room_for, slot_for, open_slot}
 use Rattle.edi_calls.specs.Laws.{StatesStaySound, ClosedFilesAreFound}
-use Rattle.edi_calls.proofs.Storing.{IsPlaceFor, IsFor, place_for, place_open, distinct_set, found_set, file_here, list_all-set, and_second}
+use Rattle.edi_calls.proofs.Storing.{IsIndexFor, IsFor, index_for, index_open, distinct_set, found_set, file_here, list_all-set, and_second}
 
 abbrev SoundIn : CallResult → Type 0
 SoundIn (answered words after) = IsState after
@@ -30,11 +30,11 @@ by_option f (Some a) x p q = p a refl
 -- the same files
 kept : (s : State) (found : Option Found) (buffer : Option (List ℕ)) → IsState s → IsFoundIn s.slots found → is_buffer buffer ≡ true
     → IsState (record s { found = found; buffer = buffer })
-kept s found buffer h f b = record { places = h.places; files = h.files; distinct = h.distinct; found = f; buffer = b }
+kept s found buffer h f b = record { indices = h.indices; files = h.files; distinct = h.distinct; found = f; buffer = b }
 
 accepts : (input : List ℕ) (s : State) → IsState s → SoundIn (calls.accept_from input s)
 accepts [] s h = h
-accepts (b ∷ bs) s h = record { places = h.places; files = h.files; distinct = h.distinct; found = h.found; buffer = h.buffer }
+accepts (b ∷ bs) s h = record { indices = h.indices; files = h.files; distinct = h.distinct; found = h.found; buffer = h.buffer }
 
 text_kind : (k : FileKind) → calls.is_text k ≡ true → k ≡ kind.Text
 text_kind kind.Text h = refl
@@ -97,24 +97,24 @@ writes (Some bytes) word s h b =
     (λ room. kept s s.found (Some (bytes ++ character word ∷ [])) h h.found (written bytes word b room)) (λ _. tt)
 
 -- the found file after a slot was changed
-found_after : (s : State) (title : List ℕ) (place : ℕ) (slot : Option File) (found : Option Found) → IsPlaceFor s.slots title place
-    → IsFor title slot → IsFoundIn s.slots found → IsFoundIn (calls.with_slot s title place slot).slots (other_than title found)
-found_after s title place slot None is for f = tt
-found_after s title place slot (Some found) is for f = go (bytes_eq found.title title) refl
+found_after : (s : State) (title : List ℕ) (index : ℕ) (slot : Option File) (found : Option Found) → IsIndexFor s.slots title index
+    → IsFor title slot → IsFoundIn s.slots found → IsFoundIn (calls.with_slot s title index slot).slots (other_than title found)
+found_after s title index slot None is for f = tt
+found_after s title index slot (Some found) is for f = go (bytes_eq found.title title) refl
   where
     go : (b : Bool) → bytes_eq found.title title ≡ b
-        → IsFoundIn (calls.with_slot s title place slot).slots (if b then None else Some found)
+        → IsFoundIn (calls.with_slot s title index slot).slots (if b then None else Some found)
     go true e = tt
-    go false e = found_set s.slots title place slot found is for e f
+    go false e = found_set s.slots title index slot found is for e f
 
-changed : (s : State) (title : List ℕ) (place : ℕ) (slot : Option File) (buffer : Option (List ℕ)) → IsState s
-    → IsPlaceFor s.slots title place → IsFor title slot → is_slot slot ≡ true → is_buffer buffer ≡ true
-    → IsState (record (calls.with_slot s title place slot) { buffer = buffer })
-changed s title place slot buffer h is for good b = record {
-  places = length-set s.slots place slot ∙ h.places;
-  files = list_all-set is_slot s.slots place slot h.files good;
-  distinct = distinct_set s.slots title place slot h.distinct is for;
-  found = found_after s title place slot s.found is for h.found;
+changed : (s : State) (title : List ℕ) (index : ℕ) (slot : Option File) (buffer : Option (List ℕ)) → IsState s
+    → IsIndexFor s.slots title index → IsFor title slot → is_slot slot ≡ true → is_buffer buffer ≡ true
+    → IsState (record (calls.with_slot s title index slot) { buffer = buffer })
+changed s title index slot buffer h is for good b = record {
+  indices = length-set s.slots index slot ∙ h.indices;
+  files = list_all-set is_slot s.slots index slot h.files good;
+  distinct = distinct_set s.slots title index slot h.distinct is for;
+  found = found_after s title index slot s.found is for h.found;
   buffer = b;
 }
 
@@ -130,11 +130,11 @@ titled words title h = go (without_blanks (map character words)) h
         chosen false e h = absurd (cc)
 
 -- the place that there is for a file
-placed : (s : State) (title : List ℕ) (size place : ℕ) → IsState s → room_for s title size ≡ Some place → IsPlaceFor s.slots title place
-placed s title size place h e = go (nat_le (blocks_of size) (free s)) e
+placed : (s : State) (title : List ℕ) (size index : ℕ) → IsState s → room_for s title size ≡ Some index → IsIndexFor s.slots title index
+placed s title size index h e = go (nat_le (blocks_of size) (free s)) e
   where
-    go : (b : Bool) → (if b then slot_for s.slots title else None) ≡ Some place → IsPlaceFor s.slots title place
-    go true e = place_for s.slots title place h.distinct e
+    go : (b : Bool) → (if b then slot_for s.slots title else None) ≡ Some index → IsIndexFor s.slots title index
+    go true e = index_for s.slots title index h.distinct e
     go false e = absurd (cc)
 
 closes : (buffer : Option (List ℕ)) (words : List ℕ) (s : State) → IsState s → is_buffer buffer ≡ true → SoundIn (calls.close_of buffer words s)
@@ -142,9 +142,9 @@ closes None words s h b = tt
 closes (Some bytes) words s h b =
     by_option (λ title. calls.close_as bytes title s) (title_of words) _
     (λ title spelled.
-    by_option (λ place. gives 1 (calls.stored title bytes place s)) (room_for s title (length bytes)) _
-    (λ place room.
-    changed s title place (Some (text_file title bytes)) None h (placed s title (length bytes) place h room)
+    by_option (λ index. gives 1 (calls.stored title bytes index s)) (room_for s title (length bytes)) _
+    (λ index room.
+    changed s title index (Some (text_file title bytes)) None h (placed s title (length bytes) index h room)
     (record { titled = λ file e. let t : title ≡ file.title = ap_title (text_file title bytes) file e in sym t })
     (ap (λ b. b && are_bytes bytes) (titled words title spelled) ∙ b) refl) h) h
   where
@@ -155,16 +155,16 @@ removes : (words : List ℕ) (s : State) → IsState s → SoundIn (calls.remove
 removes words s h =
     by_option (λ title. calls.remove_as title s) (title_of words) _
     (λ title spelled.
-    by_option (λ place. gives 1 (calls.with_slot s title place None)) (open_slot s.slots title) _
-    (λ place room.
-    changed s title place None s.buffer h (place_open s.slots title place h.distinct room)
+    by_option (λ index. gives 1 (calls.with_slot s title index None)) (open_slot s.slots title) _
+    (λ index room.
+    changed s title index None s.buffer h (index_open s.slots title index h.distinct room)
     (record { titled = λ file e. absurd (cc) }) refl h.buffer) h) h
 
 -- each of the calls
 sound_on : (number : ℕ) (words : List ℕ) (s : State) → IsState s → SoundIn (call number words s)
 sound_on number words s h =
     let same : (shown printed : List ℕ) → IsState (record s { shown = shown; printed = printed }) =
-    λ shown printed. record { places = h.places; files = h.files; distinct = h.distinct; found = h.found; buffer = h.buffer } in
+    λ shown printed. record { indices = h.indices; files = h.files; distinct = h.distinct; found = h.found; buffer = h.buffer } in
     either (number == 1) _ _ (λ _. accepts s.input s h) (λ _.
     either (number == 2) _ _ (λ _. same _ s.printed) (λ _.
     either (number == 3) _ _ (λ _. same s.shown _) (λ _.
@@ -194,14 +194,14 @@ not_both : (n : ℕ) → n ≡ 1 → n ≡ 0 → ⊥
 not_both n a b = absurd (omega arith)
 
 stored_found : (s after : State) (title bytes : List ℕ) (o : Option ℕ) → IsState s → room_for s title (length bytes) ≡ o
-    → option_map_or (λ place. gives 1 (calls.stored title bytes place s)) o (gives 0 s) ≡ answered (1 ∷ []) after
+    → option_map_or (λ index. gives 1 (calls.stored title bytes index s)) o (gives 0 s) ≡ answered (1 ∷ []) after
     → find_file after.slots title ≡ Some (text_file title bytes)
 stored_found s after title bytes None h room e =
     absurd (not_both 0 (ap first_word e) refl)
-stored_found s after title bytes (Some place) h room e =
-    let same : calls.stored title bytes place s ≡ after = cc in
+stored_found s after title bytes (Some index) h room e =
+    let same : calls.stored title bytes index s ≡ after = cc in
     ap (λ t. find_file t.slots title) (sym same)
-    ∙ file_here s.slots title place (text_file title bytes) (placed s title (length bytes) place h room) refl
+    ∙ file_here s.slots title index (text_file title bytes) (placed s title (length bytes) index h room) refl
 
 pub closed_files_are_found_all : ClosedFilesAreFound
 closed_files_are_found_all words title bytes before after h spelled open_file e =

@@ -1,4 +1,4 @@
--- The ten calls by which a program uses the system. Each takes its argument words and a state, and gives answer
+-- Definition. The ten calls by which a program uses the system. Each takes its argument words and a state, and gives answer
 -- words and the state after it, or fails and leaves the state as it is.
 use Rattle.std.specs.Prelude.{ℕ, ◌+◌, Bool, true, false, ◌||◌, ◌==◌, nat_lt, nat_le, if◌then◌else◌, List, [], ◌∷◌, ◌++◌, length, slice_get, slice_index, Option, Some, None, is_some, is_none}
 use Rattle.std.specs.Option.{option_and_then, option_map_or}
@@ -123,7 +123,7 @@ other_than title (Some found) = if bytes_eq found.title title then None else Som
 -- the slot of the file with this title, if it may be changed
 abbrev pub open_slot : List (Option File) → List ℕ → Option ℕ
 open_slot slots title =
-    option_and_then (λ place. if is_protected (slot_at slots place) then None else Some place) (find_slot slots title)
+    option_and_then (λ index. if is_protected (slot_at slots index) then None else Some index) (find_slot slots title)
 
 -- the slot where a file of this title is stored: its own, if it may be changed; for a new title the first free one
 abbrev pub slot_for : List (Option File) → List ℕ → Option ℕ
@@ -139,16 +139,16 @@ text_file title bytes = record { title = title; kind = kind.Text; protected = fa
 
 -- the state with this in the slot at that place, where the found file is dropped if it has this title
 abbrev pub with_slot : State → List ℕ → ℕ → Option File → State
-with_slot state title place slot =
-    record state { slots = put_slot state.slots place slot; found = other_than title state.found }
+with_slot state title index slot =
+    record state { slots = put_slot state.slots index slot; found = other_than title state.found }
 
 abbrev pub stored : List ℕ → List ℕ → ℕ → State → State
-stored title bytes place state =
-    record (with_slot state title place (Some (text_file title bytes))) { buffer = None }
+stored title bytes index state =
+    record (with_slot state title index (Some (text_file title bytes))) { buffer = None }
 
 abbrev pub close_as : List ℕ → List ℕ → State → CallResult
 close_as bytes title state =
-    option_map_or (λ place. gives 1 (stored title bytes place state)) (room_for state title (length bytes)) (gives 0 state)
+    option_map_or (λ index. gives 1 (stored title bytes index state)) (room_for state title (length bytes)) (gives 0 state)
 
 abbrev pub close_of : Option (List ℕ) → List ℕ → State → CallResult
 close_of None words state = no_file
@@ -161,7 +161,7 @@ close words state = close_of state.buffer words state
 
 abbrev pub remove_as : List ℕ → State → CallResult
 remove_as title state =
-    option_map_or (λ place. gives 1 (with_slot state title place None)) (open_slot state.slots title) (gives 0 state)
+    option_map_or (λ index. gives 1 (with_slot state title index None)) (open_slot state.slots title) (gives 0 state)
 
 -- the file of a title is removed, if there is one that is not protected; the answer says whether it was
 abbrev pub remove : List ℕ → State → CallResult

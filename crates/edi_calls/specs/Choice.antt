@@ -1,4 +1,4 @@
--- The choices that the kernel takes, each a number 0 to 255, where several processes may go on.
+-- Definition. The choices that the kernel takes, each a number 0 to 255, where several processes may go on.
 use Rattle.std.specs.Prelude.{ℕ, zero, suc, ◌+◌, ◌-◌, ◌*◌, ◌/◌, ◌%◌, List, [], ◌∷◌, ◌++◌, slice_index}
 
 -- choices that are listed, or choices without end that a seed generates

@@ -1,4 +1,4 @@
--- The counts of faults of a system in memory.
+-- Words of contracts. The counts of faults of a system in memory.
 use Rattle.std.specs.Prelude.{ℕ}
 use Rattle.edi_calls.specs.declared.ends.Outside.{Outside}
 use Rattle.edi_calls.specs.declared.ends.Outside.TheVariants as outside

@@ -1,6 +1,6 @@
--- How a call may end that was to have this result, on an object that tells its state.
+-- Words of contracts. How a call may end that was to have this result, on an object that tells its state.
 use Rattle.std.specs.Prelude.{◌≡◌, ℕ, ◌⊎◌, Bool, true, false, List, Option, Some, None}
-use Rattle.edi_told.specs.Faults.{Rose}
+use Rattle.edi_told.specs.Faults.{CountRose}
 use Rattle.edi_calls.specs.declared.ends.CallEnd.{CallEnd}
 use Rattle.edi_calls.specs.declared.ends.CallEnd.TheVariants as end
 use Rattle.edi_calls.specs.declared.ends.Outside.{Outside}
@@ -34,5 +34,5 @@ is_refused end.OutsideFault = false
 -- What has failed after a call before which nothing had: one object, at an outside fault, and its count of faults
 -- rose in this call; nothing at any other end.
 abbrev pub Blames : CallEnd → (failed : Option Outside → Type 0) → (before now : Outside → ℕ) → Type 0
-Blames end.OutsideFault failed before now = (outside : Outside) × failed (Some outside) × Rose (before outside) (now outside)
+Blames end.OutsideFault failed before now = (outside : Outside) × failed (Some outside) × CountRose (before outside) (now outside)
 Blames _ failed before now = failed None

@@ -1,7 +1,8 @@
--- Laws of the ten calls.
-use Rattle.std.specs.Prelude.{◌≡◌, ℕ, ◌≤◌, List, [], ◌∷◌, ◌++◌, length, Some}
+-- Words of contracts. Laws of the ten calls.
+use Rattle.std.specs.Prelude.{◌≡◌, ◌⊎◌, ℕ, ◌≤◌, List, [], ◌∷◌, ◌++◌, length, Some}
 use Rattle.edi_calls.specs.State.{State, IsState, title_of, find_file}
 use Rattle.edi_calls.specs.Calls.{call, close, answered, answer_words, text_file}
+use Rattle.edi_calls.specs.Ends.{IsTorn}
 
 -- input is only taken, shown and printed bytes only follow those before them, and the numbers of slots and blocks stay
 pub record GoesOn (before after : State) : Type 0 where
@@ -30,3 +31,30 @@ abbrev pub ClosedFilesAreFound : Type 0
 ClosedFilesAreFound = (words title bytes : List ℕ) (before after : State) → IsState before → title_of words ≡ Some title
     → before.buffer ≡ Some bytes → close words before ≡ answered (1 ∷ []) after
     → find_file after.slots title ≡ Some (text_file title bytes)
+
+-- of the input, the bytes shown, the bytes printed and the slots at most one is another: the other three are as before
+pub data ChangesOnePart (before after : State) : Type 0 where
+  only_input : after.shown ≡ before.shown → after.printed ≡ before.printed → after.slots ≡ before.slots → ChangesOnePart before after
+  only_shown : after.input ≡ before.input → after.printed ≡ before.printed → after.slots ≡ before.slots → ChangesOnePart before after
+  only_printed : after.input ≡ before.input → after.shown ≡ before.shown → after.slots ≡ before.slots → ChangesOnePart before after
+  only_slots : after.input ≡ before.input → after.shown ≡ before.shown → after.printed ≡ before.printed → ChangesOnePart before after
+
+-- so does each call that is answered
+abbrev pub EachCallChangesOnePart : Type 0
+EachCallChangesOnePart = (number : ℕ) (words answer : List ℕ) (before after : State)
+    → call number words before ≡ answered answer after → ChangesOnePart before after
+
+-- two states that differ at most in their found files and buffers
+pub record IsSameOutside (one other : State) : Type 0 where
+  pub input : other.input ≡ one.input
+  pub shown : other.shown ≡ one.shown
+  pub printed : other.printed ≡ one.printed
+  pub slots : other.slots ≡ one.slots
+  pub blocks : other.blocks ≡ one.blocks
+
+-- so a call that was to be answered and was failed by an object outside leaves, but for the found file and the buffer, the
+-- state before it, or the whole state that it was to leave
+abbrev pub TornIsBeforeOrBehind : Type 0
+TornIsBeforeOrBehind = (number : ℕ) (words answer : List ℕ) (before next after : State)
+    → call number words before ≡ answered answer next → IsTorn before next after
+    → IsSameOutside before after ⊎ IsSameOutside next after

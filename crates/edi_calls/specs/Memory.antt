@@ -1,4 +1,4 @@
--- The state that a system in memory stands for, and how its calls reach it.
+-- Words of contracts. The state that a system in memory stands for, and how its calls reach it.
 use Rattle.std.specs.Prelude.{◌≡◌, ℕ, Option, Result, Ok, Err}
 use Rattle.std.specs.Option.{option_map, option_to_list}
 use Rattle.edi_calls.specs.declared.state.Reading.{Reading}

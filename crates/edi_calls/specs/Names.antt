@@ -1,4 +1,4 @@
--- The names of processes, and tables by name.
+-- Definition. The names of processes, and tables by name.
 use Rattle.std.specs.Prelude.{ℕ, Bool, true, false, ◌&&◌, nat_eq, if◌then◌else◌, List, [], ◌∷◌, Option, Some, None}
 
 -- the first process has the empty name; child i of the f-th fork of p has the name p followed by f and i

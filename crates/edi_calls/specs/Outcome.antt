@@ -1,4 +1,4 @@
--- What the run of a program leaves.
+-- Definition. What the run of a program leaves.
 use Rattle.std.specs.Prelude.{ℕ, List, Option}
 use Rattle.edi_calls.specs.declared.kinds.Cause.{Cause}
 use Rattle.edi_calls.specs.State.{File, State}

@@ -1,4 +1,4 @@
--- The list of the processes that are ready, and which of them goes on next. The meaning of programs and the machine
+-- Definition. The list of the processes that are ready, and which of them goes on next. The meaning of programs and the machine
 -- share this rule.
 use Rattle.std.specs.Prelude.{ℕ, zero, suc, ◌+◌, ◌-◌, ◌%◌, Bool, true, false, ◌&&◌, ◌||◌, List, [], ◌∷◌, ◌++◌, length, take}
 use Rattle.edi_calls.specs.Names.{Name, same}
@@ -38,18 +38,18 @@ pub data Taking : Type 0 where
 
 -- the name at a place, counted from 0, and the list without it
 abbrev pub name_at : List Name → ℕ → Name
-name_at [] place = []
+name_at [] index = []
 name_at (p ∷ ps) zero = p
-name_at (p ∷ ps) (suc place) = name_at ps place
+name_at (p ∷ ps) (suc index) = name_at ps index
 
-abbrev pub without_place : List Name → ℕ → List Name
-without_place [] place = []
-without_place (p ∷ ps) zero = ps
-without_place (p ∷ ps) (suc place) = p ∷ without_place ps place
+abbrev pub without_index : List Name → ℕ → List Name
+without_index [] index = []
+without_index (p ∷ ps) zero = ps
+without_index (p ∷ ps) (suc index) = p ∷ without_index ps index
 
 -- the process at this place is taken
 abbrev pub taking_at : List Name → ℕ → ℕ → Taking
-taking_at ready place drawn = taking (name_at ready place) (without_place ready place) drawn
+taking_at ready index drawn = taking (name_at ready index) (without_index ready index) drawn
 
 -- of k ready processes the one at place c mod k from the front is taken, c being the next choice; a single one is
 -- taken without a choice

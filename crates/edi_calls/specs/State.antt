@@ -1,6 +1,6 @@
--- The state of the system that a program sees: what is left of the input, what was shown and printed, the files
+-- Definition. The state of the system that a program sees: what is left of the input, what was shown and printed, the files
 -- in their slots, and the two files that the program has open.
-use Rattle.std.specs.Prelude.{◌≡◌, ℕ, suc, ◌+◌, ◌-◌, ◌/◌, ◌%◌, ◌≤◌, Bool, true, false, ◌&&◌, ◌||◌, ◌==◌, nat_lt, nat_le, if◌then◌else◌, IsTrue, ⊤, List, [], ◌∷◌, length, map, slice_set, slice_index_or, Option, Some, None, is_none}
+use Rattle.std.specs.Prelude.{◌≡◌, ℕ, suc, ◌+◌, ◌-◌, ◌/◌, ◌%◌, ◌≤◌, Bool, true, false, ◌&&◌, ◌||◌, ◌==◌, nat_lt, nat_le, if◌then◌else◌, IsTrue, ⊤, List, [], ◌∷◌, ◌++◌, length, map, slice_set, slice_index_or, Option, Some, None, is_none}
 use Rattle.std.specs.List.{list_all}
 use Rattle.std.specs.Option.{option_map, option_and_then}
 use Rattle.std.specs.Str.{bytes_eq}
@@ -107,25 +107,25 @@ is_titled title None = false
 is_titled title (Some file) = bytes_eq file.title title
 
 -- the place of the first slot that passes a test
-abbrev pub first_place : (Option File → Bool) → List (Option File) → Option ℕ
-first_place test [] = None
-first_place test (slot ∷ slots) = if test slot then Some 0 else option_map suc (first_place test slots)
+abbrev pub first_index : (Option File → Bool) → List (Option File) → Option ℕ
+first_index test [] = None
+first_index test (slot ∷ slots) = if test slot then Some 0 else option_map suc (first_index test slots)
 
 -- the place of the file with this title
 abbrev pub find_slot : List (Option File) → List ℕ → Option ℕ
-find_slot slots title = first_place (is_titled title) slots
+find_slot slots title = first_index (is_titled title) slots
 
 -- the place of the first free slot
 abbrev pub first_free : List (Option File) → Option ℕ
-first_free slots = first_place is_none slots
+first_free slots = first_index is_none slots
 
 -- what is in the slot at this place
 abbrev pub slot_at : List (Option File) → ℕ → Option File
-slot_at slots place = slice_index_or slots place None
+slot_at slots index = slice_index_or slots index None
 
 -- the slots with this in the slot at that place
 abbrev pub put_slot : List (Option File) → ℕ → Option File → List (Option File)
-put_slot slots place slot = slice_set slots place slot
+put_slot slots index slot = slice_set slots index slot
 
 -- the file with this title
 abbrev pub find_file : List (Option File) → List ℕ → Option File
@@ -136,7 +136,7 @@ find_file slots title = option_and_then (slot_at slots) (find_slot slots title)
 -- each file is the one that its title finds, so no two files have one title
 abbrev pub AreDistinct : List (Option File) → Type 0
 AreDistinct slots =
-    (place : ℕ) (file : File) → slot_at slots place ≡ Some file → find_slot slots file.title ≡ Some place
+    (index : ℕ) (file : File) → slot_at slots index ≡ Some file → find_slot slots file.title ≡ Some index
 
 abbrev pub is_byte : ℕ → Bool
 is_byte b = nat_lt b 256
@@ -166,7 +166,7 @@ is_buffer None = true
 is_buffer (Some bytes) = are_bytes bytes
 
 pub record IsState (state : State) : Type 0 where
-  pub places : length state.slots ≡ 256
+  pub indices : length state.slots ≡ 256
   pub files : list_all is_slot state.slots ≡ true
   pub distinct : AreDistinct state.slots
   pub found : IsFoundIn state.slots state.found
@@ -175,3 +175,26 @@ pub record IsState (state : State) : Type 0 where
 -- the state in which a program is begun: it has no file open
 abbrev pub fresh : State → State
 fresh state = record state { found = None; buffer = None }
+
+-- ---- a system with its past
+
+-- the system as it is, and as it was after each call so far, the last one first
+pub record Traced : Type 0 where
+  pub now : State
+  pub past : List State
+
+-- before any call, and after one more
+abbrev pub begun : State → Traced
+begun state = record { now = state; past = [] }
+
+abbrev pub after_call : State → Traced → Traced
+after_call state traced = record { now = state; past = state ∷ traced.past }
+
+-- all states of a system that was first so and went through this past, the last one first
+abbrev pub moments_of : State → List State → List State
+moments_of first past = past ++ first ∷ []
+
+-- the last one of them
+abbrev pub newest : State → List State → State
+newest first [] = first
+newest first (state ∷ past) = state

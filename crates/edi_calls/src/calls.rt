@@ -69,4 +69,7 @@ pub trait Calls {
         ensures blame { Blames result (failed self.new) (faults self.old) (faults self.new) }
         ensures references { references self.new ≡ references self.old }
         ensures lasting { (n : ℕ) → lasting self.old n → lasting self.new n };
+
+    /// What has failed is one: this object, or nothing.
+    ghost one_failed: { (calls : Self) (one other : Option Outside) → failed calls one → failed calls other → one ≡ other };
 }

@@ -1,7 +1,7 @@
 //! Counts of the faults of the objects outside.
 
 ghost use Rattle.std.specs.Prelude.{◌≡◌, ◌≤◌, ℕ};
-ghost use Rattle.edi_told.specs.Faults.{Rose};
+ghost use Rattle.edi_told.specs.Faults.{CountRose};
 ghost use Rattle.edi_calls.specs.declared.ends.Outside.{Outside};
 ghost use Rattle.edi_calls.specs.Counts.{count_of};
 
@@ -45,7 +45,7 @@ impl Faults {
     /// The counts after one more fault of this object.
     #[tactic(auto, using(crate::proofs::Rising::each_later))]
     pub fn risen(self, outside: Outside) -> Faults
-        ensures rose { Rose (count_of self outside) (count_of result outside) }
+        ensures rose { CountRose (count_of self outside) (count_of result outside) }
         ensures later { (other : Outside) → count_of self other ≤ count_of result other }
     {
         match outside {

@@ -1,6 +1,6 @@
 //! Laws of the ten calls. Each stands on a function without a body, since it speaks of all states.
 
-ghost use Rattle.edi_calls.specs.Laws.{EachCallGoesOn, AnswersFit, StatesStaySound, ClosedFilesAreFound};
+ghost use Rattle.edi_calls.specs.Laws.{EachCallGoesOn, AnswersFit, StatesStaySound, ClosedFilesAreFound, EachCallChangesOnePart, TornIsBeforeOrBehind};
 
 /// A call that is answered only takes from the input, only adds to what was shown and printed, and leaves the
 /// numbers of slots and blocks as they are.
@@ -22,4 +22,15 @@ pub fn states_stay_sound()
 /// A file that was closed under a title is found under it, with the bytes that were written.
 pub fn closed_files_are_found()
     ensures { ClosedFilesAreFound }
+{}
+
+/// A call that is answered changes at most one of the input, the bytes shown, the bytes printed and the slots.
+pub fn each_call_changes_one_part()
+    ensures { EachCallChangesOnePart }
+{}
+
+/// A call that was to be answered and was failed by an object outside leaves these parts all as they were before it, or all
+/// as it was to leave them.
+pub fn torn_is_before_or_behind()
+    ensures { TornIsBeforeOrBehind }
 {}

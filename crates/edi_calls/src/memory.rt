@@ -3,7 +3,7 @@
 ghost use Rattle.std.specs.Prelude.{◌≡◌, ◌≤◌, length, replicate, None, IfOk, OnErr};
 ghost use Rattle.std.specs.Option.{option_copied};
 ghost use Rattle.edi_calls.specs.State.{fresh, free, find_file, slot_at};
-ghost use Rattle.edi_calls.specs.MemoryCalls.{system_of, faults_of, failed_of, Begins, Adds, IsSameElsewhere};
+ghost use Rattle.edi_calls.specs.MemoryCalls.{system_of, faults_of, failed_of, CallsBegin, Adds, IsSameElsewhere};
 
 use crate::calls::Calls;
 use crate::ends::{CallEnd, Outside};
@@ -31,7 +31,7 @@ fn free_slots(alloc: Global, count: usize) -> Result<Vec<Option<StoredFile>>, Al
     ensures { IfOk result (λ slots. slots.items ≡ replicate count None) }
 {
     let mut slots = Vec::with_capacity(alloc, count)?;
-    for _place in 0..count {
+    for _index in 0..count {
         slots.push(None)?;
     }
     Ok(slots)
@@ -40,7 +40,7 @@ fn free_slots(alloc: Global, count: usize) -> Result<Vec<Option<StoredFile>>, Al
 impl MemoryCalls {
     /// A system with this input, a disk of so many blocks, and no files. No disk is one of 0 blocks.
     pub fn new(alloc: Global, input: &[u8], blocks: u32) -> Result<MemoryCalls, AllocError>
-        ensures { IfOk result (λ calls. Begins calls input.now blocks) }
+        ensures { IfOk result (λ calls. CallsBegin calls input.now blocks) }
     {
         let system = MemoryState {
             alloc,
@@ -75,12 +75,12 @@ impl MemoryCalls {
         ensures err { OnErr result (system_of self.new ≡ system_of self.old) }
         ensures others { IsSameElsewhere self.old self.new }
     {
-        let Some(place) = self.system.new_place(title, bytes.len()) else {
+        let Some(index) = self.system.new_index(title, bytes.len()) else {
             return Ok(false);
         };
         let title = Vec::from_slice(alloc, title)?;
         let bytes = Vec::from_slice(alloc, bytes)?;
-        self.system.slots[place] = Some(StoredFile::new(title, kind, protected, bytes));
+        self.system.slots[index] = Some(StoredFile::new(title, kind, protected, bytes));
         Ok(true)
     }
 
@@ -115,10 +115,10 @@ impl MemoryCalls {
     }
 
     /// The file in the slot at this place; none where the slot is free, or the place is not below 256.
-    pub fn slot(&self, place: usize) -> Option<&StoredFile>
-        ensures { option_copied result ≡ slot_at (system_of self.now).slots place }
+    pub fn slot(&self, index: usize) -> Option<&StoredFile>
+        ensures { option_copied result ≡ slot_at (system_of self.now).slots index }
     {
-        match self.system.slots.get(place) {
+        match self.system.slots.get(index) {
             Some(slot) => slot.as_ref(),
             None => None,
         }
@@ -148,6 +148,7 @@ impl MemoryCalls {
 
 impl Calls for MemoryCalls {
     ghost use Rattle.std.specs.Prelude.{◌≡◌, Some, [], ⊤};
+    ghost use Rattle.std.proofs.Common.{sym, ◌∙◌};
     ghost use Rattle.edi_calls.specs.MemoryCalls.{system_of, faults_of, failed_of};
 
     ghost state = { λ calls. Some (system_of calls) };
@@ -159,6 +160,8 @@ impl Calls for MemoryCalls {
     ghost references = { λ calls. [] };
 
     ghost lasting = { λ calls n. ⊤ };
+
+    ghost one_failed = { λ calls one other p q. sym p ∙ q };
 
     fn call(&mut self, number: u8, args: &[u16], answer: &mut [u16]) -> CallEnd {
         match self.system.step(number, args) {

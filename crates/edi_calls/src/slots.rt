@@ -1,7 +1,7 @@
 //! The slots of the files, and the blocks that the files take.
 
 ghost use Rattle.std.specs.Prelude.{◌≡◌, ◌<◌, ◌≤◌, ◌*◌, length, IfSome, is_none};
-ghost use Rattle.edi_calls.specs.State.{File, most_bytes, pages_of, blocks_of, blocks_in, blocks_taken, is_titled, first_place, find_slot, first_free, slot_at};
+ghost use Rattle.edi_calls.specs.State.{File, most_bytes, pages_of, blocks_of, blocks_in, blocks_taken, is_titled, first_index, find_slot, first_free, slot_at};
 ghost use Rattle.edi_calls.specs.Calls.{is_protected, open_slot, slot_for};
 
 use crate::stored::StoredFile;
@@ -58,11 +58,11 @@ fn is_titled(slot: &Option<StoredFile>, title: &[u8]) -> bool
 /// The place of the file with this title.
 pub(crate) fn find_slot(slots: &[Option<StoredFile>], title: &[u8]) -> Option<usize>
     ensures exact { result ≡ find_slot slots.now title.now }
-    ensures within { IfSome result (λ place. place < length slots.now) }
+    ensures within { IfSome result (λ index. index < length slots.now) }
 {
-    for (place, slot) in slots.iter().enumerate() {
+    for (index, slot) in slots.iter().enumerate() {
         if is_titled(slot, title) {
-            return Some(place);
+            return Some(index);
         }
     }
     None
@@ -71,11 +71,11 @@ pub(crate) fn find_slot(slots: &[Option<StoredFile>], title: &[u8]) -> Option<us
 /// The place of the first free slot.
 pub(crate) fn first_free(slots: &[Option<StoredFile>]) -> Option<usize>
     ensures exact { result ≡ first_free slots.now }
-    ensures within { IfSome result (λ place. place < length slots.now) }
+    ensures within { IfSome result (λ index. index < length slots.now) }
 {
-    for (place, slot) in slots.iter().enumerate() {
+    for (index, slot) in slots.iter().enumerate() {
         if slot.is_none() {
-            return Some(place);
+            return Some(index);
         }
     }
     None
@@ -93,20 +93,20 @@ fn is_protected(slot: &Option<StoredFile>) -> bool
 /// The slot of the file with this title, if it may be changed: a protected file may not.
 pub(crate) fn open_slot(slots: &[Option<StoredFile>], title: &[u8]) -> Option<usize>
     ensures exact { result ≡ open_slot slots.now title.now }
-    ensures within { IfSome result (λ place. place < length slots.now) }
+    ensures within { IfSome result (λ index. index < length slots.now) }
 {
-    let place = find_slot(slots, title)?;
-    if is_protected(&slots[place]) {
+    let index = find_slot(slots, title)?;
+    if is_protected(&slots[index]) {
         None
     } else {
-        Some(place)
+        Some(index)
     }
 }
 
 /// The slot where a file of this title is stored: its own, if it may be changed; for a new title the first free one.
 pub(crate) fn slot_for(slots: &[Option<StoredFile>], title: &[u8]) -> Option<usize>
     ensures exact { result ≡ slot_for slots.now title.now }
-    ensures within { IfSome result (λ place. place < length slots.now) }
+    ensures within { IfSome result (λ index. index < length slots.now) }
 {
     if find_slot(slots, title).is_none() {
         first_free(slots)

@@ -4,7 +4,7 @@ ghost use Rattle.std.specs.Prelude.{◌≡◌, ◌≤◌, ◌<◌, length, IfSom
 ghost use Rattle.std.specs.Option.{option_copied, option_map};
 ghost use Rattle.edi_calls.specs.State.{most_bytes, free, find_file};
 ghost use Rattle.edi_calls.specs.Calls.{found_in, found_bytes, other_than, room_for, accept, display, print, find, more, read, fresh_buffer, write, close, close_as, stored, remove, remove_as, word_of, call, argument_words};
-ghost use Rattle.edi_calls.specs.MemoryCalls.{new_place};
+ghost use Rattle.edi_calls.specs.MemoryCalls.{new_index};
 ghost use Rattle.edi_calls.specs.Memory.{found_of, state_of, Reaches};
 
 use crate::ends::Outside;
@@ -77,8 +77,8 @@ impl MemoryState {
     pub fn file(&self, title: &[u8]) -> Option<&StoredFile>
         ensures { option_copied result ≡ find_file (state_of self.now).slots title.now }
     {
-        let place = find_slot(&self.slots, title)?;
-        self.slots[place].as_ref()
+        let index = find_slot(&self.slots, title)?;
+        self.slots[index].as_ref()
     }
 
     /// The text file of this title at its start.
@@ -188,7 +188,7 @@ impl MemoryState {
     pub fn room_for(&self, title: &[u8], size: usize) -> Option<usize>
         requires { size ≤ most_bytes }
         ensures exact { result ≡ room_for (state_of self.now) title.now size }
-        ensures within { IfSome result (λ place. place < length self.now.slots.items) }
+        ensures within { IfSome result (λ index. index < length self.now.slots.items) }
     {
         if blocks_of(size) <= self.free() {
             slot_for(&self.slots, title)
@@ -209,14 +209,14 @@ impl MemoryState {
     }
 
     /// Stores the file that is being written in the slot at this place.
-    fn store_at(&mut self, title: Vec<u8>, place: usize)
-        requires { place < length self.old.slots.items }
+    fn store_at(&mut self, title: Vec<u8>, index: usize)
+        requires { index < length self.old.slots.items }
         ensures { IfSome self.old.buffer (λ bytes.
-            state_of self.new ≡ stored title.items bytes.items place (state_of self.old)) }
+            state_of self.new ≡ stored title.items bytes.items index (state_of self.old)) }
     {
         drop_titled(&mut self.found, &title);
         if let Some(bytes) = self.buffer.take() {
-            self.slots[place] = Some(StoredFile::new(title, FileKind::Text, false, bytes));
+            self.slots[index] = Some(StoredFile::new(title, FileKind::Text, false, bytes));
         }
     }
 
@@ -225,10 +225,10 @@ impl MemoryState {
         ensures { IfSome self.old.buffer (λ bytes. Reaches (close_as bytes.items title.items (state_of self.old))
             (Ok (Some (word_of result))) (state_of self.old) (state_of self.new)) }
     {
-        let Some(place) = self.room_for(&title, self.written()) else {
+        let Some(index) = self.room_for(&title, self.written()) else {
             return false;
         };
-        self.store_at(title, place);
+        self.store_at(title, index);
         true
     }
 
@@ -252,11 +252,11 @@ impl MemoryState {
     fn remove_titled(&mut self, title: &[u8]) -> bool
         ensures { Reaches (remove_as title.now (state_of self.old)) (Ok (Some (word_of result))) (state_of self.old) (state_of self.new) }
     {
-        let Some(place) = open_slot(&self.slots, title) else {
+        let Some(index) = open_slot(&self.slots, title) else {
             return false;
         };
         drop_titled(&mut self.found, title);
-        self.slots[place] = None;
+        self.slots[index] = None;
         true
     }
 
@@ -274,9 +274,9 @@ impl MemoryState {
     }
 
     /// The slot for a new file of so many bytes, if there may be one of this title.
-    pub fn new_place(&self, title: &[u8], size: usize) -> Option<usize>
-        ensures exact { result ≡ new_place (state_of self.now) title.now size }
-        ensures within { IfSome result (λ place. place < length self.now.slots.items) }
+    pub fn new_index(&self, title: &[u8], size: usize) -> Option<usize>
+        ensures exact { result ≡ new_index (state_of self.now) title.now size }
+        ensures within { IfSome result (λ index. index < length self.now.slots.items) }
         ensures limit { IfSome result (λ _. size ≤ most_bytes) }
     {
         if is_title(title) && size <= MOST_BYTES && find_slot(&self.slots, title).is_none() {

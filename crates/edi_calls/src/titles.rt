@@ -49,9 +49,9 @@ fn kept_length(title: &[u8]) -> usize
     ensures { take result title.now ≡ without_blanks title.now }
 {
     let mut kept = 0;
-    for (place, c) in title.iter().enumerate() {
+    for (index, c) in title.iter().enumerate() {
         if *c != BLANK {
-            kept = place + 1;
+            kept = index + 1;
         }
     }
     kept

@@ -17,12 +17,12 @@ use Rattle.edi_image.specs.Rules.{first_broken, needs}
 use Rattle.edi_image.specs.Entries.{block_at, is_data}
 use Rattle.edi_image.specs.Image.{header_block, header_rules, titles_in, slot_rules, entry_at, said_at, entries_from, entries_of, mount_fault_of, numbers_of, slots_of}
 use Rattle.edi_image.specs.Stored.{StoredFile, stored_of, are_data, is_record, is_stored, is_fit, IsKeptOf}
-use Rattle.edi_catalog.specs.Files.{find_place}
+use Rattle.edi_catalog.specs.Files.{find_index}
 use Rattle.edi_image.specs.Bytes.{bytes_of_slot}
 use Rattle.edi_catalog.specs.Writing.{IsWritten, kept_as, put_kept, file_as, put_file, IsRecordFor, IsRecordAt}
 use Rattle.edi_image.proofs.Spelled.{both}
 use Rattle.edi_image.proofs.SlotRules.{entry_fits}
-use Rattle.edi_catalog.proofs.FilePlaces.{kept_at}
+use Rattle.edi_catalog.proofs.FileIndices.{kept_at}
 use Rattle.edi_image.proofs.ImageRules.{rules_of}
 use Rattle.edi_image.proofs.KeptFiles.{file_of, slots_are}
 use Rattle.edi_image.proofs.EntryBytes.{maps_fit_back, said_of, says_slot}
@@ -136,16 +136,16 @@ map_none None h = refl
 map_none (Some n) h = absurd (let some : Some (suc n) ≡ None = h in cc)
 
 -- no entry has a title that no file has
-pub untitled : (blocks : List (List ℕ)) (title : List ℕ) (es : List Said) → find_place title (map (stored_of blocks) es) ≡ None
+pub untitled : (blocks : List (List ℕ)) (title : List ℕ) (es : List Said) → find_index title (map (stored_of blocks) es) ≡ None
     → list_any (bytes_eq title) (titles_all es) ≡ false
 untitled blocks title [] h = refl
-untitled blocks title (said.Free ∷ es) h = untitled blocks title es (map_none (find_place title (map (stored_of blocks) es)) h)
-untitled blocks title (said.Wrong ∷ es) h = untitled blocks title es (map_none (find_place title (map (stored_of blocks) es)) h)
+untitled blocks title (said.Free ∷ es) h = untitled blocks title es (map_none (find_index title (map (stored_of blocks) es)) h)
+untitled blocks title (said.Wrong ∷ es) h = untitled blocks title es (map_none (find_index title (map (stored_of blocks) es)) h)
 untitled blocks title (said.File r ∷ es) h =
-    go (bytes_eq title r.title) refl h (λ rest. untitled blocks title es (map_none (find_place title (map (stored_of blocks) es)) rest)) where
+    go (bytes_eq title r.title) refl h (λ rest. untitled blocks title es (map_none (find_index title (map (stored_of blocks) es)) rest)) where
       go : (b : Bool) → bytes_eq title r.title ≡ b
-          → (if b then Some 0 else option_map suc (find_place title (map (stored_of blocks) es))) ≡ None
-          → (option_map suc (find_place title (map (stored_of blocks) es)) ≡ None → list_any (bytes_eq title) (titles_all es) ≡ false)
+          → (if b then Some 0 else option_map suc (find_index title (map (stored_of blocks) es))) ≡ None
+          → (option_map suc (find_index title (map (stored_of blocks) es)) ≡ None → list_any (bytes_eq title) (titles_all es) ≡ false)
           → (bytes_eq title r.title || list_any (bytes_eq title) (titles_all es)) ≡ false
       go true e h later = absurd (let some : Some 0 ≡ None = h in cc)
       go false e h later = neither (bytes_eq title r.title) (list_any (bytes_eq title) (titles_all es)) e (later h)
@@ -226,14 +226,14 @@ slots_hold old new files slot file (Some q) around size keeps is was fits =
     (all_kept old new 0 slot keeps) (all_kept old new (slot + 1) (255 - slot) keeps)
     (maps_kept old new (length old) file.record_.maps keeps (record_maps (length old) file.record_ was.fits))
     fits.maps fits.length_ (apart fits.free) where
-      apart : (q.title ≡ file.record_.title) ⊎ (find_place q.title files ≡ None) → IsApart (front_of old slot) (back_of old slot) q.title
+      apart : (q.title ≡ file.record_.title) ⊎ (find_index q.title files ≡ None) → IsApart (front_of old slot) (back_of old slot) q.title
       apart (inl same) =
           subst (IsApart (front_of old slot) (back_of old slot)) (sym same)
           (own_apart old (front_of old slot) (back_of old slot) file.record_ around)
       apart (inr free) =
           let all : list_any (bytes_eq q.title) (titles_all (front_of old slot ++ said.File file.record_ ∷ back_of old slot)) ≡ false =
           ap (λ es. list_any (bytes_eq q.title) (titles_all es)) (sym was.entries)
-          ∙ untitled old q.title (entries_of old) (ap (find_place q.title) (sym is) ∙ free) in
+          ∙ untitled old q.title (entries_of old) (ap (find_index q.title) (sym is) ∙ free) in
           let parts : list_any (bytes_eq q.title) (titles_all (front_of old slot) ++ (file.record_.title ∷ titles_all (back_of old slot))) ≡ false =
           ap (list_any (bytes_eq q.title)) (sym (titles_all-append (front_of old slot) (said.File file.record_ ∷ back_of old slot))) ∙ all in
           new_apart (front_of old slot) (back_of old slot) q.title

@@ -131,7 +131,7 @@ woven_different (m ∷ maps) pages d =
     (false_from_ne_true _
     (λ there. true≢false (sym (in_behind m maps pages there) ∙ rest.0)))
     (different_join (take 255 pages) (woven maps (drop 255 pages)) (different_left (take 255 pages) (drop 255 pages) cut) later
-    (λ n h. false_from_ne_true _ (λ there. both_places n maps pages apart cut h (in_woven n maps (drop 255 pages) there)))) where
+    (λ n h. false_from_ne_true _ (λ there. both_indices n maps pages apart cut h (in_woven n maps (drop 255 pages) there)))) where
       in_behind : (n : ℕ) (maps pages : List ℕ) → is_in n (take 255 pages ++ woven maps (drop 255 pages)) ≡ true → is_in n (maps ++ pages) ≡ true
       in_behind n maps pages h =
           elim (or_cases (is_in n (take 255 pages)) (is_in n (woven maps (drop 255 pages)))
@@ -140,9 +140,9 @@ woven_different (m ∷ maps) pages d =
             | inr b ↦ in_rest n maps pages (in_woven n maps (drop 255 pages) b)
           ]
 
-      both_places : (n : ℕ) (maps pages : List ℕ) → AreApart maps pages → are_different (take 255 pages ++ drop 255 pages) ≡ true
+      both_indices : (n : ℕ) (maps pages : List ℕ) → AreApart maps pages → are_different (take 255 pages ++ drop 255 pages) ≡ true
           → is_in n (take 255 pages) ≡ true → is_in n (maps ++ drop 255 pages) ≡ true → ⊥
-      both_places n maps pages apart cut h there =
+      both_indices n maps pages apart cut h there =
           elim (or_cases (is_in n maps) (is_in n (drop 255 pages)) (sym (in_append n maps (drop 255 pages)) ∙ there)) [
             | inl a ↦ true≢false (sym ((in_parts n pages).0 h) ∙ apart n a)
             | inr b ↦ true≢false (sym b ∙ different_apart (take 255 pages) (drop 255 pages) cut n h)

@@ -1,5 +1,5 @@
 -- The blocks with the entries as a catalogue keeps them.
-use Rattle.std.proofs.Common.{◌≡◌, ℕ, zero, suc, ◌+◌, ◌*◌, ◌/◌, ◌%◌, ◌<◌, ◌≤◌, ◌⊎◌, inl, inr, true, false, List, [], ◌∷◌, ◌++◌, length, set, get_or, refl, ap, sym, subst, ◌∙◌, arith}
+use Rattle.std.proofs.Common.{◌≡◌, ℕ, zero, suc, ◌+◌, ◌*◌, ◌/◌, ◌%◌, ◌<◌, ◌⊎◌, inl, inr, true, false, List, [], ◌∷◌, ◌++◌, length, set, get_or, refl, ap, sym, subst, ◌∙◌, arith}
 use Rattle.std.proofs.Math.ListN.{get_or-append}
 use Rattle.std.proofs.Math.Seq.{get_or-append_seam}
 use Rattle.std.proofs.lemmas.Bool.{cases_eq}
@@ -72,10 +72,10 @@ entries_over slot entry kept old new h many are written k less = go (cases_eq k 
       → get_or (set kept (slot / 8) (patched (64 * (slot % 8)) entry (get_or kept (slot / 8) []))) k [] ≡ block_at new (1 + k)
   go (inl e) =
       let few : slot / 8 < 32 = omega arith in
-      let place : 1 + k ≡ 1 + slot / 8 = omega (arith, e) in
+      let index : 1 + k ≡ 1 + slot / 8 = omega (arith, e) in
       get_or-set_at kept (slot / 8) k _ [] e (omega (arith, few, many))
       ∙ ap (patched (64 * (slot % 8)) entry) (are (slot / 8) few)
-      ∙ sym (get_or-set_at old (1 + slot / 8) (1 + k) _ [] place (reached old (1 + slot / 8) written.whole))
+      ∙ sym (get_or-set_at old (1 + slot / 8) (1 + k) _ [] index (reached old (1 + slot / 8) written.whole))
       ∙ sym (ap (λ bs. block_at bs (1 + k)) written.now)
   go (inr other) =
       get_or-set_other kept (slot / 8) k _ [] other ∙ are k less

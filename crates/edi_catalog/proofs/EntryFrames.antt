@@ -33,7 +33,7 @@ front_only front back n h =
 -- what stands behind the front, whatever that is
 back_only : (front back : List ℕ) (m n : ℕ) → length front ≡ m → m ≤ n → drop n (front ++ back) ≡ drop (n - m) back
 back_only front back m n size h =
-    ap (λ k. drop k (front ++ back)) (let place : n ≡ length front + (n - m) = omega (arith, size) in place)
+    ap (λ k. drop k (front ++ back)) (let index : n ≡ length front + (n - m) = omega (arith, size) in index)
     ∙ drop-append-add front back (n - m)
 
 patch_other : (i j : ℕ) (entry block : List ℕ) → i < 8 → j < 8 → length block ≡ 512 → length entry ≡ 64 → (j ≡ i → ⊥)
@@ -79,12 +79,12 @@ entry_other blocks slot other entry whole long h apart = go (cases_eq (other / 8
       ap (λ b. take 64 (drop (64 * (other % 8)) b))
       (block_kept blocks slot entry (1 + other / 8) (λ e. differ (let same : other / 8 ≡ slot / 8 = omega (arith, e) in same)))
   go (inl e) =
-      let place : 1 + other / 8 ≡ 1 + slot / 8 = omega (arith, e) in
-      ap (λ n. take 64 (drop (64 * (other % 8)) (block_at (with_entry blocks slot entry) n))) place
+      let index : 1 + other / 8 ≡ 1 + slot / 8 = omega (arith, e) in
+      ap (λ n. take 64 (drop (64 * (other % 8)) (block_at (with_entry blocks slot entry) n))) index
       ∙ ap (λ b. take 64 (drop (64 * (other % 8)) b)) (get_or-set_same blocks (1 + slot / 8) (patched (64 * (slot % 8)) entry (block_at blocks (1 + slot / 8))) [] h)
       ∙ patch_other (slot % 8) (other % 8) entry (block_at blocks (1 + slot / 8)) (omega arith) (omega arith) whole long
       (λ same. apart (let eq : other ≡ slot = omega (arith, e, same) in eq))
-      ∙ ap (λ n. take 64 (drop (64 * (other % 8)) (block_at blocks n))) (sym place)
+      ∙ ap (λ n. take 64 (drop (64 * (other % 8)) (block_at blocks n))) (sym index)
 
 pub said_here : (blocks : List (List ℕ)) (slot : ℕ) (entry : List ℕ) → length (block_at blocks (1 + slot / 8)) ≡ 512 → length entry ≡ 64
     → 1 + slot / 8 < length blocks → said_at (with_entry blocks slot entry) slot ≡ entry_says (length blocks) entry

@@ -78,9 +78,9 @@ used_below count file i h less =
     ltb-true _ count (and_parts (nat_le 33 (get_or (used_in (Some file)) i 0)) _ data_).1
 
 -- a block's place in a file of so many bytes
-pub place_within : (count : ℕ) (file : StoredFile) (size many i : ℕ) → is_stored count (Some file) ≡ true → size ≡ file.record_.length
+pub index_within : (count : ℕ) (file : StoredFile) (size many i : ℕ) → is_stored count (Some file) ≡ true → size ≡ file.record_.length
     → many ≡ blocks_of size → i < many → i < length (used_in (Some file))
-place_within count file size many i h e is less =
+index_within count file size many i h e is less =
     subst (λ n. i < n) (is ∙ ap blocks_of e ∙ sym (length_used count file h)) less
 
 pub all_within : (count : ℕ) (file : StoredFile) (size many i : ℕ) → is_stored count (Some file) ≡ true → size ≡ file.record_.length
@@ -93,4 +93,4 @@ pub number_below : (count now : ℕ) (file : StoredFile) (size many i number : �
     → many ≡ blocks_of size → i < many → number ≡ slice_index (used_in (Some file)) i → now ≡ count → number < now
 number_below count now file size many i number h e is less at same =
     subst (λ n. number < n) (sym same)
-    (subst (λ n. n < count) (sym at) (used_below count file i h (place_within count file size many i h e is less)))
+    (subst (λ n. n < count) (sym at) (used_below count file i h (index_within count file size many i h e is less)))

@@ -31,20 +31,20 @@ free_next used n (suc k) m e = over (is_in n used) n _ _ _ (free_next used (suc 
 pub free_more : (used items after : List ℕ) (block : ℕ) → 33 ≤ block → items ≡ free_from used 33 (block - 33) → is_in block used ≡ false
     → after ≡ items ++ block ∷ [] → after ≡ free_from used 33 (block + 1 - 33)
 free_more used items after block low is unused e =
-    let place : suc (block - 33) ≡ block + 1 - 33 = omega arith in
+    let index : suc (block - 33) ≡ block + 1 - 33 = omega arith in
     e ∙ ap (λ xs. xs ++ block ∷ []) is
     ∙ ap (λ b. free_from used 33 (block - 33) ++ (if b then [] else block ∷ [])) (sym unused)
     ∙ sym (free_next used 33 (block - 33) block (omega arith))
-    ∙ ap (free_from used 33) place
+    ∙ ap (free_from used 33) index
 
 pub free_skips : (used items : List ℕ) (block : ℕ) → 33 ≤ block → items ≡ free_from used 33 (block - 33) → is_in block used ≡ true
     → items ≡ free_from used 33 (block + 1 - 33)
 free_skips used items block low is again =
-    let place : suc (block - 33) ≡ block + 1 - 33 = omega arith in
+    let index : suc (block - 33) ≡ block + 1 - 33 = omega arith in
     is ∙ sym (append-nil (free_from used 33 (block - 33)))
     ∙ ap (λ b. free_from used 33 (block - 33) ++ (if b then [] else block ∷ [])) (sym again)
     ∙ sym (free_next used 33 (block - 33) block (omega arith))
-    ∙ ap (free_from used 33) place
+    ∙ ap (free_from used 33) index
 
 -- ---- what they are
 

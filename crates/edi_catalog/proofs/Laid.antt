@@ -193,11 +193,11 @@ pub put_pages : (file : StoredFile) (bytes : List ℕ) (many : ℕ) (old new : L
 put_pages file bytes many old new put all j h =
     let size : length (file.record_.maps ++ file.pages) ≡ length file.record_.maps + length file.pages =
     length-append file.record_.maps file.pages in
-    let place : length file.record_.maps + j - length file.record_.maps ≡ j = omega arith in
+    let index : length file.record_.maps + j - length file.record_.maps ≡ j = omega arith in
     ap (block_at new) (sym (get_or-append-add file.record_.maps file.pages j 0))
     ∙ put.there (length file.record_.maps + j) (omega arith)
     ∙ ap
     (λ b. if b then map_block (part 255 file.pages (length file.record_.maps + j))
     else filled 512 (part 512 bytes (length file.record_.maps + j - length file.record_.maps)))
     (le-ltb (length file.record_.maps + j) (length file.record_.maps) (omega arith))
-    ∙ ap (λ k. filled 512 (part 512 bytes k)) place
+    ∙ ap (λ k. filled 512 (part 512 bytes k)) index

@@ -3,7 +3,7 @@ pub mod Changing
 pub mod Different
 pub mod EntryBlocks
 pub mod EntryFrames
-pub mod FilePlaces
+pub mod FileIndices
 pub mod FileShape
 pub mod FreeBlocks
 pub mod Laid
@@ -17,6 +17,9 @@ pub mod PutEntry
 pub mod Sequence
 pub mod StoredFiles
 pub mod StoredImage
-pub mod StoredPlace
+pub mod StoredIndex
 pub mod Unchanged
 pub mod WholeFiles
+pub mod Sizes
+pub mod PageBytes
+pub mod InSlots

@@ -33,22 +33,22 @@ told_before (Some o) (Some y) told x e = (o, refl)
 
 -- ---- what a check leaves
 
-shown_some : {D : Type 0} (held : D → Option (List (List ℕ))) (disk : Disk D) (blocks : List (List ℕ)) → held (drive_of disk) ≡ Some blocks
-    → shown held disk ≡ Some (over blocks disk.cache)
-shown_some held disk blocks e = ap (option_map (λ bs. over bs disk.cache)) e
+shown_some : {D : Type 0} (contents : D → Option (List (List ℕ))) (disk : Disk D) (blocks : List (List ℕ)) → contents (drive_of disk) ≡ Some blocks
+    → shown contents disk ≡ Some (over blocks disk.cache)
+shown_some contents disk blocks e = ap (option_map (λ bs. over bs disk.cache)) e
 
-shown_none : {D : Type 0} (held : D → Option (List (List ℕ))) (disk : Disk D) → held (drive_of disk) ≡ None → shown held disk ≡ None
-shown_none held disk e = ap (option_map (λ bs. over bs disk.cache)) e
+shown_none : {D : Type 0} (contents : D → Option (List (List ℕ))) (disk : Disk D) → contents (drive_of disk) ≡ None → shown contents disk ≡ None
+shown_none contents disk e = ap (option_map (λ bs. over bs disk.cache)) e
 
 -- the drive has the blocks that it had, whatever the answer
-pub same_blocks : {D : Type 0} (held : D → Option (List (List ℕ))) (count faults : D → ℕ) (broke : Bool) (a b : Disk D) (P : List (List ℕ) → Type 0)
-    → held (drive_of a) ≡ shown held a → Checks held count faults broke a b P → (blocks : List (List ℕ)) → held (drive_of b) ≡ Some blocks
-    → held (drive_of a) ≡ Some blocks
-same_blocks held count faults broke a b P settled checks blocks e =
-    let before : (y : List (List ℕ)) × (shown held a ≡ Some y) =
-    told_before (shown held a) (shown held b) checks.told (over blocks b.cache) (shown_some held b blocks e) in
-    let there : held (drive_of a) ≡ Some before.0 = settled ∙ before.1 in
-    let kept : Kept held before.0 nothing b = checks.since before.0 nothing (kept_settled held before.0 nothing a there before.1) in
+pub same_blocks : {D : Type 0} (contents : D → Option (List (List ℕ))) (count faults : D → ℕ) (broke : Bool) (a b : Disk D) (P : List (List ℕ) → Type 0)
+    → contents (drive_of a) ≡ shown contents a → Checks contents count faults broke a b P → (blocks : List (List ℕ)) → contents (drive_of b) ≡ Some blocks
+    → contents (drive_of a) ≡ Some blocks
+same_blocks contents count faults broke a b P settled checks blocks e =
+    let before : (y : List (List ℕ)) × (shown contents a ≡ Some y) =
+    told_before (shown contents a) (shown contents b) checks.told (over blocks b.cache) (shown_some contents b blocks e) in
+    let there : contents (drive_of a) ≡ Some before.0 = settled ∙ before.1 in
+    let kept : Kept contents before.0 nothing b = checks.since before.0 nothing (kept_settled contents before.0 nothing a there before.1) in
     let same : blocks ≡ before.0 = between_nothing before.0 blocks (kept.on_drive blocks e) in
     there ∙ ap Some (sym same)
 
@@ -62,50 +62,50 @@ told_same_blocks (Some x) (Some y) Q all =
     (sym same, subst Q (sym same) (all y refl).1)
 
 -- the drive still has all that the disk shows
-pub still_settled : {D : Type 0} (held : D → Option (List (List ℕ))) (count faults : D → ℕ) (a b : Disk D) (P : List (List ℕ) → Type 0)
-    → held (drive_of a) ≡ shown held a → Checks held count faults false a b P → held (drive_of b) ≡ shown held b
-still_settled held count faults a b P settled checks = go (held (drive_of b)) refl where
-  go : (o : Option (List (List ℕ))) → held (drive_of b) ≡ o → held (drive_of b) ≡ shown held b
-  go None e = e ∙ sym (shown_none held b e)
+pub still_settled : {D : Type 0} (contents : D → Option (List (List ℕ))) (count faults : D → ℕ) (a b : Disk D) (P : List (List ℕ) → Type 0)
+    → contents (drive_of a) ≡ shown contents a → Checks contents count faults false a b P → contents (drive_of b) ≡ shown contents b
+still_settled contents count faults a b P settled checks = go (contents (drive_of b)) refl where
+  go : (o : Option (List (List ℕ))) → contents (drive_of b) ≡ o → contents (drive_of b) ≡ shown contents b
+  go None e = e ∙ sym (shown_none contents b e)
   go (Some blocks) e =
-      let there : held (drive_of a) ≡ Some blocks = same_blocks held count faults false a b P settled checks blocks e in
-      let now : (shown held a ≡ Some (over blocks b.cache)) × P (over blocks b.cache) =
-      told_now (shown held a) (shown held b) P (checks.shows refl) (over blocks b.cache) (shown_some held b blocks e) in
-      e ∙ sym there ∙ settled ∙ now.0 ∙ sym (shown_some held b blocks e)
+      let there : contents (drive_of a) ≡ Some blocks = same_blocks contents count faults false a b P settled checks blocks e in
+      let now : (shown contents a ≡ Some (over blocks b.cache)) × P (over blocks b.cache) =
+      told_now (shown contents a) (shown contents b) P (checks.shows refl) (over blocks b.cache) (shown_some contents b blocks e) in
+      e ∙ sym there ∙ settled ∙ now.0 ∙ sym (shown_some contents b blocks e)
 
 -- what was found of the blocks that the disk shows is so of the drive's
-pub found_of : {D : Type 0} (held : D → Option (List (List ℕ))) (count faults : D → ℕ) (a b : Disk D) (P : List (List ℕ) → Type 0)
-    → held (drive_of a) ≡ shown held a → Checks held count faults false a b P → (blocks : List (List ℕ)) → held (drive_of b) ≡ Some blocks
-    → (held (drive_of a) ≡ Some blocks) × P blocks
-found_of held count faults a b P settled checks blocks e =
-    let there : shown held b ≡ Some blocks = sym (still_settled held count faults a b P settled checks) ∙ e in
-    let now : (shown held a ≡ Some blocks) × P blocks = told_now (shown held a) (shown held b) P (checks.shows refl) blocks there in
+pub found_of : {D : Type 0} (contents : D → Option (List (List ℕ))) (count faults : D → ℕ) (a b : Disk D) (P : List (List ℕ) → Type 0)
+    → contents (drive_of a) ≡ shown contents a → Checks contents count faults false a b P → (blocks : List (List ℕ)) → contents (drive_of b) ≡ Some blocks
+    → (contents (drive_of a) ≡ Some blocks) × P blocks
+found_of contents count faults a b P settled checks blocks e =
+    let there : shown contents b ≡ Some blocks = sym (still_settled contents count faults a b P settled checks) ∙ e in
+    let now : (shown contents a ≡ Some blocks) × P blocks = told_now (shown contents a) (shown contents b) P (checks.shows refl) blocks there in
     (settled ∙ now.0, now.1)
 
 -- a fault of the image is that of the drive's blocks
-pub first_found : {D : Type 0} (held : D → Option (List (List ℕ))) (count faults : D → ℕ) (e : MountFault) (a b : Disk D)
-    → held (drive_of a) ≡ shown held a → Checks held count faults (is_drive_fault e) a b (λ blocks. IsFirst e (mount_fault_of blocks))
-    → (blocks : List (List ℕ)) → held (drive_of b) ≡ Some blocks → IsFirst e (mount_fault_of blocks)
-first_found held count faults fault.Short a b settled checks blocks told =
-    (found_of held count faults a b (λ bs. IsFirst fault.Short (mount_fault_of bs)) settled checks blocks told).1
-first_found held count faults fault.Header a b settled checks blocks told =
-    (found_of held count faults a b (λ bs. IsFirst fault.Header (mount_fault_of bs)) settled checks blocks told).1
-first_found held count faults (fault.Entry s) a b settled checks blocks told =
-    (found_of held count faults a b (λ bs. IsFirst (fault.Entry s) (mount_fault_of bs)) settled checks blocks told).1
-first_found held count faults (fault.Page s n) a b settled checks blocks told =
-    (found_of held count faults a b (λ bs. IsFirst (fault.Page s n) (mount_fault_of bs)) settled checks blocks told).1
-first_found held count faults (fault.Shared n) a b settled checks blocks told =
-    (found_of held count faults a b (λ bs. IsFirst (fault.Shared n) (mount_fault_of bs)) settled checks blocks told).1
-first_found held count faults fault.Fault a b settled checks blocks told = tt
-first_found held count faults fault.NoMemory a b settled checks blocks told = tt
+pub first_found : {D : Type 0} (contents : D → Option (List (List ℕ))) (count faults : D → ℕ) (e : MountFault) (a b : Disk D)
+    → contents (drive_of a) ≡ shown contents a → Checks contents count faults (is_drive_fault e) a b (λ blocks. IsFirst e (mount_fault_of blocks))
+    → (blocks : List (List ℕ)) → contents (drive_of b) ≡ Some blocks → IsFirst e (mount_fault_of blocks)
+first_found contents count faults fault.Short a b settled checks blocks told =
+    (found_of contents count faults a b (λ bs. IsFirst fault.Short (mount_fault_of bs)) settled checks blocks told).1
+first_found contents count faults fault.Header a b settled checks blocks told =
+    (found_of contents count faults a b (λ bs. IsFirst fault.Header (mount_fault_of bs)) settled checks blocks told).1
+first_found contents count faults (fault.Entry s) a b settled checks blocks told =
+    (found_of contents count faults a b (λ bs. IsFirst (fault.Entry s) (mount_fault_of bs)) settled checks blocks told).1
+first_found contents count faults (fault.Page s n) a b settled checks blocks told =
+    (found_of contents count faults a b (λ bs. IsFirst (fault.Page s n) (mount_fault_of bs)) settled checks blocks told).1
+first_found contents count faults (fault.Shared n) a b settled checks blocks told =
+    (found_of contents count faults a b (λ bs. IsFirst (fault.Shared n) (mount_fault_of bs)) settled checks blocks told).1
+first_found contents count faults fault.Fault a b settled checks blocks told = tt
+first_found contents count faults fault.NoMemory a b settled checks blocks told = tt
 
 -- a catalogue whose disk was only read
-pub still_mounted : {D : Type 0} (held : D → Option (List (List ℕ))) (count faults : D → ℕ) (one other : Catalog D) (P : List (List ℕ) → Type 0)
-    → files_of other ≡ files_of one → entry_blocks_of other ≡ entry_blocks_of one → IsMounted held count one → Checks held count faults false (disk_of one) (disk_of other) P
-    → IsMounted held count other
-still_mounted held count faults one other P same entries_same mounted checks = record {
+pub still_mounted : {D : Type 0} (contents : D → Option (List (List ℕ))) (count faults : D → ℕ) (one other : Catalog D) (P : List (List ℕ) → Type 0)
+    → files_of other ≡ files_of one → entry_blocks_of other ≡ entry_blocks_of one → IsMounted contents count one → Checks contents count faults false (disk_of one) (disk_of other) P
+    → IsMounted contents count other
+still_mounted contents count faults one other P same entries_same mounted checks = record {
   works = checks.works refl;
-  settled = still_settled held count faults (disk_of one) (disk_of other) P mounted.settled checks;
+  settled = still_settled contents count faults (disk_of one) (disk_of other) P mounted.settled checks;
   many = ap length same ∙ mounted.many;
   most = subst (λ n. n ≤ 4096) (sym checks.count_stays) mounted.most;
   stored =
@@ -114,8 +114,8 @@ still_mounted held count faults one other P same entries_same mounted checks = r
   room = λ some. ap length entries_same ∙ mounted.room (subst (λ n. 0 < n) checks.count_stays some);
   entries = λ blocks told.
       subst (λ es. AreEntries es blocks) (sym entries_same)
-      (mounted.entries blocks (found_of held count faults (disk_of one) (disk_of other) P mounted.settled checks blocks told).0);
+      (mounted.entries blocks (found_of contents count faults (disk_of one) (disk_of other) P mounted.settled checks blocks told).0);
   image = λ blocks told.
       subst (λ fs. IsKeptOf blocks fs) (sym same)
-      (mounted.image blocks (found_of held count faults (disk_of one) (disk_of other) P mounted.settled checks blocks told).0);
+      (mounted.image blocks (found_of contents count faults (disk_of one) (disk_of other) P mounted.settled checks blocks told).0);
 }

@@ -11,7 +11,7 @@ use Rattle.edi_disk.specs.Shown.{shown, drive_of, reference_of, IsWorking}
 use Rattle.edi_disk.specs.Since.{Kept, PutLeaves}
 use Rattle.edi_image.specs.Rules.{is_in}
 use Rattle.edi_catalog.specs.Plan.{are_different, ArePut}
-use Rattle.edi_catalog.specs.Putting.{Puts}
+use Rattle.edi_catalog.specs.Putting.{PutsBlocks}
 use Rattle.edi_image.proofs.Told.{told_then, told_same}
 use Rattle.edi_catalog.proofs.Unchanged.{in_first, in_later}
 
@@ -66,25 +66,25 @@ put_more numbers content i n from old between new d h is same within put now = r
 
 -- ---- from call to call
 
-pub puts_none : {D : Type 0} (held : D → Option (List (List ℕ))) (count faults : D → ℕ) (numbers : List ℕ) (content : ℕ → List ℕ) (a : Disk D)
-    → IsWorking held count a → Puts held count faults disk.Ok numbers content 0 a a
-puts_none held count faults numbers content a works = record {
+pub puts_none : {D : Type 0} (contents : D → Option (List (List ℕ))) (count faults : D → ℕ) (numbers : List ℕ) (content : ℕ → List ℕ) (a : Disk D)
+    → IsWorking contents count a → PutsBlocks contents count faults disk.Ok numbers content 0 a a
+puts_none contents count faults numbers content a works = record {
   same_reference = refl;
   since = λ base was_put all kept. kept;
   count_stays = refl;
   later = omega arith;
-  told = told_same (shown held a) (λ old new. ⊤) (λ blocks. tt);
+  told = told_same (shown contents a) (λ old new. ⊤) (λ blocks. tt);
   cause = λ e. absurd (cc);
   works = λ e. works;
-  shows = λ e. told_same (shown held a) (ArePut numbers content 0) (λ blocks. put_none numbers content blocks);
+  shows = λ e. told_same (shown contents a) (ArePut numbers content 0) (λ blocks. put_none numbers content blocks);
 }
 
 -- what is known of a put
-pub record PutOne {D : Type 0} (held : D → Option (List (List ℕ))) (count faults : D → ℕ) (end : DiskEnd) (n : ℕ) (from : List ℕ) (before after : Disk D) : Type 0 where
+pub record PutOne {D : Type 0} (contents : D → Option (List (List ℕ))) (count faults : D → ℕ) (end : DiskEnd) (n : ℕ) (from : List ℕ) (before after : Disk D) : Type 0 where
   pub same_reference : reference_of after ≡ reference_of before
-  pub works : end ≡ disk.Ok → IsWorking held count after
-  pub shows : WhereTold (shown held before) (shown held after) (PutLeaves end n from)
-  pub since : (base : List (List ℕ)) (was_put : ℕ → List ℕ → Bool) → was_put n from ≡ true → Kept held base was_put before → Kept held base was_put after
+  pub works : end ≡ disk.Ok → IsWorking contents count after
+  pub shows : WhereTold (shown contents before) (shown contents after) (PutLeaves end n from)
+  pub since : (base : List (List ℕ)) (was_put : ℕ → List ℕ → Bool) → was_put n from ≡ true → Kept contents base was_put before → Kept contents base was_put after
   pub count_stays : count (drive_of after) ≡ count (drive_of before)
   pub later : faults (drive_of before) ≤ faults (drive_of after)
   pub cause : end ≡ disk.Fault → min (faults (drive_of before) + 1) (2 ^ 64 - 1) ≤ faults (drive_of after)
@@ -95,12 +95,12 @@ with_size a None count P Q size so p = tt
 with_size None (Some new) count P Q size so p = absurd p
 with_size (Some old) (Some new) count P Q size so p = so old new size p
 
-pub puts_more : {D : Type 0} (held : D → Option (List (List ℕ))) (count faults : D → ℕ) (end : DiskEnd) (numbers : List ℕ) (content : ℕ → List ℕ)
-    (i n : ℕ) (from : List ℕ) (a b c : Disk D) → IfSome (shown held b) (λ blocks. length blocks ≡ count (drive_of b))
+pub puts_more : {D : Type 0} (contents : D → Option (List (List ℕ))) (count faults : D → ℕ) (end : DiskEnd) (numbers : List ℕ) (content : ℕ → List ℕ)
+    (i n : ℕ) (from : List ℕ) (a b c : Disk D) → IfSome (shown contents b) (λ blocks. length blocks ≡ count (drive_of b))
     → are_different numbers ≡ true → i < length numbers → n ≡ slice_index numbers i → from ≡ content i → n < count (drive_of b)
-    → Puts held count faults disk.Ok numbers content i a b → PutOne held count faults end n from b c
-    → (many : ℕ) → (end ≡ disk.Ok → many ≡ i + 1) → Puts held count faults end numbers content many a c
-puts_more held count faults end numbers content i n from a b c size d h is same within so_far one many last = record {
+    → PutsBlocks contents count faults disk.Ok numbers content i a b → PutOne contents count faults end n from b c
+    → (many : ℕ) → (end ≡ disk.Ok → many ≡ i + 1) → PutsBlocks contents count faults end numbers content many a c
+puts_more contents count faults end numbers content i n from a b c size d h is same within so_far one many last = record {
   same_reference = one.same_reference ∙ so_far.same_reference;
   since = λ base was_put all kept.
       one.since base was_put
@@ -109,51 +109,51 @@ puts_more held count faults end numbers content i n from a b c size d h is same 
   count_stays = one.count_stays ∙ so_far.count_stays;
   later = omega (arith, one.later, so_far.later);
   told =
-      told_then (shown held a) (shown held b) (shown held c) (λ old new. ⊤) (PutLeaves end n from) (λ old new. ⊤) (λ old between new p q. tt)
+      told_then (shown contents a) (shown contents b) (shown contents c) (λ old new. ⊤) (PutLeaves end n from) (λ old new. ⊤) (λ old between new p q. tt)
       so_far.told one.shows;
   cause = λ e.
       (let rose : min (faults (drive_of b) + 1) (2 ^ 64 - 1) ≤ faults (drive_of c) = one.cause e in
       let later : faults (drive_of a) ≤ faults (drive_of b) = so_far.later in omega arith);
   works = one.works;
   shows = λ e.
-      subst (λ k. WhereTold (shown held a) (shown held c) (ArePut numbers content k)) (sym (last e))
-      (told_then (shown held a) (shown held b) (shown held c) (ArePut numbers content i)
+      subst (λ k. WhereTold (shown contents a) (shown contents c) (ArePut numbers content k)) (sym (last e))
+      (told_then (shown contents a) (shown contents b) (shown contents c) (ArePut numbers content i)
       (λ old new. (length old ≡ count (drive_of b)) × PutLeaves disk.Ok n from old new) (ArePut numbers content (i + 1))
       (λ old between new p q.
       put_more numbers content i n from old between new d h is same (subst (λ k. n < k) (sym q.0) within) p q.1)
       (so_far.shows refl)
-      (with_size (shown held b) (shown held c) (count (drive_of b)) (PutLeaves disk.Ok n from) _ size (λ old new s p. (s, p))
-      (subst (λ f. WhereTold (shown held b) (shown held c) (PutLeaves f n from)) e one.shows)));
+      (with_size (shown contents b) (shown contents c) (count (drive_of b)) (PutLeaves disk.Ok n from) _ size (λ old new s p. (s, p))
+      (subst (λ f. WhereTold (shown contents b) (shown contents c) (PutLeaves f n from)) e one.shows)));
 }
 
 -- ---- the flush behind them
 
-pub record Flushed {D : Type 0} (held : D → Option (List (List ℕ))) (count faults : D → ℕ) (end : DiskEnd) (before after : Disk D) : Type 0 where
+pub record Flushed {D : Type 0} (contents : D → Option (List (List ℕ))) (count faults : D → ℕ) (end : DiskEnd) (before after : Disk D) : Type 0 where
   pub same_reference : reference_of after ≡ reference_of before
-  pub works : end ≡ disk.Ok → IsWorking held count after
-  pub shows : WhereTold (shown held before) (shown held after) (λ old new. end ≡ disk.Ok → new ≡ old)
-  pub since : (base : List (List ℕ)) (was_put : ℕ → List ℕ → Bool) → Kept held base was_put before → Kept held base was_put after
+  pub works : end ≡ disk.Ok → IsWorking contents count after
+  pub shows : WhereTold (shown contents before) (shown contents after) (λ old new. end ≡ disk.Ok → new ≡ old)
+  pub since : (base : List (List ℕ)) (was_put : ℕ → List ℕ → Bool) → Kept contents base was_put before → Kept contents base was_put after
   pub count_stays : count (drive_of after) ≡ count (drive_of before)
   pub later : faults (drive_of before) ≤ faults (drive_of after)
   pub cause : end ≡ disk.Fault → min (faults (drive_of before) + 1) (2 ^ 64 - 1) ≤ faults (drive_of after)
 
-pub puts_flushed : {D : Type 0} (held : D → Option (List (List ℕ))) (count faults : D → ℕ) (end : DiskEnd) (numbers : List ℕ) (content : ℕ → List ℕ)
-    (many : ℕ) (a b c : Disk D) → Puts held count faults disk.Ok numbers content many a b → Flushed held count faults end b c
-    → Puts held count faults end numbers content many a c
-puts_flushed held count faults end numbers content many a b c put flush = record {
+pub puts_flushed : {D : Type 0} (contents : D → Option (List (List ℕ))) (count faults : D → ℕ) (end : DiskEnd) (numbers : List ℕ) (content : ℕ → List ℕ)
+    (many : ℕ) (a b c : Disk D) → PutsBlocks contents count faults disk.Ok numbers content many a b → Flushed contents count faults end b c
+    → PutsBlocks contents count faults end numbers content many a c
+puts_flushed contents count faults end numbers content many a b c put flush = record {
   same_reference = flush.same_reference ∙ put.same_reference;
   since = λ base was_put all kept. flush.since base was_put (put.since base was_put all kept);
   count_stays = flush.count_stays ∙ put.count_stays;
   later = omega (arith, flush.later, put.later);
   told =
-      told_then (shown held a) (shown held b) (shown held c) (λ old new. ⊤) (λ old new. end ≡ disk.Ok → new ≡ old) (λ old new. ⊤)
+      told_then (shown contents a) (shown contents b) (shown contents c) (λ old new. ⊤) (λ old new. end ≡ disk.Ok → new ≡ old) (λ old new. ⊤)
       (λ old between new p q. tt) put.told flush.shows;
   cause = λ e.
       (let rose : min (faults (drive_of b) + 1) (2 ^ 64 - 1) ≤ faults (drive_of c) = flush.cause e in
       let later : faults (drive_of a) ≤ faults (drive_of b) = put.later in omega arith);
   works = flush.works;
   shows = λ e.
-      told_then (shown held a) (shown held b) (shown held c) (ArePut numbers content many) (λ old new. end ≡ disk.Ok → new ≡ old)
+      told_then (shown contents a) (shown contents b) (shown contents c) (ArePut numbers content many) (λ old new. end ≡ disk.Ok → new ≡ old)
       (ArePut numbers content many) (λ old between new p q. subst (ArePut numbers content many old) (sym (q e)) p)
       (put.shows refl) flush.shows;
 }

@@ -15,7 +15,7 @@ use Rattle.edi_catalog.specs.declared.catalog.Catalog.{Catalog}
 use Rattle.edi_image.specs.Image.{Holds, slots_of}
 use Rattle.edi_image.specs.Stored.{StoredFile, is_stored, IsKeptOf}
 use Rattle.edi_catalog.specs.Files.{entry_of, file_titled}
-use Rattle.edi_catalog.specs.Mounted.{IsMounted, disk_of, files_of, AreEntries, entry_blocks_of}
+use Rattle.edi_catalog.specs.Mounted.{IsMounted, disk_of, files_of, AreEntries, entry_blocks_of, room_reference}
 use Rattle.edi_catalog.specs.Changes.{Leaves}
 use Rattle.edi_image.specs.Bytes.{bytes_of_record, field_bytes}
 use Rattle.edi_catalog.specs.Writing.{is_protected, patched}
@@ -24,9 +24,9 @@ use Rattle.edi_image.specs.Build.{two}
 use Rattle.edi_image.specs.Records.{FileRecord}
 use Rattle.edi_catalog.specs.Plan.{used_in, AreFree}
 use Rattle.edi_catalog.specs.Putting.{OnlyIn, IsNew, NewLeaves, WritesNew}
-use Rattle.edi_catalog.specs.Storing.{StoreChanges, place_for, put_at, stored_entry, stored_file, slots_stored}
+use Rattle.edi_catalog.specs.Storing.{StoreChanges, index_for, put_at, stored_entry, stored_file, slots_stored}
 use Rattle.edi_catalog.proofs.Unchanged.{IsSameImage, free_same, same_kept, same_slots}
-use Rattle.edi_catalog.proofs.StoredPlace.{slot_for_same}
+use Rattle.edi_catalog.proofs.StoredIndex.{slot_for_same}
 use Rattle.edi_catalog.proofs.NewlyLaid.{IsLaid}
 use Rattle.edi_catalog.proofs.FileShape.{shape_of}
 use Rattle.edi_image.proofs.Spelled.{title_length}
@@ -41,7 +41,7 @@ pub record Stores (count : ℕ) (files : List (Option StoredFile)) (title : List
   pub laid : IsLaid count files file
   pub entry : entry_of file ≡ stored_entry title kind (length bytes)
   pub whole : length (bytes_of_record file.record_) ≡ 64
-  pub place : place_for title files ≡ Some slot
+  pub index : index_for title files ≡ Some slot
   pub open_ : is_protected (file_titled title files) ≡ false
 
 title_is : (title : List ℕ) (kind : FileKind) (size : ℕ) (file : StoredFile) → entry_of file ≡ stored_entry title kind size → file.record_.title ≡ title
@@ -62,12 +62,12 @@ module _ (count : ℕ) (files : List (Option StoredFile)) (title : List ℕ) (ki
   stored new made =
       stored_holds old new files slot count file bytes stores.within size kept stores.all stores.laid
       (sym (length_is title kind (length bytes) file stores.entry)) stores.whole
-      (ap (λ t. place_for t files) (title_is title kind (length bytes) file stores.entry) ∙ stores.place) made
+      (ap (λ t. index_for t files) (title_is title kind (length bytes) file stores.entry) ∙ stores.index) made
 
   wanted : slots_stored title kind bytes (slots_of old) ≡ set (slots_of old) slot (Some (stored_file title kind bytes))
   wanted =
-      ap (λ place. put_at place (stored_file title kind bytes) (slots_of old))
-      (slot_for_same old title files kept stores.open_ ∙ stores.place)
+      ap (λ index. put_at index (stored_file title kind bytes) (slots_of old))
+      (slot_for_same old title files kept stores.open_ ∙ stores.index)
 
   pub stored_kept : (new : List (List ℕ)) → IsNew slot file bytes old new → IsKeptOf new (set files slot (Some file))
   stored_kept new made = (stored new made).kept
@@ -94,44 +94,44 @@ module _ (count : ℕ) (files : List (Option StoredFile)) (title : List ℕ) (ki
   fault_leaves new (inl only) = record { one = inl (before_still new only) }
   fault_leaves new (inr made) = record { one = inr (stored_now new made) }
 
-module _ {D : Type 0} (held : D → Option (List (List ℕ))) (count faults : D → ℕ)
-    (counted : (drive : D) → IfSome (held drive) (λ blocks. length blocks ≡ count drive)) where
+module _ {D : Type 0} (contents : D → Option (List (List ℕ))) (count faults : D → ℕ)
+    (counted : (drive : D) → IfSome (contents drive) (λ blocks. length blocks ≡ count drive)) where
   pub store_done : (one other : Catalog D) (title : List ℕ) (kind : FileKind) (bytes : List ℕ) (slot : ℕ) (file : StoredFile)
-      → IsMounted held count one → Stores (count (drive_of (disk_of one))) (files_of one) title kind bytes slot file
-      → WritesNew held count faults disk.Ok slot file bytes (disk_of one) (disk_of other)
-      → WhereTold (held (drive_of (disk_of one))) (held (drive_of (disk_of other)))
+      → IsMounted contents count one → Stores (count (drive_of (disk_of one))) (files_of one) title kind bytes slot file
+      → WritesNew contents count faults disk.Ok slot file bytes (disk_of one) (disk_of other)
+      → WhereTold (contents (drive_of (disk_of one))) (contents (drive_of (disk_of other)))
       (λ old new. Leaves {X = Unit {0}} (Ok tt) (slots_of old) (slots_stored title kind bytes (slots_of old)) old new)
   store_done one other title kind bytes slot file mounted stores writes =
-      writing.where_told _ (held (drive_of (disk_of one))) (held (drive_of (disk_of other)))
+      writing.where_told _ (contents (drive_of (disk_of one))) (contents (drive_of (disk_of other)))
       (λ new there.
-      let old = writing.told (NewLeaves disk.Ok slot file bytes) (held (drive_of (disk_of one))) (held (drive_of (disk_of other))) new writes.leaves there in (
+      let old = writing.told (NewLeaves disk.Ok slot file bytes) (contents (drive_of (disk_of one))) (contents (drive_of (disk_of other))) new writes.leaves there in (
         old.0,
         old.1,
         done_leaves (count (drive_of (disk_of one))) (files_of one) title kind bytes slot file stores old.0
-            (writing.many held count faults counted (drive_of (disk_of one)) old.0 old.1) (mounted.image old.0 old.1) new old.2,
+            (writing.many contents count faults counted (drive_of (disk_of one)) old.0 old.1) (mounted.image old.0 old.1) new old.2,
       ))
 
   pub store_fails : (one other : Catalog D) (title : List ℕ) (kind : FileKind) (bytes : List ℕ) (slot : ℕ) (file : StoredFile)
-      → IsMounted held count one → Stores (count (drive_of (disk_of one))) (files_of one) title kind bytes slot file
-      → WritesNew held count faults disk.Fault slot file bytes (disk_of one) (disk_of other)
-      → WhereTold (held (drive_of (disk_of one))) (held (drive_of (disk_of other)))
+      → IsMounted contents count one → Stores (count (drive_of (disk_of one))) (files_of one) title kind bytes slot file
+      → WritesNew contents count faults disk.Fault slot file bytes (disk_of one) (disk_of other)
+      → WhereTold (contents (drive_of (disk_of one))) (contents (drive_of (disk_of other)))
       (λ old new. Leaves {X = Unit {0}} (Err cat.Fault) (slots_of old) (slots_stored title kind bytes (slots_of old)) old new)
   store_fails one other title kind bytes slot file mounted stores writes =
-      writing.where_told _ (held (drive_of (disk_of one))) (held (drive_of (disk_of other)))
+      writing.where_told _ (contents (drive_of (disk_of one))) (contents (drive_of (disk_of other)))
       (λ new there.
-      let old = writing.told (NewLeaves disk.Fault slot file bytes) (held (drive_of (disk_of one))) (held (drive_of (disk_of other))) new writes.leaves there in (
+      let old = writing.told (NewLeaves disk.Fault slot file bytes) (contents (drive_of (disk_of one))) (contents (drive_of (disk_of other))) new writes.leaves there in (
         old.0,
         old.1,
         fault_leaves (count (drive_of (disk_of one))) (files_of one) title kind bytes slot file stores old.0
-            (writing.many held count faults counted (drive_of (disk_of one)) old.0 old.1) (mounted.image old.0 old.1) new old.2,
+            (writing.many contents count faults counted (drive_of (disk_of one)) old.0 old.1) (mounted.image old.0 old.1) new old.2,
       ))
 
   pub store_mounted : (one other : Catalog D) (title : List ℕ) (kind : FileKind) (bytes : List ℕ) (slot : ℕ) (file : StoredFile)
-      → IsMounted held count one → Stores (count (drive_of (disk_of one))) (files_of one) title kind bytes slot file
-      → WritesNew held count faults disk.Ok slot file bytes (disk_of one) (disk_of other)
+      → IsMounted contents count one → Stores (count (drive_of (disk_of one))) (files_of one) title kind bytes slot file
+      → WritesNew contents count faults disk.Ok slot file bytes (disk_of one) (disk_of other)
       → files_of other ≡ set (files_of one) slot (Some file) → length (entry_blocks_of one) ≡ 32
       → entry_blocks_of other ≡ set (entry_blocks_of one) (slot / 8) (patched (64 * (slot % 8)) (bytes_of_record file.record_) (get_or (entry_blocks_of one) (slot / 8) []))
-      → IsMounted held count other
+      → IsMounted contents count other
   store_mounted one other title kind bytes slot file mounted stores writes now many blocks_now = record {
     works = writes.works refl;
     settled = writes.settled refl;
@@ -143,45 +143,47 @@ module _ {D : Type 0} (held : D → Option (List (List ℕ))) (count faults : D 
         (all_set (is_stored (count (drive_of (disk_of one)))) (files_of one) slot (Some file) stores.all stores.laid.kept);
     room = λ some. ap length blocks_now ∙ length-set (entry_blocks_of one) (slot / 8) _ ∙ many;
     entries = λ blocks told.
-        (let old = writing.told (NewLeaves disk.Ok slot file bytes) (held (drive_of (disk_of one))) (held (drive_of (disk_of other))) blocks writes.leaves told in
+        (let old = writing.told (NewLeaves disk.Ok slot file bytes) (contents (drive_of (disk_of one))) (contents (drive_of (disk_of other))) blocks writes.leaves told in
         subst (λ es. AreEntries es blocks) (sym blocks_now)
         (entries_over slot (bytes_of_record file.record_) (entry_blocks_of one) old.2.laid blocks stores.within many
         (entries_laid (count (drive_of (disk_of one))) (used_in (Some file)) (entry_blocks_of one) old.0 old.2.laid stores.laid.free.on_drive
         old.2.put.others (mounted.entries old.0 old.1)) old.2.written));
     image = λ blocks told.
-        (let old = writing.told (NewLeaves disk.Ok slot file bytes) (held (drive_of (disk_of one))) (held (drive_of (disk_of other))) blocks writes.leaves told in
+        (let old = writing.told (NewLeaves disk.Ok slot file bytes) (contents (drive_of (disk_of one))) (contents (drive_of (disk_of other))) blocks writes.leaves told in
         subst (IsKeptOf blocks) (sym now)
         (stored_kept (count (drive_of (disk_of one))) (files_of one) title kind bytes slot file stores old.0
-        (writing.many held count faults counted (drive_of (disk_of one)) old.0 old.1) (mounted.image old.0 old.1) blocks old.2));
+        (writing.many contents count faults counted (drive_of (disk_of one)) old.0 old.1) (mounted.image old.0 old.1) blocks old.2));
   }
 
   pub changes_done : (one other : Catalog D) (title : List ℕ) (kind : FileKind) (bytes : List ℕ) (slot : ℕ) (file : StoredFile)
-      → IsMounted held count one → Stores (count (drive_of (disk_of one))) (files_of one) title kind bytes slot file
-      → WritesNew held count faults disk.Ok slot file bytes (disk_of one) (disk_of other)
+      → IsMounted contents count one → Stores (count (drive_of (disk_of one))) (files_of one) title kind bytes slot file
+      → WritesNew contents count faults disk.Ok slot file bytes (disk_of one) (disk_of other) → room_reference other ≡ room_reference one
       → files_of other ≡ set (files_of one) slot (Some file) → length (entry_blocks_of one) ≡ 32
       → entry_blocks_of other ≡ set (entry_blocks_of one) (slot / 8) (patched (64 * (slot % 8)) (bytes_of_record file.record_) (get_or (entry_blocks_of one) (slot / 8) []))
-      → StoreChanges {X = Unit {0}} held count faults (Ok tt) None title kind bytes one other
-  changes_done one other title kind bytes slot file mounted stores writes now many blocks_now = record {
-    answers = (refl, record { file = file; entry_ = stores.entry; at = slot; place_ = stores.place; others = now });
+      → StoreChanges {X = Unit {0}} contents count faults (Ok tt) None title kind bytes one other
+  changes_done one other title kind bytes slot file mounted stores writes lent now many blocks_now = record {
+    answers = (refl, record { file = file; entry_ = stores.entry; at = slot; index_ = stores.index; others = now });
     untouched = tt;
     mounted = inr (store_mounted one other title kind bytes slot file mounted stores writes now many blocks_now);
     leaves = store_done one other title kind bytes slot file mounted stores writes;
     same_reference = writes.same_reference;
+    same_room = lent;
     count_stays = writes.count_stays;
     later = writes.later;
     cause = λ e. absurd (cc);
   }
 
   pub changes_failed : (one other : Catalog D) (title : List ℕ) (kind : FileKind) (bytes : List ℕ) (slot : ℕ) (file : StoredFile)
-      → IsMounted held count one → Stores (count (drive_of (disk_of one))) (files_of one) title kind bytes slot file
-      → WritesNew held count faults disk.Fault slot file bytes (disk_of one) (disk_of other)
-      → StoreChanges {X = Unit {0}} held count faults (Err cat.Fault) None title kind bytes one other
-  changes_failed one other title kind bytes slot file mounted stores writes = record {
+      → IsMounted contents count one → Stores (count (drive_of (disk_of one))) (files_of one) title kind bytes slot file
+      → WritesNew contents count faults disk.Fault slot file bytes (disk_of one) (disk_of other) → room_reference other ≡ room_reference one
+      → StoreChanges {X = Unit {0}} contents count faults (Err cat.Fault) None title kind bytes one other
+  changes_failed one other title kind bytes slot file mounted stores writes lent = record {
     answers = refl;
     untouched = tt;
     mounted = inl refl;
     leaves = store_fails one other title kind bytes slot file mounted stores writes;
     same_reference = writes.same_reference;
+    same_room = lent;
     count_stays = writes.count_stays;
     later = writes.later;
     cause = λ e. writes.cause refl;
@@ -202,14 +204,14 @@ length_record r titled =
 
 pub stores_from : (count : ℕ) (files : List (Option StoredFile)) (title : List ℕ) (kind : FileKind) (bytes : List ℕ) (slot : ℕ) (file : StoredFile)
     → slot < 256 → list_all (is_stored count) files ≡ true → is_stored count (Some file) ≡ true → AreFree count files (used_in (Some file))
-    → entry_of file ≡ stored_entry title kind (length bytes) → place_for title files ≡ Some slot
+    → entry_of file ≡ stored_entry title kind (length bytes) → index_for title files ≡ Some slot
     → is_protected (file_titled title files) ≡ false → Stores count files title kind bytes slot file
-stores_from count files title kind bytes slot file within all kept free entry place open_ = record {
+stores_from count files title kind bytes slot file within all kept free entry index open_ = record {
   within = within;
   all = all;
   laid = record { kept = kept; free = free };
   entry = entry;
   whole = length_record file.record_ (shape_of count file kept).titled;
-  place = place;
+  index = index;
   open_ = open_;
 }

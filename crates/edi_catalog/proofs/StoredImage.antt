@@ -17,11 +17,11 @@ use Rattle.edi_image.specs.Rules.{first_broken, used_by, is_in}
 use Rattle.edi_image.specs.Entries.{block_at, is_data}
 use Rattle.edi_image.specs.Image.{header_rules, titles_in, map_rules, maps_rules, numbers_in, numbers_of, slot_rules, said_at, entries_of, slots_of}
 use Rattle.edi_image.specs.Stored.{StoredFile, stored_of, are_data, is_record, is_stored, is_titled, bytes_in, IsKeptOf}
-use Rattle.edi_catalog.specs.Files.{find_place}
+use Rattle.edi_catalog.specs.Files.{find_index}
 use Rattle.edi_image.specs.Bytes.{bytes_of_record}
 use Rattle.edi_catalog.specs.Plan.{used_in, blocks_used, AreFree}
 use Rattle.edi_catalog.specs.Putting.{IsNew}
-use Rattle.edi_catalog.specs.Storing.{free_place, place_for}
+use Rattle.edi_catalog.specs.Storing.{free_index, index_for}
 use Rattle.edi_image.proofs.FileRules.{used_by-append}
 use Rattle.edi_image.proofs.MapRules.{used_by-page_rules}
 use Rattle.edi_image.proofs.ImageRules.{rules_of}
@@ -121,21 +121,21 @@ pages_later count laid new file bytes shape keeps are j h =
 
 -- ---- the titles of the others
 
-place_titled : (title : List ℕ) (files : List (Option StoredFile)) (place : ℕ) → find_place title files ≡ Some place
-    → is_titled title (slice_index_or files place None) ≡ true
-place_titled title [] place h = absurd (let no : None ≡ Some place = h in cc)
-place_titled title (file ∷ files) place h = here (is_titled title file) refl place h (find_place title files) (λ later e. place_titled title files later e) where
-  here : (b : Bool) → is_titled title file ≡ b → (place : ℕ) → (if b then Some 0 else option_map suc (find_place title files)) ≡ Some place
-      → (rest : Option ℕ) → ((later : ℕ) → find_place title files ≡ Some later → is_titled title (slice_index_or files later None) ≡ true)
-      → is_titled title (slice_index_or (file ∷ files) place None) ≡ true
-  here true e place h rest later =
-      (let same : Some 0 ≡ Some place = h in let zero_place : 0 ≡ place = cc in
-      subst (λ p. is_titled title (slice_index_or (file ∷ files) p None) ≡ true) zero_place e)
-  here false e place h rest later = behind (find_place title files) refl h where
-    behind : (o : Option ℕ) → find_place title files ≡ o → option_map suc o ≡ Some place → is_titled title (slice_index_or (file ∷ files) place None) ≡ true
-    behind None f g = absurd (let no : None ≡ Some place = g in cc)
+index_titled : (title : List ℕ) (files : List (Option StoredFile)) (index : ℕ) → find_index title files ≡ Some index
+    → is_titled title (slice_index_or files index None) ≡ true
+index_titled title [] index h = absurd (let no : None ≡ Some index = h in cc)
+index_titled title (file ∷ files) index h = here (is_titled title file) refl index h (find_index title files) (λ later e. index_titled title files later e) where
+  here : (b : Bool) → is_titled title file ≡ b → (index : ℕ) → (if b then Some 0 else option_map suc (find_index title files)) ≡ Some index
+      → (rest : Option ℕ) → ((later : ℕ) → find_index title files ≡ Some later → is_titled title (slice_index_or files later None) ≡ true)
+      → is_titled title (slice_index_or (file ∷ files) index None) ≡ true
+  here true e index h rest later =
+      (let same : Some 0 ≡ Some index = h in let zero_index : 0 ≡ index = cc in
+      subst (λ p. is_titled title (slice_index_or (file ∷ files) p None) ≡ true) zero_index e)
+  here false e index h rest later = behind (find_index title files) refl h where
+    behind : (o : Option ℕ) → find_index title files ≡ o → option_map suc o ≡ Some index → is_titled title (slice_index_or (file ∷ files) index None) ≡ true
+    behind None f g = absurd (let no : None ≡ Some index = g in cc)
     behind (Some k) f g =
-        (let same : Some (suc k) ≡ Some place = g in let next : suc k ≡ place = cc in
+        (let same : Some (suc k) ≡ Some index = g in let next : suc k ≡ index = cc in
         subst (λ p. is_titled title (slice_index_or (file ∷ files) p None) ≡ true) next (later k f))
 
 -- the entry of a slot whose file has the title
@@ -148,7 +148,7 @@ replaced_apart blocks front back (said.File r) title around h =
 
 -- a title that no file has
 fresh_apart : (blocks : List (List ℕ)) (front back : List Said) (s : Said) (title : List ℕ)
-    → find_place title (map (stored_of blocks) (front ++ s ∷ back)) ≡ None → IsApart front back title
+    → find_index title (map (stored_of blocks) (front ++ s ∷ back)) ≡ None → IsApart front back title
 fresh_apart blocks front back s title none =
     let all : list_any (bytes_eq title) (titles_all front ++ titles_all (s ∷ back)) ≡ false =
     ap (list_any (bytes_eq title)) (sym (titles_all-append front (s ∷ back))) ∙ untitled blocks title (front ++ s ∷ back) none in
@@ -216,9 +216,9 @@ rules_hold laid new files slot file is apart =
     apart.1
 
 -- the title stands in no other entry
-place_apart : (laid new : List (List ℕ)) (files : List (Option StoredFile)) (slot : ℕ) (file : StoredFile) → Laid laid new files slot file
-    → slot < 256 → place_for file.record_.title files ≡ Some slot → IsApart (front_of laid slot) (back_of laid slot) file.record_.title
-place_apart laid new files slot file is h place = go (find_place file.record_.title files) refl place where
+index_apart : (laid new : List (List ℕ)) (files : List (Option StoredFile)) (slot : ℕ) (file : StoredFile) → Laid laid new files slot file
+    → slot < 256 → index_for file.record_.title files ≡ Some slot → IsApart (front_of laid slot) (back_of laid slot) file.record_.title
+index_apart laid new files slot file is h index = go (find_index file.record_.title files) refl index where
   there : slice_index_or files slot None ≡ stored_of laid (said_at laid slot)
   there =
       ap (λ fs. get_or fs slot None) is.listed
@@ -226,14 +226,14 @@ place_apart laid new files slot file is h place = go (find_place file.record_.ti
       (sym (length-front laid slot))
       ∙ get_or-append_seam (map (stored_of laid) (front_of laid slot)) (stored_of laid (said_at laid slot)) (map (stored_of laid) (back_of laid slot)) None
 
-  go : (o : Option ℕ) → find_place file.record_.title files ≡ o → (if is_none o then free_place files else o) ≡ Some slot
+  go : (o : Option ℕ) → find_index file.record_.title files ≡ o → (if is_none o then free_index files else o) ≡ Some slot
       → IsApart (front_of laid slot) (back_of laid slot) file.record_.title
   go None none at =
       fresh_apart laid (front_of laid slot) (back_of laid slot) (said_at laid slot) file.record_.title
-      (ap (find_place file.record_.title) (map-append (stored_of laid) (front_of laid slot) (said_at laid slot ∷ back_of laid slot) ∙ sym is.listed) ∙ none)
+      (ap (find_index file.record_.title) (map-append (stored_of laid) (front_of laid slot) (said_at laid slot ∷ back_of laid slot) ∙ sym is.listed) ∙ none)
   go (Some p) found at =
       replaced_apart laid (front_of laid slot) (back_of laid slot) (said_at laid slot) file.record_.title is.around_it
-      (ap (is_titled file.record_.title) (sym there) ∙ place_titled file.record_.title files slot (found ∙ at))
+      (ap (is_titled file.record_.title) (sym there) ∙ index_titled file.record_.title files slot (found ∙ at))
 
 -- ---- the files
 
@@ -275,10 +275,10 @@ bytes_now new count file bytes shape pages size =
 
 pub stored_holds : (old new : List (List ℕ)) (files : List (Option StoredFile)) (slot count : ℕ) (file : StoredFile) (bytes : List ℕ)
     → slot < 256 → length old ≡ count → IsKeptOf old files → list_all (is_stored count) files ≡ true → IsLaid count files file
-    → length bytes ≡ file.record_.length → length (bytes_of_record file.record_) ≡ 64 → place_for file.record_.title files ≡ Some slot
+    → length bytes ≡ file.record_.length → length (bytes_of_record file.record_) ≡ 64 → index_for file.record_.title files ≡ Some slot
     → IsNew slot file bytes old new → IsStoredIn files slot file bytes old new
 unfolding entries_of
-stored_holds old new files slot count file bytes h size kept all laid_file long entry_long place made =
+stored_holds old new files slot count file bytes h size kept all laid_file long entry_long index made =
     let laid : List (List ℕ) = made.laid in
     let shape : IsShaped count file = shape_of count file laid_file.kept in
     let same : IsSameImage old laid files =
@@ -314,7 +314,7 @@ stored_holds old new files slot count file bytes h size kept all laid_file long 
       maps = maps;
       many = shape.pages_many;
     } in
-    let apart : IsApart (front_of laid slot) (back_of laid slot) file.record_.title = place_apart laid new files slot file is h place in
+    let apart : IsApart (front_of laid slot) (back_of laid slot) file.record_.title = index_apart laid new files slot file is h index in
     let stored : stored_of new (said.File file.record_) ≡ Some file = stored_now new count file shape maps in
     let now : set files slot (Some file) ≡ map (stored_of new) (entries_of new) =
     kept_now laid new files slot file is stored ∙ ap (map (stored_of new)) (sym entries) in

@@ -1,14 +1,14 @@
--- The calls that change the files of a catalogue: why they are refused, what they are to leave, and what they leave.
+-- Words of contracts. The calls that change the files of a catalogue: why they are refused, what they are to leave, and what they leave.
 use Rattle.std.specs.Prelude.{◌≡◌, ◌⊎◌, ◌≤◌, ℕ, Bool, List, slice_set, slice_index_or, Option, Some, None, is_some, if◌then◌else◌, Result, Ok, Err, ⊤}
 use Rattle.std.specs.Option.{option_and_then}
-use Rattle.edi_told.specs.Faults.{Rose}
+use Rattle.edi_told.specs.Faults.{CountRose}
 use Rattle.edi_told.specs.Told.{WhereTold}
 use Rattle.edi_disk.specs.Shown.{drive_of, reference_of}
 use Rattle.edi_calls.specs.State.{File, find_slot}
 use Rattle.edi_image.specs.Image.{Holds, slots_of}
 use Rattle.edi_image.specs.Stored.{StoredFile}
-use Rattle.edi_catalog.specs.Files.{find_place}
-use Rattle.edi_catalog.specs.Mounted.{IsMounted, disk_of, files_of}
+use Rattle.edi_catalog.specs.Files.{find_index}
+use Rattle.edi_catalog.specs.Mounted.{IsMounted, disk_of, files_of, room_reference}
 use Rattle.edi_catalog.specs.declared.catalog.Catalog.{Catalog}
 use Rattle.edi_catalog.specs.declared.ends.CatEnd.{CatEnd}
 use Rattle.edi_catalog.specs.declared.ends.CatEnd.TheVariants as cat
@@ -36,8 +36,8 @@ not_renamed (Some file) there =
 -- slots with what a change makes of the file at a place; a change to None frees the slot
 abbrev pub changed_at : {A : Type 0} → (A → Option A) → Option ℕ → List (Option A) → List (Option A)
 changed_at change None slots = slots
-changed_at change (Some place) slots =
-    slice_set slots place (option_and_then change (slice_index_or slots place None))
+changed_at change (Some index) slots =
+    slice_set slots index (option_and_then change (slice_index_or slots index None))
 
 -- the file is deleted
 abbrev pub deleted : {A : Type 0} → A → Option A
@@ -52,7 +52,7 @@ kept_renamed title file = Some (record file { record_ = record file.record_ { ti
 
 -- the slots that are kept, with the file of a title changed
 abbrev pub kept_changed : (StoredFile → Option StoredFile) → List ℕ → List (Option StoredFile) → List (Option StoredFile)
-kept_changed change title files = changed_at change (find_place title files) files
+kept_changed change title files = changed_at change (find_index title files) files
 
 -- the same changes of a file in an image
 abbrev pub file_protected : Bool → File → Option File
@@ -68,10 +68,10 @@ slots_changed change title slots = changed_at change (find_slot slots title) slo
 -- ---- what a call leaves
 
 -- A call is refused exactly for the first reason against it, and then all slots are as before; on Ok they are the wanted ones.
-abbrev pub Answers : {X : Type 0} → Result X CatEnd → (refusal : Option CatEnd) → (old wanted new : List (Option StoredFile)) → Type 0
-Answers (Ok done) refusal old wanted new = (refusal ≡ None) × (new ≡ wanted)
-Answers (Err cat.Fault) refusal old wanted new = refusal ≡ None
-Answers (Err why) refusal old wanted new = (refusal ≡ Some why) × (new ≡ old)
+abbrev pub CatalogAnswers : {X : Type 0} → Result X CatEnd → (refusal : Option CatEnd) → (old wanted new : List (Option StoredFile)) → Type 0
+CatalogAnswers (Ok done) refusal old wanted new = (refusal ≡ None) × (new ≡ wanted)
+CatalogAnswers (Err cat.Fault) refusal old wanted new = refusal ≡ None
+CatalogAnswers (Err why) refusal old wanted new = (refusal ≡ Some why) × (new ≡ old)
 
 -- the blocks are a valid image, with the files from before a call or with those that the call was to leave
 pub record BeforeOrAfter (before after : List (Option File)) (blocks : List (List ℕ)) : Type 0 where
@@ -93,13 +93,14 @@ Untouched (Err why) before after = after ≡ before
 
 -- A call on a mounted catalogue, by its answer: `refusal` is the first reason against it, `kept` are the slots that are to be
 -- kept in memory, `wanted` gives the files that the image is to have.
-pub record Changes {D X : Type 0} (held : D → Option (List (List ℕ))) (count faults : D → ℕ) (result : Result X CatEnd) (refusal : Option CatEnd) (kept : List (Option StoredFile)) (wanted : List (Option File) → List (Option File)) (before after : Catalog D) : Type 0 where
-  pub answers : Answers result refusal (files_of before) kept (files_of after)
+pub record Changes {D X : Type 0} (contents : D → Option (List (List ℕ))) (count faults : D → ℕ) (result : Result X CatEnd) (refusal : Option CatEnd) (kept : List (Option StoredFile)) (wanted : List (Option File) → List (Option File)) (before after : Catalog D) : Type 0 where
+  pub answers : CatalogAnswers result refusal (files_of before) kept (files_of after)
   pub untouched : Untouched result before after
-  pub mounted : (result ≡ Err cat.Fault) ⊎ IsMounted held count after
-  pub leaves : WhereTold (held (drive_of (disk_of before))) (held (drive_of (disk_of after)))
+  pub mounted : (result ≡ Err cat.Fault) ⊎ IsMounted contents count after
+  pub leaves : WhereTold (contents (drive_of (disk_of before))) (contents (drive_of (disk_of after)))
       (λ old new. Leaves result (slots_of old) (wanted (slots_of old)) old new)
   pub same_reference : reference_of (disk_of after) ≡ reference_of (disk_of before)
+  pub same_room : room_reference after ≡ room_reference before
   pub count_stays : count (drive_of (disk_of after)) ≡ count (drive_of (disk_of before))
   pub later : faults (drive_of (disk_of before)) ≤ faults (drive_of (disk_of after))
-  pub cause : result ≡ Err cat.Fault → Rose (faults (drive_of (disk_of before))) (faults (drive_of (disk_of after)))
+  pub cause : result ≡ Err cat.Fault → CountRose (faults (drive_of (disk_of before))) (faults (drive_of (disk_of after)))

@@ -1,4 +1,4 @@
--- What a call leaves, by its answer.
+-- Words of contracts. What a call leaves, by its answer.
 use Rattle.std.specs.Prelude.{◌≡◌, ℕ, ◌≤◌, List, ◌++◌, drop, length, ⊤}
 use Rattle.edi_host.specs.Blocks.{resized}
 use Rattle.edi_host.specs.declared.drive.DriveEnd.{DriveEnd}

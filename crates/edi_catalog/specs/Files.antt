@@ -1,4 +1,4 @@
--- The files of a mounted catalogue.
+-- Words of contracts. The files of a mounted catalogue.
 use Rattle.std.specs.Prelude.{◌≡◌, ℕ, suc, ◌+◌, ◌*◌, if◌then◌else◌, List, [], ◌∷◌, ◌++◌, take, length, flat_map, slice_index, slice_index_or, Option, Some, None, Result, Ok, Err, ⊤}
 use Rattle.std.specs.Option.{option_map, option_and_then}
 use Rattle.edi_calls.specs.State.{File, find_file}
@@ -17,13 +17,13 @@ entry_of file = record {
 }
 
 -- the place of the first file with this title
-abbrev pub find_place : List ℕ → List (Option StoredFile) → Option ℕ
-find_place title [] = None
-find_place title (file ∷ files) = if is_titled title file then Some 0 else option_map suc (find_place title files)
+abbrev pub find_index : List ℕ → List (Option StoredFile) → Option ℕ
+find_index title [] = None
+find_index title (file ∷ files) = if is_titled title file then Some 0 else option_map suc (find_index title files)
 
 -- the file with this title
 abbrev pub file_titled : List ℕ → List (Option StoredFile) → Option StoredFile
-file_titled title files = option_and_then (λ place. slice_index_or files place None) (find_place title files)
+file_titled title files = option_and_then (λ index. slice_index_or files index None) (find_index title files)
 
 -- on Ok this is a page of the file
 abbrev pub PageIs : {X E : Type 0} → Result X E → Option StoredFile → ℕ → List ℕ → List (List ℕ) → Type 0

@@ -1,7 +1,7 @@
 pub mod Changes
-pub mod Checked
 pub mod Ends
 pub mod Files
+pub mod InSlots
 pub mod Mounted
 pub mod Plan
 pub mod Putting

@@ -1,6 +1,6 @@
--- Putting the blocks of a file.
+-- Words of contracts. Putting the blocks of a file.
 use Rattle.std.specs.Prelude.{◌≡◌, ◌⊎◌, ℕ, ◌≤◌, ◌<◌, Bool, true, false, List, length, slice_index, Option, Some, ⊤}
-use Rattle.edi_told.specs.Faults.{Rose}
+use Rattle.edi_told.specs.Faults.{CountRose}
 use Rattle.edi_told.specs.Told.{WhereTold}
 use Rattle.edi_disk.specs.declared.disk.Disk.{Disk}
 use Rattle.edi_disk.specs.declared.disk.DiskEnd.{DiskEnd}
@@ -20,15 +20,15 @@ HasAll was_put numbers content = (i : ℕ) → i < length numbers → was_put (s
 
 -- From before to after the contents were put, each in its block: all of them on Ok, and after a fault of the drive some of them.
 -- No other block was put.
-pub record Puts {D : Type 0} (held : D → Option (List (List ℕ))) (count faults : D → ℕ) (end : DiskEnd) (numbers : List ℕ) (content : ℕ → List ℕ) (many : ℕ) (before after : Disk D) : Type 0 where
+pub record PutsBlocks {D : Type 0} (contents : D → Option (List (List ℕ))) (count faults : D → ℕ) (end : DiskEnd) (numbers : List ℕ) (content : ℕ → List ℕ) (many : ℕ) (before after : Disk D) : Type 0 where
   pub same_reference : reference_of after ≡ reference_of before
-  pub since : (base : List (List ℕ)) (was_put : ℕ → List ℕ → Bool) → HasAll was_put numbers content → Kept held base was_put before → Kept held base was_put after
+  pub since : (base : List (List ℕ)) (was_put : ℕ → List ℕ → Bool) → HasAll was_put numbers content → Kept contents base was_put before → Kept contents base was_put after
   pub count_stays : count (drive_of after) ≡ count (drive_of before)
   pub later : faults (drive_of before) ≤ faults (drive_of after)
-  pub told : WhereTold (shown held before) (shown held after) (λ old new. ⊤)
-  pub cause : end ≡ disk.Fault → Rose (faults (drive_of before)) (faults (drive_of after))
-  pub works : end ≡ disk.Ok → IsWorking held count after
-  pub shows : end ≡ disk.Ok → WhereTold (shown held before) (shown held after) (ArePut numbers content many)
+  pub told : WhereTold (shown contents before) (shown contents after) (λ old new. ⊤)
+  pub cause : end ≡ disk.Fault → CountRose (faults (drive_of before)) (faults (drive_of after))
+  pub works : end ≡ disk.Ok → IsWorking contents count after
+  pub shows : end ≡ disk.Ok → WhereTold (shown contents before) (shown contents after) (ArePut numbers content many)
 
 -- ---- a new file
 
@@ -49,11 +49,11 @@ NewLeaves disk.Ok slot file bytes old new = IsNew slot file bytes old new
 NewLeaves disk.Fault slot file bytes old new = OnlyIn (used_in (Some file)) old new ⊎ IsNew slot file bytes old new
 
 -- From before to after, on a disk with nothing that is not written, a new file is written to the drive, and then its entry.
-pub record WritesNew {D : Type 0} (held : D → Option (List (List ℕ))) (count faults : D → ℕ) (end : DiskEnd) (slot : ℕ) (file : StoredFile) (bytes : List ℕ) (before after : Disk D) : Type 0 where
+pub record WritesNew {D : Type 0} (contents : D → Option (List (List ℕ))) (count faults : D → ℕ) (end : DiskEnd) (slot : ℕ) (file : StoredFile) (bytes : List ℕ) (before after : Disk D) : Type 0 where
   pub same_reference : reference_of after ≡ reference_of before
   pub count_stays : count (drive_of after) ≡ count (drive_of before)
   pub later : faults (drive_of before) ≤ faults (drive_of after)
-  pub cause : end ≡ disk.Fault → Rose (faults (drive_of before)) (faults (drive_of after))
-  pub works : end ≡ disk.Ok → IsWorking held count after
-  pub settled : end ≡ disk.Ok → held (drive_of after) ≡ shown held after
-  pub leaves : WhereTold (held (drive_of before)) (held (drive_of after)) (NewLeaves end slot file bytes)
+  pub cause : end ≡ disk.Fault → CountRose (faults (drive_of before)) (faults (drive_of after))
+  pub works : end ≡ disk.Ok → IsWorking contents count after
+  pub settled : end ≡ disk.Ok → contents (drive_of after) ≡ shown contents after
+  pub leaves : WhereTold (contents (drive_of before)) (contents (drive_of after)) (NewLeaves end slot file bytes)

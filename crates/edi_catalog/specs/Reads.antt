@@ -1,6 +1,6 @@
--- What a check of an image gives, which only reads the disk.
+-- Words of contracts. What a check of an image gives, which only reads the disk.
 use Rattle.std.specs.Prelude.{◌≡◌, ℕ, ◌≤◌, Bool, true, false, List, Option, Result, Ok, Err, ⊤}
-use Rattle.edi_told.specs.Faults.{Rose}
+use Rattle.edi_told.specs.Faults.{CountRose}
 use Rattle.edi_told.specs.Told.{WhereTold}
 use Rattle.edi_disk.specs.declared.disk.Disk.{Disk}
 use Rattle.edi_disk.specs.Shown.{shown, drive_of, reference_of, IsWorking}
@@ -12,15 +12,15 @@ use Rattle.edi_image.specs.declared.faults.MountFault.{MountFault}
 
 -- From before to after the disk was only read. Where the drive has not failed, the disk shows what it showed, and P is known
 -- of that; what is told in the end was told at the start in any case.
-pub record Checks {D : Type 0} (held : D → Option (List (List ℕ))) (count faults : D → ℕ) (broke : Bool) (before after : Disk D) (P : List (List ℕ) → Type 0) : Type 0 where
+pub record Checks {D : Type 0} (contents : D → Option (List (List ℕ))) (count faults : D → ℕ) (broke : Bool) (before after : Disk D) (P : List (List ℕ) → Type 0) : Type 0 where
   pub same_reference : reference_of after ≡ reference_of before
-  pub since : (base : List (List ℕ)) (was_put : ℕ → List ℕ → Bool) → Kept held base was_put before → Kept held base was_put after
+  pub since : (base : List (List ℕ)) (was_put : ℕ → List ℕ → Bool) → Kept contents base was_put before → Kept contents base was_put after
   pub count_stays : count (drive_of after) ≡ count (drive_of before)
   pub later : faults (drive_of before) ≤ faults (drive_of after)
-  pub told : WhereTold (shown held before) (shown held after) (λ old new. ⊤)
-  pub cause : broke ≡ true → Rose (faults (drive_of before)) (faults (drive_of after))
-  pub works : broke ≡ false → IsWorking held count after
-  pub shows : broke ≡ false → WhereTold (shown held before) (shown held after) (λ old new. (new ≡ old) × P old)
+  pub told : WhereTold (shown contents before) (shown contents after) (λ old new. ⊤)
+  pub cause : broke ≡ true → CountRose (faults (drive_of before)) (faults (drive_of after))
+  pub works : broke ≡ false → IsWorking contents count after
+  pub shows : broke ≡ false → WhereTold (shown contents before) (shown contents after) (λ old new. (new ≡ old) × P old)
 
 -- on Ok these are the bytes of the block
 abbrev pub BlockIs : Result (List ℕ) MountFault → ℕ → List (List ℕ) → Type 0

@@ -1,7 +1,7 @@
--- Storing a file: why it is refused, and what it leaves.
+-- Words of contracts. Storing a file: why it is refused, and what it leaves.
 use Rattle.std.specs.Prelude.{◌≡◌, ◌⊎◌, ◌≤◌, ℕ, suc, ◌+◌, ◌-◌, false, nat_lt, if◌then◌else◌, List, [], ◌∷◌, length, slice_set, Option, Some, None, is_none, Result, Ok, Err}
 use Rattle.std.specs.Option.{option_map}
-use Rattle.edi_told.specs.Faults.{Rose}
+use Rattle.edi_told.specs.Faults.{CountRose}
 use Rattle.edi_told.specs.Told.{WhereTold}
 use Rattle.edi_disk.specs.Shown.{drive_of, reference_of}
 use Rattle.edi_calls.specs.State.{File, blocks_of, most_bytes, put_slot}
@@ -11,9 +11,9 @@ use Rattle.edi_catalog.specs.declared.ends.CatEnd.{CatEnd}
 use Rattle.edi_catalog.specs.declared.ends.CatEnd.TheVariants as cat
 use Rattle.edi_catalog.specs.declared.entry.Entry.{Entry}
 use Rattle.edi_image.specs.Stored.{StoredFile, blocks_taken}
-use Rattle.edi_catalog.specs.Files.{entry_of, file_titled, find_place}
+use Rattle.edi_catalog.specs.Files.{entry_of, file_titled, find_index}
 use Rattle.edi_image.specs.Image.{slots_of}
-use Rattle.edi_catalog.specs.Mounted.{IsMounted, disk_of, files_of}
+use Rattle.edi_catalog.specs.Mounted.{IsMounted, disk_of, files_of, room_reference}
 use Rattle.edi_catalog.specs.declared.catalog.Catalog.{Catalog}
 use Rattle.edi_catalog.specs.Changes.{Leaves, Untouched}
 use Rattle.edi_catalog.specs.Writing.{is_protected}
@@ -21,13 +21,13 @@ use Rattle.edi_catalog.specs.Writing.{is_protected}
 -- ---- where it is stored
 
 -- the place of the first free slot
-abbrev pub free_place : List (Option StoredFile) → Option ℕ
-free_place [] = None
-free_place (file ∷ files) = if is_none file then Some 0 else option_map suc (free_place files)
+abbrev pub free_index : List (Option StoredFile) → Option ℕ
+free_index [] = None
+free_index (file ∷ files) = if is_none file then Some 0 else option_map suc (free_index files)
 
 -- the place where a file of this title is stored: its own, and for a new title the first free one
-abbrev pub place_for : List ℕ → List (Option StoredFile) → Option ℕ
-place_for title files = if is_none (find_place title files) then free_place files else find_place title files
+abbrev pub index_for : List ℕ → List (Option StoredFile) → Option ℕ
+index_for title files = if is_none (find_index title files) then free_index files else find_index title files
 
 -- ---- why it is refused
 
@@ -41,7 +41,7 @@ abbrev pub not_stored : (title : List ℕ) → (size free : ℕ) → List (Optio
 not_stored title size free files =
     if is_protected (file_titled title files) then Some cat.Protected
     else (if nat_lt most_bytes size then Some (cat.TooLarge size)
-    else (if is_none (place_for title files) then Some cat.CatalogFull
+    else (if is_none (index_for title files) then Some cat.CatalogFull
     else (if nat_lt free (blocks_of size)
     then Some (cat.Full (blocks_of size) free)
     else None)))
@@ -55,36 +55,37 @@ abbrev pub stored_file : (title : List ℕ) → FileKind → (bytes : List ℕ) 
 stored_file title kind bytes = record { title = title; kind = kind; protected = false; bytes = bytes }
 
 -- one slot has a file with this entry, and every other is as before
-pub record IsStoredAt (place : Option ℕ) (entry : Entry) (old new : List (Option StoredFile)) : Type 0 where
+pub record IsStoredAt (index : Option ℕ) (entry : Entry) (old new : List (Option StoredFile)) : Type 0 where
   pub file : StoredFile
   pub entry_ : entry_of file ≡ entry
   pub at : ℕ
-  pub place_ : place ≡ Some at
+  pub index_ : index ≡ Some at
   pub others : new ≡ slice_set old at (Some file)
 
 -- A store is refused exactly for the first reason against it, and then all slots are as before; on Ok a slot has the file.
-abbrev pub StoreAnswers : {X : Type 0} → Result X CatEnd → (refusal : Option CatEnd) → (place : Option ℕ) → Entry → (old new : List (Option StoredFile)) → Type 0
-StoreAnswers (Ok done) refusal place entry old new = (refusal ≡ None) × IsStoredAt place entry old new
-StoreAnswers (Err cat.Fault) refusal place entry old new = refusal ≡ None
-StoreAnswers (Err why) refusal place entry old new = (refusal ≡ Some why) × (new ≡ old)
+abbrev pub StoreAnswers : {X : Type 0} → Result X CatEnd → (refusal : Option CatEnd) → (index : Option ℕ) → Entry → (old new : List (Option StoredFile)) → Type 0
+StoreAnswers (Ok done) refusal index entry old new = (refusal ≡ None) × IsStoredAt index entry old new
+StoreAnswers (Err cat.Fault) refusal index entry old new = refusal ≡ None
+StoreAnswers (Err why) refusal index entry old new = (refusal ≡ Some why) × (new ≡ old)
 
 -- the slots of an image with a file in one of them
 abbrev pub put_at : Option ℕ → File → List (Option File) → List (Option File)
 put_at None file slots = slots
-put_at (Some place) file slots = put_slot slots place (Some file)
+put_at (Some index) file slots = put_slot slots index (Some file)
 
 -- the slots of an image with a file stored
 abbrev pub slots_stored : (title : List ℕ) → FileKind → (bytes : List ℕ) → List (Option File) → List (Option File)
 slots_stored title kind bytes slots = put_at (slot_for slots title) (stored_file title kind bytes) slots
 
 -- A store on a mounted catalogue, by its answer: `refusal` is the first reason against it.
-pub record StoreChanges {D X : Type 0} (held : D → Option (List (List ℕ))) (count faults : D → ℕ) (result : Result X CatEnd) (refusal : Option CatEnd) (title : List ℕ) (kind : FileKind) (bytes : List ℕ) (before after : Catalog D) : Type 0 where
-  pub answers : StoreAnswers result refusal (place_for title (files_of before)) (stored_entry title kind (length bytes)) (files_of before) (files_of after)
+pub record StoreChanges {D X : Type 0} (contents : D → Option (List (List ℕ))) (count faults : D → ℕ) (result : Result X CatEnd) (refusal : Option CatEnd) (title : List ℕ) (kind : FileKind) (bytes : List ℕ) (before after : Catalog D) : Type 0 where
+  pub answers : StoreAnswers result refusal (index_for title (files_of before)) (stored_entry title kind (length bytes)) (files_of before) (files_of after)
   pub untouched : Untouched result before after
-  pub mounted : (result ≡ Err cat.Fault) ⊎ IsMounted held count after
-  pub leaves : WhereTold (held (drive_of (disk_of before))) (held (drive_of (disk_of after)))
+  pub mounted : (result ≡ Err cat.Fault) ⊎ IsMounted contents count after
+  pub leaves : WhereTold (contents (drive_of (disk_of before))) (contents (drive_of (disk_of after)))
       (λ old new. Leaves result (slots_of old) (slots_stored title kind bytes (slots_of old)) old new)
   pub same_reference : reference_of (disk_of after) ≡ reference_of (disk_of before)
+  pub same_room : room_reference after ≡ room_reference before
   pub count_stays : count (drive_of (disk_of after)) ≡ count (drive_of (disk_of before))
   pub later : faults (drive_of (disk_of before)) ≤ faults (drive_of (disk_of after))
-  pub cause : result ≡ Err cat.Fault → Rose (faults (drive_of (disk_of before))) (faults (drive_of (disk_of after)))
+  pub cause : result ≡ Err cat.Fault → CountRose (faults (drive_of (disk_of before))) (faults (drive_of (disk_of after)))

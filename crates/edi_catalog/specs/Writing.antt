@@ -1,7 +1,7 @@
--- Writing the entry of a slot.
-use Rattle.std.specs.Prelude.{◌≡◌, ◌⊎◌, ℕ, ◌+◌, ◌*◌, ◌/◌, ◌%◌, ◌≤◌, Bool, true, false, List, ◌++◌, take, drop, length, slice_set, slice_index_or, Option, Some, None, IfSome}
+-- Words of contracts. Writing the entry of a slot.
+use Rattle.std.specs.Prelude.{◌≡◌, ◌⊎◌, ℕ, ◌+◌, ◌*◌, ◌/◌, ◌%◌, ◌≤◌, Bool, true, false, List, [], ◌++◌, take, drop, length, slice_set, slice_index_or, Option, Some, None, IfSome}
 use Rattle.std.specs.Option.{option_and_then}
-use Rattle.edi_told.specs.Faults.{Rose}
+use Rattle.edi_told.specs.Faults.{CountRose}
 use Rattle.edi_told.specs.Told.{WhereTold}
 use Rattle.edi_calls.specs.State.{File, is_title}
 use Rattle.edi_disk.specs.declared.disk.Disk.{Disk}
@@ -11,13 +11,18 @@ use Rattle.edi_disk.specs.Shown.{shown, drive_of, reference_of, IsWorking}
 use Rattle.edi_image.specs.Records.{FileRecord}
 use Rattle.edi_image.specs.Entries.{block_at}
 use Rattle.edi_image.specs.Stored.{StoredFile}
-use Rattle.edi_catalog.specs.Files.{find_place}
+use Rattle.edi_catalog.specs.Files.{find_index}
 
 -- ---- writing it
 
 -- a block with other bytes from an address on
 abbrev pub patched : (at : ℕ) → (bytes block : List ℕ) → List ℕ
 patched at bytes block = take at block ++ (bytes ++ drop (at + length bytes) block)
+
+-- the blocks with the entries, as they are kept, with another entry of a slot
+abbrev pub entries_with : (slot : ℕ) → (entry : List ℕ) → (kept : List (List ℕ)) → List (List ℕ)
+entries_with slot entry kept =
+    slice_set kept (slot / 8) (patched (64 * (slot % 8)) entry (slice_index_or kept (slot / 8) []))
 
 -- the blocks with another entry of a slot
 abbrev pub with_entry : List (List ℕ) → (slot : ℕ) → List ℕ → List (List ℕ)
@@ -35,14 +40,14 @@ EntryLeaves disk.Ok slot entry old new = IsWritten slot entry old new
 EntryLeaves disk.Fault slot entry old new = (new ≡ old) ⊎ IsWritten slot entry old new
 
 -- From before to after, on a disk with nothing that is not written, the entry of a slot is written to the drive.
-pub record PutsEntry {D : Type 0} (held : D → Option (List (List ℕ))) (count faults : D → ℕ) (end : DiskEnd) (slot : ℕ) (entry : List ℕ) (before after : Disk D) : Type 0 where
+pub record PutsEntry {D : Type 0} (contents : D → Option (List (List ℕ))) (count faults : D → ℕ) (end : DiskEnd) (slot : ℕ) (entry : List ℕ) (before after : Disk D) : Type 0 where
   pub same_reference : reference_of after ≡ reference_of before
   pub count_stays : count (drive_of after) ≡ count (drive_of before)
   pub later : faults (drive_of before) ≤ faults (drive_of after)
-  pub cause : end ≡ disk.Fault → Rose (faults (drive_of before)) (faults (drive_of after))
-  pub works : end ≡ disk.Ok → IsWorking held count after
-  pub settled : end ≡ disk.Ok → held (drive_of after) ≡ shown held after
-  pub leaves : WhereTold (held (drive_of before)) (held (drive_of after)) (EntryLeaves end slot entry)
+  pub cause : end ≡ disk.Fault → CountRose (faults (drive_of before)) (faults (drive_of after))
+  pub works : end ≡ disk.Ok → IsWorking contents count after
+  pub settled : end ≡ disk.Ok → contents (drive_of after) ≡ shown contents after
+  pub leaves : WhereTold (contents (drive_of before)) (contents (drive_of after)) (EntryLeaves end slot entry)
 
 -- ---- another entry in place of that of a file
 
@@ -70,7 +75,7 @@ kept_as (Some r) file = option_and_then (kept_with r) file
 
 -- the same in the slots that are kept
 abbrev pub put_kept : List (Option StoredFile) → ℕ → Option FileRecord → List (Option StoredFile)
-put_kept files place r = slice_set files place (kept_as r (slice_index_or files place None))
+put_kept files index r = slice_set files index (kept_as r (slice_index_or files index None))
 
 -- and in those of an image
 abbrev pub file_with : FileRecord → File → Option File
@@ -81,17 +86,17 @@ file_as None file = None
 file_as (Some r) file = option_and_then (file_with r) file
 
 abbrev pub put_file : ℕ → Option FileRecord → List (Option File) → List (Option File)
-put_file place r slots = slice_set slots place (file_as r (slice_index_or slots place None))
+put_file index r slots = slice_set slots index (file_as r (slice_index_or slots index None))
 
 -- The record may stand for that of this file: it has the same blocks, and the same title or one that no file has.
 pub record IsRecordFor (files : List (Option StoredFile)) (file : StoredFile) (r : FileRecord) : Type 0 where
   pub title : is_title r.title ≡ true
   pub maps : r.maps ≡ file.record_.maps
   pub length_ : r.length ≡ file.record_.length
-  pub free : (r.title ≡ file.record_.title) ⊎ (find_place r.title files ≡ None)
+  pub free : (r.title ≡ file.record_.title) ⊎ (find_index r.title files ≡ None)
 
 -- there is a file at this place, and the record, if there is one, may stand for its own
-pub record IsRecordAt (files : List (Option StoredFile)) (place : ℕ) (r : Option FileRecord) : Type 0 where
+pub record IsRecordAt (files : List (Option StoredFile)) (index : ℕ) (r : Option FileRecord) : Type 0 where
   pub file : StoredFile
-  pub there : slice_index_or files place None ≡ Some file
+  pub there : slice_index_or files index None ≡ Some file
   pub fits : IfSome r (IsRecordFor files file)

@@ -1,16 +1,20 @@
 //! The calls that change one file.
 
 ghost use Rattle.std.specs.Prelude.{◌≡◌, ◌<◌, IfSome, None, true, false};
-ghost use Rattle.edi_calls.specs.State.{is_title};
-ghost use Rattle.edi_catalog.specs.Mounted.{IsMounted, files_of};
+ghost use Rattle.edi_told.specs.Told.{WhereTold};
+ghost use Rattle.edi_disk.specs.Shown.{drive_of};
+ghost use Rattle.edi_image.specs.Image.{slots_of};
+ghost use Rattle.edi_catalog.specs.InSlots.{no_deletion, no_renaming, no_such, SlotsAnswer};
+ghost use Rattle.edi_calls.specs.State.{find_file, is_title};
+ghost use Rattle.edi_catalog.specs.Mounted.{IsMounted, disk_of, files_of};
 ghost use Rattle.edi_catalog.specs.Files.{file_titled};
 ghost use Rattle.edi_catalog.specs.Changes.{Changes, deleted, file_protected, file_renamed, kept_changed, kept_protected, kept_renamed, not_deleted, not_found, not_renamed, slots_changed};
 ghost use Rattle.edi_catalog.specs.Writing.{IsRecordAt, is_protected, kept_as, put_file, put_kept, record_protected, record_renamed};
 
 use crate::catalog::Catalog;
 use crate::ends::CatEnd;
-use crate::files::place_of;
-use crate::writing::put_entry;
+use crate::files::index_of;
+use crate::writing::put_kept_entry;
 use edi_disk::DiskEnd;
 use edi_host::Drive;
 use edi_image::{FileRecord, StoredFile, Title, slot_bytes};
@@ -76,25 +80,20 @@ fn kept_as(entry: Option<FileRecord>, file: Option<StoredFile>) -> Option<Stored
     }
 }
 
-impl<'a, D: Drive> Catalog<'a, D> {
+impl<'d, 'c, D: Drive> Catalog<'d, 'c, D> {
     // Writes another record of the file of a slot, or frees the slot.
-    fn put_slot(&mut self, place: usize, entry: Option<FileRecord>) -> Result<(), CatEnd>
-        requires mounted { IsMounted D.held D.count self.old }
-        requires within { place < 256 }
-        requires fits { IsRecordAt (files_of self.old) place entry }
-        ensures changes { Changes D.held D.count D.faults result None
-            (put_kept (files_of self.old) place entry) (put_file place entry) self.old self.new }
+    fn put_slot(&mut self, index: usize, entry: Option<FileRecord>) -> Result<(), CatEnd>
+        requires mounted { IsMounted D.contents D.count self.old }
+        requires within { index < 256 }
+        requires fits { IsRecordAt (files_of self.old) index entry }
+        ensures changes { Changes D.contents D.count D.faults result None
+            (put_kept (files_of self.old) index entry) (put_file index entry) self.old self.new }
     {
         let bytes = slot_bytes(&entry);
-        match put_entry(
-            &mut self.disk,
-            &mut self.entries[place / 8],
-            place as u8,
-            &bytes,
-        ) {
+        match put_kept_entry(&mut self.disk, self.room, index, &bytes) {
             DiskEnd::Ok => {
-                let file = self.files[place].take();
-                self.files[place] = kept_as(entry, file);
+                let file = self.room.files[index].take();
+                self.room.files[index] = kept_as(entry, file);
                 Ok(())
             }
             DiskEnd::Fault => Err(CatEnd::Fault),
@@ -103,67 +102,94 @@ impl<'a, D: Drive> Catalog<'a, D> {
 
     // Makes a file protected or not.
     fn set_protected(&mut self, title: &Title, protected: bool) -> Result<(), CatEnd>
-        requires mounted { IsMounted D.held D.count self.old }
-        ensures changes { Changes D.held D.count D.faults result (not_found (file_titled title.now (files_of self.old)))
+        requires mounted { IsMounted D.contents D.count self.old }
+        ensures changes { Changes D.contents D.count D.faults result (not_found (file_titled title.now (files_of self.old)))
             (kept_changed (kept_protected protected) title.now (files_of self.old)) (slots_changed (file_protected protected) title.now) self.old self.new }
     {
-        let Some(place) = place_of(&self.files, title) else {
+        let Some(index) = index_of(&self.room.files, title) else {
             return Err(CatEnd::NoSuch);
         };
-        let entry = record_protected(&self.files[place], protected);
-        self.put_slot(place, entry)
+        let entry = record_protected(&self.room.files[index], protected);
+        self.put_slot(index, entry)
     }
 
     /// Protects the file with this title, which may be protected already. The one refusal is `NoSuch`.
     pub fn protect(&mut self, title: &Title) -> Result<(), CatEnd>
-        requires mounted { IsMounted D.held D.count self.old }
-        ensures changes { Changes D.held D.count D.faults result (not_found (file_titled title.now (files_of self.old)))
+        requires mounted { IsMounted D.contents D.count self.old }
+        ensures changes { Changes D.contents D.count D.faults result (not_found (file_titled title.now (files_of self.old)))
             (kept_changed (kept_protected true) title.now (files_of self.old)) (slots_changed (file_protected true) title.now) self.old self.new }
+        ensures exact { WhereTold (D.contents (drive_of (disk_of self.old))) (D.contents (drive_of (disk_of self.new)))
+            (λ old new. SlotsAnswer result (no_such (find_file (slots_of old) title.now)) (slots_of old) (slots_changed (file_protected true) title.now (slots_of old)) (slots_of new)) }
     {
         self.set_protected(title, true)
     }
 
     /// Takes the protection from the file with this title, which may have none. The one refusal is `NoSuch`.
     pub fn release(&mut self, title: &Title) -> Result<(), CatEnd>
-        requires mounted { IsMounted D.held D.count self.old }
-        ensures changes { Changes D.held D.count D.faults result (not_found (file_titled title.now (files_of self.old)))
+        requires mounted { IsMounted D.contents D.count self.old }
+        ensures changes { Changes D.contents D.count D.faults result (not_found (file_titled title.now (files_of self.old)))
             (kept_changed (kept_protected false) title.now (files_of self.old)) (slots_changed (file_protected false) title.now) self.old self.new }
+        ensures exact { WhereTold (D.contents (drive_of (disk_of self.old))) (D.contents (drive_of (disk_of self.new)))
+            (λ old new. SlotsAnswer result (no_such (find_file (slots_of old) title.now)) (slots_of old) (slots_changed (file_protected false) title.now (slots_of old)) (slots_of new)) }
     {
         self.set_protected(title, false)
     }
 
-    /// Deletes the file with this title. Refusals in their order: `NoSuch`, `Protected`.
-    pub fn delete(&mut self, title: &Title) -> Result<(), CatEnd>
-        requires mounted { IsMounted D.held D.count self.old }
-        ensures changes { Changes D.held D.count D.faults result (not_deleted (file_titled title.now (files_of self.old)))
+    // Deletes the file with this title.
+    fn delete_kept(&mut self, title: &Title) -> Result<(), CatEnd>
+        requires mounted { IsMounted D.contents D.count self.old }
+        ensures changes { Changes D.contents D.count D.faults result (not_deleted (file_titled title.now (files_of self.old)))
             (kept_changed deleted title.now (files_of self.old)) (slots_changed deleted title.now) self.old self.new }
     {
-        let Some(place) = place_of(&self.files, title) else {
+        let Some(index) = index_of(&self.room.files, title) else {
             return Err(CatEnd::NoSuch);
         };
-        if is_protected(&self.files[place]) {
+        if is_protected(&self.room.files[index]) {
             return Err(CatEnd::Protected);
         }
-        self.put_slot(place, None)
+        self.put_slot(index, None)
+    }
+
+    // Gives a file another title.
+    fn rename_kept(&mut self, old: &Title, new: &Title) -> Result<(), CatEnd>
+        requires mounted { IsMounted D.contents D.count self.old }
+        ensures changes { Changes D.contents D.count D.faults result (not_renamed (file_titled old.now (files_of self.old)) (file_titled new.now (files_of self.old)))
+            (kept_changed (kept_renamed new.now) old.now (files_of self.old)) (slots_changed (file_renamed new.now) old.now) self.old self.new }
+    {
+        let Some(from) = index_of(&self.room.files, old) else {
+            return Err(CatEnd::NoSuch);
+        };
+        if is_protected(&self.room.files[from]) {
+            return Err(CatEnd::Protected);
+        }
+        if index_of(&self.room.files, new).is_some() {
+            return Err(CatEnd::Taken);
+        }
+        let entry = record_renamed(&self.room.files[from], new);
+        self.put_slot(from, entry)
+    }
+
+    /// Deletes the file with this title. Refusals in their order: `NoSuch`, `Protected`.
+    pub fn delete(&mut self, title: &Title) -> Result<(), CatEnd>
+        requires mounted { IsMounted D.contents D.count self.old }
+        ensures changes { Changes D.contents D.count D.faults result (not_deleted (file_titled title.now (files_of self.old)))
+            (kept_changed deleted title.now (files_of self.old)) (slots_changed deleted title.now) self.old self.new }
+        ensures exact { WhereTold (D.contents (drive_of (disk_of self.old))) (D.contents (drive_of (disk_of self.new)))
+            (λ old new. SlotsAnswer result (no_deletion (find_file (slots_of old) title.now)) (slots_of old) (slots_changed deleted title.now (slots_of old)) (slots_of new)) }
+    {
+        self.delete_kept(title)
     }
 
     /// Gives the file with the title `old` the title `new`. Refusals in their order: `NoSuch`, `Protected`, `Taken`, also
     /// where both titles are the same.
     pub fn rename(&mut self, old: &Title, new: &Title) -> Result<(), CatEnd>
-        requires mounted { IsMounted D.held D.count self.old }
-        ensures changes { Changes D.held D.count D.faults result (not_renamed (file_titled old.now (files_of self.old)) (file_titled new.now (files_of self.old)))
+        requires mounted { IsMounted D.contents D.count self.old }
+        ensures changes { Changes D.contents D.count D.faults result (not_renamed (file_titled old.now (files_of self.old)) (file_titled new.now (files_of self.old)))
             (kept_changed (kept_renamed new.now) old.now (files_of self.old)) (slots_changed (file_renamed new.now) old.now) self.old self.new }
+        ensures exact { WhereTold (D.contents (drive_of (disk_of self.old))) (D.contents (drive_of (disk_of self.new)))
+            (λ blocks after. SlotsAnswer result (no_renaming (find_file (slots_of blocks) old.now) (find_file (slots_of blocks) new.now)) (slots_of blocks)
+            (slots_changed (file_renamed new.now) old.now (slots_of blocks)) (slots_of after)) }
     {
-        let Some(from) = place_of(&self.files, old) else {
-            return Err(CatEnd::NoSuch);
-        };
-        if is_protected(&self.files[from]) {
-            return Err(CatEnd::Protected);
-        }
-        if place_of(&self.files, new).is_some() {
-            return Err(CatEnd::Taken);
-        }
-        let entry = record_renamed(&self.files[from], new);
-        self.put_slot(from, entry)
+        self.rename_kept(old, new)
     }
 }

@@ -17,9 +17,9 @@ fn read_entry_blocks<D: Drive>(
     alloc: Global,
     disk: &mut Disk<'_, D>,
 ) -> Result<Vec<[u8; BLOCK]>, MountFault>
-    requires works { IsWorking D.held D.count disk.old }
+    requires works { IsWorking D.contents D.count disk.old }
     requires catalogue { FIRST ≤ D.count (drive_of disk.old) }
-    ensures checks { Checks D.held D.count D.faults (failed result) disk.old disk.new (λ blocks. IfOk result (λ kept. AreEntries kept.items blocks)) }
+    ensures checks { Checks D.contents D.count D.faults (failed result) disk.old disk.new (λ blocks. IfOk result (λ kept. AreEntries kept.items blocks)) }
     ensures many { IfOk result (λ kept. length kept.items ≡ 32) }
     ensures fault { IfErr result (λ why. (why ≡ MountFault.Fault) ⊎ (why ≡ MountFault.NoMemory)) }
 {
@@ -41,9 +41,9 @@ pub(crate) fn entry_blocks<D: Drive>(
     alloc: Global,
     disk: &mut Disk<'_, D>,
 ) -> Result<Vec<[u8; BLOCK]>, MountFault>
-    requires works { IsWorking D.held D.count disk.old }
+    requires works { IsWorking D.contents D.count disk.old }
     requires catalogue { 0 < D.count (drive_of disk.old) → FIRST ≤ D.count (drive_of disk.old) }
-    ensures checks { Checks D.held D.count D.faults (failed result) disk.old disk.new (λ blocks. IfOk result (λ kept. AreEntries kept.items blocks)) }
+    ensures checks { Checks D.contents D.count D.faults (failed result) disk.old disk.new (λ blocks. IfOk result (λ kept. AreEntries kept.items blocks)) }
     ensures many { IfOk result (λ kept. 0 < D.count (drive_of disk.old) → length kept.items ≡ 32) }
     ensures fault { IfErr result (λ why. (why ≡ MountFault.Fault) ⊎ (why ≡ MountFault.NoMemory)) }
 {

@@ -2,19 +2,19 @@
 
 ghost use Rattle.std.specs.Prelude.{◌≡◌, ◌<◌, IfSome, length, slice_index};
 ghost use Rattle.std.specs.Option.{option_map};
-ghost use Rattle.edi_catalog.specs.Files.{entry_of, file_titled, find_place};
+ghost use Rattle.edi_catalog.specs.Files.{entry_of, file_titled, find_index};
 
 use crate::entry::Entry;
 use edi_image::{StoredFile, Title, is_titled};
 
 /// The place of the file with this title.
-pub(crate) fn place_of(files: &[Option<StoredFile>], title: &Title) -> Option<usize>
-    ensures exact { result ≡ find_place title.now files.now }
-    ensures within { IfSome result (λ place. place < length files.now) }
+pub(crate) fn index_of(files: &[Option<StoredFile>], title: &Title) -> Option<usize>
+    ensures exact { result ≡ find_index title.now files.now }
+    ensures within { IfSome result (λ index. index < length files.now) }
 {
-    for (place, file) in files.iter().enumerate() {
+    for (index, file) in files.iter().enumerate() {
         if is_titled(file, title) {
-            return Some(place);
+            return Some(index);
         }
     }
     None
@@ -40,8 +40,8 @@ pub(crate) fn page_of(files: &[Option<StoredFile>], title: &Title, i: u32) -> Op
     requires { IfSome (file_titled title.now files.now) (λ file. i < length file.pages) }
     ensures { result ≡ option_map (λ file. slice_index file.pages i) (file_titled title.now files.now) }
 {
-    match place_of(files, title) {
-        Some(place) => match &files[place] {
+    match index_of(files, title) {
+        Some(index) => match &files[index] {
             Some(file) => Some(file.pages[i as usize]),
             None => None,
         },

@@ -1,7 +1,7 @@
 //! Making an image with no files.
 
 ghost use Rattle.std.specs.Prelude.{◌≡◌, ◌≤◌, ◌<◌, ◌^◌};
-ghost use Rattle.edi_told.specs.Faults.{Rose};
+ghost use Rattle.edi_told.specs.Faults.{CountRose};
 ghost use Rattle.edi_told.specs.Told.{WhereTold};
 ghost use Rattle.edi_catalog.specs.Ends.{CatalogueLeaves, FormatLeaves, FormatCounts};
 
@@ -28,10 +28,10 @@ const CATALOGUE: u32 = 33;
 pub fn format<D: Drive>(alloc: Global, drive: &mut D, blocks: u32) -> FormatEnd
     requires least { 64 ≤ blocks }
     requires most { blocks ≤ 4096 }
-    ensures leaves { WhereTold (D.held drive.old) (D.held drive.new) (FormatLeaves result blocks) }
+    ensures leaves { WhereTold (D.contents drive.old) (D.contents drive.new) (FormatLeaves result blocks) }
     ensures count { FormatCounts result blocks (D.count drive.old) (D.count drive.new) }
     ensures later { D.faults drive.old ≤ D.faults drive.new }
-    ensures cause { result ≡ FormatEnd.Fault → Rose (D.faults drive.old) (D.faults drive.new) }
+    ensures cause { result ≡ FormatEnd.Fault → CountRose (D.faults drive.old) (D.faults drive.new) }
 {
     match drive.resize(alloc, blocks) {
         ResizeEnd::Ok => match write_catalogue(drive, blocks as u16) {
@@ -46,10 +46,10 @@ pub fn format<D: Drive>(alloc: Global, drive: &mut D, blocks: u32) -> FormatEnd
 // Writes the catalogue of an image of `count` blocks that has no files.
 fn write_catalogue<D: Drive>(drive: &mut D, count: u16) -> DriveEnd
     requires { CATALOGUE ≤ D.count drive.old }
-    ensures leaves { WhereTold (D.held drive.old) (D.held drive.new) (CatalogueLeaves result count) }
+    ensures leaves { WhereTold (D.contents drive.old) (D.contents drive.new) (CatalogueLeaves result count) }
     ensures count { D.count drive.new ≡ D.count drive.old }
     ensures later { D.faults drive.old ≤ D.faults drive.new }
-    ensures cause { result ≡ DriveEnd.Failed → Rose (D.faults drive.old) (D.faults drive.new) }
+    ensures cause { result ≡ DriveEnd.Failed → CountRose (D.faults drive.old) (D.faults drive.new) }
 {
     for n in 0..CATALOGUE {
         match drive.write(n, &new_block(count, n)) {

@@ -20,6 +20,7 @@ mod storing;
 mod writing;
 
 pub use catalog::Catalog;
+pub use edi_calls::FileKind;
 pub use edi_image::{MountFault, Title};
 pub use ends::CatEnd;
 pub use entry::Entry;

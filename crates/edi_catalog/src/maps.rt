@@ -28,11 +28,11 @@ fn check_map<D: Drive>(
     count: usize,
     into: &mut Pages,
 ) -> Result<(), MountFault>
-    requires works { IsWorking D.held D.count disk.old }
+    requires works { IsWorking D.contents D.count disk.old }
     requires on_drive { is_data FIRST (D.count (drive_of disk.old)) map ≡ true }
     requires most { count ≤ 255 }
     requires room { array_vec_len into.old + count ≤ PAGES }
-    ensures checks { Checks D.held D.count D.faults (failed result) disk.old disk.new
+    ensures checks { Checks D.contents D.count D.faults (failed result) disk.old disk.new
         (λ blocks. Finds result (first_broken used.old.items (map_rules FIRST blocks slot count map))
         (λ _. Takes used.old.items used.new.items (map_rules FIRST blocks slot count map) into.old.items into.new.items (numbers_in (block_at blocks map) count))) }
     ensures pages { OnOk result (length into.new.items ≡ length into.old.items + count) }
@@ -65,9 +65,9 @@ pub(crate) fn read_maps<D: Drive>(
     slot: u8,
     file: &FileRecord,
 ) -> Result<Pages, MountFault>
-    requires works { IsWorking D.held D.count disk.old }
+    requires works { IsWorking D.contents D.count disk.old }
     requires fits { is_record (D.count (drive_of disk.old)) file.now ≡ true }
-    ensures checks { Checks D.held D.count D.faults (failed result) disk.old disk.new
+    ensures checks { Checks D.contents D.count D.faults (failed result) disk.old disk.new
         (λ blocks. Finds result (first_broken used.old.items (maps_rules FIRST blocks slot (pages_of file.now.length) file.now.maps))
         (λ pages. Takes used.old.items used.new.items (maps_rules FIRST blocks slot (pages_of file.now.length) file.now.maps)
         [] pages.items (numbers_of blocks (pages_of file.now.length) file.now.maps))) }

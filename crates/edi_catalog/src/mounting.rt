@@ -2,7 +2,7 @@
 
 ghost use Rattle.std.specs.Prelude.{◌≡◌, ◌≤◌, ◌<◌, [], OnOk, IfOk, Err, true, false, length, map, ⊤};
 ghost use Rattle.std.specs.List.{list_all};
-ghost use Rattle.edi_told.specs.Faults.{Rose};
+ghost use Rattle.edi_told.specs.Faults.{CountRose};
 ghost use Rattle.edi_told.specs.Told.{WhereTold};
 ghost use Rattle.edi_disk.specs.Shown.{drive_of, reference_of, shown, IsWorking};
 ghost use Rattle.edi_image.specs.Rules.{first_broken};
@@ -10,8 +10,7 @@ ghost use Rattle.edi_image.specs.Image.{header_rules, entries_of, mount_fault_of
 ghost use Rattle.edi_image.specs.Stored.{is_stored, stored_of};
 ghost use Rattle.edi_image.specs.Finds.{Finds, failed};
 ghost use Rattle.edi_catalog.specs.Reads.{Checks};
-ghost use Rattle.edi_catalog.specs.Mounted.{AreEntries, IsMounted};
-ghost use Rattle.edi_catalog.specs.Checked.{catalog_of};
+ghost use Rattle.edi_catalog.specs.Mounted.{AreEntries, IsMountedOn, disk_of, room_of, room_reference};
 
 use crate::catalog::Catalog;
 use crate::entry_blocks::entry_blocks;
@@ -30,9 +29,9 @@ const MOST: u32 = 4096;
 
 // Checks the number of blocks, and block 0.
 fn check_header<D: Drive>(disk: &mut Disk<'_, D>) -> Result<(), MountFault>
-    requires works { IsWorking D.held D.count disk.old }
+    requires works { IsWorking D.contents D.count disk.old }
     requires some { 0 < D.count (drive_of disk.old) }
-    ensures checks { Checks D.held D.count D.faults (failed result) disk.old disk.new
+    ensures checks { Checks D.contents D.count D.faults (failed result) disk.old disk.new
         (λ blocks. Finds result (first_broken [] (header_rules 2 blocks)) (λ _. ⊤)) }
     ensures least { OnOk result (LEAST ≤ D.count (drive_of disk.old)) }
     ensures most { OnOk result (D.count (drive_of disk.old) ≤ MOST) }
@@ -63,8 +62,8 @@ fn read_image<D: Drive>(
     alloc: Global,
     disk: &mut Disk<'_, D>,
 ) -> Result<Vec<Option<StoredFile>>, MountFault>
-    requires works { IsWorking D.held D.count disk.old }
-    ensures checks { Checks D.held D.count D.faults (failed result) disk.old disk.new
+    requires works { IsWorking D.contents D.count disk.old }
+    ensures checks { Checks D.contents D.count D.faults (failed result) disk.old disk.new
         (λ blocks. Finds result (mount_fault_of blocks) (λ files. files.items ≡ map (stored_of blocks) (entries_of blocks))) }
     ensures many { IfOk result (λ files. length files.items ≡ SLOTS) }
     ensures least { OnOk result (0 < D.count (drive_of disk.old) → FIRST ≤ D.count (drive_of disk.old)) }
@@ -82,7 +81,7 @@ fn read_image<D: Drive>(
     }
 }
 
-/// What a check has found of the slots of a disk.
+/// What a check has found of the slots of a disk, in the room that a mounted catalogue keeps it in.
 #[derive(Drop)]
 pub struct Checked {
     pub(crate) files: Vec<Option<StoredFile>>,
@@ -91,8 +90,8 @@ pub struct Checked {
 
 // Checks the image of a disk, and gives all that is kept of it.
 fn read_disk<D: Drive>(alloc: Global, disk: &mut Disk<'_, D>) -> Result<Checked, MountFault>
-    requires works { IsWorking D.held D.count disk.old }
-    ensures checks { Checks D.held D.count D.faults (failed result) disk.old disk.new
+    requires works { IsWorking D.contents D.count disk.old }
+    ensures checks { Checks D.contents D.count D.faults (failed result) disk.old disk.new
         (λ blocks. Finds result (mount_fault_of blocks)
         (λ checked. (checked.files.items ≡ map (stored_of blocks) (entries_of blocks)) × AreEntries checked.entries.items blocks)) }
     ensures many { IfOk result (λ checked. length checked.files.items ≡ SLOTS) }
@@ -118,18 +117,18 @@ fn read_disk<D: Drive>(alloc: Global, disk: &mut Disk<'_, D>) -> Result<Checked,
 /// No call of the disk has answered `Fault`, and what was put was flushed. A drive of 0 blocks is no disk: it has no files and
 /// no free block.
 pub fn check<D: Drive>(alloc: Global, disk: &mut Disk<'_, D>) -> Result<Checked, MountFault>
-    requires works { IsWorking D.held D.count disk.old }
-    requires settled { D.held (drive_of disk.old) ≡ shown D.held disk.old }
-    ensures checked { IfOk result (λ checked. IsMounted D.held D.count (catalog_of disk.new checked)) }
-    ensures leaves { WhereTold (D.held (drive_of disk.old)) (D.held (drive_of disk.new)) (λ old new. (new ≡ old) × Finds result (mount_fault_of old) (λ _. ⊤)) }
+    requires works { IsWorking D.contents D.count disk.old }
+    requires settled { D.contents (drive_of disk.old) ≡ shown D.contents disk.old }
+    ensures checked { IfOk result (IsMountedOn D.contents D.count disk.new) }
+    ensures leaves { WhereTold (D.contents (drive_of disk.old)) (D.contents (drive_of disk.new)) (λ old new. (new ≡ old) × Finds result (mount_fault_of old) (λ _. ⊤)) }
     ensures short { 0 < D.count (drive_of disk.old) → D.count (drive_of disk.old) < LEAST → result ≡ Err MountFault.Short }
     ensures long { MOST < D.count (drive_of disk.old) → result ≡ Err MountFault.Header }
-    ensures works { failed result ≡ false → IsWorking D.held D.count disk.new }
-    ensures settled { failed result ≡ false → D.held (drive_of disk.new) ≡ shown D.held disk.new }
+    ensures works { failed result ≡ false → IsWorking D.contents D.count disk.new }
+    ensures settled { failed result ≡ false → D.contents (drive_of disk.new) ≡ shown D.contents disk.new }
     ensures same_reference { reference_of disk.new ≡ reference_of disk.old }
     ensures count { D.count (drive_of disk.new) ≡ D.count (drive_of disk.old) }
     ensures later { D.faults (drive_of disk.old) ≤ D.faults (drive_of disk.new) }
-    ensures cause { result ≡ Err MountFault.Fault → Rose (D.faults (drive_of disk.old)) (D.faults (drive_of disk.new)) }
+    ensures cause { result ≡ Err MountFault.Fault → CountRose (D.faults (drive_of disk.old)) (D.faults (drive_of disk.new)) }
 {
     match read_disk(alloc, disk) {
         Ok(checked) => Ok(checked),
@@ -137,14 +136,12 @@ pub fn check<D: Drive>(alloc: Global, disk: &mut Disk<'_, D>) -> Result<Checked,
     }
 }
 
-/// The files of a disk that has been checked.
-pub fn mount<'a, D: Drive>(disk: Disk<'a, D>, checked: Checked) -> Catalog<'a, D>
-    requires { IsMounted D.held D.count (catalog_of disk checked) }
-    ensures { result ≡ catalog_of disk.entry checked }
+/// The files of a disk that has been checked, in the room that the check has made.
+pub fn mount<'d, 'c, D: Drive>(disk: Disk<'d, D>, room: &'c mut Checked) -> Catalog<'d, 'c, D>
+    requires mounted { IsMountedOn D.contents D.count disk room.old }
+    ensures disk { disk_of result ≡ disk.entry }
+    ensures room { room_of result ≡ room.old }
+    ensures same_room { room_reference result ≡ room.entry.ghost_name }
 {
-    Catalog {
-        disk,
-        files: checked.files,
-        entries: checked.entries,
-    }
+    Catalog { disk, room }
 }

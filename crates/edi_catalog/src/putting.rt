@@ -1,16 +1,18 @@
 //! Putting the blocks of a file.
 
-ghost use Rattle.std.specs.Prelude.{◌≡◌, ◌≤◌, ◌+◌, ◌-◌, ◌*◌, ◌/◌, ◌%◌, true, length, Some};
+ghost use Rattle.std.specs.Prelude.{◌≡◌, ◌≤◌, ◌<◌, ◌+◌, ◌-◌, ◌*◌, ◌/◌, ◌%◌, true, length, Some};
 ghost use Rattle.std.specs.Option.{ForSome};
 ghost use Rattle.edi_disk.specs.Shown.{drive_of, shown, IsWorking};
 ghost use Rattle.edi_image.specs.Bytes.{bytes_of_record};
 ghost use Rattle.edi_image.specs.Entries.{block_at};
 ghost use Rattle.edi_image.specs.Stored.{is_stored};
 ghost use Rattle.edi_catalog.specs.Plan.{are_different, content_of, used_in};
-ghost use Rattle.edi_catalog.specs.Writing.{patched};
-ghost use Rattle.edi_catalog.specs.Putting.{Puts, WritesNew};
+ghost use Rattle.edi_catalog.specs.Mounted.{AreEntries};
+ghost use Rattle.edi_catalog.specs.Writing.{entries_with, patched};
+ghost use Rattle.edi_catalog.specs.Putting.{PutsBlocks, WritesNew};
 
 use crate::contents::{block_of, content_of};
+use crate::mounting::Checked;
 use crate::writing::put_entry;
 use edi_calls::blocks_of;
 use edi_disk::{Disk, DiskEnd};
@@ -19,11 +21,11 @@ use edi_image::{BLOCK, FIRST, StoredFile, entry_bytes};
 
 // Puts the maps and the pages of a file, each in its block.
 fn put_blocks<D: Drive>(disk: &mut Disk<'_, D>, file: &StoredFile, bytes: &[u8]) -> DiskEnd
-    requires works { IsWorking D.held D.count disk.old }
+    requires works { IsWorking D.contents D.count disk.old }
     requires stored { is_stored (D.count (drive_of disk.old)) (Some file.now) ≡ true }
     requires different { are_different (used_in (Some file.now)) ≡ true }
     requires size { length bytes.now ≡ file.now.record_.length }
-    ensures puts { Puts D.held D.count D.faults result (used_in (Some file.now)) (content_of file.now bytes.now) (length (used_in (Some file.now))) disk.old disk.new }
+    ensures puts { PutsBlocks D.contents D.count D.faults result (used_in (Some file.now)) (content_of file.now bytes.now) (length (used_in (Some file.now))) disk.old disk.new }
 {
     for i in 0..blocks_of(bytes.len()) {
         let number = u32::from(block_of(file, i));
@@ -41,12 +43,12 @@ pub(crate) fn write_file<D: Drive>(
     file: &StoredFile,
     bytes: &[u8],
 ) -> DiskEnd
-    requires works { IsWorking D.held D.count disk.old }
+    requires works { IsWorking D.contents D.count disk.old }
     requires stored { is_stored (D.count (drive_of disk.old)) (Some file.now) ≡ true }
     requires different { are_different (used_in (Some file.now)) ≡ true }
     requires size { length bytes.now ≡ file.now.record_.length }
-    ensures puts { Puts D.held D.count D.faults result (used_in (Some file.now)) (content_of file.now bytes.now) (length (used_in (Some file.now))) disk.old disk.new }
-    ensures settles { result ≡ DiskEnd.Ok → D.held (drive_of disk.new) ≡ shown D.held disk.new }
+    ensures puts { PutsBlocks D.contents D.count D.faults result (used_in (Some file.now)) (content_of file.now bytes.now) (length (used_in (Some file.now))) disk.old disk.new }
+    ensures settles { result ≡ DiskEnd.Ok → D.contents (drive_of disk.new) ≡ shown D.contents disk.new }
 {
     match put_blocks(disk, file, bytes) {
         DiskEnd::Ok => disk.flush(),
@@ -63,18 +65,42 @@ pub(crate) fn write_new<D: Drive>(
     file: &StoredFile,
     bytes: &[u8],
 ) -> DiskEnd
-    requires works { IsWorking D.held D.count disk.old }
-    requires settled { D.held (drive_of disk.old) ≡ shown D.held disk.old }
+    requires works { IsWorking D.contents D.count disk.old }
+    requires settled { D.contents (drive_of disk.old) ≡ shown D.contents disk.old }
     requires catalogue { FIRST ≤ D.count (drive_of disk.old) }
     requires stored { is_stored (D.count (drive_of disk.old)) (Some file.now) ≡ true }
     requires different { are_different (used_in (Some file.now)) ≡ true }
     requires size { length bytes.now ≡ file.now.record_.length }
-    requires kept { ForSome (D.held (drive_of disk.old)) (λ blocks. block_at blocks (1 + slot / 8) ≡ kept.old) }
+    requires kept { ForSome (D.contents (drive_of disk.old)) (λ blocks. block_at blocks (1 + slot / 8) ≡ kept.old) }
     ensures kept { result ≡ DiskEnd.Ok → kept.new ≡ patched (64 * (slot % 8)) (bytes_of_record file.now.record_) kept.old }
-    ensures writes { WritesNew D.held D.count D.faults result slot file.now bytes.now disk.old disk.new }
+    ensures writes { WritesNew D.contents D.count D.faults result slot file.now bytes.now disk.old disk.new }
 {
     match write_file(disk, file, bytes) {
         DiskEnd::Ok => put_entry(disk, kept, slot, &entry_bytes(&file.record)),
         DiskEnd::Fault => DiskEnd::Fault,
     }
+}
+
+/// The same, with the block of the slot as the room of a catalogue keeps it.
+pub(crate) fn write_kept<D: Drive>(
+    disk: &mut Disk<'_, D>,
+    room: &mut Checked,
+    index: usize,
+    file: &StoredFile,
+    bytes: &[u8],
+) -> DiskEnd
+    requires works { IsWorking D.contents D.count disk.old }
+    requires settled { D.contents (drive_of disk.old) ≡ shown D.contents disk.old }
+    requires catalogue { FIRST ≤ D.count (drive_of disk.old) }
+    requires stored { is_stored (D.count (drive_of disk.old)) (Some file.now) ≡ true }
+    requires different { are_different (used_in (Some file.now)) ≡ true }
+    requires size { length bytes.now ≡ file.now.record_.length }
+    requires within { index < 256 }
+    requires many { length room.old.entries.items ≡ 32 }
+    requires kept { ForSome (D.contents (drive_of disk.old)) (AreEntries room.old.entries.items) }
+    ensures writes { WritesNew D.contents D.count D.faults result index file.now bytes.now disk.old disk.new }
+    ensures files { room.new.files.items ≡ room.old.files.items }
+    ensures kept { result ≡ DiskEnd.Ok → room.new.entries.items ≡ entries_with index (bytes_of_record file.now.record_) room.old.entries.items }
+{
+    write_new(disk, &mut room.entries[index / 8], index as u8, file, bytes)
 }

@@ -15,8 +15,8 @@ use edi_image::{BLOCK, MOST_BYTES, MountFault, StoredFile};
 /// Block `n` of the disk. No fault but that of the drive comes.
 pub(crate) fn block<D: Drive>(disk: &mut Disk<'_, D>, n: u32) -> Result<[u8; BLOCK], MountFault>
     requires in_range { n < D.count (drive_of disk.old) }
-    requires works { IsWorking D.held D.count disk.old }
-    ensures checks { Checks D.held D.count D.faults (failed result) disk.old disk.new (BlockIs result n) }
+    requires works { IsWorking D.contents D.count disk.old }
+    ensures checks { Checks D.contents D.count D.faults (failed result) disk.old disk.new (BlockIs result n) }
     ensures fault { OnErr result (failed result ≡ true) }
 {
     let mut bytes = [0; BLOCK];
@@ -34,17 +34,17 @@ fn read_page_at<D: Drive>(
     into: &mut [u8],
 ) -> Result<(), MountFault>
     requires in_range { page < D.count (drive_of disk.old) }
-    requires works { IsWorking D.held D.count disk.old }
+    requires works { IsWorking D.contents D.count disk.old }
     requires room { at + BLOCK ≤ length into.old }
-    ensures checks { Checks D.held D.count D.faults (failed result) disk.old disk.new (PageAt result page at into.old into.new) }
+    ensures checks { Checks D.contents D.count D.faults (failed result) disk.old disk.new (PageAt result page at into.old into.new) }
     ensures many { length into.new ≡ length into.old }
     ensures fault { OnErr result (failed result ≡ true) }
 {
     match block(disk, u32::from(page)) {
         Ok(bytes) => {
             let (_, rest) = into.split_at_mut(at);
-            let (place, _) = rest.split_at_mut(BLOCK);
-            place.copy_from_slice(&bytes);
+            let (index, _) = rest.split_at_mut(BLOCK);
+            index.copy_from_slice(&bytes);
             Ok(())
         }
         Err(fault) => Err(fault),
@@ -57,10 +57,10 @@ pub(crate) fn read_pages<D: Drive>(
     pages: &[u16],
     into: &mut [u8],
 ) -> Result<(), MountFault>
-    requires works { IsWorking D.held D.count disk.old }
+    requires works { IsWorking D.contents D.count disk.old }
     requires data { are_data (D.count (drive_of disk.old)) pages.now ≡ true }
     requires room { BLOCK * length pages.now ≤ length into.old }
-    ensures checks { Checks D.held D.count D.faults (failed result) disk.old disk.new (PagesAre result pages.now into.new) }
+    ensures checks { Checks D.contents D.count D.faults (failed result) disk.old disk.new (PagesAre result pages.now into.new) }
     ensures many { length into.new ≡ length into.old }
     ensures fault { OnErr result (failed result ≡ true) }
 {
@@ -79,10 +79,10 @@ pub(crate) fn read_stored<D: Drive>(
     file: &StoredFile,
     into: &mut [u8],
 ) -> Result<u32, MountFault>
-    requires works { IsWorking D.held D.count disk.old }
+    requires works { IsWorking D.contents D.count disk.old }
     requires stored { is_stored (D.count (drive_of disk.old)) (Some file.now) ≡ true }
     requires room { MOST_BYTES ≤ length into.old }
-    ensures checks { Checks D.held D.count D.faults (failed result) disk.old disk.new (StoredIs result file.now into.new) }
+    ensures checks { Checks D.contents D.count D.faults (failed result) disk.old disk.new (StoredIs result file.now into.new) }
     ensures length { IfOk result (λ n. n ≡ file.now.record_.length) }
     ensures fault { OnErr result (failed result ≡ true) }
 {

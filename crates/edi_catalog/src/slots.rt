@@ -30,9 +30,9 @@ fn read_file<D: Drive>(
     slot: u8,
     file: FileRecord,
 ) -> Result<StoredFile, MountFault>
-    requires works { IsWorking D.held D.count disk.old }
+    requires works { IsWorking D.contents D.count disk.old }
     requires fits { is_record (D.count (drive_of disk.old)) file ≡ true }
-    ensures checks { Checks D.held D.count D.faults (failed result) disk.old disk.new
+    ensures checks { Checks D.contents D.count D.faults (failed result) disk.old disk.new
         (λ blocks. Finds result (first_broken used.old.items (file_rules FIRST blocks slot (titles_of files.now) file))
         (λ stored. (stored ≡ record { record_ = file; pages = numbers_of blocks (pages_of file.length) file.maps })
         × (used.new.items ≡ used.old.items ++ used_by (file_rules FIRST blocks slot (titles_of files.now) file)))) }
@@ -52,9 +52,9 @@ fn read_file<D: Drive>(
 
 /// What the entry of a slot says.
 fn read_entry<D: Drive>(disk: &mut Disk<'_, D>, slot: u8) -> Result<Said, MountFault>
-    requires works { IsWorking D.held D.count disk.old }
+    requires works { IsWorking D.contents D.count disk.old }
     requires catalogue { FIRST ≤ D.count (drive_of disk.old) }
-    ensures checks { Checks D.held D.count D.faults (failed result) disk.old disk.new (SaysSlot result slot) }
+    ensures checks { Checks D.contents D.count D.faults (failed result) disk.old disk.new (SaysSlot result slot) }
     ensures fault { OnErr result (failed result ≡ true) }
     ensures fits { IfOk result (λ said. is_fit (D.count (drive_of disk.old)) said ≡ true) }
 {
@@ -75,9 +75,9 @@ fn read_slot<D: Drive>(
     used: &mut Vec<u16>,
     slot: u8,
 ) -> Result<(), MountFault>
-    requires works { IsWorking D.held D.count disk.old }
+    requires works { IsWorking D.contents D.count disk.old }
     requires catalogue { FIRST ≤ D.count (drive_of disk.old) }
-    ensures checks { Checks D.held D.count D.faults (failed result) disk.old disk.new
+    ensures checks { Checks D.contents D.count D.faults (failed result) disk.old disk.new
         (λ blocks. Finds result (first_broken used.old.items (entry_rules FIRST blocks slot (titles_of files.old.items) (said_at blocks slot)))
         (λ _. TakesSlot used.old.items used.new.items (entry_rules FIRST blocks slot (titles_of files.old.items) (said_at blocks slot))
         files.old.items files.new.items (stored_of blocks (said_at blocks slot)))) }
@@ -100,9 +100,9 @@ pub(crate) fn read_slots<D: Drive>(
     alloc: Global,
     disk: &mut Disk<'_, D>,
 ) -> Result<Vec<Option<StoredFile>>, MountFault>
-    requires works { IsWorking D.held D.count disk.old }
+    requires works { IsWorking D.contents D.count disk.old }
     requires catalogue { FIRST ≤ D.count (drive_of disk.old) }
-    ensures checks { Checks D.held D.count D.faults (failed result) disk.old disk.new
+    ensures checks { Checks D.contents D.count D.faults (failed result) disk.old disk.new
         (λ blocks. Finds result (first_broken [] (slot_rules FIRST blocks 0 [] (entries_of blocks)))
         (λ files. files.items ≡ map (stored_of blocks) (entries_of blocks))) }
     ensures many { IfOk result (λ files. length files.items ≡ SLOTS) }

@@ -1,11 +1,13 @@
 //! Writing the entry of a slot.
 
-ghost use Rattle.std.specs.Prelude.{◌≡◌, ◌≤◌, ◌+◌, ◌*◌, ◌/◌, ◌%◌};
+ghost use Rattle.std.specs.Prelude.{◌≡◌, ◌≤◌, ◌<◌, ◌+◌, ◌*◌, ◌/◌, ◌%◌, length};
 ghost use Rattle.std.specs.Option.{ForSome};
 ghost use Rattle.edi_disk.specs.Shown.{drive_of, shown, IsWorking};
 ghost use Rattle.edi_image.specs.Entries.{block_at};
-ghost use Rattle.edi_catalog.specs.Writing.{PutsEntry, patched};
+ghost use Rattle.edi_catalog.specs.Mounted.{AreEntries};
+ghost use Rattle.edi_catalog.specs.Writing.{PutsEntry, entries_with, patched};
 
+use crate::mounting::Checked;
 use edi_disk::{Disk, DiskEnd};
 use edi_host::Drive;
 use edi_image::{BLOCK, ENTRY, FIRST};
@@ -16,8 +18,8 @@ fn put_over(block: &mut [u8; BLOCK], at: usize, entry: &[u8; ENTRY])
     ensures { block.new ≡ patched at entry.now block.old }
 {
     let (_, rest) = block.split_at_mut(at);
-    let (place, _) = rest.split_at_mut(ENTRY);
-    place.copy_from_slice(entry);
+    let (index, _) = rest.split_at_mut(ENTRY);
+    index.copy_from_slice(entry);
 }
 
 /// Writes the entry of a slot to the drive, in its block, which is kept.
@@ -27,11 +29,11 @@ pub(crate) fn put_entry<D: Drive>(
     slot: u8,
     entry: &[u8; ENTRY],
 ) -> DiskEnd
-    requires works { IsWorking D.held D.count disk.old }
-    requires settled { D.held (drive_of disk.old) ≡ shown D.held disk.old }
+    requires works { IsWorking D.contents D.count disk.old }
+    requires settled { D.contents (drive_of disk.old) ≡ shown D.contents disk.old }
     requires catalogue { FIRST ≤ D.count (drive_of disk.old) }
-    requires kept { ForSome (D.held (drive_of disk.old)) (λ blocks. block_at blocks (1 + slot / 8) ≡ kept.old) }
-    ensures puts { PutsEntry D.held D.count D.faults result slot entry.now disk.old disk.new }
+    requires kept { ForSome (D.contents (drive_of disk.old)) (λ blocks. block_at blocks (1 + slot / 8) ≡ kept.old) }
+    ensures puts { PutsEntry D.contents D.count D.faults result slot entry.now disk.old disk.new }
     ensures kept { kept.new ≡ patched (ENTRY * (slot % 8)) entry.now kept.old }
 {
     put_over(kept, ENTRY * (usize::from(slot) % 8), entry);
@@ -39,4 +41,24 @@ pub(crate) fn put_entry<D: Drive>(
         DiskEnd::Ok => disk.flush(),
         DiskEnd::Fault => DiskEnd::Fault,
     }
+}
+
+/// Writes the entry of a slot to the drive, in its block, which the room of a catalogue keeps.
+pub(crate) fn put_kept_entry<D: Drive>(
+    disk: &mut Disk<'_, D>,
+    room: &mut Checked,
+    index: usize,
+    entry: &[u8; ENTRY],
+) -> DiskEnd
+    requires works { IsWorking D.contents D.count disk.old }
+    requires settled { D.contents (drive_of disk.old) ≡ shown D.contents disk.old }
+    requires catalogue { FIRST ≤ D.count (drive_of disk.old) }
+    requires within { index < 256 }
+    requires many { length room.old.entries.items ≡ 32 }
+    requires kept { ForSome (D.contents (drive_of disk.old)) (AreEntries room.old.entries.items) }
+    ensures puts { PutsEntry D.contents D.count D.faults result index entry.now disk.old disk.new }
+    ensures files { room.new.files.items ≡ room.old.files.items }
+    ensures kept { room.new.entries.items ≡ entries_with index entry.now room.old.entries.items }
+{
+    put_entry(disk, &mut room.entries[index / 8], index as u8, entry)
 }

@@ -54,10 +54,10 @@ fn made(
     let mut drive = MemoryDrive::new(alloc, bytes, numbers, lands)?;
     let answer = {
         let mut disk = Disk::attach(&mut drive);
-        let Ok(checked) = check(alloc, &mut disk) else {
+        let Ok(mut room) = check(alloc, &mut disk) else {
             return Err("not mounted")?;
         };
-        let mut catalog = mount(disk, checked);
+        let mut catalog = mount(disk, &mut room);
         match call {
             Call::Protect => catalog.protect(&title),
             Call::Release => catalog.release(&title),

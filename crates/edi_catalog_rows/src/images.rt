@@ -167,10 +167,10 @@ fn a_new_image_has_no_files(rt: HostRuntime) -> Result<(), Fail> {
     let expected = image(alloc, b"EDIS\0\x02\0\x40", 64, &[], &[], &[])?;
     assert_eq!(rt; drive.bytes(), expected.as_slice());
     let mut disk = Disk::attach(&mut drive);
-    let Ok(checked) = check(alloc, &mut disk) else {
+    let Ok(mut room) = check(alloc, &mut disk) else {
         return Err("not mounted")?;
     };
-    let catalog = mount(disk, checked);
+    let catalog = mount(disk, &mut room);
     assert_eq!(rt; catalog.free(), 31);
     assert_eq!(rt; catalog.slot(0), None);
     assert_eq!(rt; catalog.slot(256), None);
@@ -185,10 +185,10 @@ fn files_are_found_and_read(rt: HostRuntime) -> Result<(), Fail> {
     assert!(rt; bytes.len() % 512 == 0);
     let mut drive = SteadyDrive::new(alloc, &bytes)?;
     let mut disk = Disk::attach(&mut drive);
-    let Ok(checked) = check(alloc, &mut disk) else {
+    let Ok(mut room) = check(alloc, &mut disk) else {
         return Err("not mounted")?;
     };
-    let catalog = mount(disk, checked);
+    let catalog = mount(disk, &mut room);
     let title = Title::new(b"b").ok_or("no title")?;
     let entry = catalog.find(&title).ok_or("not found")?;
     assert_eq!(rt;
@@ -237,10 +237,10 @@ fn pages_are_read(rt: HostRuntime) -> Result<(), Fail> {
     assert!(rt; bytes.len() % 512 == 0);
     let mut drive = SteadyDrive::new(alloc, &bytes)?;
     let mut disk = Disk::attach(&mut drive);
-    let Ok(checked) = check(alloc, &mut disk) else {
+    let Ok(mut room) = check(alloc, &mut disk) else {
         return Err("not mounted")?;
     };
-    let mut catalog = mount(disk, checked);
+    let mut catalog = mount(disk, &mut room);
     let mut page = [1; 512];
     let title = Title::new(b"b").ok_or("no title")?;
     let Some(entry) = catalog.find(&title) else {

@@ -47,10 +47,10 @@ fn read(
     assert!(rt; into.len() >= 261_120);
     let mut drive = SteadyDrive::new(alloc, bytes)?;
     let mut disk = Disk::attach(&mut drive);
-    let Ok(checked) = check(alloc, &mut disk) else {
+    let Ok(mut kept) = check(alloc, &mut disk) else {
         return Err("not mounted")?;
     };
-    let mut catalog = mount(disk, checked);
+    let mut catalog = mount(disk, &mut kept);
     let answer = catalog.read_into(&title, &mut into);
     Ok((answer, into))
 }

@@ -37,10 +37,10 @@ fn stored(
     let mut drive = MemoryDrive::new(alloc, bytes, &[failing], lands)?;
     let answer = {
         let mut disk = Disk::attach(&mut drive);
-        let Ok(checked) = check(alloc, &mut disk) else {
+        let Ok(mut room) = check(alloc, &mut disk) else {
             return Err("not mounted")?;
         };
-        let mut catalog = mount(disk, checked);
+        let mut catalog = mount(disk, &mut room);
         catalog.store(&title, FileKind::Text, contents)
     };
     Ok((answer, Vec::from_slice(alloc, drive.bytes())?))
@@ -57,10 +57,10 @@ fn page_of(
     let title = Title::new(b"a").ok_or("no title")?;
     let mut drive = SteadyDrive::new(alloc, bytes)?;
     let mut disk = Disk::attach(&mut drive);
-    let Ok(checked) = check(alloc, &mut disk) else {
+    let Ok(mut room) = check(alloc, &mut disk) else {
         return Err("not mounted")?;
     };
-    let mut catalog = mount(disk, checked);
+    let mut catalog = mount(disk, &mut room);
     let free = catalog.free();
     let Some(entry) = catalog.find(&title) else {
         return Ok((None, free));
@@ -150,10 +150,10 @@ fn stored_anew(
     let mut drive = SteadyDrive::new(alloc, &[])?;
     assert_eq!(rt; format(alloc, &mut drive, blocks), FormatEnd::Ok);
     let mut disk = Disk::attach(&mut drive);
-    let Ok(checked) = check(alloc, &mut disk) else {
+    let Ok(mut room) = check(alloc, &mut disk) else {
         return Err("not mounted")?;
     };
-    let mut catalog = mount(disk, checked);
+    let mut catalog = mount(disk, &mut room);
     let answer = catalog.store(&title, FileKind::Text, &contents);
     if let Err(CatEnd::Fault) = answer {
         return Err("the drive has failed")?;

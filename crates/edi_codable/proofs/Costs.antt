@@ -195,11 +195,11 @@ variable_fine line of true (unit.load p) has a b h =
     ruled (ArgumentFine a b) (has == of) kind.Call line _ (λ e. record { lined = h.lined; lines = h.lines; fewer = omega (arith, h.fewer) })
 variable_fine line of true (unit.constant u n) has a b h = tt
 variable_fine line of true (unit.not_of x) has a b h = tt
-variable_fine line of true (unit.minus x l) has a b h = tt
+variable_fine line of true (unit.sign_of x l) has a b h = tt
 variable_fine line of true (unit.chain x ls) has a b h = tt
 variable_fine line of true (unit.make u es l) has a b h = tt
 variable_fine line of true (unit.convert u x l) has a b h = tt
-variable_fine line of true (unit.invoke c xs l) has a b h = tt
+variable_fine line of true (unit.apply_of c xs l) has a b h = tt
 variable_fine line of false x has a b h = tt
 
 passed_fine : (line : ℕ) (asked : Heading) (u : Use) (name : Name) (more : List Spelled) → Lined more → Gives (ArgumentFine (name_mark name ∷ more) more) (passed line asked u)

@@ -18,7 +18,7 @@ use Rattle.edi_tree.specs.declared.expressions.Sign.{Sign}
 use Rattle.edi_tree.specs.declared.expressions.Sign.TheVariants as sign
 use Rattle.edi_tree.specs.Tree.{Names, no_name, next_name, ConstDecls, no_const_decl, next_const_decl, ConstList, const_list, Group, group, Groups, no_group, next_group, TypeDecl, enum_decl, record_decl, array_decl, set_decl, VarList, var_list, Heading, heading, Params, no_params, params, MoreParams, no_param, next_param, Param, value_param, var_param, procedure_param, Program}
 use Rattle.edi_tree.specs.Spelled.{Spelled, just, name_mark, names_then, constant_then, const_decl_then, const_decls_then, const_list_then, group_then, groups_then, type_decl_then, var_list_then, result_then, heading_then, params_then, more_params_then, param_then, sign_then, spelled}
-use Rattle.edi_tree.specs.Spells.{IsOn, Stand, IsHeld}
+use Rattle.edi_tree.specs.Spells.{IsOn, StandAsMarks, IsBounded}
 use Rattle.edi_scheme.specs.Lines.{IsLine}
 
 abbrev pub weight : List Spelled → ℕ
@@ -54,7 +54,7 @@ kept_small : (kept : Option ℕ) (line : ℕ) → IsOn kept line → line < 2 ^ 
 kept_small None line h less = refl
 kept_small (Some kept) line h less = grind (arith, nat_tests, h, less)
 
-standing_small : (ss : List Spelled) (marks : List Mark) (line last : ℕ) → Stand ss marks → is_orderly line marks last ≡ true → last < 2 ^ 16 → are_small ss ≡ true
+standing_small : (ss : List Spelled) (marks : List Mark) (line last : ℕ) → StandAsMarks ss marks → is_orderly line marks last ≡ true → last < 2 ^ 16 → are_small ss ≡ true
 standing_small [] marks line last h e less = refl
 standing_small (s ∷ ss) [] line last h e less = absurd h
 standing_small (s ∷ ss) (m ∷ marks) line last h e less =
@@ -63,19 +63,19 @@ standing_small (s ∷ ss) (m ∷ marks) line last h e less =
     let here : is_small s.line ≡ true = kept_small s.line m.line h.0.1 (omega (arith, low, less)) in
     rw (here, standing_small ss marks m.line last h.1 parts.1 less) refl
 
-standing_weight : (ss : List Spelled) (marks : List Mark) → Stand ss marks → weight ss ≤ extent marks
+pub standing_weight : (ss : List Spelled) (marks : List Mark) → StandAsMarks ss marks → weight ss ≤ extent marks
 standing_weight [] marks h = omega arith
 standing_weight (s ∷ ss) [] h = absurd h
 standing_weight (s ∷ ss) (m ∷ marks) h =
     let here : size_of s.symbol ≤ size_of m.symbol = subst (λ x. size_of x ≤ size_of m.symbol) h.0.0 (omega arith) in
     omega (arith, sum_by-cons (λ m. size_of m.symbol) m marks, here, standing_weight ss marks h.1)
 
-tree_small : (tree : Program) → IsHeld tree → are_small (spelled tree) ≡ true
-tree_small tree h = standing_small (spelled tree) h.marks 1 h.last h.spells h.held.orderly h.held.bounded
+tree_small : (tree : Program) → IsBounded tree → are_small (spelled tree) ≡ true
+tree_small tree h = standing_small (spelled tree) h.marks 1 h.last h.spells h.is_bounded.orderly h.is_bounded.bounded
 
-tree_light : (tree : Program) → IsHeld tree → nat_le (weight (spelled tree)) 262144 ≡ true
+tree_light : (tree : Program) → IsBounded tree → nat_le (weight (spelled tree)) 262144 ≡ true
 tree_light tree h =
-    let few = le_trans (standing_weight (spelled tree) h.marks h.spells) h.held.few in
+    let few = le_trans (standing_weight (spelled tree) h.marks h.spells) h.is_bounded.few in
     grind (arith, nat_tests, few)
 
 line_lined : (kept : Option ℕ) → is_small kept ≡ true → KeptLine kept
@@ -87,13 +87,13 @@ all_lined [] e = tt
 all_lined (s ∷ ss) e = let parts = both (is_small s.line) (are_small ss) e in (line_lined s.line parts.0, all_lined ss parts.1)
 
 -- the lines of a tree that spells marks that `Symbols` can hold
-pub tree_lined : (tree : Program) → ∥ IsHeld tree ∥₁ → Lined (spelled tree)
-tree_lined tree held = all_lined (spelled tree) (∥∥₁_elim held (Bool-set _ _) (tree_small tree))
+pub tree_lined : (tree : Program) → ∥ IsBounded tree ∥₁ → Lined (spelled tree)
+tree_lined tree is_bounded = all_lined (spelled tree) (∥∥₁_elim is_bounded (Bool-set _ _) (tree_small tree))
 
 -- and its weight
-pub tree_weight : (tree : Program) → ∥ IsHeld tree ∥₁ → weight (spelled tree) ≤ 262144
-tree_weight tree held =
-    let few : nat_le (weight (spelled tree)) 262144 ≡ true = ∥∥₁_elim held (Bool-set _ _) (tree_light tree) in
+pub tree_weight : (tree : Program) → ∥ IsBounded tree ∥₁ → weight (spelled tree) ≤ 262144
+tree_weight tree is_bounded =
+    let few : nat_le (weight (spelled tree)) 262144 ≡ true = ∥∥₁_elim is_bounded (Bool-set _ _) (tree_light tree) in
     grind (arith, nat_tests, few)
 
 -- ---- a part of the tree

@@ -8,12 +8,12 @@ use Rattle.edi_unit.specs.declared.expressions.Callee.TheVariants as callee
 use Rattle.edi_unit.specs.declared.units.Parameter.{Parameter}
 use Rattle.edi_unit.specs.declared.units.Parameter.TheVariants as slot
 use Rattle.edi_unit.specs.Types.{Shape, int, char, bool, enumeration, record_of, array_of, set_of, shape_at, is_set_shape}
-use Rattle.edi_unit.specs.Tree.{Expression, constant, load, not_of, minus, chain, make, convert, invoke, Expressions, no_expression, expression_then, Link, link, Links, no_link, link_then, Place, place, Part, field, index, Parts, no_part, part_then, Argument, by_value, by_variable, by_procedure, Arguments, no_argument, argument_then, Act, skip, assign, call, halt, conditional, loop, await, cobegin, Acts, no_act, act_then, Clause, clause, Clauses, no_clause, clause_then, Block}
+use Rattle.edi_unit.specs.Tree.{Expression, constant, load, not_of, sign_of, chain, make, convert, apply_of, Expressions, no_expression, expression_then, Link, link, Links, no_link, link_then, Place, place, Part, field, index, Parts, no_part, part_then, Argument, by_value, by_variable, by_procedure, Arguments, no_argument, argument_then, Act, skip, assign, call, halt, if_act, while_act, when_act, cobegin, Acts, no_act, act_then, Clause, clause, Clauses, no_clause, clause_then, Block}
 use Rattle.edi_unit.specs.Need.{block_at, slot_at, slot_type, part_type, operator_type, expression_type}
 use Rattle.edi_target.specs.Op as instruction
 use Rattle.edi_target.specs.Op.{Instruction, word_of_integer}
-use Rattle.edi_scheme.specs.Pieces.{code_long, is_branch, variable_code, element_code, operation, decision, check_code, constant_words, row_long, Choice, once, repeated, released, close_code}
-use Rattle.edi_scheme.specs.Long.{call_long, procedure_long, expression_long, expressions_long, members_long, links_long, place_long, parts_long, part_long, argument_long, arguments_long, act_long, acts_long, clause_long, clauses_long, block_long}
+use Rattle.edi_scheme.specs.Pieces.{code_length, is_branch, variable_code, element_code, operation, decision, check_code, constant_words, row_length, ClauseKind, once, repeated, released, close_code}
+use Rattle.edi_scheme.specs.Lengths.{call_length, procedure_length, expression_length, expressions_length, members_length, links_length, place_length, parts_length, part_length, argument_length, arguments_length, act_length, acts_length, clause_length, clauses_length, block_length}
 use Rattle.edi_scheme.specs.Code.{entry}
 
 abbrev mutual
@@ -21,11 +21,11 @@ abbrev mutual
   expression_most (constant t n) = 2
   expression_most (load p) = place_most p + 2
   expression_most (not_of e) = expression_most e + 1
-  expression_most (minus e line) = expression_most e + 2
+  expression_most (sign_of e line) = expression_most e + 2
   expression_most (chain e ls) = expression_most e + links_most ls
   expression_most (make t es line) = 2 + elements_most es
   expression_most (convert t e line) = expression_most e + 4
-  expression_most (invoke c xs line) = arguments_most xs + 5
+  expression_most (apply_of c xs line) = arguments_most xs + 5
 
   -- the parts of a value, where a set joins each member
   pub elements_most : Expressions → ℕ
@@ -65,9 +65,9 @@ abbrev mutual
   act_most (assign p e) = place_most p + expression_most e + 2
   act_most (call c xs line) = arguments_most xs + 5
   act_most (halt line) = 2
-  act_most (conditional cs) = clauses_most cs
-  act_most (loop cs) = clauses_most cs
-  act_most (await cs line) = clauses_most cs + 5
+  act_most (if_act cs) = clauses_most cs
+  act_most (while_act cs) = clauses_most cs
+  act_most (when_act cs line) = clauses_most cs + 5
   act_most (cobegin bs line) = 3 + 3 * length bs
 
   pub acts_most : Acts → ℕ
@@ -88,7 +88,7 @@ total (b ∷ bs) = acts_most b.body + 9 + total bs
 
 -- ---- single instructions
 
-operator_most : (types : List Shape) (t : ℕ) (o : Operator) (line : ℕ) → code_long (decision o 0) + code_long (operation types t o line) ≤ 3
+operator_most : (types : List Shape) (t : ℕ) (o : Operator) (line : ℕ) → code_length (decision o 0) + code_length (operation types t o line) ≤ 3
 operator_most types t op.Equal line = omega arith
 operator_most types t op.NotEqual line = omega arith
 operator_most types t op.Less line = omega arith
@@ -97,15 +97,15 @@ operator_most types t op.Greater line = omega arith
 operator_most types t op.GreaterOrEqual line = omega arith
 operator_most types t op.In line = omega arith
 operator_most types t op.Plus line = omega (arith, go (is_set_shape (shape_at types t))) where
-  go : (test : Bool) → code_long (if test then instruction.union ∷ [] else instruction.add line ∷ []) ≤ 2
+  go : (test : Bool) → code_length (if test then instruction.union ∷ [] else instruction.add line ∷ []) ≤ 2
   go true = omega arith
   go false = omega arith
 operator_most types t op.Minus line = omega (arith, go (is_set_shape (shape_at types t))) where
-  go : (test : Bool) → code_long (if test then instruction.minus ∷ [] else instruction.sub line ∷ []) ≤ 2
+  go : (test : Bool) → code_length (if test then instruction.minus ∷ [] else instruction.sub line ∷ []) ≤ 2
   go true = omega arith
   go false = omega arith
 operator_most types t op.Times line = omega (arith, go (is_set_shape (shape_at types t))) where
-  go : (test : Bool) → code_long (if test then instruction.meet ∷ [] else instruction.mul line ∷ []) ≤ 2
+  go : (test : Bool) → code_length (if test then instruction.meet ∷ [] else instruction.mul line ∷ []) ≤ 2
   go true = omega arith
   go false = omega arith
 operator_most types t op.Div line = omega arith
@@ -113,7 +113,7 @@ operator_most types t op.Mod line = omega arith
 operator_most types t op.And line = omega arith
 operator_most types t op.Or line = omega arith
 
-check_most : (s : Shape) (line : ℕ) → code_long (check_code s line) ≤ 4
+check_most : (s : Shape) (line : ℕ) → code_length (check_code s line) ≤ 4
 check_most int line = omega arith
 check_most char line = omega arith
 check_most bool line = omega arith
@@ -122,7 +122,7 @@ check_most (record_of fs) line = omega arith
 check_most (array_of i lo hi e) line = omega arith
 check_most (set_of b) line = omega arith
 
-element_most : (types : List Shape) (s : Shape) (line : ℕ) → code_long (element_code types s line) ≤ 5
+element_most : (types : List Shape) (s : Shape) (line : ℕ) → code_length (element_code types s line) ≤ 5
 element_most types int line = omega arith
 element_most types char line = omega arith
 element_most types bool line = omega arith
@@ -131,21 +131,21 @@ element_most types (record_of fs) line = omega arith
 element_most types (array_of i lo hi e) line = omega arith
 element_most types (set_of b) line = omega arith
 
-variable_most : (levels : ℕ) (v : Option Parameter) → code_long (variable_code levels 0 v) ≤ 5
+variable_most : (levels : ℕ) (v : Option Parameter) → code_length (variable_code levels 0 v) ≤ 5
 variable_most levels None = omega arith
 variable_most levels (Some (slot.Value t)) = omega arith
 variable_most levels (Some (slot.Var t)) = omega arith
 variable_most levels (Some (slot.Formal r)) = omega arith
 
-call_most : (c : Callee) → call_long c ≤ 5
+call_most : (c : Callee) → call_length c ≤ 5
 call_most (callee.Block levels n) = omega arith
 call_most (callee.Formal levels v) = omega arith
 
-procedure_most : (c : Callee) → procedure_long c ≤ 5
+procedure_most : (c : Callee) → procedure_length c ≤ 5
 procedure_most (callee.Block levels n) = omega arith
 procedure_most (callee.Formal levels v) = omega arith
 
-close_most : (choice : Choice) (cs : Clauses) → code_long (close_code choice 0 cs) ≤ 4
+close_most : (choice : ClauseKind) (cs : Clauses) → code_length (close_code choice 0 cs) ≤ 4
 close_most once no_clause = omega arith
 close_most once (clause_then c cs) = omega arith
 close_most repeated cs = omega arith
@@ -166,13 +166,13 @@ words_counted no_expression = omega arith
 words_counted (expression_then (constant t n) es) = counted_more (constant_words es) (word_of_integer n) (elements_most es) _ (omega arith) (words_counted es)
 words_counted (expression_then (load p) es) = tt
 words_counted (expression_then (not_of e) es) = tt
-words_counted (expression_then (minus e line) es) = tt
+words_counted (expression_then (sign_of e line) es) = tt
 words_counted (expression_then (chain e ls) es) = tt
 words_counted (expression_then (make t fs line) es) = tt
 words_counted (expression_then (convert t e line) es) = tt
-words_counted (expression_then (invoke c xs line) es) = tt
+words_counted (expression_then (apply_of c xs line) es) = tt
 
-row_most : (o : Option (List ℕ)) (long n : ℕ) → Counted o n → long ≤ n → row_long o long ≤ 2 + n
+row_most : (o : Option (List ℕ)) (long n : ℕ) → Counted o n → long ≤ n → row_length o long ≤ 2 + n
 row_most None long n h k = omega (arith, k)
 row_most (Some ws) long n h k = omega (arith, h)
 
@@ -184,77 +184,77 @@ made_most false a b n h k = k
 
 module _ (types : List Shape) (blocks : List Block) (b : ℕ) where
   mutual
-    expression_fits : (e : Expression) → expression_long types blocks b e ≤ expression_most e
+    expression_fits : (e : Expression) → expression_length types blocks b e ≤ expression_most e
     expression_fits (constant t n) = omega arith
     expression_fits (load p) = omega (arith, place_fits p)
     expression_fits (not_of e) = omega (arith, expression_fits e)
-    expression_fits (minus e line) = omega (arith, expression_fits e)
+    expression_fits (sign_of e line) = omega (arith, expression_fits e)
     expression_fits (chain e ls) = omega (arith, expression_fits e, links_fit (expression_type types blocks b e) ls)
     expression_fits (make t es line) =
-        made_most (is_set_shape (shape_at types t)) (2 + members_long types blocks b es) (row_long (constant_words es) (expressions_long types blocks b es)) (2 + elements_most es)
+        made_most (is_set_shape (shape_at types t)) (2 + members_length types blocks b es) (row_length (constant_words es) (expressions_length types blocks b es)) (2 + elements_most es)
         (omega (arith, members_fit es))
-        (row_most (constant_words es) (expressions_long types blocks b es) (elements_most es) (words_counted es) (expressions_fit es))
+        (row_most (constant_words es) (expressions_length types blocks b es) (elements_most es) (words_counted es) (expressions_fit es))
     expression_fits (convert t e line) = omega (arith, expression_fits e, check_most (shape_at types t) line)
-    expression_fits (invoke c xs line) = omega (arith, arguments_fit xs, call_most c)
+    expression_fits (apply_of c xs line) = omega (arith, arguments_fit xs, call_most c)
 
-    expressions_fit : (es : Expressions) → expressions_long types blocks b es ≤ elements_most es
+    expressions_fit : (es : Expressions) → expressions_length types blocks b es ≤ elements_most es
     expressions_fit no_expression = omega arith
     expressions_fit (expression_then e es) = omega (arith, expression_fits e, expressions_fit es)
 
-    members_fit : (es : Expressions) → members_long types blocks b es ≤ elements_most es
+    members_fit : (es : Expressions) → members_length types blocks b es ≤ elements_most es
     members_fit no_expression = omega arith
     members_fit (expression_then e es) = omega (arith, expression_fits e, members_fit es)
 
-    links_fit : (t : ℕ) (ls : Links) → links_long types blocks b t ls ≤ links_most ls
+    links_fit : (t : ℕ) (ls : Links) → links_length types blocks b t ls ≤ links_most ls
     links_fit t no_link = omega arith
     links_fit t (link_then (link o e line) ls) = omega (arith, expression_fits e, operator_most types t o line, links_fit (operator_type o t) ls)
 
-    place_fits : (p : Place) → place_long types blocks b p ≤ place_most p
+    place_fits : (p : Place) → place_length types blocks b p ≤ place_most p
     place_fits (place levels v ps) =
         omega (arith, variable_most levels (slot_at blocks b levels v), parts_fit (slot_type (slot_at blocks b levels v)) ps)
 
-    part_fits : (t : ℕ) (p : Part) → part_long types blocks b t p ≤ part_most p
+    part_fits : (t : ℕ) (p : Part) → part_length types blocks b t p ≤ part_most p
     part_fits t (field n) = omega arith
     part_fits t (index e line) = omega (arith, expression_fits e, element_most types (shape_at types t) line)
 
-    parts_fit : (t : ℕ) (ps : Parts) → parts_long types blocks b t ps ≤ parts_most ps
+    parts_fit : (t : ℕ) (ps : Parts) → parts_length types blocks b t ps ≤ parts_most ps
     parts_fit t no_part = omega arith
     parts_fit t (part_then p ps) = omega (arith, part_fits t p, parts_fit (part_type types t p) ps)
 
-    argument_fits : (x : Argument) → argument_long types blocks b x ≤ argument_most x
+    argument_fits : (x : Argument) → argument_length types blocks b x ≤ argument_most x
     argument_fits (by_value e) = expression_fits e
     argument_fits (by_variable p) = place_fits p
     argument_fits (by_procedure c) = procedure_most c
 
-    arguments_fit : (xs : Arguments) → arguments_long types blocks b xs ≤ arguments_most xs
+    arguments_fit : (xs : Arguments) → arguments_length types blocks b xs ≤ arguments_most xs
     arguments_fit no_argument = omega arith
     arguments_fit (argument_then x xs) = omega (arith, argument_fits x, arguments_fit xs)
 
   mutual
-    act_fits : (a : Act) → act_long types blocks b a ≤ act_most a
+    act_fits : (a : Act) → act_length types blocks b a ≤ act_most a
     act_fits skip = omega arith
     act_fits (assign p e) = omega (arith, place_fits p, expression_fits e)
     act_fits (call c xs line) = omega (arith, arguments_fit xs, call_most c)
     act_fits (halt line) = omega arith
-    act_fits (conditional cs) = clauses_fit once cs
-    act_fits (loop cs) = clauses_fit repeated cs
-    act_fits (await cs line) = omega (arith, clauses_fit released cs)
+    act_fits (if_act cs) = clauses_fit once cs
+    act_fits (while_act cs) = clauses_fit repeated cs
+    act_fits (when_act cs line) = omega (arith, clauses_fit released cs)
     act_fits (cobegin bs line) = omega arith
 
-    acts_fit : (s : Acts) → acts_long types blocks b s ≤ acts_most s
+    acts_fit : (s : Acts) → acts_length types blocks b s ≤ acts_most s
     acts_fit no_act = omega arith
     acts_fit (act_then a s) = omega (arith, act_fits a, acts_fit s)
 
-    clause_fits : (c : Clause) → clause_long types blocks b c + 4 ≤ clause_most c
+    clause_fits : (c : Clause) → clause_length types blocks b c + 4 ≤ clause_most c
     clause_fits (clause e s) = omega (arith, expression_fits e, acts_fit s)
 
-    clauses_fit : (choice : Choice) (cs : Clauses) → clauses_long types blocks b choice cs ≤ clauses_most cs
+    clauses_fit : (choice : ClauseKind) (cs : Clauses) → clauses_length types blocks b choice cs ≤ clauses_most cs
     clauses_fit choice no_clause = omega arith
     clauses_fit choice (clause_then c cs) = omega (arith, clause_fits c, close_most choice cs, clauses_fit choice cs)
 
 -- ---- blocks
 
-block_fits : (types : List Shape) (blocks : List Block) (n : ℕ) → block_long types blocks n ≤ acts_most (block_at blocks n).body + 9
+block_fits : (types : List Shape) (blocks : List Block) (n : ℕ) → block_length types blocks n ≤ acts_most (block_at blocks n).body + 9
 block_fits types blocks n =
     let list = acts_fit types blocks n (block_at blocks n).body in
     made_most (is_branch (block_at blocks n).kind) _ _ _ (omega (arith, list)) (omega (arith, list))

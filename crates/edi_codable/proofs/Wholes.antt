@@ -7,7 +7,7 @@ use Rattle.edi_scope.specs.declared.entity.Entity.TheVariants as entity
 use Rattle.edi_tree.specs.declared.names.Name.{Name}
 use Rattle.edi_tree.specs.Tree as text
 use Rattle.edi_tree.specs.Spelled.{Spelled, on, just, const_list_then, type_decl_then, var_list_then, heading_then, list_then, procedure_then, item_then, module_then, member_then, members_then, declaration_then, declarations_then, global_then, globals_then, spelled}
-use Rattle.edi_tree.specs.Spells.{IsHeld}
+use Rattle.edi_tree.specs.Spells.{IsBounded}
 use Rattle.edi_unit.specs.declared.units.BlockKind.{BlockKind}
 use Rattle.edi_unit.specs.declared.units.BlockKind.TheVariants as block_kind
 use Rattle.edi_unit.specs.Types.{Shape}
@@ -209,5 +209,5 @@ resolved_good (text.program gs p) lined =
     (record { bodies = λ i d lt. absurd (omega (arith, lt)); standard = omega arith; within = omega arith; lined = lined }))
     (λ e k. program_good budget p e k)
 
-pub unit_good : (tree : text.Program) (unit : ProgramUnit) → ∥ IsHeld tree ∥₁ → Resolved tree unit → GoodUnit (24 + 8 * weight (spelled tree)) unit
-unit_good tree unit held e = subst (Gives (GoodUnit (24 + 8 * weight (spelled tree)))) e (resolved_good tree (tree_lined tree held))
+pub unit_good : (tree : text.Program) (unit : ProgramUnit) → ∥ IsBounded tree ∥₁ → Resolved tree unit → GoodUnit (24 + 8 * weight (spelled tree)) unit
+unit_good tree unit is_bounded e = subst (Gives (GoodUnit (24 + 8 * weight (spelled tree)))) e (resolved_good tree (tree_lined tree is_bounded))

@@ -5,6 +5,7 @@
 
 ghost use Rattle.edi_codable.specs.Laws.{
   CodeIsShort,
+  CodeIsShortForText,
   CodeIsWords,
   LinesAreSmall,
   RecordsHaveFields,
@@ -23,10 +24,11 @@ pub fn lines_are_small()
     ensures law { LinesAreSmall }
 {}
 
-/// The code of a sound program's unit has at most 8 words for each symbol that a program can have, 2,097,152 in all; for trees
-/// that spell symbols which `Symbols` can hold. So it is no longer than a code may be.
+/// The code of a sound program's unit has at most 8 words for each symbol of the text, a string counting its characters, and so
+/// at most 2,097,152 in all; for trees that spell symbols which `Symbols` can hold. So it is no longer than a code may be.
 pub fn code_is_short()
-    ensures law { CodeIsShort }
+    ensures symbols { CodeIsShortForText }
+    ensures room { CodeIsShort }
 {}
 
 /// The resolved unit of a sound program fits: each number in it names a type, block or variable that is there, and types agree

@@ -5,10 +5,10 @@ use Rattle.std.proofs.lemmas.List.{length-map, length-drop}
 use Rattle.std.specs.Prelude.{◌==◌, map}
 use Rattle.edi_unit.specs.Tree.{Clause, Clauses, clause_then}
 use Rattle.edi_unit.specs.View.{clauses}
-use Rattle.edi_scheme.specs.Pieces.{Code, words_of_code, code_long, Choice, close_code}
+use Rattle.edi_scheme.specs.Pieces.{Code, words_of_code, code_length, ClauseKind, close_code}
 use Rattle.edi_code.specs.Scope.{is_end}
 use Rattle.edi_code.specs.Emits.{Emits}
-use Rattle.edi_code.specs.InScope.{clause_long, clause_code, clauses_code}
+use Rattle.edi_code.specs.InScope.{clause_length, clause_code, clauses_code}
 use Rattle.edi_code.specs.declared.scope.Scope.{Scope}
 use Rattle.edi_code.proofs.Emitting.{emits_then, rest_words}
 
@@ -23,9 +23,9 @@ end_is f items i behind e =
     ap (λ (n : ℕ). n == 0) long ∙ none_behind (map f (drop (i + 1) items))
 
 -- one step of the loop over clauses
-pub clause_words : (s : Scope) (out middle next whole : List ℕ) (choice : Choice) (target here later : ℕ) (c : Clause) (cs : Clauses) → later ≡ here + clause_long s c + code_long (close_code choice 0 cs) → Emits out middle (clause_code s here later c) → Emits middle next (close_code choice target cs) → out ++ words_of_code (clauses_code s choice target here (clause_then c cs)) ≡ whole → next ++ words_of_code (clauses_code s choice target later cs) ≡ whole
+pub clause_words : (s : Scope) (out middle next whole : List ℕ) (choice : ClauseKind) (target here later : ℕ) (c : Clause) (cs : Clauses) → later ≡ here + clause_length s c + code_length (close_code choice 0 cs) → Emits out middle (clause_code s here later c) → Emits middle next (close_code choice target cs) → out ++ words_of_code (clauses_code s choice target here (clause_then c cs)) ≡ whole → next ++ words_of_code (clauses_code s choice target later cs) ≡ whole
 clause_words s out middle next whole choice target here later c cs is p q h =
-    let end : ℕ = here + clause_long s c + code_long (close_code choice 0 cs) in
+    let end : ℕ = here + clause_length s c + code_length (close_code choice 0 cs) in
     let all : clauses_code s choice target here (clause_then c cs) ≡ (clause_code s here later c ++ close_code choice target cs) ++ clauses_code s choice target later cs =
     ap (λ (k : ℕ). clause_code s here k c ++ (close_code choice target cs ++ clauses_code s choice target k cs)) (sym is)
     ∙ sym (append_assoc (clause_code s here later c) (close_code choice target cs) (clauses_code s choice target later cs)) in

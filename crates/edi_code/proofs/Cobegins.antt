@@ -14,9 +14,9 @@ branches_again (b ∷ bs) =
     let here : address_of_words (high_word b.address) (low_word b.address) ≡ b.address = omega arith in
     ap (λ (a : ℕ). record { need = b.need; address = a } ∷ branches_of (branch_words bs)) here ∙ ap (λ (l : List Branch). b ∷ l) (branches_again bs)
 
-words_long : (bs : List Branch) → length (branch_words bs) ≡ 3 * length bs
-words_long [] = refl
-words_long (b ∷ bs) = omega (arith, words_long bs)
+words_length : (bs : List Branch) → length (branch_words bs) ≡ 3 * length bs
+words_length [] = refl
+words_length (b ∷ bs) = omega (arith, words_length bs)
 
 -- each branch of a block that is there has a frame
 pub frames_true : (f : ℕ → Branch) (ns : List ℕ) (m : ℕ) → ((n : ℕ) → n < m → 5 ≤ (f n).need) → All (λ n. n < m) ns → list_all has_frame (map f ns) ≡ true
@@ -31,7 +31,7 @@ eq_zero n e = ap (λ (k : ℕ). k == 0) e
 pub cobegin_whole : (bs : List Branch) (ws : List ℕ) → ws ≡ branch_words bs → 1 ≤ length bs → length bs < 2 ^ 16 → list_all has_frame bs ≡ true → ((length ws % 3 == 0) && (is_count (length (branches_of ws)) && list_all has_frame (branches_of ws))) ≡ true
 cobegin_whole bs ws e some few frames =
     let read : branches_of ws ≡ bs = ap branches_of e ∙ branches_again bs in
-    let long : length ws ≡ 3 * length bs = ap length e ∙ words_long bs in
+    let long : length ws ≡ 3 * length bs = ap length e ∙ words_length bs in
     both_true (eq_zero (length ws % 3) (omega (arith, long)))
     (ap (λ (l : List Branch). is_count (length l) && list_all has_frame l) read
     ∙ both_true (both_true (le-leb 1 (length bs) some) (lt-ltb (length bs) (2 ^ 16) few)) frames)

@@ -27,9 +27,9 @@ emits_then old middle new a b p q = record {
 }
 
 -- one code, told in another form
-pub told : {T E : Type 0} (r : Result T E) (old new : List ℕ) (a b : Code) → a ≡ b → OnOk r (Emits old new a) → OnOk r (Emits old new b)
-told (Err e) old new a b s p = tt
-told (Ok x) old new a b s p = subst (Emits old new) s p
+pub stated : {T E : Type 0} (r : Result T E) (old new : List ℕ) (a b : Code) → a ≡ b → OnOk r (Emits old new a) → OnOk r (Emits old new b)
+stated (Err e) old new a b s p = tt
+stated (Ok x) old new a b s p = subst (Emits old new) s p
 
 -- two codes, the second of which is told by its result
 pub two : {T E : Type 0} (r : Result T E) (old middle new : List ℕ) (a b c all : Code) → Emits old middle a → OnOk r (Emits middle new b) → b ≡ c → all ≡ a ++ c → OnOk r (Emits old new all)

@@ -5,7 +5,7 @@ use Rattle.edi_unit.specs.Types.{Shape}
 use Rattle.edi_unit.specs.Tree.{Block}
 use Rattle.edi_unit.specs.Need.{block_at}
 use Rattle.edi_scheme.specs.Pieces.{is_branch}
-use Rattle.edi_scheme.specs.Long.{acts_long, block_long}
+use Rattle.edi_scheme.specs.Lengths.{acts_length, block_length}
 use Rattle.edi_scheme.specs.Code.{entry, block_code, blocks_code}
 
 one_at_least : (branch : Bool) (list : ℕ) → 1 ≤ (if branch then list + 1 else 6 + list + 3)
@@ -14,10 +14,10 @@ one_at_least false list = omega arith
 
 module _ (types : List Shape) (blocks : List Block) where
   -- each block has a word
-  pub block_some : (n : ℕ) → 1 ≤ block_long types blocks n
-  block_some n = one_at_least (is_branch (block_at blocks n).kind) (acts_long types blocks n (block_at blocks n).body)
+  pub block_some : (n : ℕ) → 1 ≤ block_length types blocks n
+  block_some n = one_at_least (is_branch (block_at blocks n).kind) (acts_length types blocks n (block_at blocks n).body)
 
-  pub entry_next : (n : ℕ) → entry types blocks (n + 1) ≡ entry types blocks n + block_long types blocks n
+  pub entry_next : (n : ℕ) → entry types blocks (n + 1) ≡ entry types blocks n + block_length types blocks n
   entry_next n = let e : n + 1 ≡ suc n = omega arith in ap (entry types blocks) e
 
   -- as many blocks as there are have as many words

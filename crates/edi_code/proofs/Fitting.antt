@@ -6,7 +6,7 @@ use Rattle.edi_unit.specs.declared.expressions.Operator.TheVariants as op
 use Rattle.edi_unit.specs.declared.expressions.Callee.{Callee}
 use Rattle.edi_unit.specs.declared.expressions.Callee.TheVariants as callee
 use Rattle.edi_unit.specs.Types.{Shape, size, greatest_size, IsTypeTable}
-use Rattle.edi_unit.specs.Tree.{Expression, constant, load, not_of, minus, chain, make, convert, invoke, Expressions, no_expression, expression_then, link, Links, no_link, link_then, Place, place, Part, field, index, Parts, no_part, part_then, by_value, by_variable, by_procedure, Arguments, no_argument, argument_then, Act, skip, assign, call, halt, conditional, loop, await, cobegin, Acts, no_act, act_then, Clause, clause, Clauses, no_clause, clause_then, Block, ProgramUnit}
+use Rattle.edi_unit.specs.Tree.{Expression, constant, load, not_of, sign_of, chain, make, convert, apply_of, Expressions, no_expression, expression_then, link, Links, no_link, link_then, Place, place, Part, field, index, Parts, no_part, part_then, by_value, by_variable, by_procedure, Arguments, no_argument, argument_then, Act, skip, assign, call, halt, if_act, while_act, when_act, cobegin, Acts, no_act, act_then, Clause, clause, Clauses, no_clause, clause_then, Block, ProgramUnit}
 use Rattle.edi_unit.specs.Need.{block_at, slot_at, slot_type, part_type, operator_type, place_type, expression_type}
 use Rattle.edi_unit.specs.Fits.{Heading, Formals, no_formal, value_then, variable_then, procedure_then, CalleeFits, ExpressionFits, ExpressionsFit, LinksFit, PlaceFits, PartFits, PartsFit, ArgumentsFit, BranchFits, ActFits, ActsFit, ClauseFits, ClausesFit, BlockFits, Fits}
 use Rattle.edi_scheme.specs.Pieces.{constant_words}
@@ -51,11 +51,11 @@ module _ (types : List Shape) (table : IsTypeTable types) (parts : HaveParts typ
   constants_count (expression_then (constant t n) es) = one_more _ (count es) (constant_words es) (constants_count es)
   constants_count (expression_then (load p) es) = tt
   constants_count (expression_then (not_of e) es) = tt
-  constants_count (expression_then (minus e line) es) = tt
+  constants_count (expression_then (sign_of e line) es) = tt
   constants_count (expression_then (chain e ls) es) = tt
   constants_count (expression_then (make t fs line) es) = tt
   constants_count (expression_then (convert t e line) es) = tt
-  constants_count (expression_then (invoke c xs line) es) = tt
+  constants_count (expression_then (apply_of c xs line) es) = tt
 
   row_writable : (ws : Option (List ℕ)) (n : ℕ) → 1 ≤ n → n ≤ greatest_size → IfSome ws (λ ws. length ws ≡ n) → RowIsWritable ws
   row_writable None n some few h = tt
@@ -70,7 +70,7 @@ module _ (types : List Shape) (table : IsTypeTable types) (parts : HaveParts typ
     expression_writable (constant t n) h = tt
     expression_writable (load p) h = (place_writable p h, positive _ (place_known p h))
     expression_writable (not_of e) h = expression_writable e h.1
-    expression_writable (minus e line) h = expression_writable e h.1
+    expression_writable (sign_of e line) h = expression_writable e h.1
     expression_writable (chain e ls) h =
         (expression_writable e h.1, links_writable (expression_type types blocks b e) ls (known.expression_known types table parts blocks headings each b inside e h.1) h.2)
     expression_writable (make t es line) h = (
@@ -80,7 +80,7 @@ module _ (types : List Shape) (table : IsTypeTable types) (parts : HaveParts typ
       expressions_writable es h.2,
     )
     expression_writable (convert t e line) h = expression_writable e h.3
-    expression_writable (invoke c xs line) h = (callee_writable c h.0, arguments_writable xs _ h.2)
+    expression_writable (apply_of c xs line) h = (callee_writable c h.0, arguments_writable xs _ h.2)
 
     expressions_writable : (es : Expressions) → ExpressionsFit types blocks headings b es → ExpressionsAreWritable types blocks b es
     expressions_writable no_expression h = tt
@@ -126,9 +126,9 @@ module _ (types : List Shape) (table : IsTypeTable types) (parts : HaveParts typ
     act_writable (assign p e) h = (place_writable p h.1, expression_writable e h.2, positive _ (place_known p h.1))
     act_writable (call c xs line) h = (callee_writable c h.0, arguments_writable xs _ h.2)
     act_writable (halt line) h = tt
-    act_writable (conditional cs) h = clauses_writable cs h
-    act_writable (loop cs) h = clauses_writable cs h
-    act_writable (await cs line) h = clauses_writable cs h
+    act_writable (if_act cs) h = clauses_writable cs h
+    act_writable (while_act cs) h = clauses_writable cs h
+    act_writable (when_act cs line) h = clauses_writable cs h
     act_writable (cobegin bs line) h = ((h.0, h.1), branches_writable bs h.2)
 
     acts_writable : (s : Acts) → ActsFit types blocks headings b s → ActsAreWritable types blocks b s

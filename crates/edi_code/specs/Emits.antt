@@ -1,4 +1,4 @@
--- What appends the code of a construct.
+-- Words of contracts. What appends the code of a construct.
 use Rattle.std.specs.Prelude.{◌≡◌, ℕ, ◌&&◌, IsTrue, List, [], ◌∷◌, ◌++◌, Option, Some, None}
 use Rattle.std.specs.Global.{Vec}
 use Rattle.edi_target.specs.declared.op.Op.{Op}

@@ -1,4 +1,4 @@
--- Lengths, codes and what can be written, in a scope.
+-- Words of contracts. Lengths, codes and what can be written, in a scope.
 use Rattle.std.specs.Prelude.{ℕ, ◌+◌, if◌then◌else◌, List, ◌∷◌, ◌++◌, map}
 use Rattle.edi_unit.specs.declared.expressions.Callee.{Callee}
 use Rattle.edi_unit.specs.declared.expressions.Operator.{Operator}
@@ -7,8 +7,8 @@ use Rattle.edi_unit.specs.Tree.{Expression, Expressions, Link, link, Links, Plac
 use Rattle.edi_unit.specs.Need.{block_at}
 use Rattle.edi_target.specs.Op as instruction
 use Rattle.edi_target.specs.Op.{Branch, branch_words}
-use Rattle.edi_scheme.specs.Pieces.{Code, Choice, code_long, decision, operation, constant_words, row_code, row_long}
-use Rattle.edi_scheme.specs.Long as scheme
+use Rattle.edi_scheme.specs.Pieces.{Code, ClauseKind, code_length, decision, operation, constant_words, row_code, row_length}
+use Rattle.edi_scheme.specs.Lengths as scheme
 use Rattle.edi_scheme.specs.Code as scheme_code
 use Rattle.edi_code.specs.Writable as writable
 use Rattle.edi_code.specs.Scope.{types_in, blocks_in, entry_in}
@@ -16,58 +16,58 @@ use Rattle.edi_code.specs.declared.scope.Scope.{Scope}
 
 -- ---- lengths
 
-abbrev pub expression_long : Scope → Expression → ℕ
-expression_long s = scheme.expression_long (types_in s) (blocks_in s) s.block
+abbrev pub expression_length : Scope → Expression → ℕ
+expression_length s = scheme.expression_length (types_in s) (blocks_in s) s.block
 
-abbrev pub expressions_long : Scope → Expressions → ℕ
-expressions_long s = scheme.expressions_long (types_in s) (blocks_in s) s.block
+abbrev pub expressions_length : Scope → Expressions → ℕ
+expressions_length s = scheme.expressions_length (types_in s) (blocks_in s) s.block
 
-abbrev pub members_long : Scope → Expressions → ℕ
-members_long s = scheme.members_long (types_in s) (blocks_in s) s.block
+abbrev pub members_length : Scope → Expressions → ℕ
+members_length s = scheme.members_length (types_in s) (blocks_in s) s.block
 
-abbrev pub links_long : Scope → ℕ → Links → ℕ
-links_long s = scheme.links_long (types_in s) (blocks_in s) s.block
+abbrev pub links_length : Scope → ℕ → Links → ℕ
+links_length s = scheme.links_length (types_in s) (blocks_in s) s.block
 
 -- the operator of a link
 abbrev pub operator_of : Link → Operator
 operator_of (link o e line) = o
 
 -- an operator with its right operand, behind a left operand of this type
-abbrev pub link_long : Scope → ℕ → Link → ℕ
-link_long s t (link o e line) =
-    code_long (decision o 0) + expression_long s e + code_long (operation (types_in s) t o line)
+abbrev pub link_length : Scope → ℕ → Link → ℕ
+link_length s t (link o e line) =
+    code_length (decision o 0) + expression_length s e + code_length (operation (types_in s) t o line)
 
-abbrev pub place_long : Scope → Place → ℕ
-place_long s = scheme.place_long (types_in s) (blocks_in s) s.block
+abbrev pub place_length : Scope → Place → ℕ
+place_length s = scheme.place_length (types_in s) (blocks_in s) s.block
 
-abbrev pub parts_long : Scope → ℕ → Parts → ℕ
-parts_long s = scheme.parts_long (types_in s) (blocks_in s) s.block
+abbrev pub parts_length : Scope → ℕ → Parts → ℕ
+parts_length s = scheme.parts_length (types_in s) (blocks_in s) s.block
 
-abbrev pub part_long : Scope → ℕ → Part → ℕ
-part_long s = scheme.part_long (types_in s) (blocks_in s) s.block
+abbrev pub part_length : Scope → ℕ → Part → ℕ
+part_length s = scheme.part_length (types_in s) (blocks_in s) s.block
 
-abbrev pub argument_long : Scope → Argument → ℕ
-argument_long s = scheme.argument_long (types_in s) (blocks_in s) s.block
+abbrev pub argument_length : Scope → Argument → ℕ
+argument_length s = scheme.argument_length (types_in s) (blocks_in s) s.block
 
-abbrev pub arguments_long : Scope → Arguments → ℕ
-arguments_long s = scheme.arguments_long (types_in s) (blocks_in s) s.block
+abbrev pub arguments_length : Scope → Arguments → ℕ
+arguments_length s = scheme.arguments_length (types_in s) (blocks_in s) s.block
 
-abbrev pub act_long : Scope → Act → ℕ
-act_long s = scheme.act_long (types_in s) (blocks_in s) s.block
+abbrev pub act_length : Scope → Act → ℕ
+act_length s = scheme.act_length (types_in s) (blocks_in s) s.block
 
-abbrev pub acts_long : Scope → Acts → ℕ
-acts_long s = scheme.acts_long (types_in s) (blocks_in s) s.block
+abbrev pub acts_length : Scope → Acts → ℕ
+acts_length s = scheme.acts_length (types_in s) (blocks_in s) s.block
 
-abbrev pub clause_long : Scope → Clause → ℕ
-clause_long s = scheme.clause_long (types_in s) (blocks_in s) s.block
+abbrev pub clause_length : Scope → Clause → ℕ
+clause_length s = scheme.clause_length (types_in s) (blocks_in s) s.block
 
-abbrev pub clauses_long : Scope → Choice → Clauses → ℕ
-clauses_long s = scheme.clauses_long (types_in s) (blocks_in s) s.block
+abbrev pub clauses_length : Scope → ClauseKind → Clauses → ℕ
+clauses_length s = scheme.clauses_length (types_in s) (blocks_in s) s.block
 
 -- a record, an array or a set of this type, from these expressions
 abbrev pub make_words : Scope → ℕ → Expressions → ℕ
 make_words s t es =
-    if is_set_shape (shape_at (types_in s) t) then 2 + members_long s es else row_long (constant_words es) (expressions_long s es)
+    if is_set_shape (shape_at (types_in s) t) then 2 + members_length s es else row_length (constant_words es) (expressions_length s es)
 
 -- ---- codes
 
@@ -100,8 +100,8 @@ links_code s = scheme_code.links_code (types_in s) (blocks_in s) (entry_in s) s.
 
 abbrev pub link_code : Scope → ℕ → ℕ → Link → Code
 link_code s at t (link o e line) =
-    decision o (at + link_long s t (link o e line))
-    ++ (expression_code s (at + code_long (decision o 0)) e ++ operation (types_in s) t o line)
+    decision o (at + link_length s t (link o e line))
+    ++ (expression_code s (at + code_length (decision o 0)) e ++ operation (types_in s) t o line)
 
 abbrev pub place_code : Scope → ℕ → Place → Code
 place_code s = scheme_code.place_code (types_in s) (blocks_in s) (entry_in s) s.block
@@ -127,7 +127,7 @@ acts_code s = scheme_code.acts_code (types_in s) (blocks_in s) (entry_in s) s.bl
 abbrev pub clause_code : Scope → (at next : ℕ) → Clause → Code
 clause_code s = scheme_code.clause_code (types_in s) (blocks_in s) (entry_in s) s.block
 
-abbrev pub clauses_code : Scope → Choice → (target at : ℕ) → Clauses → Code
+abbrev pub clauses_code : Scope → ClauseKind → (target at : ℕ) → Clauses → Code
 clauses_code s = scheme_code.clauses_code (types_in s) (blocks_in s) (entry_in s) s.block
 
 -- the words of the branches of a `cobegin`

@@ -1,10 +1,10 @@
--- What the code of a construct depends on besides the construct.
+-- Words of contracts. What the code of a construct depends on besides the construct.
 use Rattle.std.specs.Prelude.{ℕ, ◌<◌, Bool, true, false, List, length, map}
 use Rattle.edi_unit.specs.Types.{Shape}
 use Rattle.edi_unit.specs.View.{block_of}
 use Rattle.edi_unit.specs.Tree.{Block, Clauses, no_clause, clause_then}
 use Rattle.edi_unit.specs.Fits.{ShapesFit}
-use Rattle.edi_scheme.specs.Pieces.{Choice, once, repeated, released}
+use Rattle.edi_scheme.specs.Pieces.{ClauseKind, once, repeated, released}
 use Rattle.edi_scheme.specs.Code.{entry}
 use Rattle.edi_code.specs.Writable.{FrameFits, AreEntries}
 use Rattle.edi_code.specs.declared.scope.Scope.{Scope}
@@ -22,10 +22,10 @@ abbrev pub entry_in : Scope → ℕ → ℕ
 entry_in s = entry (types_in s) (blocks_in s)
 
 -- what a list of clauses belongs to
-abbrev pub choice_of : Closing → Choice
-choice_of closing.Once = once
-choice_of closing.Repeated = repeated
-choice_of closing.Released = released
+abbrev pub clause_kind_of : Closing → ClauseKind
+clause_kind_of closing.Once = once
+clause_kind_of closing.Repeated = repeated
+clause_kind_of closing.Released = released
 
 -- whether no clause follows
 abbrev pub is_end : Clauses → Bool

@@ -1,4 +1,4 @@
--- What makes the instructions of a program ones that can be written: each operand is a word, and what has to be there is
+-- Words of contracts. What makes the instructions of a program ones that can be written: each operand is a word, and what has to be there is
 -- there. Each part of it holds of a program whose static rules were checked.
 use Rattle.std.specs.Prelude.{◌≡◌, ℕ, ◌+◌, ◌<◌, ◌≤◌, ◌^◌, false, List, length, sum_by, slice_index_or, All, Option, Some, None}
 use Rattle.edi_unit.specs.declared.expressions.Operator.{Operator}
@@ -6,7 +6,7 @@ use Rattle.edi_unit.specs.declared.expressions.Operator.TheVariants as op
 use Rattle.edi_unit.specs.declared.expressions.Callee.{Callee}
 use Rattle.edi_unit.specs.declared.expressions.Callee.TheVariants as callee
 use Rattle.edi_unit.specs.Types.{Shape, shape_at, is_set_shape, size, greatest_size}
-use Rattle.edi_unit.specs.Tree.{Expression, constant, load, not_of, minus, chain, make, convert, invoke, Expressions, no_expression, expression_then, link, Links, no_link, link_then, Place, place, Part, field, index, Parts, no_part, part_then, Argument, by_value, by_variable, by_procedure, Arguments, no_argument, argument_then, Act, skip, assign, call, halt, conditional, loop, await, cobegin, Acts, no_act, act_then, Clause, clause, Clauses, no_clause, clause_then, Block, ProgramUnit}
+use Rattle.edi_unit.specs.Tree.{Expression, constant, load, not_of, sign_of, chain, make, convert, apply_of, Expressions, no_expression, expression_then, link, Links, no_link, link_then, Place, place, Part, field, index, Parts, no_part, part_then, Argument, by_value, by_variable, by_procedure, Arguments, no_argument, argument_then, Act, skip, assign, call, halt, if_act, while_act, when_act, cobegin, Acts, no_act, act_then, Clause, clause, Clauses, no_clause, clause_then, Block, ProgramUnit}
 use Rattle.edi_unit.specs.Need.{block_at, operator_type, place_type, expression_type, link_words, slot_words, variable_words}
 use Rattle.edi_unit.specs.Fits.{greatest_levels, ShapesFit}
 use Rattle.edi_scheme.specs.Pieces.{constant_words, result_words}
@@ -39,13 +39,13 @@ module _ (types : List Shape) (blocks : List Block) (b : ℕ) where
     ExpressionIsWritable (constant t n) = Unit {0}
     ExpressionIsWritable (load p) = PlaceIsWritable p × (1 ≤ size types (place_type types blocks b p))
     ExpressionIsWritable (not_of e) = ExpressionIsWritable e
-    ExpressionIsWritable (minus e line) = ExpressionIsWritable e
+    ExpressionIsWritable (sign_of e line) = ExpressionIsWritable e
     ExpressionIsWritable (chain e ls) =
         ExpressionIsWritable e × LinksAreWritable (expression_type types blocks b e) ls
     ExpressionIsWritable (make t es line) =
         (is_set_shape (shape_at types t) ≡ false → RowIsWritable (constant_words es)) × ExpressionsAreWritable es
     ExpressionIsWritable (convert t e line) = ExpressionIsWritable e
-    ExpressionIsWritable (invoke c xs line) = CalleeIsWritable blocks c × ArgumentsAreWritable xs
+    ExpressionIsWritable (apply_of c xs line) = CalleeIsWritable blocks c × ArgumentsAreWritable xs
 
     pub ExpressionsAreWritable : Expressions → Type 0
     ExpressionsAreWritable no_expression = Unit {0}
@@ -83,9 +83,9 @@ module _ (types : List Shape) (blocks : List Block) (b : ℕ) where
         PlaceIsWritable p × ExpressionIsWritable e × (1 ≤ size types (place_type types blocks b p))
     ActIsWritable (call c xs line) = CalleeIsWritable blocks c × ArgumentsAreWritable xs
     ActIsWritable (halt line) = Unit {0}
-    ActIsWritable (conditional cs) = ClausesAreWritable cs
-    ActIsWritable (loop cs) = ClausesAreWritable cs
-    ActIsWritable (await cs line) = ClausesAreWritable cs
+    ActIsWritable (if_act cs) = ClausesAreWritable cs
+    ActIsWritable (while_act cs) = ClausesAreWritable cs
+    ActIsWritable (when_act cs line) = ClausesAreWritable cs
     ActIsWritable (cobegin bs line) = IsCount (length bs) × All (λ n. n < length blocks) bs
 
     pub ActsAreWritable : Acts → Type 0

@@ -34,9 +34,9 @@ ghost use Rattle.edi_code.specs.Scope.{IsScope};
 use crate::instructions::{
     call, check, decision, element, emit_procedure, emit_variable, operation, put, put_any,
 };
-use crate::lengths::{argument_long, part_long, value_long};
+use crate::lengths::{argument_length, part_length, value_length};
 use crate::pieces::{
-    decision_long, field_offset, is_set, operation_long, slot_type, variable_long,
+    decision_length, field_offset, is_set, operation_length, slot_type, variable_length,
 };
 use crate::rows::constant_row;
 use crate::scope::Scope;
@@ -58,7 +58,7 @@ pub(crate) fn emit_value(
 ) -> Result<(), AllocError>
     requires scope { IsScope scope.now }
     requires writable { ExpressionIsWritable scope.now (expression_of value.now) }
-    requires room { at + in_scope.expression_long scope.now (expression_of value.now) < 2 ^ 32 }
+    requires room { at + in_scope.expression_length scope.now (expression_of value.now) < 2 ^ 32 }
     ensures emits { OnOk result (Emits out.old.items out.new.items (in_scope.expression_code scope.now at (expression_of value.now))) }
 {
     match value {
@@ -73,7 +73,7 @@ pub(crate) fn emit_value(
         }
         Value::Chain(first, links) => {
             let left = expression_type(scope.types, scope.blocks, scope.block, first);
-            let behind = at + value_long(first, scope);
+            let behind = at + value_length(first, scope);
             emit_value(alloc, first, scope, at, out)?;
             emit_links(alloc, links, scope, behind, left, out)
         }
@@ -99,7 +99,7 @@ fn emit_operand(
 ) -> Result<(), AllocError>
     requires scope { IsScope scope.now }
     requires writable { ExpressionIsWritable scope.now (expression_of value.now) }
-    requires room { at + in_scope.expression_long scope.now (expression_of value.now) < 2 ^ 32 }
+    requires room { at + in_scope.expression_length scope.now (expression_of value.now) < 2 ^ 32 }
     requires allowed { IfSome op IsWhole }
     ensures emits { OnOk result (Emits out.old.items out.new.items
         (in_scope.expression_code scope.now at (expression_of value.now) ++ code_of_option op.entry)) }
@@ -122,7 +122,7 @@ pub(crate) fn emit_call(
     requires scope { IsScope scope.now }
     requires callee { CalleeIsWritable scope.now callee }
     requires writable { ArgumentsAreWritable scope.now (arguments_of arguments.now) }
-    requires room { at + in_scope.arguments_long scope.now (arguments_of arguments.now) < 2 ^ 32 }
+    requires room { at + in_scope.arguments_length scope.now (arguments_of arguments.now) < 2 ^ 32 }
     ensures emits { OnOk result (Emits out.old.items out.new.items
         (in_scope.arguments_code scope.now at (arguments_of arguments.now) ++ in_scope.call_code scope.now callee line)) }
 {
@@ -141,7 +141,7 @@ fn emit_load(
 ) -> Result<(), AllocError>
     requires scope { IsScope scope.now }
     requires writable { ExpressionIsWritable scope.now (load (place_of place.now)) }
-    requires room { at + in_scope.expression_long scope.now (load (place_of place.now)) < 2 ^ 32 }
+    requires room { at + in_scope.expression_length scope.now (load (place_of place.now)) < 2 ^ 32 }
     ensures emits { OnOk result (Emits out.old.items out.new.items (in_scope.expression_code scope.now at (load (place_of place.now)))) }
 {
     let of = place_type(scope.types, scope.blocks, scope.block, place);
@@ -163,7 +163,7 @@ fn emit_make(
 ) -> Result<(), AllocError>
     requires scope { IsScope scope.now }
     requires writable { ExpressionIsWritable scope.now (make of (expressions_of parts.now) line) }
-    requires room { at + in_scope.expression_long scope.now (make of (expressions_of parts.now) line) < 2 ^ 32 }
+    requires room { at + in_scope.expression_length scope.now (make of (expressions_of parts.now) line) < 2 ^ 32 }
     ensures emits { OnOk result (Emits out.old.items out.new.items (in_scope.expression_code scope.now at (make of (expressions_of parts.now) line))) }
 {
     if is_set(scope.types, of) {
@@ -187,13 +187,13 @@ fn emit_values(
 ) -> Result<(), AllocError>
     requires scope { IsScope scope.now }
     requires writable { ExpressionsAreWritable scope.now (expressions_of values.now) }
-    requires room { at + in_scope.expressions_long scope.now (expressions_of values.now) < 2 ^ 32 }
+    requires room { at + in_scope.expressions_length scope.now (expressions_of values.now) < 2 ^ 32 }
     ensures emits { OnOk result (Emits out.old.items out.new.items (in_scope.expressions_code scope.now at (expressions_of values.now))) }
 {
     let mut here = at;
     for value in values.items() {
         emit_value(alloc, value, scope, here, out)?;
-        here += value_long(value, scope);
+        here += value_length(value, scope);
     }
     Ok(())
 }
@@ -210,14 +210,14 @@ fn emit_members(
 ) -> Result<(), AllocError>
     requires scope { IsScope scope.now }
     requires writable { ExpressionsAreWritable scope.now (expressions_of members.now) }
-    requires room { at + in_scope.members_long scope.now (expressions_of members.now) < 2 ^ 32 }
+    requires room { at + in_scope.members_length scope.now (expressions_of members.now) < 2 ^ 32 }
     ensures emits { OnOk result (Emits out.old.items out.new.items (in_scope.members_code scope.now at line (expressions_of members.now))) }
 {
     let mut here = at;
     for member in members.items() {
         emit_value(alloc, member, scope, here, out)?;
         put(alloc, &Op::Member { line }, out)?;
-        here += value_long(member, scope) + 2;
+        here += value_length(member, scope) + 2;
     }
     Ok(())
 }
@@ -234,7 +234,7 @@ fn emit_links(
 ) -> Result<(), AllocError>
     requires scope { IsScope scope.now }
     requires writable { LinksAreWritable scope.now left (links_of links.now) }
-    requires room { at + in_scope.links_long scope.now left (links_of links.now) < 2 ^ 32 }
+    requires room { at + in_scope.links_length scope.now left (links_of links.now) < 2 ^ 32 }
     ensures emits { OnOk result (Emits out.old.items out.new.items (in_scope.links_code scope.now at left (links_of links.now))) }
 {
     let mut of = left;
@@ -258,9 +258,9 @@ fn emit_link(
 ) -> Result<u32, AllocError>
     requires scope { IsScope scope.now }
     requires writable { LinkIsWritable scope.now left (link_of link.now) }
-    requires room { at + in_scope.link_long scope.now left (link_of link.now) < 2 ^ 32 }
+    requires room { at + in_scope.link_length scope.now left (link_of link.now) < 2 ^ 32 }
     ensures emits { IfOk result (λ behind. Emits out.old.items out.new.items (in_scope.link_code scope.now at left (link_of link.now))) }
-    ensures behind { IfOk result (λ behind. behind ≡ at + in_scope.link_long scope.now left (link_of link.now)) }
+    ensures behind { IfOk result (λ behind. behind ≡ at + in_scope.link_length scope.now left (link_of link.now)) }
 {
     emit_right(
         alloc,
@@ -288,14 +288,14 @@ fn emit_right(
 ) -> Result<u32, AllocError>
     requires scope { IsScope scope.now }
     requires writable { LinkIsWritable scope.now left (plain_link operator (expression_of right.now) line) }
-    requires room { at + in_scope.link_long scope.now left (plain_link operator (expression_of right.now) line) < 2 ^ 32 }
+    requires room { at + in_scope.link_length scope.now left (plain_link operator (expression_of right.now) line) < 2 ^ 32 }
     ensures emits { IfOk result (λ behind. Emits out.old.items out.new.items
         (in_scope.link_code scope.now at left (plain_link operator (expression_of right.now) line))) }
-    ensures behind { IfOk result (λ behind. behind ≡ at + in_scope.link_long scope.now left (plain_link operator (expression_of right.now) line)) }
+    ensures behind { IfOk result (λ behind. behind ≡ at + in_scope.link_length scope.now left (plain_link operator (expression_of right.now) line)) }
 {
-    let begins = at + decision_long(operator);
-    let long = operation_long(scope.types, left, operator);
-    let behind = begins + value_long(right, scope) + long;
+    let begins = at + decision_length(operator);
+    let long = operation_length(scope.types, left, operator);
+    let behind = begins + value_length(right, scope) + long;
     put_any(alloc, decision(operator, behind), out)?;
     emit_value(alloc, right, scope, begins, out)?;
     put_any(alloc, operation(scope.types, left, operator, line), out)?;
@@ -320,12 +320,12 @@ pub(crate) fn emit_place(
 ) -> Result<(), AllocError>
     requires scope { IsScope scope.now }
     requires writable { PlaceIsWritable scope.now (place_of place.now) }
-    requires room { at + in_scope.place_long scope.now (place_of place.now) < 2 ^ 32 }
+    requires room { at + in_scope.place_length scope.now (place_of place.now) < 2 ^ 32 }
     ensures emits { OnOk result (Emits out.old.items out.new.items (in_scope.place_code scope.now at (place_of place.now))) }
 {
     let variable = slot(scope.blocks, scope.block, place.levels, place.variable);
     emit_variable(alloc, scope, place.levels, place.variable, variable, out)?;
-    let behind = at + variable_long(variable);
+    let behind = at + variable_length(variable);
     emit_parts(alloc, &place.parts, scope, behind, slot_type(variable), out)
 }
 
@@ -341,14 +341,14 @@ fn emit_parts(
 ) -> Result<(), AllocError>
     requires scope { IsScope scope.now }
     requires writable { PartsAreWritable scope.now (parts_of parts.now) }
-    requires room { at + in_scope.parts_long scope.now root (parts_of parts.now) < 2 ^ 32 }
+    requires room { at + in_scope.parts_length scope.now root (parts_of parts.now) < 2 ^ 32 }
     ensures emits { OnOk result (Emits out.old.items out.new.items (in_scope.parts_code scope.now at root (parts_of parts.now))) }
 {
     let mut of = root;
     let mut here = at;
     for part in parts.items() {
         emit_part(alloc, part, scope, here, of, out)?;
-        here += part_long(part, scope, of);
+        here += part_length(part, scope, of);
         of = part_type(scope.types, of, part);
     }
     Ok(())
@@ -366,7 +366,7 @@ fn emit_part(
 ) -> Result<(), AllocError>
     requires scope { IsScope scope.now }
     requires writable { PartIsWritable scope.now (part_of part.now) }
-    requires room { at + in_scope.part_long scope.now of (part_of part.now) < 2 ^ 32 }
+    requires room { at + in_scope.part_length scope.now of (part_of part.now) < 2 ^ 32 }
     ensures emits { OnOk result (Emits out.old.items out.new.items (in_scope.part_code scope.now at of (part_of part.now))) }
 {
     match part {
@@ -398,7 +398,7 @@ fn emit_argument(
 ) -> Result<(), AllocError>
     requires scope { IsScope scope.now }
     requires writable { ArgumentIsWritable scope.now (argument_of argument.now) }
-    requires room { at + in_scope.argument_long scope.now (argument_of argument.now) < 2 ^ 32 }
+    requires room { at + in_scope.argument_length scope.now (argument_of argument.now) < 2 ^ 32 }
     ensures emits { OnOk result (Emits out.old.items out.new.items (in_scope.argument_code scope.now at (argument_of argument.now))) }
 {
     match argument {
@@ -419,13 +419,13 @@ pub(crate) fn emit_arguments(
 ) -> Result<(), AllocError>
     requires scope { IsScope scope.now }
     requires writable { ArgumentsAreWritable scope.now (arguments_of arguments.now) }
-    requires room { at + in_scope.arguments_long scope.now (arguments_of arguments.now) < 2 ^ 32 }
+    requires room { at + in_scope.arguments_length scope.now (arguments_of arguments.now) < 2 ^ 32 }
     ensures emits { OnOk result (Emits out.old.items out.new.items (in_scope.arguments_code scope.now at (arguments_of arguments.now))) }
 {
     let mut here = at;
     for argument in arguments.items() {
         emit_argument(alloc, argument, scope, here, out)?;
-        here += argument_long(argument, scope);
+        here += argument_length(argument, scope);
     }
     Ok(())
 }

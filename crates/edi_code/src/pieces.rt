@@ -7,10 +7,10 @@ ghost use Rattle.edi_unit.specs.Types.{IsTypeTable, field_type, greatest_size, i
 ghost use Rattle.edi_unit.specs.Tree.{Clauses};
 ghost use Rattle.edi_unit.specs.View.{expressions_of};
 ghost use Rattle.edi_unit.specs.Need as need;
-ghost use Rattle.edi_scheme.specs.Long as long;
+ghost use Rattle.edi_scheme.specs.Lengths as long;
 ghost use Rattle.edi_scheme.specs.Pieces as pieces;
-ghost use Rattle.edi_scheme.specs.Pieces.{code_long};
-ghost use Rattle.edi_code.specs.Scope.{IsScope, blocks_in, choice_of, is_end, types_in};
+ghost use Rattle.edi_scheme.specs.Pieces.{code_length};
+ghost use Rattle.edi_code.specs.Scope.{IsScope, blocks_in, clause_kind_of, is_end, types_in};
 ghost use Rattle.edi_code.specs.InScope as in_scope;
 
 use crate::scope::{Closing, Scope};
@@ -61,8 +61,8 @@ pub(crate) fn are_constants(values: &Values) -> bool
 // ---- lengths
 
 // The words of a call.
-pub(crate) fn call_long(callee: Callee) -> u32
-    ensures exact { result ≡ long.call_long callee }
+pub(crate) fn call_length(callee: Callee) -> u32
+    ensures exact { result ≡ long.call_length callee }
     ensures small { result ≤ 5 }
 {
     match callee {
@@ -72,8 +72,8 @@ pub(crate) fn call_long(callee: Callee) -> u32
 }
 
 // The words of a procedure that is passed on.
-pub(crate) fn procedure_long(callee: Callee) -> u32
-    ensures exact { result ≡ long.procedure_long callee }
+pub(crate) fn procedure_length(callee: Callee) -> u32
+    ensures exact { result ≡ long.procedure_length callee }
     ensures small { result ≤ 5 }
 {
     match callee {
@@ -83,16 +83,16 @@ pub(crate) fn procedure_long(callee: Callee) -> u32
 }
 
 // The words that give the address of a variable.
-pub(crate) fn variable_long(variable: Option<Parameter>) -> u32
-    ensures exact { result ≡ code_long (pieces.variable_code 0 0 variable) }
+pub(crate) fn variable_length(variable: Option<Parameter>) -> u32
+    ensures exact { result ≡ code_length (pieces.variable_code 0 0 variable) }
     ensures small { result ≤ 5 }
 {
     if is_address(variable) { 5 } else { 3 }
 }
 
 // The words that go from an array of type `of` to an element.
-pub(crate) fn element_long(types: &TypeTable, of: u32) -> u32
-    ensures exact { (line : ℕ) → result ≡ code_long (pieces.element_code types.now (shape_at types.now of) line) }
+pub(crate) fn element_length(types: &TypeTable, of: u32) -> u32
+    ensures exact { (line : ℕ) → result ≡ code_length (pieces.element_code types.now (shape_at types.now of) line) }
     ensures small { result ≤ 5 }
 {
     if of >= types.len() {
@@ -105,8 +105,8 @@ pub(crate) fn element_long(types: &TypeTable, of: u32) -> u32
 }
 
 // The words that hold an ordinal to type `of`.
-pub(crate) fn check_long(types: &TypeTable, of: u32) -> u32
-    ensures exact { (line : ℕ) → result ≡ code_long (pieces.check_code (shape_at types.now of) line) }
+pub(crate) fn check_length(types: &TypeTable, of: u32) -> u32
+    ensures exact { (line : ℕ) → result ≡ code_length (pieces.check_code (shape_at types.now of) line) }
     ensures small { result ≤ 4 }
 {
     if of >= types.len() {
@@ -119,8 +119,8 @@ pub(crate) fn check_long(types: &TypeTable, of: u32) -> u32
 }
 
 // The words before a right operand.
-pub(crate) fn decision_long(operator: Operator) -> u32
-    ensures exact { (behind : ℕ) → result ≡ code_long (pieces.decision operator behind) }
+pub(crate) fn decision_length(operator: Operator) -> u32
+    ensures exact { (behind : ℕ) → result ≡ code_length (pieces.decision operator behind) }
     ensures small { result ≤ 3 }
 {
     match operator {
@@ -130,8 +130,8 @@ pub(crate) fn decision_long(operator: Operator) -> u32
 }
 
 // The words of an operator behind its operands, the left one of type `left`.
-pub(crate) fn operation_long(types: &TypeTable, left: u32, operator: Operator) -> u32
-    ensures exact { (line : ℕ) → result ≡ code_long (pieces.operation types.now left operator line) }
+pub(crate) fn operation_length(types: &TypeTable, left: u32, operator: Operator) -> u32
+    ensures exact { (line : ℕ) → result ≡ code_length (pieces.operation types.now left operator line) }
     ensures small { result ≤ 2 }
 {
     match operator {
@@ -143,8 +143,8 @@ pub(crate) fn operation_long(types: &TypeTable, left: u32, operator: Operator) -
 }
 
 // The words that close the list of a clause; `last` tells whether no clause follows.
-pub(crate) fn close_long(closing: Closing, last: bool) -> u32
-    ensures exact { (target : ℕ) (clauses : Clauses) → last ≡ is_end clauses → result ≡ code_long (pieces.close_code (choice_of closing) target clauses) }
+pub(crate) fn close_length(closing: Closing, last: bool) -> u32
+    ensures exact { (target : ℕ) (clauses : Clauses) → last ≡ is_end clauses → result ≡ code_length (pieces.close_code (clause_kind_of closing) target clauses) }
     ensures small { result ≤ 4 }
 {
     match closing {

@@ -6,11 +6,11 @@ ghost use Rattle.edi_unit.specs.Need.{block_at};
 ghost use Rattle.edi_target.specs.Op.{exit};
 ghost use Rattle.edi_unit.specs.Fits.{Fits};
 ghost use Rattle.edi_scheme.specs.Laws.{HaveParts, parts_of};
-ghost use Rattle.edi_scheme.specs.Long.{block_long};
+ghost use Rattle.edi_scheme.specs.Lengths.{block_length};
 ghost use Rattle.edi_scheme.specs.Pieces as pieces;
 ghost use Rattle.edi_scheme.specs.Code.{block_code, blocks_code, code_of, entry};
 ghost use Rattle.edi_code.specs.Emits.{Emits, IsWhole, code_of_op};
-ghost use Rattle.edi_code.specs.InScope.{ActsAreWritable, acts_code, acts_long};
+ghost use Rattle.edi_code.specs.InScope.{ActsAreWritable, acts_code, acts_length};
 ghost use Rattle.edi_code.specs.Scope.{IsScope, blocks_in, entry_in, types_in};
 ghost use Rattle.edi_code.specs.Writable.{AreEntries, AreWritable, IsRoomy, IsWritable};
 
@@ -86,7 +86,7 @@ fn emit_branch(
 ) -> Result<(), AllocError>
     requires scope { IsScope scope.now }
     requires writable { ActsAreWritable scope.now (acts_of body.now) }
-    requires room { at + acts_long scope.now (acts_of body.now) < 2 ^ 32 }
+    requires room { at + acts_length scope.now (acts_of body.now) < 2 ^ 32 }
     ensures emits { OnOk result (Emits out.old.items out.new.items (acts_code scope.now at (acts_of body.now) ++ exit ∷ [])) }
 {
     emit_acts(alloc, body, scope, at, out)?;
@@ -104,7 +104,7 @@ fn emit_procedure(
     requires scope { IsScope scope.now }
     requires frame { IsRoomy (types_in scope.now) (block_of block.now) }
     requires writable { ActsAreWritable scope.now (block_of block.now).body }
-    requires room { at + 6 + acts_long scope.now (block_of block.now).body < 2 ^ 32 }
+    requires room { at + 6 + acts_length scope.now (block_of block.now).body < 2 ^ 32 }
     ensures emits { OnOk result (Emits out.old.items out.new.items
         (pieces.entry_of (types_in scope.now) (block_of block.now)
         ∷ (acts_code scope.now (at + 6) (block_of block.now).body ++ pieces.return_of (types_in scope.now) (block_of block.now) ∷ []))) }
@@ -119,7 +119,7 @@ fn emit_block(alloc: Global, scope: &Scope<'_>, out: &mut Vec<u16>) -> Result<()
     requires scope { IsScope scope.now }
     requires known { scope.now.block < length (blocks_in scope.now) }
     requires writable { ActsAreWritable scope.now (block_at (blocks_in scope.now) scope.now.block).body }
-    requires room { entry_in scope.now scope.now.block + block_long (types_in scope.now) (blocks_in scope.now) scope.now.block < 2 ^ 32 }
+    requires room { entry_in scope.now scope.now.block + block_length (types_in scope.now) (blocks_in scope.now) scope.now.block < 2 ^ 32 }
     ensures emits { OnOk result (Emits out.old.items out.new.items
         (block_code (types_in scope.now) (blocks_in scope.now) (entry_in scope.now scope.now.block) scope.now.block)) }
 {

@@ -2,66 +2,67 @@
 
 ghost use Rattle.std.specs.Prelude.{◌≡◌, ◌<◌, ◌^◌, length};
 ghost use Rattle.edi_unit.specs.View.{act_of, acts_of, clause_of, clauses_of};
-ghost use Rattle.edi_scheme.specs.Long.{block_long};
+ghost use Rattle.edi_scheme.specs.Lengths.{block_length};
 ghost use Rattle.edi_code.specs.InScope as long;
-ghost use Rattle.edi_code.specs.Scope.{blocks_in, choice_of, types_in};
+ghost use Rattle.edi_code.specs.Scope.{blocks_in, clause_kind_of, types_in};
 
-use crate::lengths::{arguments_long, place_long, value_long};
-use crate::pieces::{call_long, close_long};
+use crate::lengths::{arguments_length, place_length, value_length};
+use crate::pieces::{call_length, close_length};
 use crate::scope::{Closing, Scope};
 use edi_unit::{Act, Acts, BlockKind, Clause, Clauses};
 
 // The words of a statement.
 #[cycle(statement_lengths)]
-pub(crate) fn act_long(act: &Act, scope: &Scope<'_>) -> u32
-    requires small { long.act_long scope.now (act_of act.now) < 2 ^ 32 }
-    ensures exact { result ≡ long.act_long scope.now (act_of act.now) }
+pub(crate) fn act_length(act: &Act, scope: &Scope<'_>) -> u32
+    requires small { long.act_length scope.now (act_of act.now) < 2 ^ 32 }
+    ensures exact { result ≡ long.act_length scope.now (act_of act.now) }
 {
     match act {
         Act::Skip => 0,
-        Act::Assign(place, value) => place_long(place, scope) + value_long(value, scope) + 2,
-        Act::Call(callee, arguments, _) => arguments_long(arguments, scope) + call_long(*callee),
+        Act::Assign(place, value) => place_length(place, scope) + value_length(value, scope) + 2,
+        Act::Call(callee, arguments, _) => arguments_length(arguments, scope)
+            + call_length(*callee),
         Act::Halt(_) => 2,
-        Act::If(clauses) => clauses_long(clauses, scope, Closing::Once),
-        Act::While(clauses) => clauses_long(clauses, scope, Closing::Repeated),
-        Act::When(clauses, _) => 2 + clauses_long(clauses, scope, Closing::Released) + 3,
+        Act::If(clauses) => clauses_length(clauses, scope, Closing::Once),
+        Act::While(clauses) => clauses_length(clauses, scope, Closing::Repeated),
+        Act::When(clauses, _) => 2 + clauses_length(clauses, scope, Closing::Released) + 3,
         Act::Cobegin(branches, _) => 3 + 3 * branches.len() as u32,
     }
 }
 
 // The words of statements.
 #[cycle(statement_lengths)]
-pub(crate) fn acts_long(acts: &Acts, scope: &Scope<'_>) -> u32
-    requires small { long.acts_long scope.now (acts_of acts.now) < 2 ^ 32 }
-    ensures exact { result ≡ long.acts_long scope.now (acts_of acts.now) }
+pub(crate) fn acts_length(acts: &Acts, scope: &Scope<'_>) -> u32
+    requires small { long.acts_length scope.now (acts_of acts.now) < 2 ^ 32 }
+    ensures exact { result ≡ long.acts_length scope.now (acts_of acts.now) }
 {
     let mut words: u32 = 0;
     for act in acts.items() {
-        words += act_long(act, scope);
+        words += act_length(act, scope);
     }
     words
 }
 
 // The words of a condition with its jump, and its list.
 #[cycle(statement_lengths)]
-pub(crate) fn clause_long(clause: &Clause, scope: &Scope<'_>) -> u32
-    requires small { long.clause_long scope.now (clause_of clause.now) < 2 ^ 32 }
-    ensures exact { result ≡ long.clause_long scope.now (clause_of clause.now) }
+pub(crate) fn clause_length(clause: &Clause, scope: &Scope<'_>) -> u32
+    requires small { long.clause_length scope.now (clause_of clause.now) < 2 ^ 32 }
+    ensures exact { result ≡ long.clause_length scope.now (clause_of clause.now) }
 {
-    value_long(&clause.condition, scope) + 3 + acts_long(&clause.body, scope)
+    value_length(&clause.condition, scope) + 3 + acts_length(&clause.body, scope)
 }
 
 // The words of clauses.
 #[cycle(statement_lengths)]
-pub(crate) fn clauses_long(clauses: &Clauses, scope: &Scope<'_>, closing: Closing) -> u32
-    requires small { long.clauses_long scope.now (choice_of closing) (clauses_of clauses.now) < 2 ^ 32 }
-    ensures exact { result ≡ long.clauses_long scope.now (choice_of closing) (clauses_of clauses.now) }
+pub(crate) fn clauses_length(clauses: &Clauses, scope: &Scope<'_>, closing: Closing) -> u32
+    requires small { long.clauses_length scope.now (clause_kind_of closing) (clauses_of clauses.now) < 2 ^ 32 }
+    ensures exact { result ≡ long.clauses_length scope.now (clause_kind_of closing) (clauses_of clauses.now) }
 {
     let mut behind = clauses.len();
     let mut words: u32 = 0;
     for clause in clauses.items() {
         behind -= 1;
-        words += clause_long(clause, scope) + close_long(closing, behind == 0);
+        words += clause_length(clause, scope) + close_length(closing, behind == 0);
     }
     words
 }
@@ -69,11 +70,11 @@ pub(crate) fn clauses_long(clauses: &Clauses, scope: &Scope<'_>, closing: Closin
 /// The words of the code of the block of a scope, which is there.
 pub fn block_words(scope: &Scope<'_>) -> u32
     requires known { scope.now.block < length (blocks_in scope.now) }
-    requires small { block_long (types_in scope.now) (blocks_in scope.now) scope.now.block < 2 ^ 32 }
-    ensures exact { result ≡ block_long (types_in scope.now) (blocks_in scope.now) scope.now.block }
+    requires small { block_length (types_in scope.now) (blocks_in scope.now) scope.now.block < 2 ^ 32 }
+    ensures exact { result ≡ block_length (types_in scope.now) (blocks_in scope.now) scope.now.block }
 {
     let block = &scope.blocks[scope.block as usize];
-    let words = acts_long(&block.body, scope);
+    let words = acts_length(&block.body, scope);
     match block.kind {
         BlockKind::Branch => words + 1,
         _ => 6 + words + 3,

@@ -4,21 +4,21 @@
 ghost use Rattle.std.specs.Prelude.{◌≡◌, ◌+◌, ◌<◌, ◌^◌, All, IfOk, OnOk, length};
 ghost use Rattle.edi_unit.specs.Lists.{list_items};
 ghost use Rattle.edi_unit.specs.View.{act_of, acts_of, clause_of, clauses_of, expression_of, place_of};
-ghost use Rattle.edi_unit.specs.Tree.{Clauses, assign, await, cobegin};
+ghost use Rattle.edi_unit.specs.Tree.{Clauses, assign, when_act, cobegin};
 ghost use Rattle.edi_unit.specs.Tree.{clause as plain_clause};
 ghost use Rattle.edi_scheme.specs.Pieces.{close_code};
 ghost use Rattle.edi_code.specs.Emits.{Emits};
 ghost use Rattle.edi_code.specs.InScope as in_scope;
 ghost use Rattle.edi_code.specs.InScope.{ActIsWritable, ActsAreWritable, ClauseIsWritable, ClausesAreWritable};
-ghost use Rattle.edi_code.specs.Scope.{IsScope, blocks_in, choice_of, is_end};
+ghost use Rattle.edi_code.specs.Scope.{IsScope, blocks_in, clause_kind_of, is_end};
 
 use crate::expressions::{emit_call, emit_place, emit_value};
 use crate::instructions::{again, entry_of, put};
-use crate::lengths::{place_long, value_long};
-use crate::pieces::close_long;
+use crate::lengths::{place_length, value_length};
+use crate::pieces::close_length;
 use crate::quiet::is_quiet;
 use crate::scope::{Closing, Scope};
-use crate::statement_lengths::{act_long, clause_long, clauses_long};
+use crate::statement_lengths::{act_length, clause_length, clauses_length};
 use edi_target::Op;
 use edi_unit::{Act, Acts, Clause, Clauses, Numbers, Place, Value, place_type, type_words};
 use std::alloc::{AllocError, Global};
@@ -34,7 +34,7 @@ fn emit_act(
 ) -> Result<(), AllocError>
     requires scope { IsScope scope.now }
     requires writable { ActIsWritable scope.now (act_of act.now) }
-    requires room { at + in_scope.act_long scope.now (act_of act.now) < 2 ^ 32 }
+    requires room { at + in_scope.act_length scope.now (act_of act.now) < 2 ^ 32 }
     ensures emits { OnOk result (Emits out.old.items out.new.items (in_scope.act_code scope.now at (act_of act.now))) }
 {
     match act {
@@ -45,7 +45,7 @@ fn emit_act(
         }
         Act::Halt(line) => put(alloc, &Op::Halt { line: *line }, out),
         Act::If(clauses) => {
-            let end = at + clauses_long(clauses, scope, Closing::Once);
+            let end = at + clauses_length(clauses, scope, Closing::Once);
             emit_clauses(alloc, clauses, scope, at, Closing::Once, end, out)
         }
         Act::While(clauses) => {
@@ -67,12 +67,12 @@ fn emit_assign(
 ) -> Result<(), AllocError>
     requires scope { IsScope scope.now }
     requires writable { ActIsWritable scope.now (assign (place_of place.now) (expression_of value.now)) }
-    requires room { at + in_scope.act_long scope.now (assign (place_of place.now) (expression_of value.now)) < 2 ^ 32 }
+    requires room { at + in_scope.act_length scope.now (assign (place_of place.now) (expression_of value.now)) < 2 ^ 32 }
     ensures emits { OnOk result (Emits out.old.items out.new.items (in_scope.act_code scope.now at (assign (place_of place.now) (expression_of value.now)))) }
 {
     let of = place_type(scope.types, scope.blocks, scope.block, place);
     let count = type_words(scope.types, of) as u16;
-    let behind = at + place_long(place, scope);
+    let behind = at + place_length(place, scope);
     emit_place(alloc, place, scope, at, out)?;
     emit_value(alloc, value, scope, behind, out)?;
     put(alloc, &Op::Store { count }, out)
@@ -90,11 +90,11 @@ fn emit_await(
 ) -> Result<(), AllocError>
     requires scope { IsScope scope.now }
     requires writable { ClausesAreWritable scope.now (clauses_of clauses.now) }
-    requires room { at + in_scope.act_long scope.now (await (clauses_of clauses.now) line) < 2 ^ 32 }
-    ensures emits { OnOk result (Emits out.old.items out.new.items (in_scope.act_code scope.now at (await (clauses_of clauses.now) line))) }
+    requires room { at + in_scope.act_length scope.now (when_act (clauses_of clauses.now) line) < 2 ^ 32 }
+    ensures emits { OnOk result (Emits out.old.items out.new.items (in_scope.act_code scope.now at (when_act (clauses_of clauses.now) line))) }
 {
     let top = at + 2;
-    let end = top + clauses_long(clauses, scope, Closing::Released) + 3;
+    let end = top + clauses_length(clauses, scope, Closing::Released) + 3;
     put(alloc, &Op::When { line }, out)?;
     emit_clauses(alloc, clauses, scope, top, Closing::Released, end, out)?;
     put(alloc, &again(is_quiet(clauses), top), out)
@@ -153,13 +153,13 @@ pub fn emit_acts(
 ) -> Result<(), AllocError>
     requires scope { IsScope scope.now }
     requires writable { ActsAreWritable scope.now (acts_of acts.now) }
-    requires room { at + in_scope.acts_long scope.now (acts_of acts.now) < 2 ^ 32 }
+    requires room { at + in_scope.acts_length scope.now (acts_of acts.now) < 2 ^ 32 }
     ensures emits { OnOk result (Emits out.old.items out.new.items (in_scope.acts_code scope.now at (acts_of acts.now))) }
 {
     let mut here = at;
     for act in acts.items() {
         emit_act(alloc, act, scope, here, out)?;
-        here += act_long(act, scope);
+        here += act_length(act, scope);
     }
     Ok(())
 }
@@ -176,7 +176,7 @@ fn emit_clause(
 ) -> Result<(), AllocError>
     requires scope { IsScope scope.now }
     requires writable { ClauseIsWritable scope.now (clause_of clause.now) }
-    requires room { at + in_scope.clause_long scope.now (clause_of clause.now) < 2 ^ 32 }
+    requires room { at + in_scope.clause_length scope.now (clause_of clause.now) < 2 ^ 32 }
     ensures emits { OnOk result (Emits out.old.items out.new.items (in_scope.clause_code scope.now at next (clause_of clause.now))) }
 {
     emit_guarded(alloc, &clause.body, &clause.condition, scope, at, next, out)
@@ -195,11 +195,11 @@ fn emit_guarded(
 ) -> Result<(), AllocError>
     requires scope { IsScope scope.now }
     requires writable { ClauseIsWritable scope.now (plain_clause (expression_of condition.now) (acts_of body.now)) }
-    requires room { at + in_scope.clause_long scope.now (plain_clause (expression_of condition.now) (acts_of body.now)) < 2 ^ 32 }
+    requires room { at + in_scope.clause_length scope.now (plain_clause (expression_of condition.now) (acts_of body.now)) < 2 ^ 32 }
     ensures emits { OnOk result (Emits out.old.items out.new.items
         (in_scope.clause_code scope.now at next (plain_clause (expression_of condition.now) (acts_of body.now)))) }
 {
-    let list = at + value_long(condition, scope) + 3;
+    let list = at + value_length(condition, scope) + 3;
     emit_value(alloc, condition, scope, at, out)?;
     put(alloc, &Op::False { target: next }, out)?;
     emit_acts(alloc, body, scope, list, out)
@@ -214,7 +214,7 @@ fn emit_close(
     out: &mut Vec<u16>,
 ) -> Result<(), AllocError>
     ensures emits { OnOk result ((clauses : Clauses) → last ≡ is_end clauses →
-        Emits out.old.items out.new.items (close_code (choice_of closing) target clauses)) }
+        Emits out.old.items out.new.items (close_code (clause_kind_of closing) target clauses)) }
 {
     match closing {
         Closing::Once => {
@@ -244,14 +244,14 @@ fn emit_clauses(
 ) -> Result<(), AllocError>
     requires scope { IsScope scope.now }
     requires writable { ClausesAreWritable scope.now (clauses_of clauses.now) }
-    requires room { at + in_scope.clauses_long scope.now (choice_of closing) (clauses_of clauses.now) < 2 ^ 32 }
-    ensures emits { OnOk result (Emits out.old.items out.new.items (in_scope.clauses_code scope.now (choice_of closing) target at (clauses_of clauses.now))) }
+    requires room { at + in_scope.clauses_length scope.now (clause_kind_of closing) (clauses_of clauses.now) < 2 ^ 32 }
+    ensures emits { OnOk result (Emits out.old.items out.new.items (in_scope.clauses_code scope.now (clause_kind_of closing) target at (clauses_of clauses.now))) }
 {
     let mut behind = clauses.len();
     let mut here = at;
     for clause in clauses.items() {
         behind -= 1;
-        let next = here + clause_long(clause, scope) + close_long(closing, behind == 0);
+        let next = here + clause_length(clause, scope) + close_length(closing, behind == 0);
         emit_clause(alloc, clause, scope, here, next, out)?;
         emit_close(alloc, closing, target, behind == 0, out)?;
         here = next;

@@ -1,6 +1,10 @@
-//! From the tree of a program to its checked code.
+//! From the bytes of a text, whole or in pieces, to its code, to its resolved unit, or to its first fault.
 #![tactic(auto)]
 
-mod programs;
+mod intake;
+mod passes;
+mod texts;
 
-pub use programs::translate;
+pub use edi_texts::{Pass, Refusal, RefusalKind};
+pub use intake::Intake;
+pub use texts::{compile, front};

@@ -1,11 +1,9 @@
-//! Programs that are scanned, parsed, translated and run.
+//! Programs that are compiled and run.
 
 use edi_calls::MemoryCalls;
-use edi_compile::translate;
+use edi_compile::compile;
 use edi_kernel::{Ending, Kernel};
-use edi_lex::scan;
 use edi_machine::Cause;
-use edi_syntax::parse;
 use edi_trace::Choices;
 use std::alloc::Global;
 use std::process::Abort;
@@ -19,7 +17,7 @@ struct Ran {
     shown: Vec<u8>,
 }
 
-// Translates and runs the program of this text.
+// Compiles this text and runs its code.
 fn run_text(
     rt: &impl Abort,
     alloc: Global,
@@ -28,15 +26,9 @@ fn run_text(
     choices: &[u8],
     bound: u64,
 ) -> Result<Ran, Fail> {
-    let Ok(symbols) = scan(alloc, text.as_bytes()) else {
-        panic!(rt; "not scanned: {text}");
-    };
-    let Ok(tree) = parse(alloc, &symbols) else {
-        panic!(rt; "not parsed: {text}");
-    };
-    let code = match translate(alloc, &tree) {
+    let code = match compile(alloc, text.as_bytes()) {
         Ok(code) => code,
-        Err(fault) => panic!(rt; "not translated: {text} {fault:?}"),
+        Err(refusal) => panic!(rt; "{text}: {refusal}"),
     };
     let mut calls = MemoryCalls::new(alloc, input.as_bytes(), 40)?;
     let mut choices = Choices::list(alloc, choices)?;

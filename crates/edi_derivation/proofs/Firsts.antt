@@ -5,7 +5,7 @@ use Rattle.std.proofs.lemmas.Bool.{ltb-true, ltb-false}
 use Rattle.edi_lex.specs.declared.symbol.Mark.{Mark}
 use Rattle.edi_tree.specs.Tree.{Program}
 use Rattle.edi_tree.specs.Spelled.{Spelled}
-use Rattle.edi_tree.specs.Spells.{Stands, Stand, Spells, to_end, Begins}
+use Rattle.edi_tree.specs.Spells.{StandsAsMark, StandAsMarks, Spells, to_end, ProgramBegins}
 use Rattle.edi_tree.specs.Levels.{Element, mark, level_end, marks_among, elements, opens, with_symbol, one_less, level_behind, greatest_level, Level}
 use Rattle.edi_tree.specs.Depth.{depth}
 use Rattle.edi_tree.proofs.Greatest.{greatest_is_depth}
@@ -39,14 +39,14 @@ before_place (o ∷ u) (m ∷ marks) here behind e =
     (m ∷ more.0, ap (λ l. o ∷ l) more.1 ∙ ap (λ o. o ∷ somes more.0) same)
 
 -- what begins a text begins a program
-begins_of : (u more : List (Option Mark)) (n : ℕ) (items : Items) → plain items ≡ u ++ more → Derives edison n start items → Begins u
+begins_of : (u more : List (Option Mark)) (n : ℕ) (items : Items) → plain items ≡ u ++ more → Derives edison n start items → ProgramBegins u
 begins_of u more n items e d =
     let p = program_of_text n items d in
     let marks = marks_of (elements p.0) items p.1 in
     (p.0, marks.0, more, elements_spelled p.0 marks.0 marks.1, sym marks.2 ∙ e)
 
 -- the levels that are open with a symbol are those that end behind it
-level_is_ending : (tree : Program) (before after : List Element) (s : Spelled) (m : Mark) (n : ℕ) (first last : Items) → Stands s m → ((k : ℕ) → level_behind k before ≡ open_behind edison k first) → Derives edison n start (first ++ item.mark (Some m) ∷ last) → level_behind 0 (before ++ mark s ∷ []) ≡ ends_in edison last
+level_is_ending : (tree : Program) (before after : List Element) (s : Spelled) (m : Mark) (n : ℕ) (first last : Items) → StandsAsMark s m → ((k : ℕ) → level_behind k before ≡ open_behind edison k first) → Derives edison n start (first ++ item.mark (Some m) ∷ last) → level_behind 0 (before ++ mark s ∷ []) ≡ ends_in edison last
 level_is_ending tree before after s m n first last st levels d =
     level_with before 0 s ∙ counted (level_behind 0 before) s m st ∙ ap (λ k. k + opened edison (kind_at (Some m))) (levels 0) ∙ sym (open_with first 0 m)
     ∙ open_is_ending edison fair n start (first ++ item.mark (Some m) ∷ last) (first ++ item.mark (Some m) ∷ []) last (omega arith, tt) (sym (append_assoc first (item.mark (Some m) ∷ []) last)) d
@@ -95,7 +95,7 @@ misplaced marks here behind stops =
       cut,
       record {
         place = (behind, cut);
-        begins = subst (λ u. Begins u) b.1 (begins_of v.before v.lives.1 v.lives.0 v.lives.2 v.lives.3 v.lives.5);
+        begins = subst (λ u. ProgramBegins u) b.1 (begins_of v.before v.lives.1 v.lives.0 v.lives.2 v.lives.3 v.lives.5);
         shallow = shallow_of b.0 (subst (λ u. Shallow edison 64 start u) b.1 v.shallow);
         fails = λ f.
             let items = items_for (elements f.0) f.1 (spelled_elements f.0 f.1 f.3) in
@@ -172,7 +172,7 @@ greatest_small (level_end ∷ es) k small all =
 
 shallow_program : (tree : Program) (marks : List Mark) → Spells tree marks → AreShallow marks → depth tree ≤ 64
 shallow_program tree marks spells h = subst (λ k. k ≤ 64) (greatest_is_depth tree) (greatest_small (elements tree) 0 (omega arith) (λ before s after e o.
-    let p = parted before s after marks (subst (λ es. Stand (marks_among es) marks) e (spelled_elements tree marks spells)) in
+    let p = parted before s after marks (subst (λ es. StandAsMarks (marks_among es) marks) e (spelled_elements tree marks spells)) in
     subst (λ k. k ≤ 64) (level_with before 0 s) (h p.front p.behind p.m (level_behind 0 (before ++ mark s ∷ [])) p.cut (ap opens p.stands.0 ∙ o) (tree, before, s, after, e, p.stand, p.stands, refl))))
 
 pub whole_tree : (marks : List Mark) (tree : Program) → Spells tree marks → Stops edison 64 start (to_end marks) complete [] → IsTheTree marks tree

@@ -5,7 +5,7 @@ use Rattle.edi_lex.specs.declared.symbol.Symbol.TheVariants as is
 use Rattle.edi_lex.specs.declared.symbol.Mark.{Mark}
 use Rattle.edi_tree.specs.Tree.{Program}
 use Rattle.edi_tree.specs.Spelled.{Spelled}
-use Rattle.edi_tree.specs.Spells.{IsOn, Stands, Stand, Spells, to_end}
+use Rattle.edi_tree.specs.Spells.{IsOn, StandsAsMark, StandAsMarks, Spells, to_end}
 use Rattle.edi_tree.specs.Levels.{Element, mark, level_end, marks_among, elements, opens, with_symbol, one_less, level_behind}
 use Rattle.edi_tree.proofs.Marks.{elements_marks}
 use Rattle.edi_grammar.specs.Grammar as item
@@ -29,23 +29,23 @@ use Rattle.edi_derivation.proofs.Reading.{Read}
 use Rattle.edi_derivation.proofs.ProgramTakes.{program_takes}
 
 -- marks as elements say give items, and items give marks
-pub items_for : (es : List Element) (marks : List Mark) → Stand (marks_among es) marks → (items : Items) × Fit es items × (plain items ≡ to_end marks)
+pub items_for : (es : List Element) (marks : List Mark) → StandAsMarks (marks_among es) marks → (items : Items) × Fit es items × (plain items ≡ to_end marks)
 items_for [] [] h = (item.mark None ∷ [], refl, refl)
 items_for [] (m ∷ marks) h = absurd h
 items_for (mark s ∷ es) [] h = absurd h
 items_for (mark s ∷ es) (m ∷ marks) h = let more = items_for es marks h.1 in (item.mark (Some m) ∷ more.0, (m, more.0, refl, h.0, more.1), ap (λ l. Some m ∷ l) more.2)
 items_for (level_end ∷ es) marks h = let more = items_for es marks h in (closing ∷ more.0, (more.0, refl, more.1), more.2)
 
-pub marks_of : (es : List Element) (items : Items) → Fit es items → (marks : List Mark) × Stand (marks_among es) marks × (plain items ≡ to_end marks)
+pub marks_of : (es : List Element) (items : Items) → Fit es items → (marks : List Mark) × StandAsMarks (marks_among es) marks × (plain items ≡ to_end marks)
 marks_of [] items h = ([], tt, ap plain h)
 marks_of (mark s ∷ es) items h = let more = marks_of es h.1 h.4 in (h.0 ∷ more.0, (h.3, more.1), ap plain h.2 ∙ ap (λ l. Some h.0 ∷ l) more.2)
 marks_of (level_end ∷ es) items h = let more = marks_of es h.0 h.2 in (more.0, more.1, ap plain h.1 ∙ more.2)
 
-pub spelled_elements : (tree : Program) (marks : List Mark) → Spells tree marks → Stand (marks_among (elements tree)) marks
-spelled_elements tree marks h = subst (λ l. Stand l marks) (sym (elements_marks tree)) h
+pub spelled_elements : (tree : Program) (marks : List Mark) → Spells tree marks → StandAsMarks (marks_among (elements tree)) marks
+spelled_elements tree marks h = subst (λ l. StandAsMarks l marks) (sym (elements_marks tree)) h
 
-pub elements_spelled : (tree : Program) (marks : List Mark) → Stand (marks_among (elements tree)) marks → Spells tree marks
-elements_spelled tree marks h = subst (λ l. Stand l marks) (elements_marks tree) h
+pub elements_spelled : (tree : Program) (marks : List Mark) → StandAsMarks (marks_among (elements tree)) marks → Spells tree marks
+elements_spelled tree marks h = subst (λ l. StandAsMarks l marks) (elements_marks tree) h
 
 -- a program whose elements fit is read
 pub program_read : (tree : Program) (items : Items) → Fit (elements tree) items → Read start items (tree, (None, tt))
@@ -135,7 +135,7 @@ opens_same is.Close = refl
 opens_same is.OpenBracket = refl
 opens_same is.CloseBracket = refl
 
-pub opens_of : (s : Spelled) (m : Mark) → Stands s m → opens s.symbol ≡ g.opens (kind_of m.symbol)
+pub opens_of : (s : Spelled) (m : Mark) → StandsAsMark s m → opens s.symbol ≡ g.opens (kind_of m.symbol)
 opens_of s m h = ap opens (sym h.0) ∙ opens_same m.symbol
 
 pub opens_in : (m : Mark) → opens m.symbol ≡ g.opens (kind_of m.symbol)
@@ -145,7 +145,7 @@ one_more : (k : ℕ) (b c : Bool) → b ≡ c → (if b then suc k else k) ≡ k
 one_more k true c e = rw (sym e) (omega arith)
 one_more k false c e = rw (sym e) (omega arith)
 
-pub counted : (k : ℕ) (s : Spelled) (m : Mark) → Stands s m → with_symbol k s.symbol ≡ k + opened edison (kind_at (Some m))
+pub counted : (k : ℕ) (s : Spelled) (m : Mark) → StandsAsMark s m → with_symbol k s.symbol ≡ k + opened edison (kind_at (Some m))
 counted k s m h = one_more k (opens s.symbol) (g.opens (kind_of m.symbol)) (opens_of s m h)
 
 less_one : (k : ℕ) → one_less k ≡ k - 1
@@ -167,19 +167,19 @@ line_for (Some line) = line
 mark_for : Spelled → Mark
 mark_for s = record { symbol = s.symbol; line = line_for s.line }
 
-mark_stands : (s : Spelled) → Stands s (mark_for s)
+mark_stands : (s : Spelled) → StandsAsMark s (mark_for s)
 unfolding mark_for line_for
 mark_stands s = (refl, on s.line) where
   on : (line : Option ℕ) → IsOn line (line_for line)
   on None = tt
   on (Some line) = refl
 
-marks_for : (es : List Element) → (marks : List Mark) × Stand (marks_among es) marks
+marks_for : (es : List Element) → (marks : List Mark) × StandAsMarks (marks_among es) marks
 marks_for [] = ([], tt)
 marks_for (mark s ∷ es) = let more = marks_for es in (mark_for s ∷ more.0, (mark_stands s, more.1))
 marks_for (level_end ∷ es) = marks_for es
 
-pub cut_at : (before : List Element) (s : Spelled) (after : List Element) (front : List Mark) (m : Mark) → Stand (marks_among before) front → Stands s m → Cut before s after front m
+pub cut_at : (before : List Element) (s : Spelled) (after : List Element) (front : List Mark) (m : Mark) → StandAsMarks (marks_among before) front → StandsAsMark s m → Cut before s after front m
 cut_at [] s after [] m h st =
     let marks = marks_for after in
     let rest = items_for after marks.0 marks.1 in
@@ -207,10 +207,10 @@ pub record Parted (before : List Element) (s : Spelled) (marks : List Mark) : Ty
   pub m : Mark
   pub behind : List Mark
   pub cut : marks ≡ front ++ m ∷ behind
-  pub stand : Stand (marks_among before) front
-  pub stands : Stands s m
+  pub stand : StandAsMarks (marks_among before) front
+  pub stands : StandsAsMark s m
 
-pub parted : (before : List Element) (s : Spelled) (after : List Element) (marks : List Mark) → Stand (marks_among (before ++ mark s ∷ after)) marks → Parted before s marks
+pub parted : (before : List Element) (s : Spelled) (after : List Element) (marks : List Mark) → StandAsMarks (marks_among (before ++ mark s ∷ after)) marks → Parted before s marks
 parted [] s after [] h = absurd h
 parted [] s after (m ∷ marks) h = record { front = []; m = m; behind = marks; cut = refl; stand = tt; stands = h.0 }
 parted (mark c ∷ before) s after [] h = absurd h

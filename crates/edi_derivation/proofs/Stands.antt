@@ -7,7 +7,7 @@ use Rattle.edi_tree.specs.declared.names.Name.{Name}
 use Rattle.edi_tree.specs.declared.names.Char.{Char}
 use Rattle.edi_tree.specs.declared.names.Chars.{Chars}
 use Rattle.edi_tree.specs.Spelled.{Spelled, on, just, name_mark, chars_mark, char_mark}
-use Rattle.edi_tree.specs.Spells.{Stands}
+use Rattle.edi_tree.specs.Spells.{StandsAsMark}
 use Rattle.edi_tree.specs.Levels.{Element, mark}
 use Rattle.edi_grammar.specs.Grammar as item
 use Rattle.edi_grammar.specs.Grammar.{Part, token, part, closing, plain, rule_no}
@@ -78,7 +78,7 @@ some_same x y e = cc
 
 -- a mark stands here, as is said
 abbrev pub StandsAt : Spelled → Option Mark → Type 0
-StandsAt s o = (m : Mark) × (o ≡ Some m) × Stands s m
+StandsAt s o = (m : Mark) × (o ≡ Some m) × StandsAsMark s m
 
 none_is_end : (a : ℕ) (s : Spelled) → kind_at None ≡ suc a → StandsAt s None
 none_is_end a s e = absurd (by a e) where
@@ -129,13 +129,13 @@ chars_on text line = record { text = text; line = line }
 abbrev char_on : ℕ → ℕ → Char
 char_on character line = record { character = character; line = line }
 
-pub name_is : (n : Name) (m : Mark) → Stands (name_mark n) m → n ≡ name_in (Some m)
+pub name_is : (n : Name) (m : Mark) → StandsAsMark (name_mark n) m → n ≡ name_in (Some m)
 name_is n m s = sym (ap (λ text. named_on text m.line) (ap text_of s.0) ∙ ap (λ line. named_on n.text line) s.1)
 
-pub chars_is : (c : Chars) (m : Mark) → Stands (chars_mark c) m → c ≡ chars_in (Some m)
+pub chars_is : (c : Chars) (m : Mark) → StandsAsMark (chars_mark c) m → c ≡ chars_in (Some m)
 chars_is c m s = sym (ap (λ text. chars_on text m.line) (ap text_of s.0) ∙ ap (λ line. chars_on c.text line) s.1)
 
-pub char_is : (c : Char) (m : Mark) → Stands (char_mark c) m → c ≡ char_in (Some m)
+pub char_is : (c : Char) (m : Mark) → StandsAsMark (char_mark c) m → c ≡ char_in (Some m)
 char_is c m s = sym (ap (λ text. char_on text m.line) (ap (λ s. first_of (text_of s)) s.0) ∙ ap (λ line. char_on c.character line) s.1)
 
 pub put : (s : Spelled) (es : List Element) {o : Option Mark} {items mid : Items} → items ≡ item.mark o ∷ mid → StandsAt s o → Fit es mid → Fit (mark s ∷ es) items

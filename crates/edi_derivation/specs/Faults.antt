@@ -1,8 +1,8 @@
--- The first fault of marks, in the words of syntax trees alone.
+-- Definition. The first fault of marks, in the words of syntax trees alone.
 use Rattle.std.specs.Prelude.{◌≡◌, ℕ, ◌<◌, ◌≤◌, true, List, [], ◌∷◌, ◌++◌, Option, Some}
 use Rattle.edi_lex.specs.declared.symbol.Mark.{Mark}
 use Rattle.edi_tree.specs.Tree.{Program}
-use Rattle.edi_tree.specs.Spells.{Spells, to_end, Begins}
+use Rattle.edi_tree.specs.Spells.{Spells, to_end, ProgramBegins}
 use Rattle.edi_tree.specs.Levels.{Level, opens}
 use Rattle.edi_tree.specs.Depth.{depth}
 
@@ -21,14 +21,14 @@ AreShallow marks = (front behind : List Mark) (m : Mark) (level : ℕ) → marks
 -- The marks before the place begin a program, none of them is too deep, and with what stands at the place they begin none.
 pub record IsMisplaced (marks before : List Mark) (here : Option Mark) : Type 0 where
   pub place : IsPlace marks before here
-  pub begins : Begins (somes before)
+  pub begins : ProgramBegins (somes before)
   pub shallow : AreShallow before
-  pub fails : Begins (somes before ++ here ∷ []) → ⊥
+  pub fails : ProgramBegins (somes before ++ here ∷ []) → ⊥
 
 -- The marks with the one at the place begin a program, and it opens more than 64 levels in each, which none before it does.
 pub record IsTooDeepAt (marks before : List Mark) (m : Mark) : Type 0 where
   pub place : IsPlace marks before (Some m)
-  pub begins : Begins (somes before ++ Some m ∷ [])
+  pub begins : ProgramBegins (somes before ++ Some m ∷ [])
   pub shallow : AreShallow before
   pub opens_level : opens m.symbol ≡ true
   pub deep : (level : ℕ) → Level before m level → 64 < level

@@ -1,4 +1,4 @@
--- The parts of the factored grammar, each with the type of its trees and with the elements that a tree of it has. Where a
+-- Words of contracts. The parts of the factored grammar, each with the type of its trees and with the elements that a tree of it has. Where a
 -- part is a production, these are the tree and the elements of the production.
 use Rattle.std.specs.Prelude.{ℕ, ℤ, List, ◌∷◌, Option, Some, None}
 use Rattle.edi_lex.specs.declared.symbol.Symbol.TheVariants as is

@@ -1,10 +1,10 @@
--- The numbers of the held blocks after a use.
+-- The numbers of the cached blocks after a use.
 use Rattle.std.proofs.Common.{◌≡◌, ℕ, ◌<◌, ◌≤◌, inl, inr, true, false, not, List, [], ◌∷◌, ◌++◌, length, refl, sym, ◌∙◌, ap, arith, eq-eqb}
 use Rattle.std.specs.Prelude.{Some, None, nat_eq, drop, filter}
 use Rattle.std.proofs.lemmas.Bool.{ne_eqb, cases_eq, cases_lt, lt-ltb, le-ltb, or_parts, or_from}
 use Rattle.std.proofs.lemmas.List.{length-map}
-use Rattle.edi_disk.specs.declared.cache.Place.{Place}
-use Rattle.edi_disk.specs.Use.{place_of, without_block, with_room, is_listed, AreDifferent, after_use}
+use Rattle.edi_disk.specs.declared.cache.Slot.{Slot}
+use Rattle.edi_disk.specs.Use.{slot_of, without_block, with_room, is_listed, AreDifferent, after_use}
 use Rattle.edi_disk.specs.Shown.{numbers_of}
 use Rattle.edi_disk.proofs.Lookup.{absent_listed}
 
@@ -12,7 +12,7 @@ use Rattle.edi_disk.proofs.Lookup.{absent_listed}
 abbrev pub others : ℕ → List ℕ → List ℕ
 others n ns = filter (λ other. not (nat_eq n other)) ns
 
-pub numbers_after : (n : ℕ) (ps : List Place) (p : Place) → p.number ≡ n → numbers_of (without_block n ps ++ p ∷ []) ≡ others n (numbers_of ps) ++ n ∷ []
+pub numbers_after : (n : ℕ) (ps : List Slot) (p : Slot) → p.number ≡ n → numbers_of (without_block n ps ++ p ∷ []) ≡ others n (numbers_of ps) ++ n ∷ []
 numbers_after n [] p e = ap (λ m. m ∷ []) e
 numbers_after n (q ∷ ps) p e =
     elim (cases_eq n q.number) [
@@ -27,12 +27,12 @@ others_fewer n (m ∷ ns) =
     elim (cases_eq n m) [ inl same ↦ rw (eq-eqb n m same) (omega arith) | inr ne ↦ rw (ne_eqb n m ne) (omega arith) ]
 
 -- a number that is there is one of them
-pub others_held : (n : ℕ) (ps : List Place) (p : Place) → place_of n ps ≡ Some p → length (others n (numbers_of ps)) < length ps
-others_held n [] p e = let h : None ≡ Some p = e in absurd (cc)
-others_held n (q ∷ ps) p e =
+pub others_cached : (n : ℕ) (ps : List Slot) (p : Slot) → slot_of n ps ≡ Some p → length (others n (numbers_of ps)) < length ps
+others_cached n [] p e = let h : None ≡ Some p = e in absurd (cc)
+others_cached n (q ∷ ps) p e =
     elim (cases_eq n q.number) [
-      | inl same ↦ let few = others_fewer n (numbers_of ps) in rw (eq-eqb n q.number same) (omega (arith, length-map ps (λ (p : Place). p.number)))
-      | inr ne ↦ let few = others_held n ps p (rw (ne_eqb n q.number ne) at e) in rw (ne_eqb n q.number ne) (omega arith)
+      | inl same ↦ let few = others_fewer n (numbers_of ps) in rw (eq-eqb n q.number same) (omega (arith, length-map ps (λ (p : Slot). p.number)))
+      | inr ne ↦ let few = others_cached n ps p (rw (ne_eqb n q.number ne) at e) in rw (ne_eqb n q.number ne) (omega arith)
     ]
 
 pub others_absent : (n : ℕ) (ns : List ℕ) → is_listed n ns ≡ false → others n ns ≡ ns
@@ -43,29 +43,29 @@ others_absent n (m ∷ ns) e =
       | inr ne ↦ rw (ne_eqb n m ne) (ap (λ ms. m ∷ ms) (others_absent n ns (rw (ne_eqb n m ne) at e)))
     ]
 
-pub numbers_room : (ps : List Place) → numbers_of (with_room ps) ≡ with_room (numbers_of ps)
+pub numbers_room : (ps : List Slot) → numbers_of (with_room ps) ≡ with_room (numbers_of ps)
 numbers_room ps =
     elim (cases_lt (length ps) 16) [
-      | inl lt ↦ rw (lt-ltb (length ps) 16 lt, lt-ltb (length (numbers_of ps)) 16 (omega (arith, length-map ps (λ (p : Place). p.number)))) refl
-      | inr le ↦ rw (le-ltb (length ps) 16 le, le-ltb (length (numbers_of ps)) 16 (omega (arith, length-map ps (λ (p : Place). p.number)))) (rest ps)
+      | inl lt ↦ rw (lt-ltb (length ps) 16 lt, lt-ltb (length (numbers_of ps)) 16 (omega (arith, length-map ps (λ (p : Slot). p.number)))) refl
+      | inr le ↦ rw (le-ltb (length ps) 16 le, le-ltb (length (numbers_of ps)) 16 (omega (arith, length-map ps (λ (p : Slot). p.number)))) (rest ps)
     ]
   where
-    rest : (ps : List Place) → numbers_of (drop 1 ps) ≡ drop 1 (numbers_of ps)
+    rest : (ps : List Slot) → numbers_of (drop 1 ps) ≡ drop 1 (numbers_of ps)
     rest [] = refl
     rest (q ∷ ps) = refl
 
--- a use of a block that is held
-pub order_held : (n : ℕ) (ps : List Place) (p q : Place) → length ps ≤ 16 → place_of n ps ≡ Some p → q.number ≡ n → numbers_of (without_block n ps ++ q ∷ []) ≡ after_use n (numbers_of ps)
-order_held n ps p q few e is =
-    let fewer = others_held n ps p e in
+-- a use of a block that is cached
+pub order_cached : (n : ℕ) (ps : List Slot) (p q : Slot) → length ps ≤ 16 → slot_of n ps ≡ Some p → q.number ≡ n → numbers_of (without_block n ps ++ q ∷ []) ≡ after_use n (numbers_of ps)
+order_cached n ps p q few e is =
+    let fewer = others_cached n ps p e in
     numbers_after n ps q is ∙ rw (lt-ltb (length (others n (numbers_of ps))) 16 (omega arith)) refl
 
 -- a use of a block that is taken in
-pub order_absent : (n : ℕ) (ps : List Place) (q : Place) → place_of n ps ≡ None → q.number ≡ n → numbers_of (with_room ps ++ q ∷ []) ≡ after_use n (numbers_of ps)
+pub order_absent : (n : ℕ) (ps : List Slot) (q : Slot) → slot_of n ps ≡ None → q.number ≡ n → numbers_of (with_room ps ++ q ∷ []) ≡ after_use n (numbers_of ps)
 order_absent n ps q none is =
     rw (others_absent n (numbers_of ps) (absent_listed n ps none), ← numbers_room ps) (pushed (with_room ps) q n is)
   where
-    pushed : (ps : List Place) (q : Place) (n : ℕ) → q.number ≡ n → numbers_of (ps ++ q ∷ []) ≡ numbers_of ps ++ n ∷ []
+    pushed : (ps : List Slot) (q : Slot) (n : ℕ) → q.number ≡ n → numbers_of (ps ++ q ∷ []) ≡ numbers_of ps ++ n ∷ []
     pushed [] q n is = ap (λ m. m ∷ []) is
     pushed (p ∷ ps) q n is = ap (λ ns. p.number ∷ ns) (pushed ps q n is)
 

@@ -1,4 +1,4 @@
--- The places in the order of their use.
+-- The slots in the order of their use.
 use Rattle.std.proofs.Common.{◌≡◌, ◌⊎◌, ℕ, ◌+◌, ◌≤◌, inl, inr, true, false, cond, not, List, [], ◌∷◌, ◌++◌, length, map, refl, ◌∙◌, ap, arith, eqb, eq-eqb}
 use Rattle.std.specs.Prelude.{Some, None, IsSome, IfSome, slice_get, nat_eq, drop, filter}
 use Rattle.std.specs.List.{IsDistinct, AllByRecursion}
@@ -6,7 +6,7 @@ use Rattle.std.proofs.lemmas.Bool.{ne_eqb, cases_eq, cases_lt, lt-ltb, le-ltb, c
 use Rattle.std.proofs.lemmas.List.{length-map}
 use Rattle.edi_ring.specs.Lists.{list_at, has, home_of, appended, without, IsSound}
 use Rattle.edi_disk.specs.Use.{with_room}
-use Rattle.edi_disk.specs.Places.{IsPacked, Vacates}
+use Rattle.edi_disk.specs.Slots.{IsPacked, Vacates}
 
 -- the one list
 home_is : (order : List (List ℕ)) (node : ℕ) → length order ≡ 1 → home_of order node ≡ cond (has (list_at order 0) node) (Some 0) None
@@ -112,7 +112,7 @@ length_push : (xs : List ℕ) (x : ℕ) → length (xs ++ x ∷ []) ≡ length x
 length_push [] x = refl
 length_push (y ∷ xs) x = let rest = length_push xs x in omega arith
 
--- a place that is moved to the back: the places in use are those that were, below their number
+-- a slot that is moved to the back: the slots in use are those that were, below their number
 pub packed_moved : (order new : List (List ℕ)) (node : ℕ) → IsPacked order → IsSound 16 1 new → has (list_at order 0) node ≡ true
     → list_at new 0 ≡ minus node (list_at order 0) ++ node ∷ [] → IsPacked new
 packed_moved order new node packed sound h is = record {
@@ -130,7 +130,7 @@ packed_moved order new node packed sound h is = record {
 pub has_moved : (xs : List ℕ) (q node : ℕ) → has xs node ≡ true → has (minus node xs ++ node ∷ []) q ≡ true → has xs q ≡ true
 has_moved xs q node h there = elim (has_push q node (minus node xs) there) [ inl i ↦ has_minus q node xs i | inr e ↦ rw e h ]
 
--- the first of the places in use
+-- the first of the slots in use
 pub first_in : (xs : List ℕ) (first : ℕ) → slice_get xs 0 ≡ Some first → has xs first ≡ true
 first_in [] first e = let h : None ≡ Some first = e in absurd (cc)
 first_in (x ∷ xs) first e = let h : Some x ≡ Some first = e in let same : first ≡ x = cc in rw (eq-eqb first x same) refl

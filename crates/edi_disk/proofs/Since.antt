@@ -6,7 +6,7 @@ use Rattle.std.proofs.lemmas.Bool.{ne_eqb, cases_eq, cases_lt, and_parts, false�
 use Rattle.std.proofs.lemmas.Slice.Eq.{bytes_eq-Decides}
 use Rattle.std.proofs.lemmas.Option.{slice_get_cases, slice_get_within, slice_get_past}
 use Rattle.edi_disk.specs.declared.disk.Disk.{Disk}
-use Rattle.edi_disk.specs.declared.cache.Place.{Place}
+use Rattle.edi_disk.specs.declared.cache.Slot.{Slot}
 use Rattle.edi_disk.specs.Shown.{shown, shown_by, drive_of}
 use Rattle.edi_disk.specs.Since.{Between, KeptBy, Kept, nothing, only}
 use Rattle.edi_disk.proofs.Gets.{get-set_same, get-set_other, same_gets}
@@ -30,7 +30,7 @@ between_set base was_put blocks n bytes h lt may = record {
       ];
 }
 
--- no place is past the other list's end
+-- no slot is past the other list's end
 as_far : (base : List (List ℕ)) (was_put : ℕ → List ℕ → Bool) (blocks : List (List ℕ)) (n : ℕ) → Between base was_put blocks → slice_get blocks n ≡ None → slice_get base n ≡ None
 as_far base was_put blocks n h none =
     elim (cases_lt n (length blocks)) [
@@ -88,13 +88,13 @@ between_only base blocks n bytes h = at (slice_get blocks n) refl
         ]
 
 -- where the drive has what is shown, nothing was put since these blocks
-pub kept_by_settled : {D : Type 0} (held : D → Option (List (List ℕ))) (base : List (List ℕ)) (was_put : ℕ → List ℕ → Bool) (drive : D) (places : List Place)
-    → held drive ≡ Some base → shown_by held drive places ≡ Some base → KeptBy held base was_put drive places
-kept_by_settled held base was_put drive places on_drive on_disk = record {
+pub kept_by_settled : {D : Type 0} (contents : D → Option (List (List ℕ))) (base : List (List ℕ)) (was_put : ℕ → List ℕ → Bool) (drive : D) (slots : List Slot)
+    → contents drive ≡ Some base → shown_by contents drive slots ≡ Some base → KeptBy contents base was_put drive slots
+kept_by_settled contents base was_put drive slots on_drive on_disk = record {
   on_drive = λ blocks e. let same : blocks ≡ base = cc in rw same (between_itself base was_put);
   on_disk = λ blocks e. let same : blocks ≡ base = cc in rw same (between_itself base was_put);
 }
 
-pub kept_settled : {D : Type 0} (held : D → Option (List (List ℕ))) (base : List (List ℕ)) (was_put : ℕ → List ℕ → Bool) (disk : Disk D)
-    → held (drive_of disk) ≡ Some base → shown held disk ≡ Some base → Kept held base was_put disk
-kept_settled held base was_put disk on_drive on_disk = kept_by_settled held base was_put (drive_of disk) disk.cache on_drive on_disk
+pub kept_settled : {D : Type 0} (contents : D → Option (List (List ℕ))) (base : List (List ℕ)) (was_put : ℕ → List ℕ → Bool) (disk : Disk D)
+    → contents (drive_of disk) ≡ Some base → shown contents disk ≡ Some base → Kept contents base was_put disk
+kept_settled contents base was_put disk on_drive on_disk = kept_by_settled contents base was_put (drive_of disk) disk.cache on_drive on_disk

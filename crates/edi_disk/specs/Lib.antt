@@ -1,4 +1,4 @@
-pub mod Places
+pub mod Slots
 pub mod Shown
 pub mod Since
 pub mod Use

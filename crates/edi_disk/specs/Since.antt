@@ -1,11 +1,11 @@
--- What a drive may have between two flushes.
+-- Words of contracts. What a drive may have between two flushes.
 use Rattle.std.specs.Prelude.{◌≡◌, ◌⊎◌, ℕ, ◌≤◌, Bool, true, false, Option, Some, List, length, nat_eq, ◌&&◌, slice_get, slice_set, ⊤}
 use Rattle.std.specs.Option.{ForSome}
 use Rattle.std.specs.Str.{bytes_eq}
 use Rattle.edi_told.specs.Told.{WhereTold}
-use Rattle.edi_disk.specs.Use.{place_of}
+use Rattle.edi_disk.specs.Use.{slot_of}
 use Rattle.edi_disk.specs.Shown.{over, IsBacked, shown_by, drive_of}
-use Rattle.edi_disk.specs.declared.cache.Place.{Place}
+use Rattle.edi_disk.specs.declared.cache.Slot.{Slot}
 use Rattle.edi_disk.specs.declared.disk.Disk.{Disk}
 use Rattle.edi_disk.specs.declared.disk.DiskEnd.{DiskEnd}
 use Rattle.edi_disk.specs.declared.disk.DiskEnd.TheVariants as disk
@@ -25,13 +25,13 @@ abbrev pub only : ℕ → List ℕ → ℕ → List ℕ → Bool
 only number bytes n block = nat_eq number n && bytes_eq bytes block
 
 -- so is each block that the drive has, and each that is shown
-pub record KeptBy {D : Type 0} (held : D → Option (List (List ℕ))) (base : List (List ℕ)) (was_put : ℕ → List ℕ → Bool) (drive : D) (places : List Place) : Type 0 where
-  pub on_drive : ForSome (held drive) (Between base was_put)
-  pub on_disk : ForSome (shown_by held drive places) (Between base was_put)
+pub record KeptBy {D : Type 0} (contents : D → Option (List (List ℕ))) (base : List (List ℕ)) (was_put : ℕ → List ℕ → Bool) (drive : D) (slots : List Slot) : Type 0 where
+  pub on_drive : ForSome (contents drive) (Between base was_put)
+  pub on_disk : ForSome (shown_by contents drive slots) (Between base was_put)
 
 -- the same of a disk
 abbrev pub Kept : {D : Type 0} → (D → Option (List (List ℕ))) → List (List ℕ) → (ℕ → List ℕ → Bool) → Disk D → Type 0
-Kept held base was_put disk = KeptBy held base was_put (drive_of disk) disk.cache
+Kept contents base was_put disk = KeptBy contents base was_put (drive_of disk) disk.cache
 
 -- every block but this one, if there is one, is as it was
 abbrev pub ChangesOnly : Option ℕ → List (List ℕ) → List (List ℕ) → Type 0
@@ -47,14 +47,14 @@ abbrev pub PutLeaves : DiskEnd → ℕ → List ℕ → List (List ℕ) → List
 PutLeaves disk.Ok n from old new = new ≡ slice_set old n from
 PutLeaves disk.Fault n from old new = ⊤
 
--- the drive has all these blocks as they are held
-abbrev pub AllOn : {D : Type 0} → (D → Option (List (List ℕ))) → D → List Place → Type 0
-AllOn held drive places = ForSome (held drive) (λ blocks. (n : ℕ) (place : Place) → place_of n places ≡ Some place → slice_get blocks n ≡ Some place.bytes)
+-- the drive has all these blocks as they are cached
+abbrev pub AllOn : {D : Type 0} → (D → Option (List (List ℕ))) → D → List Slot → Type 0
+AllOn contents drive slots = ForSome (contents drive) (λ blocks. (n : ℕ) (slot : Slot) → slot_of n slots ≡ Some slot → slice_get blocks n ≡ Some slot.bytes)
 
--- from before to after, nothing happens to the drive but that held blocks are written to it, with and without effect
-pub record Writes {D : Type 0} (held : D → Option (List (List ℕ))) (count faults : D → ℕ) (places : List Place) (before after : D) : Type 0 where
-  pub backed : IsBacked held count after places
-  pub shows : WhereTold (held before) (held after) (λ old new. over new places ≡ over old places)
-  pub since : (base : List (List ℕ)) (was_put : ℕ → List ℕ → Bool) → KeptBy held base was_put before places → KeptBy held base was_put after places
+-- from before to after, nothing happens to the drive but that cached blocks are written to it, with and without effect
+pub record Writes {D : Type 0} (contents : D → Option (List (List ℕ))) (count faults : D → ℕ) (slots : List Slot) (before after : D) : Type 0 where
+  pub backed : IsBacked contents count after slots
+  pub shows : WhereTold (contents before) (contents after) (λ old new. over new slots ≡ over old slots)
+  pub since : (base : List (List ℕ)) (was_put : ℕ → List ℕ → Bool) → KeptBy contents base was_put before slots → KeptBy contents base was_put after slots
   pub count_stays : count after ≡ count before
   pub later : faults before ≤ faults after

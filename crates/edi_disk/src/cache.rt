@@ -1,21 +1,21 @@
-//! The blocks that are held, in the order of their use.
+//! The blocks that are cached, in the order of their use.
 
 ghost use Rattle.std.specs.Prelude.{◌≡◌, ℕ, ◌+◌, ◌<◌, ◌≤◌, ◌++◌, [], ◌∷◌, true, false, length, slice_get, map, Some, None, IfSome, IfNone, IsSome};
 ghost use Rattle.std.specs.Option.{option_copied};
 ghost use Rattle.edi_ring.specs.Lists.{home_of};
-ghost use Rattle.edi_disk.specs.declared.cache.Place.{Place};
-ghost use Rattle.edi_disk.specs.Use.{place_of, without_block, with_room, held_place, settled_place};
-ghost use Rattle.edi_disk.specs.Places.{place_at, IsPacked, Vacates};
+ghost use Rattle.edi_disk.specs.declared.cache.Slot.{Slot};
+ghost use Rattle.edi_disk.specs.Use.{slot_of, without_block, with_room, cached_slot, settled_slot};
+ghost use Rattle.edi_disk.specs.Slots.{slot_at, IsPacked, Vacates};
 
 use edi_ring::Lists;
 use std::marker::Model;
 
-/// How many blocks are held at most.
+/// How many blocks are cached at most.
 pub const PLACES: usize = 16;
 
-/// A block that is held.
+/// A block that is cached.
 #[derive(Clone, Copy, Debug)]
-pub struct Place {
+pub struct Slot {
     /// Its number on the drive.
     pub number: u32,
     /// Whether it was put and is not written to the drive yet.
@@ -24,7 +24,7 @@ pub struct Place {
     pub bytes: [u8; 512],
 }
 
-const BLANK: Place = Place {
+const BLANK: Slot = Slot {
     number: 0,
     unwritten: false,
     bytes: [0; 512],
@@ -33,38 +33,38 @@ const BLANK: Place = Place {
 /// Up to 16 blocks of different numbers. Contracts see the list of them, the one used longest ago first.
 #[derive(Drop)]
 pub struct Cache {
-    places: [Place; 16],
+    slots: [Slot; 16],
     order: Lists<16, 1>,
 }
 
 impl Model for Cache {
     ghost use Rattle.std.specs.Prelude.{List};
-    ghost use Rattle.edi_disk.specs.declared.cache.Place.{Place};
-    ghost use Rattle.edi_disk.specs.Places.{places_in, IsKept};
+    ghost use Rattle.edi_disk.specs.declared.cache.Slot.{Slot};
+    ghost use Rattle.edi_disk.specs.Slots.{slots_in, OrderIsKept};
 
-    ghost Value = { List Place };
+    ghost Value = { List Slot };
 
-    ghost view = { λ c. places_in c.places c.order };
+    ghost view = { λ c. slots_in c.slots c.order };
 
-    ghost invariant = { λ c. IsKept c.places c.order };
+    ghost invariant = { λ c. OrderIsKept c.slots c.order };
 }
 
-// The place in use that has block n.
-fn find(places: &[Place; 16], order: &Lists<16, 1>, n: u32) -> Option<usize>
-    ensures within { IfSome result (λ place. place < 16) }
-    ensures in_use { IfSome result (λ place. IsSome (home_of order.now place)) }
-    ensures number { IfSome result (λ place. (place_at places.now place).number ≡ n) }
-    ensures none { IfNone result ((place : ℕ) → place < 16 → IsSome (home_of order.now place) → (place_at places.now place).number ≡ n → ⊥) }
+// The slot in use that has block n.
+fn find(slots: &[Slot; 16], order: &Lists<16, 1>, n: u32) -> Option<usize>
+    ensures within { IfSome result (λ slot. slot < 16) }
+    ensures in_use { IfSome result (λ slot. IsSome (home_of order.now slot)) }
+    ensures number { IfSome result (λ slot. (slot_at slots.now slot).number ≡ n) }
+    ensures none { IfNone result ((slot : ℕ) → slot < 16 → IsSome (home_of order.now slot) → (slot_at slots.now slot).number ≡ n → ⊥) }
 {
-    for place in 0..PLACES {
-        if order.home(place).is_some() && places[place].number == n {
-            return Some(place);
+    for slot in 0..PLACES {
+        if order.home(slot).is_some() && slots[slot].number == n {
+            return Some(slot);
         }
     }
     None
 }
 
-// Makes a place the last in use: a free one, or where there is none the one used longest ago.
+// Makes a slot the last in use: a free one, or where there is none the one used longest ago.
 fn vacate(order: &mut Lists<16, 1>) -> usize
     requires { IsPacked order.old }
     ensures { Vacates order.old order.new result }
@@ -79,29 +79,29 @@ fn vacate(order: &mut Lists<16, 1>) -> usize
     first
 }
 
-fn settle(places: &mut [Place; 16])
-    ensures { places.new ≡ map settled_place places.old }
+fn settle(slots: &mut [Slot; 16])
+    ensures { slots.new ≡ map settled_slot slots.old }
 {
-    for place in places.iter_mut() {
-        *place = Place {
+    for slot in slots.iter_mut() {
+        *slot = Slot {
             unwritten: false,
-            ..*place
+            ..*slot
         };
     }
 }
 
 impl Cache {
-    /// No block is held.
+    /// No block is cached.
     pub fn new() -> Cache
         ensures { result ≡ [] }
     {
         Cache {
-            places: [BLANK; 16],
+            slots: [BLANK; 16],
             order: Lists::new(),
         }
     }
 
-    /// How many blocks are held.
+    /// How many blocks are cached.
     pub fn len(&self) -> usize
         ensures exact { result ≡ length self.now }
         ensures bound { result ≤ 16 }
@@ -109,65 +109,65 @@ impl Cache {
         self.order.len(0)
     }
 
-    /// The i-th held block, the one used longest ago first; `None` exactly where fewer are held.
-    pub fn get(&self, i: usize) -> Option<&Place>
+    /// The i-th cached block, the one used longest ago first; `None` exactly where fewer are cached.
+    pub fn get(&self, i: usize) -> Option<&Slot>
         ensures { option_copied result ≡ slice_get self.now i }
     {
-        let place = self.order.nth(0, i)?;
-        Some(&self.places[place])
+        let slot = self.order.nth(0, i)?;
+        Some(&self.slots[slot])
     }
 
-    /// Gives block `n` where it is held, which is then the one used last. The answer says whether it is held.
+    /// Gives block `n` where it is cached, which is then the one used last. The answer says whether it is cached.
     pub fn recall(&mut self, n: u32, into: &mut [u8; 512]) -> bool
-        ensures found { result ≡ true → (place : Place) × (place_of n self.old ≡ Some place) × (into.new ≡ place.bytes) × (self.new ≡ without_block n self.old ++ place ∷ []) }
-        ensures absent { result ≡ false → (place_of n self.old ≡ None) × (self.new ≡ self.old) }
+        ensures found { result ≡ true → (slot : Slot) × (slot_of n self.old ≡ Some slot) × (into.new ≡ slot.bytes) × (self.new ≡ without_block n self.old ++ slot ∷ []) }
+        ensures absent { result ≡ false → (slot_of n self.old ≡ None) × (self.new ≡ self.old) }
         ensures bound { length self.old ≤ 16 }
     {
-        let Some(place) = find(&self.places, &self.order, n) else {
+        let Some(slot) = find(&self.slots, &self.order, n) else {
             return false;
         };
-        *into = self.places[place].bytes;
-        self.order.to_back(place);
+        *into = self.slots[slot].bytes;
+        self.order.to_back(slot);
         true
     }
 
-    /// Puts other bytes into block `n` where it is held, which is then the one used last. The answer says
-    /// whether it is held.
+    /// Puts other bytes into block `n` where it is cached, which is then the one used last. The answer says
+    /// whether it is cached.
     pub fn replace(&mut self, n: u32, from: &[u8; 512]) -> bool
-        ensures found { result ≡ true → (place : Place) × (place_of n self.old ≡ Some place) × (self.new ≡ without_block n self.old ++ held_place n from.now true ∷ []) }
-        ensures absent { result ≡ false → (place_of n self.old ≡ None) × (self.new ≡ self.old) }
+        ensures found { result ≡ true → (slot : Slot) × (slot_of n self.old ≡ Some slot) × (self.new ≡ without_block n self.old ++ cached_slot n from.now true ∷ []) }
+        ensures absent { result ≡ false → (slot_of n self.old ≡ None) × (self.new ≡ self.old) }
         ensures bound { length self.old ≤ 16 }
     {
-        let Some(place) = find(&self.places, &self.order, n) else {
+        let Some(slot) = find(&self.slots, &self.order, n) else {
             return false;
         };
-        self.places[place] = Place {
+        self.slots[slot] = Slot {
             number: n,
             unwritten: true,
             bytes: *from,
         };
-        self.order.to_back(place);
+        self.order.to_back(slot);
         true
     }
 
-    /// Takes in block `n`, which is not held, as the one used last. Where 16 are held, the one used longest ago
+    /// Takes in block `n`, which is not cached, as the one used last. Where 16 are cached, the one used longest ago
     /// is driven out.
     pub fn hold(&mut self, n: u32, bytes: &[u8; 512], unwritten: bool)
-        requires { place_of n self.old ≡ None }
-        ensures { self.new ≡ with_room self.old ++ held_place n bytes.now unwritten ∷ [] }
+        requires { slot_of n self.old ≡ None }
+        ensures { self.new ≡ with_room self.old ++ cached_slot n bytes.now unwritten ∷ [] }
     {
-        let place = vacate(&mut self.order);
-        self.places[place] = Place {
+        let slot = vacate(&mut self.order);
+        self.slots[slot] = Slot {
             number: n,
             unwritten,
             bytes: *bytes,
         };
     }
 
-    /// All held blocks are written.
+    /// All cached blocks are written.
     pub fn settle(&mut self)
-        ensures { self.new ≡ map settled_place self.old }
+        ensures { self.new ≡ map settled_slot self.old }
     {
-        settle(&mut self.places);
+        settle(&mut self.slots);
     }
 }

@@ -26,8 +26,8 @@ pub enum Call {
 
 // The last byte of a block.
 fn last_byte<D: Drive>(disk: &mut Disk<'_, D>, n: u32) -> Option<u32>
-    requires { IsWorking D.held D.count disk.old }
-    ensures { IsSome result → IsWorking D.held D.count disk.new }
+    requires { IsWorking D.contents D.count disk.old }
+    ensures { IsSome result → IsWorking D.contents D.count disk.new }
 {
     let mut block = [NONE as u8; 512];
     if n >= disk.blocks() {
@@ -40,8 +40,8 @@ fn last_byte<D: Drive>(disk: &mut Disk<'_, D>, n: u32) -> Option<u32>
 }
 
 fn put<D: Drive>(disk: &mut Disk<'_, D>, n: u32, byte: u8) -> Option<u32>
-    requires { IsWorking D.held D.count disk.old }
-    ensures { IsSome result → IsWorking D.held D.count disk.new }
+    requires { IsWorking D.contents D.count disk.old }
+    ensures { IsSome result → IsWorking D.contents D.count disk.new }
 {
     if n >= disk.blocks() {
         return Some(NONE);
@@ -55,8 +55,8 @@ fn put<D: Drive>(disk: &mut Disk<'_, D>, n: u32, byte: u8) -> Option<u32>
 /// Makes the call. A page is answered by its last byte, a put and a flush by 0, a number by itself, no held
 /// block and a block that the drive has not by 99, and a fault by `None`.
 pub fn make<D: Drive>(disk: &mut Disk<'_, D>, call: Call) -> Option<u32>
-    requires { IsWorking D.held D.count disk.old }
-    ensures { IsSome result → IsWorking D.held D.count disk.new }
+    requires { IsWorking D.contents D.count disk.old }
+    ensures { IsSome result → IsWorking D.contents D.count disk.new }
 {
     match call {
         Call::Page(n) => last_byte(disk, n),

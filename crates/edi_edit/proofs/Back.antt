@@ -5,15 +5,15 @@ use Rattle.std.proofs.Common.{Vec, Global, get_or, set, false}
 use Rattle.std.specs.Prelude.{Some, None, slice_get, insert, remove}
 use Rattle.std.proofs.lemmas.List.{length-set}
 use Rattle.std.proofs.lemmas.List.Edits.{length-insert, length-remove}
-use Rattle.edi_edit.proofs.Single.{remove-insert, insert-remove, set-back, from_accepted, is_place-from, there-from_missing, size-remove}
+use Rattle.edi_edit.proofs.Single.{remove-insert, insert-remove, set-back, from_accepted, is_index-from, there-from_missing, size-remove}
 use Rattle.edi_edit.specs.declared.list.Step.TheVariants.{Remove, Put, Insert}
 use Rattle.circular_buffer.specs.Buffer.{keep_last, last_item}
 use Rattle.edi_edit.specs.declared.list.Step.{Step}
 use Rattle.edi_edit.specs.declared.TheConstants.{ROOM, UNDOS}
 use Rattle.edi_edit.specs.Lines.{size_of, has_feed, HaveNoFeed}
 use Rattle.edi_edit.proofs.Feeds.{no_feed-insert, no_feed-set, no_feed-remove}
-use Rattle.edi_edit.specs.Editing.{kept, changed, undone, refusal, missing, is_place}
-use Rattle.edi_edit.specs.Steps.{step_back, CanStep, back, earlier, CanGoBack, IsKept}
+use Rattle.edi_edit.specs.Editing.{kept, changed, undone, refusal, missing, is_index}
+use Rattle.edi_edit.specs.Steps.{step_back, CanStep, back, earlier, CanGoBack, StepsAreKept}
 
 back-append : (steps : List Step) (step : Step) (lines : List (List ℕ)) → back (steps ++ step ∷ []) lines ≡ back steps (step_back step lines)
 back-append [] step lines = refl
@@ -77,11 +77,11 @@ can_last (x ∷ steps) step lines can =
 
 -- what a change leaves, with the step that takes it back
 pub record Pushed (steps : List Step) (capacity : ℕ) (old new : List (List ℕ)) (step : Step) : Type 0 where
-  pub kept_is : IsKept (keep_last capacity (steps ++ step ∷ [])) capacity new
+  pub kept_is : StepsAreKept (keep_last capacity (steps ++ step ∷ [])) capacity new
   pub view : record { lines = new; earlier = earlier (keep_last capacity (steps ++ step ∷ [])) new } ≡ changed (record { lines = old; earlier = earlier steps old }) new
   pub few : length (earlier (keep_last capacity (steps ++ step ∷ [])) new) ≤ UNDOS
 
-pushed : (steps : List Step) (capacity : ℕ) (old new : List (List ℕ)) (step : Step) → IsKept steps capacity old → step_back step new ≡ old
+pushed : (steps : List Step) (capacity : ℕ) (old new : List (List ℕ)) (step : Step) → StepsAreKept steps capacity old → step_back step new ≡ old
     → CanStep step new → size_of new ≤ ROOM + 1 → HaveNoFeed new → Pushed steps capacity old new step
 pushed steps capacity old new step h leads one small whole =
     let surplus = length (steps ++ step ∷ []) - capacity in
@@ -106,30 +106,30 @@ pushed steps capacity old new step h leads one small whole =
       few = omega (arith, length-earlier (keep_last capacity (steps ++ step ∷ [])) new, length-drop surplus (steps ++ step ∷ []));
     }
 
-pub insert_pushed : (steps : List Step) (capacity : ℕ) (old : List (List ℕ)) (at : ℕ) (line : List ℕ) → has_feed line ≡ false → IsKept steps capacity old
-    → refusal (is_place at (length old + 1)) (insert old (at - 1) line) ≡ None → Pushed steps capacity old (insert old (at - 1) line) (Remove (at - 1))
+pub insert_pushed : (steps : List Step) (capacity : ℕ) (old : List (List ℕ)) (at : ℕ) (line : List ℕ) → has_feed line ≡ false → StepsAreKept steps capacity old
+    → refusal (is_index at (length old + 1)) (insert old (at - 1) line) ≡ None → Pushed steps capacity old (insert old (at - 1) line) (Remove (at - 1))
 insert_pushed steps capacity old at line one_line h free =
-    let ok = from_accepted (is_place at (length old + 1)) (insert old (at - 1) line) free in
-    let there = is_place-from at (length old + 1) ok.0 in
+    let ok = from_accepted (is_index at (length old + 1)) (insert old (at - 1) line) free in
+    let there = is_index-from at (length old + 1) ok.0 in
     pushed steps capacity old (insert old (at - 1) line) (Remove (at - 1)) h
     (remove-insert old (at - 1) line (omega arith)) (omega (arith, length-insert old (at - 1) line)) (omega arith)
     (no_feed-insert old (at - 1) line one_line h.whole)
 
-pub replace_pushed : (steps : List Step) (capacity : ℕ) (old : List (List ℕ)) (at : ℕ) (line : List ℕ) (was : Vec ℕ Global) → has_feed line ≡ false → IsKept steps capacity old
-    → refusal (is_place at (length old)) (set old (at - 1) line) ≡ None → was.items ≡ get_or old (at - 1) []
+pub replace_pushed : (steps : List Step) (capacity : ℕ) (old : List (List ℕ)) (at : ℕ) (line : List ℕ) (was : Vec ℕ Global) → has_feed line ≡ false → StepsAreKept steps capacity old
+    → refusal (is_index at (length old)) (set old (at - 1) line) ≡ None → was.items ≡ get_or old (at - 1) []
     → Pushed steps capacity old (set old (at - 1) line) (Put (at - 1) was)
 replace_pushed steps capacity old at line was one_line h free was_is =
-    let ok = from_accepted (is_place at (length old)) (set old (at - 1) line) free in
-    let there = is_place-from at (length old) ok.0 in
+    let ok = from_accepted (is_index at (length old)) (set old (at - 1) line) free in
+    let there = is_index-from at (length old) ok.0 in
     pushed steps capacity old (set old (at - 1) line) (Put (at - 1) was) h
     (rw was_is (set-back old (at - 1) line [])) (omega (arith, length-set old (at - 1) line)) (omega arith)
     (no_feed-set old (at - 1) line one_line h.whole)
 
-pub delete_pushed : (steps : List Step) (capacity : ℕ) (old : List (List ℕ)) (at : ℕ) (was : Vec ℕ Global) → IsKept steps capacity old
-    → missing (is_place at (length old)) ≡ None → was.items ≡ get_or old (at - 1) []
+pub delete_pushed : (steps : List Step) (capacity : ℕ) (old : List (List ℕ)) (at : ℕ) (was : Vec ℕ Global) → StepsAreKept steps capacity old
+    → missing (is_index at (length old)) ≡ None → was.items ≡ get_or old (at - 1) []
     → Pushed steps capacity old (remove old (at - 1)) (Insert (at - 1) was)
 delete_pushed steps capacity old at was h free was_is =
-    let there = is_place-from at (length old) (there-from_missing (is_place at (length old)) free) in
+    let there = is_index-from at (length old) (there-from_missing (is_index at (length old)) free) in
     let lt : at - 1 < length old = omega arith in
     let small = h.small in
     pushed steps capacity old (remove old (at - 1)) (Insert (at - 1) was) h
@@ -145,7 +145,7 @@ split_last (x ∷ steps) (suc n) step long last = ap (λ ss. x ∷ ss) (split_la
 -- before an undo, by the last step
 pub record Popped (steps left : List Step) (step : Step) (capacity : ℕ) (lines : List (List ℕ)) : Type 0 where
   pub can : CanStep step lines
-  pub kept : IsKept left capacity (step_back step lines)
+  pub kept : StepsAreKept left capacity (step_back step lines)
   pub undoes : record { lines = step_back step lines; earlier = earlier left (step_back step lines) } ≡ undone (record { lines = lines; earlier = earlier steps lines })
   pub some : 0 < length (earlier steps lines)
   pub again : left ++ step ∷ [] ≡ steps
@@ -154,7 +154,7 @@ nonempty : (steps : List Step) (n : ℕ) (step : Step) → slice_get steps n ≡
 nonempty [] n step last = let none : None ≡ Some step = last in cc
 nonempty (x ∷ steps) n step last = omega arith
 
-pub popped : (steps : List Step) (step : Step) (capacity : ℕ) (lines : List (List ℕ)) → IsKept steps capacity lines → last_item steps ≡ Some step
+pub popped : (steps : List Step) (step : Step) (capacity : ℕ) (lines : List (List ℕ)) → StepsAreKept steps capacity lines → last_item steps ≡ Some step
     → Popped steps (take (length steps - 1) steps) step capacity lines
 popped steps step capacity lines h last_is =
     let some = nonempty steps (length steps - 1) step last_is in

@@ -8,7 +8,7 @@ use Rattle.std.proofs.lemmas.List.Sums.{sum_by-insert, sum_by-set, sum_by-remove
 use Rattle.edi_edit.specs.declared.EditEnd.TheVariants.{NoLine, Full}
 use Rattle.edi_edit.specs.declared.TheConstants.{ROOM}
 use Rattle.edi_edit.specs.Lines.{size_of, line_at}
-use Rattle.edi_edit.specs.Editing.{refusal, missing, is_place}
+use Rattle.edi_edit.specs.Editing.{refusal, missing, is_index}
 use Rattle.std.proofs.lemmas.List.{map-set, set-set, set-get_or, length-map, get_or-map}
 use Rattle.edi_edit.specs.Steps.{plain}
 
@@ -75,8 +75,8 @@ pub too_large : (there : Bool) (lines : List (List ℕ)) (size : ℕ) → there 
 too_large there lines size here same large =
     elim (leb_tells (size_of lines) ROOM) [ inl tells ↦ absurd (omega arith) | inr tells ↦ rw (here, tells.0, same) refl ]
 
-pub is_place-from : (at most : ℕ) → is_place at most ≡ true → (1 ≤ at) × (at ≤ most)
-is_place-from at most h =
+pub is_index-from : (at most : ℕ) → is_index at most ≡ true → (1 ≤ at) × (at ≤ most)
+is_index-from at most h =
     elim (leb_tells 1 at) [
       | inl first ↦ elim (leb_tells at most) [
         | inl second ↦ (first.1, second.1)
@@ -105,20 +105,20 @@ line-le-size lines i lt = get_or-le-sum_by (λ l. length l + 1) lines i [] lt
 
 -- a line put in place of another: it is there, and the size changes by the two lengths
 pub record Replaces (lines after : List (List ℕ)) (at was now : ℕ) : Type 0 where
-  pub there : is_place at (length lines) ≡ true
+  pub there : is_index at (length lines) ≡ true
   pub size : size_of after + was ≡ size_of lines + now
   pub within : was + 1 ≤ size_of lines
 
-pub replaces : {A B : Type 0} → (lines : Vec (Vec ℕ A) B) (at place count : ℕ) (was : Vec ℕ A) (line : List ℕ) → count ≡ lines.len
-    → (is_place at count ≡ true) × (place + 1 ≡ at) → was ≡ get_or lines.items place was
+pub replaces : {A B : Type 0} → (lines : Vec (Vec ℕ A) B) (at line_index count : ℕ) (was : Vec ℕ A) (line : List ℕ) → count ≡ lines.len
+    → (is_index at count ≡ true) × (line_index + 1 ≡ at) → was ≡ get_or lines.items line_index was
     → Replaces (plain lines.items) (set (plain lines.items) (at - 1) line) at was.len (length line)
-replaces lines at place count was line counts there is =
+replaces lines at line_index count was line counts there is =
     let many : count ≡ length (plain lines.items) = counts ∙ counted lines in
-    let range = is_place-from at count there.0 in
+    let range = is_index-from at count there.0 in
     let lt : at - 1 < length (plain lines.items) = omega (arith, there.1) in
-    let same : at - 1 ≡ place = omega (arith, there.1) in
-    let lt_items : place < length lines.items = omega (arith, length-map lines.items (λ line. line.items)) in
-    let here : was.items ≡ get_or (plain lines.items) (at - 1) [] = rw same (line_is lines.items place was lt_items is) in
+    let same : at - 1 ≡ line_index = omega (arith, there.1) in
+    let lt_items : line_index < length lines.items = omega (arith, length-map lines.items (λ line. line.items)) in
+    let here : was.items ≡ get_or (plain lines.items) (at - 1) [] = rw same (line_is lines.items line_index was lt_items is) in
     let long : was.len ≡ length (get_or (plain lines.items) (at - 1) []) = omega (arith, was.ok, ap length here) in
     record {
       there = rw (← many) there.0;
@@ -127,10 +127,10 @@ replaces lines at place count was line counts there is =
     }
 
 pub replaced : (lines after : List (List ℕ)) (at was now : ℕ) → Replaces lines after at was now → size_of lines - was + now ≤ ROOM
-    → refusal (is_place at (length lines)) after ≡ None
-replaced lines after at was now r small = accepted (is_place at (length lines)) after r.there (omega (arith, r.size, r.within))
+    → refusal (is_index at (length lines)) after ≡ None
+replaced lines after at was now r small = accepted (is_index at (length lines)) after r.there (omega (arith, r.size, r.within))
 
 pub not_replaced : (lines after : List (List ℕ)) (at was now size : ℕ) → Replaces lines after at was now → size ≡ size_of lines - was + now → ROOM < size
-    → refusal (is_place at (length lines)) after ≡ Some (Full size)
+    → refusal (is_index at (length lines)) after ≡ Some (Full size)
 not_replaced lines after at was now size r same large =
-    too_large (is_place at (length lines)) after size r.there (omega (arith, r.size, r.within)) large
+    too_large (is_index at (length lines)) after size r.there (omega (arith, r.size, r.within)) large

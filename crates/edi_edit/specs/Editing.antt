@@ -25,8 +25,8 @@ undone editing =
     record { lines = slice_index_or editing.earlier left editing.lines; earlier = take left editing.earlier }
 
 -- whether this number, counted from 1, is at most so large
-abbrev pub is_place : ℕ → ℕ → Bool
-is_place at most = nat_le 1 at && nat_le at most
+abbrev pub is_index : ℕ → ℕ → Bool
+is_index at most = nat_le 1 at && nat_le at most
 
 -- what an undo leaves, and whether there was something to undo
 abbrev pub Undoes : Bool → Editing → Editing → Type 0

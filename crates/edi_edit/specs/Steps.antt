@@ -39,7 +39,7 @@ CanGoBack (step ∷ steps) lines =
     CanStep step (back steps lines) × (size_of (back (step ∷ steps) lines) ≤ ROOM + 1) × HaveNoFeed (back (step ∷ steps) lines) × CanGoBack steps lines
 
 -- what is kept beside the lines: the steps back, and room for no more than can be undone
-pub record IsKept (steps : List Step) (capacity : ℕ) (lines : List (List ℕ)) : Type 0 where
+pub record StepsAreKept (steps : List Step) (capacity : ℕ) (lines : List (List ℕ)) : Type 0 where
   pub room : capacity ≡ UNDOS
   pub few : length steps ≤ UNDOS
   pub can : CanGoBack steps lines

@@ -3,7 +3,7 @@
 
 ghost use Rattle.std.specs.Prelude.{◌≡◌, ℕ, ◌+◌, ◌-◌, ◌<◌, ◌≤◌, [], length, insert, remove, slice_set, option_copied, option_map, IfOk, OnErr, false};
 ghost use Rattle.edi_edit.specs.Lines.{lines_of, bytes_of, line_at, has_feed};
-ghost use Rattle.edi_edit.specs.Editing.{EndsBy, refusal, missing, is_place, changed, Undoes, UndosGiveTheTextBack};
+ghost use Rattle.edi_edit.specs.Editing.{EndsBy, refusal, missing, is_index, changed, Undoes, UndosGiveTheTextBack};
 
 mod list;
 
@@ -44,11 +44,11 @@ impl Model for Text {
 
     ghost Value = { Editing };
 
-    ghost use Rattle.edi_edit.specs.Steps.{plain, earlier, IsKept};
+    ghost use Rattle.edi_edit.specs.Steps.{plain, earlier, StepsAreKept};
 
     ghost view = { λ t. record { lines = plain t.lines.items; earlier = earlier t.steps.items (plain t.lines.items) } };
 
-    ghost invariant = { λ t. IsKept t.steps.items t.steps.capacity (plain t.lines.items) };
+    ghost invariant = { λ t. StepsAreKept t.steps.items t.steps.capacity (plain t.lines.items) };
 }
 
 impl Text {
@@ -73,7 +73,7 @@ impl Text {
         requires one_line { has_feed line.now ≡ false }
         requires short { length line.now ≤ ROOM + 1 }
         ensures exact { let after = insert self.old.lines (at - 1) line.now in
-            EndsBy result (refusal (is_place at (length self.old.lines + 1)) after)
+            EndsBy result (refusal (is_index at (length self.old.lines + 1)) after)
             (changed self.old after) self.old self.new }
         ensures undos { length self.new.earlier ≤ UNDOS }
     {
@@ -91,7 +91,7 @@ impl Text {
         requires one_line { has_feed line.now ≡ false }
         requires short { length line.now ≤ ROOM + 1 }
         ensures exact { let after = slice_set self.old.lines (at - 1) line.now in
-            EndsBy result (refusal (is_place at (length self.old.lines)) after)
+            EndsBy result (refusal (is_index at (length self.old.lines)) after)
             (changed self.old after) self.old self.new }
         ensures undos { length self.new.earlier ≤ UNDOS }
     {
@@ -107,7 +107,7 @@ impl Text {
     /// `NoLine` exactly where there is no such line. After a refusal nothing has changed.
     pub fn delete(&mut self, _alloc: Global, at: u32) -> Result<(), EditEnd>
         ensures exact { let after = remove self.old.lines (at - 1) in
-            EndsBy result (missing (is_place at (length self.old.lines)))
+            EndsBy result (missing (is_index at (length self.old.lines)))
             (changed self.old after) self.old self.new }
         ensures undos { length self.new.earlier ≤ UNDOS }
     {

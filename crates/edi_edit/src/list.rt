@@ -3,7 +3,7 @@ ghost use Rattle.std.specs.Prelude.{◌≡◌, ℕ, ◌+◌, ◌-◌, ◌^◌, �
 ghost use Rattle.std.specs.List.{prefix_len};
 ghost use Rattle.circular_buffer.specs.Buffer.{buffer, keep_last};
 ghost use Rattle.edi_edit.specs.Lines.{lines_of, bytes_of, size_of};
-ghost use Rattle.edi_edit.specs.Editing.{EndsBy, refusal, missing, is_place};
+ghost use Rattle.edi_edit.specs.Editing.{EndsBy, refusal, missing, is_index};
 ghost use Rattle.edi_edit.specs.Steps.{plain, step_back, CanStep};
 
 use crate::{EditEnd, ROOM};
@@ -76,9 +76,9 @@ fn size(lines: &[Vec<u8>]) -> u32
 }
 
 // The place, counted from 0, of line `at`, counted from 1 up to `most`.
-fn place(at: u32, most: usize) -> Result<usize, EditEnd>
-    ensures ok { IfOk result (λ place. (is_place at most ≡ true) × (place + 1 ≡ at)) }
-    ensures err { IfErr result (λ end. (is_place at most ≡ false) × (end ≡ EditEnd.NoLine)) }
+fn line_index(at: u32, most: usize) -> Result<usize, EditEnd>
+    ensures ok { IfOk result (λ line_index. (is_index at most ≡ true) × (line_index + 1 ≡ at)) }
+    ensures err { IfErr result (λ end. (is_index at most ≡ false) × (end ≡ EditEnd.NoLine)) }
 {
     let at = at as usize;
     if at == 0 || at > most {
@@ -97,10 +97,10 @@ pub(crate) fn insert_line(
     requires small { size_of (plain lines.old.items) ≤ ROOM + 1 }
     requires short { length line.now ≤ ROOM + 1 }
     ensures exact { let after = insert (plain lines.old.items) (at - 1) line.now in
-        EndsBy result (refusal (is_place at (length (plain lines.old.items) + 1)) after)
+        EndsBy result (refusal (is_index at (length (plain lines.old.items) + 1)) after)
         after (plain lines.old.items) (plain lines.new.items) }
 {
-    let place = place(at, lines.len() + 1)?;
+    let line_index = line_index(at, lines.len() + 1)?;
     let after = size(lines) + line.len() as u32 + 1;
     if after > ROOM {
         return Err(EditEnd::Full(after));
@@ -108,7 +108,7 @@ pub(crate) fn insert_line(
     let Ok(copy) = Vec::from_slice(alloc, line) else {
         return Err(EditEnd::NoMemory);
     };
-    match lines.insert(place, copy) {
+    match lines.insert(line_index, copy) {
         Ok(()) => Ok(()),
         Err(_) => Err(EditEnd::NoMemory),
     }
@@ -124,30 +124,30 @@ pub(crate) fn replace_line(
     requires small { size_of (plain lines.old.items) ≤ ROOM + 1 }
     requires short { length line.now ≤ ROOM + 1 }
     ensures exact { let after = slice_set (plain lines.old.items) (at - 1) line.now in
-        EndsBy result (refusal (is_place at (length (plain lines.old.items))) after)
+        EndsBy result (refusal (is_index at (length (plain lines.old.items))) after)
         after (plain lines.old.items) (plain lines.new.items) }
     ensures was { IfOk result (λ was. was.items ≡ slice_index_or (plain lines.old.items) (at - 1) []) }
 {
-    let place = place(at, lines.len())?;
-    let after = size(lines) - lines[place].len() as u32 + line.len() as u32;
+    let line_index = line_index(at, lines.len())?;
+    let after = size(lines) - lines[line_index].len() as u32 + line.len() as u32;
     if after > ROOM {
         return Err(EditEnd::Full(after));
     }
     let Ok(copy) = Vec::from_slice(alloc, line) else {
         return Err(EditEnd::NoMemory);
     };
-    Ok(mem::replace(&mut lines[place], copy))
+    Ok(mem::replace(&mut lines[line_index], copy))
 }
 
 /// Removes line `at`, counted from 1, and gives it.
 pub(crate) fn delete_line(lines: &mut Vec<Vec<u8>>, at: u32) -> Result<Vec<u8>, EditEnd>
     ensures exact { let after = remove (plain lines.old.items) (at - 1) in
-        EndsBy result (missing (is_place at (length (plain lines.old.items))))
+        EndsBy result (missing (is_index at (length (plain lines.old.items))))
         after (plain lines.old.items) (plain lines.new.items) }
     ensures was { IfOk result (λ was. was.items ≡ slice_index_or (plain lines.old.items) (at - 1) []) }
 {
-    let place = place(at, lines.len())?;
-    Ok(lines.remove(place))
+    let line_index = line_index(at, lines.len())?;
+    Ok(lines.remove(line_index))
 }
 
 /// Takes a step back, and hands it back where memory runs out.
@@ -157,13 +157,13 @@ pub(crate) fn take_step(lines: &mut Vec<Vec<u8>>, step: Step) -> Result<(), Step
     ensures err { IfErr result (λ same. (same ≡ step) × (plain lines.new.items ≡ plain lines.old.items)) }
 {
     match step {
-        Step::Remove(place) => {
-            let _ = lines.remove(place);
+        Step::Remove(line_index) => {
+            let _ = lines.remove(line_index);
         }
-        Step::Put(place, line) => lines[place] = line,
-        Step::Insert(place, line) => {
-            if let Err(refused) = lines.insert(place, line) {
-                return Err(Step::Insert(place, refused.value));
+        Step::Put(line_index, line) => lines[line_index] = line,
+        Step::Insert(line_index, line) => {
+            if let Err(refused) = lines.insert(line_index, line) {
+                return Err(Step::Insert(line_index, refused.value));
             }
         }
     }

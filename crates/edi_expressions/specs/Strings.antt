@@ -1,4 +1,4 @@
--- Where no string stands.
+-- Words of contracts. Where no string stands.
 use Rattle.std.specs.Prelude.{◌≡◌, List, [], ◌∷◌, false}
 use Rattle.edi_lex.specs.declared.symbol.Mark.{Mark}
 use Rattle.edi_grammar.specs.Kinds as kind

@@ -42,23 +42,23 @@ module _ {N S : Type 0} (g : Grammar N S) where
     ends_level (suc n) (part k ∷ x) items d = ends_level n (d.1 ++ x) items d.3 ∙ level_both g d.1 x 0 ∙ fair.even k d.0 d.1 (level g x 0) d.2
 
     -- a text of x and y begins as x may, or x is empty and y has it
-    abbrev pub Begins : ℕ → List (Part N) → List (Part N) → S → List S → Type 0
-    Begins n x y s words = (has (g.kind s) (firsts g x) ≡ true) ⊎ ((null_of g x ≡ true) × (items : List (Item S)) × (plain items ≡ s ∷ words) × Derives g n y items)
+    abbrev pub PartsBegin : ℕ → List (Part N) → List (Part N) → S → List S → Type 0
+    PartsBegin n x y s words = (has (g.kind s) (firsts g x) ≡ true) ⊎ ((null_of g x ≡ true) × (items : List (Item S)) × (plain items ≡ s ∷ words) × Derives g n y items)
 
-    pub begins : (n : ℕ) (x y : List (Part N)) (s : S) (words : List S) (items : List (Item S)) → plain items ≡ s ∷ words → Derives g n (x ++ y) items → Begins n x y s words
+    pub begins : (n : ℕ) (x y : List (Part N)) (s : S) (words : List S) (items : List (Item S)) → plain items ≡ s ∷ words → Derives g n (x ++ y) items → PartsBegin n x y s words
     begins zero x y s words items e d = absurd d
     begins (suc n) [] y s words items e d = inr (refl, items, e, d)
     begins (suc n) (token b ∷ x) y s words items e d = let same : s ∷ words ≡ d.0 ∷ plain d.1 = sym e ∙ ap plain d.2 in let one : s ≡ d.0 = cc in inl (has_here (g.kind s) b [] (ap g.kind one ∙ d.3))
     begins (suc n) (level_end ∷ x) y s words items e d = more (begins n x y s words d.0 (sym (ap plain d.1) ∙ e) d.2) where
-      more : Begins n x y s words → Begins (suc n) (level_end ∷ x) y s words
+      more : PartsBegin n x y s words → PartsBegin (suc n) (level_end ∷ x) y s words
       more (inl h) = inl h
       more (inr h) = inr (h.0, h.1, h.2, one_more_step n y h.1 h.3)
     begins (suc n) (part k ∷ x) y s words items e d = outer (λ items e h. begins n x y s words items e h) (begins n d.1 (x ++ y) s words items e d.3) where
-      inner : g.null k ≡ true → Begins n x y s words → Begins (suc n) (part k ∷ x) y s words
+      inner : g.null k ≡ true → PartsBegin n x y s words → PartsBegin (suc n) (part k ∷ x) y s words
       inner e (inl h) = inl (has_right (g.kind s) (g.first k) _ (rw e h))
       inner e (inr h) = inr (rw e h.0, h.1, h.2, one_more_step n y h.1 h.3)
 
-      outer : ((items : List (Item S)) → plain items ≡ s ∷ words → Derives g n (x ++ y) items → Begins n x y s words) → Begins n d.1 (x ++ y) s words → Begins (suc n) (part k ∷ x) y s words
+      outer : ((items : List (Item S)) → plain items ≡ s ∷ words → Derives g n (x ++ y) items → PartsBegin n x y s words) → PartsBegin n d.1 (x ++ y) s words → PartsBegin (suc n) (part k ∷ x) y s words
       outer again (inl h) = inl (has_left (g.kind s) (g.first k) _ (fair.first k d.0 d.1 (g.kind s) d.2 h))
       outer again (inr h) = inner (fair.null k d.0 d.1 d.2 h.0) (again h.1 h.2 h.3)
 
@@ -67,14 +67,14 @@ module _ {N S : Type 0} (g : Grammar N S) where
     good_more k y h (token a ∷ x) l = (l.0, good_more k y h x l.1)
     good_more k y h (level_end ∷ x) l = good_more k y h x l
     good_more k y h (part j ∷ x) l = (λ n s words items e d. by n s words (begins n x y s words items e d), good_more k y h x l.2) where
-      by : (n : ℕ) (s : S) (words : List S) → Begins n x y s words → has (g.kind s) (g.follow j) ≡ true
+      by : (n : ℕ) (s : S) (words : List S) → PartsBegin n x y s words → has (g.kind s) (g.follow j) ≡ true
       by n s words (inl e) = l.0 (g.kind s) e
       by n s words (inr e) = l.1 e.0 (g.kind s) (h.0 n s words e.1 e.2 e.3)
 
     -- the rule of a part is the one that the symbol in hand selects
     pub picked : (n i : ℕ) (k : N) (rule x : List (Part N)) (s : S) (words : List S) (items : List (Item S)) → Good (part k ∷ x) → rule_no (g.rules k) i ≡ Some rule → plain items ≡ s ∷ words → Derives g n (rule ++ x) items → pick g k (g.kind s) (g.rules k) ≡ i
     picked n i k rule x s words items good at e d = by (begins n rule x s words items e d) where
-      by : Begins n rule x s words → pick g k (g.kind s) (g.rules k) ≡ i
+      by : PartsBegin n rule x s words → pick g k (g.kind s) (g.rules k) ≡ i
       by (inl h) = fair.picked k i rule (g.kind s) at (has_left (g.kind s) (firsts g rule) _ h)
       by (inr h) = fair.picked k i rule (g.kind s) at (has_right (g.kind s) (firsts g rule) _ (rw h.0 (good.0 n s words h.1 h.2 h.3)))
 

@@ -1,4 +1,4 @@
--- What is tested against the rules: which parts may be empty, what may begin and follow each, and rules that lead to an end.
+-- Words of contracts. What is tested against the rules: which parts may be empty, what may begin and follow each, and rules that lead to an end.
 use Rattle.std.specs.Prelude.{ℕ, List, [], ◌∷◌, Bool, true, false, Option}
 use Rattle.edi_lex.specs.declared.symbol.Mark.{Mark}
 use Rattle.edi_grammar.specs.Grammar.{Part, token, part, Grammar}

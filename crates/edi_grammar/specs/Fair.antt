@@ -1,4 +1,4 @@
--- When one symbol in hand decides: the conditions on a grammar, as a test of each part.
+-- Words of contracts. When one symbol in hand decides: the conditions on a grammar, as a test of each part.
 use Rattle.std.specs.Prelude.{ℕ, zero, suc, List, [], ◌∷◌, Bool, true, false, Option, Some, None, nat_eq, nat_lt, if◌then◌else◌}
 use Rattle.edi_grammar.specs.Grammar.{Part, token, level_end, part, Grammar, rule_no}
 use Rattle.edi_grammar.specs.Parser.{has, null_of, firsts, selects, pick}

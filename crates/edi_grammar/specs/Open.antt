@@ -1,4 +1,4 @@
--- How many levels are open behind items.
+-- Helper. How many levels are open behind items.
 use Rattle.std.specs.Prelude.{ℕ, ◌+◌, ◌-◌, List, [], ◌∷◌}
 use Rattle.edi_grammar.specs.Grammar.{Item, mark, closing, Grammar, opened}
 

@@ -1,4 +1,4 @@
--- The predictive parser of a grammar, which has one symbol in hand, and the place where it stops.
+-- Words of contracts. The predictive parser of a grammar, which has one symbol in hand, and the place where it stops.
 use Rattle.std.specs.Prelude.{◌≡◌, ℕ, suc, ◌<◌, ◌≤◌, List, [], ◌∷◌, ◌++◌, Bool, true, false, Option, Some, nat_eq, if◌then◌else◌}
 use Rattle.edi_grammar.specs.Grammar.{Part, token, level_end, part, Grammar, rule_no, level}
 

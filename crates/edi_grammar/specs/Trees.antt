@@ -1,4 +1,4 @@
--- Texts with their trees. `Tree k` is the type of the trees of a part, and `build` says, for each rule of a part, which tree
+-- Helper. Texts with their trees. `Tree k` is the type of the trees of a part, and `build` says, for each rule of a part, which tree
 -- it makes of the symbols and trees of the rule.
 use Rattle.std.specs.Prelude.{◌≡◌, ℕ, zero, suc, List, [], ◌∷◌, ◌++◌}
 use Rattle.edi_grammar.specs.Grammar.{Part, token, level_end, part, Item, mark, closing, Grammar}

@@ -1,4 +1,4 @@
--- What the place where a parser stops says of all texts of the grammar.
+-- Words of contracts. What the place where a parser stops says of all texts of the grammar.
 use Rattle.std.specs.Prelude.{◌≡◌, ℕ, ◌<◌, true, List, [], ◌∷◌, ◌++◌}
 use Rattle.edi_grammar.specs.Grammar.{Part, Item, mark, plain, Grammar, Derives, ends_in}
 use Rattle.edi_grammar.specs.Parser.{Why, complete, wrong, too_deep}

@@ -9,8 +9,8 @@ use Rattle.edi_host.specs.declared.files.KeepEnd.{KeepEnd}
 use Rattle.edi_host.specs.declared.files.KeepEnd.TheVariants as keep
 
 -- the bytes of each file, by the bytes of its name
-abbrev pub Held : Type 0
-Held = map.FinMap (slice_cmp nat_cmp) (List ℕ)
+abbrev pub Contents : Type 0
+Contents = map.FinMap (slice_cmp nat_cmp) (List ℕ)
 
 -- what a fetch gives, by the file of that name: its first bytes on Ok; Absent exactly where there is none
 abbrev pub FetchGives : FetchEnd → Option (List ℕ) → ℕ → List ℕ → Type 0
@@ -27,13 +27,13 @@ FetchEmpties fetch.Failed into = into ≡ []
 FetchEmpties fetch.NoMemory into = into ≡ []
 
 -- what a keep leaves: the bytes on Ok, on NoMemory all as it was, and on a fault every other file as it was
-abbrev pub KeepLeaves : KeepEnd → List ℕ → List ℕ → Held → Held → Type 0
+abbrev pub KeepLeaves : KeepEnd → List ℕ → List ℕ → Contents → Contents → Type 0
 KeepLeaves keep.Ok name bytes old new = new ≡ map.insert old name bytes
 KeepLeaves keep.Failed name bytes old new = map.remove new name ≡ map.remove old name
 KeepLeaves keep.NoMemory name bytes old new = new ≡ old
 
 -- what a keep of a form in memory leaves: it changes nothing where it does not succeed
-abbrev pub KeepsOrNot : KeepEnd → List ℕ → List ℕ → Held → Held → Type 0
+abbrev pub KeepsOrNot : KeepEnd → List ℕ → List ℕ → Contents → Contents → Type 0
 KeepsOrNot keep.Ok name bytes old new = new ≡ map.insert old name bytes
 KeepsOrNot keep.Failed name bytes old new = new ≡ old
 KeepsOrNot keep.NoMemory name bytes old new = new ≡ old

@@ -4,12 +4,12 @@ use Rattle.std.specs.String.{string_bytes}
 use Rattle.std.specs.declared.alloc.Global.{Global}
 use Rattle.std.specs.Coded.{Coded, code_by, coded×, coded_list, coded_ℕ}
 use Rattle.std.specs.FinMap as files
-use Rattle.edi_host.specs.Files.{Held}
+use Rattle.edi_host.specs.Files.{Contents}
 use Rattle.edi_host.specs.Plan.{Plan}
 
 -- files of which some calls fail
 pub record FailingFiles : Type 0 where
-  pub held : Held
+  pub contents : Contents
   pub plan : Plan
 
 -- a drive of which some calls fail, and whether a failed write takes effect
@@ -51,8 +51,8 @@ pub record UntoldSink : Type 0 where
   pub writes : Bool
   pub faults : ℕ
 
-abbrev pub held_code : Coded Held
-held_code = files.code (coded_list coded_ℕ) (coded_list coded_ℕ)
+abbrev pub contents_code : Coded Contents
+contents_code = files.code (coded_list coded_ℕ) (coded_list coded_ℕ)
 
 abbrev pub plan_code : Coded Plan
 plan_code =
@@ -60,12 +60,12 @@ plan_code =
 
 abbrev pub failing_files_code : Coded FailingFiles
 failing_files_code =
-    code_by (Held × Plan) (coded× held_code plan_code) (λ f. (f.held, f.plan)) (λ t. record { held = t.0; plan = t.1 }) (λ _. refl)
+    code_by (Contents × Plan) (coded× contents_code plan_code) (λ f. (f.contents, f.plan)) (λ t. record { contents = t.0; plan = t.1 }) (λ _. refl)
 
 -- an entry of the map that the code has, as a name and the bytes of the file
 abbrev pub entry_of : (String Global) × (Vec ℕ Global) → List ℕ × List ℕ
 entry_of entry = (string_bytes entry.0, entry.1.items)
 
 -- the files in the map that the code has
-abbrev pub held_in : List ((String Global) × (Vec ℕ Global)) → Held
-held_in entries = files.from_entries (map entry_of entries)
+abbrev pub contents_in : List ((String Global) × (Vec ℕ Global)) → Contents
+contents_in entries = files.from_entries (map entry_of entries)

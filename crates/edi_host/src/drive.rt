@@ -2,7 +2,7 @@
 
 ghost use Rattle.std.specs.Prelude.{◌≡◌, ◌≤◌, ◌<◌, ℕ, true, List, length, Option, IfSome};
 ghost use Rattle.std.specs.List.{list_all};
-ghost use Rattle.edi_told.specs.Faults.{Rose};
+ghost use Rattle.edi_told.specs.Faults.{CountRose};
 ghost use Rattle.edi_told.specs.Told.{WhereTold};
 ghost use Rattle.edi_host.specs.Blocks.{is_block, ReadLeaves, WriteLeaves, ResizeLeaves, CountLeaves};
 
@@ -31,7 +31,7 @@ pub enum ResizeEnd {
 /// A list of blocks of 512 bytes, numbered from 0.
 pub trait Drive {
     /// The blocks, where they are told.
-    ghost held: { Self → Option (List (List ℕ)) };
+    ghost contents: { Self → Option (List (List ℕ)) };
 
     /// The number of blocks, which every drive tells.
     ghost count: { Self → ℕ };
@@ -46,30 +46,30 @@ pub trait Drive {
     /// Reads block `n`. No block changes. After `Failed` nothing is known of `into`.
     fn read(&mut self, n: u32, into: &mut [u8; 512]) -> DriveEnd
         requires { n < count self.old }
-        ensures leaves { WhereTold (held self.old) (held self.new) (ReadLeaves result n into.new) }
+        ensures leaves { WhereTold (contents self.old) (contents self.new) (ReadLeaves result n into.new) }
         ensures count { count self.new ≡ count self.old }
         ensures later { faults self.old ≤ faults self.new }
-        ensures cause { result ≡ DriveEnd.Failed → Rose (faults self.old) (faults self.new) };
+        ensures cause { result ≡ DriveEnd.Failed → CountRose (faults self.old) (faults self.new) };
 
     /// Writes block `n`. After `Failed` that block is as it was or as it was to be, and every other as it was.
     fn write(&mut self, n: u32, from: &[u8; 512]) -> DriveEnd
         requires { n < count self.old }
-        ensures leaves { WhereTold (held self.old) (held self.new) (WriteLeaves result n from.now) }
+        ensures leaves { WhereTold (contents self.old) (contents self.new) (WriteLeaves result n from.now) }
         ensures count { count self.new ≡ count self.old }
         ensures later { faults self.old ≤ faults self.new }
-        ensures cause { result ≡ DriveEnd.Failed → Rose (faults self.old) (faults self.new) };
+        ensures cause { result ≡ DriveEnd.Failed → CountRose (faults self.old) (faults self.new) };
 
     /// Cuts the drive to `n` blocks, or adds blocks of zeros up to `n`. After `NoMemory` nothing has changed;
     /// after `Failed` nothing is known of the blocks and of their number.
     fn resize(&mut self, alloc: Global, n: u32) -> ResizeEnd
-        ensures leaves { WhereTold (held self.old) (held self.new) (ResizeLeaves result n) }
+        ensures leaves { WhereTold (contents self.old) (contents self.new) (ResizeLeaves result n) }
         ensures count { CountLeaves result n (count self.old) (count self.new) }
         ensures later { faults self.old ≤ faults self.new }
-        ensures cause { result ≡ ResizeEnd.Failed → Rose (faults self.old) (faults self.new) };
+        ensures cause { result ≡ ResizeEnd.Failed → CountRose (faults self.old) (faults self.new) };
 
     /// Where the blocks are told, the number is theirs.
-    ghost counted: { (drive : Self) → IfSome (held drive) (λ blocks. length blocks ≡ count drive) };
+    ghost counted: { (drive : Self) → IfSome (contents drive) (λ blocks. length blocks ≡ count drive) };
 
     /// Where the blocks are told, each of them has 512 bytes.
-    ghost sized: { (drive : Self) → IfSome (held drive) (λ blocks. list_all is_block blocks ≡ true) };
+    ghost sized: { (drive : Self) → IfSome (contents drive) (λ blocks. list_all is_block blocks ≡ true) };
 }

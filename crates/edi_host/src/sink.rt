@@ -1,7 +1,7 @@
 //! A sink of bytes.
 
 ghost use Rattle.std.specs.Prelude.{◌≡◌, ◌++◌, ◌≤◌, ℕ, List, length, take, Option};
-ghost use Rattle.edi_told.specs.Faults.{Rose};
+ghost use Rattle.edi_told.specs.Faults.{CountRose};
 ghost use Rattle.edi_told.specs.Told.{WhereTold};
 
 /// How a put ended.
@@ -36,5 +36,5 @@ pub trait Sink {
         ensures whole { result.end ≡ PutEnd.Ok → result.taken ≡ length piece.now }
         ensures appends { WhereTold (taken self.old) (taken self.new) (λ old new. new ≡ old ++ take result.taken piece.now) }
         ensures later { faults self.old ≤ faults self.new }
-        ensures cause { result.end ≡ PutEnd.Failed → Rose (faults self.old) (faults self.new) };
+        ensures cause { result.end ≡ PutEnd.Failed → CountRose (faults self.old) (faults self.new) };
 }

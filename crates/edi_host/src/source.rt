@@ -1,7 +1,7 @@
 //! A source of bytes.
 
 ghost use Rattle.std.specs.Prelude.{◌≡◌, ◌≤◌, ℕ, List, Option};
-ghost use Rattle.edi_told.specs.Faults.{Rose};
+ghost use Rattle.edi_told.specs.Faults.{CountRose};
 ghost use Rattle.edi_told.specs.Told.{WhereTold};
 ghost use Rattle.edi_host.specs.Streams.{Takes};
 
@@ -29,5 +29,5 @@ pub trait Source {
     fn next(&mut self) -> Next
         ensures takes { WhereTold (left self.old) (left self.new) (Takes result) }
         ensures later { faults self.old ≤ faults self.new }
-        ensures cause { result ≡ Next.Failed → Rose (faults self.old) (faults self.new) };
+        ensures cause { result ≡ Next.Failed → CountRose (faults self.old) (faults self.new) };
 }

@@ -56,9 +56,9 @@ zero_entry : (header : List ℕ) (rest : List (List ℕ)) (slot : ℕ) → slot 
     → entry_at (header ∷ (replicate 32 zero_block ++ rest)) slot ≡ replicate 64 0
 zero_entry header rest slot h =
     let inside : slot / 8 < 32 = omega arith in
-    let place : 1 + slot / 8 ≡ suc (slot / 8) = omega arith in
+    let index : 1 + slot / 8 ≡ suc (slot / 8) = omega arith in
     let block : block_at (header ∷ (replicate 32 zero_block ++ rest)) (1 + slot / 8) ≡ zero_block =
-    ap (λ n. get_or (header ∷ (replicate 32 zero_block ++ rest)) n []) place
+    ap (λ n. get_or (header ∷ (replicate 32 zero_block ++ rest)) n []) index
     ∙ get_or-append (replicate 32 zero_block) rest [] (slot / 8) (subst (λ n. slot / 8 < n) (sym (length-replicate 32 zero_block)) inside)
     ∙ get_or-replicate 32 (slot / 8) zero_block [] inside in
     ap (λ b. take 64 (drop (64 * (slot % 8)) b)) block

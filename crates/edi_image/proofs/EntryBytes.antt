@@ -66,14 +66,14 @@ without_blanks-with_blanks title h = without_blanks-title title (24 - length tit
 
 -- what stands behind the title
 behind : (cs ys : List ℕ) (k at : ℕ) → length cs ≡ 24 → at ≡ 24 + k → get_or (cs ++ ys) at 0 ≡ get_or ys k 0
-behind cs ys k at size place =
-    ap (λ n. get_or (cs ++ ys) n 0) (place ∙ ap (λ n. n + k) (sym size)) ∙ get_or-append-add cs ys k 0
+behind cs ys k at size index =
+    ap (λ n. get_or (cs ++ ys) n 0) (index ∙ ap (λ n. n + k) (sym size)) ∙ get_or-append-add cs ys k 0
 
 short_behind : (cs ys : List ℕ) (k at n : ℕ) → length cs ≡ 24 → at ≡ 24 + k → get_or ys k 0 ≡ n / 256 → get_or ys (k + 1) 0 ≡ n % 256
     → short_at (cs ++ ys) at ≡ n
-short_behind cs ys k at n size place high low =
-    let one : get_or (cs ++ ys) at 0 ≡ n / 256 = behind cs ys k at size place ∙ high in
-    let other : get_or (cs ++ ys) (at + 1) 0 ≡ n % 256 = behind cs ys (k + 1) (at + 1) size (omega (arith, place)) ∙ low in
+short_behind cs ys k at n size index high low =
+    let one : get_or (cs ++ ys) at 0 ≡ n / 256 = behind cs ys k at size index ∙ high in
+    let other : get_or (cs ++ ys) (at + 1) 0 ≡ n % 256 = behind cs ys (k + 1) (at + 1) size (omega (arith, index)) ∙ low in
     ap (λ x. 2 ^ 8 * x + get_or (cs ++ ys) (at + 1) 0) one ∙ ap (λ x. 2 ^ 8 * (n / 256) + x) other
     ∙ (let whole : 256 * (n / 256) + n % 256 ≡ n = omega arith in whole)
 

@@ -35,5 +35,5 @@ taken_more [] i file h e = absurd (omega arith)
 taken_more (first ∷ files) zero file h e = (let same : blocks_in first ≡ blocks_in file = ap blocks_in (sym e) in omega arith)
 taken_more (first ∷ files) (suc i) file h e =
     let more : blocks_taken (take (i + 1) files) ≡ blocks_taken (take i files) + blocks_in file = taken_more files i file (omega arith) e in
-    let place : suc i + 1 ≡ suc (i + 1) = omega arith in
-    ap (λ n. blocks_taken (take n (first ∷ files))) place ∙ omega (arith, more)
+    let index : suc i + 1 ≡ suc (i + 1) = omega arith in
+    ap (λ n. blocks_taken (take n (first ∷ files))) index ∙ omega (arith, more)

@@ -29,7 +29,7 @@ numbers_more start before after block n number h v b a =
     let same : short_at (drop 2 block) (2 * n) ≡ short_at block (2 + 2 * n) =
     ap (λ x. 2 ^ 8 * x + get_or (drop 2 block) (2 * n + 1) 0) first
     ∙ ap (λ x. 2 ^ 8 * get_or block (2 + 2 * n) 0 + x) second
-    ∙ (let place : 2 + (2 * n + 1) ≡ 2 + 2 * n + 1 = omega arith in ap (λ m. 2 ^ 8 * get_or block (2 + 2 * n) 0 + get_or block m 0) place) in
+    ∙ (let index : 2 + (2 * n + 1) ≡ 2 + 2 * n + 1 = omega arith in ap (λ m. 2 ^ 8 * get_or block (2 + 2 * n) 0 + get_or block m 0) index) in
     a ∙ ap (λ xs. xs ++ number ∷ []) b ∙ append_assoc start (numbers_in block n) (number ∷ [])
     ∙ ap (λ x. start ++ (numbers_in block n ++ x ∷ [])) (v ∙ sym same)
     ∙ ap (λ xs. start ++ xs) (sym (shorts_more (drop 2 block) n (omega (arith, length-drop 2 block))))

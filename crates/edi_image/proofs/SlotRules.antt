@@ -54,9 +54,9 @@ entry_fits count bytes =
 pub entry_read : (blocks : List (List ℕ)) (bytes rest entry : List ℕ) (slot count n at : ℕ) (s : Said)
     → block_at blocks n ≡ bytes → length blocks ≡ count → n ≡ 1 + slot / 8 → rest ≡ drop at bytes → at ≡ 64 * (slot % 8)
     → entry ≡ take 64 rest → s ≡ entry_says count entry → said_at blocks slot ≡ s
-entry_read blocks bytes rest entry slot count n at s is size place r a e says =
+entry_read blocks bytes rest entry slot count n at s is size index r a e says =
     ap (λ k. entry_says k (entry_at blocks slot)) size
-    ∙ ap (λ b. entry_says count (take 64 (drop (64 * (slot % 8)) b))) (ap (block_at blocks) (sym place) ∙ is)
+    ∙ ap (λ b. entry_says count (take 64 (drop (64 * (slot % 8)) b))) (ap (block_at blocks) (sym index) ∙ is)
     ∙ ap (λ k. entry_says count (take 64 (drop k bytes))) (sym a)
     ∙ ap (λ b. entry_says count (take 64 b)) (sym r)
     ∙ ap (entry_says count) (sym e)
@@ -126,7 +126,7 @@ entries_more blocks first zero = ap (λ m. said_at blocks m ∷ []) (let zero_mo
 entries_more blocks first (suc n) =
     ap (λ es. said_at blocks first ∷ es)
     (entries_more blocks (first + 1) n
-    ∙ ap (λ m. entries_from blocks (first + 1) n ++ said_at blocks m ∷ []) (let place : first + 1 + n ≡ first + suc n = omega arith in place))
+    ∙ ap (λ m. entries_from blocks (first + 1) n ++ said_at blocks m ∷ []) (let index : first + 1 + n ≡ first + suc n = omega arith in index))
 
 pub map_more : (blocks : List (List ℕ)) (es : List Said) (e : Said) → map (stored_of blocks) (es ++ e ∷ []) ≡ map (stored_of blocks) es ++ stored_of blocks e ∷ []
 map_more blocks [] e = refl
@@ -162,7 +162,7 @@ progress_on blocks slot at used0 used1 files0 files1 h same so_far taken0 =
           taken.1.files ∙ ap (λ fs. fs ++ stored_of blocks (said_at blocks slot) ∷ []) so_far.files_
           ∙ sym (map_more blocks (entries_from blocks 0 slot) (said_at blocks slot))
           ∙ ap (map (stored_of blocks))
-          (ap (λ m. entries_from blocks 0 slot ++ said_at blocks m ∷ []) (let place : slot ≡ 0 + slot = omega arith in place)
+          (ap (λ m. entries_from blocks 0 slot ++ said_at blocks m ∷ []) (let index : slot ≡ 0 + slot = omega arith in index)
           ∙ sym (entries_more blocks 0 slot)
           ∙ ap (entries_from blocks 0) (let one : suc slot ≡ slot + 1 = omega arith in one));
     }

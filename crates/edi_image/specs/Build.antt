@@ -1,4 +1,4 @@
--- How blocks of an image are made: for worked examples, and for the files that are stored.
+-- Words of contracts. How blocks of an image are made: for worked examples, and for the files that are stored.
 use Rattle.std.specs.Prelude.{ℕ, ◌-◌, ◌/◌, ◌%◌, ◌^◌, List, [], ◌∷◌, ◌++◌, length, replicate}
 use Rattle.edi_host.specs.Blocks.{zero_block}
 use Rattle.edi_image.specs.Image.{header_block}

@@ -1,4 +1,4 @@
--- The bytes of an entry.
+-- Words of contracts. The bytes of an entry.
 use Rattle.std.specs.Prelude.{ℕ, ◌/◌, ◌%◌, ◌^◌, if◌then◌else◌, List, ◌∷◌, ◌++◌, replicate, slice_index_or, Option, Some, None}
 use Rattle.edi_calls.specs.declared.kinds.FileKind.{FileKind}
 use Rattle.edi_calls.specs.declared.kinds.FileKind.TheVariants as kind

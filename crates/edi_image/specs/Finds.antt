@@ -1,4 +1,4 @@
--- What a check of an image finds: the first broken rule, or what is kept of it.
+-- Words of contracts. What a check of an image finds: the first broken rule, or what is kept of it.
 use Rattle.std.specs.Prelude.{◌≡◌, ℕ, Bool, true, false, List, Option, Some, None, Result, Ok, Err, [], ◌∷◌, ◌++◌, ⊤}
 use Rattle.edi_image.specs.Rules.{Rule, used_by}
 use Rattle.edi_image.specs.Stored.{StoredFile}

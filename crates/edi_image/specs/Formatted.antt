@@ -1,4 +1,4 @@
--- A drive that has just been formatted.
+-- Words of contracts. A drive that has just been formatted.
 use Rattle.std.specs.Prelude.{ℕ, ◌==◌, if◌then◌else◌, List, ◌∷◌, ◌++◌, drop, length, replicate, Option, None}
 use Rattle.edi_host.specs.Blocks.{zero_block}
 use Rattle.edi_calls.specs.State.{File}

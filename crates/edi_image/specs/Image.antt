@@ -1,4 +1,4 @@
--- Images of version 2: the rules that a list of blocks of 512 bytes keeps, and the files that it holds.
+-- Definition. Images of version 2: the rules that a list of blocks of 512 bytes keeps, and the files that it holds.
 --
 --     block 0          `EDIS`, the version, 2, the number of blocks (two bytes each), zeros
 --     blocks 1 to 32   256 entries of 64 bytes, 8 in each block, one for each slot

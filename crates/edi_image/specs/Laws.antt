@@ -1,4 +1,4 @@
--- What is known of the files of an image.
+-- Words of contracts. What is known of the files of an image.
 use Rattle.std.specs.Prelude.{◌≡◌, ◌↔◌, ℕ, List, Option, None}
 use Rattle.edi_calls.specs.State.{File}
 use Rattle.edi_image.specs.Image.{mount_fault_of, Holds}

@@ -1,4 +1,4 @@
--- What an entry says of a file.
+-- Definition. What an entry says of a file.
 use Rattle.std.specs.Prelude.{ℕ, Bool, List, [], ◌∷◌, Option, Some, None}
 use Rattle.edi_calls.specs.declared.kinds.FileKind.{FileKind}
 

@@ -1,4 +1,4 @@
--- The rules of an image in their order, and the first of them that is broken.
+-- Definition. The rules of an image in their order, and the first of them that is broken.
 use Rattle.std.specs.Prelude.{ℕ, Bool, ◌&&◌, ◌==◌, nat_lt, nat_le, if◌then◌else◌, List, [], ◌∷◌, ◌++◌, Option, Some, None}
 use Rattle.std.specs.List.{list_any}
 use Rattle.edi_image.specs.declared.faults.MountFault.{MountFault}

@@ -1,4 +1,4 @@
--- The files of a catalogue as it keeps them: their records, and their page numbers.
+-- Words of contracts. The files of a catalogue as it keeps them: their records, and their page numbers.
 use Rattle.std.specs.Prelude.{ℕ, Bool, true, false, ◌&&◌, ◌==◌, nat_le, if◌then◌else◌, List, [], ◌∷◌, length, Option, Some, None, ◌≡◌, ◌+◌, take, flat_map, map}
 use Rattle.std.specs.List.{list_all}
 use Rattle.std.specs.Str.{bytes_eq}

@@ -1,4 +1,4 @@
--- Titles as they are kept: 24 characters, filled with blanks.
+-- Words of contracts. Titles as they are kept: 24 characters, filled with blanks.
 use Rattle.std.specs.Prelude.{◌≡◌, ℕ, suc, ◌-◌, true, false, if◌then◌else◌, ◌==◌, List, [], ◌∷◌, ◌++◌, length, replicate, Option, Some, None, Bool}
 use Rattle.std.proofs.Common.{refl, ap, sym, ◌∙◌, arith}
 use Rattle.std.proofs.lemmas.Bool.{eqb-true}

@@ -102,9 +102,9 @@ fn without_blanks(characters: &[u8]) -> &[u8]
     ensures { result.now ≡ without_blanks characters.now }
 {
     let mut kept = 0;
-    for (place, character) in characters.iter().enumerate() {
+    for (index, character) in characters.iter().enumerate() {
         if *character != BLANK {
-            kept = place + 1;
+            kept = index + 1;
         }
     }
     let (title, _) = characters.split_at(kept);

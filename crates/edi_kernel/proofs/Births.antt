@@ -8,8 +8,8 @@ use Rattle.edi_calls.proofs.Tables.{same-refl, same-equal, same-or-other, find-w
 use Rattle.edi_target.specs.Mach.{Machine}
 use Rattle.edi_kernel.specs.declared.table.Process.{Process}
 use Rattle.edi_kernel.specs.declared.table.Table.{Table}
-use Rattle.edi_kernel.specs.Table.{process_at, marked_at, free_places, is_live}
-use Rattle.edi_kernel.specs.Stands.{Naming, Once, Awaits, Born, Stands, entry_of, is_child_of, children_of, places_where}
+use Rattle.edi_kernel.specs.Table.{process_at, marked_at, free_slots, is_live}
+use Rattle.edi_kernel.specs.TableIsMachine.{Naming, Once, Awaits, Born, TableIsMachine, entry_of, is_child_of, children_of, slots_where}
 use Rattle.edi_kernel.proofs.Counts.{where_same, where_less}
 use Rattle.edi_kernel.proofs.Changes.{positive, child_live, child_later, child_parent}
 
@@ -57,7 +57,7 @@ length-with_at (e ∷ es) p a h = go (same p e.0) h (length-with_at es p a)
 
 -- ---- the child
 
--- the names with that of a child at place c
+-- the names with that of a child at slot c
 abbrev pub with_name : Naming → (c : ℕ) → Name → Naming
 with_name n c q = record { name = λ i. if nat_eq i c then q else n.name i; forks = λ i. if nat_eq i c then 0 else n.forks i }
 
@@ -68,18 +68,18 @@ module _ (t u : Table) (n : Naming) (m k : Machine) (p c f j : ℕ) (x : Process
   abbrev pub now_named : Naming
   now_named = with_name n c the_name
 
-  -- a child of the live process at p begins at place c
-  pub record Begins : Type 0 where
-    pub stands : Stands t n m
+  -- a child of the live process at p begins at slot c
+  pub record ChildBegins : Type 0 where
+    pub stands : TableIsMachine t n m
     pub live : is_live t p ≡ true
     pub dead : is_live t c ≡ false
-    pub place : c < 32
+    pub slot : c < 32
     pub later : 0 < c
     pub here : process_at u c ≡ x
     pub parent : x.parent ≡ p
     pub there : (i : ℕ) → (i ≡ c → ⊥) → process_at u i ≡ process_at t i
     pub lives : (i : ℕ) → is_live u i ≡ (nat_eq i c || is_live t i)
-    pub free : length (free_places u) + 1 ≡ length (free_places t)
+    pub free : length (free_slots u) + 1 ≡ length (free_slots t)
     pub activities : k.activities ≡ with_at m.activities the_name (entry_of x 0)
     pub marks : (i : ℕ) → is_live u i ≡ true → has k.marks (now_named.name i) ≡ marked_at u i
     pub going : Awaits x.standing 0
@@ -87,8 +87,8 @@ module _ (t u : Table) (n : Naming) (m k : Machine) (p c f j : ℕ) (x : Process
     pub fresh : (i : ℕ) → is_live t i ≡ true → n.name i ≡ the_name → ⊥
     pub awaits : Awaits (process_at t p).standing (suc (children_of t p))
 
-  module _ (b : Begins) where
-    -- a place is c, or it is another and as it was
+  module _ (b : ChildBegins) where
+    -- a slot is c, or it is another and as it was
     pub at_c : (i : ℕ) → i ≡ c → now_named.name i ≡ the_name
     at_c i e = ap (λ d. if d then the_name else n.name i) (eq-eqb i c e)
 
@@ -181,7 +181,7 @@ module _ (t u : Table) (n : Naming) (m k : Machine) (p c f j : ℕ) (x : Process
           }
     ]
 
-    -- whose child a place is
+    -- whose child a slot is
     child_there : (i l : ℕ) → (l ≡ c → ⊥) → is_child_of u i l ≡ is_child_of t i l
     child_there i l ne =
         ap (λ d. nat_lt 0 l && d && nat_eq (process_at u l).parent i) (b.lives l ∙ ap (λ d. d || is_live t l) (ne_eqb l c ne))
@@ -204,7 +204,7 @@ module _ (t u : Table) (n : Naming) (m k : Machine) (p c f j : ℕ) (x : Process
     not_eq l e h = let a : true ≡ false = sym (eq-eqb l c h) ∙ e in absurd (cc)
 
     pub children_p : children_of u p ≡ suc (children_of t p)
-    children_p = where_less (is_child_of u p) (is_child_of t p) 32 c b.place (child_now p ∙ eq-eqb p p refl) (child_before p) (λ l e. child_there p l (not_eq l e))
+    children_p = where_less (is_child_of u p) (is_child_of t p) 32 c b.slot (child_now p ∙ eq-eqb p p refl) (child_before p) (λ l e. child_there p l (not_eq l e))
 
     children_other : (i : ℕ) → (i ≡ p → ⊥) → children_of u i ≡ children_of t i
     children_other i ne = where_same (is_child_of u i) (is_child_of t i) 32 (λ l _. elim (cases_eq l c) [
@@ -216,9 +216,9 @@ module _ (t u : Table) (n : Naming) (m k : Machine) (p c f j : ℕ) (x : Process
     childless : children_of t c ≡ 0
     childless = where_none (is_child_of t c) 32 (λ l _. no_child l (is_child_of t c l) refl)
       where
-        where_none : (g : ℕ → Bool) (d : ℕ) → ((l : ℕ) → l < d → g l ≡ false) → places_where g d ≡ 0
+        where_none : (g : ℕ → Bool) (d : ℕ) → ((l : ℕ) → l < d → g l ≡ false) → slots_where g d ≡ 0
         where_none g zero h = refl
-        where_none g (suc d) h = ap (λ e. if e then suc (places_where g d) else places_where g d) (h d (omega arith)) ∙ where_none g d (λ l k. h l (omega arith))
+        where_none g (suc d) h = ap (λ e. if e then suc (slots_where g d) else slots_where g d) (h d (omega arith)) ∙ where_none g d (λ l k. h l (omega arith))
 
         no_child : (l : ℕ) (d : Bool) → is_child_of t c l ≡ d → is_child_of t c l ≡ false
         no_child l false e = e
@@ -242,7 +242,7 @@ module _ (t u : Table) (n : Naming) (m k : Machine) (p c f j : ℕ) (x : Process
           ])
     ]
 
-    pub begins : Stands u now_named k
+    pub begins : TableIsMachine u now_named k
     begins = record {
       found = found;
       all = all;

@@ -9,8 +9,8 @@ use Rattle.edi_calls.proofs.Tables.{same-or-other}
 use Rattle.edi_target.specs.Mach.{Machine}
 use Rattle.edi_kernel.specs.declared.table.Process.{Process}
 use Rattle.edi_kernel.specs.declared.table.Table.{Table}
-use Rattle.edi_kernel.specs.Table.{process_at, marked_at, free_places, is_live, no_process}
-use Rattle.edi_kernel.specs.Stands.{Naming, Once, Awaits, Born, Stands, entry_of, is_child_of, children_of}
+use Rattle.edi_kernel.specs.Table.{process_at, marked_at, free_slots, is_live, no_process}
+use Rattle.edi_kernel.specs.TableIsMachine.{Naming, Once, Awaits, Born, TableIsMachine, entry_of, is_child_of, children_of}
 use Rattle.edi_kernel.proofs.Counts.{where_same}
 
 -- ---- small facts
@@ -51,8 +51,8 @@ at_set_same xs p x h = get_or-set_same xs p x no_process h
 pub at_set_other : (xs : List Process) (p i : ℕ) (x : Process) → (i ≡ p → ⊥) → slice_index_or (slice_set xs p x) i no_process ≡ slice_index_or xs i no_process
 at_set_other xs p i x h = get_or-set_other xs p i x no_process h
 
--- names of different live places are told apart
-pub names_apart : (t : Table) (n : Naming) (m : Machine) → Stands t n m → (i j : ℕ) → is_live t i ≡ true → is_live t j ≡ true → (i ≡ j → ⊥) → same (n.name i) (n.name j) ≡ false
+-- names of different live slots are told apart
+pub names_apart : (t : Table) (n : Naming) (m : Machine) → TableIsMachine t n m → (i j : ℕ) → is_live t i ≡ true → is_live t j ≡ true → (i ≡ j → ⊥) → same (n.name i) (n.name j) ≡ false
 names_apart t n m s i j l k ne = elim (same-or-other (n.name i) (n.name j)) [
   | inl e ↦ absurd (ne (s.apart i j l k e))
   | inr e ↦ e
@@ -66,13 +66,13 @@ length-names (e ∷ es) = ap suc (length-names es)
 module _ (t u : Table) (n : Naming) (forks : ℕ → ℕ) (m k : Machine) (p : ℕ) (x : Process) where
   -- one live process changes, but for its parent
   pub record OneChanges : Type 0 where
-    pub stands : Stands t n m
+    pub stands : TableIsMachine t n m
     pub live : is_live t p ≡ true
     pub wide : length t.processes ≡ 32
     pub processes : u.processes ≡ slice_set t.processes p x
     pub parent : x.parent ≡ (process_at t p).parent
     pub lives : (i : ℕ) → is_live u i ≡ is_live t i
-    pub free : length (free_places u) ≡ length (free_places t)
+    pub free : length (free_slots u) ≡ length (free_slots t)
     pub forks_here : n.forks p ≤ forks p
     pub forks_there : (i : ℕ) → (i ≡ p → ⊥) → forks i ≡ n.forks i
     pub found_here : find k.activities (n.name p) ≡ Some (entry_of x (forks p))
@@ -143,7 +143,7 @@ module _ (t u : Table) (n : Naming) (forks : ℕ → ℕ) (m k : Machine) (p : �
           (subst (λ y. Awaits y.standing (children_of t i)) (sym (there i ne)) (c.stands.awaits i (was i l)))
     ]
 
-    pub one_changes : Stands u (record n { forks = forks }) k
+    pub one_changes : TableIsMachine u (record n { forks = forks }) k
     one_changes = record {
       found = found;
       all = λ q h. let a : (i : ℕ) × (is_live t i ≡ true) × (q ≡ n.name i) = c.stands.all q (sym (ap (λ ns. has ns q) c.named) ∙ h) in (a.0, now a.0 a.1, a.2);

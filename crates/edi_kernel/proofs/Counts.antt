@@ -1,4 +1,4 @@
--- Numbers of places.
+-- Numbers of slots.
 use Rattle.std.proofs.Common.{◌≡◌, ℕ, zero, suc, ◌+◌, ◌<◌, ◌≤◌, inl, inr, Bool, true, false, ◌&&◌, nat_eq, if◌then◌else◌, List, [], ◌∷◌, ◌++◌, length, map, refl, sym, ◌∙◌, ap, arith}
 use Rattle.std.proofs.lemmas.Bool.{cases_eq, ne_eqb}
 use Rattle.std.proofs.lemmas.Bool.Decides.{nat_tests}
@@ -7,30 +7,30 @@ use Rattle.edi_calls.specs.Ready.{has, all_marked}
 use Rattle.edi_ring.specs.Links.{IsAmong}
 use Rattle.edi_kernel.specs.declared.table.Table.{Table}
 use Rattle.edi_kernel.specs.Table.{marked_at}
-use Rattle.edi_kernel.specs.Stands.{marked_among, places_where}
+use Rattle.edi_kernel.specs.TableIsMachine.{marked_among, slots_where}
 
--- ---- places that pass a test
+-- ---- slots that pass a test
 
-pub where_same : (f g : ℕ → Bool) (n : ℕ) → ((i : ℕ) → i < n → f i ≡ g i) → places_where f n ≡ places_where g n
+pub where_same : (f g : ℕ → Bool) (n : ℕ) → ((i : ℕ) → i < n → f i ≡ g i) → slots_where f n ≡ slots_where g n
 where_same f g zero h = refl
 where_same f g (suc n) h =
-    ap (λ b. if b then suc (places_where f n) else places_where f n) (h n (omega arith))
+    ap (λ b. if b then suc (slots_where f n) else slots_where f n) (h n (omega arith))
     ∙ ap (λ k. if g n then suc k else k) (where_same f g n (λ i l. h i (omega arith)))
 
--- a place that passes is counted
-pub where_some : (f : ℕ → Bool) (n j : ℕ) → j < n → f j ≡ true → 0 < places_where f n
+-- a slot that passes is counted
+pub where_some : (f : ℕ → Bool) (n j : ℕ) → j < n → f j ≡ true → 0 < slots_where f n
 where_some f zero j l e = absurd (omega arith)
 where_some f (suc n) j l e = elim (cases_eq j n) [
   | inl here ↦ let t : f n ≡ true = ap f (sym here) ∙ e in rw t (omega arith)
   | inr there ↦ more (f n) (where_some f n j (omega arith) e)
 ]
   where
-    more : (b : Bool) → 0 < places_where f n → 0 < (if b then suc (places_where f n) else places_where f n)
+    more : (b : Bool) → 0 < slots_where f n → 0 < (if b then suc (slots_where f n) else slots_where f n)
     more true h = omega arith
     more false h = h
 
--- a place that passes one test and not the other, where they differ nowhere else
-pub where_less : (f g : ℕ → Bool) (n j : ℕ) → j < n → f j ≡ true → g j ≡ false → ((i : ℕ) → nat_eq i j ≡ false → f i ≡ g i) → places_where f n ≡ suc (places_where g n)
+-- a slot that passes one test and not the other, where they differ nowhere else
+pub where_less : (f g : ℕ → Bool) (n j : ℕ) → j < n → f j ≡ true → g j ≡ false → ((i : ℕ) → nat_eq i j ≡ false → f i ≡ g i) → slots_where f n ≡ suc (slots_where g n)
 where_less f g zero j l t u h = absurd (omega arith)
 where_less f g (suc n) j l t u h = elim (cases_eq j n) [
   | inl here ↦
@@ -38,11 +38,11 @@ where_less f g (suc n) j l t u h = elim (cases_eq j n) [
       let b : g n ≡ false = ap g (sym here) ∙ u in
       rw a (rw b (ap suc (where_same f g n (λ i k. h i (ne_eqb i j (λ e. omega (arith, e)))))))
   | inr there ↦
-      ap (λ b. if b then suc (places_where f n) else places_where f n) (h n (ne_eqb n j (λ e. there (sym e))))
+      ap (λ b. if b then suc (slots_where f n) else slots_where f n) (h n (ne_eqb n j (λ e. there (sym e))))
       ∙ more (g n) (where_less f g n j (omega arith) t u h)
 ]
   where
-    more : (b : Bool) → places_where f n ≡ suc (places_where g n) → (if b then suc (places_where f n) else places_where f n) ≡ suc (if b then suc (places_where g n) else places_where g n)
+    more : (b : Bool) → slots_where f n ≡ suc (slots_where g n) → (if b then suc (slots_where f n) else slots_where f n) ≡ suc (if b then suc (slots_where g n) else slots_where g n)
     more true e = ap suc e
     more false e = e
 
@@ -84,7 +84,7 @@ all_marked-among t marks name (x ∷ xs) h =
     go true e le = e ∙ suc_eq (marked_among t xs) (length xs)
     go false e le = sym (ne_eqb (marked_among t xs) (suc (length xs)) (λ e. omega (arith, e)))
 
--- ---- lists of places
+-- ---- lists of slots
 
 pub map_same : {X : Type 0} (f g : ℕ → X) (xs : List ℕ) → ((i : ℕ) → IsAmong i xs → f i ≡ g i) → map f xs ≡ map g xs
 map_same f g [] h = refl

@@ -9,8 +9,8 @@ use Rattle.edi_target.specs.Mach.{Machine}
 use Rattle.edi_kernel.specs.declared.table.Standing.{Standing}
 use Rattle.edi_kernel.specs.declared.table.Standing.TheVariants as standing
 use Rattle.edi_kernel.specs.declared.table.Table.{Table}
-use Rattle.edi_kernel.specs.Table.{process_at, marked_at, free_places, is_live}
-use Rattle.edi_kernel.specs.Stands.{Naming, Once, Awaits, Born, Stands, entry_of, is_child_of, children_of}
+use Rattle.edi_kernel.specs.Table.{process_at, marked_at, free_slots, is_live}
+use Rattle.edi_kernel.specs.TableIsMachine.{Naming, Once, Awaits, Born, TableIsMachine, entry_of, is_child_of, children_of}
 use Rattle.edi_kernel.proofs.Counts.{where_same, where_some, where_less}
 use Rattle.edi_kernel.proofs.Changes.{live_below, names_apart, is_child}
 
@@ -69,12 +69,12 @@ length-without {A} (e ∷ es) p a o f = go (same p e.0) refl f (length-without e
 module _ (t u : Table) (n : Naming) (m k : Machine) (p : ℕ) where
   -- the live process at p, which is not the first and has no children, ends
   pub record Ends : Type 0 where
-    pub stands : Stands t n m
+    pub stands : TableIsMachine t n m
     pub live : is_live t p ≡ true
     pub later : 0 < p
     pub there : (i : ℕ) → process_at u i ≡ process_at t i
     pub lives : (i : ℕ) → is_live u i ≡ (not (nat_eq i p) && is_live t i)
-    pub free : length (free_places u) ≡ length (free_places t) + 1
+    pub free : length (free_slots u) ≡ length (free_slots t) + 1
     pub others : (q : Name) → same q (n.name p) ≡ false → find k.activities q ≡ find m.activities q
     pub named : (q : Name) → has (names k.activities) q ≡ true → (has (names m.activities) q ≡ true) × (same q (n.name p) ≡ false)
     pub once : Once (names k.activities)
@@ -161,7 +161,7 @@ module _ (t u : Table) (n : Naming) (m k : Machine) (p : ℕ) where
       | inr ne ↦ subst (λ c. Awaits (process_at t i).standing c) (sym (children_other i ne)) (e.stands.awaits i (was i l))
     ])
 
-    pub ends : Stands u n k
+    pub ends : TableIsMachine u n k
     ends = record {
       found = λ i l.
           e.others (n.name i) (names_apart t n m e.stands i p (was i l) e.live (other i l))

@@ -6,14 +6,14 @@ use Rattle.edi_calls.specs.Names.{Name, same, find, with_at, without, names}
 use Rattle.edi_calls.specs.Ready.{has, child, parent_of, joins}
 use Rattle.edi_calls.proofs.Tables.{same-or-other, find-with_at-same, find-with_at-other, find-without-same, find-without-other}
 use Rattle.edi_target.specs.Mach as mach
-use Rattle.edi_target.specs.Mach.{Machine, Running, Stepped, went, activity_of, awaits, freed, one_less, told, exited}
+use Rattle.edi_target.specs.Mach.{Machine, Running, Stepped, went, activity_of, awaits, freed, one_less, notified, exited}
 use Rattle.edi_ring.specs.Lists.{home_of}
 use Rattle.edi_kernel.specs.declared.table.Standing.{Standing}
 use Rattle.edi_kernel.specs.declared.table.Standing.TheVariants as standing
 use Rattle.edi_kernel.specs.declared.table.Process.{Process}
 use Rattle.edi_kernel.specs.declared.table.Table.{Table}
-use Rattle.edi_kernel.specs.Table.{Puts, Tells, TellsOne, Removed, process_at, ready_places, free_places, is_live, is_free_home, is_waiting, no_marks}
-use Rattle.edi_kernel.specs.Stands.{IsTable, IsTaken, Naming, Once, Awaits, Born, Stands, entry_of, standing_of, children_of}
+use Rattle.edi_kernel.specs.Table.{PutsProcess, Tells, TellsOne, Removed, process_at, ready_slots, free_slots, is_live, is_free_home, is_waiting, no_marks}
+use Rattle.edi_kernel.specs.TableIsMachine.{IsTable, IsTaken, Naming, Once, Awaits, Born, TableIsMachine, entry_of, standing_of, children_of}
 use Rattle.edi_kernel.proofs.Names.{parent_is}
 use Rattle.edi_kernel.proofs.Counts.{map-append}
 use Rattle.edi_kernel.proofs.Changes.{one_changes, length-names}
@@ -22,9 +22,9 @@ use Rattle.edi_kernel.proofs.Lists.{put_list, put_other, put_home_here, put_home
 use Rattle.edi_kernel.proofs.Walks.{Follows, names-with_at}
 use Rattle.edi_kernel.proofs.Switches.{At, taken_live}
 
--- ---- the place is free
+-- ---- the slot is free
 
-module _ (t u : Table) (p : ℕ) (table : IsTable t) (taken : IsTaken t p) (put : Puts 1 p (process_at t p) t u) where
+module _ (t u : Table) (p : ℕ) (table : IsTable t) (taken : IsTaken t p) (put : PutsProcess 1 p (process_at t p) t u) where
   freed_there : (i : ℕ) → process_at u i ≡ process_at t i
   freed_there i = elim (cases_eq i p) [
     | inl e ↦ ap (process_at u) e ∙ put_here t u 1 p (process_at t p) put (omega (arith, table.wide, taken.inside)) ∙ sym (ap (process_at t) e)
@@ -45,16 +45,16 @@ module _ (t u : Table) (p : ℕ) (table : IsTable t) (taken : IsTaken t p) (put 
       dead true = refl
       dead false = refl
 
-  freed_ready : ready_places u ≡ ready_places t
+  freed_ready : ready_slots u ≡ ready_slots t
   freed_ready = put_other t u 1 p (process_at t p) put table.sound (omega arith) 0 (λ e. omega (arith, e))
 
-  freed_free : length (free_places u) ≡ length (free_places t) + 1
-  freed_free = ap length (put_list t u 1 p (process_at t p) put table.sound (omega arith)) ∙ length_push (free_places t) p
+  freed_free : length (free_slots u) ≡ length (free_slots t) + 1
+  freed_free = ap length (put_list t u 1 p (process_at t p) put table.sound (omega arith)) ∙ length_push (free_slots t) p
 
   pub freed_table : 0 < p → IsTable u
   freed_table pos = put_table t u 1 p (process_at t p) table put (inr pos) taken.inside (table.parents p) (table.ordered p taken.inside) taken.going
 
-  no_children : (n : Naming) (m : Machine) → Stands t n m → children_of t p ≡ 0
+  no_children : (n : Naming) (m : Machine) → TableIsMachine t n m → children_of t p ≡ 0
   no_children n m s = none (process_at t p).standing (children_of t p) taken.going (s.awaits p (taken_live t p taken))
     where
       none : (s : Standing) (c : ℕ) → is_waiting s ≡ false → Awaits s c → c ≡ 0
@@ -67,7 +67,7 @@ module _ (t u : Table) (p : ℕ) (table : IsTable t) (taken : IsTaken t p) (put 
     abbrev rest : Machine
     rest = record { memory = r.local.memory; activities = without k.activities (n.name p); marks = []; turns = r.turns; system = r.system }
 
-    gone : Stands t n m → 0 < p → Follows m k (n.name p) (n.forks p) xs a → t.marked ≡ no_marks → deaths.Ends t u n m rest p
+    gone : TableIsMachine t n m → 0 < p → Follows m k (n.name p) (n.forks p) xs a → t.marked ≡ no_marks → deaths.Ends t u n m rest p
     gone s pos f unmarked = record {
       stands = s;
       live = taken_live t p taken;
@@ -96,14 +96,14 @@ pub record Exited (u : Table) (n : Naming) (before after : List Name) (s : Stepp
   pub machine : Machine
   pub joined : List Name
   pub is : s ≡ went machine (joins joined)
-  pub stands : Stands u n machine
+  pub stands : TableIsMachine u n machine
   pub ready : after ≡ before ++ joined
 
 module _ (t u : Table) (n : Naming) (m : Machine) (p w : ℕ) where
   -- the process at p waits for w children, and one less of them is left
   pub record Waits : Type 0 where
     pub table : IsTable t
-    pub stands : Stands t n m
+    pub stands : TableIsMachine t n m
     pub live : is_live t p ≡ true
     pub unmarked : t.marked ≡ no_marks
     pub none : m.marks ≡ []
@@ -119,7 +119,7 @@ module _ (t u : Table) (n : Naming) (m : Machine) (p w : ℕ) where
     changed s = record m { activities = with_at m.activities (n.name p) (record entry { standing = s }) }
 
     changes : (s : Standing) → u.processes ≡ slice_set t.processes p (record (process_at t p) { standing = s }) → ((i : ℕ) → is_live u i ≡ is_live t i) →
-        length (free_places u) ≡ length (free_places t) → u.marked ≡ t.marked → Awaits s (children_of t p) → Stands u n (changed (standing_of s))
+        length (free_slots u) ≡ length (free_slots t) → u.marked ≡ t.marked → Awaits s (children_of t p) → TableIsMachine u n (changed (standing_of s))
     changes s e lives free marked few =
         one_changes t u n n.forks m (changed (standing_of s)) p (record (process_at t p) { standing = s })
         (record {
@@ -145,7 +145,7 @@ module _ (t u : Table) (n : Naming) (m : Machine) (p w : ℕ) where
     step_is : one_less m (n.name p) entry entry.standing ≡ went (changed (awaits (w - 1))) (freed (w - 1) (n.name p))
     step_is = ap (λ s. one_less m (n.name p) entry (standing_of s)) h.waiting
 
-    by_number : (v : ℕ) → w ≡ suc v → (is_last : Bool) → nat_le w 1 ≡ is_last → TellsOne is_last w p t u → Exited u n (map n.name (ready_places t)) (map n.name (ready_places u)) (one_less m (n.name p) entry entry.standing)
+    by_number : (v : ℕ) → w ≡ suc v → (is_last : Bool) → nat_le w 1 ≡ is_last → TellsOne is_last w p t u → Exited u n (map n.name (ready_slots t)) (map n.name (ready_slots u)) (one_less m (n.name p) entry entry.standing)
     by_number zero e true f put =
         let x : Process = record (process_at t p) { standing = standing.Ready } in
         let one : w - 1 ≡ 0 = omega (arith, e) in
@@ -155,7 +155,7 @@ module _ (t u : Table) (n : Naming) (m : Machine) (p w : ℕ) where
           joined = n.name p ∷ [];
           is = step_is ∙ ap (λ v. went (changed (awaits v)) (freed v (n.name p))) one;
           stands = changes standing.Ready put.processes (put_lives t u p x put homeless) (ap length (put_other t u 0 p x put h.table.sound (omega arith) 1 (λ e. omega (arith, e)))) put.marked none;
-          ready = ap (map n.name) (put_list t u 0 p x put h.table.sound (omega arith)) ∙ map-append n.name (ready_places t) (p ∷ []);
+          ready = ap (map n.name) (put_list t u 0 p x put h.table.sound (omega arith)) ∙ map-append n.name (ready_slots t) (p ∷ []);
         }
     by_number zero e false f is = let g : 1 < w = leb-false w 1 f in absurd (omega (arith, e, g))
     by_number (suc v) e true f put = let g : w ≤ 1 = leb-true w 1 f in absurd (omega (arith, e, g))
@@ -166,12 +166,12 @@ module _ (t u : Table) (n : Naming) (m : Machine) (p w : ℕ) where
           joined = [];
           is = step_is ∙ ap (λ v. went (changed (awaits v)) (freed v (n.name p))) less;
           stands =
-              subst (λ x. Stands u n (changed (mach.waiting x))) less
-              (changes (standing.Waiting (w - 1)) (ap (λ t. t.processes) is) (λ i. ap (λ t. is_live t i) is) (ap (λ t. length (free_places t)) is) (ap (λ t. t.marked) is) (omega (arith, h.few)));
-          ready = ap (λ t. map n.name (ready_places t)) is ∙ sym (append-nil (map n.name (ready_places t)));
+              subst (λ x. TableIsMachine u n (changed (mach.waiting x))) less
+              (changes (standing.Waiting (w - 1)) (ap (λ t. t.processes) is) (λ i. ap (λ t. is_live t i) is) (ap (λ t. length (free_slots t)) is) (ap (λ t. t.marked) is) (omega (arith, h.few)));
+          ready = ap (λ t. map n.name (ready_slots t)) is ∙ sym (append-nil (map n.name (ready_slots t)));
         }
 
-    pub tells_one : (v : ℕ) → w ≡ suc v → TellsOne (nat_le w 1) w p t u → Exited u n (map n.name (ready_places t)) (map n.name (ready_places u)) (one_less m (n.name p) entry entry.standing)
+    pub tells_one : (v : ℕ) → w ≡ suc v → TellsOne (nat_le w 1) w p t u → Exited u n (map n.name (ready_slots t)) (map n.name (ready_slots u)) (one_less m (n.name p) entry entry.standing)
     tells_one v e tells = by_number v e (nat_le w 1) refl tells
 
 -- ---- what the end of a branch leaves as it is
@@ -186,7 +186,7 @@ module _ {X : Type 0} (part : Machine → X) (same : (m : Machine) (es : List (N
   kept_one m p a mach.at_when = refl
   kept_one m p a (mach.waiting n) = same m (with_at m.activities p (record a { standing = awaits (n - 1) }))
 
-  kept_told : (m : Machine) (p : Name) (o : Option mach.Activity) → part_of (told m p o) ≡ part m
+  kept_told : (m : Machine) (p : Name) (o : Option mach.Activity) → part_of (notified m p o) ≡ part m
   kept_told m p None = refl
   kept_told m p (Some a) = kept_one m p a a.standing
 
@@ -211,7 +211,7 @@ none_told_one m q p a (mach.waiting n) f e = elim (same-or-other p q) [
     no_some : None ≡ Some a → ⊥
     no_some e = cc
 
-none_told : (m : Machine) (q p : Name) (o : Option mach.Activity) → find m.activities q ≡ o → find m.activities p ≡ None → found_in (told m q o) p ≡ None
+none_told : (m : Machine) (q p : Name) (o : Option mach.Activity) → find m.activities q ≡ o → find m.activities p ≡ None → found_in (notified m q o) p ≡ None
 none_told m q p None f e = e
 none_told m q p (Some a) f e = none_told_one m q p a a.standing f e
 
@@ -233,7 +233,7 @@ module _ (t u : Table) (n : Naming) (m k : Machine) (p : ℕ) (a : mach.Activity
     ending : deaths.Ends t removed.between n m without_p p
     ending = gone t removed.between p at.table at.taken removed.put n m k a xs r at.stands pos f unmarked
 
-    stands_between : Stands removed.between n without_p
+    stands_between : TableIsMachine removed.between n without_p
     stands_between = deaths.ends t removed.between n m without_p p ending
 
     birth : Born t n p
@@ -256,12 +256,12 @@ module _ (t u : Table) (n : Naming) (m k : Machine) (p : ℕ) (a : mach.Activity
 
     told_is : exited k (n.name p) r ≡ one_less without_p (n.name parent) (entry_of (process_at removed.between parent) (n.forks parent)) (standing_of (process_at removed.between parent).standing)
     told_is =
-        ap (λ q. told without_p q (find without_p.activities q)) its_parent
-        ∙ ap (told without_p (n.name parent)) (stands_between.found parent parent_live)
+        ap (λ q. notified without_p q (find without_p.activities q)) its_parent
+        ∙ ap (notified without_p (n.name parent)) (stands_between.found parent parent_live)
 
     -- the parent waits
     waits : (s : Standing) → (process_at removed.between parent).standing ≡ s → Tells s parent removed.between u →
-        Exited u n (map n.name (ready_places removed.between)) (map n.name (ready_places u))
+        Exited u n (map n.name (ready_slots removed.between)) (map n.name (ready_slots u))
         (one_less without_p (n.name parent) (entry_of (process_at removed.between parent) (n.forks parent)) (standing_of (process_at removed.between parent).standing))
     waits standing.Ready e tells = absurd (omega (arith, none standing.Ready e, more))
       where
@@ -296,9 +296,9 @@ module _ (t u : Table) (n : Naming) (m k : Machine) (p : ℕ) (a : mach.Activity
         more : children_of t parent ≡ suc (children_of removed.between parent)
         more = deaths.one_child_less t removed.between n m without_p p ending
 
-    pub exits : Exited u n (map n.name (ready_places t)) (map n.name (ready_places u)) (exited k (n.name p) r)
+    pub exits : Exited u n (map n.name (ready_slots t)) (map n.name (ready_slots u)) (exited k (n.name p) r)
     exits =
-        let e : Exited u n (map n.name (ready_places removed.between)) (map n.name (ready_places u))
+        let e : Exited u n (map n.name (ready_slots removed.between)) (map n.name (ready_slots u))
         (one_less without_p (n.name parent) (entry_of (process_at removed.between parent) (n.forks parent)) (standing_of (process_at removed.between parent).standing)) =
         waits (process_at removed.between parent).standing refl removed.told in
         record {

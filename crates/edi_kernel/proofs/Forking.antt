@@ -16,8 +16,8 @@ use Rattle.edi_machine.specs.Activities.{local_of}
 use Rattle.edi_machine.specs.Starts.{child_at, child_first}
 use Rattle.edi_kernel.specs.declared.table.Standing.TheVariants as standing
 use Rattle.edi_kernel.specs.declared.table.Table.{Table}
-use Rattle.edi_kernel.specs.Table.{Added, beginning, process_at, ready_places, is_live, is_free_home, no_marks, no_process}
-use Rattle.edi_kernel.specs.Stands.{IsTable, Naming, Awaits, Stands, entry_of, children_of}
+use Rattle.edi_kernel.specs.Table.{Added, beginning, process_at, ready_slots, is_live, is_free_home, no_marks, no_process}
+use Rattle.edi_kernel.specs.TableIsMachine.{IsTable, Naming, Awaits, TableIsMachine, entry_of, children_of}
 use Rattle.edi_kernel.specs.Forks.{OneMore, HaveBegun, share_in}
 use Rattle.edi_kernel.proofs.Names.{same_ends}
 use Rattle.edi_kernel.proofs.Counts.{map_same, map-append}
@@ -48,7 +48,7 @@ children-push p f k (suc n) = ap (λ ps. child p f k ∷ ps) (children-push p f 
 
 module _ (t u : Table) (parent : ℕ) (a : Activity) (s : IsTable t) (added : Added parent a t u) where
   abbrev c : ℕ
-  c = added.place
+  c = added.slot
 
   dead : is_live t c ≡ false
   dead = ap (λ h. nat_lt c 32 && not (is_free_home h)) added.was ∙ neither (nat_lt c 32)
@@ -86,8 +86,8 @@ module _ (t u : Table) (parent : ℕ) (a : Activity) (s : IsTable t) (added : Ad
   marks_same : u.marks ≡ t.marks
   marks_same = added.put.marks ∙ added.taken.marks
 
-  -- a ready one had another place
-  ready_not : (i : ℕ) → IsAmong i (ready_places t) → i ≡ c → ⊥
+  -- a ready one had another slot
+  ready_not : (i : ℕ) → IsAmong i (ready_slots t) → i ≡ c → ⊥
   ready_not i h e = two (home_of t.lists c) (ap (home_of t.lists) (sym e) ∙ home_among t 0 i s.sound (omega arith) h) added.was
     where
       two : (o : Option ℕ) → o ≡ Some 0 → o ≡ Some 1 → ⊥
@@ -99,26 +99,26 @@ module _ (t u : Table) (parent : ℕ) (a : Activity) (s : IsTable t) (added : Ad
 
 -- ---- the children one after another
 
-module _ (place : ℕ) (parent : Activity) (branches : List Branch) (store : List ℕ) (t : Table) (n : Naming) (m : Machine) (f : ℕ) where
+module _ (slot : ℕ) (parent : Activity) (branches : List Branch) (store : List ℕ) (t : Table) (n : Naming) (m : Machine) (f : ℕ) where
   abbrev share : ℕ
   share = share_in parent branches
 
   abbrev p : Name
-  p = n.name place
+  p = n.name slot
 
   pub record Starts : Type 0 where
-    pub inside : place < 32
+    pub inside : slot < 32
     pub table : IsTable t
-    pub stands : Stands t n m
-    pub live : is_live t place ≡ true
-    pub homeless : home_of t.lists place ≡ None
+    pub stands : TableIsMachine t n m
+    pub live : is_live t slot ≡ true
+    pub homeless : home_of t.lists slot ≡ None
     pub memory : m.memory ≡ store
     pub no_marks_left : m.marks ≡ []
     pub unmarked : t.marked ≡ no_marks
     pub none_counted : t.marks ≡ 0
-    pub none : children_of t place ≡ 0
-    pub waiting : (process_at t place).standing ≡ standing.Waiting (length branches)
-    pub fork : f ≤ n.forks place
+    pub none : children_of t slot ≡ 0
+    pub waiting : (process_at t slot).standing ≡ standing.Waiting (length branches)
+    pub fork : f ≤ n.forks slot
     pub fresh : (i q : ℕ) → is_live t i ≡ true → n.name i ≡ child p f q → ⊥
 
   -- after i children
@@ -126,19 +126,19 @@ module _ (place : ℕ) (parent : Activity) (branches : List Branch) (store : Lis
     pub naming : Naming
     pub machine : Machine
     pub table : IsTable u
-    pub stands : Stands u naming machine
-    pub live : is_live u place ≡ true
-    pub homeless : home_of u.lists place ≡ None
+    pub stands : TableIsMachine u naming machine
+    pub live : is_live u slot ≡ true
+    pub homeless : home_of u.lists slot ≡ None
     pub memory : machine.memory ≡ words
     pub no_marks_left : machine.marks ≡ []
     pub unmarked : u.marked ≡ no_marks
     pub none_counted : u.marks ≡ 0
-    pub few : children_of u place ≤ i
-    pub waiting : (process_at u place).standing ≡ standing.Waiting (length branches)
-    pub fork : f ≤ naming.forks place
-    pub named : naming.name place ≡ p
+    pub few : children_of u slot ≤ i
+    pub waiting : (process_at u slot).standing ≡ standing.Waiting (length branches)
+    pub fork : f ≤ naming.forks slot
+    pub named : naming.name slot ≡ p
     pub fresh : (j q : ℕ) → i ≤ q → is_live u j ≡ true → naming.name j ≡ child p f q → ⊥
-    pub ready : map naming.name (ready_places u) ≡ map n.name (ready_places t) ++ children p f 0 i
+    pub ready : map naming.name (ready_slots u) ≡ map n.name (ready_slots t) ++ children p f 0 i
     pub turns : machine.turns ≡ m.turns
     pub system : machine.system ≡ m.system
     pub chain : with_children p f i parent.base (parent.end + i * share) share (drop i branches) machine ≡ with_children p f 0 parent.base parent.end share branches m
@@ -161,75 +161,75 @@ module _ (place : ℕ) (parent : Activity) (branches : List Branch) (store : Lis
       fork = s.fork;
       named = refl;
       fresh = λ j q _ l e. s.fresh j q l e;
-      ready = sym (append-nil (map n.name (ready_places t)));
+      ready = sym (append-nil (map n.name (ready_slots t)));
       turns = refl;
       system = refl;
       chain = ap (λ a. with_children p f 0 parent.base a share (drop 0 branches) m) (omega arith) ∙ ap (λ bs. with_children p f 0 parent.base parent.end share bs m) (drop_none branches);
     }
 
-    module _ (i : ℕ) (words : List ℕ) (u : Table) (h : OneMore place parent branches i (HaveBegun place parent branches store t i) words u) (g : Grown i h.store_before h.table_before) (b : Branch) (at_i : slice_get branches i ≡ Some b)
+    module _ (i : ℕ) (words : List ℕ) (u : Table) (h : OneMore slot parent branches i (HaveBegun slot parent branches store t i) words u) (g : Grown i h.store_before h.table_before) (b : Branch) (at_i : slice_get branches i ≡ Some b)
         (is : h.child ≡ child_at (child_first (local_of [] parent) share i) share b) (less : i < length branches) where
       abbrev at : ℕ
       at = parent.end + i * share
 
-      abbrev place_i : ℕ
-      place_i = h.added.place
+      abbrev slot_i : ℕ
+      slot_i = h.added.slot
 
       abbrev machine_i : Machine
       machine_i = with_child (child p f i) parent.base at share b g.machine
 
       abbrev naming_i : Naming
-      naming_i = births.now_named h.table_before u g.naming g.machine machine_i place place_i f i (beginning place h.child)
+      naming_i = births.now_named h.table_before u g.naming g.machine machine_i slot slot_i f i (beginning slot h.child)
 
-      begins : births.Begins h.table_before u g.naming g.machine machine_i place place_i f i (beginning place h.child)
+      begins : births.ChildBegins h.table_before u g.naming g.machine machine_i slot slot_i f i (beginning slot h.child)
       begins = record {
         stands = g.stands;
         live = g.live;
-        dead = dead h.table_before u place h.child g.table h.added;
-        place = h.added.inside;
-        later = later h.table_before u place h.child g.table h.added;
-        here = process_here h.table_before u place h.child g.table h.added;
+        dead = dead h.table_before u slot h.child g.table h.added;
+        slot = h.added.inside;
+        later = later h.table_before u slot h.child g.table h.added;
+        here = process_here h.table_before u slot h.child g.table h.added;
         parent = refl;
-        there = process_there h.table_before u place h.child g.table h.added;
-        lives = lives h.table_before u place h.child g.table h.added;
-        free = added_free place h.child h.table_before u g.table s.inside h.ordered h.added;
+        there = process_there h.table_before u slot h.child g.table h.added;
+        lives = lives h.table_before u slot h.child g.table h.added;
+        free = added_free slot h.child h.table_before u g.table s.inside h.ordered h.added;
         activities =
-            ap (λ q. with_at g.machine.activities q (entry_of (beginning place (child_at (child_first (local_of [] parent) share i) share b)) 0)) (ap (λ q. child q f i) (sym g.named))
-            ∙ ap (λ c. with_at g.machine.activities (child (g.naming.name place) f i) (entry_of (beginning place c) 0)) (sym is);
-        marks = λ j l. ap (λ ms. has ms (naming_i.name j)) g.no_marks_left ∙ sym (ap (λ ms. slice_index_or ms j false) (marked_same h.table_before u place h.child g.table h.added ∙ g.unmarked) ∙ unmarked_at 32 j);
+            ap (λ q. with_at g.machine.activities q (entry_of (beginning slot (child_at (child_first (local_of [] parent) share i) share b)) 0)) (ap (λ q. child q f i) (sym g.named))
+            ∙ ap (λ c. with_at g.machine.activities (child (g.naming.name slot) f i) (entry_of (beginning slot c) 0)) (sym is);
+        marks = λ j l. ap (λ ms. has ms (naming_i.name j)) g.no_marks_left ∙ sym (ap (λ ms. slice_index_or ms j false) (marked_same h.table_before u slot h.child g.table h.added ∙ g.unmarked) ∙ unmarked_at 32 j);
         going = refl;
         fork = g.fork;
         fresh = λ j l e. g.fresh j i (omega arith) l (e ∙ ap (λ q. child q f i) g.named);
-        awaits = subst (λ x. Awaits x (suc (children_of h.table_before place))) (sym g.waiting) (omega (arith, g.few, less));
+        awaits = subst (λ x. Awaits x (suc (children_of h.table_before slot))) (sym g.waiting) (omega (arith, g.few, less));
       }
 
-      not_place : place ≡ place_i → ⊥
-      not_place = births.other h.table_before u g.naming g.machine machine_i place place_i f i (beginning place h.child) begins place g.live
+      not_slot : slot ≡ slot_i → ⊥
+      not_slot = births.other h.table_before u g.naming g.machine machine_i slot slot_i f i (beginning slot h.child) begins slot g.live
 
-      name_other : (j : ℕ) → (j ≡ place_i → ⊥) → naming_i.name j ≡ g.naming.name j
-      name_other = births.not_c h.table_before u g.naming g.machine machine_i place place_i f i (beginning place h.child) begins
+      name_other : (j : ℕ) → (j ≡ slot_i → ⊥) → naming_i.name j ≡ g.naming.name j
+      name_other = births.not_c h.table_before u g.naming g.machine machine_i slot slot_i f i (beginning slot h.child) begins
 
-      name_new : naming_i.name place_i ≡ child p f i
-      name_new = births.at_c h.table_before u g.naming g.machine machine_i place place_i f i (beginning place h.child) begins place_i refl ∙ ap (λ q. child q f i) g.named
+      name_new : naming_i.name slot_i ≡ child p f i
+      name_new = births.at_c h.table_before u g.naming g.machine machine_i slot slot_i f i (beginning slot h.child) begins slot_i refl ∙ ap (λ q. child q f i) g.named
 
       fresh_i : (j q : ℕ) → suc i ≤ q → is_live u j ≡ true → naming_i.name j ≡ child p f q → ⊥
-      fresh_i j q le l e = elim (cases_eq j place_i) [
+      fresh_i j q le l e = elim (cases_eq j slot_i) [
         | inl x ↦
             let y : child p f i ≡ child p f q = sym (ap naming_i.name x ∙ name_new) ∙ e in
             let z : (p ≡ p) × (f ≡ f) × (i ≡ q) = same_ends p p f i f q y in
             let w : i ≡ q = z.2 in omega (arith, w, le)
         | inr ne ↦
-            g.fresh j q (omega (arith, le)) (births.was h.table_before u g.naming g.machine machine_i place place_i f i (beginning place h.child) begins j ne l) (sym (name_other j ne) ∙ e)
+            g.fresh j q (omega (arith, le)) (births.was h.table_before u g.naming g.machine machine_i slot slot_i f i (beginning slot h.child) begins j ne l) (sym (name_other j ne) ∙ e)
       ]
 
-      ready_i : map naming_i.name (ready_places u) ≡ map n.name (ready_places t) ++ children p f 0 (suc i)
+      ready_i : map naming_i.name (ready_slots u) ≡ map n.name (ready_slots t) ++ children p f 0 (suc i)
       ready_i =
-          ap (map naming_i.name) (added_ready place h.child h.table_before u g.table s.inside h.ordered h.added)
-          ∙ map-append naming_i.name (ready_places h.table_before) (place_i ∷ [])
-          ∙ ap (λ qs. qs ++ naming_i.name place_i ∷ []) (map_same naming_i.name g.naming.name (ready_places h.table_before) (λ j k. name_other j (ready_not h.table_before u place h.child g.table h.added j k)) ∙ g.ready)
-          ∙ ap (λ q. (map n.name (ready_places t) ++ children p f 0 i) ++ q ∷ []) name_new
-          ∙ append_assoc (map n.name (ready_places t)) (children p f 0 i) (child p f i ∷ [])
-          ∙ ap (λ qs. map n.name (ready_places t) ++ qs) (ap (λ j. children p f 0 i ++ child p f j ∷ []) (omega arith) ∙ sym (children-push p f 0 i))
+          ap (map naming_i.name) (added_ready slot h.child h.table_before u g.table s.inside h.ordered h.added)
+          ∙ map-append naming_i.name (ready_slots h.table_before) (slot_i ∷ [])
+          ∙ ap (λ qs. qs ++ naming_i.name slot_i ∷ []) (map_same naming_i.name g.naming.name (ready_slots h.table_before) (λ j k. name_other j (ready_not h.table_before u slot h.child g.table h.added j k)) ∙ g.ready)
+          ∙ ap (λ q. (map n.name (ready_slots t) ++ children p f 0 i) ++ q ∷ []) name_new
+          ∙ append_assoc (map n.name (ready_slots t)) (children p f 0 i) (child p f i ∷ [])
+          ∙ ap (λ qs. map n.name (ready_slots t) ++ qs) (ap (λ j. children p f 0 i ++ child p f j ∷ []) (omega arith) ∙ sym (children-push p f 0 i))
 
       chain_i : with_children p f (suc i) parent.base (parent.end + suc i * share) share (drop (suc i) branches) machine_i ≡ with_children p f 0 parent.base parent.end share branches m
       chain_i =
@@ -243,18 +243,18 @@ module _ (place : ℕ) (parent : Activity) (branches : List Branch) (store : Lis
       grown_more = record {
         naming = naming_i;
         machine = machine_i;
-        table = added_table place h.child h.table_before u g.table s.inside h.ordered h.added;
-        stands = births.begins h.table_before u g.naming g.machine machine_i place place_i f i (beginning place h.child) begins;
-        live = births.still h.table_before u g.naming g.machine machine_i place place_i f i (beginning place h.child) begins place g.live;
-        homeless = home_there h.table_before u place h.child g.table h.added place not_place ∙ g.homeless;
+        table = added_table slot h.child h.table_before u g.table s.inside h.ordered h.added;
+        stands = births.begins h.table_before u g.naming g.machine machine_i slot slot_i f i (beginning slot h.child) begins;
+        live = births.still h.table_before u g.naming g.machine machine_i slot slot_i f i (beginning slot h.child) begins slot g.live;
+        homeless = home_there h.table_before u slot h.child g.table h.added slot not_slot ∙ g.homeless;
         memory = ap (λ ws. written ws at (parent.base ∷ 0 ∷ 0 ∷ 0 ∷ 0 ∷ [])) g.memory ∙ sym h.words;
         no_marks_left = g.no_marks_left;
-        unmarked = marked_same h.table_before u place h.child g.table h.added ∙ g.unmarked;
-        none_counted = marks_same h.table_before u place h.child g.table h.added ∙ g.none_counted;
-        few = let e = births.children_p h.table_before u g.naming g.machine machine_i place place_i f i (beginning place h.child) begins in omega (arith, e, g.few);
-        waiting = ap (λ y. y.standing) (process_there h.table_before u place h.child g.table h.added place not_place) ∙ g.waiting;
-        fork = let e = births.forks_not_c h.table_before u g.naming g.machine machine_i place place_i f i (beginning place h.child) begins place not_place in omega (arith, e, g.fork);
-        named = name_other place not_place ∙ g.named;
+        unmarked = marked_same h.table_before u slot h.child g.table h.added ∙ g.unmarked;
+        none_counted = marks_same h.table_before u slot h.child g.table h.added ∙ g.none_counted;
+        few = let e = births.children_p h.table_before u g.naming g.machine machine_i slot slot_i f i (beginning slot h.child) begins in omega (arith, e, g.few);
+        waiting = ap (λ y. y.standing) (process_there h.table_before u slot h.child g.table h.added slot not_slot) ∙ g.waiting;
+        fork = let e = births.forks_not_c h.table_before u g.naming g.machine machine_i slot slot_i f i (beginning slot h.child) begins slot not_slot in omega (arith, e, g.fork);
+        named = name_other slot not_slot ∙ g.named;
         fresh = fresh_i;
         ready = ready_i;
         turns = g.turns;
@@ -262,7 +262,7 @@ module _ (place : ℕ) (parent : Activity) (branches : List Branch) (store : Lis
         chain = chain_i;
       }
 
-    pub grown : (i : ℕ) (words : List ℕ) (u : Table) → i ≤ length branches → HaveBegun place parent branches store t i words u → Grown i words u
+    pub grown : (i : ℕ) (words : List ℕ) (u : Table) → i ≤ length branches → HaveBegun slot parent branches store t i words u → Grown i words u
     grown zero words u le h = subst (λ w. Grown 0 w u) (sym h.0) (subst (λ v. Grown 0 store v) (sym h.1) grown_none)
     grown (suc i) words u le h = by_branch (slice_get branches i) refl h.is (grown i h.store_before h.table_before (omega (arith, le)) h.begun)
       where

@@ -33,8 +33,8 @@ use Rattle.edi_kernel.specs.declared.table.Standing.{Standing}
 use Rattle.edi_kernel.specs.declared.table.Standing.TheVariants as standing
 use Rattle.edi_kernel.specs.declared.table.Process.{Process}
 use Rattle.edi_kernel.specs.declared.table.Table.{Table}
-use Rattle.edi_kernel.specs.Table.{Puts, Removed, at_its_when, waiting_for, process_at, marks_with, marked_with, unmarked, ready_places, free_places, is_live, is_waiting, resumed, with_process}
-use Rattle.edi_kernel.specs.Stands.{IsTable, IsTaken, IsBetween, Naming, Awaits, Born, Stands, is_child_of, entry_of, children_of}
+use Rattle.edi_kernel.specs.Table.{PutsProcess, Removed, at_its_when, waiting_for, process_at, marks_with, marked_with, unmarked, ready_slots, free_slots, is_live, is_waiting, resumed, with_process}
+use Rattle.edi_kernel.specs.TableIsMachine.{IsTable, IsTaken, IsBetween, Naming, Awaits, Born, TableIsMachine, is_child_of, entry_of, children_of}
 use Rattle.edi_kernel.specs.Stretch.{Paused, going, pausing, stopping, stretch, running_in, walked, Pauses, Breaks, Stretches, Allows}
 use Rattle.edi_kernel.specs.Stints as stints
 use Rattle.edi_kernel.specs.Stints.{stint, stint_after}
@@ -45,22 +45,22 @@ use Rattle.edi_kernel.proofs.Counts.{marked_few, map-append, where_same}
 use Rattle.edi_kernel.proofs.Changes.{length-names, one_changes, at_set_same, at_set_other}
 use Rattle.edi_kernel.proofs.Lists.{written_table, unmarked_at}
 use Rattle.edi_kernel.proofs.Walks.{Follows, follows_itself, names-with_at, marks_after, Comes, comes, Walked, walks}
-use Rattle.edi_kernel.proofs.Switches.{At, taken_live, follows_marks, unmarked_table, unmarked_taken, unmarked_at_place, marked_at_place, stood, stood_ready, all_ready}
+use Rattle.edi_kernel.proofs.Switches.{At, taken_live, follows_marks, unmarked_table, unmarked_taken, unmarked_at_slot, marked_at_slot, stood, stood_ready, all_ready}
 use Rattle.edi_kernel.proofs.Exits.{Exited, exits, kept, none_left}
 use Rattle.edi_kernel.proofs.Handled.{handled}
 use Rattle.edi_kernel.proofs.Forking.{Starts, Grown, grown, drop_all}
 
 -- ---- what is taken
 
-pub taken_at : (k : KernelState) (place : ℕ) → IsKernel k → k.taken ≡ Some place → IsTaken k.table place
-taken_at k place h e = subst (IsTakenIn k.table) e h.taken
+pub taken_at : (k : KernelState) (slot : ℕ) → IsKernel k → k.taken ≡ Some slot → IsTaken k.table slot
+taken_at k slot h e = subst (IsTakenIn k.table) e h.taken
 
-pub unmarked_if : (b : Bool) (t : Table) (place : ℕ) → IsTaken t place → IsTaken (if b then unmarked t else t) place
-unmarked_if true t place h = unmarked_taken t place h
-unmarked_if false t place h = h
+pub unmarked_if : (b : Bool) (t : Table) (slot : ℕ) → IsTaken t slot → IsTaken (if b then unmarked t else t) slot
+unmarked_if true t slot h = unmarked_taken t slot h
+unmarked_if false t slot h = h
 
-pub few_marks : (t : Table) (place : ℕ) → IsTable t → IsTaken t place → t.marks < 64
-few_marks t place s h = omega (arith, h.counted, marked_few t (place ∷ ready_places t), length-le-nodes 32 2 t.lists 0 s.sound)
+pub few_marks : (t : Table) (slot : ℕ) → IsTable t → IsTaken t slot → t.marks < 64
+few_marks t slot s h = omega (arith, h.counted, marked_few t (slot ∷ ready_slots t), length-le-nodes 32 2 t.lists 0 s.sound)
 
 -- the same stretch of the same activity
 pub stretches_same : (words store : List ℕ) (live live' left : ℕ) (first : Bool) (a b : Activity) (old new : Option State) (pause : Pause) (now : State → Running) (c : Bool) → live ≡ live' → a ≡ b →
@@ -94,8 +94,8 @@ runs m store s left process forks e f g = by_standing process.standing refl
         same : running_of m (entry_of (record process { standing = standing.Waiting n }) forks) ≡ running_in store (resumed (record process { standing = standing.Waiting n })) s left
         same = cc
 
--- the first process has the first place
-first_is : (t : Table) (n : Naming) (m : Machine) (place : ℕ) → Stands t n m → is_live t place ≡ true → (place == 0) ≡ is_first (n.name place)
+-- the first process has the first slot
+first_is : (t : Table) (n : Naming) (m : Machine) (slot : ℕ) → TableIsMachine t n m → is_live t slot ≡ true → (slot == 0) ≡ is_first (n.name slot)
 first_is t n m zero s l = sym (ap is_first s.root)
 first_is t n m (suc i) s l = not_zero i ∙ sym (named (n.name (suc i)) refl)
   where
@@ -108,23 +108,23 @@ first_is t n m (suc i) s l = not_zero i ∙ sym (named (n.name (suc i)) refl)
 
 -- ---- the stint
 
-module _ (words : List ℕ) (old mid new : KernelState) (place left left1 used : ℕ) (s t : State) (n : Naming) (m : Machine) (a : Activity) (cleared : Bool) where
+module _ (words : List ℕ) (old mid new : KernelState) (slot left left1 used : ℕ) (s t : State) (n : Naming) (m : Machine) (a : Activity) (cleared : Bool) where
   abbrev p : Name
-  p = n.name place
+  p = n.name slot
 
   abbrev others : List Name
-  others = map n.name (ready_places old.table)
+  others = map n.name (ready_slots old.table)
 
   abbrev live : ℕ
-  live = 32 - length (free_places old.table)
+  live = 32 - length (free_slots old.table)
 
   abbrev now : Running
   now = running_in mid.store a t left1
 
   pub record Given : Type 0 where
     pub table : IsTable old.table
-    pub taken : IsTaken old.table place
-    pub stands : Stands old.table n m
+    pub taken : IsTaken old.table slot
+    pub stands : TableIsMachine old.table n m
     pub memory : m.memory ≡ old.store
     pub system : m.system ≡ s
     pub turns : m.turns ≡ left
@@ -138,31 +138,31 @@ module _ (words : List ℕ) (old mid new : KernelState) (place left left1 used :
     is_live_count = omega (arith, g.stands.count)
 
     abbrev start : Running
-    start = running_in old.store (resumed (process_at old.table place)) s left
+    start = running_in old.store (resumed (process_at old.table slot)) s left
 
-    came : (steps : ℕ) (x : Paused) → stretch (fetch words) live (place == 0) steps (running_in old.store (resumed (process_at old.table place)) s left) false ≡ x →
-        Comes (fetch words) m p others (n.forks place) steps m x
+    came : (steps : ℕ) (x : Paused) → stretch (fetch words) live (slot == 0) steps (running_in old.store (resumed (process_at old.table slot)) s left) false ≡ x →
+        Comes (fetch words) m p others (n.forks slot) steps m x
     came steps x e =
-        subst (Comes (fetch words) m p others (n.forks place) steps m)
-        (ap (λ l. stretch (fetch words) l (is_first p) steps (running_in old.store (resumed (process_at old.table place)) s left) false) (sym is_live_count)
-        ∙ ap (λ b. stretch (fetch words) live b steps (running_in old.store (resumed (process_at old.table place)) s left) false) (sym (first_is old.table n m place g.stands (taken_live old.table place g.taken)))
+        subst (Comes (fetch words) m p others (n.forks slot) steps m)
+        (ap (λ l. stretch (fetch words) l (is_first p) steps (running_in old.store (resumed (process_at old.table slot)) s left) false) (sym is_live_count)
+        ∙ ap (λ b. stretch (fetch words) live b steps (running_in old.store (resumed (process_at old.table slot)) s left) false) (sym (first_is old.table n m slot g.stands (taken_live old.table slot g.taken)))
         ∙ e)
-        (comes (fetch words) m p others (n.forks place) steps m (entry_of (process_at old.table place) (n.forks place)) (running_in old.store (resumed (process_at old.table place)) s left) false
-        (follows_itself m p (entry_of (process_at old.table place) (n.forks place)) (g.stands.found place (taken_live old.table place g.taken)))
-        (runs m old.store s left (process_at old.table place) (n.forks place) g.memory g.system g.turns))
+        (comes (fetch words) m p others (n.forks slot) steps m (entry_of (process_at old.table slot) (n.forks slot)) (running_in old.store (resumed (process_at old.table slot)) s left) false
+        (follows_itself m p (entry_of (process_at old.table slot) (n.forks slot)) (g.stands.found slot (taken_live old.table slot g.taken)))
+        (runs m old.store s left (process_at old.table slot) (n.forks slot) g.memory g.system g.turns))
 
     -- the table is that of the machine, with its marks, when the process pauses
-    at_mid : At mid.table n (record m { marks = marks_after (fetch words) m p others (n.forks place) cleared }) place
-    at_mid = subst (λ u. At u n (record m { marks = marks_after (fetch words) m p others (n.forks place) cleared }) place) (sym g.mid_table) (by_cleared cleared)
+    at_mid : At mid.table n (record m { marks = marks_after (fetch words) m p others (n.forks slot) cleared }) slot
+    at_mid = subst (λ u. At u n (record m { marks = marks_after (fetch words) m p others (n.forks slot) cleared }) slot) (sym g.mid_table) (by_cleared cleared)
       where
-        by_cleared : (b : Bool) → At (if b then unmarked old.table else old.table) n (record m { marks = marks_after (fetch words) m p others (n.forks place) b }) place
-        by_cleared true = unmarked_at_place old.table n m place (record { table = g.table; taken = g.taken; stands = g.stands })
+        by_cleared : (b : Bool) → At (if b then unmarked old.table else old.table) n (record m { marks = marks_after (fetch words) m p others (n.forks slot) b }) slot
+        by_cleared true = unmarked_at_slot old.table n m slot (record { table = g.table; taken = g.taken; stands = g.stands })
         by_cleared false = record { table = g.table; taken = g.taken; stands = g.stands }
 
-    same_ready : ready_places mid.table ≡ ready_places old.table
-    same_ready = ap ready_places g.mid_table ∙ by_cleared cleared
+    same_ready : ready_slots mid.table ≡ ready_slots old.table
+    same_ready = ap ready_slots g.mid_table ∙ by_cleared cleared
       where
-        by_cleared : (b : Bool) → ready_places (if b then unmarked old.table else old.table) ≡ ready_places old.table
+        by_cleared : (b : Bool) → ready_slots (if b then unmarked old.table else old.table) ≡ ready_slots old.table
         by_cleared true = refl
         by_cleared false = refl
 
@@ -179,12 +179,12 @@ module _ (words : List ℕ) (old mid new : KernelState) (place left left1 used :
           ∙ sym (ap (λ x. Some (activity_of x.local b.forks mach.at_when)) e);
     }
 
-    abbrev at_clear : At (unmarked mid.table) n (record m { marks = [] }) place
-    at_clear = unmarked_at_place mid.table n (record m { marks = marks_after (fetch words) m p others (n.forks place) cleared }) place at_mid
+    abbrev at_clear : At (unmarked mid.table) n (record m { marks = [] }) slot
+    at_clear = unmarked_at_slot mid.table n (record m { marks = marks_after (fetch words) m p others (n.forks slot) cleared }) slot at_mid
 
-    arrived : (k : Machine) (b : mach.Activity) (ms : List Name) (r : Running) (steps rest : ℕ) → Follows m k p (n.forks place) ms b → now ≡ r →
+    arrived : (k : Machine) (b : mach.Activity) (ms : List Name) (r : Running) (steps rest : ℕ) → Follows m k p (n.forks slot) ms b → now ≡ r →
         stint (fetch words) steps m p others ≡ stints.switched (back k p (activity_of r.local b.forks mach.at_when) [] r) (p ∷ []) →
-        Puts 0 place (at_its_when (process_at mid.table place) a) (unmarked mid.table) new.table → new.store ≡ mid.store → new.arrived ≡ Some a →
+        PutsProcess 0 slot (at_its_when (process_at mid.table slot) a) (unmarked mid.table) new.table → new.store ≡ mid.store → new.arrived ≡ Some a →
         (h : Switches words (left - used) new t m p others) × TellsStanding new h.machine p
     arrived k b ms r steps rest f e is put same told = (
       record {
@@ -194,10 +194,10 @@ module _ (words : List ℕ) (old mid new : KernelState) (place left left1 used :
         is = is;
         holds = record {
           naming = n;
-          stands = stood (unmarked mid.table) new.table place a at_clear.table at_clear.taken put n (record m { marks = [] }) k b [] ms r mid.store at_clear.stands (follows_marks m k p (n.forks place) ms [] b f) refl (sym (ap (λ x. x.local) e));
+          stands = stood (unmarked mid.table) new.table slot a at_clear.table at_clear.taken put n (record m { marks = [] }) k b [] ms r mid.store at_clear.stands (follows_marks m k p (n.forks slot) ms [] b f) refl (sym (ap (λ x. x.local) e));
           memory = sym (ap (λ x. x.local.memory) e) ∙ sym same;
           is_taken = sym (ap (option_map n.name) g.none_taken);
-          is_ready = sym (ap (map n.name) (stood_ready (unmarked mid.table) new.table place a at_clear.table at_clear.taken put) ∙ map-append n.name (ready_places mid.table) (place ∷ []) ∙ ap (λ xs. map n.name xs ++ p ∷ []) same_ready);
+          is_ready = sym (ap (map n.name) (stood_ready (unmarked mid.table) new.table slot a at_clear.table at_clear.taken put) ∙ map-append n.name (ready_slots mid.table) (slot ∷ []) ∙ ap (λ xs. map n.name xs ++ p ∷ []) same_ready);
         };
         system = sym (ap (λ x. x.system) e);
         turns = sym (ap (λ x. x.turns) e) ∙ sym g.spent;
@@ -207,32 +207,32 @@ module _ (words : List ℕ) (old mid new : KernelState) (place left left1 used :
 
     -- ---- an attempt that marks its process
 
-    marked_attempt : (k : Machine) (b : mach.Activity) (r : Running) (steps rest : ℕ) (result : StintEnd) → Follows m k p (n.forks place) (marks_after (fetch words) m p others (n.forks place) cleared) b → now ≡ r →
+    marked_attempt : (k : Machine) (b : mach.Activity) (r : Running) (steps rest : ℕ) (result : StintEnd) → Follows m k p (n.forks slot) (marks_after (fetch words) m p others (n.forks slot) cleared) b → now ≡ r →
         stint (fetch words) steps m p others ≡ stint_after (λ m. stint (fetch words) rest m p others) (at_turn k p others b (again true) r) →
-        Puts 0 place (at_its_when (process_at mid.table place) a) (marked_with mid.table place) new.table → new.store ≡ mid.store →
-        result ≡ attempt_end (marks_with mid.table place == length (ready_places new.table)) used → new.arrived ≡ Some a → GoesTo words result left new t m p others
+        PutsProcess 0 slot (at_its_when (process_at mid.table slot) a) (marked_with mid.table slot) new.table → new.store ≡ mid.store →
+        result ≡ attempt_end (marks_with mid.table slot == length (ready_slots new.table)) used → new.arrived ≡ Some a → GoesTo words result left new t m p others
     marked_attempt k b r steps rest result f e is put same ends told =
-        subst (λ x. GoesTo words x left new t m p others) (sym ends) (by_marks (marks_with mid.table place == length (ready_places new.table)) refl)
+        subst (λ x. GoesTo words x left new t m p others) (sym ends) (by_marks (marks_with mid.table slot == length (ready_slots new.table)) refl)
       where
-        marked : At (marked_with mid.table place) n (record m { marks = p ∷ marks_after (fetch words) m p others (n.forks place) cleared }) place
-        marked = marked_at_place mid.table n (record m { marks = marks_after (fetch words) m p others (n.forks place) cleared }) place at_mid
+        marked : At (marked_with mid.table slot) n (record m { marks = p ∷ marks_after (fetch words) m p others (n.forks slot) cleared }) slot
+        marked = marked_at_slot mid.table n (record m { marks = marks_after (fetch words) m p others (n.forks slot) cleared }) slot at_mid
 
-        ready : ready_places new.table ≡ ready_places mid.table ++ place ∷ []
-        ready = stood_ready (marked_with mid.table place) new.table place a marked.table marked.taken put
+        ready : ready_slots new.table ≡ ready_slots mid.table ++ slot ∷ []
+        ready = stood_ready (marked_with mid.table slot) new.table slot a marked.table marked.taken put
 
         after : Machine
         after = back k p (activity_of r.local b.forks mach.at_when) (p ∷ k.marks) r
 
-        tested : (marks_with mid.table place == length (ready_places new.table)) ≡ all_marked (p ∷ k.marks) (p ∷ others)
+        tested : (marks_with mid.table slot == length (ready_slots new.table)) ≡ all_marked (p ∷ k.marks) (p ∷ others)
         tested =
-            all_ready (marked_with mid.table place) n (record m { marks = p ∷ marks_after (fetch words) m p others (n.forks place) cleared }) place marked new.table ready
-            ∙ ap (λ ms. all_marked (p ∷ ms) (p ∷ map n.name (ready_places mid.table))) (sym f.marks_are) ∙ ap (λ xs. all_marked (p ∷ k.marks) (p ∷ map n.name xs)) same_ready
+            all_ready (marked_with mid.table slot) n (record m { marks = p ∷ marks_after (fetch words) m p others (n.forks slot) cleared }) slot marked new.table ready
+            ∙ ap (λ ms. all_marked (p ∷ ms) (p ∷ map n.name (ready_slots mid.table))) (sym f.marks_are) ∙ ap (λ xs. all_marked (p ∷ k.marks) (p ∷ map n.name xs)) same_ready
 
         comes_to : (x : Bool) → all_marked (p ∷ k.marks) (p ∷ others) ≡ x →
             stint (fetch words) steps m p others ≡ stint_after (λ m. stint (fetch words) rest m p others) (if x then ended outcome.standstill (back k p (activity_of r.local b.forks mach.at_when) (p ∷ k.marks) r) else went (back k p (activity_of r.local b.forks mach.at_when) (p ∷ k.marks) r) (joins (p ∷ [])))
         comes_to x h = is ∙ ap (λ y. stint_after (λ m. stint (fetch words) rest m p others) (if y then ended outcome.standstill (back k p (activity_of r.local b.forks mach.at_when) (p ∷ k.marks) r) else went (back k p (activity_of r.local b.forks mach.at_when) (p ∷ k.marks) r) (joins (p ∷ [])))) h
 
-        by_marks : (x : Bool) → (marks_with mid.table place == length (ready_places new.table)) ≡ x → GoesTo words (attempt_end x used) left new t m p others
+        by_marks : (x : Bool) → (marks_with mid.table slot == length (ready_slots new.table)) ≡ x → GoesTo words (attempt_end x used) left new t m p others
         by_marks true h = (
           record {
             steps = steps;
@@ -255,11 +255,11 @@ module _ (words : List ℕ) (old mid new : KernelState) (place left left1 used :
             holds = record {
               naming = n;
               stands =
-                  stood (marked_with mid.table place) new.table place a marked.table marked.taken put n (record m { marks = p ∷ marks_after (fetch words) m p others (n.forks place) cleared }) k b (p ∷ k.marks) (marks_after (fetch words) m p others (n.forks place) cleared) r mid.store marked.stands
-                  (follows_marks m k p (n.forks place) (marks_after (fetch words) m p others (n.forks place) cleared) (p ∷ marks_after (fetch words) m p others (n.forks place) cleared) b f) (ap (λ ms. p ∷ ms) f.marks_are) (sym (ap (λ x. x.local) e));
+                  stood (marked_with mid.table slot) new.table slot a marked.table marked.taken put n (record m { marks = p ∷ marks_after (fetch words) m p others (n.forks slot) cleared }) k b (p ∷ k.marks) (marks_after (fetch words) m p others (n.forks slot) cleared) r mid.store marked.stands
+                  (follows_marks m k p (n.forks slot) (marks_after (fetch words) m p others (n.forks slot) cleared) (p ∷ marks_after (fetch words) m p others (n.forks slot) cleared) b f) (ap (λ ms. p ∷ ms) f.marks_are) (sym (ap (λ x. x.local) e));
               memory = sym (ap (λ x. x.local.memory) e) ∙ sym same;
               is_taken = sym (ap (option_map n.name) g.none_taken);
-              is_ready = sym (ap (map n.name) ready ∙ map-append n.name (ready_places mid.table) (place ∷ []) ∙ ap (λ xs. map n.name xs ++ p ∷ []) same_ready);
+              is_ready = sym (ap (map n.name) ready ∙ map-append n.name (ready_slots mid.table) (slot ∷ []) ∙ ap (λ xs. map n.name xs ++ p ∷ []) same_ready);
             };
             system = sym (ap (λ x. x.system) e);
             turns = sym (ap (λ x. x.turns) e) ∙ sym g.spent;
@@ -269,12 +269,12 @@ module _ (words : List ℕ) (old mid new : KernelState) (place left left1 used :
 
     -- ---- the end of a branch
 
-    gone : (k : Machine) (b : mach.Activity) (ms : List Name) (r : Running) (steps rest : ℕ) → Follows m k p (n.forks place) ms b → now ≡ r → 0 < place →
+    gone : (k : Machine) (b : mach.Activity) (ms : List Name) (r : Running) (steps rest : ℕ) → Follows m k p (n.forks slot) ms b → now ≡ r → 0 < slot →
         stint (fetch words) steps m p others ≡ stint_after (λ m. stint (fetch words) rest m p others) (exited k p r) →
-        Removed place (unmarked mid.table) new.table → new.store ≡ mid.store → (h : Switches words (left - used) new t m p others) × (find h.machine.activities p ≡ None)
+        Removed slot (unmarked mid.table) new.table → new.store ≡ mid.store → (h : Switches words (left - used) new t m p others) × (find h.machine.activities p ≡ None)
     gone k b ms r steps rest f e pos is removed same =
-        let x : Exited new.table n (map n.name (ready_places (unmarked mid.table))) (map n.name (ready_places new.table)) (exited k p r) =
-        exits (unmarked mid.table) new.table n (record m { marks = [] }) k place b ms r removed at_clear pos (follows_marks m k p (n.forks place) ms [] b f) refl in (
+        let x : Exited new.table n (map n.name (ready_slots (unmarked mid.table))) (map n.name (ready_slots new.table)) (exited k p r) =
+        exits (unmarked mid.table) new.table n (record m { marks = [] }) k slot b ms r removed at_clear pos (follows_marks m k p (n.forks slot) ms [] b f) refl in (
           record {
             steps = steps;
             machine = x.machine;
@@ -295,49 +295,49 @@ module _ (words : List ℕ) (old mid new : KernelState) (place left left1 used :
 
     -- ---- a fork
 
-    module _ (k : Machine) (b : mach.Activity) (ms : List Name) (f : Follows m k p (n.forks place) ms b) (branches : List Branch) where
+    module _ (k : Machine) (b : mach.Activity) (ms : List Name) (f : Follows m k p (n.forks slot) ms b) (branches : List Branch) where
       abbrev fork_number : ℕ
       fork_number = suc b.forks
 
       abbrev forks_now : ℕ → ℕ
-      forks_now i = if nat_eq i place then suc (n.forks place) else n.forks i
+      forks_now i = if nat_eq i slot then suc (n.forks slot) else n.forks i
 
       abbrev naming_now : Naming
       naming_now = record n { forks = forks_now }
 
       abbrev waits : Process
-      waits = waiting_for (length branches) (process_at mid.table place) a
+      waits = waiting_for (length branches) (process_at mid.table slot) a
 
       abbrev table_now : Table
-      table_now = with_process (unmarked mid.table) place waits
+      table_now = with_process (unmarked mid.table) slot waits
 
       abbrev machine_now : Machine
       machine_now = back k p (activity_of now.local fork_number (mach.waiting (length branches))) [] now
 
-      forks_here : forks_now place ≡ suc (n.forks place)
-      forks_here = ap (λ x. if x then suc (n.forks place) else n.forks place) (eq-eqb place place refl)
+      forks_here : forks_now slot ≡ suc (n.forks slot)
+      forks_here = ap (λ x. if x then suc (n.forks slot) else n.forks slot) (eq-eqb slot slot refl)
 
-      no_children : children_of (unmarked mid.table) place ≡ 0
-      no_children = none (process_at mid.table place).standing (children_of (unmarked mid.table) place) at_clear.taken.going (at_clear.stands.awaits place (taken_live (unmarked mid.table) place at_clear.taken))
+      no_children : children_of (unmarked mid.table) slot ≡ 0
+      no_children = none (process_at mid.table slot).standing (children_of (unmarked mid.table) slot) at_clear.taken.going (at_clear.stands.awaits slot (taken_live (unmarked mid.table) slot at_clear.taken))
         where
           none : (s : Standing) (c : ℕ) → is_waiting s ≡ false → Awaits s c → c ≡ 0
           none standing.Ready c w h = h
           none standing.AtWhen c w h = h
           none (standing.Waiting x) c w h = absurd (cc)
 
-      stands_now : Stands table_now naming_now machine_now
+      stands_now : TableIsMachine table_now naming_now machine_now
       stands_now =
-          one_changes (unmarked mid.table) table_now n forks_now (record m { marks = [] }) machine_now place waits
+          one_changes (unmarked mid.table) table_now n forks_now (record m { marks = [] }) machine_now slot waits
           (record {
             stands = at_clear.stands;
-            live = taken_live (unmarked mid.table) place at_clear.taken;
+            live = taken_live (unmarked mid.table) slot at_clear.taken;
             wide = at_clear.table.wide;
             processes = refl;
             parent = refl;
             lives = λ i. refl;
             free = refl;
             forks_here = omega (arith, forks_here);
-            forks_there = λ i ne. ap (λ x. if x then suc (n.forks place) else n.forks i) (ne_eqb i place ne);
+            forks_there = λ i ne. ap (λ x. if x then suc (n.forks slot) else n.forks i) (ne_eqb i slot ne);
             found_here =
                 find-with_at-same k.activities p (activity_of now.local fork_number (mach.waiting (length branches)))
                 ∙ ap (λ x. Some (activity_of now.local x (mach.waiting (length branches)))) (ap suc f.forked ∙ sym forks_here);
@@ -354,43 +354,43 @@ module _ (words : List ℕ) (old mid new : KernelState) (place left left1 used :
           let o : Born (unmarked mid.table) n (suc i) = at_clear.stands.born (suc i) l (omega arith) in
           let par : ℕ = (process_at (unmarked mid.table) (suc i)).parent in
           let d : (n.name par ≡ p) × (o.fork ≡ fork_number) × (o.number ≡ q) = same_ends (n.name par) p o.fork o.number fork_number q (sym o.named ∙ h) in
-          let x : par ≡ place = at_clear.stands.apart par place o.lives (taken_live (unmarked mid.table) place at_clear.taken) d.0 in
-          let y : n.forks par ≡ n.forks place = ap n.forks x in
+          let x : par ≡ slot = at_clear.stands.apart par slot o.lives (taken_live (unmarked mid.table) slot at_clear.taken) d.0 in
+          let y : n.forks par ≡ n.forks slot = ap n.forks x in
           let z : o.fork ≡ fork_number = d.1 in
           omega (arith, o.earlier, y, z, f.forked)
 
-      begins : Starts place a branches mid.store table_now naming_now machine_now fork_number
+      begins : Starts slot a branches mid.store table_now naming_now machine_now fork_number
       begins = record {
         inside = at_clear.taken.inside;
-        table = written_table (unmarked mid.table) place waits at_clear.table at_clear.taken.inside (at_clear.table.parents place) g.ordered at_clear.taken.homeless;
+        table = written_table (unmarked mid.table) slot waits at_clear.table at_clear.taken.inside (at_clear.table.parents slot) g.ordered at_clear.taken.homeless;
         stands = stands_now;
-        live = taken_live (unmarked mid.table) place at_clear.taken;
+        live = taken_live (unmarked mid.table) slot at_clear.taken;
         homeless = at_clear.taken.homeless;
         memory = refl;
         no_marks_left = refl;
         unmarked = refl;
         none_counted = refl;
-        none = where_same (is_child_of table_now place) (is_child_of (unmarked mid.table) place) 32 (λ i _. ap (λ y. nat_lt 0 i && is_live mid.table i && nat_eq y place) (same_parent i)) ∙ no_children;
+        none = where_same (is_child_of table_now slot) (is_child_of (unmarked mid.table) slot) 32 (λ i _. ap (λ y. nat_lt 0 i && is_live mid.table i && nat_eq y slot) (same_parent i)) ∙ no_children;
         waiting = ap (λ y. y.standing) here;
         fork = omega (arith, forks_here, f.forked);
         fresh = fresh;
       }
         where
-          here : process_at table_now place ≡ waits
-          here = at_set_same mid.table.processes place waits (omega (arith, at_clear.table.wide, at_clear.taken.inside))
+          here : process_at table_now slot ≡ waits
+          here = at_set_same mid.table.processes slot waits (omega (arith, at_clear.table.wide, at_clear.taken.inside))
 
           same_parent : (i : ℕ) → (process_at table_now i).parent ≡ (process_at mid.table i).parent
-          same_parent i = elim (cases_eq i place) [
+          same_parent i = elim (cases_eq i slot) [
             | inl e ↦ ap (λ j. (process_at table_now j).parent) e ∙ ap (λ y. y.parent) here ∙ sym (ap (λ j. (process_at mid.table j).parent) e)
-            | inr ne ↦ ap (λ y. y.parent) (at_set_other mid.table.processes place i waits ne)
+            | inr ne ↦ ap (λ y. y.parent) (at_set_other mid.table.processes slot i waits ne)
           ]
 
       forks : (steps rest : ℕ) → stint (fetch words) steps m p others ≡ stint_after (λ m. stint (fetch words) rest m p others) (at_turn k p others b (forking branches) now) →
-          HaveBegun place a branches mid.store table_now (length branches) new.store new.table → 0 < length branches →
+          HaveBegun slot a branches mid.store table_now (length branches) new.store new.table → 0 < length branches →
           (h : Switches words (left - used) new t m p others) × ForksInto p h.joined
       forks steps rest is begun some =
-          let x : Grown place a branches mid.store table_now naming_now machine_now fork_number (length branches) new.store new.table =
-          grown place a branches mid.store table_now naming_now machine_now fork_number begins (length branches) new.store new.table (omega arith) begun in
+          let x : Grown slot a branches mid.store table_now naming_now machine_now fork_number (length branches) new.store new.table =
+          grown slot a branches mid.store table_now naming_now machine_now fork_number begins (length branches) new.store new.table (omega arith) begun in
           let chain : x.machine ≡ with_children p fork_number 0 a.base a.end (share_in a branches) branches machine_now =
           ap (λ bs. with_children p fork_number (length branches) a.base (a.end + length branches * share_in a branches) (share_in a branches) bs x.machine) (sym (drop_all branches)) ∙ x.chain in (
             record {
@@ -413,29 +413,29 @@ module _ (words : List ℕ) (old mid new : KernelState) (place left left1 used :
 
     -- ---- all pauses
 
-    at_turns : (kd : TurnKind) (steps : ℕ) (end : Paused) (result : StintEnd) (l : Local) → Comes (fetch words) m p others (n.forks place) steps m end → Pauses words end (pause.At kd) now cleared →
-        Allows (Some (pause.At kd)) words live (place == 0) l → HandlesTurn kd words place used a mid new result → GoesTo words result left new t m p others
+    at_turns : (kd : TurnKind) (steps : ℕ) (end : Paused) (result : StintEnd) (l : Local) → Comes (fetch words) m p others (n.forks slot) steps m end → Pauses words end (pause.At kd) now cleared →
+        Allows (Some (pause.At kd)) words live (slot == 0) l → HandlesTurn kd words slot used a mid new result → GoesTo words result left new t m p others
     at_turns kind.Arrive steps (pausing arriving r c) result l w h allowed d =
-        subst (λ x. GoesTo words x left new t m p others) (sym d.2) (arrived w.machine w.activity (marks_after (fetch words) m p others (n.forks place) c) r steps w.rest w.follows h.1 w.is d.0 d.1 d.3)
+        subst (λ x. GoesTo words x left new t m p others) (sym d.2) (arrived w.machine w.activity (marks_after (fetch words) m p others (n.forks slot) c) r steps w.rest w.follows h.1 w.is d.0 d.1 d.3)
     at_turns (kind.Again false) steps (pausing (again marks) r c) result l w h allowed d =
         subst (λ x. GoesTo words x left new t m p others) (sym d.2)
-        (arrived w.machine w.activity (marks_after (fetch words) m p others (n.forks place) c) r steps w.rest w.follows h.1
+        (arrived w.machine w.activity (marks_after (fetch words) m p others (n.forks slot) c) r steps w.rest w.follows h.1
         (subst (λ x. stint (fetch words) steps m p others ≡ stint_after (λ m. stint (fetch words) w.rest m p others) (at_turn w.machine p others w.activity (again x) r)) (sym h.0) w.is) d.0 d.1 d.3)
     at_turns (kind.Again true) steps (pausing (again marks) r c) result l w h allowed d =
         marked_attempt w.machine w.activity r steps w.rest result
-        (subst (λ x. Follows m w.machine p (n.forks place) (marks_after (fetch words) m p others (n.forks place) x) w.activity) (sym h.2) w.follows) h.1
+        (subst (λ x. Follows m w.machine p (n.forks slot) (marks_after (fetch words) m p others (n.forks slot) x) w.activity) (sym h.2) w.follows) h.1
         (subst (λ x. stint (fetch words) steps m p others ≡ stint_after (λ m. stint (fetch words) w.rest m p others) (at_turn w.machine p others w.activity (again x) r)) (sym h.0) w.is) d.0 d.1 d.2 d.3
     at_turns (kind.Fork at) steps (pausing (forking branches) r c) result l w h allowed d =
         subst (λ x. GoesTo words x left new t m p others) (sym d.1)
-        (forks w.machine w.activity (marks_after (fetch words) m p others (n.forks place) c) w.follows (branches_at words at) steps w.rest
+        (forks w.machine w.activity (marks_after (fetch words) m p others (n.forks slot) c) w.follows (branches_at words at) steps w.rest
         (subst (λ x. stint (fetch words) steps m p others ≡ stint_after (λ m. stint (fetch words) w.rest m p others) (at_turn w.machine p others w.activity (forking (branches_at words at)) x)) (sym h.1)
         (subst (λ x. stint (fetch words) steps m p others ≡ stint_after (λ m. stint (fetch words) w.rest m p others) (at_turn w.machine p others w.activity (forking x) r)) (sym h.0) w.is)) d.0 allowed.0.some)
     at_turns kind.Exit steps (pausing exiting r c) result l w h allowed d =
         subst (λ x. GoesTo words x left new t m p others) (sym d.2)
-        (gone w.machine w.activity (marks_after (fetch words) m p others (n.forks place) c) r steps w.rest w.follows h.1 (later_place allowed) w.is d.0 d.1)
+        (gone w.machine w.activity (marks_after (fetch words) m p others (n.forks slot) c) r steps w.rest w.follows h.1 (later_slot allowed) w.is d.0 d.1)
       where
-        later_place : (place == 0) ≡ false → 0 < place
-        later_place e = positive place (eqb-false place 0 e)
+        later_slot : (slot == 0) ≡ false → 0 < slot
+        later_slot e = positive slot (eqb-false slot 0 e)
           where
             positive : (q : ℕ) → (q ≡ 0 → ⊥) → 0 < q
             positive zero h = absurd (h refl)
@@ -450,7 +450,7 @@ module _ (words : List ℕ) (old mid new : KernelState) (place left left1 used :
     at_turns kd steps (pausing finishing r c) result l w h allowed d = absurd h.0
     at_turns kd steps end result l w h allowed d = absurd h
 
-    overs : (e : Ending) (steps : ℕ) (end : Paused) → Comes (fetch words) m p others (n.forks place) steps m end → Pauses words end (pause.Over e) now cleared → new.store ≡ mid.store →
+    overs : (e : Ending) (steps : ℕ) (end : Paused) → Comes (fetch words) m p others (n.forks slot) steps m end → Pauses words end (pause.Over e) now cleared → new.store ≡ mid.store →
         EndsRun words (left - used) e new t m p others
     overs ending.Done steps (pausing finishing r c) w h kept_words = record {
       steps = steps;
@@ -543,10 +543,10 @@ module _ (words : List ℕ) (old mid new : KernelState) (place left left1 used :
 
     -- ---- a fault
 
-    first : (place == 0) ≡ is_first p
-    first = first_is old.table n m place g.stands (taken_live old.table place g.taken)
+    first : (slot == 0) ≡ is_first p
+    first = first_is old.table n m slot g.stands (taken_live old.table slot g.taken)
 
-    broken_at : (h : Breaks words live (place == 0) start false now) → Walked (fetch words) m p others (n.forks place) h.steps m h.at h.emptied → BreaksOff words (left - used) t m p others
+    broken_at : (h : Breaks words live (slot == 0) start false now) → Walked (fetch words) m p others (n.forks slot) h.steps m h.at h.emptied → BreaksOff words (left - used) t m p others
     broken_at h w = record {
       steps = h.steps;
       machine = w.machine;
@@ -562,7 +562,7 @@ module _ (words : List ℕ) (old mid new : KernelState) (place left left1 used :
         effect =
             ap (λ l. effect_of words l (is_first p) (running_of w.machine w.activity).local) many
             ∙ ap (λ b. effect_of words live b (running_of w.machine w.activity).local) (sym first)
-            ∙ ap (λ r. effect_of words live (place == 0) r.local) w.runs ∙ h.torn.effect;
+            ∙ ap (λ r. effect_of words live (slot == 0) r.local) w.runs ∙ h.torn.effect;
         tears = subst (λ r. Tears (call h.torn.number h.torn.arguments r.system) r.system t) (sym w.runs) h.torn.tears;
       };
       turns = ap (λ r. r.turns) w.runs ∙ sym h.torn.turns ∙ sym g.spent;
@@ -571,16 +571,16 @@ module _ (words : List ℕ) (old mid new : KernelState) (place left left1 used :
         many : length w.machine.activities ≡ live
         many = sym (length-names w.machine.activities) ∙ ap length w.follows.named ∙ length-names m.activities ∙ sym is_live_count
 
-    broken : Breaks words live (place == 0) start false now → BreaksOff words (left - used) t m p others
+    broken : Breaks words live (slot == 0) start false now → BreaksOff words (left - used) t m p others
     broken h =
         broken_at h
-        (walks (fetch words) m p others (n.forks place) h.steps m (entry_of (process_at old.table place) (n.forks place)) start false h.at h.emptied
-        (follows_itself m p (entry_of (process_at old.table place) (n.forks place)) (g.stands.found place (taken_live old.table place g.taken)))
-        (runs m old.store s left (process_at old.table place) (n.forks place) g.memory g.system g.turns)
+        (walks (fetch words) m p others (n.forks slot) h.steps m (entry_of (process_at old.table slot) (n.forks slot)) start false h.at h.emptied
+        (follows_itself m p (entry_of (process_at old.table slot) (n.forks slot)) (g.stands.found slot (taken_live old.table slot g.taken)))
+        (runs m old.store s left (process_at old.table slot) (n.forks slot) g.memory g.system g.turns)
         (ap (λ l. walked (fetch words) l (is_first p) h.steps start false) (sym is_live_count) ∙ ap (λ b. walked (fetch words) live b h.steps start false) (sym first) ∙ h.reached))
 
-    pub goes : (pause : Pause) (result : StintEnd) (l : Local) → Stretches words live (place == 0) start false pause now cleared → Allows (Some pause) words live (place == 0) l →
-        Handles pause words place used a mid new result → GoesTo words result left new t m p others
+    pub goes : (pause : Pause) (result : StintEnd) (l : Local) → Stretches words live (slot == 0) start false pause now cleared → Allows (Some pause) words live (slot == 0) l →
+        Handles pause words slot used a mid new result → GoesTo words result left new t m p others
     goes (pause.Over ending.Fault) result l h allowed d = subst (λ x. GoesTo words x left new t m p others) (sym d.2) (broken h)
     goes (pause.Over ending.Done) result l h allowed d = subst (λ x. GoesTo words x left new t m p others) (sym d.2) (overs ending.Done h.steps h.end (came h.steps h.end h.is) h.pauses d.1)
     goes (pause.Over (ending.Halted at)) result l h allowed d = subst (λ x. GoesTo words x left new t m p others) (sym d.2) (overs (ending.Halted at) h.steps h.end (came h.steps h.end h.is) h.pauses d.1)
@@ -593,42 +593,42 @@ module _ (words : List ℕ) (old mid new : KernelState) (place left left1 used :
 -- ---- the whole stint
 
 -- the table at the pause is sound, and the process is still taken
-pub record Mid (old : KernelState) (table : Table) (place : ℕ) (cleared : Bool) : Type 0 where
+pub record Mid (old : KernelState) (table : Table) (slot : ℕ) (cleared : Bool) : Type 0 where
   pub is : table ≡ (if cleared then unmarked old.table else old.table)
   pub sound : IsTable table
-  pub taken : IsTaken table place
+  pub taken : IsTaken table slot
 
-pub mid_of : (old walked : KernelState) (table : Table) (place : ℕ) (cleared : Bool) → IsKernel old → old.taken ≡ Some place → walked.table ≡ old.table →
-    table ≡ (if cleared then unmarked walked.table else walked.table) → Mid old table place cleared
-mid_of old walked table place cleared k e same f =
+pub mid_of : (old walked : KernelState) (table : Table) (slot : ℕ) (cleared : Bool) → IsKernel old → old.taken ≡ Some slot → walked.table ≡ old.table →
+    table ≡ (if cleared then unmarked walked.table else walked.table) → Mid old table slot cleared
+mid_of old walked table slot cleared k e same f =
     let is : table ≡ (if cleared then unmarked old.table else old.table) = f ∙ ap (λ t. if cleared then unmarked t else t) same in
     record {
       is = is;
       sound = subst IsTable (sym is) (sound cleared);
-      taken = subst (λ t. IsTaken t place) (sym is) (unmarked_if cleared old.table place (taken_at old place k e));
+      taken = subst (λ t. IsTaken t slot) (sym is) (unmarked_if cleared old.table slot (taken_at old slot k e));
     }
   where
     sound : (b : Bool) → IsTable (if b then unmarked old.table else old.table)
     sound true = unmarked_table old.table k.table
     sound false = k.table
 
-module _ (words : List ℕ) (old mid new : KernelState) (place left left1 : ℕ) (a : Activity) (cleared : Bool) (pause : Pause) (result : StintEnd) (l : Local)
-    (kernel : IsKernel old) (taken : old.taken ≡ Some place) (m_is : Mid old mid.table place cleared) (none : new.taken ≡ None) (less : left1 ≤ left) (ordered : IsOrdered a)
-    (allowed : Allows (Some pause) words (32 - length (free_places old.table)) (place == 0) l) (handles : Handles pause words place (left - left1) a mid new result) where
+module _ (words : List ℕ) (old mid new : KernelState) (slot left left1 : ℕ) (a : Activity) (cleared : Bool) (pause : Pause) (result : StintEnd) (l : Local)
+    (kernel : IsKernel old) (taken : old.taken ≡ Some slot) (m_is : Mid old mid.table slot cleared) (none : new.taken ≡ None) (less : left1 ≤ left) (ordered : IsOrdered a)
+    (allowed : Allows (Some pause) words (32 - length (free_slots old.table)) (slot == 0) l) (handles : Handles pause words slot (left - left1) a mid new result) where
   pub stays_kernel : IsKernel new
   stays_kernel =
-      let h : IsTable new.table × IsBetween new.table = handled words place (left - left1) a mid new result m_is.sound m_is.taken ordered pause (32 - length (free_places old.table)) l allowed handles in
+      let h : IsTable new.table × IsBetween new.table = handled words slot (left - left1) a mid new result m_is.sound m_is.taken ordered pause (32 - length (free_slots old.table)) l allowed handles in
       record { table = h.0; taken = subst (IsTakenIn new.table) (sym none) h.1 }
 
-  pub goes_all : (s t : State) → Stretches words (32 - length (free_places old.table)) (place == 0) (running_in old.store (resumed (process_at old.table place)) s left) false pause (running_in mid.store a t left1) cleared →
+  pub goes_all : (s t : State) → Stretches words (32 - length (free_slots old.table)) (slot == 0) (running_in old.store (resumed (process_at old.table slot)) s left) false pause (running_in mid.store a t left1) cleared →
       (m : Machine) (p : Name) (others : List Name) → Holds old m (Some p) others → m.system ≡ s → m.turns ≡ left → GoesTo words result left new t m p others
   goes_all s t h m p others holds system turns =
       subst (λ q. GoesTo words result left new t m q others) (sym p_is)
-      (subst (λ qs. GoesTo words result left new t m (holds.naming.name place) qs) (sym holds.is_ready)
-      (goes words old mid new place left left1 (left - left1) s t holds.naming m a cleared
+      (subst (λ qs. GoesTo words result left new t m (holds.naming.name slot) qs) (sym holds.is_ready)
+      (goes words old mid new slot left left1 (left - left1) s t holds.naming m a cleared
       (record {
         table = kernel.table;
-        taken = taken_at old place kernel taken;
+        taken = taken_at old slot kernel taken;
         stands = holds.stands;
         memory = holds.memory;
         system = system;
@@ -640,7 +640,7 @@ module _ (words : List ℕ) (old mid new : KernelState) (place left left1 : ℕ)
       })
       pause result l h allowed handles))
     where
-      p_is : p ≡ holds.naming.name place
+      p_is : p ≡ holds.naming.name slot
       p_is = some (holds.is_taken ∙ ap (option_map holds.naming.name) taken)
         where
           some : {x y : Name} → Some x ≡ Some y → x ≡ y

@@ -1,4 +1,4 @@
-pub mod Places
+pub mod Slots
 pub mod Names
 pub mod Counts
 pub mod Changes
@@ -15,9 +15,11 @@ pub mod Sharing
 pub mod Forking
 pub mod Handled
 pub mod Going
+pub mod Placing
 pub mod Choosing
 pub mod Starting
 pub mod Moments
 pub mod Rounds
 pub mod Stinting
 pub mod Machines
+pub mod Passed

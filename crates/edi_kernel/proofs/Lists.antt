@@ -1,4 +1,4 @@
--- What a place that joins or leaves a list changes, and what every table keeps.
+-- What a slot that joins or leaves a list changes, and what every table keeps.
 use Rattle.std.proofs.Common.{◌≡◌, ℕ, zero, suc, ◌<◌, ◌⊎◌, inl, inr, Bool, true, false, ◌&&◌, not, nat_eq, nat_lt, if◌then◌else◌, List, [], ◌∷◌, ◌++◌, length, Option, Some, None, refl, sym, ◌∙◌, ap, arith, subst, slice_index_or, get_or-set_same, get_or-set_other, length-set, eq-eqb}
 use Rattle.std.specs.Prelude.{replicate, ◌==◌}
 use Rattle.std.proofs.lemmas.Bool.{cases_eq, ne_eqb, eqb-true}
@@ -9,9 +9,9 @@ use Rattle.edi_ring.proofs.Homes.{has-from_among}
 use Rattle.edi_machine.specs.Activities.{IsOrdered}
 use Rattle.edi_kernel.specs.declared.table.Process.{Process}
 use Rattle.edi_kernel.specs.declared.table.Table.{Table}
-use Rattle.edi_kernel.specs.Table.{Puts, Withdraws, process_at, ready_places, is_live, is_free_home, is_waiting, no_process, no_marks, with_process}
-use Rattle.edi_kernel.specs.Stands.{IsTable, marked_among}
-use Rattle.edi_kernel.proofs.Places.{home_in}
+use Rattle.edi_kernel.specs.Table.{PutsProcess, Withdraws, process_at, ready_slots, is_live, is_free_home, is_waiting, no_process, no_marks, with_process}
+use Rattle.edi_kernel.specs.TableIsMachine.{IsTable, marked_among}
+use Rattle.edi_kernel.proofs.Slots.{home_in}
 use Rattle.edi_kernel.proofs.Changes.{at_set_same, at_set_other}
 
 -- ---- the lists
@@ -32,20 +32,20 @@ live_of_home t i h e = ap (λ b. nat_lt i 32 && not b) e ∙ go (nat_lt i 32) (b
     go true e = refl
     go false e = absurd (cc)
 
-pub ready_live : (t : Table) (i : ℕ) → IsSound 32 2 t.lists → IsAmong i (ready_places t) → is_live t i ≡ true
+pub ready_live : (t : Table) (i : ℕ) → IsSound 32 2 t.lists → IsAmong i (ready_slots t) → is_live t i ≡ true
 ready_live t i s h =
-    live_of_home t i (s.in_range 0 i (has-from_among i (ready_places t) h)) (ap is_free_home (home_among t 0 i s (omega arith) h))
+    live_of_home t i (s.in_range 0 i (has-from_among i (ready_slots t) h)) (ap is_free_home (home_among t 0 i s (omega arith) h))
 
--- ---- a place that joins a list
+-- ---- a slot that joins a list
 
-module _ (t u : Table) (l p : ℕ) (x : Process) (put : Puts l p x t u) (sound : IsSound 32 2 t.lists) (lt : l < 2) where
+module _ (t u : Table) (l p : ℕ) (x : Process) (put : PutsProcess l p x t u) (sound : IsSound 32 2 t.lists) (lt : l < 2) where
   pub put_list : list_at u.lists l ≡ list_at t.lists l ++ p ∷ []
   put_list = ap (λ ls. list_at ls l) put.lists ∙ get_or-set_same t.lists l (list_at t.lists l ++ p ∷ []) [] (omega (arith, sound.as_many))
 
   pub put_other : (k : ℕ) → (k ≡ l → ⊥) → list_at u.lists k ≡ list_at t.lists k
   put_other k ne = ap (λ ls. list_at ls k) put.lists ∙ get_or-set_other t.lists l k (list_at t.lists l ++ p ∷ []) [] ne
 
-module _ (t u : Table) (l p : ℕ) (x : Process) (put : Puts l p x t u) where
+module _ (t u : Table) (l p : ℕ) (x : Process) (put : PutsProcess l p x t u) where
   pub put_home_here : home_of u.lists p ≡ Some l
   put_home_here = put.homes p ∙ ap (λ b. if b then Some l else home_of t.lists p) (eq-eqb p p refl)
 
@@ -59,13 +59,13 @@ module _ (t u : Table) (l p : ℕ) (x : Process) (put : Puts l p x t u) where
   put_there i ne = ap (λ xs. slice_index_or xs i no_process) put.processes ∙ at_set_other t.processes p i x ne
 
 -- who joins the ready ones from no list stays alive
-pub put_lives : (t u : Table) (p : ℕ) (x : Process) → Puts 0 p x t u → home_of t.lists p ≡ None → (i : ℕ) → is_live u i ≡ is_live t i
+pub put_lives : (t u : Table) (p : ℕ) (x : Process) → PutsProcess 0 p x t u → home_of t.lists p ≡ None → (i : ℕ) → is_live u i ≡ is_live t i
 put_lives t u p x put none i = ap (λ b. nat_lt i 32 && not b) (elim (cases_eq i p) [
   | inl e ↦ ap (λ j. is_free_home (home_of u.lists j)) e ∙ ap is_free_home (put_home_here t u 0 p x put) ∙ sym (ap (λ j. is_free_home (home_of t.lists j)) e ∙ ap is_free_home none)
   | inr ne ↦ ap is_free_home (put_home_there t u 0 p x put i ne)
 ])
 
-pub put_table : (t u : Table) (l p : ℕ) (x : Process) → IsTable t → Puts l p x t u → (nat_eq l 1 ≡ false) ⊎ (0 < p) → p < 32 → x.parent < 32 → IsOrdered x.activity → is_waiting x.standing ≡ false → IsTable u
+pub put_table : (t u : Table) (l p : ℕ) (x : Process) → IsTable t → PutsProcess l p x t u → (nat_eq l 1 ≡ false) ⊎ (0 < p) → p < 32 → x.parent < 32 → IsOrdered x.activity → is_waiting x.standing ≡ false → IsTable u
 put_table t u l p x s put rooted lt parent ordered going = record {
   sound = put.sound;
   wide = ap length put.processes ∙ length-set t.processes p x ∙ s.wide;

@@ -11,15 +11,15 @@ use Rattle.edi_calls.specs.State.{State}
 use Rattle.edi_target.specs.Op.{Instruction}
 use Rattle.edi_target.specs.Check.{CodeParts}
 use Rattle.edi_target.specs.Fetch.{fetch}
-use Rattle.edi_target.specs.Mach.{Machine, Stepped, went, ended, Run, finished, go_on, after_step, run, step, entered}
+use Rattle.edi_target.specs.Mach.{Machine, Stepped, went, ended, MachineRun, finished, go_on, after_step, run, step, entered}
 use Rattle.edi_trace.specs.Drawn.{Drawn}
 use Rattle.edi_kernel.specs.declared.ends.Ending.{Ending}
 use Rattle.edi_kernel.specs.declared.ends.Ending.TheVariants as ending
 use Rattle.edi_kernel.specs.declared.ends.StintEnd.{StintEnd}
 use Rattle.edi_kernel.specs.declared.ends.StintEnd.TheVariants as stint_end
 use Rattle.edi_kernel.specs.declared.state.KernelState.{KernelState}
-use Rattle.edi_kernel.specs.Table.{ready_places}
-use Rattle.edi_kernel.specs.Stands.{Stands}
+use Rattle.edi_kernel.specs.Table.{ready_slots}
+use Rattle.edi_kernel.specs.TableIsMachine.{TableIsMachine}
 use Rattle.edi_kernel.specs.Stints as stints
 use Rattle.edi_kernel.specs.Stints.{Stint, stint, stint_after}
 use Rattle.edi_kernel.specs.Kernel.{Holds, KeepsWords, Switches, EndsRun, GoesTo, ended_by, used_in}
@@ -38,13 +38,13 @@ module _ (fetch : ℕ → Option (Instruction × ℕ)) (choices : Choices) where
   over_same e = ((cc), (cc))
 
   pub run_switched : (n : ℕ) (m : Machine) (p : Name) (others : List Name) (drawn : ℕ) (m' : Machine) (ps : List Name) → stint fetch n m p others ≡ stints.switched m' ps →
-      (k : ℕ) (r : Run) → go_on (take_next choices drawn (others ++ ps)) (run fetch choices k m') m' drawn ≡ r → (j : ℕ) × (run fetch choices j m p others drawn ≡ r)
+      (k : ℕ) (r : MachineRun) → go_on (take_next choices drawn (others ++ ps)) (run fetch choices k m') m' drawn ≡ r → (j : ℕ) × (run fetch choices j m p others drawn ≡ r)
   run_switched zero m p others drawn m' ps e k r h = absurd (cc)
   run_switched (suc n) m p others drawn m' ps e k r h = by_step (step fetch m p others) refl e (run_switched n)
     where
       by_step : (s : Stepped) → step fetch m p others ≡ s → stint_after (λ m. stint fetch n m p others) s ≡ stints.switched m' ps →
           ((m : Machine) (p : Name) (others : List Name) (drawn : ℕ) (m' : Machine) (ps : List Name) → stint fetch n m p others ≡ stints.switched m' ps →
-          (k : ℕ) (r : Run) → go_on (take_next choices drawn (others ++ ps)) (run fetch choices k m') m' drawn ≡ r → (j : ℕ) × (run fetch choices j m p others drawn ≡ r)) →
+          (k : ℕ) (r : MachineRun) → go_on (take_next choices drawn (others ++ ps)) (run fetch choices k m') m' drawn ≡ r → (j : ℕ) × (run fetch choices j m p others drawn ≡ r)) →
           (j : ℕ) × (run fetch choices j m p others drawn ≡ r)
       by_step (went l stays) f g more =
           let x : (j : ℕ) × (run fetch choices j l p others drawn ≡ r) = more l p others drawn m' ps g k r h in
@@ -172,10 +172,10 @@ module _ (words : List ℕ) (bound : ℕ) (k : KernelState) (old : Drawn) (left 
 pub holds_same : (k new : KernelState) (m : Machine) (taken : Option Name) (ready : List Name) → new.store ≡ k.store → new.table ≡ k.table → new.taken ≡ k.taken → Holds k m taken ready → Holds new m taken ready
 holds_same k new m taken ready e f g h = record {
   naming = h.naming;
-  stands = subst (λ t. Stands t h.naming m) (sym f) h.stands;
+  stands = subst (λ t. TableIsMachine t h.naming m) (sym f) h.stands;
   memory = h.memory ∙ sym e;
   is_taken = h.is_taken ∙ sym (ap (option_map h.naming.name) g);
-  is_ready = h.is_ready ∙ sym (ap (λ t. map h.naming.name (ready_places t)) f);
+  is_ready = h.is_ready ∙ sym (ap (λ t. map h.naming.name (ready_slots t)) f);
 }
 
 -- ---- the rounds of a whole run
@@ -185,7 +185,7 @@ pub record Underway (code : CodeParts) (system : State) (bound : ℕ) (old : Dra
   pub machine : Machine
   pub name : Name
   pub others : List Name
-  pub comes : (n : ℕ) (r : Run) → run (fetch code.words) old.source n machine name others drawn.drawn ≡ r →
+  pub comes : (n : ℕ) (r : MachineRun) → run (fetch code.words) old.source n machine name others drawn.drawn ≡ r →
       (j : ℕ) × (after_step old.source (run (fetch code.words) old.source j) [] [] old.drawn (entered (fetch code.words code.entry) code.entry code.calls bound system) ≡ r)
   pub passes : (n : ℕ) (x : Option Moment) → moment (fetch code.words) old.source n machine name others drawn.drawn ≡ x →
       (j : ℕ) × (moment_of code system bound old.source old.drawn j ≡ x)

@@ -1,9 +1,9 @@
--- Lists of places with one of them taken out, and the places of children.
+-- Lists of slots with one of them taken out, and the slots of children.
 use Rattle.std.proofs.Common.{Bor, ◌≡◌, ℕ, zero, suc, ◌+◌, ◌-◌, ◌/◌, ◌<◌, inl, inr, Bool, true, false, nat_eq, if◌then◌else◌, List, [], ◌∷◌, ◌++◌, length, map, Some, None, refl, sym, ◌∙◌, ap, arith, subst, eq-eqb, drop}
 use Rattle.std.specs.Prelude.{slice_get}
 use Rattle.std.specs.List.{IsDistinct, AllByRecursion}
 use Rattle.edi_calls.specs.Names.{Name}
-use Rattle.edi_calls.specs.Ready.{name_at, without_place}
+use Rattle.edi_calls.specs.Ready.{name_at, without_index}
 use Rattle.edi_ring.specs.Lists.{list_at, has, home_of, without}
 use Rattle.edi_ring.specs.Links.{IsAmong, NoneTwice}
 use Rattle.edi_ring.proofs.Chain.{minus, length-minus, minus_none, minus_here, minus_there}
@@ -24,8 +24,8 @@ use Rattle.edi_kernel.specs.Forks.{HaveBegun, share_in}
 use Rattle.edi_target.specs.Decode.{branches_of, decode}
 use Rattle.edi_machine.specs.Starts.{branches_at, branches_in}
 use Rattle.edi_kernel.specs.declared.table.Table.{Table}
-use Rattle.edi_kernel.specs.Table.{Withdraws, Added, beginning, ready_places, free_places}
-use Rattle.edi_kernel.specs.Stands.{IsTable}
+use Rattle.edi_kernel.specs.Table.{Withdraws, Added, beginning, ready_slots, free_slots}
+use Rattle.edi_kernel.specs.TableIsMachine.{IsTable}
 use Rattle.edi_machine.specs.declared.activity.Activity.{Activity}
 use Rattle.edi_machine.specs.Activities.{IsOrdered}
 use Rattle.edi_kernel.proofs.Lists.{withdrawn_table, put_table, put_list, put_other}
@@ -47,7 +47,7 @@ list_without [] l x = refl
 list_without (a ∷ ls) zero x = refl
 list_without (a ∷ ls) (suc l) x = list_without ls l x
 
--- a free place is in the list of the free ones
+-- a free slot is in the list of the free ones
 pub among_home : (ls : List (List ℕ)) (x l : ℕ) → length ls ≡ 2 → home_of ls x ≡ Some l → IsAmong x (list_at ls l)
 among_home [] x l e h = absurd (omega (arith, e))
 among_home (a ∷ []) x l e h = absurd (omega (arith, e))
@@ -59,8 +59,8 @@ among_home (a ∷ b ∷ []) x l e h = go (has a x) (has b x) refl refl h
     go false true f g k = let z : 1 ≡ l = cc in subst (λ l. IsAmong x (list_at (a ∷ b ∷ []) l)) z (among-from_has x b g)
     go false false f g k = absurd (cc)
 
--- the names of the others, where the node at a place is taken out
-pub others_named : (name : ℕ → Name) (xs : List ℕ) (k x : ℕ) → NoneTwice xs → slice_get xs k ≡ Some x → (name_at (map name xs) k ≡ name x) × (map name (minus x xs) ≡ without_place (map name xs) k)
+-- the names of the others, where the node at a slot is taken out
+pub others_named : (name : ℕ → Name) (xs : List ℕ) (k x : ℕ) → NoneTwice xs → slice_get xs k ≡ Some x → (name_at (map name xs) k ≡ name x) × (map name (minus x xs) ≡ without_index (map name xs) k)
 others_named name [] k x t e = absurd (cc)
 others_named name (y ∷ xs) zero x t e =
     let same : y ≡ x = some e in
@@ -69,7 +69,7 @@ others_named name (y ∷ xs) zero x t e =
     some : Some y ≡ Some x → y ≡ x
     some e = cc
 others_named name (y ∷ xs) (suc k) x t e =
-    let r : (name_at (map name xs) k ≡ name x) × (map name (minus x xs) ≡ without_place (map name xs) k) = others_named name xs k x t.1 e in
+    let r : (name_at (map name xs) k ≡ name x) × (map name (minus x xs) ≡ without_index (map name xs) k) = others_named name xs k x t.1 e in
     (r.0, ap (map name) (minus_there x y xs (λ h. t.0 (subst (λ z. IsAmong z xs) h (among xs k e)))) ∙ ap (λ ns. name y ∷ ns) r.1)
   where
     among : (xs : List ℕ) (k : ℕ) → slice_get xs k ≡ Some x → IsAmong x xs
@@ -77,39 +77,39 @@ others_named name (y ∷ xs) (suc k) x t e =
     among (z ∷ xs) zero e = inl (cc)
     among (z ∷ xs) (suc k) e = inr (among xs k e)
 
--- ---- a free place is taken
+-- ---- a free slot is taken
 
 module _ (t u : Table) (x : ℕ) (s : IsTable t) (w : Withdraws x t u) (was : home_of t.lists x ≡ Some 1) where
-  pub fewer_free : length (free_places t) ≡ length (free_places u) + 1
+  pub fewer_free : length (free_slots t) ≡ length (free_slots u) + 1
   fewer_free =
-      length-minus x (free_places t) (among_home t.lists x 1 s.sound.as_many was) (none_twice (free_places t) (s.sound.once 1))
+      length-minus x (free_slots t) (among_home t.lists x 1 s.sound.as_many was) (none_twice (free_slots t) (s.sound.once 1))
       ∙ ap (λ n. n + 1) (sym (ap length (ap (λ ls. list_at ls 1) w.lists ∙ list_without t.lists 1 x)))
 
-  pub same_ready : ready_places u ≡ ready_places t
-  same_ready = ap (λ ls. list_at ls 0) w.lists ∙ list_without t.lists 0 x ∙ minus_none x (ready_places t) (λ i. other (has_both i))
+  pub same_ready : ready_slots u ≡ ready_slots t
+  same_ready = ap (λ ls. list_at ls 0) w.lists ∙ list_without t.lists 0 x ∙ minus_none x (ready_slots t) (λ i. other (has_both i))
     where
-      has_both : IsAmong x (ready_places t) → ◌≡◌ {A = ℕ} 0 1
-      has_both i = s.sound.in_one_list 0 1 x (has-from_among x (ready_places t) i) (has-from_among x (free_places t) (among_home t.lists x 1 s.sound.as_many was))
+      has_both : IsAmong x (ready_slots t) → ◌≡◌ {A = ℕ} 0 1
+      has_both i = s.sound.in_one_list 0 1 x (has-from_among x (ready_slots t) i) (has-from_among x (free_slots t) (among_home t.lists x 1 s.sound.as_many was))
 
       other : ◌≡◌ {A = ℕ} 0 1 → ⊥
       other e = omega (arith, e)
 
 module _ (parent : ℕ) (a : Activity) (t u : Table) (s : IsTable t) (lt : parent < 32) (ordered : IsOrdered a) (added : Added parent a t u) where
   pub between_table : IsTable added.between
-  between_table = withdrawn_table t added.between added.place s added.taken
+  between_table = withdrawn_table t added.between added.slot s added.taken
 
   pub added_table : IsTable u
-  added_table = put_table added.between u 0 added.place (beginning parent a) between_table added.put (inl refl) added.inside lt ordered refl
+  added_table = put_table added.between u 0 added.slot (beginning parent a) between_table added.put (inl refl) added.inside lt ordered refl
 
-  pub added_free : length (free_places u) + 1 ≡ length (free_places t)
+  pub added_free : length (free_slots u) + 1 ≡ length (free_slots t)
   added_free =
-      let other : length (free_places u) ≡ length (free_places added.between) = ap length (put_other added.between u 0 added.place (beginning parent a) added.put between_table.sound (omega arith) 1 (λ e. omega (arith, e))) in
-      omega (arith, other, fewer_free t added.between added.place s added.taken added.was)
+      let other : length (free_slots u) ≡ length (free_slots added.between) = ap length (put_other added.between u 0 added.slot (beginning parent a) added.put between_table.sound (omega arith) 1 (λ e. omega (arith, e))) in
+      omega (arith, other, fewer_free t added.between added.slot s added.taken added.was)
 
-  pub added_ready : ready_places u ≡ ready_places t ++ added.place ∷ []
+  pub added_ready : ready_slots u ≡ ready_slots t ++ added.slot ∷ []
   added_ready =
-      put_list added.between u 0 added.place (beginning parent a) added.put between_table.sound (omega arith)
-      ∙ ap (λ xs. xs ++ added.place ∷ []) (same_ready t added.between added.place s added.taken added.was)
+      put_list added.between u 0 added.slot (beginning parent a) added.put between_table.sound (omega arith)
+      ∙ ap (λ xs. xs ++ added.slot ∷ []) (same_ready t added.between added.slot s added.taken added.was)
 
 -- ---- the number of branches
 
@@ -146,12 +146,12 @@ branches_few words at next line x ws f e =
     few n b k e h = let l : n < 2 ^ 16 = below n (left (is_count n) b h) in omega (arith, e, l)
 
 -- one child more has begun
-pub one_child : (place : ℕ) (parent : Activity) (branches : List Branch) (store : List ℕ) (table : Table) (i : ℕ) (s u : List ℕ) (t v : Table) (child : Activity) →
-    HaveBegun place parent branches store table i s t →
+pub one_child : (slot : ℕ) (parent : Activity) (branches : List Branch) (store : List ℕ) (table : Table) (i : ℕ) (s u : List ℕ) (t v : Table) (child : Activity) →
+    HaveBegun slot parent branches store table i s t →
     Some child ≡ option_map (child_at (child_first (local_of [] parent) (share_in parent branches) i) (share_in parent branches)) (slice_get branches i) → IsOrdered child →
-    u ≡ written s (child_first (local_of [] parent) (share_in parent branches) i) (parent.base ∷ 0 ∷ 0 ∷ 0 ∷ 0 ∷ []) → Added place child t v →
-    HaveBegun place parent branches store table (i + 1) u v
-one_child place parent branches store table i s u t v child begun is ordered words added =
+    u ≡ written s (child_first (local_of [] parent) (share_in parent branches) i) (parent.base ∷ 0 ∷ 0 ∷ 0 ∷ 0 ∷ []) → Added slot child t v →
+    HaveBegun slot parent branches store table (i + 1) u v
+one_child slot parent branches store table i s u t v child begun is ordered words added =
     let e : suc i ≡ i + 1 = omega arith in
-    subst (λ j. HaveBegun place parent branches store table j u v) e
+    subst (λ j. HaveBegun slot parent branches store table j u v) e
     (record { store_before = s; table_before = t; begun = begun; child = child; is = is; ordered = ordered; words = words; added = added })

@@ -15,11 +15,11 @@ use Rattle.edi_target.specs.Fetch.{fetch}
 use Rattle.edi_target.specs.Mach.{Machine, Activity, went, ended, ready, activity_of, first_activity, machine_at, start_memory, entered}
 use Rattle.edi_machine.specs.declared.activity.Activity as code
 use Rattle.edi_machine.specs.Activities.{IsOrdered, local_of}
-use Rattle.edi_machine.specs.Starts.{Begins}
+use Rattle.edi_machine.specs.Starts.{ActivityBegins}
 use Rattle.edi_kernel.specs.declared.state.KernelState.{KernelState}
 use Rattle.edi_kernel.specs.declared.table.Table.{Table}
-use Rattle.edi_kernel.specs.Table.{FirstAlone, beginning, first_home, process_at, ready_places, is_live, is_free_home, is_waiting, no_process}
-use Rattle.edi_kernel.specs.Stands.{IsTable, IsTaken, Naming, Awaits, Stands, entry_of, is_child_of, children_of, places_where}
+use Rattle.edi_kernel.specs.Table.{FirstAlone, beginning, first_home, process_at, ready_slots, is_live, is_free_home, is_waiting, no_process}
+use Rattle.edi_kernel.specs.TableIsMachine.{IsTable, IsTaken, Naming, Awaits, TableIsMachine, entry_of, is_child_of, children_of, slots_where}
 use Rattle.edi_kernel.specs.Kernel.{Holds}
 use Rattle.edi_kernel.specs.Runs.{Started}
 use Rattle.edi_kernel.proofs.Changes.{child_live, child_later}
@@ -72,13 +72,13 @@ module _ (t : Table) (a : code.Activity) (f : FirstAlone t a) where
     inside = omega arith;
     homeless = f.homes 0;
     going = standing_ready 0;
-    counted = f.marks ∙ sym (none_marked t (0 ∷ ready_places t) f.marked);
+    counted = f.marks ∙ sym (none_marked t (0 ∷ ready_slots t) f.marked);
   }
 
   live_zero : is_live t 0 ≡ true
   live_zero = ap (λ h. not (is_free_home h)) (f.homes 0)
 
-  -- only the first place is live
+  -- only the first slot is live
   only_zero : (i : ℕ) → is_live t i ≡ true → i ≡ 0
   only_zero zero l = refl
   only_zero (suc i) l = absurd (dead (suc i) (omega arith) (sym (ap (λ h. nat_lt (suc i) 32 && not (is_free_home h)) (f.homes (suc i))) ∙ l))
@@ -101,7 +101,7 @@ module _ (t : Table) (a : code.Activity) (f : FirstAlone t a) where
     abbrev m : Machine
     m = machine_at memory (([], x) ∷ []) turns system
 
-    pub first_stands : Stands t naming m
+    pub first_stands : TableIsMachine t naming m
     first_stands = record {
       found = λ i l. ap Some (sym is) ∙ sym (ap (λ y. Some (entry_of y 0)) (ap (process_at t) (only_zero i l) ∙ process_is 0 (omega arith)));
       all = λ q h. (0, live_zero, same-equal q [] (or_none (same q []) h));
@@ -120,9 +120,9 @@ module _ (t : Table) (a : code.Activity) (f : FirstAlone t a) where
         or_none true h = refl
         or_none false h = absurd (cc)
 
-        none : (g : ℕ → Bool) (d : ℕ) → ((j : ℕ) → j < d → g j ≡ false) → places_where g d ≡ 0
+        none : (g : ℕ → Bool) (d : ℕ) → ((j : ℕ) → j < d → g j ≡ false) → slots_where g d ≡ 0
         none g zero h = refl
-        none g (suc d) h = ap (λ e. if e then suc (places_where g d) else places_where g d) (h d (omega arith)) ∙ none g d (λ j k. h j (omega arith))
+        none g (suc d) h = ap (λ e. if e then suc (slots_where g d) else slots_where g d) (h d (omega arith)) ∙ none g d (λ j k. h j (omega arith))
 
         no_child : (j : ℕ) (b : Bool) → is_child_of t 0 j ≡ b → is_child_of t 0 j ≡ false
         no_child j false e = e
@@ -149,7 +149,7 @@ module _ (parts : CodeParts) (k : KernelState) (s : Started parts k) (system : S
   Entering found left =
       (m : Machine) × (entered found parts.entry parts.calls (suc left) system ≡ went m stays) × Holds k m (Some []) [] × (m.system ≡ system) × (m.turns ≡ left)
 
-  entering : (found : Option (Instruction × ℕ)) (left : ℕ) → Begins found parts.calls k.store s.first → Entering found left
+  entering : (found : Option (Instruction × ℕ)) (left : ℕ) → ActivityBegins found parts.calls k.store s.first → Entering found left
   entering (Some (op.entry need r p v f, body)) left b = (
     machine_at (start_memory parts.calls) (([], first_activity need (5 + p + v) body) ∷ []) left system,
     refl,
@@ -166,7 +166,7 @@ module _ (parts : CodeParts) (k : KernelState) (s : Started parts k) (system : S
   entering None left b = absurd b
   entering (Some x) left b = absurd b
 
-  never : (found : Option (Instruction × ℕ)) → Begins found parts.calls k.store s.first → (m : Machine) × (entered found parts.entry parts.calls 0 system ≡ ended outcome.turns m) × (m.system ≡ system) × (m.turns ≡ 0)
+  never : (found : Option (Instruction × ℕ)) → ActivityBegins found parts.calls k.store s.first → (m : Machine) × (entered found parts.entry parts.calls 0 system ≡ ended outcome.turns m) × (m.system ≡ system) × (m.turns ≡ 0)
   never (Some (op.entry need r p v f, body)) b = (machine_at (start_memory parts.calls) (([], first_activity need (5 + p + v) body) ∷ []) 0 system, refl, refl, refl)
   never None b = absurd b
   never (Some x) b = absurd b

@@ -7,7 +7,7 @@ use Rattle.edi_calls.specs.Names.{Name, same}
 use Rattle.edi_calls.specs.Ready.{has, all_marked}
 use Rattle.edi_calls.proofs.Tables.{same-refl, find-with_at-same, find-with_at-other}
 use Rattle.edi_target.specs.Mach as mach
-use Rattle.edi_target.specs.Mach.{Machine, Running, Stepped, went, activity_of, back, awaits, freed, one_less, told, exited}
+use Rattle.edi_target.specs.Mach.{Machine, Running, Stepped, went, activity_of, back, awaits, freed, one_less, notified, exited}
 use Rattle.edi_ring.specs.Lists.{home_of}
 use Rattle.edi_ring.specs.Links.{IsAmong}
 use Rattle.edi_machine.specs.declared.activity.Activity.{Activity}
@@ -15,18 +15,18 @@ use Rattle.edi_machine.specs.Activities.{local_of}
 use Rattle.edi_kernel.specs.declared.table.Standing.{Standing}
 use Rattle.edi_kernel.specs.declared.table.Standing.TheVariants as standing
 use Rattle.edi_kernel.specs.declared.table.Table.{Table}
-use Rattle.edi_kernel.specs.Table.{Puts, at_its_when, process_at, marked_at, marked_with, ready_places, is_live, is_free_home, is_waiting, unmarked}
-use Rattle.edi_kernel.specs.Stands.{IsTable, IsTaken, IsBetween, Naming, Awaits, Born, Stands, children_of, marked_among}
+use Rattle.edi_kernel.specs.Table.{PutsProcess, at_its_when, process_at, marked_at, marked_with, ready_slots, is_live, is_free_home, is_waiting, unmarked}
+use Rattle.edi_kernel.specs.TableIsMachine.{IsTable, IsTaken, IsBetween, Naming, Awaits, Born, TableIsMachine, children_of, marked_among}
 use Rattle.edi_kernel.proofs.Counts.{marked-append, marked_same, all_marked-among}
 use Rattle.edi_kernel.proofs.Changes.{one_changes, names_apart}
 use Rattle.edi_kernel.proofs.Lists.{home_among, live_of_home, ready_live, put_list, put_other, put_lives, unmarked_at, none_marked}
 use Rattle.edi_kernel.proofs.Walks.{Follows, names-with_at}
 
--- the process at a place is taken
-pub record At (t : Table) (n : Naming) (m : Machine) (place : ℕ) : Type 0 where
+-- the process at a slot is taken
+pub record At (t : Table) (n : Naming) (m : Machine) (slot : ℕ) : Type 0 where
   pub table : IsTable t
-  pub taken : IsTaken t place
-  pub stands : Stands t n m
+  pub taken : IsTaken t slot
+  pub stands : TableIsMachine t n m
 
 pub taken_live : (t : Table) (p : ℕ) → IsTaken t p → is_live t p ≡ true
 taken_live t p k = live_of_home t p k.inside (ap is_free_home k.homeless)
@@ -36,7 +36,7 @@ none_some None x e f = cc
 none_some (Some y) x e f = cc
 
 -- a ready one is not the one that is taken
-pub ready_other : (t : Table) (p i : ℕ) → IsTable t → IsTaken t p → IsAmong i (ready_places t) → i ≡ p → ⊥
+pub ready_other : (t : Table) (p i : ℕ) → IsTable t → IsTaken t p → IsAmong i (ready_slots t) → i ≡ p → ⊥
 ready_other t p i s k h e = none_some (home_of t.lists p) 0 k.homeless (ap (home_of t.lists) (sym e) ∙ home_among t 0 i s.sound (omega arith) h)
 
 -- the machine k is m but for the activity of p, also with other marks
@@ -49,9 +49,9 @@ pub unmarked_table : (t : Table) → IsTable t → IsTable (unmarked t)
 unmarked_table t s = record { sound = s.sound; wide = s.wide; marked_wide = refl; parents = s.parents; ordered = s.ordered; root = s.root; waiting = s.waiting }
 
 pub unmarked_taken : (t : Table) (p : ℕ) → IsTaken t p → IsTaken (unmarked t) p
-unmarked_taken t p k = record { inside = k.inside; homeless = k.homeless; going = k.going; counted = sym (none_marked (unmarked t) (p ∷ ready_places t) refl) }
+unmarked_taken t p k = record { inside = k.inside; homeless = k.homeless; going = k.going; counted = sym (none_marked (unmarked t) (p ∷ ready_slots t) refl) }
 
-pub unmarked_stands : (t : Table) (n : Naming) (m : Machine) → Stands t n m → Stands (unmarked t) n (record m { marks = [] })
+pub unmarked_stands : (t : Table) (n : Naming) (m : Machine) → TableIsMachine t n m → TableIsMachine (unmarked t) n (record m { marks = [] })
 unmarked_stands t n m s = record {
   found = s.found;
   all = s.all;
@@ -64,8 +64,8 @@ unmarked_stands t n m s = record {
   awaits = s.awaits;
 }
 
-pub unmarked_at_place : (t : Table) (n : Naming) (m : Machine) (p : ℕ) → At t n m p → At (unmarked t) n (record m { marks = [] }) p
-unmarked_at_place t n m p a = record { table = unmarked_table t a.table; taken = unmarked_taken t p a.taken; stands = unmarked_stands t n m a.stands }
+pub unmarked_at_slot : (t : Table) (n : Naming) (m : Machine) (p : ℕ) → At t n m p → At (unmarked t) n (record m { marks = [] }) p
+unmarked_at_slot t n m p a = record { table = unmarked_table t a.table; taken = unmarked_taken t p a.taken; stands = unmarked_stands t n m a.stands }
 
 pub marked_table : (t : Table) (p : ℕ) → IsTable t → IsTable (marked_with t p)
 marked_table t p s = record { sound = s.sound; wide = s.wide; marked_wide = length-set t.marked p true ∙ s.marked_wide; parents = s.parents; ordered = s.ordered; root = s.root; waiting = s.waiting }
@@ -83,15 +83,15 @@ marked_taken t p s k = record {
   going = k.going;
   counted =
       go (marked_at t p) k.counted
-      ∙ ap suc (sym (marked_same (marked_with t p) t (ready_places t) (λ i h. mark_there t p i (ready_other t p i s k h))))
-      ∙ sym (ap (λ b. if b then suc (marked_among (marked_with t p) (ready_places t)) else marked_among (marked_with t p) (ready_places t)) (mark_here t p (omega (arith, s.marked_wide, k.inside))));
+      ∙ ap suc (sym (marked_same (marked_with t p) t (ready_slots t) (λ i h. mark_there t p i (ready_other t p i s k h))))
+      ∙ sym (ap (λ b. if b then suc (marked_among (marked_with t p) (ready_slots t)) else marked_among (marked_with t p) (ready_slots t)) (mark_here t p (omega (arith, s.marked_wide, k.inside))));
 }
   where
-    go : (b : Bool) → t.marks ≡ (if b then suc (marked_among t (ready_places t)) else marked_among t (ready_places t)) → (if b then t.marks else t.marks + 1) ≡ suc (marked_among t (ready_places t))
+    go : (b : Bool) → t.marks ≡ (if b then suc (marked_among t (ready_slots t)) else marked_among t (ready_slots t)) → (if b then t.marks else t.marks + 1) ≡ suc (marked_among t (ready_slots t))
     go true e = e
     go false e = omega (arith, e)
 
-pub marked_stands : (t : Table) (n : Naming) (m : Machine) (p : ℕ) → At t n m p → Stands (marked_with t p) n (record m { marks = n.name p ∷ m.marks })
+pub marked_stands : (t : Table) (n : Naming) (m : Machine) (p : ℕ) → At t n m p → TableIsMachine (marked_with t p) n (record m { marks = n.name p ∷ m.marks })
 marked_stands t n m p a = record {
   found = a.stands.found;
   all = a.stands.all;
@@ -110,46 +110,46 @@ marked_stands t n m p a = record {
   awaits = a.stands.awaits;
 }
 
-pub marked_at_place : (t : Table) (n : Naming) (m : Machine) (p : ℕ) → At t n m p → At (marked_with t p) n (record m { marks = n.name p ∷ m.marks }) p
-marked_at_place t n m p a = record { table = marked_table t p a.table; taken = marked_taken t p a.table a.taken; stands = marked_stands t n m p a }
+pub marked_at_slot : (t : Table) (n : Naming) (m : Machine) (p : ℕ) → At t n m p → At (marked_with t p) n (record m { marks = n.name p ∷ m.marks }) p
+marked_at_slot t n m p a = record { table = marked_table t p a.table; taken = marked_taken t p a.table a.taken; stands = marked_stands t n m p a }
 
 -- ---- a process stands at its `when`
 
-module _ (t u : Table) (place : ℕ) (act : Activity) (table : IsTable t) (taken : IsTaken t place) (put : Puts 0 place (at_its_when (process_at t place) act) t u) where
-  pub stood_ready : ready_places u ≡ ready_places t ++ place ∷ []
-  stood_ready = put_list t u 0 place (at_its_when (process_at t place) act) put table.sound (omega arith)
+module _ (t u : Table) (slot : ℕ) (act : Activity) (table : IsTable t) (taken : IsTaken t slot) (put : PutsProcess 0 slot (at_its_when (process_at t slot) act) t u) where
+  pub stood_ready : ready_slots u ≡ ready_slots t ++ slot ∷ []
+  stood_ready = put_list t u 0 slot (at_its_when (process_at t slot) act) put table.sound (omega arith)
 
   pub stood_between : IsBetween u
   stood_between = record {
     counted =
-        put.marks ∙ taken.counted ∙ go (marked_at t place) ∙ sym (marked-append t (ready_places t) (place ∷ []))
-        ∙ ap (marked_among t) (sym stood_ready) ∙ marked_same t u (ready_places u) (λ i h. ap (λ ms. slice_index_or ms i false) (sym put.marked));
+        put.marks ∙ taken.counted ∙ go (marked_at t slot) ∙ sym (marked-append t (ready_slots t) (slot ∷ []))
+        ∙ ap (marked_among t) (sym stood_ready) ∙ marked_same t u (ready_slots u) (λ i h. ap (λ ms. slice_index_or ms i false) (sym put.marked));
   }
     where
-      go : (b : Bool) → (if b then suc (marked_among t (ready_places t)) else marked_among t (ready_places t)) ≡ marked_among t (ready_places t) + (if b then 1 else 0)
+      go : (b : Bool) → (if b then suc (marked_among t (ready_slots t)) else marked_among t (ready_slots t)) ≡ marked_among t (ready_slots t) + (if b then 1 else 0)
       go true = omega arith
       go false = omega arith
 
   module _ (n : Naming) (m k : Machine) (a : mach.Activity) (ms xs : List Name) (r : Running) (store : List ℕ) where
-    pub stood : Stands t n m → Follows m k (n.name place) (n.forks place) xs a → ms ≡ m.marks → r.local ≡ local_of store act →
-        Stands u n (back k (n.name place) (activity_of r.local a.forks mach.at_when) ms r)
+    pub stood : TableIsMachine t n m → Follows m k (n.name slot) (n.forks slot) xs a → ms ≡ m.marks → r.local ≡ local_of store act →
+        TableIsMachine u n (back k (n.name slot) (activity_of r.local a.forks mach.at_when) ms r)
     stood s f e l =
-        one_changes t u n n.forks m (back k (n.name place) (activity_of r.local a.forks mach.at_when) ms r) place (at_its_when (process_at t place) act)
+        one_changes t u n n.forks m (back k (n.name slot) (activity_of r.local a.forks mach.at_when) ms r) slot (at_its_when (process_at t slot) act)
         (record {
           stands = s;
-          live = taken_live t place taken;
+          live = taken_live t slot taken;
           wide = table.wide;
           processes = put.processes;
           parent = refl;
-          lives = put_lives t u place (at_its_when (process_at t place) act) put taken.homeless;
-          free = ap length (put_other t u 0 place (at_its_when (process_at t place) act) put table.sound (omega arith) 1 (λ e. omega (arith, e)));
+          lives = put_lives t u slot (at_its_when (process_at t slot) act) put taken.homeless;
+          free = ap length (put_other t u 0 slot (at_its_when (process_at t slot) act) put table.sound (omega arith) 1 (λ e. omega (arith, e)));
           forks_here = omega arith;
           forks_there = λ i ne. refl;
-          found_here = find-with_at-same k.activities (n.name place) (activity_of r.local a.forks mach.at_when) ∙ ap (λ x. Some (activity_of x a.forks mach.at_when)) l ∙ ap (λ x. Some (activity_of (local_of store act) x mach.at_when)) f.forked;
-          found_there = λ q ne. find-with_at-other k.activities (n.name place) q (activity_of r.local a.forks mach.at_when) ne ∙ f.others q ne;
-          named = names-with_at k.activities (n.name place) (activity_of r.local a.forks mach.at_when) a f.found ∙ f.named;
+          found_here = find-with_at-same k.activities (n.name slot) (activity_of r.local a.forks mach.at_when) ∙ ap (λ x. Some (activity_of x a.forks mach.at_when)) l ∙ ap (λ x. Some (activity_of (local_of store act) x mach.at_when)) f.forked;
+          found_there = λ q ne. find-with_at-other k.activities (n.name slot) q (activity_of r.local a.forks mach.at_when) ne ∙ f.others q ne;
+          named = names-with_at k.activities (n.name slot) (activity_of r.local a.forks mach.at_when) a f.found ∙ f.named;
           marks = λ i h. ap (λ ys. has ys (n.name i)) e ∙ s.marks i h ∙ ap (λ ys. slice_index_or ys i false) (sym put.marked);
-          awaits = none (process_at t place).standing (children_of t place) taken.going (s.awaits place (taken_live t place taken));
+          awaits = none (process_at t slot).standing (children_of t slot) taken.going (s.awaits slot (taken_live t slot taken));
         })
       where
         none : (s : Standing) (c : ℕ) → is_waiting s ≡ false → Awaits s c → c ≡ 0
@@ -158,15 +158,15 @@ module _ (t u : Table) (place : ℕ) (act : Activity) (table : IsTable t) (taken
         none (standing.Waiting x) c w h = absurd (cc)
 
 -- all that are ready are marked exactly where as many are
-pub all_ready : (t : Table) (n : Naming) (m : Machine) (p : ℕ) → At t n m p → (u : Table) → ready_places u ≡ ready_places t ++ p ∷ [] →
-    (t.marks == length (ready_places u)) ≡ all_marked m.marks (n.name p ∷ map n.name (ready_places t))
+pub all_ready : (t : Table) (n : Naming) (m : Machine) (p : ℕ) → At t n m p → (u : Table) → ready_slots u ≡ ready_slots t ++ p ∷ [] →
+    (t.marks == length (ready_slots u)) ≡ all_marked m.marks (n.name p ∷ map n.name (ready_slots t))
 all_ready t n m p a u e =
-    ap (λ x. nat_eq x (length (ready_places u))) a.taken.counted ∙ ap (nat_eq (marked_among t (p ∷ ready_places t))) (ap length e ∙ length_push (ready_places t) p ∙ one (length (ready_places t)))
-    ∙ sym (all_marked-among t m.marks n.name (p ∷ ready_places t) (λ i h. a.stands.marks i (live i h)))
+    ap (λ x. nat_eq x (length (ready_slots u))) a.taken.counted ∙ ap (nat_eq (marked_among t (p ∷ ready_slots t))) (ap length e ∙ length_push (ready_slots t) p ∙ one (length (ready_slots t)))
+    ∙ sym (all_marked-among t m.marks n.name (p ∷ ready_slots t) (λ i h. a.stands.marks i (live i h)))
   where
     one : (x : ℕ) → x + 1 ≡ suc x
     one x = omega arith
 
-    live : (i : ℕ) → IsAmong i (p ∷ ready_places t) → is_live t i ≡ true
+    live : (i : ℕ) → IsAmong i (p ∷ ready_slots t) → is_live t i ≡ true
     live i (inl h) = ap (is_live t) h ∙ taken_live t p a.taken
     live i (inr h) = ready_live t i a.table.sound h

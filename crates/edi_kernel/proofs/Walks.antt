@@ -13,7 +13,7 @@ use Rattle.edi_kernel.specs.Stints as stints
 use Rattle.edi_kernel.specs.Stints.{Stint, stint, stint_after, goes_with, followed}
 use Rattle.edi_kernel.proofs.Changes.{length-names}
 
--- a name that a table has keeps its place
+-- a name that a table has keeps its slot
 pub names-with_at : {A : Type 0} (es : tables.Table A) (p : Name) (a b : A) → find es p ≡ Some b → names (with_at es p a) ≡ names es
 names-with_at [] p a b e = absurd (cc)
 names-with_at (x ∷ es) p a b e = go (same p x.0) e (names-with_at es p a b)

@@ -1,4 +1,4 @@
--- What a fork leaves of the memory and of the table, child by child.
+-- Words of contracts. What a fork leaves of the memory and of the table, child by child.
 use Rattle.std.specs.Prelude.{◌≡◌, ℕ, zero, suc, List, [], ◌∷◌, length, slice_get, Some}
 use Rattle.std.specs.Option.{option_map}
 use Rattle.edi_store.specs.Memory.{written}
@@ -15,7 +15,7 @@ abbrev pub share_in : Activity → List Branch → ℕ
 share_in parent branches = share_of (local_of [] parent) (length branches)
 
 -- child i begins after the children that have begun
-pub record OneMore (place : ℕ) (parent : Activity) (branches : List Branch) (i : ℕ) (before : List ℕ → Table → Type 0) (store : List ℕ) (table : Table) : Type 0 where
+pub record OneMore (slot : ℕ) (parent : Activity) (branches : List Branch) (i : ℕ) (before : List ℕ → Table → Type 0) (store : List ℕ) (table : Table) : Type 0 where
   pub store_before : List ℕ
   pub table_before : Table
   pub begun : before store_before table_before
@@ -23,10 +23,10 @@ pub record OneMore (place : ℕ) (parent : Activity) (branches : List Branch) (i
   pub is : Some child ≡ option_map (child_at (child_first (local_of [] parent) (share_in parent branches) i) (share_in parent branches)) (slice_get branches i)
   pub ordered : IsOrdered child
   pub words : store ≡ written store_before (child_first (local_of [] parent) (share_in parent branches) i) (parent.base ∷ 0 ∷ 0 ∷ 0 ∷ 0 ∷ [])
-  pub added : Added place child table_before table
+  pub added : Added slot child table_before table
 
--- the first i children of the process at this place have begun
-abbrev pub HaveBegun : (place : ℕ) → Activity → List Branch → (store : List ℕ) → Table → ℕ → List ℕ → Table → Type 0
-HaveBegun place parent branches store table zero new_store new_table = (new_store ≡ store) × (new_table ≡ table)
-HaveBegun place parent branches store table (suc i) new_store new_table =
-    OneMore place parent branches i (HaveBegun place parent branches store table i) new_store new_table
+-- the first i children of the process at this slot have begun
+abbrev pub HaveBegun : (slot : ℕ) → Activity → List Branch → (store : List ℕ) → Table → ℕ → List ℕ → Table → Type 0
+HaveBegun slot parent branches store table zero new_store new_table = (new_store ≡ store) × (new_table ≡ table)
+HaveBegun slot parent branches store table (suc i) new_store new_table =
+    OneMore slot parent branches i (HaveBegun slot parent branches store table i) new_store new_table

@@ -1,5 +1,5 @@
--- What the kernel keeps, and how it stands for a machine.
-use Rattle.std.specs.Prelude.{◌≡◌, ℕ, ◌+◌, ◌-◌, ◌<◌, ◌==◌, ◌++◌, Bool, true, false, List, [], length, map, Option, Some, None, is_some, ⊤}
+-- Words of contracts. What the kernel keeps, and how it stands for a machine.
+use Rattle.std.specs.Prelude.{◌≡◌, ◌⊎◌, ℕ, ◌+◌, ◌-◌, ◌<◌, ◌==◌, ◌++◌, Bool, true, false, List, [], ◌∷◌, length, map, Option, Some, None, ⊤}
 use Rattle.std.specs.Option.{option_map}
 use Rattle.edi_calls.specs.Names.{Name, find}
 use Rattle.edi_calls.specs.Outcome as outcome
@@ -22,10 +22,11 @@ use Rattle.edi_kernel.specs.declared.ends.StintEnd.{StintEnd}
 use Rattle.edi_kernel.specs.declared.ends.StintEnd.TheVariants as stint_end
 use Rattle.edi_kernel.specs.declared.stretch.Pause.{Pause}
 use Rattle.edi_kernel.specs.declared.stretch.Pause.TheVariants as pause
+use Rattle.edi_kernel.specs.declared.table.Standing.TheVariants as standing
 use Rattle.edi_kernel.specs.declared.table.Table.{Table}
 use Rattle.edi_kernel.specs.declared.state.KernelState.{KernelState}
-use Rattle.edi_kernel.specs.Table.{Puts, Removed, at_its_when, waiting_for, process_at, marks_with, marked_with, unmarked, ready_places, with_process}
-use Rattle.edi_kernel.specs.Stands.{IsTable, IsTaken, IsBetween, Naming, Stands}
+use Rattle.edi_kernel.specs.Table.{PutsProcess, Removed, at_its_when, waiting_for, process_at, marks_with, marked_with, unmarked, ready_slots, with_process}
+use Rattle.edi_kernel.specs.TableIsMachine.{IsTable, IsTaken, IsBetween, Naming, TableIsMachine}
 use Rattle.edi_kernel.specs.Stints as stints
 use Rattle.edi_kernel.specs.Stints.{stint, followed}
 use Rattle.edi_kernel.specs.Forks.{HaveBegun}
@@ -34,7 +35,7 @@ use Rattle.edi_kernel.specs.Forks.{HaveBegun}
 
 abbrev pub IsTakenIn : Table → Option ℕ → Type 0
 IsTakenIn t None = IsBetween t
-IsTakenIn t (Some place) = IsTaken t place
+IsTakenIn t (Some slot) = IsTaken t slot
 
 pub record IsKernel (k : KernelState) : Type 0 where
   pub table : IsTable k.table
@@ -45,10 +46,10 @@ pub record IsKernel (k : KernelState) : Type 0 where
 -- The kernel is this machine, where this process is taken, if any is, and these others are ready in this order.
 pub record Holds (k : KernelState) (m : Machine) (taken : Option Name) (ready : List Name) : Type 0 where
   pub naming : Naming
-  pub stands : Stands k.table naming m
+  pub stands : TableIsMachine k.table naming m
   pub memory : m.memory ≡ k.store
   pub is_taken : taken ≡ option_map naming.name k.taken
-  pub is_ready : ready ≡ map naming.name (ready_places k.table)
+  pub is_ready : ready ≡ map naming.name (ready_slots k.table)
 
 -- ---- stints
 
@@ -161,11 +162,30 @@ abbrev pub fault_of : Option Ending → Option Pause
 fault_of (Some ending.Fault) = Some (pause.Over ending.Fault)
 fault_of e = None
 
--- an activity stands at its `when` after an arrival, and after the attempt that completes a standstill
-abbrev pub StandsAfter : StintEnd → Option Activity → Type 0
-StandsAfter (stint_end.Arrived used) arrived = is_some arrived ≡ true
-StandsAfter (stint_end.Over used ending.Standstill) arrived = is_some arrived ≡ true
-StandsAfter end arrived = arrived ≡ None
+-- The process that was taken stands at its `when` with the activity that the kernel tells, and went to the back of those
+-- that were ready.
+pub record StandsLast (taken : Option ℕ) (ready : List ℕ) (t : Table) (arrived : Option Activity) : Type 0 where
+  pub slot : ℕ
+  pub was : taken ≡ Some slot
+  pub last : ready_slots t ≡ ready ++ slot ∷ []
+  pub activity : Activity
+  pub told : arrived ≡ Some activity
+  pub standing : (process_at t slot).standing ≡ standing.AtWhen
+  pub is : (process_at t slot).activity ≡ activity
+
+-- a process stands so after an arrival, and after the attempt that completes a standstill; after any other end none is told
+abbrev pub StandsAfter : StintEnd → (taken : Option ℕ) → (ready : List ℕ) → Table → (arrived : Option Activity) → Type 0
+StandsAfter (stint_end.Arrived used) taken ready t arrived = StandsLast taken ready t arrived
+StandsAfter (stint_end.Over used ending.Standstill) taken ready t arrived = StandsLast taken ready t arrived
+StandsAfter end taken ready t arrived = arrived ≡ None
+
+-- The same at the end of a run: after a standstill the process whose attempt completed it stands so, unless none was left that
+-- is ready.
+abbrev pub StandsAtEnd : Option Ending → Table → (arrived : Option Activity) → Type 0
+StandsAtEnd None t arrived = ⊤
+StandsAtEnd (Some ending.Standstill) t arrived =
+    ((taken : Option ℕ) × (ready : List ℕ) × StandsLast taken ready t arrived) ⊎ ((arrived ≡ None) × (ready_slots t ≡ []))
+StandsAtEnd (Some e) t arrived = arrived ≡ None
 
 -- the same end of a stint after so many more turns
 abbrev pub later_by : ℕ → StintEnd → StintEnd
@@ -176,30 +196,30 @@ later_by n (stint_end.Over used ending) = stint_end.Over (used + n) ending
 
 -- ---- what a pause changes
 
-abbrev pub IsForked : (words : List ℕ) → (place : ℕ) → Activity → (at : ℕ) → (old new : KernelState) → Type 0
-IsForked words place a at old new =
+abbrev pub IsForked : (words : List ℕ) → (slot : ℕ) → Activity → (at : ℕ) → (old new : KernelState) → Type 0
+IsForked words slot a at old new =
     let branches = branches_at words at in
-    let waits = waiting_for (length branches) (process_at old.table place) a in
-    HaveBegun place a branches old.store (with_process (unmarked old.table) place waits) (length branches) new.store new.table
+    let waits = waiting_for (length branches) (process_at old.table slot) a in
+    HaveBegun slot a branches old.store (with_process (unmarked old.table) slot waits) (length branches) new.store new.table
 
 -- the turn of an attempt that marks its process: where all ready ones are marked then, the run is at a standstill
 abbrev pub attempt_end : Bool → (used : ℕ) → StintEnd
 attempt_end true used = stint_end.Over used ending.Standstill
 attempt_end false used = stint_end.Arrived used
 
-abbrev pub HandlesTurn : TurnKind → (words : List ℕ) → (place used : ℕ) → Activity → (old new : KernelState) → StintEnd → Type 0
-HandlesTurn (kind.Again true) words place used a old new result =
-    Puts 0 place (at_its_when (process_at old.table place) a) (marked_with old.table place) new.table × (new.store ≡ old.store)
-    × (result ≡ attempt_end (marks_with old.table place == length (ready_places new.table)) used) × (new.arrived ≡ Some a)
-HandlesTurn (kind.Fork at) words place used a old new result = IsForked words place a at old new × (result ≡ stint_end.Forked used)
-HandlesTurn kind.Exit words place used a old new result =
-    Removed place (unmarked old.table) new.table × (new.store ≡ old.store) × (result ≡ stint_end.Exited used)
-HandlesTurn kind words place used a old new result =
-    Puts 0 place (at_its_when (process_at old.table place) a) (unmarked old.table) new.table × (new.store ≡ old.store)
+abbrev pub HandlesTurn : TurnKind → (words : List ℕ) → (slot used : ℕ) → Activity → (old new : KernelState) → StintEnd → Type 0
+HandlesTurn (kind.Again true) words slot used a old new result =
+    PutsProcess 0 slot (at_its_when (process_at old.table slot) a) (marked_with old.table slot) new.table × (new.store ≡ old.store)
+    × (result ≡ attempt_end (marks_with old.table slot == length (ready_slots new.table)) used) × (new.arrived ≡ Some a)
+HandlesTurn (kind.Fork at) words slot used a old new result = IsForked words slot a at old new × (result ≡ stint_end.Forked used)
+HandlesTurn kind.Exit words slot used a old new result =
+    Removed slot (unmarked old.table) new.table × (new.store ≡ old.store) × (result ≡ stint_end.Exited used)
+HandlesTurn kind words slot used a old new result =
+    PutsProcess 0 slot (at_its_when (process_at old.table slot) a) (unmarked old.table) new.table × (new.store ≡ old.store)
     × (result ≡ stint_end.Arrived used) × (new.arrived ≡ Some a)
 
--- the process at this place, with this activity, pauses after so many turns
-abbrev pub Handles : Pause → (words : List ℕ) → (place used : ℕ) → Activity → (old new : KernelState) → StintEnd → Type 0
-Handles (pause.Over ending) words place used a old new result =
+-- the process at this slot, with this activity, pauses after so many turns
+abbrev pub Handles : Pause → (words : List ℕ) → (slot used : ℕ) → Activity → (old new : KernelState) → StintEnd → Type 0
+Handles (pause.Over ending) words slot used a old new result =
     (new.table ≡ unmarked old.table) × (new.store ≡ old.store) × (result ≡ stint_end.Over used ending)
-Handles (pause.At kind) words place used a old new result = HandlesTurn kind words place used a old new result
+Handles (pause.At kind) words slot used a old new result = HandlesTurn kind words slot used a old new result

@@ -1,8 +1,9 @@
 pub mod Table
-pub mod Stands
+pub mod TableIsMachine
 pub mod Stretch
 pub mod Stints
 pub mod Forks
 pub mod Kernel
 pub mod Moments
 pub mod Runs
+pub mod Passed

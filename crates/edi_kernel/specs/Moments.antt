@@ -1,4 +1,4 @@
--- How far a run has come: what it is after a number of instructions.
+-- Words of contracts. How far a run has come: what it is after a number of instructions.
 use Rattle.std.specs.Prelude.{ℕ, zero, suc, ◌++◌, List, [], Option, Some, None}
 use Rattle.edi_calls.specs.Choice.{Choices}
 use Rattle.edi_calls.specs.Names.{Name}

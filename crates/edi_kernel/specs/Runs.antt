@@ -1,5 +1,5 @@
--- Whole runs: the choice of the next process, and the rounds of a run.
-use Rattle.std.specs.Prelude.{◌≡◌, ℕ, ◌+◌, ◌-◌, ◌<◌, ◌^◌, ◌%◌, Bool, true, false, nat_eq, List, [], Option, Some, None, ⊤}
+-- Words of contracts. Whole runs: the choice of the next process, and the rounds of a run.
+use Rattle.std.specs.Prelude.{◌≡◌, ℕ, ◌+◌, ◌-◌, ◌<◌, ◌^◌, ◌%◌, Bool, true, false, nat_eq, List, [], length, slice_get, Option, Some, None, ⊤}
 use Rattle.edi_calls.specs.Choice.{Choices, choice}
 use Rattle.edi_calls.specs.Names.{Name}
 use Rattle.edi_calls.specs.Outcome as outcome
@@ -8,27 +8,42 @@ use Rattle.edi_calls.specs.Ready.{stays, taking, take_next}
 use Rattle.edi_calls.specs.State.{State}
 use Rattle.edi_target.specs.Check.{CodeParts}
 use Rattle.edi_target.specs.Fetch.{fetch}
-use Rattle.edi_target.specs.Mach.{Machine, Run, went, finished, run, after_step, entered, Mach}
+use Rattle.edi_target.specs.Mach.{Machine, MachineRun, went, finished, run, after_step, entered, Mach}
 use Rattle.edi_trace.specs.Drawn.{Drawn}
 use Rattle.edi_machine.specs.declared.activity.Activity.{Activity}
-use Rattle.edi_machine.specs.Starts.{Begins}
+use Rattle.edi_machine.specs.Starts.{ActivityBegins}
 use Rattle.edi_kernel.specs.declared.ends.Ending.{Ending}
 use Rattle.edi_kernel.specs.declared.ends.Ending.TheVariants as ending
 use Rattle.edi_kernel.specs.declared.state.KernelState.{KernelState}
-use Rattle.edi_kernel.specs.Table.{FirstAlone}
+use Rattle.edi_kernel.specs.Table.{FirstAlone, Withdraws, ready_slots}
 use Rattle.edi_kernel.specs.Kernel.{IsKernel, Holds, EndsAs, KeepsWords, FailsAt}
 use Rattle.edi_kernel.specs.Moments.{Moment, moment, moment_of}
 
 -- ---- the next process
 
--- a place in the list of so many: the first of a single one, and else by the next choice
-abbrev pub PicksBy : Bool → (ready : ℕ) → (old : Drawn) → (place : ℕ) → (new : Drawn) → Type 0
-PicksBy true ready old place new = (place ≡ 0) × (new ≡ old)
-PicksBy false ready old place new =
-    old.drawn < 2 ^ 64 - 1 → (place ≡ choice old.source (old.drawn + 1) % ready) × (new ≡ record old { drawn = old.drawn + 1 })
+-- a slot in the list of so many: the first of a single one, and else by the next choice
+abbrev pub PicksBy : Bool → (ready : ℕ) → (old : Drawn) → (slot : ℕ) → (new : Drawn) → Type 0
+PicksBy true ready old slot new = (slot ≡ 0) × (new ≡ old)
+PicksBy false ready old slot new =
+    old.drawn < 2 ^ 64 - 1 → (slot ≡ choice old.source (old.drawn + 1) % ready) × (new ≡ record old { drawn = old.drawn + 1 })
 
-abbrev pub Picks : (ready : ℕ) → (old : Drawn) → (place : ℕ) → (new : Drawn) → Type 0
-Picks ready old place new = PicksBy (nat_eq ready 1) ready old place new
+abbrev pub Picks : (ready : ℕ) → (old : Drawn) → (slot : ℕ) → (new : Drawn) → Type 0
+Picks ready old slot new = PicksBy (nat_eq ready 1) ready old slot new
+
+-- The process that stands at the slot of the rule among the ready ones is taken, and is in no list. All else is as before.
+pub record TakesNext (old new : KernelState) (before after : Drawn) : Type 0 where
+  pub index : ℕ
+  pub picks : Picks (length (ready_slots old.table)) before index after
+  pub slot : ℕ
+  pub at : slice_get (ready_slots old.table) index ≡ Some slot
+  pub withdrawn : Withdraws slot old.table new.table
+  pub rest : new ≡ record old { table = new.table; taken = Some slot }
+
+-- where a run ends since nobody is ready, all is as before
+abbrev pub EndsUnready : Option Ending → (old new : KernelState) → Type 0
+EndsUnready None old new = ⊤
+EndsUnready (Some ending.Standstill) old new = (new ≡ old) × (ready_slots old.table ≡ [])
+EndsUnready (Some e) old new = ⊥
 
 -- the kernel has taken the process that the rule has as the next of these ready ones
 pub record Chooses (k : KernelState) (m : Machine) (old new : Drawn) (ready : List Name) : Type 0 where
@@ -49,7 +64,7 @@ Proceeds (Some e) k m old new ready = ⊥
 pub record Started (code : CodeParts) (k : KernelState) : Type 0 where
   pub kernel : IsKernel k
   pub first : Activity
-  pub begins : Begins (fetch code.words code.entry) code.calls k.store first
+  pub begins : ActivityBegins (fetch code.words code.entry) code.calls k.store first
   pub alone : FirstAlone k.table first
   pub taken : k.taken ≡ Some 0
   pub entering : k.entering ≡ true
@@ -61,7 +76,7 @@ pub record Started (code : CodeParts) (k : KernelState) : Type 0 where
 -- the run of any number of steps from here comes to what one from there comes to
 abbrev pub ComesTo : List ℕ → Choices → (m : Machine) → Name → List Name → ℕ → (m' : Machine) → Name → List Name → ℕ → Type 0
 ComesTo words choices m p others drawn m' p' others' drawn' =
-    (n : ℕ) (r : Run) → run (fetch words) choices n m' p' others' drawn' ≡ r → (k : ℕ) × (run (fetch words) choices k m p others drawn ≡ r)
+    (n : ℕ) (r : MachineRun) → run (fetch words) choices n m' p' others' drawn' ≡ r → (k : ℕ) × (run (fetch words) choices k m p others drawn ≡ r)
 
 -- each moment of the run from there is one of the run from here
 abbrev pub PassesTo : List ℕ → Choices → (m : Machine) → Name → List Name → ℕ → (m' : Machine) → Name → List Name → ℕ → Type 0

@@ -1,4 +1,4 @@
--- A stint: the steps of the taken process until the kernel takes the next, or the run ends.
+-- Words of contracts. A stint: the steps of the taken process until the kernel takes the next, or the run ends.
 use Rattle.std.specs.Prelude.{ℕ, zero, suc, List, Option, Some, None}
 use Rattle.edi_calls.specs.Names.{Name}
 use Rattle.edi_calls.specs.Outcome as outcome

@@ -1,6 +1,6 @@
--- What a taken process does until it gives up its turn at the kernel: a stretch of steps of the one activity.
+-- Words of contracts. What a taken process does until it gives up its turn at the kernel: a stretch of steps of the one activity.
 use Rattle.std.specs.Prelude.{◌≡◌, ℕ, zero, suc, ◌+◌, ◌-◌, ◌<◌, ◌≤◌, ◌⊎◌, Bool, true, false, ◌&&◌, nat_eq, List, length, Option, Some, None, ⊤}
-use Rattle.edi_told.specs.Faults.{Rose}
+use Rattle.edi_told.specs.Faults.{CountRose}
 use Rattle.edi_calls.specs.declared.ends.Outside.{Outside}
 use Rattle.edi_calls.specs.declared.kinds.Cause.{Cause}
 use Rattle.edi_calls.specs.declared.kinds.Cause.TheVariants as cause
@@ -221,5 +221,5 @@ Spends _ left new_left = ⊤
 
 -- an object outside has failed exactly at a fault, and its count of faults rose
 abbrev pub Blamed : Option Pause → (failed : Option Outside → Type 0) → (old new : Outside → ℕ) → Type 0
-Blamed (Some (pause.Over ending.Fault)) failed old new = (outside : Outside) × failed (Some outside) × Rose (old outside) (new outside)
+Blamed (Some (pause.Over ending.Fault)) failed old new = (outside : Outside) × failed (Some outside) × CountRose (old outside) (new outside)
 Blamed _ failed old new = failed None

@@ -5,8 +5,8 @@ ghost use Rattle.edi_store.specs.Memory.{IsMemory};
 ghost use Rattle.edi_ring.specs.Lists.{home_of};
 ghost use Rattle.edi_machine.specs.Activities.{IsOrdered, local_of};
 ghost use Rattle.edi_machine.specs.Starts.{IsFork, branches_at};
-ghost use Rattle.edi_kernel.specs.Table.{free_places};
-ghost use Rattle.edi_kernel.specs.Stands.{IsTable};
+ghost use Rattle.edi_kernel.specs.Table.{free_slots};
+ghost use Rattle.edi_kernel.specs.TableIsMachine.{IsTable};
 ghost use Rattle.edi_kernel.specs.Forks.{HaveBegun};
 
 use crate::table::Table;
@@ -27,26 +27,26 @@ pub(crate) fn branch_count(code: &Code, at: u32) -> u32
     }
 }
 
-/// The children of the process at `place`, of the COBEGIN at `at`, begin. There is room for them.
+/// The children of the process at `slot`, of the COBEGIN at `at`, begin. There is room for them.
 pub(crate) fn fork(
     store: &mut Store,
     table: &mut Table,
     code: &Code,
     at: u32,
-    place: usize,
+    slot: usize,
     parent: &Activity,
 )
     requires ordered { IsOrdered parent.now }
     requires fork { IsFork code.now.words at (branches_at code.now.words at) (local_of store.old parent.now) }
     requires table { IsTable table.old }
-    requires place { place < 32 }
-    requires room { length (branches_at code.now.words at) ≤ length (free_places table.old) }
+    requires slot { slot < 32 }
+    requires room { length (branches_at code.now.words at) ≤ length (free_slots table.old) }
     ensures exact { let branches = branches_at code.now.words at in
-        HaveBegun place parent.now branches store.old table.old (length branches) store.new table.new }
+        HaveBegun slot parent.now branches store.old table.old (length branches) store.new table.new }
     ensures table { IsTable table.new }
 {
     for i in 0..branch_count(code, at) {
         let activity = branch(store, parent, code, at, i);
-        table.add(place, activity);
+        table.add(slot, activity);
     }
 }

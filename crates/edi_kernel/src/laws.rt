@@ -1,8 +1,30 @@
-//! What is true of every run of a kernel. The function does nothing; its contract is the law.
+//! What is true of every run of a kernel. The functions do nothing; their contracts are the laws.
 
+ghost use Rattle.edi_kernel.specs.Passed.{FaultIsMoment, MomentAdds, MomentIsNewest, OfEveryRun, PastIsOfMoments};
 ghost use Rattle.edi_kernel.specs.Runs.{RunsAreTheMachines};
 
 /// Where no choice had been drawn before, a run of the kernel has an outcome of the machine's definition.
 pub fn runs_are_the_machines()
     ensures law { RunsAreTheMachines }
+{}
+
+/// At each moment of a run the system is the newest state of its past.
+pub fn moment_is_newest()
+    ensures law { OfEveryRun MomentIsNewest }
+{}
+
+/// The instruction at a moment adds to the past the state that its system call leaves, where that is answered, and else nothing.
+pub fn moment_adds()
+    ensures law { OfEveryRun MomentAdds }
+{}
+
+/// The past has no other states: each is the first one, or the system at some moment.
+pub fn past_is_of_moments()
+    ensures law { OfEveryRun PastIsOfMoments }
+{}
+
+/// Where an object outside failed in a run, the system is, but for the found file and the buffer, a state through which the
+/// run comes.
+pub fn fault_is_moment()
+    ensures law { FaultIsMoment }
 {}

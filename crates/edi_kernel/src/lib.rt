@@ -9,16 +9,16 @@ mod state;
 mod stretch;
 mod table;
 
-ghost use Rattle.std.specs.Prelude.{◌≡◌, ◌≤◌, ◌<◌, ◌+◌, ◌-◌, ◌^◌, min, length, slice_index, None, Some, IsSome, IfOk, ℕ, List, true, false, ◌↔◌, IsTrue};
+ghost use Rattle.std.specs.Prelude.{◌≡◌, ◌≤◌, ◌<◌, ◌+◌, ◌-◌, ◌^◌, min, length, slice_index, [], None, Some, IsSome, IfOk, ℕ, List, true, false, ◌↔◌, IsTrue};
 ghost use Rattle.edi_told.specs.Told.{WhereTold};
 ghost use Rattle.edi_store.specs.Memory.{zero_memory};
 ghost use Rattle.edi_calls.specs.declared.ends.Outside.{Outside};
 ghost use Rattle.edi_calls.specs.Names.{Name};
 ghost use Rattle.edi_target.specs.Mach.{Machine};
-ghost use Rattle.edi_kernel.specs.Table.{ready_places};
+ghost use Rattle.edi_kernel.specs.Table.{ready_slots};
 ghost use Rattle.edi_kernel.specs.Stretch.{Blamed};
-ghost use Rattle.edi_kernel.specs.Kernel.{GoesTo, Holds, IsKernel, StandsAfter, fault_of, faulted, is_over, used_in};
-ghost use Rattle.edi_kernel.specs.Runs.{Chooses, IsAt, RunsTo, Started};
+ghost use Rattle.edi_kernel.specs.Kernel.{GoesTo, Holds, IsKernel, StandsAfter, StandsAtEnd, fault_of, faulted, is_over, used_in};
+ghost use Rattle.edi_kernel.specs.Runs.{Chooses, IsAt, RunsTo, Started, TakesNext};
 
 use edi_calls::Calls;
 use edi_machine::Activity;
@@ -70,6 +70,7 @@ impl Kernel {
         ensures turns { IfOk result (λ k. k.used ≡ 0) }
         ensures taken { IfOk result (λ k. k.taken ≡ None) }
         ensures standing { IfOk result (λ k. k.arrived ≡ None) }
+        ensures ready { IfOk result (λ k. ready_slots k.table ≡ []) }
     {
         let store = Store::new(alloc)?;
         let state = KernelState {
@@ -100,7 +101,7 @@ impl Kernel {
 
     /// The number of processes that are ready, at most 32. The one that is taken is none of them.
     pub fn ready(&self) -> usize
-        ensures { result ≡ length (ready_places self.now.table) }
+        ensures { result ≡ length (ready_slots self.now.table) }
     {
         self.state.table.ready()
     }
@@ -119,7 +120,7 @@ impl Kernel {
         ensures entry { self.old.entering ≡ true → turns_left ≡ 0 → result ≡ StintEnd.Over 0 Ending.Turns }
         ensures free { is_over result ≡ false → self.new.taken ≡ None }
         ensures entering { is_over result ≡ false → self.new.entering ≡ false }
-        ensures standing { StandsAfter result self.new.arrived }
+        ensures standing { StandsAfter result self.old.taken (ready_slots self.old.table) self.new.table self.new.arrived }
         ensures used { used_in result ≤ turns_left }
         ensures later { (outside : Outside) → C.faults calls.old outside ≤ C.faults calls.new outside }
         ensures blame { Blamed (faulted result) (C.failed calls.new) (C.faults calls.old) (C.faults calls.new) }
@@ -130,13 +131,15 @@ impl Kernel {
         self.state.stint(code, calls, turns_left)
     }
 
-    /// Takes the next process: of k ready ones that at place c modulo k, c being the next choice; a single one without a
-    /// choice. None is taken before, and one is ready.
+    /// Takes the next process: of k ready ones that at slot c modulo k, c being the next choice; a single one without a
+    /// choice. None is taken before, and one is ready. All else that the kernel keeps is as before, also the activity that
+    /// `standing` tells.
     pub fn choose(&mut self, choices: &mut Choices)
         requires free { self.old.taken ≡ None }
-        requires some { 0 < length (ready_places self.old.table) }
+        requires some { 0 < length (ready_slots self.old.table) }
         ensures exact { choices.old.drawn < 2 ^ 64 - 1 → (m : Machine) (ready : List Name) →
             Holds self.old m None ready → Chooses self.new m choices.old choices.new ready }
+        ensures takes { TakesNext self.old self.new choices.old choices.new }
         ensures taken { IsSome self.new.taken }
         ensures source { choices.new.source ≡ choices.old.source }
         ensures drawn { choices.new.drawn ≤ choices.old.drawn + 1 }
@@ -162,6 +165,7 @@ impl Kernel {
         requires working { C.failed calls.old None }
         ensures exact { choices.old.drawn + bound < 2 ^ 64 → WhereTold (C.state calls.old) (C.state calls.new) (λ s t.
             RunsTo code.now s bound choices.old result self.new.store self.new.used t choices.new) }
+        ensures standing { StandsAtEnd (Some result) self.new.table self.new.arrived }
         ensures used { self.new.used ≤ bound }
         ensures source { choices.new.source ≡ choices.old.source }
         ensures drawn { choices.new.drawn ≤ choices.old.drawn + bound }
@@ -182,7 +186,8 @@ impl Kernel {
     }
 
     /// The activity that the last instruction of the last stint left standing at its `when`, if it took its turn so: after
-    /// `Arrived` and a standstill the one with which the process stands in the machine that the stint leaves.
+    /// `Arrived` and a standstill the one with which the process stands that went to the back of the ready ones. After a run
+    /// it is that of its last stint.
     pub fn standing(&self) -> Option<Activity>
         ensures { result ≡ self.now.arrived }
     {

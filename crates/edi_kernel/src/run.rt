@@ -7,10 +7,11 @@ ghost use Rattle.edi_calls.specs.Names.{Name};
 ghost use Rattle.edi_target.specs.Mach.{Machine};
 ghost use Rattle.std.specs.Prelude.{Option};
 ghost use Rattle.edi_machine.specs.declared.activity.Activity.{Activity};
-ghost use Rattle.edi_kernel.specs.Table.{ready_places};
+ghost use Rattle.edi_kernel.specs.declared.table.Table.{Table};
+ghost use Rattle.edi_kernel.specs.Table.{ready_slots};
 ghost use Rattle.edi_kernel.specs.Stretch.{Blamed};
-ghost use Rattle.edi_kernel.specs.Kernel.{GoesTo, Holds, IsKernel, ended_by, fault_of, faulted, is_over, later_by, used_in, StandsAfter};
-ghost use Rattle.edi_kernel.specs.Runs.{Chooses, IsAt, Picks, Proceeds, Rounds, RunsTo, Started};
+ghost use Rattle.edi_kernel.specs.Kernel.{GoesTo, Holds, IsKernel, ended_by, fault_of, faulted, is_over, later_by, used_in, StandsAfter, StandsAtEnd};
+ghost use Rattle.edi_kernel.specs.Runs.{Chooses, EndsUnready, IsAt, Picks, Proceeds, Rounds, RunsTo, Started, TakesNext};
 
 use crate::ends::{Ending, StintEnd};
 use crate::state::KernelState;
@@ -20,7 +21,7 @@ use edi_machine::begin;
 use edi_target::Code;
 use edi_trace::Choices;
 
-/// The place in the list of so many ready processes of the next one. A single one is taken without a choice.
+/// The slot in the list of so many ready processes of the next one. A single one is taken without a choice.
 fn pick(ready: usize, choices: &mut Choices) -> usize
     requires { 0 < ready }
     ensures inside { result < ready }
@@ -67,7 +68,8 @@ fn entry_turns(entering: bool) -> u64
 fn later_by(end: StintEnd, turns: u64) -> StintEnd
     requires { used_in end + turns < 2 ^ 64 }
     ensures exact { result ≡ later_by turns end }
-    ensures standing { (arrived : Option Activity) → StandsAfter end arrived → StandsAfter result arrived }
+    ensures standing { (taken : Option ℕ) (ready : List ℕ) (t : Table) (arrived : Option Activity) →
+        StandsAfter end taken ready t arrived → StandsAfter result taken ready t arrived }
 {
     match end {
         StintEnd::Arrived { used } => StintEnd::Arrived { used: used + turns },
@@ -97,8 +99,9 @@ impl KernelState {
     pub(crate) fn choose(&mut self, choices: &mut Choices)
         requires kernel { IsKernel self.old }
         requires free { self.old.taken ≡ None }
-        requires some { 0 < length (ready_places self.old.table) }
+        requires some { 0 < length (ready_slots self.old.table) }
         ensures exact { choices.old.drawn < 2 ^ 64 - 1 → (m : Machine) (ready : List Name) → Holds self.old m None ready → Chooses self.new m choices.old choices.new ready }
+        ensures takes { TakesNext self.old self.new choices.old choices.new }
         ensures kernel { IsKernel self.new }
         ensures taken { IsSome self.new.taken }
         ensures source { choices.new.source ≡ choices.old.source }
@@ -108,8 +111,8 @@ impl KernelState {
         ensures store { self.new.store ≡ self.old.store }
     {
         let at = pick(self.table.ready(), choices);
-        let place = self.table.next(at);
-        self.taken = Some(place);
+        let slot = self.table.next(at);
+        self.taken = Some(slot);
     }
 
     /// Takes the next process, if one is ready.
@@ -124,6 +127,7 @@ impl KernelState {
         ensures turns { self.new.used ≡ self.old.used }
         ensures store { self.new.store ≡ self.old.store }
         ensures fault { fault_of result ≡ None }
+        ensures nobody { EndsUnready result self.old self.new }
     {
         if self.table.ready() == 0 {
             return Some(Ending::Standstill);
@@ -151,6 +155,7 @@ impl KernelState {
         ensures taken { result ≡ None → IsSome self.new.taken }
         ensures used { self.new.used ≤ bound }
         ensures spent { result ≡ None → self.old.used < self.new.used }
+        ensures standing { StandsAtEnd result self.new.table self.new.arrived }
         ensures source { choices.new.source ≡ choices.old.source }
         ensures drawn { choices.new.drawn ≤ choices.old.drawn + 1 }
         ensures later { (outside : Outside) → C.faults calls.old outside ≤ C.faults calls.new outside }
@@ -177,6 +182,7 @@ impl KernelState {
         requires working { C.failed calls.old None }
         ensures exact { choices.old.drawn + bound < 2 ^ 64 → WhereTold (C.state calls.old) (C.state calls.new) (λ s t.
             RunsTo code.now s bound choices.old result self.new.store self.new.used t choices.new) }
+        ensures standing { StandsAtEnd (Some result) self.new.table self.new.arrived }
         ensures kernel { IsKernel self.new }
         ensures used { self.new.used ≤ bound }
         ensures source { choices.new.source ≡ choices.old.source }
@@ -216,7 +222,7 @@ impl KernelState {
         ensures kernel { IsKernel self.new }
         ensures free { is_over result ≡ false → self.new.taken ≡ None }
         ensures entering { is_over result ≡ false → self.new.entering ≡ false }
-        ensures standing { StandsAfter result self.new.arrived }
+        ensures standing { StandsAfter result self.old.taken (ready_slots self.old.table) self.new.table self.new.arrived }
         ensures used { used_in result ≤ turns_left }
         ensures later { (outside : Outside) → C.faults calls.old outside ≤ C.faults calls.new outside }
         ensures blame { Blamed (faulted result) (C.failed calls.new) (C.faults calls.old) (C.faults calls.new) }

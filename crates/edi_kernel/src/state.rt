@@ -1,12 +1,13 @@
 //! The kernel's state, and what it does at each switch.
 
-ghost use Rattle.std.specs.Prelude.{◌≡◌, ◌≤◌, ◌<◌, ◌==◌, ◌+◌, ◌-◌, ◌^◌, if◌then◌else◌, length, None, Some, IsSome, ℕ, true, false, List};
+ghost use Rattle.std.specs.Prelude.{◌≡◌, ◌≤◌, ◌<◌, ◌==◌, ◌+◌, ◌-◌, ◌^◌, if◌then◌else◌, length, None, Some, IsSome, Option, ℕ, true, false, List};
 ghost use Rattle.edi_store.specs.Memory.{IsMemory};
 ghost use Rattle.edi_ring.specs.Lists.{home_of};
 ghost use Rattle.edi_machine.specs.Activities.{IsOrdered, local_of};
 ghost use Rattle.edi_machine.specs.Starts.{IsFork, branches_at};
-ghost use Rattle.edi_kernel.specs.Table.{process_at, free_places, resumed};
-ghost use Rattle.edi_kernel.specs.Stands.{IsTable, IsTaken};
+ghost use Rattle.edi_kernel.specs.declared.table.Table.{Table};
+ghost use Rattle.edi_kernel.specs.Table.{process_at, free_slots, ready_slots, resumed};
+ghost use Rattle.edi_kernel.specs.TableIsMachine.{IsTable, IsTaken};
 ghost use Rattle.edi_told.specs.Told.{WhereTold};
 ghost use Rattle.edi_calls.specs.declared.ends.Outside.{Outside};
 ghost use Rattle.edi_calls.specs.Names.{Name};
@@ -21,6 +22,7 @@ ghost use Rattle.edi_kernel.specs.Kernel.{
   IsForked,
   IsKernel,
   StandsAfter,
+  StandsLast,
   attempt_end,
   faulted,
   is_over,
@@ -41,7 +43,7 @@ use edi_target::Code;
 pub(crate) struct KernelState {
     pub(crate) store: Store,
     pub(crate) table: Table,
-    /// The place of the process that is taken.
+    /// The slot of the process that is taken.
     pub(crate) taken: Option<usize>,
     /// Whether the turn of the program's entry is still to be taken.
     pub(crate) entering: bool,
@@ -54,7 +56,8 @@ pub(crate) struct KernelState {
 /// How a stint ends at an attempt: at a standstill where all that are ready are marked.
 fn attempt_end(all_marked: bool, used: u64) -> StintEnd
     ensures exact { result ≡ attempt_end all_marked used }
-    ensures standing { (a : Activity) → StandsAfter result (Some a) }
+    ensures standing { (taken : Option ℕ) (ready : List ℕ) (t : Table) (arrived : Option Activity) →
+        StandsLast taken ready t arrived → StandsAfter result taken ready t arrived }
 {
     if all_marked {
         StintEnd::Over {
@@ -68,13 +71,13 @@ fn attempt_end(all_marked: bool, used: u64) -> StintEnd
 
 impl KernelState {
     /// The process waits for its children, which begin.
-    fn fork(&mut self, code: &Code, at: u32, place: usize, activity: &Activity)
+    fn fork(&mut self, code: &Code, at: u32, slot: usize, activity: &Activity)
         requires table { IsTable self.old.table }
-        requires taken { IsTaken self.old.table place }
+        requires taken { IsTaken self.old.table slot }
         requires ordered { IsOrdered activity.now }
         requires fork { IsFork code.now.words at (branches_at code.now.words at) (local_of self.old.store activity.now) }
-        requires room { length (branches_at code.now.words at) ≤ length (free_places self.old.table) }
-        ensures exact { IsForked code.now.words place activity.now at self.old self.new }
+        requires room { length (branches_at code.now.words at) ≤ length (free_slots self.old.table) }
+        ensures exact { IsForked code.now.words slot activity.now at self.old self.new }
         ensures table { IsTable self.new.table }
         ensures taken { self.new.taken ≡ self.old.taken }
         ensures arrived { self.new.arrived ≡ self.old.arrived }
@@ -83,27 +86,27 @@ impl KernelState {
     {
         let count = branch_count(code, at);
         self.table.unmark();
-        self.table.wait(place, *activity, count as usize);
-        fork(&mut self.store, &mut self.table, code, at, place, activity);
+        self.table.wait(slot, *activity, count as usize);
+        fork(&mut self.store, &mut self.table, code, at, slot, activity);
     }
 
-    /// Handles a turn of the process at `place` at which it paused.
+    /// Handles a turn of the process at `slot` at which it paused.
     fn handle_turn(
         &mut self,
         code: &Code,
-        place: usize,
+        slot: usize,
         activity: &Activity,
         kind: TurnKind,
         used: u64,
     ) -> StintEnd
         requires table { IsTable self.old.table }
-        requires taken { IsTaken self.old.table place }
+        requires taken { IsTaken self.old.table slot }
         requires ordered { IsOrdered activity.now }
-        requires allowed { Allows (Some (Pause.At kind)) code.now.words (32 - length (free_places self.old.table)) (place == 0) (local_of self.old.store activity.now) }
+        requires allowed { Allows (Some (Pause.At kind)) code.now.words (32 - length (free_slots self.old.table)) (slot == 0) (local_of self.old.store activity.now) }
         requires marks { self.old.table.marks < 64 }
         requires arrived { self.old.arrived ≡ None }
-        ensures standing { StandsAfter result self.new.arrived }
-        ensures exact { HandlesTurn kind code.now.words place used activity.now self.old self.new result }
+        ensures standing { StandsAfter result (Some slot) (ready_slots self.old.table) self.new.table self.new.arrived }
+        ensures exact { HandlesTurn kind code.now.words slot used activity.now self.old self.new result }
         ensures taken { self.new.taken ≡ self.old.taken }
         ensures entering { self.new.entering ≡ self.old.entering }
         ensures turns { self.new.used ≡ self.old.used }
@@ -111,49 +114,49 @@ impl KernelState {
         match kind {
             TurnKind::Again(true) => {
                 self.arrived = Some(*activity);
-                let all_marked = self.table.attempt(place, *activity);
+                let all_marked = self.table.attempt(slot, *activity);
                 attempt_end(all_marked, used)
             }
             TurnKind::Fork(at) => {
-                self.fork(code, at, place, activity);
+                self.fork(code, at, slot, activity);
                 StintEnd::Forked { used }
             }
             TurnKind::Exit => {
-                self.table.leave(place);
+                self.table.leave(slot);
                 StintEnd::Exited { used }
             }
             _ => {
                 self.arrived = Some(*activity);
-                self.table.arrive(place, *activity);
+                self.table.arrive(slot, *activity);
                 StintEnd::Arrived { used }
             }
         }
     }
 
-    /// Handles the pause of the process at `place`, which has this activity, after so many turns.
+    /// Handles the pause of the process at `slot`, which has this activity, after so many turns.
     fn handle(
         &mut self,
         code: &Code,
-        place: usize,
+        slot: usize,
         activity: &Activity,
         pause: Pause,
         used: u64,
     ) -> StintEnd
         requires table { IsTable self.old.table }
-        requires taken { IsTaken self.old.table place }
+        requires taken { IsTaken self.old.table slot }
         requires ordered { IsOrdered activity.now }
-        requires allowed { Allows (Some pause) code.now.words (32 - length (free_places self.old.table)) (place == 0) (local_of self.old.store activity.now) }
+        requires allowed { Allows (Some pause) code.now.words (32 - length (free_slots self.old.table)) (slot == 0) (local_of self.old.store activity.now) }
         requires marks { self.old.table.marks < 64 }
         requires arrived { self.old.arrived ≡ None }
         requires standstill { is_standstill pause ≡ false }
-        ensures standing { StandsAfter result self.new.arrived }
-        ensures exact { Handles pause code.now.words place used activity.now self.old self.new result }
+        ensures standing { StandsAfter result (Some slot) (ready_slots self.old.table) self.new.table self.new.arrived }
+        ensures exact { Handles pause code.now.words slot used activity.now self.old self.new result }
         ensures taken { self.new.taken ≡ self.old.taken }
         ensures entering { self.new.entering ≡ self.old.entering }
         ensures turns { self.new.used ≡ self.old.used }
     {
         match pause {
-            Pause::At(kind) => self.handle_turn(code, place, activity, kind, used),
+            Pause::At(kind) => self.handle_turn(code, slot, activity, kind, used),
             Pause::Over(ending) => {
                 self.table.unmark();
                 StintEnd::Over { used, ending }
@@ -161,24 +164,24 @@ impl KernelState {
         }
     }
 
-    /// The process at `place`, which is taken, goes on until it pauses.
+    /// The process at `slot`, which is taken, goes on until it pauses.
     fn walk<C: Calls>(
         &mut self,
         code: &Code,
         calls: &mut C,
-        place: usize,
+        slot: usize,
         left: u64,
     ) -> (Pause, Progress)
         requires table { IsTable self.old.table }
-        requires place { place < 32 }
+        requires slot { slot < 32 }
         requires working { C.failed calls.old None }
         ensures exact { WhereTold (C.state calls.old) (C.state calls.new) (λ s t.
-            Stretches code.now.words (32 - length (free_places self.old.table)) (place == 0)
-            (running_in self.old.store (resumed (process_at self.old.table place)) s left) false
+            Stretches code.now.words (32 - length (free_slots self.old.table)) (slot == 0)
+            (running_in self.old.store (resumed (process_at self.old.table slot)) s left) false
             result.0 (running_in self.new.store result.1.activity t result.1.left) result.1.cleared) }
         ensures same { self.new ≡ record self.old { store = self.new.store } }
         ensures standstill { is_standstill result.0 ≡ false }
-        ensures allowed { Allows (Some result.0) code.now.words (32 - length (free_places self.old.table)) (place == 0) (local_of self.new.store result.1.activity) }
+        ensures allowed { Allows (Some result.0) code.now.words (32 - length (free_slots self.old.table)) (slot == 0) (local_of self.new.store result.1.activity) }
         ensures less { result.1.left ≤ left }
         ensures spends { Spends (Some result.0) left result.1.left }
         ensures later { (outside : Outside) → C.faults calls.old outside ≤ C.faults calls.new outside }
@@ -188,19 +191,12 @@ impl KernelState {
         ensures ordered { IsOrdered result.1.activity }
     {
         let mut progress = Progress {
-            activity: self.table.resume(place),
+            activity: self.table.resume(slot),
             left,
             cleared: false,
         };
         let live = self.table.live();
-        let pause = advance(
-            &mut self.store,
-            &mut progress,
-            code,
-            live,
-            place == 0,
-            calls,
-        );
+        let pause = advance(&mut self.store, &mut progress, code, live, slot == 0, calls);
         (pause, progress)
     }
 
@@ -214,7 +210,7 @@ impl KernelState {
             Holds self.old m (Some p) others → m.system ≡ s → m.turns ≡ left → GoesTo code.now.words result left self.new t m p others) }
         ensures kernel { IsKernel self.new }
         ensures free { self.new.taken ≡ None }
-        ensures standing { StandsAfter result self.new.arrived }
+        ensures standing { StandsAfter result self.old.taken (ready_slots self.old.table) self.new.table self.new.arrived }
         ensures used { used_in result ≤ left }
         ensures spent { is_over result ≡ false → 0 < used_in result }
         ensures later { (outside : Outside) → C.faults calls.old outside ≤ C.faults calls.new outside }
@@ -224,11 +220,11 @@ impl KernelState {
         ensures entering { self.new.entering ≡ self.old.entering }
         ensures turns { self.new.used ≡ self.old.used }
     {
-        let place = self.taken.unwrap();
-        let (pause, progress) = self.walk(code, calls, place, left);
+        let slot = self.taken.unwrap();
+        let (pause, progress) = self.walk(code, calls, slot, left);
         self.taken = None;
         self.arrived = None;
         self.table.unmark_if(progress.cleared);
-        self.handle(code, place, &progress.activity, pause, left - progress.left)
+        self.handle(code, slot, &progress.activity, pause, left - progress.left)
     }
 }

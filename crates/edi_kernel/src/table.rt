@@ -7,18 +7,18 @@ ghost use Rattle.edi_machine.specs.Activities.{IsOrdered};
 ghost use Rattle.edi_kernel.specs.Table.{
   Added,
   FirstAlone,
-  Puts,
+  PutsProcess,
   Removed,
   Tells,
   Withdraws,
   at_its_when,
   first_home,
-  free_places,
+  free_slots,
   is_waiting,
   marked_with,
   marks_with,
   process_at,
-  ready_places,
+  ready_slots,
   resumed,
   unmarked,
   waiting_for,
@@ -31,10 +31,10 @@ use edi_ring::Lists;
 /// As many processes may live at once.
 pub(crate) const PLACES: usize = 32;
 
-/// The list of the places whose processes are ready.
+/// The list of the slots whose processes are ready.
 const READY: usize = 0;
 
-/// The list of the free places.
+/// The list of the free slots.
 const FREE: usize = 1;
 
 /// What a live process does while it is not taken.
@@ -48,7 +48,7 @@ pub(crate) enum Standing {
     Waiting(usize),
 }
 
-/// A process: the place of its parent, what it does, and its activity. The first process stands for its own parent.
+/// A process: the slot of its parent, what it does, and its activity. The first process stands for its own parent.
 #[derive(Clone, Copy)]
 pub(crate) struct Process {
     pub(crate) parent: usize,
@@ -56,7 +56,7 @@ pub(crate) struct Process {
     pub(crate) activity: Activity,
 }
 
-/// Up to 32 live processes, each at a place of its own. The first process has place 0. The ready processes are a list;
+/// Up to 32 live processes, each at a slot of its own. The first process has slot 0. The ready processes are a list;
 /// a process that is taken, or that waits, is in no list.
 #[derive(Drop)]
 pub(crate) struct Table {
@@ -68,7 +68,7 @@ pub(crate) struct Table {
     pub(crate) marks: usize,
 }
 
-/// Lists in which each place but the first is free.
+/// Lists in which each slot but the first is free.
 fn first_lists() -> Lists<32, 2>
     ensures homes { (q : ℕ) → home_of result q ≡ first_home q }
     ensures ready { list_at result 0 ≡ [] }
@@ -76,8 +76,8 @@ fn first_lists() -> Lists<32, 2>
     ensures sound { IsSound 32 2 result }
 {
     let mut lists = Lists::new();
-    for place in 1..PLACES {
-        lists.push_back(FREE, place);
+    for slot in 1..PLACES {
+        lists.push_back(FREE, slot);
     }
     lists
 }
@@ -102,7 +102,7 @@ impl Table {
 
     /// The number of live processes.
     pub(crate) fn live(&self) -> u32
-        ensures exact { result + length (free_places self.now) ≡ 32 }
+        ensures exact { result + length (free_slots self.now) ≡ 32 }
         ensures sound { IsSound 32 2 self.now.lists }
     {
         let free = self.lists.len(FREE);
@@ -111,19 +111,19 @@ impl Table {
 
     /// The number of ready processes.
     pub(crate) fn ready(&self) -> usize
-        ensures exact { result ≡ length (ready_places self.now) }
+        ensures exact { result ≡ length (ready_slots self.now) }
         ensures bound { result ≤ 32 }
         ensures sound { IsSound 32 2 self.now.lists }
     {
         self.lists.len(READY)
     }
 
-    /// The activity with which the process at this place goes on: in its critical phase, where it stands at its `when`.
-    pub(crate) fn resume(&self, place: usize) -> Activity
-        requires { place < 32 }
-        ensures { result ≡ resumed (process_at self.now place) }
+    /// The activity with which the process at this slot goes on: in its critical phase, where it stands at its `when`.
+    pub(crate) fn resume(&self, slot: usize) -> Activity
+        requires { slot < 32 }
+        ensures { result ≡ resumed (process_at self.now slot) }
     {
-        let process = self.processes[place];
+        let process = self.processes[slot];
         match process.standing {
             Standing::AtWhen => Activity {
                 held: 1,
@@ -151,172 +151,172 @@ impl Table {
     }
 
     /// Marks the process.
-    pub(crate) fn mark(&mut self, place: usize)
-        requires place { place < 32 }
+    pub(crate) fn mark(&mut self, slot: usize)
+        requires slot { slot < 32 }
         requires room { self.old.marks < 64 }
-        ensures { self.new ≡ marked_with self.old place }
+        ensures { self.new ≡ marked_with self.old slot }
     {
-        if !self.marked[place] {
-            self.marked[place] = true;
+        if !self.marked[slot] {
+            self.marked[slot] = true;
             self.marks += 1;
         }
     }
 
-    /// Puts the place, which is in no list, at the back of a list, and this process at the place.
-    fn put(&mut self, list: usize, place: usize, process: Process)
+    /// Puts the slot, which is in no list, at the back of a list, and this process at the slot.
+    fn put(&mut self, list: usize, slot: usize, process: Process)
         requires list { list < 2 }
-        requires place { place < 32 }
-        requires homeless { home_of self.old.lists place ≡ None }
-        ensures { Puts list place process self.old self.new }
+        requires slot { slot < 32 }
+        requires homeless { home_of self.old.lists slot ≡ None }
+        ensures { PutsProcess list slot process self.old self.new }
     {
-        self.processes[place] = process;
-        self.lists.push_back(list, place);
+        self.processes[slot] = process;
+        self.lists.push_back(list, slot);
     }
 
-    /// Takes the place out of its list.
-    fn withdraw(&mut self, place: usize)
-        requires place { place < 32 }
-        requires listed { IsSome (home_of self.old.lists place) }
-        ensures { Withdraws place self.old self.new }
+    /// Takes the slot out of its list.
+    fn withdraw(&mut self, slot: usize)
+        requires slot { slot < 32 }
+        requires listed { IsSome (home_of self.old.lists slot) }
+        ensures { Withdraws slot self.old self.new }
     {
-        self.lists.take(place);
+        self.lists.take(slot);
     }
 
     /// The process stands at its `when`, with this activity, and is the last of the ready ones.
-    pub(crate) fn stand(&mut self, place: usize, activity: Activity)
-        requires place { place < 32 }
-        requires homeless { home_of self.old.lists place ≡ None }
-        ensures { Puts 0 place (at_its_when (process_at self.old place) activity) self.old self.new }
+    pub(crate) fn stand(&mut self, slot: usize, activity: Activity)
+        requires slot { slot < 32 }
+        requires homeless { home_of self.old.lists slot ≡ None }
+        ensures { PutsProcess 0 slot (at_its_when (process_at self.old slot) activity) self.old self.new }
     {
         let process = Process {
             standing: Standing::AtWhen,
             activity,
-            ..self.processes[place]
+            ..self.processes[slot]
         };
-        self.put(READY, place, process);
+        self.put(READY, slot, process);
     }
 
     /// The process has arrived at a `when`.
-    pub(crate) fn arrive(&mut self, place: usize, activity: Activity)
-        requires place { place < 32 }
-        requires homeless { home_of self.old.lists place ≡ None }
-        ensures { Puts 0 place (at_its_when (process_at self.old place) activity) (unmarked self.old) self.new }
+    pub(crate) fn arrive(&mut self, slot: usize, activity: Activity)
+        requires slot { slot < 32 }
+        requires homeless { home_of self.old.lists slot ≡ None }
+        ensures { PutsProcess 0 slot (at_its_when (process_at self.old slot) activity) (unmarked self.old) self.new }
     {
         self.unmark();
-        self.stand(place, activity);
+        self.stand(slot, activity);
     }
 
     /// The process stands at its `when` after an attempt that marks it. Tells whether all that are ready are marked.
-    pub(crate) fn attempt(&mut self, place: usize, activity: Activity) -> bool
-        requires place { place < 32 }
-        requires homeless { home_of self.old.lists place ≡ None }
+    pub(crate) fn attempt(&mut self, slot: usize, activity: Activity) -> bool
+        requires slot { slot < 32 }
+        requires homeless { home_of self.old.lists slot ≡ None }
         requires room { self.old.marks < 64 }
-        ensures put { Puts 0 place (at_its_when (process_at self.old place) activity) (marked_with self.old place) self.new }
-        ensures all { result ≡ (marks_with self.old place == length (ready_places self.new)) }
+        ensures put { PutsProcess 0 slot (at_its_when (process_at self.old slot) activity) (marked_with self.old slot) self.new }
+        ensures all { result ≡ (marks_with self.old slot == length (ready_slots self.new)) }
     {
-        self.mark(place);
-        self.stand(place, activity);
+        self.mark(slot);
+        self.stand(slot, activity);
         self.marks == self.ready()
     }
 
     /// The process waits for so many children, with this activity.
-    pub(crate) fn wait(&mut self, place: usize, activity: Activity, children: usize)
-        requires { place < 32 }
-        ensures { self.new ≡ with_process self.old place (waiting_for children (process_at self.old place) activity) }
+    pub(crate) fn wait(&mut self, slot: usize, activity: Activity, children: usize)
+        requires { slot < 32 }
+        ensures { self.new ≡ with_process self.old slot (waiting_for children (process_at self.old slot) activity) }
     {
-        self.processes[place] = Process {
+        self.processes[slot] = Process {
             standing: Standing::Waiting(children),
             activity,
-            ..self.processes[place]
+            ..self.processes[slot]
         };
     }
 
-    /// Takes a free place, of which there is one.
+    /// Takes a free slot, of which there is one.
     fn take_free(&mut self) -> usize
         requires sound { IsSound 32 2 self.old.lists }
-        requires some { 0 < length (free_places self.old) }
+        requires some { 0 < length (free_slots self.old) }
         ensures was { home_of self.old.lists result ≡ Some 1 }
-        ensures place { result < 32 }
+        ensures slot { result < 32 }
         ensures taken { Withdraws result self.old self.new }
     {
-        let place = self.lists.front(FREE).unwrap();
-        self.withdraw(place);
-        place
+        let slot = self.lists.front(FREE).unwrap();
+        self.withdraw(slot);
+        slot
     }
 
-    /// A child of the process at `parent` begins with this activity, at a free place, of which there is one. It is the
+    /// A child of the process at `parent` begins with this activity, at a free slot, of which there is one. It is the
     /// last of the ready ones.
     pub(crate) fn add(&mut self, parent: usize, activity: Activity)
         requires sound { IsSound 32 2 self.old.lists }
-        requires some { 0 < length (free_places self.old) }
+        requires some { 0 < length (free_slots self.old) }
         ensures { Added parent activity self.old self.new }
     {
-        let place = self.take_free();
+        let slot = self.take_free();
         let process = Process {
             parent,
             standing: Standing::Ready,
             activity,
         };
-        self.put(READY, place, process);
+        self.put(READY, slot, process);
     }
 
     /// The process waits for one child less; it is the last of the ready ones where none is left.
-    fn tell(&mut self, place: usize)
-        requires place { place < 32 }
-        requires homeless { is_waiting (process_at self.old place).standing ≡ true → home_of self.old.lists place ≡ None }
-        ensures { Tells (process_at self.old place).standing place self.old self.new }
+    fn tell(&mut self, slot: usize)
+        requires slot { slot < 32 }
+        requires homeless { is_waiting (process_at self.old slot).standing ≡ true → home_of self.old.lists slot ≡ None }
+        ensures { Tells (process_at self.old slot).standing slot self.old self.new }
     {
-        let process = self.processes[place];
+        let process = self.processes[slot];
         if let Standing::Waiting(children) = process.standing {
             if children <= 1 {
                 let process = Process {
                     standing: Standing::Ready,
                     ..process
                 };
-                self.put(READY, place, process);
+                self.put(READY, slot, process);
             } else {
-                self.processes[place].standing = Standing::Waiting(children - 1);
+                self.processes[slot].standing = Standing::Waiting(children - 1);
             }
         }
     }
 
-    /// The process has ended: its place is free, and its parent waits for one child less.
-    pub(crate) fn remove(&mut self, place: usize)
-        requires place { place < 32 }
-        requires homeless { home_of self.old.lists place ≡ None }
-        requires going { is_waiting (process_at self.old place).standing ≡ false }
-        requires parent { (process_at self.old place).parent < 32 }
+    /// The process has ended: its slot is free, and its parent waits for one child less.
+    pub(crate) fn remove(&mut self, slot: usize)
+        requires slot { slot < 32 }
+        requires homeless { home_of self.old.lists slot ≡ None }
+        requires going { is_waiting (process_at self.old slot).standing ≡ false }
+        requires parent { (process_at self.old slot).parent < 32 }
         requires waiting { (q : ℕ) → is_waiting (process_at self.old q).standing ≡ true → home_of self.old.lists q ≡ None }
-        ensures { Removed place self.old self.new }
+        ensures { Removed slot self.old self.new }
     {
-        let process = self.processes[place];
-        self.put(FREE, place, process);
+        let process = self.processes[slot];
+        self.put(FREE, slot, process);
         self.tell(process.parent);
     }
 
     /// A branch has come to its end.
-    pub(crate) fn leave(&mut self, place: usize)
-        requires place { place < 32 }
-        requires homeless { home_of self.old.lists place ≡ None }
-        requires going { is_waiting (process_at self.old place).standing ≡ false }
-        requires parent { (process_at self.old place).parent < 32 }
+    pub(crate) fn leave(&mut self, slot: usize)
+        requires slot { slot < 32 }
+        requires homeless { home_of self.old.lists slot ≡ None }
+        requires going { is_waiting (process_at self.old slot).standing ≡ false }
+        requires parent { (process_at self.old slot).parent < 32 }
         requires waiting { (q : ℕ) → is_waiting (process_at self.old q).standing ≡ true → home_of self.old.lists q ≡ None }
-        ensures { Removed place (unmarked self.old) self.new }
+        ensures { Removed slot (unmarked self.old) self.new }
     {
         self.unmark();
-        self.remove(place);
+        self.remove(slot);
     }
 
-    /// Takes the ready process at this place of the list, counted from the front.
+    /// Takes the ready process at this slot of the list, counted from the front.
     pub(crate) fn next(&mut self, at: usize) -> usize
         requires sound { IsSound 32 2 self.old.lists }
-        requires at { at < length (ready_places self.old) }
-        ensures was { slice_get (ready_places self.old) at ≡ Some result }
-        ensures place { result < 32 }
+        requires at { at < length (ready_slots self.old) }
+        ensures was { slice_get (ready_slots self.old) at ≡ Some result }
+        ensures slot { result < 32 }
         ensures taken { Withdraws result self.old self.new }
     {
-        let place = self.lists.nth(READY, at).unwrap();
-        self.withdraw(place);
-        place
+        let slot = self.lists.nth(READY, at).unwrap();
+        self.withdraw(slot);
+        slot
     }
 }

@@ -64,8 +64,8 @@ word_fixed name =
     (fixed_beside words_record_to_while name refl)))
 
 fixed_word : (name : List ℕ) (o : Option Symbol) → is_name name ≡ true → word_of name ≡ o → is_fixed o ≡ true → is_fixed (Some (unwrap_or o (is.Name name))) ≡ true
-fixed_word name None h told k = both_so _ _ (both_so _ _ h (rw told refl)) refl
-fixed_word name (Some s) h told k = k
+fixed_word name None h stated k = both_so _ _ (both_so _ _ h (rw stated refl)) refl
+fixed_word name (Some s) h stated k = k
 
 -- what a name or a word symbol is
 pub word_or_name_fixed : (name : List ℕ) → is_name name ≡ true → is_fixed (Some (word_or_name name)) ≡ true

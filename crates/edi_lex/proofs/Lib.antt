@@ -3,3 +3,4 @@ pub mod Runs
 pub mod Keeping
 pub mod Steps
 pub mod Readings
+pub mod Limited

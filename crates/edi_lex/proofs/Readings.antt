@@ -9,7 +9,7 @@ use Rattle.edi_lex.specs.Machine.{at_end, after_byte, CutterGives, FaultGives, i
 use Rattle.edi_lex.specs.Reading.{goes_on, Reads, ReadsTo}
 use Rattle.edi_lex.specs.declared.fault.LexFault.{LexFault}
 use Rattle.edi_lex.specs.declared.fault.LexFault.TheVariants.{BadCharacter, BadNumeral, TooLong, NoMemory}
-use Rattle.edi_lex.specs.declared.turn.Unfinished.TheVariants.{Nothing}
+use Rattle.edi_lex.specs.declared.effect.Unfinished.TheVariants.{Nothing}
 use Rattle.edi_lex.specs.declared.cutter.Cutter.{Cutter}
 use Rattle.edi_lex.proofs.Runs.{Answer, line_feeds-append}
 use Rattle.edi_lex.proofs.Steps.{Leads, next_leads, Finishes, end_finishes}
@@ -19,7 +19,7 @@ with_front-none (Ok rest) = refl
 with_front-none (Err fault) = refl
 
 pub reads_nothing : ReadsTo None (record { marks = []; unfinished = Nothing; kept = [] }) 1 0 []
-reads_nothing = record { counted = refl; lined = refl; told = λ rest. with_front-none (symbols_from rest 0 1) }
+reads_nothing = record { counted = refl; lined = refl; stated = λ rest. with_front-none (symbols_from rest 0 1) }
 
 -- one byte more
 reads_on : (bytes line b : ℕ) (text : List ℕ) (answer next : List ℕ → Answer) → Reads bytes line answer text → ((rest : List ℕ) → answer (b ∷ rest) ≡ next rest)
@@ -27,7 +27,7 @@ reads_on : (bytes line b : ℕ) (text : List ℕ) (answer next : List ℕ → An
 reads_on bytes line b text answer next h step = record {
   counted = omega (arith, h.counted, length-append text (b ∷ []));
   lined = omega (arith, h.lined, line_feeds-append text (b ∷ []));
-  told = λ rest. sym (step rest) ∙ h.told (b ∷ rest) ∙ ap (λ t. symbols_from t 0 1) (sym (append_assoc text (b ∷ []) rest));
+  stated = λ rest. sym (step rest) ∙ h.stated (b ∷ rest) ∙ ap (λ t. symbols_from t 0 1) (sym (append_assoc text (b ∷ []) rest));
 }
 
 leads : (old : Cutter) (b line bytes : ℕ) (rest : List ℕ) (r : Result Cutter LexFault) → IsSound old line bytes → after_byte old b line ≡ r → Leads (goes_on old line (b ∷ rest)) (line + feeds_at b) (bytes + 1) rest r
@@ -74,7 +74,7 @@ full_is_too_long (Some NoMemory) c b line bytes text h full = absurd h
 reads_all : (bytes line : ℕ) (answer : List ℕ → Answer) (text : List ℕ) → bytes ≤ 262144 → line ≤ 65535 → Reads bytes line answer text → symbols_of text ≡ answer []
 reads_all bytes line answer text few low h =
     let short : is_too_long text ≡ false = grind (arith, nat_tests, h.counted, h.lined) in
-    rw short (sym (h.told [] ∙ ap (λ t. symbols_from t 0 1) (append-nil text)))
+    rw short (sym (h.stated [] ∙ ap (λ t. symbols_from t 0 1) (append-nil text)))
 
 pub fault_ends : (fault : LexFault) (c : Cutter) (line bytes : ℕ) (text : List ℕ) → bytes ≤ 262144 → line ≤ 65535 → ReadsTo (Some fault) c line bytes text → ScanGives (Err fault) (symbols_of text)
 fault_ends (BadCharacter at) c line bytes text few low h = reads_all bytes line _ text few low h

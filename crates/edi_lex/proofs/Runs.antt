@@ -107,11 +107,11 @@ numeral_is b bs rest h e =
 
 pub numeral_first : (kept rest : List ℕ) (line : ℕ) (value : ℤ) → is_numeral kept ≡ true → stops is_digit rest ≡ true → number_of kept ≡ Some value
     → symbols_from (kept ++ rest) 0 line ≡ marked (is.Numeral value) line (symbols_from rest 0 line)
-numeral_first [] rest line value h e told = absurd (cc)
-numeral_first (b ∷ bs) rest line value h e told =
+numeral_first [] rest line value h e stated = absurd (cc)
+numeral_first (b ∷ bs) rest line value h e stated =
     let parts = both (is_digit b) (list_all is_digit bs) h in
     symbol_first b bs rest line (is.Numeral value) (no_feed is_digit refl b parts.0) (no_feeds is_digit refl bs parts.1)
-    (numeral_is b bs rest h e ∙ ap (λ o. with_value o (length bs)) told)
+    (numeral_is b bs rest h e ∙ ap (λ o. with_value o (length bs)) stated)
 
 pub numeral_above : (kept rest : List ℕ) (line : ℕ) → is_numeral kept ≡ true → stops is_digit rest ≡ true → number_of kept ≡ None
     → symbols_from (kept ++ rest) 0 line ≡ Err (BadNumeral line)

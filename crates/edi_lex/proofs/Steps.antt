@@ -9,19 +9,19 @@ use Rattle.edi_lex.specs.Specials.{special_of, special_pair, special_with}
 use Rattle.edi_lex.specs.Spelling.{is_name, is_numeral, is_spelled, are_spelled, number_of, word_or_name}
 use Rattle.edi_lex.specs.Order.{is_orderly, size_of, extent}
 use Rattle.edi_lex.specs.Symbols.{with_front, longer_of, piece_of, symbols_from}
-use Rattle.edi_lex.specs.Turns.{special_turn, first_turn, pair_turn}
+use Rattle.edi_lex.specs.Effects.{special_turn, first_effect, pair_turn}
 use Rattle.edi_lex.specs.Sound.{is_empty, is_special, is_begun, pending, IsSound}
-use Rattle.edi_lex.specs.Machine.{after_turn, symbol_or, numeral_of, at_end, after_first, after_next, after_byte}
+use Rattle.edi_lex.specs.Machine.{after_effect, symbol_or, numeral_of, at_end, after_first, after_next, after_byte}
 use Rattle.edi_lex.specs.Reading.{comment_from, rest_of, goes_on}
 use Rattle.edi_lex.specs.declared.symbol.Symbol.{Symbol}
 use Rattle.edi_lex.specs.declared.symbol.Symbol.TheVariants as is
 use Rattle.edi_lex.specs.declared.symbol.Mark.{Mark}
 use Rattle.edi_lex.specs.declared.fault.LexFault.{LexFault}
 use Rattle.edi_lex.specs.declared.fault.LexFault.TheVariants.{BadCharacter, BadNumeral}
-use Rattle.edi_lex.specs.declared.turn.Unfinished.{Unfinished}
-use Rattle.edi_lex.specs.declared.turn.Unfinished.TheVariants.{Nothing, Comment, Name, Numeral, Chars, Apostrophes, Special}
-use Rattle.edi_lex.specs.declared.turn.Turn.{Turn}
-use Rattle.edi_lex.specs.declared.turn.Turn.TheVariants.{Passes, Fails}
+use Rattle.edi_lex.specs.declared.effect.Unfinished.{Unfinished}
+use Rattle.edi_lex.specs.declared.effect.Unfinished.TheVariants.{Nothing, Comment, Name, Numeral, Chars, Apostrophes, Special}
+use Rattle.edi_lex.specs.declared.effect.Effect.{Effect}
+use Rattle.edi_lex.specs.declared.effect.Effect.TheVariants.{Passes, Fails}
 use Rattle.edi_lex.specs.declared.cutter.Cutter.{Cutter}
 use Rattle.edi_lex.proofs.Runs.{Answer, marked, both, same_byte, no_feed, no_separator, stray_first, space_first, name_first, numeral_first, numeral_above, string_first, string_stray, apostrophe_first, apostrophe_stray, comment_first, special_first, pair_feeds, pair_first}
 use Rattle.edi_lex.proofs.Numbers.{number_spelled}
@@ -44,9 +44,9 @@ abbrev pub Leads : Answer → ℕ → ℕ → List ℕ → Result Cutter LexFaul
 Leads known line bytes rest (Ok c) = (known ≡ goes_on c line rest) × IsSound c line bytes
 Leads known line bytes rest (Err fault) = (known ≡ Err fault) × IsLexical fault
 
-Leads-along : (known told : Answer) (line bytes : ℕ) (rest : List ℕ) (r : Result Cutter LexFault) → known ≡ told → Leads told line bytes rest r → Leads known line bytes rest r
-Leads-along known told line bytes rest (Ok c) e h = (e ∙ h.0, h.1)
-Leads-along known told line bytes rest (Err fault) e h = (e ∙ h.0, h.1)
+Leads-along : (known stated : Answer) (line bytes : ℕ) (rest : List ℕ) (r : Result Cutter LexFault) → known ≡ stated → Leads stated line bytes rest r → Leads known line bytes rest r
+Leads-along known stated line bytes rest (Ok c) e h = (e ∙ h.0, h.1)
+Leads-along known stated line bytes rest (Err fault) e h = (e ∙ h.0, h.1)
 
 with_front-push : (marks : List Mark) (m : Mark) (r : Answer) → with_front marks (with_front (m ∷ []) r) ≡ with_front (marks ++ m ∷ []) r
 with_front-push marks m (Ok rest) = ap (λ all. Ok (all, rest.1)) (sym (append_assoc marks (m ∷ []) rest.0))
@@ -59,7 +59,7 @@ fixed_size : (s : Symbol) → is_fixed (Some s) ≡ true → size_of s ≡ 1
 fixed_size s h = same_byte (size_of s) 1 (both (is_spelled s) (eqb (size_of s) 1) h).1
 
 -- whichever way a test goes
-by_test : (P : Turn → Type 0) (t : Bool) (x y : Turn) → (t ≡ true → P x) → (t ≡ false → P y) → P (cond t x y)
+by_test : (P : Effect → Type 0) (t : Bool) (x y : Effect) → (t ≡ true → P x) → (t ≡ false → P y) → P (cond t x y)
 by_test P true x y h k = h refl
 by_test P false x y h k = k refl
 
@@ -68,14 +68,14 @@ module _ (marks : List Mark) (line : ℕ) (spelled : are_spelled marks ≡ true)
   -- the piece goes on, or another begins
   reaches : (u : Unfinished) (kept : List ℕ) (known : Answer) (now bytes : ℕ) (rest : List ℕ) → line ≤ now → known ≡ rest_of u kept now rest → is_begun u kept ≡ true
       → extent marks + pending u kept ≤ bytes → Leads (with_front marks known) now bytes rest (Ok (cut marks u kept))
-  reaches u kept known now bytes rest up told begun few =
-      (ap (with_front marks) told, record { spelled = spelled; orderly = is_orderly-grows 1 marks line now orderly up; begun = begun; few = few })
+  reaches u kept known now bytes rest up stated begun few =
+      (ap (with_front marks) stated, record { spelled = spelled; orderly = is_orderly-grows 1 marks line now orderly up; begun = begun; few = few })
 
   -- a symbol has ended
   adds : (s : Symbol) (known : Answer) (now bytes : ℕ) (rest : List ℕ) → now ≡ line → known ≡ marked s line (symbols_from rest 0 line) → is_spelled s ≡ true
       → extent marks + size_of s ≤ bytes → Leads (with_front marks known) now bytes rest (Ok (cut (marks ++ mark s line ∷ []) Nothing []))
-  adds s known now bytes rest same told one few = (
-    ap (with_front marks) told ∙ with_front-push marks (mark s line) (symbols_from rest 0 line) ∙ ap (λ n. with_front (marks ++ mark s line ∷ []) (symbols_from rest 0 n)) (sym same),
+  adds s known now bytes rest same stated one few = (
+    ap (with_front marks) stated ∙ with_front-push marks (mark s line) (symbols_from rest 0 line) ∙ ap (λ n. with_front (marks ++ mark s line ∷ []) (symbols_from rest 0 n)) (sym same),
     record {
       spelled = are_spelled-push marks (mark s line) spelled one;
       orderly = is_orderly-grows 1 (marks ++ mark s line ∷ []) line now (is_orderly-push 1 marks (mark s line) orderly) (omega arith);
@@ -86,10 +86,10 @@ module _ (marks : List Mark) (line : ℕ) (spelled : are_spelled marks ≡ true)
 
   -- the first byte of a piece
   first_leads : (b bytes : ℕ) (rest : List ℕ) → extent marks < bytes
-      → Leads (with_front marks (symbols_from (b ∷ rest) 0 line)) (line + feeds_at b) bytes rest (after_turn (cut marks Nothing []) (first_turn b line) b line)
+      → Leads (with_front marks (symbols_from (b ∷ rest) 0 line)) (line + feeds_at b) bytes rest (after_effect (cut marks Nothing []) (first_effect b line) b line)
   unfolding piece_of
   first_leads b bytes rest few =
-      let P : Turn → Type 0 = λ turn. Leads (with_front marks (symbols_from (b ∷ rest) 0 line)) (line + feeds_at b) bytes rest (after_turn (cut marks Nothing []) turn b line) in
+      let P : Effect → Type 0 = λ effect. Leads (with_front marks (symbols_from (b ∷ rest) 0 line)) (line + feeds_at b) bytes rest (after_effect (cut marks Nothing []) effect b line) in
       let here = symbols_from (b ∷ rest) 0 line in
       let now = line + feeds_at b in
       let up : line ≤ line + feeds_at b = omega arith in
@@ -109,10 +109,10 @@ module _ (marks : List Mark) (line : ℕ) (spelled : are_spelled marks ≡ true)
 -- a symbol has ended before this byte, which begins another piece
 then_first : (marks : List Mark) (line : ℕ) (spelled : are_spelled marks ≡ true) (orderly : is_orderly 1 marks line ≡ true) (s : Symbol) (known : Answer) (b bytes : ℕ) (rest : List ℕ)
     → known ≡ marked s line (symbols_from (b ∷ rest) 0 line) → is_spelled s ≡ true → extent marks + size_of s ≤ bytes
-    → Leads (with_front marks known) (line + feeds_at b) (bytes + 1) rest (after_turn (cut (marks ++ mark s line ∷ []) Nothing []) (first_turn b line) b line)
-then_first marks line spelled orderly s known b bytes rest told one few =
-    let ended = adds marks line spelled orderly s known line bytes (b ∷ rest) refl told one few in
-    Leads-along _ _ _ _ _ (after_turn (cut (marks ++ mark s line ∷ []) Nothing []) (first_turn b line) b line) ended.0
+    → Leads (with_front marks known) (line + feeds_at b) (bytes + 1) rest (after_effect (cut (marks ++ mark s line ∷ []) Nothing []) (first_effect b line) b line)
+then_first marks line spelled orderly s known b bytes rest stated one few =
+    let ended = adds marks line spelled orderly s known line bytes (b ∷ rest) refl stated one few in
+    Leads-along _ _ _ _ _ (after_effect (cut (marks ++ mark s line ∷ []) Nothing []) (first_effect b line) b line) ended.0
     (first_leads (marks ++ mark s line ∷ []) line ended.1.spelled ended.1.orderly b (bytes + 1) rest (omega (arith, ended.1.few)))
 
 -- one byte more of a run
@@ -170,7 +170,7 @@ next_leads marks (Comment begun) kept b line bytes rest h =
     ] refl
 next_leads marks Name kept b line bytes rest h =
     let here = symbols_from (kept ++ b ∷ rest) 0 line in
-    let P : Turn → Type 0 = λ turn. Leads (with_front marks (symbols_from (kept ++ b ∷ rest) 0 line)) (line + feeds_at b) (bytes + 1) rest (after_next (cut marks Name kept) turn b line) in
+    let P : Effect → Type 0 = λ effect. Leads (with_front marks (symbols_from (kept ++ b ∷ rest) 0 line)) (line + feeds_at b) (bytes + 1) rest (after_next (cut marks Name kept) effect b line) in
     by_test P (is_name_byte b) _ _ (λ p.
     let same : line ≡ line + feeds_at b = omega (arith, no_feed is_name_byte refl b p) in
     reaches marks line h.spelled h.orderly Name (kept ++ b ∷ []) here (line + feeds_at b) (bytes + 1) rest (omega arith)
@@ -180,7 +180,7 @@ next_leads marks Name kept b line bytes rest h =
     then_first marks line h.spelled h.orderly (word_or_name kept) here b bytes rest (name_first kept (b ∷ rest) line h.begun (rw p refl)) (fixed_spelled (word_or_name kept) word) (omega (arith, h.few, fixed_size (word_or_name kept) word)))
 next_leads marks Numeral kept b line bytes rest h =
     let here = symbols_from (kept ++ b ∷ rest) 0 line in
-    let P : Turn → Type 0 = λ turn. Leads (with_front marks (symbols_from (kept ++ b ∷ rest) 0 line)) (line + feeds_at b) (bytes + 1) rest (after_next (cut marks Numeral kept) turn b line) in
+    let P : Effect → Type 0 = λ effect. Leads (with_front marks (symbols_from (kept ++ b ∷ rest) 0 line)) (line + feeds_at b) (bytes + 1) rest (after_next (cut marks Numeral kept) effect b line) in
     by_test P (is_digit b) _ _ (λ p.
     let same : line ≡ line + feeds_at b = omega (arith, no_feed is_digit refl b p) in
     reaches marks line h.spelled h.orderly Numeral (kept ++ b ∷ []) here (line + feeds_at b) (bytes + 1) rest (omega arith)
@@ -191,14 +191,14 @@ next_leads marks Numeral kept b line bytes rest h =
       | Some value ↦ λ e. then_first marks line h.spelled h.orderly (is.Numeral value) here b bytes rest (numeral_first kept (b ∷ rest) line value h.begun (rw p refl) e) (number_spelled kept value e) (omega (arith, h.few))
     ] refl)
 next_leads marks Chars [] b line bytes rest h =
-    let P : Turn → Type 0 = λ turn. Leads (with_front marks (symbols_from (39 ∷ b ∷ rest) 0 line)) (line + feeds_at b) (bytes + 1) rest (after_next (cut marks Chars []) turn b line) in
+    let P : Effect → Type 0 = λ effect. Leads (with_front marks (symbols_from (39 ∷ b ∷ rest) 0 line)) (line + feeds_at b) (bytes + 1) rest (after_next (cut marks Chars []) effect b line) in
     by_test P (eqb b 39) _ _ (λ a.
     let same : line ≡ line + feeds_at b = omega (arith, no_feed_at b 39 refl a) in
     reaches marks line h.spelled h.orderly Apostrophes (b ∷ []) (symbols_from (39 ∷ b ∷ rest) 0 line) (line + feeds_at b) (bytes + 1) rest (omega arith)
     (ap (λ x. symbols_from (39 ∷ x ∷ rest) 0 line) (same_byte b 39 a) ∙ ap (symbols_from (39 ∷ 39 ∷ rest) 0) same) a (omega (arith, h.few)))
     (λ a. by_test P (is_string_byte b) _ _ (string_more marks [] b line bytes rest h.spelled h.orderly h.begun h.few) (λ p. (string_fails marks [] b line bytes rest h.spelled h.orderly h.begun h.few p a, tt)))
 next_leads marks Chars (k ∷ ks) b line bytes rest h =
-    let P : Turn → Type 0 = λ turn. Leads (with_front marks (symbols_from (39 ∷ ((k ∷ ks) ++ b ∷ rest)) 0 line)) (line + feeds_at b) (bytes + 1) rest (after_next (cut marks Chars (k ∷ ks)) turn b line) in
+    let P : Effect → Type 0 = λ effect. Leads (with_front marks (symbols_from (39 ∷ ((k ∷ ks) ++ b ∷ rest)) 0 line)) (line + feeds_at b) (bytes + 1) rest (after_next (cut marks Chars (k ∷ ks)) effect b line) in
     by_test P (eqb b 39) _ _ (λ a.
     let none : feeds_at b ≡ 0 = no_feed_at b 39 refl a in
     by_test P (eqb (length (k ∷ ks)) 0) _ _ (λ e. absurd (omega (arith, same_byte (length (k ∷ ks)) 0 e))) (λ e.
@@ -207,7 +207,7 @@ next_leads marks Chars (k ∷ ks) b line bytes rest h =
     (λ a. by_test P (is_string_byte b) _ _ (string_more marks (k ∷ ks) b line bytes rest h.spelled h.orderly h.begun h.few) (λ p. (string_fails marks (k ∷ ks) b line bytes rest h.spelled h.orderly h.begun h.few p a, tt)))
 next_leads marks Apostrophes [] b line bytes rest h = absurd (let e : false ≡ true = h.begun in cc)
 next_leads marks Apostrophes (k ∷ []) b line bytes rest h =
-    let P : Turn → Type 0 = λ turn. Leads (with_front marks (symbols_from (39 ∷ 39 ∷ b ∷ rest) 0 line)) (line + feeds_at b) (bytes + 1) rest (after_next (cut marks Apostrophes (k ∷ [])) turn b line) in
+    let P : Effect → Type 0 = λ effect. Leads (with_front marks (symbols_from (39 ∷ 39 ∷ b ∷ rest) 0 line)) (line + feeds_at b) (bytes + 1) rest (after_next (cut marks Apostrophes (k ∷ [])) effect b line) in
     by_test P (eqb b 39) _ _ (λ a.
     let none : feeds_at b ≡ 0 = no_feed_at b 39 refl a in
     adds marks line h.spelled h.orderly (is.Chars (k ∷ [])) (symbols_from (39 ∷ 39 ∷ b ∷ rest) 0 line) (line + feeds_at b) (bytes + 1) rest (omega (arith, none))

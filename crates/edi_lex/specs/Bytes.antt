@@ -1,4 +1,4 @@
--- Classes of bytes.
+-- Definition. Classes of bytes.
 use Rattle.std.specs.Prelude.{ℕ, ◌+◌, Bool, ◌&&◌, ◌||◌, not, nat_le, ◌==◌, List, [], ◌∷◌, if◌then◌else◌}
 
 -- blank, tab, carriage return and line feed

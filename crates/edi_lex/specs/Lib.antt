@@ -4,8 +4,9 @@ pub mod Specials
 pub mod Spelling
 pub mod Order
 pub mod Symbols
-pub mod Turns
+pub mod Effects
 pub mod Sound
 pub mod Machine
 pub mod Reading
 pub mod Rows
+pub mod Limit

@@ -1,15 +1,15 @@
--- The scanner as a machine that takes one byte after another. No public contract cites this.
+-- Helper. The scanner as a machine that takes one byte after another. No public contract cites this.
 use Rattle.std.specs.Prelude.{◌≡◌, ℤ, ℕ, Bool, ◌&&◌, ◌||◌, ◌==◌, [], ◌∷◌, ◌++◌, length, Result, Ok, Err, Option, Some, None, ⊤}
 use Rattle.edi_lex.specs.Specials.{special_of}
 use Rattle.edi_lex.specs.Spelling.{number_of, word_or_name}
-use Rattle.edi_lex.specs.Turns.{first_turn, next_turn}
+use Rattle.edi_lex.specs.Effects.{first_effect, next_effect}
 use Rattle.edi_lex.specs.declared.symbol.Symbol.{Symbol}
 use Rattle.edi_lex.specs.declared.symbol.Symbol.TheVariants as is
 use Rattle.edi_lex.specs.declared.fault.LexFault.{LexFault}
 use Rattle.edi_lex.specs.declared.fault.LexFault.TheVariants.{BadCharacter, BadNumeral, TooLong, NoMemory}
-use Rattle.edi_lex.specs.declared.turn.Unfinished.TheVariants.{Nothing, Comment, Name, Numeral, Chars, Apostrophes, Special}
-use Rattle.edi_lex.specs.declared.turn.Turn.{Turn}
-use Rattle.edi_lex.specs.declared.turn.Turn.TheVariants.{Passes, Keeps, Closes, Completes, Ends, Fails}
+use Rattle.edi_lex.specs.declared.effect.Unfinished.TheVariants.{Nothing, Comment, Name, Numeral, Chars, Apostrophes, Special}
+use Rattle.edi_lex.specs.declared.effect.Effect.{Effect}
+use Rattle.edi_lex.specs.declared.effect.Effect.TheVariants.{Passes, Keeps, Closes, Completes, Ends, Fails}
 use Rattle.edi_lex.specs.declared.cutter.Cutter.{Cutter}
 
 -- one more symbol, and no piece unfinished
@@ -17,13 +17,13 @@ abbrev pub with_symbol : Cutter → Symbol → ℕ → Cutter
 with_symbol c symbol line = record { marks = c.marks ++ record { symbol = symbol; line = line } ∷ []; unfinished = Nothing; kept = [] }
 
 -- after a turn by this byte on this line
-abbrev pub after_turn : Cutter → Turn → ℕ → ℕ → Result Cutter LexFault
-after_turn c (Passes piece) b line = Ok (record c { unfinished = piece })
-after_turn c (Keeps piece) b line = Ok (record c { unfinished = piece; kept = c.kept ++ b ∷ [] })
-after_turn c (Completes symbol) b line = Ok (with_symbol c symbol line)
-after_turn c Closes b line = Ok (with_symbol c (is.Chars c.kept) line)
-after_turn c Ends b line = Ok c
-after_turn c (Fails fault) b line = Err fault
+abbrev pub after_effect : Cutter → Effect → ℕ → ℕ → Result Cutter LexFault
+after_effect c (Passes piece) b line = Ok (record c { unfinished = piece })
+after_effect c (Keeps piece) b line = Ok (record c { unfinished = piece; kept = c.kept ++ b ∷ [] })
+after_effect c (Completes symbol) b line = Ok (with_symbol c symbol line)
+after_effect c Closes b line = Ok (with_symbol c (is.Chars c.kept) line)
+after_effect c Ends b line = Ok c
+after_effect c (Fails fault) b line = Err fault
 
 -- with a symbol at its end, or with a fault
 abbrev pub symbol_or : Cutter → Option Symbol → LexFault → ℕ → Result Cutter LexFault
@@ -49,16 +49,16 @@ at_end c line = elim c.unfinished [
 -- the first byte of a piece
 abbrev pub after_first : Result Cutter LexFault → ℕ → ℕ → Result Cutter LexFault
 after_first (Err fault) b line = Err fault
-after_first (Ok c) b line = after_turn c (first_turn b line) b line
+after_first (Ok c) b line = after_effect c (first_effect b line) b line
 
 -- a byte that belongs to the unfinished piece, or ends it
-abbrev pub after_next : Cutter → Turn → ℕ → ℕ → Result Cutter LexFault
+abbrev pub after_next : Cutter → Effect → ℕ → ℕ → Result Cutter LexFault
 after_next c Ends b line = after_first (at_end c line) b line
-after_next c turn b line = after_turn c turn b line
+after_next c effect b line = after_effect c effect b line
 
 -- one byte more
 abbrev pub after_byte : Cutter → ℕ → ℕ → Result Cutter LexFault
-after_byte c b line = after_next c (next_turn c.unfinished (length c.kept == 0) b line) b line
+after_byte c b line = after_next c (next_effect c.unfinished (length c.kept == 0) b line) b line
 
 -- what a call of the cutter answers and leaves, unless memory runs out
 abbrev pub CutterGives : Result (Unit {0}) LexFault → Cutter → Result Cutter LexFault → Type 0

@@ -1,4 +1,4 @@
--- The lines of marks, and how much marks hold.
+-- Definition. The lines of marks, and how much marks hold.
 use Rattle.std.specs.Prelude.{ℕ, Bool, ◌&&◌, nat_le, List, [], ◌∷◌, length}
 use Rattle.std.specs.List.{sum_by}
 use Rattle.edi_lex.specs.declared.symbol.Symbol.{Symbol}

@@ -1,4 +1,4 @@
--- The text that a scanner has read, told by what is left to do: whatever comes, the answer for the whole text is the
+-- Words of contracts. The text that a scanner has read, told by what is left to do: whatever comes, the answer for the whole text is the
 -- answer from here on.
 use Rattle.std.specs.Prelude.{◌≡◌, ℕ, ◌+◌, true, ◌==◌, List, [], ◌∷◌, ◌++◌, length, Result, Err, Option, Some, None, if◌then◌else◌}
 use Rattle.edi_lex.specs.Bytes.{is_comment_byte, feeds_at, line_feeds}
@@ -6,8 +6,8 @@ use Rattle.edi_lex.specs.Symbols.{symbols_from, with_front, is_too_long}
 use Rattle.edi_lex.specs.declared.symbol.Mark.{Mark}
 use Rattle.edi_lex.specs.declared.fault.LexFault.{LexFault}
 use Rattle.edi_lex.specs.declared.fault.LexFault.TheVariants.{BadCharacter, BadNumeral, TooLong, NoMemory}
-use Rattle.edi_lex.specs.declared.turn.Unfinished.{Unfinished}
-use Rattle.edi_lex.specs.declared.turn.Unfinished.TheVariants.{Nothing, Comment, Name, Numeral, Chars, Apostrophes, Special}
+use Rattle.edi_lex.specs.declared.effect.Unfinished.{Unfinished}
+use Rattle.edi_lex.specs.declared.effect.Unfinished.TheVariants.{Nothing, Comment, Name, Numeral, Chars, Apostrophes, Special}
 use Rattle.edi_lex.specs.declared.cutter.Cutter.{Cutter}
 use Rattle.edi_lex.specs.declared.scanner.Scanner.{Scanner}
 
@@ -37,7 +37,7 @@ goes_on c line rest = with_front c.marks (rest_of c.unfinished c.kept line rest)
 pub record Reads (bytes line : ℕ) (answer : List ℕ → Result (List Mark × ℕ) LexFault) (text : List ℕ) : Type 0 where
   pub counted : bytes ≡ length text
   pub lined : line ≡ 1 + line_feeds text
-  pub told : (rest : List ℕ) → answer rest ≡ symbols_from (text ++ rest) 0 1
+  pub stated : (rest : List ℕ) → answer rest ≡ symbols_from (text ++ rest) 0 1
 
 -- this is the text that has been read, with that fault so far
 abbrev pub ReadsTo : Option LexFault → Cutter → ℕ → ℕ → List ℕ → Type 0

@@ -1,4 +1,4 @@
--- Small texts and their symbols.
+-- Computed rows. Small texts and their symbols.
 use Rattle.std.specs.Prelude.{◌≡◌, refl, ℕ, pos, [], ◌∷◌, ◌++◌, Ok, Err, codes}
 use Rattle.edi_lex.specs.Symbols.{piece_of, symbols_from, symbols_of}
 use Rattle.edi_lex.specs.declared.symbol.Symbol.{Symbol}

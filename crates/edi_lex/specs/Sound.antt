@@ -1,12 +1,12 @@
--- What the cutter keeps true of the marks so far and of the unfinished piece. No public contract cites this.
+-- Helper. What the cutter keeps true of the marks so far and of the unfinished piece. No public contract cites this.
 use Rattle.std.specs.Prelude.{◌≡◌, ℕ, ◌+◌, ◌≤◌, Bool, true, false, ◌&&◌, ◌||◌, not, ◌==◌, List, [], ◌∷◌, length, is_some}
 use Rattle.std.specs.List.{list_all}
 use Rattle.edi_lex.specs.Bytes.{is_letter, is_digit, is_separator, is_string_byte}
 use Rattle.edi_lex.specs.Specials.{special_of}
 use Rattle.edi_lex.specs.Spelling.{is_name, is_numeral, are_spelled}
 use Rattle.edi_lex.specs.Order.{is_orderly, extent}
-use Rattle.edi_lex.specs.declared.turn.Unfinished.{Unfinished}
-use Rattle.edi_lex.specs.declared.turn.Unfinished.TheVariants.{Nothing, Comment, Name, Numeral, Chars, Apostrophes, Special}
+use Rattle.edi_lex.specs.declared.effect.Unfinished.{Unfinished}
+use Rattle.edi_lex.specs.declared.effect.Unfinished.TheVariants.{Nothing, Comment, Name, Numeral, Chars, Apostrophes, Special}
 use Rattle.edi_lex.specs.declared.cutter.Cutter.{Cutter}
 
 abbrev pub is_empty : List ℕ → Bool

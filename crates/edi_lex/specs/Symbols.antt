@@ -1,4 +1,4 @@
--- The symbols of a text. The text is cut from the front into pieces. A piece is a separator, a comment, or the
+-- Definition. The symbols of a text. The text is cut from the front into pieces. A piece is a separator, a comment, or the
 -- longest symbol that stands there. The first place where no piece stands is the fault.
 use Rattle.std.specs.Prelude.{◌≡◌, ℤ, ℕ, zero, suc, ◌+◌, Bool, ◌&&◌, ◌||◌, nat_lt, nat_eq, ◌==◌, List, [], ◌∷◌, ◌++◌, length, take, slice_index, Result, Ok, Err, Option, Some, None, if◌then◌else◌, codes, ⊤}
 use Rattle.std.specs.List.{prefix_len, starts_with}

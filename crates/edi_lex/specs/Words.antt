@@ -1,4 +1,4 @@
--- The word symbols. All are reserved: none is a name.
+-- Definition. The word symbols. All are reserved: none is a name.
 use Rattle.std.specs.Prelude.{ℕ, List, [], ◌∷◌, Option, Some, None, if◌then◌else◌, codes}
 use Rattle.std.specs.Str.{bytes_eq}
 use Rattle.std.specs.Option.{option_or}

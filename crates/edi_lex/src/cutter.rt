@@ -3,10 +3,10 @@
 ghost use Rattle.std.specs.Prelude.{◌≡◌};
 ghost use Rattle.edi_lex.specs.Spelling as spelling;
 
+use crate::effect::{Effect, Unfinished, first_effect, next_effect, special};
 use crate::fault::LexFault;
 use crate::symbol::{Mark, Marks, Symbol};
 use crate::text::Text;
-use crate::turn::{Turn, Unfinished, first_turn, next_turn, special};
 use crate::words::word;
 use std::alloc::Global;
 
@@ -34,7 +34,7 @@ fn number(digits: &[u8]) -> Option<i16>
 }
 
 impl Cutter {
-    ghost use Rattle.edi_lex.specs.Machine.{CutterGives, with_symbol, symbol_or, after_turn, at_end, after_byte};
+    ghost use Rattle.edi_lex.specs.Machine.{CutterGives, with_symbol, symbol_or, after_effect, at_end, after_byte};
     ghost use Rattle.std.specs.Prelude.{Ok, Some};
 
     /// Adds a symbol on this line, where the unfinished piece ends.
@@ -82,7 +82,7 @@ impl Cutter {
     /// Adds the string whose characters are kept.
     #[inline(never)]
     fn add_string(&mut self, alloc: Global, line: u16) -> Result<(), LexFault>
-        ensures exact { CutterGives result self.new (after_turn self.old Turn.Closes 0 line) }
+        ensures exact { CutterGives result self.new (after_effect self.old Effect.Closes 0 line) }
     {
         let Ok(string) = Text::from_slice(alloc, self.kept.as_slice()) else {
             return Err(LexFault::NoMemory);
@@ -92,21 +92,27 @@ impl Cutter {
 
     /// Does what a byte's turn says.
     #[inline(always)]
-    fn perform(&mut self, alloc: Global, turn: Turn, byte: u8, line: u16) -> Result<(), LexFault>
-        ensures exact { CutterGives result self.new (after_turn self.old turn byte line) }
+    fn perform(
+        &mut self,
+        alloc: Global,
+        effect: Effect,
+        byte: u8,
+        line: u16,
+    ) -> Result<(), LexFault>
+        ensures exact { CutterGives result self.new (after_effect self.old effect byte line) }
     {
-        match turn {
-            Turn::Passes(unfinished) => self.unfinished = unfinished,
-            Turn::Keeps(unfinished) => {
+        match effect {
+            Effect::Passes(unfinished) => self.unfinished = unfinished,
+            Effect::Keeps(unfinished) => {
                 if self.kept.push(alloc, byte).is_err() {
                     return Err(LexFault::NoMemory);
                 }
                 self.unfinished = unfinished;
             }
-            Turn::Completes(symbol) => return self.add(alloc, symbol, line),
-            Turn::Closes => return self.add_string(alloc, line),
-            Turn::Ends => {}
-            Turn::Fails(fault) => return Err(fault),
+            Effect::Completes(symbol) => return self.add(alloc, symbol, line),
+            Effect::Closes => return self.add_string(alloc, line),
+            Effect::Ends => {}
+            Effect::Fails(fault) => return Err(fault),
         }
         Ok(())
     }
@@ -137,11 +143,11 @@ impl Cutter {
     pub(crate) fn take(&mut self, alloc: Global, byte: u8, line: u16) -> Result<(), LexFault>
         ensures exact { CutterGives result self.new (after_byte self.old byte line) }
     {
-        let turn = next_turn(self.unfinished, self.kept.is_empty(), byte, line);
-        if let Turn::Ends = turn {
+        let effect = next_effect(self.unfinished, self.kept.is_empty(), byte, line);
+        if let Effect::Ends = effect {
             self.end(alloc, line)?;
-            return self.perform(alloc, first_turn(byte, line), byte, line);
+            return self.perform(alloc, first_effect(byte, line), byte, line);
         }
-        self.perform(alloc, turn, byte, line)
+        self.perform(alloc, effect, byte, line)
     }
 }

@@ -4,11 +4,12 @@
 
 mod bytes;
 mod cutter;
+mod effect;
 mod fault;
+pub mod laws;
 mod scanner;
 mod symbol;
 mod text;
-mod turn;
 mod words;
 
 pub use fault::LexFault;

@@ -7,10 +7,10 @@ ghost use Rattle.edi_lex.specs.Machine.{FaultGives, after_byte};
 
 use crate::bytes::feeds_at;
 use crate::cutter::Cutter;
+use crate::effect::Unfinished;
 use crate::fault::LexFault;
 use crate::symbol::{Marks, Symbols};
 use crate::text::Text;
-use crate::turn::Unfinished;
 use std::alloc::{AllocError, Global};
 
 /// The most bytes of a text.

@@ -1,4 +1,4 @@
--- An activity of the code, as the definition of the machine sees it.
+-- Words of contracts. An activity of the code, as the definition of the machine sees it.
 use Rattle.std.specs.Prelude.{ℕ, ◌+◌, ◌^◌, ◌≤◌, List}
 use Rattle.edi_target.specs.Effect.{Local}
 use Rattle.edi_machine.specs.declared.activity.Activity.{Activity}

@@ -1,4 +1,4 @@
--- The groups of instructions, in the order in which a step looks for its instruction in them.
+-- Words of contracts. The groups of instructions, in the order in which a step looks for its instruction in them.
 use Rattle.std.specs.Prelude.{ℕ}
 use Rattle.edi_target.specs.declared.op.Op.{Op}
 use Rattle.edi_target.specs.declared.op.Op.TheVariants as code

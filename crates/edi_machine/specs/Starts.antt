@@ -1,4 +1,4 @@
--- The activities with which the program and the branches of a COBEGIN begin.
+-- Words of contracts. The activities with which the program and the branches of a COBEGIN begin.
 use Rattle.std.specs.Prelude.{◌≡◌, ℕ, ◌+◌, ◌*◌, ◌<◌, false, List, [], length, Option, Some}
 use Rattle.std.specs.List.{list_any}
 use Rattle.edi_target.specs.Op as op
@@ -11,10 +11,10 @@ use Rattle.edi_machine.specs.declared.activity.Activity.{Activity}
 use Rattle.edi_machine.specs.Activities.{local_of}
 
 -- the memory and the activity are those with which the machine starts, where this ENTRY stands at the entry of the code
-abbrev pub Begins : Option (Instruction × ℕ) → (calls : List ℕ) → (memory : List ℕ) → Activity → Type 0
-Begins (Some (op.entry need r p v f, body)) calls memory a =
+abbrev pub ActivityBegins : Option (Instruction × ℕ) → (calls : List ℕ) → (memory : List ℕ) → Activity → Type 0
+ActivityBegins (Some (op.entry need r p v f, body)) calls memory a =
     (memory ≡ start_memory calls) × (activity_of (local_of memory a) 0 ready ≡ first_activity need (5 + p + v) body)
-Begins _ calls memory a = ⊥
+ActivityBegins _ calls memory a = ⊥
 
 -- the branches of the COBEGIN at an address; none where no COBEGIN stands there
 abbrev pub branches_in : Option (Instruction × ℕ) → List Branch

@@ -1,6 +1,6 @@
--- What a step answers and leaves, where the definition of the machine gives its instruction this effect.
+-- Words of contracts. What a step answers and leaves, where the definition of the machine gives its instruction this effect.
 use Rattle.std.specs.Prelude.{◌≡◌, ℕ, Bool, true, false, ◌&&◌, nat_eq, List, length, Option, Some, None, ⊤}
-use Rattle.edi_told.specs.Faults.{Rose}
+use Rattle.edi_told.specs.Faults.{CountRose}
 use Rattle.edi_told.specs.Told.{WhereTold}
 use Rattle.edi_calls.specs.declared.ends.Outside.{Outside}
 use Rattle.edi_calls.specs.declared.kinds.Cause.TheVariants as cause
@@ -89,7 +89,7 @@ Keeps effect old new = new ≡ old
 
 -- an object outside has failed exactly at a fault, and its count of faults rose in this step
 abbrev pub Blames : StepEnd → (failed : Option Outside → Type 0) → (old new : Outside → ℕ) → Type 0
-Blames end.Fault failed old new = (outside : Outside) × failed (Some outside) × Rose (old outside) (new outside)
+Blames end.Fault failed old new = (outside : Outside) × failed (Some outside) × CountRose (old outside) (new outside)
 Blames _ failed old new = failed None
 
 -- the effect ends a critical phase

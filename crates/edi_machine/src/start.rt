@@ -10,7 +10,7 @@ ghost use Rattle.edi_target.specs.Fetch.{fetch};
 ghost use Rattle.edi_target.specs.Mach.{descriptors};
 ghost use Rattle.edi_target.specs.Perform.{exceeds, share_of};
 ghost use Rattle.edi_machine.specs.Activities.{IsOrdered, local_of};
-ghost use Rattle.edi_machine.specs.Starts.{Begins, IsFork, branches_at, child_at, child_first};
+ghost use Rattle.edi_machine.specs.Starts.{ActivityBegins, IsFork, branches_at, child_at, child_first};
 
 use crate::activity::Activity;
 use crate::frame::put_words;
@@ -51,7 +51,7 @@ fn put_descriptors(store: &mut Store, calls: &[u8])
 /// Clears the store, writes the descriptors of the program's parameters, and gives the activity of its first process,
 /// behind the ENTRY of the code.
 pub fn begin(store: &mut Store, code: &Code) -> Activity
-    ensures exact { Begins (fetch code.now.words code.now.entry) code.now.calls store.new result }
+    ensures exact { ActivityBegins (fetch code.now.words code.now.entry) code.now.calls store.new result }
     ensures ordered { IsOrdered result }
     ensures whole { IsMemory store.new }
 {

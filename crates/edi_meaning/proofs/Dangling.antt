@@ -8,7 +8,7 @@ use Rattle.edi_calls.proofs.Tables.{same-refl, same-or-other, same-symmetric, fi
 use Rattle.edi_unit.specs.Need.{block_at}
 use Rattle.edi_unit.specs.Tree.{ProgramUnit}
 use Rattle.edi_meaning.specs.Store.{Spot, system_procedure, procedure, Instance, Store, Shape, instances, frames, shape, now, ancestor, Owns, IsLive, above}
-use Rattle.edi_meaning.specs.Run.{World, Run, gives, ends, turn_from}
+use Rattle.edi_meaning.specs.Evaluation.{World, Evaluation, gives, ends, turn_from}
 use Rattle.edi_meaning.specs.Whole.{instance_of}
 use Rattle.edi_meaning.specs.Step.{Work, program_entry, branch_end, body_of, Standing, ready, at_when, waiting, Asks, goes, Process, Processes, Stepped, went, ended, back, child_process, with_child, with_children, fork_taken, awaits, local_step, kernel, step_of, step, start, is_running, at, permitted}
 use Rattle.edi_meaning.specs.Laws.{IsWaiting, CellMeans, ReferencesLive}
@@ -28,7 +28,7 @@ use Rattle.edi_meaning.proofs.Due.{Due, DueAs, DueAsks, due_some, due_all, due_a
 -- ---- ancestors wait
 
 -- each ancestor of a live process is the process or waits
-waiting_ancestor : (live : Table Process) → Family live → (r : Name) (q : Process) → find live r ≡ Some q → (n : ℕ) → (ancestor n r ≡ r) ⊎ IsWaiting live (ancestor n r)
+pub waiting_ancestor : (live : Table Process) → Family live → (r : Name) (q : Process) → find live r ≡ Some q → (n : ℕ) → (ancestor n r ≡ r) ⊎ IsWaiting live (ancestor n r)
 waiting_ancestor live f r q e zero = inl refl
 waiting_ancestor live f r q e (suc n) = elim (waiting_ancestor live f r q e n) [
   | inl same ↦ elim (f.parents r q e) [
@@ -41,7 +41,7 @@ waiting_ancestor live f r q e (suc n) = elim (waiting_ancestor live f r q e n) [
   ]
 ]
 
-owner_waits : (live : Table Process) → Family live → (r p : Name) (q : Process) → find live r ≡ Some q → same r p ≡ false → Owns r p → IsWaiting live p
+pub owner_waits : (live : Table Process) → Family live → (r p : Name) (q : Process) → find live r ≡ Some q → same r p ≡ false → Owns r p → IsWaiting live p
 owner_waits live f r p q e n o = elim (waiting_ancestor live f r q e o.generation) [
   | inl same ↦ absurd (not_other (o.is ∙ same) n)
   | inr w ↦ subst (IsWaiting live) (sym o.is) w
@@ -122,7 +122,7 @@ module _ (unit : ProgramUnit) (p : Name) (f share : ℕ) (parent : Spot) (mine :
         go (inl h) =
             let is : child_process unit share b ≡ q = some_is (sym (find-with_at-same s.live c (child_process unit share b)) ∙ sym (ap (find (with_at s.live c (child_process unit share b))) h) ∙ e) in
             subst (λ x. DueAs r x.standing x.work (length (G r))) is
-            (subst (Due r (body_of unit b (branch_end ∷ []))) (sym (ap (λ x. length (G x)) h ∙ one)) (due_all r (block_at unit.blocks b).body _ 0 (branch_end ∷ []) 1 (omega arith) (omega arith, refl)))
+            (subst (Due r (body_of unit b (branch_end ∷ []))) (sym (ap (λ x. length (G x)) h ∙ one)) (due_all r (block_at unit.blocks b).body _ 0 (branch_end ∷ []) 1 (omega arith) (omega arith)))
         go (inr m) = subst (λ l. DueAs r q.standing q.work (length l)) (sym (others r m)) (n.lives.due r q (sym (find-with_at-other s.live c r (child_process unit share b) m) ∙ e))
 
     later_bare : (j : ℕ) → suc k ≤ j → instances after (child p f j) ≡ []
@@ -156,7 +156,7 @@ module _ (unit : ProgramUnit) (s : Processes) (p : Name) (q : Process) (found : 
       go None e = absurd (omega (arith, l, ap (λ is. length (frames is)) (coherent.family.proper.bare r e)))
       go (Some x) e = (x, e)
 
-  alone_now : Alone p (shape s.world.store)
+  pub alone_now : Alone p (shape s.world.store)
   alone_now r l n o =
       let x : (x : Process) × (find s.live r ≡ Some x) = live_of r l in
       let w : IsWaiting s.live p = owner_waits s.live coherent.family.family r p x.0 x.1 n o in
@@ -285,7 +285,7 @@ module _ (unit : ProgramUnit) (s : Processes) (p : Name) (q : Process) (found : 
           let P : Standing → List Work → Type 0 = λ x y. Gives (λ a v. Refers (shape v.store) v.store) (λ ending system turns. ⊤) (local_step unit p q.size x y s.world) in
           subst (λ x. P x work) (sym e.1) (subst (P ready) (sym e.2) (entered_first s.world.turns e.0 s.world e.3 coherent.refers alone_now))
 
-  all_did : (r : Run Asks) → Gives (λ a v. Refers (shape v.store) v.store) (λ ending system turns. ⊤) r → Keeps (framing unit p q.size) (DueAsks p) r → Keeps (framing unit p q.size) (λ a v. Steps p s.world.store v.store) r →
+  all_did : (r : Evaluation Asks) → Gives (λ a v. Refers (shape v.store) v.store) (λ ending system turns. ⊤) r → Keeps (framing unit p q.size) (DueAsks p) r → Keeps (framing unit p q.size) (λ a v. Steps p s.world.store v.store) r →
       Gives (Did s.world.store p) (λ ending system turns. ⊤) r
   all_did (gives a w) h k l = record { refers = h; due = k.is; steps = l.is }
   all_did (ends ending system turns) h k l = tt
@@ -310,18 +310,18 @@ step_lives unit s p coherent = go (find s.live p) refl
 
 -- ---- along permitted steps
 
-step_coherent : (unit : ProgramUnit) (s : Processes) (p : Name) → Coherent s → After Coherent (step unit s p)
+pub step_coherent : (unit : ProgramUnit) (s : Processes) (p : Name) → Coherent s → After Coherent (step unit s p)
 step_coherent unit s p h = go (step unit s p) (step_both unit s p h.family) (step_lives unit s p h)
   where
     go : (x : Stepped) → After WithFamily x → After Lives x → After Coherent x
     go (went t next quiet) a b = record { family = a; due = b.due; refers = b.refers }
     go (ended ending system turns) a b = tt
 
-start_coherent : (unit : ProgramUnit) (system : State) (bound : ℕ) → Coherent (start unit system bound)
+pub start_coherent : (unit : ProgramUnit) (system : State) (bound : ℕ) → Coherent (start unit system bound)
 start_coherent unit system bound = record { family = start_with unit system bound; due = due; refers = record { shape = own_shape []; each = λ r. tt } }
   where
     due : (r : Name) (q : Process) → find (start unit system bound).live r ≡ Some q → DueAs r q.standing q.work 0
-    due [] q e = subst (λ x. DueAs [] x.standing x.work 0) (some_is e) (refl, refl, (omega arith, refl))
+    due [] q e = subst (λ x. DueAs [] x.standing x.work 0) (some_is e) (refl, refl, omega arith)
     due (y ∷ ys) q e = absurd (cc)
 
 pub permitted_coherent : (unit : ProgramUnit) (system : State) (bound : ℕ) (order : List Name) (s : Processes) → permitted unit order (start unit system bound) ≡ at s → Coherent s

@@ -8,23 +8,23 @@ use Rattle.edi_unit.specs.Need.{block_at}
 use Rattle.edi_unit.specs.Tree as tree
 use Rattle.edi_unit.specs.Tree.{Act, Acts, Clauses, ProgramUnit}
 use Rattle.edi_meaning.specs.Store.{Closure, system_procedure, block_procedure, Cell, procedure, Instance, Store, Shape, instances, frames, shape, room, grown, shrunk}
-use Rattle.edi_meaning.specs.Run.{World, Run, gives}
+use Rattle.edi_meaning.specs.Evaluation.{World, Evaluation, gives}
 use Rattle.edi_meaning.specs.Whole.{meant, instance_of}
 use Rattle.edi_meaning.specs.Step.{Position, inside, Work, doing, loop_end, procedure_end, branch_end, program_entry, program_end, doing_all, body_of, Standing, ready, at_when, waiting, Asks, goes, arrives, again, forks, leaves, chosen, with_chosen, called, statement_step, work_step, attempt, local_step, awaits}
 use Rattle.edi_meaning.proofs.Lasting.{Every, Any, Lasting, Keeps, At, give, stop, bind, turn_keeps, if_keeps, system_keeps, whole_arguments_keep, whole_assignment_keeps, whole_condition_keeps, whole_first_keeps}
 use Rattle.edi_meaning.proofs.Own.{instances-same}
 use Rattle.edi_meaning.proofs.Frames.{HasShape, own_shape, framing, length-frames, shape-grown}
 
--- with this work p has d instances: where it comes to its end it has one; the program's entry is for the first process,
--- which then has none
+-- with this work p has d instances: at its end, a branch's or the program's, it has one; the program's entry is for the first
+-- process, which then has none; and some work is always left
 abbrev pub Due : Name → List Work → ℕ → Type 0
-Due p [] d = d ≡ 1
+Due p [] d = ⊥
 Due p (doing a position ∷ work) d = (0 < d) × Due p work d
 Due p (loop_end cs position ∷ work) d = (0 < d) × Due p work d
 Due p (procedure_end ∷ work) d = (1 < d) × Due p work (d - 1)
-Due p (branch_end ∷ work) d = (0 < d) × Due p work d
+Due p (branch_end ∷ work) d = 0 < d
 Due p (program_entry ∷ work) d = (p ≡ []) × (d ≡ 0) × Due p work 1
-Due p (program_end ∷ work) d = (0 < d) × Due p work d
+Due p (program_end ∷ work) d = 0 < d
 
 -- the same of a process with its standing
 abbrev pub DueAs : Name → Standing → List Work → ℕ → Type 0
@@ -34,13 +34,13 @@ DueAs p (waiting n) work d = (0 < d) × Due p work d
 
 -- a process has an instance, or is the first at its entry
 pub due_some : (p : Name) (work : List Work) (d : ℕ) → Due p work d → (0 < d) ⊎ ((rest : List Work) × (work ≡ program_entry ∷ rest) × (p ≡ []) × (d ≡ 0))
-due_some p [] d h = inl (omega arith)
+due_some p [] d h = absurd h
 due_some p (doing a position ∷ work) d h = inl h.0
 due_some p (loop_end cs position ∷ work) d h = inl h.0
 due_some p (procedure_end ∷ work) d h = inl (omega (arith, h.0))
-due_some p (branch_end ∷ work) d h = inl h.0
+due_some p (branch_end ∷ work) d h = inl h
 due_some p (program_entry ∷ work) d h = inr (work, refl, h.0, h.1)
-due_some p (program_end ∷ work) d h = inl h.0
+due_some p (program_end ∷ work) d h = inl h
 
 pub due_all : (p : Name) (s : Acts) (position : Position) (n : ℕ) (work : List Work) (d : ℕ) → 0 < d → Due p work d → Due p (doing_all s position n work) d
 due_all p tree.no_act position n work d h k = k
@@ -76,7 +76,7 @@ module _ (unit : ProgramUnit) (p : Name) (size : ℕ) (F : Shape) where
   abbrev s : Lasting unit p size
   s = framing unit p size
 
-  abbrev Rests : Run Asks → Type 0
+  abbrev Rests : Evaluation Asks → Type 0
   Rests r = Keeps s (DueAsks p) r
 
   number : (w : World) → HasShape F w.store → length (F p) ≡ length (shape w.store p)
@@ -118,17 +118,17 @@ module _ (unit : ProgramUnit) (p : Name) (size : ℕ) (F : Shape) where
   statement_rests (tree.call c es line) position work w h d =
       bind s F (Every Any) _ _ _ (whole_arguments_keep s F es w h) (λ cells w f h. called_rests (meant unit p size c w) cells line work w h d)
   statement_rests (tree.halt line) position work w h d = stop s F _ (outcome.halted line) w tt h
-  statement_rests (tree.conditional cs) position work w h d =
+  statement_rests (tree.if_act cs) position work w h d =
       bind s F Any _ _ _ (chosen_rests cs 0 w h) (λ c w _ h. on _ w h (due_chosen position c [] work (length (F p)) d.0 d.1 d.1))
-  statement_rests (tree.loop cs) position work w h d =
+  statement_rests (tree.while_act cs) position work w h d =
       bind s F Any _ _ _ (chosen_rests cs 0 w h) (λ c w _ h. on _ w h (due_chosen position c (loop_end cs position ∷ []) work (length (F p)) d.0 d.1 d))
-  statement_rests (tree.await cs line) position work w h d = turn_keeps s F _ w.turns w _ refl h (λ w h. give s _ _ w (both work w h d))
+  statement_rests (tree.when_act cs line) position work w h d = turn_keeps s F _ w.turns w _ refl h (λ w h. give s _ _ w (both work w h d))
   statement_rests (tree.cobegin bs line) position work w h d = give s _ _ w (both work w h d)
 
   work_rests : (work : List Work) (w : World) → HasShape F w.store → Due p work (length (F p)) → Rests (work_step unit p size work w)
-  work_rests [] w h d = stop s F _ outcome.turns w tt h
+  work_rests [] w h d = absurd d
   work_rests (doing a position ∷ work) w h d = statement_rests a position work w h d
-  work_rests (loop_end cs position ∷ work) w h d = turn_keeps s F _ w.turns w _ refl h (λ w h. on (doing (tree.loop cs) position ∷ work) w h d)
+  work_rests (loop_end cs position ∷ work) w h d = turn_keeps s F _ w.turns w _ refl h (λ w h. on (doing (tree.while_act cs) position ∷ work) w h d)
   work_rests (procedure_end ∷ work) w h d =
       turn_keeps s F _ w.turns w _ refl h (λ w h.
       let l : length (F p) ≡ length (shape w.store p) = number w h in
@@ -150,7 +150,7 @@ module _ (unit : ProgramUnit) (p : Name) (size : ℕ) (F : Shape) where
   local_rests : (standing : Standing) (work : List Work) (w : World) → HasShape F w.store → DueAs p standing work (length (F p)) → Rests (local_step unit p size standing work w)
   local_rests ready work w h d = work_rests work w h d
   local_rests (at_when cs position) work w h d = attempt_rests cs position work w h d
-  local_rests (waiting n) work w h d = stop s F _ outcome.turns w tt h
+  local_rests (waiting n) work w h d = record { is = tt }
 
 -- a local step leaves as many instances as its work has yet to leave
 pub local_due : (unit : ProgramUnit) (p : Name) (size : ℕ) (standing : Standing) (work : List Work) (w : World) → DueAs p standing work (length (shape w.store p)) → Keeps (framing unit p size) (DueAsks p) (local_step unit p size standing work w)

@@ -7,7 +7,7 @@ use Rattle.edi_calls.proofs.Tables.{same-or-other}
 use Rattle.edi_unit.specs.Tree.{ProgramUnit}
 use Rattle.edi_unit.specs.Values.{Value}
 use Rattle.edi_meaning.specs.Store.{Location, Cell, Frame, Instance, Store, Shape, instances, frames, shape, with_cell_in, put, grown, shrunk}
-use Rattle.edi_meaning.specs.Run.{World}
+use Rattle.edi_meaning.specs.Evaluation.{World}
 use Rattle.edi_meaning.specs.Whole.{instance_of}
 use Rattle.edi_meaning.specs.Step.{Work, Standing, local_step}
 use Rattle.edi_meaning.proofs.Lasting.{Any, Lasting, Keeps}
@@ -151,4 +151,4 @@ module _ (unit : ProgramUnit) (p : Name) (size : ℕ) (before : Store) where
 pub local_steps : (unit : ProgramUnit) (p : Name) (size : ℕ) (standing : Standing) (work : List Work) (w : World) →
     Keeps (framing unit p size) (λ a v. Steps p w.store v.store) (local_step unit p size standing work w)
 local_steps unit p size standing work w =
-    local_keeps (framing unit p size) (shape w.store) (λ v. Steps p w.store v.store) (turnovers unit p size w.store) standing work w (own_shape w.store)
+    local_keeps (framing unit p size) (shape w.store) (λ v. Steps p w.store v.store) (turnovers unit p size w.store) standing work w (λ idle v h. tt) (own_shape w.store)

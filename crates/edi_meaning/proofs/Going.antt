@@ -1,15 +1,15 @@
--- Steps only take turns and input, and only add to what was shown and printed.
+-- Steps only take turns and input, and only add to what was shown and printed, and to the past of the system.
 use Rattle.std.proofs.Common.{◌≡◌, ℕ, suc, List, [], ◌∷◌, ◌++◌, length, Option, Some, None, refl, sym, subst, ap, ◌∙◌, arith, append_assoc}
 use Rattle.std.proofs.lemmas.List.{append-nil}
 use Rattle.edi_calls.specs.Laws.{GoesOn}
 use Rattle.edi_calls.specs.Names.{Name, find}
-use Rattle.edi_calls.specs.State.{State}
+use Rattle.edi_calls.specs.State.{State, Traced, after_call, newest}
 use Rattle.edi_calls.proofs.Lasting.{each_call_goes_on_all}
 use Rattle.edi_unit.specs.Tree.{ProgramUnit}
 use Rattle.edi_meaning.specs.Store.{shape, now}
-use Rattle.edi_meaning.specs.Run.{World}
+use Rattle.edi_meaning.specs.Evaluation.{World}
 use Rattle.edi_meaning.specs.Step.{waiting, Process, Processes, Stepped, went, ended, back, local_step, step_of, step, may_step, Led, at, over, nowhere, onward, permitted}
-use Rattle.edi_meaning.specs.Laws.{GoesFrom, LedOn, StepsGoOn}
+use Rattle.edi_meaning.specs.Laws.{Grows, GoesFrom, LedOn, StepsGoOn}
 use Rattle.edi_meaning.proofs.Lasting.{Any, Lasting}
 use Rattle.edi_meaning.proofs.Local.{Moving, local_keeps}
 use Rattle.edi_meaning.proofs.Work.{world_of_children}
@@ -35,11 +35,19 @@ goes_on_all s t u h k = record {
   blocks = k.blocks ∙ h.blocks;
 }
 
-goes_same : (w : World) → GoesFrom w w.system w.turns
-goes_same w = (omega arith, goes_on_same w.system)
+newest_again : (first : State) (news past : List State) → newest first (news ++ past) ≡ newest (newest first past) news
+newest_again first [] past = refl
+newest_again first (s ∷ news) past = refl
 
-goes_all : (w v : World) (system : State) (turns : ℕ) → GoesFrom w v.system v.turns → GoesFrom v system turns → GoesFrom w system turns
-goes_all w v system turns h k = (omega (arith, h.0, k.0), goes_on_all w.system v.system system h.1 k.1)
+pub grows_all : (a b c : Traced) → Grows a b → Grows b c → Grows a c
+grows_all a b c h k =
+    (k.0 ++ h.0, k.1 ∙ ap (λ l. k.0 ++ l) h.1 ∙ sym (append_assoc k.0 h.0 a.past), newest_again a.now k.0 h.0 ∙ ap (λ s. newest s k.0) h.2 ∙ k.2)
+
+goes_same : (w : World) → GoesFrom w w.system w.turns
+goes_same w = (omega arith, goes_on_same w.system.now, ([], refl, refl))
+
+goes_all : (w v : World) (system : Traced) (turns : ℕ) → GoesFrom w v.system v.turns → GoesFrom v system turns → GoesFrom w system turns
+goes_all w v system turns h k = (omega (arith, h.0, k.0), goes_on_all w.system.now v.system.now system.now h.1 k.1, grows_all w.system v.system system h.2 k.2)
 
 -- ---- of one process
 
@@ -51,9 +59,13 @@ going unit p size before = record {
   Comes = λ x. Any;
   Fits = λ x. Any;
   over = λ x e w o h. h;
-  turned = λ x n w e h. (omega (arith, e, h.0), h.1);
+  turned = λ x n w e h. (omega (arith, e, h.0), h.1, h.2);
   stored = λ x l v w c h. h;
-  replied = λ x number asked words system w e h. (h.0, goes_on_all before.system w.system system h.1 (each_call_goes_on_all number asked words w.system system e));
+  replied = λ x number asked words system w e h. (
+    h.0,
+    goes_on_all before.system.now w.system.now system h.1 (each_call_goes_on_all number asked words w.system.now system e),
+    grows_all before.system w.system (after_call system w.system) h.2 (system ∷ [], refl, refl),
+  );
   called = λ x number parent cells w c f h. (tt, h, λ v k. k);
   of_slot = λ x levels variable w h. tt;
   of_part = λ x l n c. tt;
@@ -82,7 +94,7 @@ goes_by_kernel unit s p q before = record {
   of_fork = λ bs line work w n share e h.
       let same = world_of_children unit p (suc q.forks) 0 share (now (shape w.store) p) bs
       (back s p (record q { forks = suc q.forks; work = work; standing = waiting (length bs) }) (record w { turns = n })) in
-      subst (λ v. GoesFrom before v.system v.turns) (sym same) (omega (arith, e, h.0), h.1);
+      subst (λ v. GoesFrom before v.system v.turns) (sym same) (omega (arith, e, h.0), h.1, h.2);
   of_leaves = λ w k h. h;
   of_awaited = λ w y n e g h. h;
 }
@@ -94,7 +106,7 @@ step_goes unit s p = go (find s.live p)
     go None = goes_same s.world
     go (Some q) =
         kernel_handles unit s p q _ _ (StepGoes s.world) (goes_by_kernel unit s p q s.world) (local_step unit p q.size q.standing q.work s.world)
-        (local_keeps (going unit p q.size s.world) tt (λ w. GoesFrom s.world w.system w.turns) (goes_further unit p q.size s.world) q.standing q.work s.world (goes_same s.world)).is
+        (local_keeps (going unit p q.size s.world) tt (λ w. GoesFrom s.world w.system w.turns) (goes_further unit p q.size s.world) q.standing q.work s.world (λ idle v h. h) (goes_same s.world)).is
 
 -- ---- along permitted steps
 

@@ -7,12 +7,12 @@ use Rattle.edi_calls.specs.Names.{Name, find, without}
 use Rattle.edi_calls.specs.Outcome as outcome
 use Rattle.edi_calls.specs.Outcome.{Ending}
 use Rattle.edi_calls.specs.Ready.{parent_of, stays, joins}
-use Rattle.edi_calls.specs.State.{State}
+use Rattle.edi_calls.specs.State.{Traced}
 use Rattle.edi_unit.specs.Tree.{Clauses, ProgramUnit}
 use Rattle.edi_meaning.specs.Store.{shape, room}
-use Rattle.edi_meaning.specs.Run.{World, Run, gives, ends}
-use Rattle.edi_meaning.specs.Step.{Position, Work, Standing, ready, at_when, waiting, Asks, goes, arrives, again, forks, leaves, Process, Processes, Stepped, went, ended, back, share_of, exceeds, most_processes, fork_taken, awaits, freed, one_less, told, local_step, kernel, step_of, step, may_step, Led, at, nowhere, onward, permitted}
-use Rattle.edi_meaning.proofs.Lasting.{IsOwn, Gives}
+use Rattle.edi_meaning.specs.Evaluation.{World, Evaluation, gives, ends}
+use Rattle.edi_meaning.specs.Step.{Position, Work, Standing, ready, at_when, waiting, Asks, goes, arrives, again, forks, leaves, Process, Processes, Stepped, went, ended, back, share_of, exceeds, most_processes, fork_taken, awaits, freed, one_less, notified, local_step, kernel, step_of, step, may_step, Led, at, nowhere, onward, permitted}
+use Rattle.edi_meaning.proofs.Lasting.{IsOver, Gives}
 use Rattle.edi_meaning.proofs.Names.{some_is, no_some}
 
 -- what holds of either holds of the one that a test takes
@@ -25,24 +25,24 @@ abbrev pub rest_of : Processes → Name → World → Processes
 rest_of s p w = record { live = without s.live p; world = record w { store = without w.store p } }
 
 -- P of every step of p that the kernel makes of a local step, of which D tells what it asks and E its end
-pub record Handles (unit : ProgramUnit) (s : Processes) (p : Name) (q : Process) (D : Asks → World → Type 0) (E : Ending → State → ℕ → Type 0) (P : Stepped → Type 0) : Type 0 where
-  pub of_end : (ending : Ending) (system : State) (turns : ℕ) → E ending system turns → P (ended ending system turns)
+pub record Handles (unit : ProgramUnit) (s : Processes) (p : Name) (q : Process) (D : Asks → World → Type 0) (E : Ending → Traced → ℕ → Type 0) (P : Stepped → Type 0) : Type 0 where
+  pub of_end : (ending : Ending) (system : Traced) (turns : ℕ) → E ending system turns → P (ended ending system turns)
   pub of_goes : (work : List Work) (w : World) → D (goes work) w → P (went (back s p (record q { work = work; standing = ready }) w) stays false)
   pub of_arrives : (cs : Clauses) (position : Position) (work : List Work) (w : World) → D (arrives cs position work) w →
       P (went (back s p (record q { work = work; standing = at_when cs position }) w) (joins (p ∷ [])) false)
   pub of_again : (cs : Clauses) (position : Position) (quiet : Bool) (work : List Work) (w : World) → D (again cs position quiet work) w →
       P (went (back s p (record q { work = work; standing = at_when cs position }) w) (joins (p ∷ [])) quiet)
   -- a fork that a limit forbids, or for which no turn is left; and one that is made
-  pub of_no_fork : (bs : List ℕ) (line : ℕ) (work : List Work) (w : World) (ending : Ending) → IsOwn ending → D (forks bs line work) w → P (ended ending w.system w.turns)
+  pub of_no_fork : (bs : List ℕ) (line : ℕ) (work : List Work) (w : World) (ending : Ending) → IsOver ending w.turns → D (forks bs line work) w → P (ended ending w.system w.turns)
   pub of_fork : (bs : List ℕ) (line : ℕ) (work : List Work) (w : World) (n share : ℕ) → w.turns ≡ suc n → D (forks bs line work) w → P (fork_taken unit s p q bs work w (suc n) share)
   -- the end of a process for which nobody waits; and of one for which its parent waits
   pub of_leaves : (w : World) → ((y : Process) (n : ℕ) → find (without s.live p) (parent_of p) ≡ Some y → y.standing ≡ waiting n → ⊥) → D leaves w → P (went (rest_of s p w) (joins []) false)
   pub of_awaited : (w : World) (y : Process) (n : ℕ) → find (without s.live p) (parent_of p) ≡ Some y → y.standing ≡ waiting n → D leaves w →
       P (went (back (rest_of s p w) (parent_of p) (record y { standing = awaits (n - 1) }) (rest_of s p w).world) (freed (n - 1) (parent_of p)) false)
 
-module _ (unit : ProgramUnit) (s : Processes) (p : Name) (q : Process) (D : Asks → World → Type 0) (E : Ending → State → ℕ → Type 0) (P : Stepped → Type 0) (h : Handles unit s p q D E P) where
+module _ (unit : ProgramUnit) (s : Processes) (p : Name) (q : Process) (D : Asks → World → Type 0) (E : Ending → Traced → ℕ → Type 0) (P : Stepped → Type 0) (h : Handles unit s p q D E P) where
   taken : (bs : List ℕ) (line : ℕ) (work : List Work) (w : World) (n share : ℕ) → w.turns ≡ n → D (forks bs line work) w → P (fork_taken unit s p q bs work w n share)
-  taken bs line work w zero share e d = h.of_no_fork bs line work w outcome.turns tt d
+  taken bs line work w zero share e d = h.of_no_fork bs line work w outcome.turns e d
   taken bs line work w (suc n) share e d = h.of_fork bs line work w n share e d
 
   -- who is found and does not wait is not waited for
@@ -55,11 +55,11 @@ module _ (unit : ProgramUnit) (s : Processes) (p : Name) (q : Process) (D : Asks
   less w y (at_when cs position) e g d = h.of_leaves w (idle y (at_when cs position) e g (λ n f. absurd (cc))) d
   less w y (waiting n) e g d = h.of_awaited w y n e g d
 
-  telling : (w : World) (y : Option Process) → find (without s.live p) (parent_of p) ≡ y → D leaves w → P (told (rest_of s p w) (parent_of p) y)
+  telling : (w : World) (y : Option Process) → find (without s.live p) (parent_of p) ≡ y → D leaves w → P (notified (rest_of s p w) (parent_of p) y)
   telling w None e d = h.of_leaves w (λ y n f g. no_some (find (without s.live p) (parent_of p)) e f) d
   telling w (Some y) e d = less w y y.standing e refl d
 
-  pub kernel_handles : (r : Run Asks) → Gives D E r → P (kernel unit s p q r)
+  pub kernel_handles : (r : Evaluation Asks) → Gives D E r → P (kernel unit s p q r)
   kernel_handles (ends ending system turns) d = h.of_end ending system turns d
   kernel_handles (gives (goes work) w) d = h.of_goes work w d
   kernel_handles (gives (arrives cs position work) w) d = h.of_arrives cs position work w d

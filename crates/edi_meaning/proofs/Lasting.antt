@@ -1,13 +1,13 @@
 -- An evaluation changes a world in few ways: it takes a turn, stores a value, calls the system, enters and leaves a
 -- block. A fact that each of these keeps is kept by every evaluation.
-use Rattle.std.proofs.Common.{◌≡◌, ℕ, zero, suc, Bool, true, false, if◌then◌else◌, List, [], ◌∷◌, Option, Some, None, refl}
+use Rattle.std.proofs.Common.{◌≡◌, ℕ, zero, suc, ◌<◌, ◌≤◌, Bool, true, false, if◌then◌else◌, List, [], ◌∷◌, Option, Some, None, refl, sym, arith}
 use Rattle.std.specs.Prelude.{⊤, pos, nat_lt}
 use Rattle.edi_calls.specs.declared.kinds.Cause.TheVariants as cause
 use Rattle.edi_calls.specs.Calls.{CallResult, answered, no_file, file_limit, call}
 use Rattle.edi_calls.specs.Names.{Name}
 use Rattle.edi_calls.specs.Outcome as outcome
 use Rattle.edi_calls.specs.Outcome.{Ending}
-use Rattle.edi_calls.specs.State.{State}
+use Rattle.edi_calls.specs.State.{State, Traced, after_call}
 use Rattle.edi_unit.specs.declared.expressions.Callee.{Callee}
 use Rattle.edi_unit.specs.Types.{Shape, shape_at, is_set_shape, array_of, int, char, bool, enumeration, record_of, set_of}
 use Rattle.edi_unit.specs.Values.{Value, ordinal, is_true, decides, apply, sign, converted, with_ordinal, ordinal_of, element_at}
@@ -15,7 +15,7 @@ use Rattle.edi_unit.specs.Need.{block_at}
 use Rattle.edi_unit.specs.Tree as tree
 use Rattle.edi_unit.specs.Tree.{Expression, Expressions, Link, Links, Place, Part, Parts, Argument, Arguments, Act, Acts, Clause, Clauses, ProgramUnit}
 use Rattle.edi_meaning.specs.Store.{Spot, Location, Closure, system_procedure, block_procedure, Cell, value, location, procedure, shape, room, slot, put, grown, shrunk}
-use Rattle.edi_meaning.specs.Run.{World, Run, gives, ends, ◌>>=◌, stops, turn_from, turn}
+use Rattle.edi_meaning.specs.Evaluation.{World, Evaluation, gives, ends, ◌>>=◌, stops, turn_from, turn}
 use Rattle.edi_meaning.specs.Whole.{in_range, Designated, part_of, element_of, words_of_cells, answer_in, answered_by, system_call, meant, instance_of, entered, left, result_of, named, function_body, function_call, expression, expressions, members_of, linked, operated, designated, parts, part, argument, arguments, procedure_body, procedure_call, assigned, act, acts, first, guarded, levels_of, whole_arguments, whole_assignment, whole_condition, whole_first}
 
 -- an evaluation never ends as a standstill: that is for the kernel to see
@@ -27,6 +27,31 @@ IsOwn outcome.turns = ⊤
 IsOwn outcome.standstill = ⊥
 IsOwn (outcome.bad address) = ⊤
 
+-- with so many turns left: by turns it ends only where none is left
+abbrev pub IsOver : Ending → (turns : ℕ) → Type 0
+IsOver outcome.done n = ⊤
+IsOver (outcome.halted line) n = ⊤
+IsOver (outcome.failed c line) n = ⊤
+IsOver outcome.turns n = n ≡ 0
+IsOver outcome.standstill n = ⊥
+IsOver (outcome.bad address) n = ⊤
+
+pub own_over : (e : Ending) (n : ℕ) → IsOver e n → IsOwn e
+own_over outcome.done n h = tt
+own_over (outcome.halted line) n h = tt
+own_over (outcome.failed c line) n h = tt
+own_over outcome.turns n h = tt
+own_over outcome.standstill n h = h
+own_over (outcome.bad address) n h = tt
+
+pub spent_over : (e : Ending) (n : ℕ) → IsOver e n → e ≡ outcome.turns → n ≡ 0
+spent_over outcome.done n h e = absurd (cc)
+spent_over (outcome.halted line) n h e = absurd (cc)
+spent_over (outcome.failed c line) n h e = absurd (cc)
+spent_over outcome.turns n h e = h
+spent_over outcome.standstill n h e = absurd h
+spent_over (outcome.bad address) n h e = absurd (cc)
+
 -- P of each element
 abbrev pub Every : {A : Type 0} → (A → Type 0) → List A → Type 0
 Every P [] = ⊤
@@ -37,7 +62,7 @@ abbrev pub Any : {A : Type 0} → A → Type 0
 Any a = ⊤
 
 -- D of what a run gives and of the world after it; E of how it ends the program
-abbrev pub Gives : {A : Type 0} → (A → World → Type 0) → (Ending → State → ℕ → Type 0) → Run A → Type 0
+abbrev pub Gives : {A : Type 0} → (A → World → Type 0) → (Ending → Traced → ℕ → Type 0) → Evaluation A → Type 0
 Gives D E (gives a w) = D a w
 Gives D E (ends ending system turns) = E ending system turns
 
@@ -47,13 +72,13 @@ Gives D E (ends ending system turns) = E ending system turns
 pub record Lasting (unit : ProgramUnit) (p : Name) (size : ℕ) : Type 1 where
   pub Level : Type 0
   pub Holds : Level → World → Type 0
-  pub Ends : Ending → State → ℕ → Type 0
+  pub Ends : Ending → Traced → ℕ → Type 0
   pub Comes : Level → Location → Type 0
   pub Fits : Level → Cell → Type 0
-  pub over : (x : Level) (e : Ending) (w : World) → IsOwn e → Holds x w → Ends e w.system w.turns
+  pub over : (x : Level) (e : Ending) (w : World) → IsOver e w.turns → Holds x w → Ends e w.system w.turns
   pub turned : (x : Level) (n : ℕ) (w : World) → w.turns ≡ suc n → Holds x w → Holds x (record w { turns = n })
   pub stored : (x : Level) (l : Location) (v : Value) (w : World) → Comes x l → Holds x w → Holds x (record w { store = put w.store l v })
-  pub replied : (x : Level) (number : ℕ) (asked words : List ℕ) (system : State) (w : World) → call number asked w.system ≡ answered words system → Holds x w → Holds x (record w { system = system })
+  pub replied : (x : Level) (number : ℕ) (asked words : List ℕ) (system : State) (w : World) → call number asked w.system.now ≡ answered words system → Holds x w → Holds x (record w { system = after_call system w.system })
   pub called : (x : Level) (number : ℕ) (parent : Spot) (cells : List Cell) (w : World) → Fits x (procedure (block_procedure number parent)) → Every (Fits x) cells → Holds x w →
       (y : Level) × Holds y (record w { store = grown p (instance_of unit p size number parent cells) w.store }) × ((v : World) → Holds y v → Holds x (record v { store = shrunk p v.store }))
   pub of_slot : (x : Level) (levels variable : ℕ) (w : World) → Holds x w → Comes x (slot w.store p levels variable)
@@ -65,7 +90,7 @@ pub record Lasting (unit : ProgramUnit) (p : Name) (size : ℕ) : Type 1 where
 
 module _ {unit : ProgramUnit} {p : Name} {size : ℕ} (s : Lasting unit p size) where
   -- P of what is given and of the world after it; or the program has ended
-  pub record Keeps {A : Type 0} (P : A → World → Type 0) (r : Run A) : Type 0 where
+  pub record Keeps {A : Type 0} (P : A → World → Type 0) (r : Evaluation A) : Type 0 where
     pub is : Gives P s.Ends r
 
   -- V of a value, and the fact of the world
@@ -77,18 +102,21 @@ module _ {unit : ProgramUnit} {p : Name} {size : ℕ} (s : Lasting unit p size) 
   pub give : {A : Type 0} (P : A → World → Type 0) (a : A) (w : World) → P a w → Keeps P (gives a w)
   give P a w h = record { is = h }
 
-  pub stop : {A : Type 0} (x : s.Level) (P : A → World → Type 0) (e : Ending) (w : World) → IsOwn e → s.Holds x w → Keeps P (stops e w)
+  pub stop : {A : Type 0} (x : s.Level) (P : A → World → Type 0) (e : Ending) (w : World) → IsOver e w.turns → s.Holds x w → Keeps P (stops e w)
   stop x P e w o h = record { is = s.over x e w o h }
 
-  pub bind : {A B : Type 0} (x : s.Level) (V : A → Type 0) (P : B → World → Type 0) (r : Run A) (f : A → World → Run B) → Keeps (At x V) r → ((a : A) (w : World) → V a → s.Holds x w → Keeps P (f a w)) → Keeps P (r >>= f)
+  pub bind : {A B : Type 0} (x : s.Level) (V : A → Type 0) (P : B → World → Type 0) (r : Evaluation A) (f : A → World → Evaluation B) → Keeps (At x V) r → ((a : A) (w : World) → V a → s.Holds x w → Keeps P (f a w)) → Keeps P (r >>= f)
   bind x V P (gives a w) f h k = k a w h.is.0 h.is.1
   bind x V P (ends e system turns) f h k = record { is = h.is }
 
-  pub turn_keeps : {A : Type 0} (x : s.Level) (P : A → World → Type 0) (n : ℕ) (w : World) (go : World → Run A) → w.turns ≡ n → s.Holds x w → ((w : World) → s.Holds x w → Keeps P (go w)) → Keeps P (turn_from n w go)
-  turn_keeps x P zero w go e h k = stop x P outcome.turns w tt h
-  turn_keeps x P (suc n) w go e h k = k (record w { turns = n }) (s.turned x n w e h)
+  turn_less : {A : Type 0} (x : s.Level) (P : A → World → Type 0) (n : ℕ) (w : World) (go : World → Evaluation A) → w.turns ≡ n → s.Holds x w → ((v : World) → suc v.turns ≡ w.turns → s.Holds x v → Keeps P (go v)) → Keeps P (turn_from n w go)
+  turn_less x P zero w go e h k = stop x P outcome.turns w e h
+  turn_less x P (suc n) w go e h k = k (record w { turns = n }) (sym e) (s.turned x n w e h)
 
-  pub if_keeps : {A : Type 0} (P : A → World → Type 0) (b : Bool) (r t : Run A) → Keeps P r → Keeps P t → Keeps P (if b then r else t)
+  pub turn_keeps : {A : Type 0} (x : s.Level) (P : A → World → Type 0) (n : ℕ) (w : World) (go : World → Evaluation A) → w.turns ≡ n → s.Holds x w → ((w : World) → s.Holds x w → Keeps P (go w)) → Keeps P (turn_from n w go)
+  turn_keeps x P n w go e h k = turn_less x P n w go e h (λ v less g. k v g)
+
+  pub if_keeps : {A : Type 0} (P : A → World → Type 0) (b : Bool) (r t : Evaluation A) → Keeps P r → Keeps P t → Keeps P (if b then r else t)
   if_keeps P true r t h k = h
   if_keeps P false r t h k = k
 
@@ -117,34 +145,35 @@ module _ {unit : ProgramUnit} {p : Name} {size : ℕ} (s : Lasting unit p size) 
   answer_keeps x (value v ∷ cells) words w f h = answer_keeps x cells words w f.1 h
   answer_keeps x (procedure c ∷ cells) words w f h = answer_keeps x cells words w f.1 h
 
-  answered_keeps : (x : s.Level) (number : ℕ) (asked : List ℕ) (result : CallResult) (cells : List Cell) (line : ℕ) (w : World) → call number asked w.system ≡ result → Every (s.Fits x) cells → s.Holds x w → Keeps (At x Any) (answered_by result cells line w)
+  answered_keeps : (x : s.Level) (number : ℕ) (asked : List ℕ) (result : CallResult) (cells : List Cell) (line : ℕ) (w : World) → call number asked w.system.now ≡ result → Every (s.Fits x) cells → s.Holds x w → Keeps (At x Any) (answered_by result cells line w)
   answered_keeps x number asked (answered words system) cells line w e f h =
-      give _ tt _ (tt, answer_keeps x cells words (record w { system = system }) f (s.replied x number asked words system w e h))
+      give _ tt _ (tt, answer_keeps x cells words (record w { system = after_call system w.system }) f (s.replied x number asked words system w e h))
   answered_keeps x number asked no_file cells line w e f h = stop x _ (outcome.failed cause.NoFile line) w tt h
   answered_keeps x number asked file_limit cells line w e f h = stop x _ (outcome.failed cause.FileLimit line) w tt h
 
   pub system_keeps : (x : s.Level) (number : ℕ) (cells : List Cell) (line : ℕ) (w : World) → Every (s.Fits x) cells → s.Holds x w → Keeps (At x Any) (system_call number cells line w)
-  system_keeps x number cells line w f h = answered_keeps x number (words_of_cells cells) (call number (words_of_cells cells) w.system) cells line w refl f h
+  system_keeps x number cells line w f h = answered_keeps x number (words_of_cells cells) (call number (words_of_cells cells) w.system.now) cells line w refl f h
 
   -- a block is entered, and what comes then begins at the level inside
-  entered_keeps : {A : Type 0} (x : s.Level) (P : A → World → Type 0) (number : ℕ) (parent : Spot) (cells : List Cell) (line : ℕ) (w : World) (go : World → Run A) →
+  entered_keeps : {A : Type 0} (x : s.Level) (P : A → World → Type 0) (number : ℕ) (parent : Spot) (cells : List Cell) (line : ℕ) (w : World) (go : World → Evaluation A) →
       s.Fits x (procedure (block_procedure number parent)) → Every (s.Fits x) cells → s.Holds x w →
-      ((y : s.Level) → ((v : World) → s.Holds y v → s.Holds x (record v { store = shrunk p v.store })) → (v : World) → s.Holds y v → Keeps P (go v)) → Keeps P (entered unit p size number parent cells line w go)
+      ((y : s.Level) → ((v : World) → s.Holds y v → s.Holds x (record v { store = shrunk p v.store })) → (v : World) → suc v.turns ≡ w.turns → s.Holds y v → Keeps P (go v)) → Keeps P (entered unit p size number parent cells line w go)
   entered_keeps x P number parent cells line w go c f h k =
       if_keeps P (nat_lt (room size (shape w.store p)) (block_at unit.blocks number).need) _ _ (stop x P (outcome.failed cause.VariableLimit line) w tt h)
-      (turn_keeps x P w.turns w _ refl h (λ w h. k (s.called x number parent cells w c f h).0 (s.called x number parent cells w c f h).2 _ (s.called x number parent cells w c f h).1))
+      (turn_less x P w.turns w _ refl h (λ v less g. k (s.called x number parent cells v c f g).0 (s.called x number parent cells v c f g).2 _ less (s.called x number parent cells v c f g).1))
 
-  left_keeps : {A : Type 0} (x y : s.Level) (P : A → World → Type 0) (w : World) (go : World → Run A) → ((v : World) → s.Holds y v → s.Holds x (record v { store = shrunk p v.store })) → s.Holds y w →
+  left_keeps : {A : Type 0} (x y : s.Level) (P : A → World → Type 0) (w : World) (go : World → Evaluation A) → ((v : World) → s.Holds y v → s.Holds x (record v { store = shrunk p v.store })) → s.Holds y w →
       ((w : World) → s.Holds x w → Keeps P (go w)) → Keeps P (left unit p size w go)
   left_keeps x y P w go back h k = turn_keeps y P w.turns w _ refl h (λ w h. k _ (back w h))
 
   -- ---- what follows the tree
 
-  module _ (deeper : Acts → World → Run (Unit {0})) (deep : (x : s.Level) (as' : Acts) (w : World) → s.Holds x w → Keeps (At x Any) (deeper as' w)) where
+  -- a level deeper is reached behind a turn: with fewer than n turns left, where n is a bound of them at this level
+  module _ (n : ℕ) (within : (x : s.Level) (w : World) → s.Holds x w → w.turns ≤ n) (deeper : Acts → World → Evaluation (Unit {0})) (deep : (x : s.Level) (as' : Acts) (w : World) → w.turns < n → s.Holds x w → Keeps (At x Any) (deeper as' w)) where
     function_keeps : (x : s.Level) (c : Closure) (cells : List Cell) (line : ℕ) (w : World) → s.Fits x (procedure c) → Every (s.Fits x) cells → s.Holds x w → Keeps (At x Any) (function_call unit p size deeper c cells line w)
     function_keeps x (block_procedure number parent) cells line w c f h =
         entered_keeps x _ number parent cells line w (function_body unit p size deeper number) c f h
-        (λ y back v h. bind y Any _ _ _ (deep y (block_at unit.blocks number).body v h) (λ _ w _ h. left_keeps x y _ w (gives (result_of unit p size w)) back h (λ w h. give _ _ w (tt, h))))
+        (λ y back v less g. bind y Any _ _ _ (deep y (block_at unit.blocks number).body v (omega (arith, less, within x w h)) g) (λ _ w _ h. left_keeps x y _ w (gives (result_of unit p size w)) back h (λ w h. give _ _ w (tt, h))))
     function_keeps x (system_procedure number) cells line w c f h = give _ _ w (tt, h)
 
     mutual
@@ -152,7 +181,7 @@ module _ {unit : ProgramUnit} {p : Name} {size : ℕ} (s : Lasting unit p size) 
       expression_keeps x (tree.constant of n) w h = give _ _ w (tt, h)
       expression_keeps x (tree.load v) w h = bind x (Located x) _ _ _ (designated_keeps x v w h) (λ d w _ h. give _ _ w (tt, h))
       expression_keeps x (tree.not_of e) w h = bind x Any _ _ _ (expression_keeps x e w h) (λ v w _ h. give _ _ w (tt, h))
-      expression_keeps x (tree.minus e line) w h = bind x Any _ _ _ (expression_keeps x e w h) (λ v w _ h. range_keeps x line (sign v) w h)
+      expression_keeps x (tree.sign_of e line) w h = bind x Any _ _ _ (expression_keeps x e w h) (λ v w _ h. range_keeps x line (sign v) w h)
       expression_keeps x (tree.chain e ls) w h = bind x Any _ _ _ (expression_keeps x e w h) (λ v w _ h. linked_keeps x v ls w h)
       expression_keeps x (tree.make of es line) w h =
           if_keeps _ (is_set_shape (shape_at unit.types of)) _ _
@@ -160,7 +189,7 @@ module _ {unit : ProgramUnit} {p : Name} {size : ℕ} (s : Lasting unit p size) 
           (bind x Any _ _ _ (expressions_keeps x es w h) (λ vs w _ h. give _ _ w (tt, h)))
       expression_keeps x (tree.convert of e line) w h =
           bind x Any _ _ _ (expression_keeps x e w h) (λ v w _ h. range_keeps x line (converted (shape_at unit.types of) v) w h)
-      expression_keeps x (tree.invoke c es line) w h =
+      expression_keeps x (tree.apply_of c es line) w h =
           bind x (Every (s.Fits x)) _ _ _ (arguments_keeps x es w h) (λ cells w f h. function_keeps x (meant unit p size c w) cells line w (s.by_procedure x c w h) f h)
 
       expressions_keeps : (x : s.Level) (es : Expressions) (w : World) → s.Holds x w → Keeps (At x Any) (expressions unit p size deeper es w)
@@ -205,15 +234,15 @@ module _ {unit : ProgramUnit} {p : Name} {size : ℕ} (s : Lasting unit p size) 
     procedure_keeps : (x : s.Level) (c : Closure) (cells : List Cell) (line : ℕ) (w : World) → s.Fits x (procedure c) → Every (s.Fits x) cells → s.Holds x w → Keeps (At x Any) (procedure_call unit p size deeper c cells line w)
     procedure_keeps x (block_procedure number parent) cells line w c f h =
         entered_keeps x _ number parent cells line w (procedure_body unit p size deeper number) c f h
-        (λ y back v h. bind y Any _ _ _ (deep y (block_at unit.blocks number).body v h) (λ _ w _ h. left_keeps x y _ w (gives tt) back h (λ w h. give _ _ w (tt, h))))
+        (λ y back v less g. bind y Any _ _ _ (deep y (block_at unit.blocks number).body v (omega (arith, less, within x w h)) g) (λ _ w _ h. left_keeps x y _ w (gives tt) back h (λ w h. give _ _ w (tt, h))))
     procedure_keeps x (system_procedure number) cells line w c f h = system_keeps x number cells line w f h
 
     assigned_keeps : (x : s.Level) (v : Place) (e : Expression) (w : World) → s.Holds x w → Keeps (At x Any) (assigned unit p size deeper v e w)
     assigned_keeps x v e w h =
         bind x (Located x) _ _ _ (designated_keeps x v w h) (λ d w c h. bind x Any _ _ _ (expression_keeps x e w h) (λ v w _ h. give _ _ _ (tt, s.stored x d.at v w c h)))
 
-    again_keeps : (x : s.Level) (cs : Clauses) (ran : Bool) (w : World) → s.Holds x w → Keeps (At x Any) (if ran then turn w (deeper (tree.act_then (tree.loop cs) tree.no_act)) else gives (tt {0}) w)
-    again_keeps x cs true w h = turn_keeps x _ w.turns w _ refl h (deep x (tree.act_then (tree.loop cs) tree.no_act))
+    again_keeps : (x : s.Level) (cs : Clauses) (ran : Bool) (w : World) → s.Holds x w → Keeps (At x Any) (if ran then turn w (deeper (tree.act_then (tree.while_act cs) tree.no_act)) else gives (tt {0}) w)
+    again_keeps x cs true w h = turn_less x _ w.turns w _ refl h (λ v less g. deep x (tree.act_then (tree.while_act cs) tree.no_act) v (omega (arith, less, within x w h)) g)
     again_keeps x cs false w h = give _ _ w (tt, h)
 
     mutual
@@ -223,9 +252,9 @@ module _ {unit : ProgramUnit} {p : Name} {size : ℕ} (s : Lasting unit p size) 
       act_keeps x (tree.call c es line) w h =
           bind x (Every (s.Fits x)) _ _ _ (arguments_keeps x es w h) (λ cells w f h. procedure_keeps x (meant unit p size c w) cells line w (s.by_procedure x c w h) f h)
       act_keeps x (tree.halt line) w h = stop x _ (outcome.halted line) w tt h
-      act_keeps x (tree.conditional cs) w h = bind x Any _ _ _ (first_keeps x cs w h) (λ _ w _ h. give _ _ w (tt, h))
-      act_keeps x (tree.loop cs) w h = bind x Any _ _ _ (first_keeps x cs w h) (λ ran w _ h. again_keeps x cs ran w h)
-      act_keeps x (tree.await cs line) w h = stop x _ (outcome.failed cause.Held line) w tt h
+      act_keeps x (tree.if_act cs) w h = bind x Any _ _ _ (first_keeps x cs w h) (λ _ w _ h. give _ _ w (tt, h))
+      act_keeps x (tree.while_act cs) w h = bind x Any _ _ _ (first_keeps x cs w h) (λ ran w _ h. again_keeps x cs ran w h)
+      act_keeps x (tree.when_act cs line) w h = stop x _ (outcome.failed cause.Held line) w tt h
       act_keeps x (tree.cobegin bs line) w h = stop x _ (outcome.failed cause.Held line) w tt h
 
       acts_keeps : (x : s.Level) (as' : Acts) (w : World) → s.Holds x w → Keeps (At x Any) (acts unit p size deeper as' w)
@@ -242,21 +271,63 @@ module _ {unit : ProgramUnit} {p : Name} {size : ℕ} (s : Lasting unit p size) 
           bind x Any _ _ _ (expression_keeps x e w h)
           (λ v w _ h. if_keeps _ (is_true v) _ _ (bind x Any _ _ _ (acts_keeps x as' w h) (λ _ w _ h. give _ _ w (tt, h))) (give _ _ w (tt, h)))
 
-  levels_keeps : (n : ℕ) (x : s.Level) (as' : Acts) (w : World) → s.Holds x w → Keeps (At x Any) (levels_of unit p size n as' w)
-  levels_keeps zero x as' w h = stop x _ outcome.turns w tt h
-  levels_keeps (suc n) x as' w h = acts_keeps (levels_of unit p size n) (levels_keeps n) x as' w h
+-- ---- the levels of an evaluation
 
-  -- ---- evaluations to the end
+-- the same fact, with at most n turns left
+abbrev pub bounded : {unit : ProgramUnit} {p : Name} {size : ℕ} → Lasting unit p size → ℕ → Lasting unit p size
+bounded s n = record {
+  Level = s.Level;
+  Holds = λ x w. (w.turns ≤ n) × s.Holds x w;
+  Ends = s.Ends;
+  Comes = s.Comes;
+  Fits = s.Fits;
+  over = λ x e w o h. s.over x e w o h.1;
+  turned = λ x m w e h. (omega (arith, e, h.0), s.turned x m w e h.1);
+  stored = λ x l v w c h. (h.0, s.stored x l v w c h.1);
+  replied = λ x number asked words system w e h. (h.0, s.replied x number asked words system w e h.1);
+  called = λ x number parent cells w c f h.
+      let y = s.called x number parent cells w c f h.1 in
+      (y.0, (h.0, y.1), λ v k. (k.0, y.2 v k.1));
+  of_slot = λ x levels variable w h. s.of_slot x levels variable w h.1;
+  of_part = s.of_part;
+  by_value = s.by_value;
+  by_location = s.by_location;
+  to_location = s.to_location;
+  by_procedure = λ x c w h. s.by_procedure x c w h.1;
+}
 
-  pub whole_arguments_keep : (x : s.Level) (es : Arguments) (w : World) → s.Holds x w → Keeps (At x (Every (s.Fits x))) (whole_arguments unit p size es w)
-  whole_arguments_keep x es w h = arguments_keeps (levels_of unit p size w.turns) (levels_keeps w.turns) x es w h
+widen : {unit : ProgramUnit} {p : Name} {size : ℕ} {A : Type 0} (s : Lasting unit p size) (n : ℕ) (x : s.Level) (V : A → Type 0) (r : Evaluation A) → Keeps (bounded s n) (At (bounded s n) x V) r → Keeps s (At s x V) r
+widen s n x V (gives a w) k = record { is = (k.is.0, k.is.1.1) }
+widen s n x V (ends e system turns) k = record { is = k.is }
 
-  pub whole_assignment_keeps : (x : s.Level) (v : Place) (e : Expression) (w : World) → s.Holds x w → Keeps (At x Any) (whole_assignment unit p size v e w)
-  whole_assignment_keeps x v e w h = assigned_keeps (levels_of unit p size w.turns) (levels_keeps w.turns) x v e w h
+-- a level is reached with fewer turns left than there are levels from it on, so the last one never is
+levels_keep : {unit : ProgramUnit} {p : Name} {size : ℕ} (n : ℕ) (s : Lasting unit p size) (x : s.Level) (as' : Acts) (w : World) → w.turns < n → s.Holds x w → Keeps s (At s x Any) (levels_of unit p size n as' w)
+levels_keep zero s x as' w few h = absurd (omega (arith, few))
+levels_keep {unit} {p} {size} (suc n) s x as' w few h =
+    widen s n x Any (acts unit p size (levels_of unit p size n) as' w)
+    (acts_keeps (bounded s n) n (λ y v g. g.0) (levels_of unit p size n) (λ y more v less g. levels_keep n (bounded s n) y more v less g) x as' w (omega (arith, few), h))
 
-  pub whole_condition_keeps : (x : s.Level) (e : Expression) (w : World) → s.Holds x w → Keeps (At x Any) (whole_condition unit p size e w)
+-- ---- evaluations to the end
+
+module _ {unit : ProgramUnit} {p : Name} {size : ℕ} (s : Lasting unit p size) where
+  abbrev whole_of : (w : World) → Lasting unit p size
+  whole_of w = bounded s w.turns
+
+  deepest : (w : World) (x : s.Level) (as' : Acts) (v : World) → v.turns < w.turns → (whole_of w).Holds x v → Keeps (whole_of w) (At (whole_of w) x Any) (levels_of unit p size w.turns as' v)
+  deepest w x as' v less g = levels_keep w.turns (whole_of w) x as' v less g
+
+  pub whole_arguments_keep : (x : s.Level) (es : Arguments) (w : World) → s.Holds x w → Keeps s (At s x (Every (s.Fits x))) (whole_arguments unit p size es w)
+  whole_arguments_keep x es w h =
+      widen s w.turns x (Every (s.Fits x)) _ (arguments_keeps (whole_of w) w.turns (λ y v g. g.0) (levels_of unit p size w.turns) (deepest w) x es w (omega arith, h))
+
+  pub whole_assignment_keeps : (x : s.Level) (v : Place) (e : Expression) (w : World) → s.Holds x w → Keeps s (At s x Any) (whole_assignment unit p size v e w)
+  whole_assignment_keeps x v e w h =
+      widen s w.turns x Any _ (assigned_keeps (whole_of w) w.turns (λ y v g. g.0) (levels_of unit p size w.turns) (deepest w) x v e w (omega arith, h))
+
+  pub whole_condition_keeps : (x : s.Level) (e : Expression) (w : World) → s.Holds x w → Keeps s (At s x Any) (whole_condition unit p size e w)
   whole_condition_keeps x e w h =
-      bind x Any _ _ _ (expression_keeps (levels_of unit p size w.turns) (levels_keeps w.turns) x e w h) (λ v w _ h. give _ _ w (tt, h))
+      bind s x Any _ _ _ (widen s w.turns x Any _ (expression_keeps (whole_of w) w.turns (λ y v g. g.0) (levels_of unit p size w.turns) (deepest w) x e w (omega arith, h))) (λ v w _ h. give s _ _ w (tt, h))
 
-  pub whole_first_keeps : (x : s.Level) (cs : Clauses) (w : World) → s.Holds x w → Keeps (At x Any) (whole_first unit p size cs w)
-  whole_first_keeps x cs w h = first_keeps (levels_of unit p size w.turns) (levels_keeps w.turns) x cs w h
+  pub whole_first_keeps : (x : s.Level) (cs : Clauses) (w : World) → s.Holds x w → Keeps s (At s x Any) (whole_first unit p size cs w)
+  whole_first_keeps x cs w h =
+      widen s w.turns x Any _ (first_keeps (whole_of w) w.turns (λ y v g. g.0) (levels_of unit p size w.turns) (deepest w) x cs w (omega arith, h))

@@ -21,3 +21,6 @@ pub mod References
 pub mod Living
 pub mod Due
 pub mod Dangling
+pub mod Spent
+pub mod Branching
+pub mod Someone

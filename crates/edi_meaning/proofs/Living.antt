@@ -7,7 +7,7 @@ use Rattle.edi_calls.proofs.Tables.{same-or-other, same-symmetric}
 use Rattle.edi_unit.specs.Tree.{ProgramUnit}
 use Rattle.edi_unit.specs.Values.{Value}
 use Rattle.edi_meaning.specs.Store.{Spot, Location, system_procedure, block_procedure, Cell, procedure, Instance, Store, Shape, instances, frames, shape, now, put, grown, shrunk, Owns, IsLive, Older, within, above}
-use Rattle.edi_meaning.specs.Run.{World}
+use Rattle.edi_meaning.specs.Evaluation.{World}
 use Rattle.edi_meaning.specs.Whole.{instance_of}
 use Rattle.edi_meaning.specs.Step.{Work, Standing, local_step}
 use Rattle.edi_meaning.specs.Laws.{Means, CellMeans}
@@ -217,4 +217,4 @@ module _ (unit : ProgramUnit) (p : Name) (size : ℕ) where
   }
 
   pub local_refers : (standing : Standing) (work : List Work) (w : World) → Setting p (shape w.store) → Refers (shape w.store) w.store → Keeps living (λ a v. Refers (shape v.store) v.store) (local_step unit p size standing work w)
-  local_refers standing work w c h = local_keeps living (shape w.store) (λ v. Refers (shape v.store) v.store) (living_moves (shape w.store)) standing work w (c, h)
+  local_refers standing work w c h = local_keeps living (shape w.store) (λ v. Refers (shape v.store) v.store) (living_moves (shape w.store)) standing work w (λ idle v g. tt) (c, h)

@@ -13,7 +13,7 @@ use Rattle.edi_unit.specs.Types as types
 use Rattle.edi_unit.specs.Values.{Value, zero_value}
 use Rattle.edi_unit.specs.Tree.{ProgramUnit}
 use Rattle.edi_meaning.specs.Store.{Spot, Location, system_procedure, block_procedure, Cell, value, location, procedure, Instance, Store, instances, frames, shape, no_frame, frame_at, reached, now, cells_in, with_cell_in, no_cell, cell, located, slot, put, procedure_in, ancestor, Owns}
-use Rattle.edi_meaning.specs.Run.{World}
+use Rattle.edi_meaning.specs.Evaluation.{World}
 use Rattle.edi_meaning.specs.Whole.{result_cells, meant, instance_of}
 use Rattle.edi_meaning.proofs.Lasting.{Every}
 use Rattle.edi_meaning.proofs.Names.{parent-child}

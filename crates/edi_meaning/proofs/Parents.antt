@@ -36,7 +36,7 @@ module _ {A : Type 0} where
   unfolding is_found
   has-found t r a e = has-names t r ∙ ap is_found e
 
-  found_of : (t : Table A) (r : Name) → has (names t) r ≡ true → (a : A) × (find t r ≡ Some a)
+  pub found_of : (t : Table A) (r : Name) → has (names t) r ≡ true → (a : A) × (find t r ≡ Some a)
   found_of t r h = go (find t r) refl
     where
       go : (x : Option A) → find t r ≡ x → (a : A) × (find t r ≡ Some a)

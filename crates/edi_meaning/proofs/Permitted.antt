@@ -2,7 +2,7 @@
 use Rattle.std.proofs.Common.{◌≡◌, ℕ, zero, suc, ◌+◌, ◌-◌, ◌<◌, ◌≤◌, ◌⊎◌, inl, inr, Bool, true, false, ◌||◌, if◌then◌else◌, List, [], ◌∷◌, ◌++◌, length, Option, Some, None, ◌&&◌, refl, sym, subst, ap, ◌∙◌, arith}
 use Rattle.std.specs.Prelude.{⊤}
 use Rattle.std.proofs.lemmas.List.{append-nil}
-use Rattle.edi_calls.specs.State.{State}
+use Rattle.edi_calls.specs.State.{State, Traced}
 use Rattle.edi_calls.specs.Choice.{Choices}
 use Rattle.edi_calls.specs.Names.{Name, Table, same, find, with_at, without}
 use Rattle.edi_calls.specs.Outcome as outcome
@@ -11,7 +11,7 @@ use Rattle.edi_calls.specs.Ready.{child, parent_of, has, children, Next, stays, 
 use Rattle.edi_calls.proofs.Tables.{same-refl, same-equal, same-or-other, find-with_at-same, find-with_at-other, find-without-same, find-without-other}
 use Rattle.edi_unit.specs.Tree.{ProgramUnit}
 use Rattle.edi_meaning.specs.Store.{shape, now}
-use Rattle.edi_meaning.specs.Run.{World, Run, gives, ends}
+use Rattle.edi_meaning.specs.Evaluation.{World, Evaluation, gives, ends}
 use Rattle.edi_meaning.specs.Step.{Work, ready, at_when, waiting, Asks, Process, Processes, Stepped, went, ended, back, with_children, fork_taken, awaits, freed, local_step, step, start, is_running, is_running_process, may_step, Led, over, nowhere, onward, permitted}
 use Rattle.edi_meaning.specs.Select.{Selected, unfinished, finished, stepped_first, marked, is_standstill, go_on, after_next, after_step, select, select_from_start}
 use Rattle.edi_meaning.specs.Laws.{LeadsTo, SelectIsPermitted}
@@ -23,10 +23,10 @@ use Rattle.edi_meaning.proofs.Sound.{or_true, not_true, true_right, right_false,
 use Rattle.edi_meaning.proofs.Standstill.{Idle, Marks, step_marks, idle_same, AllIdle, nothing_happens, marked_one}
 
 -- p is ready or at its `when`
-abbrev May : Table Process → Name → Type 0
+abbrev pub May : Table Process → Name → Type 0
 May live p = is_running_process (find live p) ≡ true
 
-abbrev StepSound : Name → List Name → Stepped → Type 0
+abbrev pub StepSound : Name → List Name → Stepped → Type 0
 StepSound p others (ended e system turns) = ⊤
 StepSound p others (went s stays quiet) = Fresh s.live × Each (May s.live) (p ∷ others)
 StepSound p others (went s (joins ps) quiet) = Fresh s.live × Each (May s.live) (others ++ ps)
@@ -229,13 +229,13 @@ module _ (unit : ProgramUnit) (s : Processes) (p : Name) (q : Process) (others :
     of_awaited = λ w y n e g h. awaited_sound w (parent_of p) y n e g;
   }
 
-  all_gives : (r : Run Asks) → Gives (λ a w. ⊤) (λ ending system turns. ⊤) r
+  all_gives : (r : Evaluation Asks) → Gives (λ a w. ⊤) (λ ending system turns. ⊤) r
   all_gives (gives a w) = tt
   all_gives (ends ending system turns) = tt
 
-step_sound : (unit : ProgramUnit) (s : Processes) (p : Name) (q : Process) (others : List Name) → find s.live p ≡ Some q → Fresh s.live → Each (May s.live) (p ∷ others) → StepSound p others (step unit s p)
+pub step_sound : (unit : ProgramUnit) (s : Processes) (p : Name) (q : Process) (others : List Name) → find s.live p ≡ Some q → Fresh s.live → Each (May s.live) (p ∷ others) → StepSound p others (step unit s p)
 step_sound unit s p q others found fresh each =
-    let r : Run Asks = local_step unit p q.size q.standing q.work s.world in
+    let r : Evaluation Asks = local_step unit p q.size q.standing q.work s.world in
     of_process unit s p q (StepSound p others) found
     (kernel_handles unit s p q _ _ (StepSound p others) (sound unit s p q others found fresh each) r (all_gives unit s p q others found fresh each r))
 
@@ -267,7 +267,7 @@ module _ (unit : ProgramUnit) where
 -- ---- along a selection
 
 -- how a step that ends the program ends it
-own_leads : (unit : ProgramUnit) (ending : Ending) (end : State) (turns : ℕ) → IsOwn ending → LeadsTo unit (over ending end turns) ending end turns
+own_leads : (unit : ProgramUnit) (ending : Ending) (end : Traced) (turns : ℕ) → IsOwn ending → LeadsTo unit (over ending end turns) ending end turns
 own_leads unit outcome.done end turns h = refl
 own_leads unit (outcome.halted line) end turns h = refl
 own_leads unit (outcome.failed c line) end turns h = refl
@@ -341,11 +341,11 @@ module _ (unit : ProgramUnit) (choices : Choices) where
 
 -- ---- the start
 
-start_may : (unit : ProgramUnit) (system : State) (bound : ℕ) (x : Name) → has ([] ∷ []) x ≡ true → May (start unit system bound).live x
+pub start_may : (unit : ProgramUnit) (system : State) (bound : ℕ) (x : Name) → has ([] ∷ []) x ≡ true → May (start unit system bound).live x
 start_may unit system bound [] h = refl
 start_may unit system bound (y ∷ ys) h = absurd (cc)
 
-start_all : (unit : ProgramUnit) (system : State) (bound : ℕ) (x : Name) → May (start unit system bound).live x → has ([] ∷ []) x ≡ true
+pub start_all : (unit : ProgramUnit) (system : State) (bound : ℕ) (x : Name) → May (start unit system bound).live x → has ([] ∷ []) x ≡ true
 start_all unit system bound [] h = refl
 start_all unit system bound (y ∷ ys) h = absurd (cc)
 

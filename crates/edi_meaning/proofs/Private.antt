@@ -9,7 +9,7 @@ use Rattle.edi_calls.proofs.Tables.{same-or-other, find-with_at-same, find-with_
 use Rattle.edi_unit.specs.Tree.{ProgramUnit}
 use Rattle.edi_unit.specs.Values.{Value}
 use Rattle.edi_meaning.specs.Store.{Spot, Location, Cell, system_procedure, procedure, Instance, Store, instances, frames, shape, now, put, Owns}
-use Rattle.edi_meaning.specs.Run.{World, Run, gives, ends}
+use Rattle.edi_meaning.specs.Evaluation.{World, Evaluation, gives, ends}
 use Rattle.edi_meaning.specs.Whole.{instance_of}
 use Rattle.edi_meaning.specs.Step.{Work, Standing, ready, at_when, waiting, Asks, Process, Processes, Stepped, went, ended, back, with_child, with_children, fork_taken, awaits, freed, local_step, step_of, step, start}
 use Rattle.edi_meaning.specs.Laws.{IsMade, IsPrivate, StepIsPrivate, CellsArePrivate}
@@ -97,7 +97,7 @@ module _ (unit : ProgramUnit) (p : Name) (size : ℕ) (before : Store) where
 pub local_leaves : (unit : ProgramUnit) (p : Name) (size : ℕ) (standing : Standing) (work : List Work) (w : World) → Owned w.store →
     Keeps (privacy unit p size w.store) (λ a v. Leaves p w.store v.store) (local_step unit p size standing work w)
 local_leaves unit p size standing work w o =
-    local_keeps (privacy unit p size w.store) tt (λ v. Leaves p w.store v.store) (private_moves unit p size w.store) standing work w (leaves_all p w.store o)
+    local_keeps (privacy unit p size w.store) tt (λ v. Leaves p w.store v.store) (private_moves unit p size w.store) standing work w (λ idle v h. tt) (leaves_all p w.store o)
 
 -- ---- all processes
 
@@ -265,7 +265,7 @@ module _ (unit : ProgramUnit) (s : Processes) (p : Name) (q : Process) (found : 
     of_awaited = λ w y n e g h. awaited_moves w (parent_of p) y n e h;
   }
 
-  all_left : (r : Run Asks) → Keeps (privacy unit p q.size s.world.store) (λ a w. Leaves p s.world.store w.store) r → Keeps (framing unit p q.size) (λ a w. Steps p s.world.store w.store) r →
+  all_left : (r : Evaluation Asks) → Keeps (privacy unit p q.size s.world.store) (λ a w. Leaves p s.world.store w.store) r → Keeps (framing unit p q.size) (λ a w. Steps p s.world.store w.store) r →
       Gives (λ a w. Left w.store) (λ ending system turns. ⊤) r
   all_left (gives a w) h k = (h.is, k.is)
   all_left (ends e system turns) h k = tt
@@ -276,7 +276,7 @@ step_moves unit s p proper = go (find s.live p) refl
     go : (x : Option Process) → find s.live p ≡ x → Moves s p (step unit s p)
     go None e = subst (λ x. Moves s p (step_of unit s p x)) (sym e) tt
     go (Some q) e =
-        let r : Run Asks = local_step unit p q.size q.standing q.work s.world in
+        let r : Evaluation Asks = local_step unit p q.size q.standing q.work s.world in
         of_process unit s p q (Moves s p) e
         (kernel_handles unit s p q _ _ (Moves s p) (moving unit s p q e proper) r
         (all_left unit s p q e proper r (local_leaves unit p q.size q.standing q.work s.world proper.owned) (local_steps unit p q.size q.standing q.work s.world)))

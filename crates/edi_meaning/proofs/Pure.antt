@@ -8,7 +8,7 @@ use Rattle.edi_unit.specs.Values.{Value, values, compound, members, ordinal, ord
 use Rattle.edi_unit.specs.Tree as tree
 use Rattle.edi_unit.specs.Tree.{Expression, Expressions, Link, Links, Place, Part, Parts, Acts, Clause, Clauses, ProgramUnit}
 use Rattle.edi_meaning.specs.Store.{Store, Location, get}
-use Rattle.edi_meaning.specs.Run.{World, Run, gives, ends, ◌>>=◌, fails}
+use Rattle.edi_meaning.specs.Evaluation.{World, Evaluation, gives, ends, ◌>>=◌, fails}
 use Rattle.edi_meaning.specs.Whole.{in_range, Designated, part_of, element_of, named, expression, expressions, members_of, linked, operated, designated, parts, part, acts, first}
 use Rattle.edi_meaning.specs.Step.{calls, any_calls, links_call, link_calls, place_calls, parts_call, part_calls, is_quiet}
 
@@ -17,22 +17,22 @@ pub data Result (A : Type 0) : Type 0 where
   gave : A → Result A
   failed : Cause → (line : ℕ) → Result A
 
-abbrev pub as_run : {A : Type 0} → Result A → World → Run A
+abbrev pub as_run : {A : Type 0} → Result A → World → Evaluation A
 as_run (gave a) w = gives a w
 as_run (failed c line) w = fails c line w
 
 -- an evaluation that changes nothing, whose result depends on the store alone
 abbrev Deeper : Type 0
-Deeper = Acts → World → Run (Unit {0})
+Deeper = Acts → World → Evaluation (Unit {0})
 
-pub record Pure {A : Type 0} (store : Store) (f : Deeper → World → Run A) : Type 0 where
+pub record Pure {A : Type 0} (store : Store) (f : Deeper → World → Evaluation A) : Type 0 where
   pub result : Result A
   pub is : (deeper : Deeper) (w : World) → w.store ≡ store → f deeper w ≡ as_run result w
 
 pure : {A : Type 0} (store : Store) (a : A) → Pure store (λ deeper w. gives a w)
 pure store a = record { result = gave a; is = λ deeper w e. refl }
 
-then_run : {A B : Type 0} (store : Store) (f : Deeper → World → Run A) (g : A → Deeper → World → Run B) → Pure store f → ((a : A) → Pure store (g a)) → Pure store (λ deeper w. f deeper w >>= λ a w. g a deeper w)
+then_run : {A B : Type 0} (store : Store) (f : Deeper → World → Evaluation A) (g : A → Deeper → World → Evaluation B) → Pure store f → ((a : A) → Pure store (g a)) → Pure store (λ deeper w. f deeper w >>= λ a w. g a deeper w)
 then_run {A} {B} store f g p q = go p.result p.is
   where
     go : (r : Result A) → ((deeper : Deeper) (w : World) → w.store ≡ store → f deeper w ≡ as_run r w) → Pure store (λ deeper w. f deeper w >>= λ a w. g a deeper w)
@@ -61,7 +61,7 @@ no_right true b e = absurd (cc)
 no_right false b e = e
 
 module _ (unit : ProgramUnit) (p : Name) (size : ℕ) (store : Store) where
-  if_pure : {A : Type 0} (b : Bool) (f g : Deeper → World → Run A) → Pure store f → Pure store g → Pure store (λ deeper w. if b then f deeper w else g deeper w)
+  if_pure : {A : Type 0} (b : Bool) (f g : Deeper → World → Evaluation A) → Pure store f → Pure store g → Pure store (λ deeper w. if b then f deeper w else g deeper w)
   if_pure true f g p q = record { result = p.result; is = p.is }
   if_pure false f g p q = record { result = q.result; is = q.is }
 
@@ -79,7 +79,7 @@ module _ (unit : ProgramUnit) (p : Name) (size : ℕ) (store : Store) where
     expression_pure (tree.constant of n) h = pure store (ordinal n)
     expression_pure (tree.load v) h = load_pure v (place_pure v h)
     expression_pure (tree.not_of e) h = then_run store (λ deeper w. expression unit p size deeper e w) (λ v deeper w. gives (negation v) w) (expression_pure e h) (λ v. pure store (negation v))
-    expression_pure (tree.minus e line) h = then_run store (λ deeper w. expression unit p size deeper e w) (λ v deeper w. in_range line (sign v) w) (expression_pure e h) (λ v. range_pure store line (sign v))
+    expression_pure (tree.sign_of e line) h = then_run store (λ deeper w. expression unit p size deeper e w) (λ v deeper w. in_range line (sign v) w) (expression_pure e h) (λ v. range_pure store line (sign v))
     expression_pure (tree.chain e ls) h =
         then_run store (λ deeper w. expression unit p size deeper e w) (λ v deeper w. linked unit p size deeper v ls w) (expression_pure e (no_left (calls e) (links_call ls) h)) (λ v. linked_pure v ls (no_right (calls e) (links_call ls) h))
     expression_pure (tree.make of es line) h =
@@ -88,7 +88,7 @@ module _ (unit : ProgramUnit) (p : Name) (size : ℕ) (store : Store) where
         (then_run store (λ deeper w. expressions unit p size deeper es w) (λ vs deeper w. gives (compound (values vs)) w) (expressions_pure es h) (λ vs. pure store (compound (values vs))))
     expression_pure (tree.convert of e line) h =
         then_run store (λ deeper w. expression unit p size deeper e w) (λ v deeper w. in_range line (converted (shape_at unit.types of) v) w) (expression_pure e h) (λ v. range_pure store line (converted (shape_at unit.types of) v))
-    expression_pure (tree.invoke c es line) h = absurd (cc)
+    expression_pure (tree.apply_of c es line) h = absurd (cc)
 
     expressions_pure : (es : Expressions) → any_calls es ≡ false → Pure store (λ deeper w. expressions unit p size deeper es w)
     expressions_pure tree.no_expression h = pure store []
@@ -128,18 +128,18 @@ module _ (unit : ProgramUnit) (p : Name) (size : ℕ) (store : Store) where
   -- ---- conditions without calls, none of which is true
 
   -- what comes behind a condition
-  abbrev behind : Acts → Clauses → Deeper → Run Value → Run Bool
+  abbrev behind : Acts → Clauses → Deeper → Evaluation Value → Evaluation Bool
   behind s cs deeper r =
       (r >>= λ v w. if is_true v then (acts unit p size deeper s w >>= λ _ w. gives true w) else gives false w)
       >>= λ ran w. if ran then gives true w else first unit p size deeper cs w
 
   -- the same, where the condition has this truth value
-  abbrev chosen_by : Acts → Clauses → Deeper → Bool → World → Run Bool
+  abbrev chosen_by : Acts → Clauses → Deeper → Bool → World → Evaluation Bool
   chosen_by s cs deeper b w =
       (if b then (acts unit p size deeper s w >>= λ _ w. gives true w) else gives false w)
       >>= λ ran w. if ran then gives true w else first unit p size deeper cs w
 
-  not_both : (cs : Clauses) (deeper : Deeper) (r : Run (Unit {0})) (v : World) →
+  not_both : (cs : Clauses) (deeper : Deeper) (r : Evaluation (Unit {0})) (v : World) →
       ((r >>= λ _ w. gives true w) >>= λ ran w. if ran then gives true w else first unit p size deeper cs w) ≡ gives false v → ⊥
   not_both cs deeper (gives a w) v e = absurd (cc)
   not_both cs deeper (ends x system turns) v e = absurd (cc)

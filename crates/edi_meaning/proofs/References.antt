@@ -10,7 +10,7 @@ use Rattle.edi_unit.specs.declared.expressions.Callee.TheVariants as callee
 use Rattle.edi_unit.specs.Values.{Value}
 use Rattle.edi_unit.specs.Tree.{ProgramUnit}
 use Rattle.edi_meaning.specs.Store.{Spot, system_procedure, block_procedure, Cell, value, location, procedure, Instance, Store, Shape, instances, frames, shape, no_frame, frame_at, reached, now, cells_in, with_cell_in, no_cell, cell, located, slot, procedure_in, ancestor, Owns, IsLive, Older, within, above}
-use Rattle.edi_meaning.specs.Run.{World}
+use Rattle.edi_meaning.specs.Evaluation.{World}
 use Rattle.edi_meaning.specs.Whole.{meant}
 use Rattle.edi_meaning.specs.Laws.{Means, CellMeans, NothingDangles}
 use Rattle.edi_meaning.proofs.Lasting.{Every}

@@ -4,7 +4,7 @@ use Rattle.std.proofs.Math.ListN.{get_or-append}
 use Rattle.std.proofs.Math.Seq.{get_or-append_seam}
 use Rattle.std.proofs.lemmas.Bool.{cases_lt}
 use Rattle.std.specs.Prelude.{⊤, ◌%◌, slice_index}
-use Rattle.edi_calls.specs.State.{State}
+use Rattle.edi_calls.specs.State.{State, Traced}
 use Rattle.edi_calls.specs.Choice.{Choices, listed, choice, first_choices}
 use Rattle.edi_calls.specs.Names.{Name, find}
 use Rattle.edi_calls.specs.Outcome as outcome
@@ -22,7 +22,7 @@ More = Processes → List Name → Name → List Name → ℕ → Selected
 
 -- the selection ends so
 abbrev IsFinished : Selected → Type 0
-IsFinished r = (ending : Ending) × (end : State) × (turns : ℕ) × (drawn : ℕ) × (order : List Name) × (r ≡ finished ending end turns drawn order)
+IsFinished r = (ending : Ending) × (end : Traced) × (turns : ℕ) × (drawn : ℕ) × (order : List Name) × (r ≡ finished ending end turns drawn order)
 
 first_finished : (p : Name) (r : Selected) → IsFinished r → IsFinished (stepped_first p r)
 first_finished p r h = (h.0, h.1, h.2, h.3, p ∷ h.4, ap (stepped_first p) h.5)
@@ -103,19 +103,19 @@ module _ (unit : ProgramUnit) (choices : Choices) where
 pub every_selection_ends : EverySelectionEnds
 every_selection_ends unit system bound choices =
     let e : Finishes unit choices (start unit system bound) [] [] [] 0 = by_turns unit choices (suc bound) (start unit system bound) [] [] [] 0 (omega arith) in
-    (outcome_of e.1.1 e.1.0 (bound - e.1.2) e.1.3, (e.1.0, e.1.1, e.1.2, e.1.3, e.1.4, (e.0, e.1.5), refl))
+    (outcome_of e.1.1.now e.1.0 (bound - e.1.2) e.1.3, (e.1.0, e.1.1, e.1.2, e.1.3, e.1.4, (e.0, e.1.5), refl))
 
 -- ---- more steps, and other choices behind those that were drawn, have the same end
 
-pub stepped_before : (p : Name) (r : Selected) (ending : Ending) (end : State) (turns d : ℕ) (order : List Name) →
+pub stepped_before : (p : Name) (r : Selected) (ending : Ending) (end : Traced) (turns d : ℕ) (order : List Name) →
     stepped_first p r ≡ finished ending end turns d order → (rest : List Name) × (r ≡ finished ending end turns d rest) × (p ∷ rest ≡ order)
 stepped_before p unfinished ending end turns d order h = absurd (cc)
 stepped_before p (finished x y z v rest) ending end turns d order h = (rest, (cc), (cc))
 
-same_drawn : (x ending : Ending) (y end : State) (z turns v d : ℕ) (o order : List Name) → finished x y z v o ≡ finished ending end turns d order → v ≡ d
+same_drawn : (x ending : Ending) (y end : Traced) (z turns v d : ℕ) (o order : List Name) → finished x y z v o ≡ finished ending end turns d order → v ≡ d
 same_drawn x ending y end z turns v d o order h = cc
 
-module _ (unit : ProgramUnit) (ending : Ending) (end : State) (turns d : ℕ) where
+module _ (unit : ProgramUnit) (ending : Ending) (end : Traced) (turns d : ℕ) where
   abbrev End : List Name → Selected
   End order = finished ending end turns d order
 
@@ -200,18 +200,18 @@ module _ (unit : ProgramUnit) (ending : Ending) (end : State) (turns d : ℕ) wh
 -- the end of a selection
 abbrev outcome_at : ℕ → Selected → Option Outcome
 outcome_at bound unfinished = None
-outcome_at bound (finished ending system turns drawn order) = Some (outcome_of system ending (bound - turns) drawn)
+outcome_at bound (finished ending system turns drawn order) = Some (outcome_of system.now ending (bound - turns) drawn)
 
 some-same : {A : Type 0} {a b : A} → Some a ≡ Some b → a ≡ b
 some-same e = cc
 
 module _ (unit : ProgramUnit) (system : State) (bound : ℕ) (choices : Choices) where
-  same_end : (n k : ℕ) (x y : Ending) (s s' : State) (t t' d d' : ℕ) (o o' : List Name) → n ≤ k →
+  same_end : (n k : ℕ) (x y : Ending) (s s' : Traced) (t t' d d' : ℕ) (o o' : List Name) → n ≤ k →
       select_from_start unit system bound choices n ≡ finished x s t d o → select_from_start unit system bound choices k ≡ finished y s' t' d' o' → finished x s t d o ≡ finished y s' t' d' o'
   same_end n k x y s s' t t' d d' o o' le e e' =
       sym (select_same unit x s t d choices choices (λ i _ _. refl) n k le o (start unit system bound) [] [] [] 0 e) ∙ e'
 
-  same_outcome : (x y : Ending) (s s' : State) (t t' d d' : ℕ) (o o' : List Name) → finished x s t d o ≡ finished y s' t' d' o' → outcome_of s x (bound - t) d ≡ outcome_of s' y (bound - t') d'
+  same_outcome : (x y : Ending) (s s' : Traced) (t t' d d' : ℕ) (o o' : List Name) → finished x s t d o ≡ finished y s' t' d' o' → outcome_of s.now x (bound - t) d ≡ outcome_of s'.now y (bound - t') d'
   same_outcome x y s s' t t' d d' o o' e = some-same (ap (outcome_at bound) e)
 
 pub selections_are_determined : SelectionsAreDetermined

@@ -4,7 +4,7 @@ use Rattle.std.specs.Prelude.{◌%◌}
 use Rattle.std.proofs.lemmas.Bool.{cases_lt}
 use Rattle.edi_calls.specs.Choice.{Choices, choice}
 use Rattle.edi_calls.specs.Names.{Name, same}
-use Rattle.edi_calls.specs.Ready.{child, has, children, Taking, nobody, taking, name_at, without_place, take_next}
+use Rattle.edi_calls.specs.Ready.{child, has, children, Taking, nobody, taking, name_at, without_index, take_next}
 use Rattle.edi_calls.proofs.Tables.{same-refl, same-equal, same-or-other}
 use Rattle.edi_meaning.proofs.Names.{same_ends, Once}
 
@@ -81,29 +81,29 @@ has-at [] i h = absurd (omega arith)
 has-at (x ∷ xs) zero h = ap (λ b. b || has xs x) (same-refl x)
 has-at (x ∷ xs) (suc i) h = ap (λ b. same (name_at xs i) x || b) (has-at xs i (omega arith)) ∙ true_right (same (name_at xs i) x)
 
-pub has-without_place : (l : List Name) (i : ℕ) (p : Name) → has (without_place l i) p ≡ true → has l p ≡ true
+pub has-without_place : (l : List Name) (i : ℕ) (p : Name) → has (without_index l i) p ≡ true → has l p ≡ true
 has-without_place [] i p h = h
 has-without_place (x ∷ xs) zero p h = ap (λ b. same p x || b) h ∙ true_right (same p x)
-has-without_place (x ∷ xs) (suc i) p h = elim (or_true (same p x) (has (without_place xs i) p) h) [
+has-without_place (x ∷ xs) (suc i) p h = elim (or_true (same p x) (has (without_index xs i) p) h) [
   | inl e ↦ ap (λ b. b || has xs p) e
   | inr e ↦ ap (λ b. same p x || b) (has-without_place xs i p e) ∙ true_right (same p x)
 ]
 
-pub once-without_place : (l : List Name) (i : ℕ) → Once l → Once (without_place l i)
+pub once-without_place : (l : List Name) (i : ℕ) → Once l → Once (without_index l i)
 once-without_place [] i o = tt
 once-without_place (x ∷ xs) zero o = o.1
 once-without_place (x ∷ xs) (suc i) o =
-    (not_true (has (without_place xs i) x) (λ h. let a : has xs x ≡ true = has-without_place xs i x h in let b : has xs x ≡ false = o.0 in let c : true ≡ false = sym a ∙ b in absurd (cc)), once-without_place xs i o.1)
+    (not_true (has (without_index xs i) x) (λ h. let a : has xs x ≡ true = has-without_place xs i x h in let b : has xs x ≡ false = o.0 in let c : true ≡ false = sym a ∙ b in absurd (cc)), once-without_place xs i o.1)
 
 -- the one that is taken out is not among the others
-pub not-without_place : (l : List Name) (i : ℕ) → i < length l → Once l → has (without_place l i) (name_at l i) ≡ false
+pub not-without_place : (l : List Name) (i : ℕ) → i < length l → Once l → has (without_index l i) (name_at l i) ≡ false
 not-without_place [] i h o = absurd (omega arith)
 not-without_place (x ∷ xs) zero h o = o.0
 not-without_place (x ∷ xs) (suc i) h o = go (same-or-other (name_at xs i) x) (not-without_place xs i (omega arith) o.1) (has-at xs i (omega arith))
   where
-    go : (name_at xs i ≡ x) ⊎ (same (name_at xs i) x ≡ false) → has (without_place xs i) (name_at xs i) ≡ false → has xs (name_at xs i) ≡ true → (same (name_at xs i) x || has (without_place xs i) (name_at xs i)) ≡ false
+    go : (name_at xs i ≡ x) ⊎ (same (name_at xs i) x ≡ false) → has (without_index xs i) (name_at xs i) ≡ false → has xs (name_at xs i) ≡ true → (same (name_at xs i) x || has (without_index xs i) (name_at xs i)) ≡ false
     go (inl e) ih there = let a : has xs x ≡ true = sym (ap (has xs) e) ∙ there in let c : true ≡ false = sym a ∙ o.0 in absurd (cc)
-    go (inr n) ih there = ap (λ b. b || has (without_place xs i) (name_at xs i)) n ∙ ih
+    go (inr n) ih there = ap (λ b. b || has (without_index xs i) (name_at xs i)) n ∙ ih
 
 -- ---- the next is taken
 
@@ -118,22 +118,22 @@ EachTaken P nobody = (p : Name) → P p → ⊥
 EachTaken P (taking p others drawn) = Each P (p ∷ others)
 
 -- who is in a list is the one at a place, or among the others
-has-split : (l : List Name) (i : ℕ) (p : Name) → has l p ≡ true → (same p (name_at l i) || has (without_place l i) p) ≡ true
+has-split : (l : List Name) (i : ℕ) (p : Name) → has l p ≡ true → (same p (name_at l i) || has (without_index l i) p) ≡ true
 has-split [] i p h = absurd (cc)
 has-split (x ∷ xs) zero p h = h
 has-split (x ∷ xs) (suc i) p h = elim (or_true (same p x) (has xs p) h) [
-  | inl e ↦ ap (λ b. same p (name_at xs i) || (b || has (without_place xs i) p)) e ∙ true_right (same p (name_at xs i))
-  | inr e ↦ go (same p (name_at xs i)) (same p x) (has (without_place xs i) p) (has-split xs i p e)
+  | inl e ↦ ap (λ b. same p (name_at xs i) || (b || has (without_index xs i) p)) e ∙ true_right (same p (name_at xs i))
+  | inr e ↦ go (same p (name_at xs i)) (same p x) (has (without_index xs i) p) (has-split xs i p e)
 ]
   where
     go : (a b c : Bool) → (a || c) ≡ true → (a || (b || c)) ≡ true
     go true b c e = refl
     go false b c e = ap (λ c. b || c) e ∙ true_right b
 
-each_at : (P : Name → Type 0) (l : List Name) (i : ℕ) → i < length l → Each P l → Each P (name_at l i ∷ without_place l i)
+each_at : (P : Name → Type 0) (l : List Name) (i : ℕ) → i < length l → Each P l → Each P (name_at l i ∷ without_index l i)
 each_at P l i h e = record {
   once = (not-without_place l i h e.once, once-without_place l i e.once);
-  holds = λ p t. elim (or_true (same p (name_at l i)) (has (without_place l i) p) t) [
+  holds = λ p t. elim (or_true (same p (name_at l i)) (has (without_index l i) p) t) [
     | inl s ↦ subst P (sym (same-equal p (name_at l i) s)) (e.holds (name_at l i) (has-at l i h))
     | inr r ↦ e.holds p (has-without_place l i p r)
   ];

@@ -10,7 +10,7 @@ use Rattle.edi_unit.specs.Need.{block_at}
 use Rattle.edi_unit.specs.Tree as tree
 use Rattle.edi_unit.specs.Tree.{Act, Acts, Clauses, ProgramUnit}
 use Rattle.edi_meaning.specs.Store.{Store, Closure, system_procedure, block_procedure, Cell, shape, room}
-use Rattle.edi_meaning.specs.Run.{World, Run, gives, ends, ◌>>=◌, turn_from, turn}
+use Rattle.edi_meaning.specs.Evaluation.{World, Evaluation, gives, ends, ◌>>=◌, turn_from, turn}
 use Rattle.edi_meaning.specs.Whole.{meant, system_call, levels_of, whole_first, whole_arguments, whole_assignment, first}
 use Rattle.edi_meaning.specs.Step.{Position, Work, doing, loop_end, procedure_end, branch_end, program_entry, program_end, Standing, ready, at_when, waiting, Asks, goes, arrives, again, forks, leaves, is_quiet, chosen, with_chosen, called, statement_step, work_step, attempt, local_step, Process, Processes, Stepped, went, ended, kernel, step, is_running_process, may_step, Led, nowhere, onward, permitted}
 use Rattle.edi_meaning.specs.Laws.{Settled}
@@ -21,21 +21,21 @@ use Rattle.edi_meaning.proofs.Sound.{or_true}
 
 -- ---- only an attempt asks for a mark
 
-abbrev IsNotAgain : Asks → World → Type 0
+abbrev pub IsNotAgain : Asks → World → Type 0
 IsNotAgain (again cs position quiet work) w = ⊥
 IsNotAgain (goes work) w = ⊤
 IsNotAgain (arrives cs position work) w = ⊤
 IsNotAgain (forks bs line work) w = ⊤
 IsNotAgain leaves w = ⊤
 
-abbrev Unmarked : Run Asks → Type 0
+abbrev pub Unmarked : Evaluation Asks → Type 0
 Unmarked r = Gives IsNotAgain (λ ending system turns. ⊤) r
 
-goes_unmarked : {A : Type 0} (r : Run A) (work : A → List Work) → Unmarked (r >>= λ a w. gives (goes (work a)) w)
+goes_unmarked : {A : Type 0} (r : Evaluation A) (work : A → List Work) → Unmarked (r >>= λ a w. gives (goes (work a)) w)
 goes_unmarked (gives a w) work = tt
 goes_unmarked (ends e system turns) work = tt
 
-turn_unmarked : (n : ℕ) (w : World) (go : World → Run Asks) → ((w : World) → Unmarked (go w)) → Unmarked (turn_from n w go)
+turn_unmarked : (n : ℕ) (w : World) (go : World → Evaluation Asks) → ((w : World) → Unmarked (go w)) → Unmarked (turn_from n w go)
 turn_unmarked zero w go h = tt
 turn_unmarked (suc n) w go h = h (record w { turns = n })
 
@@ -45,7 +45,7 @@ module _ (unit : ProgramUnit) (p : Name) (size : ℕ) where
   called_unmarked (block_procedure number parent) cells line work w =
       if_either Unmarked (nat_lt (room size (shape w.store p)) (block_at unit.blocks number).need) _ _ tt (turn_unmarked w.turns w _ (λ w. tt))
 
-  arguments_unmarked : (c : World → Closure) (line : ℕ) (work : List Work) (r : Run (List Cell)) → Unmarked (r >>= λ cells w. called unit p size (c w) cells line work w)
+  arguments_unmarked : (c : World → Closure) (line : ℕ) (work : List Work) (r : Evaluation (List Cell)) → Unmarked (r >>= λ cells w. called unit p size (c w) cells line work w)
   arguments_unmarked c line work (gives cells w) = called_unmarked (c w) cells line work w
   arguments_unmarked c line work (ends e system turns) = tt
 
@@ -54,12 +54,12 @@ module _ (unit : ProgramUnit) (p : Name) (size : ℕ) where
   statement_unmarked (tree.assign v e) position work w = goes_unmarked (whole_assignment unit p size v e w) (λ _. work)
   statement_unmarked (tree.call c es line) position work w = arguments_unmarked (meant unit p size c) line work (whole_arguments unit p size es w)
   statement_unmarked (tree.halt line) position work w = tt
-  statement_unmarked (tree.conditional cs) position work w = goes_unmarked (chosen unit p size cs 0 w) (λ c. with_chosen position c [] work)
-  statement_unmarked (tree.loop cs) position work w = goes_unmarked (chosen unit p size cs 0 w) (λ c. with_chosen position c (loop_end cs position ∷ []) work)
-  statement_unmarked (tree.await cs line) position work w = turn_unmarked w.turns w _ (λ w. tt)
+  statement_unmarked (tree.if_act cs) position work w = goes_unmarked (chosen unit p size cs 0 w) (λ c. with_chosen position c [] work)
+  statement_unmarked (tree.while_act cs) position work w = goes_unmarked (chosen unit p size cs 0 w) (λ c. with_chosen position c (loop_end cs position ∷ []) work)
+  statement_unmarked (tree.when_act cs line) position work w = turn_unmarked w.turns w _ (λ w. tt)
   statement_unmarked (tree.cobegin bs line) position work w = tt
 
-  work_unmarked : (work : List Work) (w : World) → Unmarked (work_step unit p size work w)
+  pub work_unmarked : (work : List Work) (w : World) → Unmarked (work_step unit p size work w)
   work_unmarked [] w = tt
   work_unmarked (doing a position ∷ work) w = statement_unmarked a position work w
   work_unmarked (loop_end cs position ∷ work) w = turn_unmarked w.turns w _ (λ w. tt)
@@ -78,7 +78,7 @@ pub record Idle (unit : ProgramUnit) (live : Table Process) (store : Store) (p :
   pub position : Position
   pub standing : process.standing ≡ at_when clauses position
   pub quiet : is_quiet clauses ≡ true
-  pub none : (deeper : Acts → World → Run (Unit {0})) (w : World) → w.store ≡ store → first unit p process.size deeper clauses w ≡ gives false w
+  pub none : (deeper : Acts → World → Evaluation (Unit {0})) (w : World) → w.store ≡ store → first unit p process.size deeper clauses w ≡ gives false w
 
 -- nothing but the turns has changed
 pub record SameBut (s t : Processes) : Type 0 where
@@ -111,7 +111,7 @@ module _ (unit : ProgramUnit) (s : Processes) (p : Name) (q : Process) (found : 
   failed_marks cs position st quiet e w h zero = tt
   failed_marks cs position st false e w h (suc n) = tt
   failed_marks cs position st true e w h (suc n) =
-      let none : (w ≡ s.world) × ((deeper : Acts → World → Run (Unit {0})) (v : World) → v.store ≡ s.world.store → first unit p q.size deeper cs v ≡ gives false v) =
+      let none : (w ≡ s.world) × ((deeper : Acts → World → Evaluation (Unit {0})) (v : World) → v.store ≡ s.world.store → first unit p q.size deeper cs v ≡ gives false v) =
       none_true unit p q.size s.world.store cs e (levels_of unit p q.size s.world.turns) s.world w refl h in
       let as_before : record q { work = q.work; standing = at_when cs position } ≡ q = ap (λ x. record q { standing = x }) (sym st) in (
         record {
@@ -122,7 +122,7 @@ module _ (unit : ProgramUnit) (s : Processes) (p : Name) (q : Process) (found : 
         record { process = q; found = found; clauses = cs; position = position; standing = st; quiet = e; none = none.1 },
       )
 
-  attempt_marks : (cs : Clauses) (position : Position) → q.standing ≡ at_when cs position → (r : Run Bool) → whole_first unit p q.size cs s.world ≡ r →
+  attempt_marks : (cs : Clauses) (position : Position) → q.standing ≡ at_when cs position → (r : Evaluation Bool) → whole_first unit p q.size cs s.world ≡ r →
       Marks unit s p (kernel unit s p q (r >>= λ ran w. if ran then gives (goes q.work) w else turn w (gives (again cs position (is_quiet cs) q.work))))
   attempt_marks cs position st (gives true w) h = tt
   attempt_marks cs position st (gives false w) h = failed_marks cs position st (is_quiet cs) refl w h w.turns
@@ -173,7 +173,7 @@ idle_step unit s p i =
 
     tried : whole_first unit p i.process.size i.clauses s.world ≡ gives false s.world → Idles s (kernel unit s p i.process (attempt unit p i.process.size i.clauses i.position i.process.work s.world))
     tried h =
-        let R : Run Bool → Type 0 = λ r. Idles s (kernel unit s p i.process (r >>= λ ran w. if ran then gives (goes i.process.work) w else turn w (gives (again i.clauses i.position (is_quiet i.clauses) i.process.work)))) in
+        let R : Evaluation Bool → Type 0 = λ r. Idles s (kernel unit s p i.process (r >>= λ ran w. if ran then gives (goes i.process.work) w else turn w (gives (again i.clauses i.position (is_quiet i.clauses) i.process.work)))) in
         subst R (sym h) (turned s.world.turns)
 
 -- every process that may step is idle

@@ -2,7 +2,7 @@
 use Rattle.std.proofs.Common.{ℕ, ◌≤◌, arith}
 use Rattle.edi_calls.specs.Names.{Name}
 use Rattle.edi_unit.specs.Tree.{ProgramUnit}
-use Rattle.edi_meaning.proofs.Lasting.{IsOwn, Any, Lasting}
+use Rattle.edi_meaning.proofs.Lasting.{IsOwn, own_over, Any, Lasting}
 
 -- no more turns than t are left
 abbrev pub turning : (unit : ProgramUnit) (p : Name) (size t : ℕ) → Lasting unit p size
@@ -12,7 +12,7 @@ turning unit p size t = record {
   Ends = λ e system turns. (turns ≤ t) × IsOwn e;
   Comes = λ x. Any;
   Fits = λ x. Any;
-  over = λ x e w o h. (h, o);
+  over = λ x e w o h. (h, own_over e w.turns o);
   turned = λ x n w e h. omega arith;
   stored = λ x l v w c h. h;
   replied = λ x number asked words system w e h. h;

@@ -7,7 +7,7 @@ use Rattle.edi_calls.specs.Ready.{child, parent_of}
 use Rattle.edi_calls.proofs.Tables.{same-or-other, same-symmetric, find-with_at-same, find-with_at-other}
 use Rattle.edi_unit.specs.Tree.{ProgramUnit}
 use Rattle.edi_meaning.specs.Store.{Spot, shape, now}
-use Rattle.edi_meaning.specs.Run.{World, Run, gives, ends}
+use Rattle.edi_meaning.specs.Evaluation.{World, Evaluation, gives, ends}
 use Rattle.edi_meaning.specs.Step.{Work, Standing, ready, at_when, waiting, Asks, Process, Processes, Stepped, went, ended, back, child_process, with_child, with_children, fork_taken, local_step, step_of, step, start, is_running, at, permitted}
 use Rattle.edi_meaning.specs.Laws.{is_child, children_in, IsWaiting, ParentsWait}
 use Rattle.edi_meaning.proofs.Lasting.{Gives}
@@ -114,7 +114,7 @@ module _ (unit : ProgramUnit) (s : Processes) (p : Name) (q : Process) (found : 
     of_awaited = λ w y n e g h. family_awaited s.live p q found h family y n e g;
   }
 
-any_run : (r : Run Asks) → Gives (λ a v. true ≡ true) (λ ending system turns. ⊤) r
+any_run : (r : Evaluation Asks) → Gives (λ a v. true ≡ true) (λ ending system turns. ⊤) r
 any_run (gives a v) = refl
 any_run (ends ending system turns) = tt
 

@@ -8,11 +8,11 @@ use Rattle.edi_unit.specs.Need.{block_at}
 use Rattle.edi_unit.specs.Tree as tree
 use Rattle.edi_unit.specs.Tree.{Expression, Act, Acts, Clause, Clauses, ProgramUnit}
 use Rattle.edi_meaning.specs.Store.{Spot, Closure, system_procedure, block_procedure, Cell, shape, now, room}
-use Rattle.edi_meaning.specs.Run.{World, Run, gives, ends, turn_from, turn}
+use Rattle.edi_meaning.specs.Evaluation.{World, Evaluation, gives, ends, turn_from, turn}
 use Rattle.edi_meaning.specs.Whole.{meant}
 use Rattle.edi_meaning.specs.Step.{Position, inside, Work, doing, loop_end, procedure_end, branch_end, program_entry, program_end, doing_all, Standing, ready, at_when, waiting, Asks, goes, arrives, again, forks, leaves, chosen, with_chosen, called, statement_step, work_step, attempt, local_step, Process, Processes, Stepped, went, ended, back, with_child, with_children, awaits, freed, step}
 use Rattle.edi_calls.proofs.Tables.{find-with_at-same}
-use Rattle.edi_meaning.proofs.Lasting.{IsOwn, Every, Any, Lasting, Keeps, At, give, stop, bind, if_keeps, system_keeps, whole_arguments_keep, whole_assignment_keeps, whole_condition_keeps, whole_first_keeps}
+use Rattle.edi_meaning.proofs.Lasting.{IsOwn, own_over, Every, Any, Lasting, Keeps, At, give, stop, bind, if_keeps, system_keeps, whole_arguments_keep, whole_assignment_keeps, whole_condition_keeps, whole_first_keeps}
 use Rattle.edi_meaning.proofs.Turns.{turning}
 use Rattle.edi_meaning.proofs.Kernel.{rest_of, Handles, kernel_handles, of_process}
 
@@ -24,9 +24,9 @@ abbrev mutual
   act_size (tree.assign v e) = 1
   act_size (tree.call c es line) = 1
   act_size (tree.halt line) = 1
-  act_size (tree.conditional cs) = 1 + clauses_size cs
-  act_size (tree.loop cs) = 2 + clauses_size cs
-  act_size (tree.await cs line) = 1
+  act_size (tree.if_act cs) = 1 + clauses_size cs
+  act_size (tree.while_act cs) = 2 + clauses_size cs
+  act_size (tree.when_act cs line) = 1
   act_size (tree.cobegin bs line) = 1
 
   pub acts_size : Acts → ℕ
@@ -81,15 +81,15 @@ module _ (unit : ProgramUnit) (p : Name) (size t : ℕ) where
   abbrev few : Lasting unit p size
   few = turning unit p size t
 
-  abbrev Falling : ℕ → Run Asks → Type 0
+  abbrev Falling : ℕ → Evaluation Asks → Type 0
   Falling m r = Keeps few (Less m t) r
 
   goes_falling : (m : ℕ) (work : List Work) (w : World) → w.turns ≤ t → work_size work < m → Falling m (gives (goes work) w)
   goes_falling m work w h k = give few _ _ w (inr (h, k))
 
   -- behind a turn everything is less
-  turn_falling : (m : ℕ) (n : ℕ) (w : World) (go : World → Run Asks) → w.turns ≡ n → w.turns ≤ t → ((w : World) → w.turns < t → Falling m (go w)) → Falling m (turn_from n w go)
-  turn_falling m zero w go e h k = stop few tt _ outcome.turns w tt h
+  turn_falling : (m : ℕ) (n : ℕ) (w : World) (go : World → Evaluation Asks) → w.turns ≡ n → w.turns ≤ t → ((w : World) → w.turns < t → Falling m (go w)) → Falling m (turn_from n w go)
+  turn_falling m zero w go e h k = stop few tt _ outcome.turns w e h
   turn_falling m (suc n) w go e h k = k (record w { turns = n }) (omega arith)
 
   goes_after_turn : (m : ℕ) (work : List Work) (w : World) → w.turns ≤ t → Falling m (turn w (gives (goes work)))
@@ -101,7 +101,7 @@ module _ (unit : ProgramUnit) (p : Name) (size t : ℕ) where
       bind few tt Any _ _ _ (whole_condition_keeps few tt e w h)
       (λ holds w _ h. if_keeps few _ holds _ _ (give few _ _ w (omega arith, h)) (more (chosen unit p size cs (suc n) w) (chosen_part cs (suc n) w h)))
     where
-      more : (r : Run (Option (Acts × ℕ))) → Keeps few (At few tt (IsPart cs)) r → Keeps few (At few tt (IsPart (tree.clause_then (tree.clause e as') cs))) r
+      more : (r : Evaluation (Option (Acts × ℕ))) → Keeps few (At few tt (IsPart cs)) r → Keeps few (At few tt (IsPart (tree.clause_then (tree.clause e as') cs))) r
       more (gives c w) h = give few _ c w (part_of_more e as' cs c h.is.0, h.is.1)
       more (ends x system turns) h = record { is = h.is }
 
@@ -121,15 +121,15 @@ module _ (unit : ProgramUnit) (p : Name) (size t : ℕ) where
   statement_falling (tree.call c es line) position work w h =
       bind few tt (Every Any) _ _ _ (whole_arguments_keep few tt es w h) (λ cells w f h. called_falling _ (meant unit p size c w) cells line work w f h (omega arith))
   statement_falling (tree.halt line) position work w h = stop few tt _ (outcome.halted line) w tt h
-  statement_falling (tree.conditional cs) position work w h =
+  statement_falling (tree.if_act cs) position work w h =
       bind few tt (IsPart cs) _ _ _ (chosen_part cs 0 w h) (λ c w i h. chosen_falling (1 + clauses_size cs + work_size work) cs position [] work c w i h (omega arith) (omega arith))
-  statement_falling (tree.loop cs) position work w h =
+  statement_falling (tree.while_act cs) position work w h =
       bind few tt (IsPart cs) _ _ _ (chosen_part cs 0 w h) (λ c w i h. chosen_falling (2 + clauses_size cs + work_size work) cs position (loop_end cs position ∷ []) work c w i h (omega arith) (omega arith))
-  statement_falling (tree.await cs line) position work w h = turn_falling _ w.turns w _ refl h (λ w l. give few _ _ w l)
+  statement_falling (tree.when_act cs line) position work w h = turn_falling _ w.turns w _ refl h (λ w l. give few _ _ w l)
   statement_falling (tree.cobegin bs line) position work w h = give few _ _ w h
 
   work_falling : (work : List Work) (w : World) → w.turns ≤ t → Falling (work_size work) (work_step unit p size work w)
-  work_falling [] w h = stop few tt _ outcome.turns w tt h
+  work_falling [] w h = record { is = (h, tt) }
   work_falling (doing a position ∷ work) w h = statement_falling a position work w h
   work_falling (loop_end cs position ∷ work) w h = goes_after_turn _ _ w h
   work_falling (procedure_end ∷ work) w h = turn_falling _ w.turns w _ refl h (λ w l. give few _ _ _ (inl l))
@@ -145,7 +145,7 @@ module _ (unit : ProgramUnit) (p : Name) (size t : ℕ) where
   local_falling : (standing : Standing) (work : List Work) (w : World) → w.turns ≤ t → Falling (standing_size standing + work_size work) (local_step unit p size standing work w)
   local_falling ready work w h = subst (λ n. Falling n (work_step unit p size work w)) (omega arith) (work_falling work w h)
   local_falling (at_when cs position) work w h = attempt_falling cs position work w h
-  local_falling (waiting n) work w h = stop few tt _ outcome.turns w tt h
+  local_falling (waiting n) work w h = record { is = (h, tt) }
 
 -- ---- the same of all processes
 
@@ -172,7 +172,7 @@ falling unit s p q m t = record {
   of_goes = λ work w h. go work w h;
   of_arrives = λ cs position work w h. h;
   of_again = λ cs position quiet work w h. h;
-  of_no_fork = λ bs line work w ending o h. o;
+  of_no_fork = λ bs line work w ending o h. own_over ending w.turns o;
   of_fork = λ bs line work w n share e h.
       omega (
         arith,

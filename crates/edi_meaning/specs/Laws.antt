@@ -1,6 +1,6 @@
--- What is true of every program.
-use Rattle.std.specs.Prelude.{◌≡◌, ◌⊎◌, ◌≤◌, ℕ, suc, Bool, true, false, not, ◌&&◌, if◌then◌else◌, List, [], ◌∷◌, None, Some, ⊤}
-use Rattle.edi_calls.specs.State.{State}
+-- Words of contracts. What is true of every program.
+use Rattle.std.specs.Prelude.{◌≡◌, ◌⊎◌, ◌≤◌, ℕ, suc, Bool, true, false, not, ◌&&◌, if◌then◌else◌, List, [], ◌∷◌, ◌++◌, None, Some, ⊤}
+use Rattle.edi_calls.specs.State.{State, Traced, newest}
 use Rattle.edi_calls.specs.Choice.{Choices, listed, first_choices}
 use Rattle.edi_calls.specs.Laws.{GoesOn}
 use Rattle.edi_calls.specs.Names.{Name, Table, same, find, with_at, names}
@@ -9,7 +9,7 @@ use Rattle.edi_calls.specs.Outcome.{Ending, Outcome}
 use Rattle.edi_calls.specs.Ready.{child, parent_of, stays, joins}
 use Rattle.edi_unit.specs.Tree.{Clauses, ProgramUnit}
 use Rattle.edi_meaning.specs.Store.{Spot, Cell, value, location, procedure, system_procedure, block_procedure, Store, Shape, instances, shape, frame_at, cell, Owns, IsLive, Older}
-use Rattle.edi_meaning.specs.Run.{World}
+use Rattle.edi_meaning.specs.Evaluation.{World}
 use Rattle.edi_meaning.specs.Step.{Position, ready, at_when, waiting, is_running, Process, Processes, Stepped, went, ended, is_quiet, step, start, Led, at, over, nowhere, permitted}
 use Rattle.edi_meaning.specs.Select.{Ends, Select}
 
@@ -44,7 +44,7 @@ AttemptsAreWhole =
 -- the choices that a selection drew give the same selection again, and the same order of steps
 abbrev pub RecordReplays : Type 0
 RecordReplays =
-    (unit : ProgramUnit) (system : State) (bound : ℕ) (choices : Choices) (ending : Ending) (end : State) (turns drawn : ℕ) (order : List Name) →
+    (unit : ProgramUnit) (system : State) (bound : ℕ) (choices : Choices) (ending : Ending) (end : Traced) (turns drawn : ℕ) (order : List Name) →
     Ends unit system bound choices ending end turns drawn order →
     Ends unit system bound (listed (first_choices choices drawn)) ending end turns drawn order
 
@@ -57,7 +57,7 @@ Settled s nowhere = ⊤
 
 -- where the steps of an execution lead that ended so: to the end of the program; or, at a standstill, to a state that
 -- goes on, with this system and so many turns, and in which nothing can happen any more
-abbrev pub LeadsTo : ProgramUnit → Led → Ending → State → ℕ → Type 0
+abbrev pub LeadsTo : ProgramUnit → Led → Ending → Traced → ℕ → Type 0
 LeadsTo unit led outcome.standstill end turns =
     (after : Processes) × (led ≡ at after) × (after.world.system ≡ end) × (after.world.turns ≡ turns)
     × ((names : List Name) → Settled after (permitted unit names after))
@@ -67,7 +67,7 @@ LeadsTo unit led ending end turns = led ≡ over ending end turns
 -- permitted continuation changes anything but the turns
 abbrev pub SelectIsPermitted : Type 0
 SelectIsPermitted =
-    (unit : ProgramUnit) (system : State) (bound : ℕ) (choices : Choices) (ending : Ending) (end : State) (turns drawn : ℕ) (order : List Name) →
+    (unit : ProgramUnit) (system : State) (bound : ℕ) (choices : Choices) (ending : Ending) (end : Traced) (turns drawn : ℕ) (order : List Name) →
     Ends unit system bound choices ending end turns drawn order →
     LeadsTo unit (permitted unit order (start unit system bound)) ending end turns
 
@@ -101,10 +101,14 @@ CellsArePrivate =
     (unit : ProgramUnit) (system : State) (bound : ℕ) (names : List Name) (s : Processes) (p : Name) →
     permitted unit names (start unit system bound) ≡ at s → StepIsPrivate s p (step unit s p)
 
+-- the past of a system only grows, and its last state is the present one
+abbrev pub Grows : Traced → Traced → Type 0
+Grows before after = (news : List State) × (after.past ≡ news ++ before.past) × (newest before.now news ≡ after.now)
+
 -- from a world on, turns are only taken, and the system goes on: input is only taken, and what is shown and printed only
--- follows what was before
-abbrev pub GoesFrom : World → State → (turns : ℕ) → Type 0
-GoesFrom w system turns = (turns ≤ w.turns) × GoesOn w.system system
+-- follows what was before; and so does its past
+abbrev pub GoesFrom : World → Traced → (turns : ℕ) → Type 0
+GoesFrom w system turns = (turns ≤ w.turns) × GoesOn w.system.now system.now × Grows w.system system
 
 abbrev pub LedOn : World → Led → Type 0
 LedOn w (at s) = GoesFrom w s.world.system s.world.turns

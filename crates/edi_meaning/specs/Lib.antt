@@ -1,8 +1,11 @@
 pub mod Parts
 pub mod Store
-pub mod Run
+pub mod Evaluation
 pub mod Whole
 pub mod Step
 pub mod Select
 pub mod Laws
+pub mod Attempts
+pub mod Spent
+pub mod Someone
 pub mod Rows

@@ -1,4 +1,4 @@
--- The parts of a value, by the numbers that lead to them: of a record the number of a field, of an array the number of
+-- Definition. The parts of a value, by the numbers that lead to them: of a record the number of a field, of an array the number of
 -- an element counted from 0.
 use Rattle.std.specs.Prelude.{ℕ, zero, suc, pos, List, [], ◌∷◌}
 use Rattle.edi_unit.specs.Values.{Value, ordinal, compound, members, Values, no_value, value_then}

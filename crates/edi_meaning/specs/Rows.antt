@@ -1,4 +1,4 @@
--- Small programs, run by their meaning. The text of each stands in its comment; HEAD is the line
+-- Computed rows. Small programs, run by their meaning. The text of each stands in its comment; HEAD is the line
 -- `proc main(proc display(value: char))`.
 use Rattle.std.specs.Prelude.{◌≡◌, ℕ, ℤ, pos, ◌-◌, List, [], ◌∷◌, ◌++◌, replicate, Option, Some, None, refl}
 use Rattle.edi_calls.specs.declared.kinds.Cause.TheVariants as cause
@@ -16,7 +16,7 @@ use Rattle.edi_unit.specs.declared.units.Parameter.{Parameter}
 use Rattle.edi_unit.specs.declared.units.Parameter.TheVariants as parameter
 use Rattle.edi_unit.specs.Types.{Shape, array_of, standard_types}
 use Rattle.edi_unit.specs.Values.{zero_value}
-use Rattle.edi_unit.specs.Tree.{Expression, constant, load, chain, convert, invoke, link, no_link, link_then, Place, place, index, no_part, part_then, by_value, by_variable, by_procedure, no_argument, argument_then, Act, skip, assign, call, conditional, loop, await, cobegin, Acts, no_act, act_then, clause, Clauses, no_clause, clause_then, Block, ProgramUnit}
+use Rattle.edi_unit.specs.Tree.{Expression, constant, load, chain, convert, apply_of, link, no_link, link_then, Place, place, index, no_part, part_then, by_value, by_variable, by_procedure, no_argument, argument_then, Act, skip, assign, call, if_act, while_act, when_act, cobegin, Acts, no_act, act_then, clause, Clauses, no_clause, clause_then, Block, ProgramUnit}
 use Rattle.edi_meaning.specs.Select.{Selected, unfinished, finished, select_from_start}
 
 -- ---- writing programs down
@@ -69,7 +69,7 @@ head variables need body = block_of kind.Program 0 None (parameter.Formal None �
 -- what is shown, how it ends, how many of the twenty turns it took, and how many choices it drew
 abbrev pub summary : Selected → List ℕ × Ending × ℕ × ℕ
 summary unfinished = ([], outcome.turns, 0, 0)
-summary (finished ending system turns drawn order) = (system.shown, ending, 20 - turns, drawn)
+summary (finished ending system turns drawn order) = (system.now.shown, ending, 20 - turns, drawn)
 
 abbrev pub selected : ProgramUnit → List ℕ → List ℕ × Ending × ℕ × ℕ
 selected unit choices = summary (select_from_start unit empty_system 20 (listed choices) 60)
@@ -87,7 +87,7 @@ row_shows = refl
 -- HEAD var x: int begin while x < 3 do display('k'); x := x + 1 end end
 abbrev pub program_that_counts : ProgramUnit
 program_that_counts =
-    program_of [] (2 ∷ []) (head (0 ∷ []) 12 (loop (one_clause (two (value_of 0 1) op.Less (number (pos 3)) 1) (display 0 (pos 107) ∷ assign (variable 0 1) (two (value_of 0 1) op.Plus (number (pos 1)) 1) ∷ [])) ∷ []) ∷ [])
+    program_of [] (2 ∷ []) (head (0 ∷ []) 12 (while_act (one_clause (two (value_of 0 1) op.Less (number (pos 3)) 1) (display 0 (pos 107) ∷ assign (variable 0 1) (two (value_of 0 1) op.Plus (number (pos 1)) 1) ∷ [])) ∷ []) ∷ [])
 
 pub row_counts : selected program_that_counts [] ≡ (107 ∷ 107 ∷ 107 ∷ [], outcome.done, 5, 0)
 unfolding zero_value
@@ -113,9 +113,9 @@ program_with_index =
     program_of (array_of 0 (pos 1) (pos 2) 1 ∷ []) (2 ∷ [])
     (head (3 ∷ 0 ∷ []) 13
     (assign (variable 0 2) (number (pos 1))
-    ∷ assign (element 0 (value_of 0 2)) (invoke (callee.Block 0 1) no_argument 1)
+    ∷ assign (element 0 (value_of 0 2)) (apply_of (callee.Block 0 1) no_argument 1)
     ∷ call (callee.Formal 0 0) (argument_then (by_value (load (element 0 (number (pos 1))))) no_argument) 1
-    ∷ conditional (one_clause (two (load (element 0 (number (pos 2)))) op.Equal (convert 1 (number (pos 0)) 1) 1) (display 0 (pos 122) ∷ []))
+    ∷ if_act (one_clause (two (load (element 0 (number (pos 2)))) op.Equal (convert 1 (number (pos 0)) 1) 1) (display 0 (pos 122) ∷ []))
     ∷ [])
     ∷ block_of kind.Function 0 (Some 1) [] [] 8 (assign (variable 1 2) (number (pos 2)) ∷ assign (variable 0 0) (constant 1 (pos 113)) ∷ [])
     ∷ [])
@@ -132,9 +132,9 @@ program_with_alias =
     (head (0 ∷ []) 10 (call (callee.Block 0 1) (argument_then (by_variable (variable 0 1)) no_argument) 1 ∷ [])
     ∷ block_of kind.Procedure 0 None (parameter.Var 0 ∷ []) [] 8
     (assign (variable 0 0) (number (pos 1))
-    ∷ conditional (one_clause (two (value_of 1 1) op.Equal (number (pos 1)) 1) (display 1 (pos 49) ∷ []))
+    ∷ if_act (one_clause (two (value_of 1 1) op.Equal (number (pos 1)) 1) (display 1 (pos 49) ∷ []))
     ∷ assign (variable 1 1) (number (pos 2))
-    ∷ conditional (one_clause (two (value_of 0 0) op.Equal (number (pos 2)) 1) (display 1 (pos 50) ∷ []))
+    ∷ if_act (one_clause (two (value_of 0 0) op.Equal (number (pos 2)) 1) (display 1 (pos 50) ∷ []))
     ∷ [])
     ∷ [])
 
@@ -155,9 +155,9 @@ program_with_procedure =
     program_of [] (2 ∷ [])
     (head [] 12 (go_with 0 (pos 1) (callee.Block 0 3) ∷ [])
     ∷ block_of kind.Procedure 0 None (parameter.Value 0 ∷ parameter.Formal None ∷ []) [] 13
-    (conditional (two_clauses (two (value_of 0 0) op.Equal (number (pos 1)) 1) (go_with 1 (pos 2) (callee.Block 0 2) ∷ []) true_value (call (callee.Formal 0 1) no_argument 1 ∷ [])) ∷ [])
+    (if_act (two_clauses (two (value_of 0 0) op.Equal (number (pos 1)) 1) (go_with 1 (pos 2) (callee.Block 0 2) ∷ []) true_value (call (callee.Formal 0 1) no_argument 1 ∷ [])) ∷ [])
     ∷ block_of kind.Procedure 1 None [] [] 7
-    (conditional (two_clauses (two (value_of 1 0) op.Equal (number (pos 1)) 1) (display 2 (pos 49) ∷ []) (two (value_of 1 0) op.Equal (number (pos 2)) 1) (display 2 (pos 50) ∷ [])) ∷ [])
+    (if_act (two_clauses (two (value_of 1 0) op.Equal (number (pos 1)) 1) (display 2 (pos 49) ∷ []) (two (value_of 1 0) op.Equal (number (pos 2)) 1) (display 2 (pos 50) ∷ [])) ∷ [])
     ∷ block_of kind.Procedure 0 None [] [] 5 (skip ∷ [])
     ∷ [])
 
@@ -172,7 +172,7 @@ program_that_recurs =
     program_of [] (2 ∷ [])
     (head [] 9 (call (callee.Block 0 1) (argument_then (by_value (number (pos 1))) no_argument) 1 ∷ [])
     ∷ block_of kind.Procedure 0 None (parameter.Value 0 ∷ []) [] 8
-    (conditional (two_clauses (two (value_of 0 0) op.Equal (number (pos 1)) 1) (call (callee.Block 1 1) (argument_then (by_value (number (pos 2))) no_argument) 1 ∷ []) true_value (display 1 (pos 120) ∷ [])) ∷ [])
+    (if_act (two_clauses (two (value_of 0 0) op.Equal (number (pos 1)) 1) (call (callee.Block 1 1) (argument_then (by_value (number (pos 2))) no_argument) 1 ∷ []) true_value (display 1 (pos 120) ∷ [])) ∷ [])
     ∷ [])
 
 pub row_recurs : selected program_that_recurs [] ≡ (120 ∷ [], outcome.done, 6, 0)
@@ -183,8 +183,8 @@ row_recurs = refl
 abbrev pub program_that_is_held : ProgramUnit
 program_that_is_held =
     program_of [] (2 ∷ [])
-    (head (0 ∷ []) 11 (assign (variable 0 1) (invoke (callee.Block 0 1) no_argument 7) ∷ [])
-    ∷ block_of kind.Function 0 (Some 0) [] [] 8 (await (one_clause true_value (assign (variable 0 0) (number (pos 1)) ∷ [])) 5 ∷ [])
+    (head (0 ∷ []) 11 (assign (variable 0 1) (apply_of (callee.Block 0 1) no_argument 7) ∷ [])
+    ∷ block_of kind.Function 0 (Some 0) [] [] 8 (when_act (one_clause true_value (assign (variable 0 0) (number (pos 1)) ∷ [])) 5 ∷ [])
     ∷ [])
 
 pub row_held : selected program_that_is_held [] ≡ ([], outcome.failed cause.Held 5, 2, 0)
@@ -195,7 +195,7 @@ row_held = refl
 abbrev pub program_that_decides : ProgramUnit
 program_that_decides =
     program_of [] (2 ∷ [])
-    (head [] 10 (conditional (two_clauses (two false_value op.And (two (two (number (pos 1)) op.Div (number (pos 0)) 1) op.Equal (number (pos 1)) 1) 1) (skip ∷ []) true_value (display 0 (pos 107) ∷ [])) ∷ []) ∷ [])
+    (head [] 10 (if_act (two_clauses (two false_value op.And (two (two (number (pos 1)) op.Div (number (pos 0)) 1) op.Equal (number (pos 1)) 1) 1) (skip ∷ []) true_value (display 0 (pos 107) ∷ [])) ∷ []) ∷ [])
 
 pub row_decides : selected program_that_decides [] ≡ (107 ∷ [], outcome.done, 2, 0)
 unfolding zero_value
@@ -225,8 +225,8 @@ program_that_forks =
     program_of [] (2 ∷ [])
     (head (0 ∷ []) 9 (cobegin (1 ∷ 2 ∷ []) 3 ∷ [])
     ∷ block_of kind.Branch 0 None [] [] 7
-    (await (one_clause (two (value_of 1 1) op.Equal (number (pos 0)) 3) (display 1 (pos 97) ∷ assign (variable 1 1) (number (pos 1)) ∷ [])) 3 ∷ [])
-    ∷ block_of kind.Branch 0 None [] [] 6 (await (one_clause true_value (display 1 (pos 98) ∷ [])) 4 ∷ [])
+    (when_act (one_clause (two (value_of 1 1) op.Equal (number (pos 0)) 3) (display 1 (pos 97) ∷ assign (variable 1 1) (number (pos 1)) ∷ [])) 3 ∷ [])
+    ∷ block_of kind.Branch 0 None [] [] 6 (when_act (one_clause true_value (display 1 (pos 98) ∷ [])) 4 ∷ [])
     ∷ [])
 
 pub row_forks : selected program_that_forks [] ≡ (97 ∷ 98 ∷ [], outcome.done, 7, 3)
@@ -243,7 +243,7 @@ row_forks_at_once = refl
 
 -- proc main begin when false do skip end end: the entry, the arrival and one attempt
 abbrev pub program_that_waits : ProgramUnit
-program_that_waits = program_of [] [] (block_of kind.Program 0 None [] [] 6 (await (one_clause false_value (skip ∷ [])) 1 ∷ []) ∷ [])
+program_that_waits = program_of [] [] (block_of kind.Program 0 None [] [] 6 (when_act (one_clause false_value (skip ∷ [])) 1 ∷ []) ∷ [])
 
 pub row_waits : selected program_that_waits [] ≡ ([], outcome.standstill, 3, 0)
 unfolding zero_value
@@ -254,8 +254,8 @@ abbrev pub program_where_two_wait : ProgramUnit
 program_where_two_wait =
     program_of [] []
     (block_of kind.Program 0 None [] [] 5 (cobegin (1 ∷ 2 ∷ []) 1 ∷ [])
-    ∷ block_of kind.Branch 0 None [] [] 6 (await (one_clause false_value (skip ∷ [])) 1 ∷ [])
-    ∷ block_of kind.Branch 0 None [] [] 6 (await (one_clause false_value (skip ∷ [])) 1 ∷ [])
+    ∷ block_of kind.Branch 0 None [] [] 6 (when_act (one_clause false_value (skip ∷ [])) 1 ∷ [])
+    ∷ block_of kind.Branch 0 None [] [] 6 (when_act (one_clause false_value (skip ∷ [])) 1 ∷ [])
     ∷ [])
 
 pub row_two_wait : selected program_where_two_wait [] ≡ ([], outcome.standstill, 6, 4)
@@ -267,7 +267,7 @@ row_two_wait = refl
 abbrev pub program_that_asks : ProgramUnit
 program_that_asks =
     program_of [] []
-    (block_of kind.Program 0 None [] [] 6 (await (one_clause (invoke (callee.Block 0 1) no_argument 1) (skip ∷ [])) 1 ∷ [])
+    (block_of kind.Program 0 None [] [] 6 (when_act (one_clause (apply_of (callee.Block 0 1) no_argument 1) (skip ∷ [])) 1 ∷ [])
     ∷ block_of kind.Function 0 (Some 2) [] [] 8 (assign (variable 0 0) false_value ∷ [])
     ∷ [])
 
@@ -281,9 +281,9 @@ abbrev pub program_that_goes_on : ProgramUnit
 program_that_goes_on =
     program_of [] (2 ∷ [])
     (head (0 ∷ 0 ∷ []) 10 (cobegin (1 ∷ 2 ∷ 3 ∷ []) 3 ∷ [])
-    ∷ block_of kind.Branch 0 None [] [] 7 (await (one_clause (two (value_of 1 1) op.Equal (number (pos 1)) 3) (assign (variable 1 2) (number (pos 1)) ∷ [])) 3 ∷ [])
-    ∷ block_of kind.Branch 0 None [] [] 7 (await (one_clause (two (value_of 1 2) op.Equal (number (pos 1)) 3) (display 1 (pos 98) ∷ [])) 3 ∷ [])
-    ∷ block_of kind.Branch 0 None [] [] 7 (await (one_clause true_value (assign (variable 1 1) (number (pos 1)) ∷ [])) 3 ∷ [])
+    ∷ block_of kind.Branch 0 None [] [] 7 (when_act (one_clause (two (value_of 1 1) op.Equal (number (pos 1)) 3) (assign (variable 1 2) (number (pos 1)) ∷ [])) 3 ∷ [])
+    ∷ block_of kind.Branch 0 None [] [] 7 (when_act (one_clause (two (value_of 1 2) op.Equal (number (pos 1)) 3) (display 1 (pos 98) ∷ [])) 3 ∷ [])
+    ∷ block_of kind.Branch 0 None [] [] 7 (when_act (one_clause true_value (assign (variable 1 1) (number (pos 1)) ∷ [])) 3 ∷ [])
     ∷ [])
 
 pub row_goes_on : selected program_that_goes_on (0 ∷ 0 ∷ 0 ∷ 0 ∷ 0 ∷ 0 ∷ 1 ∷ []) ≡ (98 ∷ [], outcome.done, 12, 8)

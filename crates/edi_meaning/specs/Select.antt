@@ -1,7 +1,7 @@
--- The execution that the choices select among the permitted ones. A process goes on until it arrives at a `when`, fails
+-- Definition. The execution that the choices select among the permitted ones. A process goes on until it arrives at a `when`, fails
 -- an attempt, forks or ends; then the next is taken.
-use Rattle.std.specs.Prelude.{◌≡◌, ℕ, zero, suc, ◌-◌, Bool, true, false, ◌&&◌, if◌then◌else◌, List, [], ◌∷◌, ◌++◌}
-use Rattle.edi_calls.specs.State.{State}
+use Rattle.std.specs.Prelude.{◌≡◌, ℕ, zero, suc, ◌-◌, Bool, true, false, ◌&&◌, if◌then◌else◌, List, [], ◌∷◌, ◌++◌, Contains}
+use Rattle.edi_calls.specs.State.{State, Traced, moments_of}
 use Rattle.edi_calls.specs.Choice.{Choices}
 use Rattle.edi_calls.specs.Names.{Name}
 use Rattle.edi_calls.specs.Outcome as outcome
@@ -13,7 +13,7 @@ use Rattle.edi_meaning.specs.Step.{Processes, Stepped, went, ended, step, start}
 -- the end of a selection: how, with which system, with how many turns left and choices drawn, and who stepped in turn
 pub data Selected : Type 0 where
   unfinished : Selected
-  finished : Ending → State → (turns drawn : ℕ) → (order : List Name) → Selected
+  finished : Ending → Traced → (turns drawn : ℕ) → (order : List Name) → Selected
 
 -- who steps first
 abbrev pub stepped_first : Name → Selected → Selected
@@ -58,13 +58,19 @@ abbrev pub select_from_start : ProgramUnit → State → ℕ → Choices → ℕ
 select_from_start unit system bound choices n = select unit choices n (start unit system bound) [] [] [] 0
 
 -- SELECT: the selection from the start ends so, after some number of steps
-abbrev pub Ends : ProgramUnit → State → ℕ → Choices → Ending → State → (turns drawn : ℕ) → (order : List Name) → Type 0
+abbrev pub Ends : ProgramUnit → State → ℕ → Choices → Ending → Traced → (turns drawn : ℕ) → (order : List Name) → Type 0
 Ends unit system bound choices ending end turns drawn order =
     (n : ℕ) × (select_from_start unit system bound choices n ≡ finished ending end turns drawn order)
 
 -- its outcome
 abbrev pub Select : ProgramUnit → State → ℕ → Choices → Outcome → Type 0
 Select unit system bound choices outcome =
-    (ending : Ending) × (end : State) × (turns : ℕ) × (drawn : ℕ) × (order : List Name)
+    (ending : Ending) × (end : Traced) × (turns : ℕ) × (drawn : ℕ) × (order : List Name)
     × Ends unit system bound choices ending end turns drawn order
-    × (outcome ≡ outcome_of end ending (bound - turns) drawn)
+    × (outcome ≡ outcome_of end.now ending (bound - turns) drawn)
+
+-- it comes through this state of the system: the first one, or one behind a system call
+abbrev pub ComesThrough : ProgramUnit → State → ℕ → Choices → (moment : State) → Type 0
+ComesThrough unit system bound choices moment =
+    (ending : Ending) × (end : Traced) × (turns : ℕ) × (drawn : ℕ) × (order : List Name)
+    × Ends unit system bound choices ending end turns drawn order × Contains (moments_of system end.past) moment

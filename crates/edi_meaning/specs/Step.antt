@@ -1,9 +1,9 @@
--- A program step by step. Each step is one of one process: outside critical phases a simple statement, the choice of a
+-- Definition. A program step by step. Each step is one of one process: outside critical phases a simple statement, the choice of a
 -- branch, an entry, a fork or an end; at a `when` the arrival, and each attempt with its conditions and its whole body.
 use Rattle.std.specs.Prelude.{ℕ, zero, suc, ◌+◌, ◌-◌, ◌/◌, Bool, true, false, not, ◌&&◌, ◌||◌, nat_lt, if◌then◌else◌, List, [], ◌∷◌, ◌++◌, length, map, Option, Some, None}
 use Rattle.std.specs.List.{list_any}
 use Rattle.edi_calls.specs.declared.kinds.Cause.TheVariants as cause
-use Rattle.edi_calls.specs.State.{State}
+use Rattle.edi_calls.specs.State.{State, Traced, begun}
 use Rattle.edi_calls.specs.Names.{Name, Table, find, with_at, without, names}
 use Rattle.edi_calls.specs.Outcome as outcome
 use Rattle.edi_calls.specs.Outcome.{Ending}
@@ -12,7 +12,7 @@ use Rattle.edi_unit.specs.Tree as tree
 use Rattle.edi_unit.specs.Tree.{Expression, Expressions, Link, Links, Place, Part, Parts, Argument, Arguments, Act, Acts, Clause, Clauses, Block, ProgramUnit}
 use Rattle.edi_unit.specs.Need.{block_at}
 use Rattle.edi_meaning.specs.Store.{Spot, Closure, system_procedure, block_procedure, Cell, procedure, shape, now, room}
-use Rattle.edi_meaning.specs.Run.{World, Run, gives, ends, ◌>>=◌, stops, turn}
+use Rattle.edi_meaning.specs.Evaluation.{World, Evaluation, gives, ends, ◌>>=◌, stops, turn}
 use Rattle.edi_meaning.specs.Whole.{meant, instance_of, entered, left, system_call, whole_arguments, whole_assignment, whole_condition, whole_first}
 
 -- ---- work
@@ -75,11 +75,11 @@ abbrev mutual
   calls (tree.constant of n) = false
   calls (tree.load v) = place_calls v
   calls (tree.not_of e) = calls e
-  calls (tree.minus e line) = calls e
+  calls (tree.sign_of e line) = calls e
   calls (tree.chain e ls) = calls e || links_call ls
   calls (tree.make of es line) = any_calls es
   calls (tree.convert of e line) = calls e
-  calls (tree.invoke c es line) = true
+  calls (tree.apply_of c es line) = true
 
   pub any_calls : Expressions → Bool
   any_calls tree.no_expression = false
@@ -115,54 +115,54 @@ with_chosen position (Some c) after work = doing_all c.0 (inside position c.1) 0
 
 module _ (unit : ProgramUnit) (p : Name) (size : ℕ) where
   -- the first list whose condition is true, with its number, or none
-  abbrev pub chosen : Clauses → ℕ → World → Run (Option (Acts × ℕ))
+  abbrev pub chosen : Clauses → ℕ → World → Evaluation (Option (Acts × ℕ))
   chosen tree.no_clause n w = gives None w
   chosen (tree.clause_then (tree.clause e s) cs) n w =
       whole_condition unit p size e w >>= λ holds w. if holds then gives (Some (s, n)) w else chosen cs (suc n) w
 
   -- a call: of the system at once; of a block its body and its end come first
-  abbrev pub called : Closure → List Cell → (line : ℕ) → List Work → World → Run Asks
+  abbrev pub called : Closure → List Cell → (line : ℕ) → List Work → World → Evaluation Asks
   called (system_procedure number) cells line work w = system_call number cells line w >>= λ _ w. gives (goes work) w
   called (block_procedure number parent) cells line work w =
       entered unit p size number parent cells line w (gives (goes (body_of unit number (procedure_end ∷ work))))
 
-  abbrev pub statement_step : Act → Position → List Work → World → Run Asks
+  abbrev pub statement_step : Act → Position → List Work → World → Evaluation Asks
   statement_step tree.skip position work w = gives (goes work) w
   statement_step (tree.assign v e) position work w = whole_assignment unit p size v e w >>= λ _ w. gives (goes work) w
   statement_step (tree.call c es line) position work w =
       whole_arguments unit p size es w >>= λ cells w. called (meant unit p size c w) cells line work w
   statement_step (tree.halt line) position work w = stops (outcome.halted line) w
-  statement_step (tree.conditional cs) position work w =
+  statement_step (tree.if_act cs) position work w =
       chosen cs 0 w >>= λ c w. gives (goes (with_chosen position c [] work)) w
-  statement_step (tree.loop cs) position work w =
+  statement_step (tree.while_act cs) position work w =
       chosen cs 0 w >>= λ c w. gives (goes (with_chosen position c (loop_end cs position ∷ []) work)) w
-  statement_step (tree.await cs line) position work w = turn w (gives (arrives cs position work))
+  statement_step (tree.when_act cs line) position work w = turn w (gives (arrives cs position work))
   statement_step (tree.cobegin bs line) position work w = gives (forks bs line work) w
 
   -- the program's entry: its parameters are the calls of the system that it names
-  abbrev pub program_entered : List Work → World → Run Asks
+  abbrev pub program_entered : List Work → World → Evaluation Asks
   program_entered work w =
       turn w (λ w. gives (goes (body_of unit unit.program work))
       (record w { store = with_at w.store p (instance_of unit p size unit.program ([], 0) (map (λ n. procedure (system_procedure n)) unit.calls) ∷ []) }))
 
   -- the next piece of work
-  abbrev pub work_step : List Work → World → Run Asks
+  abbrev pub work_step : List Work → World → Evaluation Asks
   work_step [] w = stops outcome.turns w
   work_step (doing a position ∷ work) w = statement_step a position work w
-  work_step (loop_end cs position ∷ work) w = turn w (gives (goes (doing (tree.loop cs) position ∷ work)))
+  work_step (loop_end cs position ∷ work) w = turn w (gives (goes (doing (tree.while_act cs) position ∷ work)))
   work_step (procedure_end ∷ work) w = left unit p size w (gives (goes work))
   work_step (branch_end ∷ work) w = turn w (gives leaves)
   work_step (program_entry ∷ work) w = program_entered work w
   work_step (program_end ∷ work) w = turn w (stops outcome.done)
 
   -- an attempt at a `when`: where a condition is true its body is executed whole, and the process goes on behind it
-  abbrev pub attempt : Clauses → Position → List Work → World → Run Asks
+  abbrev pub attempt : Clauses → Position → List Work → World → Evaluation Asks
   attempt cs position work w =
       whole_first unit p size cs w >>= λ ran w.
       if ran then gives (goes work) w else turn w (gives (again cs position (is_quiet cs) work))
 
   -- one step of a process that is ready or at its `when`
-  abbrev pub local_step : Standing → List Work → World → Run Asks
+  abbrev pub local_step : Standing → List Work → World → Evaluation Asks
   local_step ready work w = work_step work w
   local_step (at_when cs position) work w = attempt cs position work w
   local_step (waiting n) work w = stops outcome.turns w
@@ -185,7 +185,7 @@ pub record Processes : Type 0 where
 -- or the end of the program
 pub data Stepped : Type 0 where
   went : Processes → Next → (quiet : Bool) → Stepped
-  ended : Ending → State → (turns : ℕ) → Stepped
+  ended : Ending → Traced → (turns : ℕ) → Stepped
 
 -- a process with what is left to do and how it stands now
 abbrev pub back : Processes → Name → Process → World → Processes
@@ -250,17 +250,17 @@ abbrev pub one_less : Processes → Name → Process → Standing → Stepped
 one_less s p q (waiting n) = went (back s p (record q { standing = awaits (n - 1) }) s.world) (freed (n - 1) p) false
 one_less s p q standing = went s (joins []) false
 
-abbrev pub told : Processes → Name → Option Process → Stepped
-told s p None = went s (joins []) false
-told s p (Some q) = one_less s p q q.standing
+abbrev pub notified : Processes → Name → Option Process → Stepped
+notified s p None = went s (joins []) false
+notified s p (Some q) = one_less s p q q.standing
 
 -- the process and its instance go, and its parent is told
 abbrev pub exited : Processes → Name → World → Stepped
 exited s p w =
     let rest : Processes = record { live = without s.live p; world = record w { store = without w.store p } } in
-    told rest (parent_of p) (find rest.live (parent_of p))
+    notified rest (parent_of p) (find rest.live (parent_of p))
 
-abbrev pub kernel : ProgramUnit → Processes → Name → Process → Run Asks → Stepped
+abbrev pub kernel : ProgramUnit → Processes → Name → Process → Evaluation Asks → Stepped
 kernel unit s p q (ends ending system turns) = ended ending system turns
 kernel unit s p q (gives (goes work) w) = went (back s p (record q { work = work; standing = ready }) w) stays false
 kernel unit s p q (gives (arrives cs position work) w) =
@@ -284,7 +284,7 @@ step unit s p = step_of unit s p (find s.live p)
 abbrev pub start : ProgramUnit → State → ℕ → Processes
 start unit system bound = record {
   live = ([], record { size = 65536; forks = 0; work = program_entry ∷ program_end ∷ []; standing = ready }) ∷ [];
-  world = record { store = []; system = system; turns = bound };
+  world = record { store = []; system = begun system; turns = bound };
 }
 
 abbrev pub is_running : Standing → Bool
@@ -304,7 +304,7 @@ may_step s p = is_running_process (find s.live p)
 -- processes could not step
 pub data Led : Type 0 where
   at : Processes → Led
-  over : Ending → State → (turns : ℕ) → Led
+  over : Ending → Traced → (turns : ℕ) → Led
   nowhere : Led
 
 abbrev pub onward : Stepped → List Name → (Processes → Led) → Led

@@ -1,17 +1,38 @@
 //! What is true of every program, by its meaning. The functions do nothing; their contracts are the laws, which speak of
 //! all units, system states, bounds and choices.
 
+ghost use Rattle.edi_meaning.specs.Attempts.{AttemptsAreOneStep, AttemptsExecute};
+ghost use Rattle.edi_meaning.specs.Someone.{FittingForksHaveBranches, SomeoneMayStep, StandstillIsMarked};
+ghost use Rattle.edi_meaning.specs.Spent.{PermittedEndsSpent, SelectionEndsSpent};
 ghost use Rattle.edi_meaning.specs.Laws.{AttemptsAreWhole, CellsArePrivate, EverySelectionEnds, ParentsWait, RecordReplays, ReferencesLive, SelectIsPermitted, SelectionsAreDetermined, StepsGoOn};
 
 /// Critical phases are executed strictly one at a time: an attempt at a `when` is one step, which leaves its process
-/// behind the whole body, or at the `when` again, and changes nothing else of any process.
+/// behind the whole body, or at the `when` again, and changes nothing else of any process. It evaluates the conditions one
+/// after another until one is true, and executes the body behind that one to its end; in every order of steps it is one.
 pub fn attempts_are_whole()
     ensures law { AttemptsAreWhole }
+    ensures executes { AttemptsExecute }
+    ensures one { AttemptsAreOneStep }
 {}
 
 /// Each program ends, by its turns at the latest, whatever the choices.
 pub fn every_selection_ends()
     ensures law { EverySelectionEnds }
+{}
+
+/// It ends by its turns only where none is left, whatever permitted steps lead there, and so also in the execution that the
+/// choices select.
+pub fn ends_by_turns_spent()
+    ensures permitted { PermittedEndsSpent }
+    ensures selected { SelectionEndsSpent }
+{}
+
+/// In every state that permitted steps reach some process may step, and an execution stands still only by a failed attempt that
+/// marks its process, never because nobody is ready; of every unit whose `cobegin`s have branches, as each has that fits.
+pub fn someone_may_step()
+    ensures fitting { FittingForksHaveBranches }
+    ensures permitted { SomeoneMayStep }
+    ensures selected { StandstillIsMarked }
 {}
 
 /// The choices determine the execution.
@@ -38,7 +59,8 @@ pub fn cells_are_private()
 {}
 
 /// From every state on, along whatever permitted steps: turns are only taken, never given; input is only taken; what is
-/// shown and printed only follows what was before; and the numbers of slots and of blocks stay.
+/// shown and printed only follows what was before; the numbers of slots and of blocks stay; and the past of the system only
+/// grows, its last state being the present one.
 pub fn steps_go_on()
     ensures law { StepsGoOn }
 {}

@@ -8,3 +8,4 @@ pub mod OldLists
 pub mod OldMounts
 pub mod OldRules
 pub mod OldWorked
+pub mod Limited

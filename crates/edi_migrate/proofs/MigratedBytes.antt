@@ -118,8 +118,8 @@ entry_in : (count : ℕ) (records : List (Option FileRecord)) (k : ℕ) → AreR
 entry_in count [] k fit h = absurd (omega arith)
 entry_in count (r ∷ records) zero fit h = take_at (bytes_of_slot r) (entries_bytes records) 64 (length-entry count r fit.0)
 entry_in count (r ∷ records) (suc k) fit h =
-    let place : 64 * suc k ≡ 64 + 64 * k = omega arith in
-    ap (λ n. take 64 (drop n (bytes_of_slot r ++ entries_bytes records))) place
+    let index : 64 * suc k ≡ 64 + 64 * k = omega arith in
+    ap (λ n. take 64 (drop n (bytes_of_slot r ++ entries_bytes records))) index
     ∙ ap (take 64) (sym (drop-drop (64 * k) 64 (bytes_of_slot r ++ entries_bytes records)) ∙ ap (drop (64 * k)) (drop_at (bytes_of_slot r) (entries_bytes records) 64 (length-entry count r fit.0)))
     ∙ entry_in count records k fit.1 (omega arith)
 
@@ -128,9 +128,9 @@ entry_of_blocks : (header : List ℕ) (bytes : List ℕ) (rest : List (List ℕ)
     → entry_at (header ∷ (first_chunks 512 32 bytes ++ rest)) k ≡ take 64 (drop (64 * k) bytes)
 entry_of_blocks header bytes rest k h =
     let inside : k / 8 < 32 = omega arith in
-    let place : 1 + k / 8 ≡ suc (k / 8) = omega arith in
+    let index : 1 + k / 8 ≡ suc (k / 8) = omega arith in
     let block : block_at (header ∷ (first_chunks 512 32 bytes ++ rest)) (1 + k / 8) ≡ take 512 (drop (512 * (k / 8)) bytes) =
-    ap (λ n. get_or (header ∷ (first_chunks 512 32 bytes ++ rest)) n []) place
+    ap (λ n. get_or (header ∷ (first_chunks 512 32 bytes ++ rest)) n []) index
     ∙ get_or-append (first_chunks 512 32 bytes) rest [] (k / 8) (subst (λ n. k / 8 < n) (sym (length-first_chunks 32 bytes)) inside)
     ∙ chunk_at 32 (k / 8) bytes inside in
     let at = 64 * (k % 8) in

@@ -5,6 +5,6 @@ use Rattle.edi_migrate.specs.OldLaws.{OldHoldsOneList}
 
 pub old_holds_one_list : OldHoldsOneList
 old_holds_one_list blocks = (
-  ((λ valid. (old_slots_of blocks, record { valid = valid; files = refl })), (λ held. held.1.valid)),
+  ((λ valid. (old_slots_of blocks, record { valid = valid; files = refl })), (λ contents. contents.1.valid)),
   λ one other a b. sym a.files ∙ b.files,
 )

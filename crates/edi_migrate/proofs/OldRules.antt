@@ -138,7 +138,7 @@ old_entries_more blocks first zero = ap (λ m. old_said_at blocks m ∷ []) (let
 old_entries_more blocks first (suc n) =
     ap (λ es. old_said_at blocks first ∷ es)
     (old_entries_more blocks (first + 1) n
-    ∙ ap (λ m. old_entries_from blocks (first + 1) n ++ old_said_at blocks m ∷ []) (let place : first + 1 + n ≡ first + suc n = omega arith in place))
+    ∙ ap (λ m. old_entries_from blocks (first + 1) n ++ old_said_at blocks m ∷ []) (let index : first + 1 + n ≡ first + suc n = omega arith in index))
 
 old_rules_from : (blocks : List (List ℕ)) (slot : ℕ) (used : List ℕ) (files : List (Option StoredFile)) → slot < 64
     → first_broken used (slot_rules 5 blocks slot (titles_of files) (old_entries_from blocks slot (64 - slot)))
@@ -166,7 +166,7 @@ old_progress_on blocks slot used0 used1 files0 files1 h so_far none taken =
           taken.files ∙ ap (λ fs. fs ++ stored_of blocks (old_said_at blocks slot) ∷ []) so_far.files_
           ∙ sym (map_more blocks (old_entries_from blocks 0 slot) (old_said_at blocks slot))
           ∙ ap (map (stored_of blocks))
-          (ap (λ m. old_entries_from blocks 0 slot ++ old_said_at blocks m ∷ []) (let place : slot ≡ 0 + slot = omega arith in place)
+          (ap (λ m. old_entries_from blocks 0 slot ++ old_said_at blocks m ∷ []) (let index : slot ≡ 0 + slot = omega arith in index)
           ∙ sym (old_entries_more blocks 0 slot)
           ∙ ap (old_entries_from blocks 0) (let one : suc slot ≡ slot + 1 = omega arith in one));
     }

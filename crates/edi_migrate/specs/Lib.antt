@@ -1,3 +1,4 @@
+pub mod Limit
 pub mod Migrated
 pub mod OldBuild
 pub mod OldEntries

@@ -1,4 +1,4 @@
--- The image of version 2 that is made of one of version 1: the catalogue, then in the order of the slots the blocks of each
+-- Words of contracts. The image of version 2 that is made of one of version 1: the catalogue, then in the order of the slots the blocks of each
 -- file, its map and then its pages.
 use Rattle.std.specs.Prelude.{◌≡◌, ℕ, ◌+◌, ◌-◌, ◌<◌, ◌≤◌, Bool, true, false, drop, List, [], ◌∷◌, ◌++◌, map, flat_map, length, Option, Some, None, ⊤}
 use Rattle.std.specs.Option.{option_map}

@@ -1,4 +1,4 @@
--- How images of version 1 are made, for worked examples.
+-- Helper. How images of version 1 are made, for worked examples.
 use Rattle.std.specs.Prelude.{ℕ, ◌-◌, ◌/◌, ◌%◌, ◌^◌, List, ◌∷◌, ◌++◌, length, replicate}
 use Rattle.edi_host.specs.Blocks.{zero_block}
 use Rattle.edi_image.specs.Image.{header_block}

@@ -1,4 +1,4 @@
--- What the bytes of an entry of version 1 say.
+-- Definition. What the bytes of an entry of version 1 say.
 use Rattle.std.specs.Prelude.{ℕ, Bool, ◌&&◌, ◌||◌, ◌==◌, nat_le, if◌then◌else◌, List, [], ◌∷◌, take, drop, slice_index}
 use Rattle.edi_calls.specs.State.{is_title, without_blanks}
 use Rattle.edi_image.specs.Records.{FileRecord}

@@ -1,4 +1,4 @@
--- The files of an image of version 1 as they are kept while an image of version 2 is made of it.
+-- Words of contracts. The files of an image of version 1 as they are kept while an image of version 2 is made of it.
 use Rattle.std.specs.Prelude.{◌≡◌, ℕ, Bool, true, ◌&&◌, ◌==◌, nat_le, List, ◌++◌, map, length, replicate, Option, Some, None}
 use Rattle.std.specs.List.{list_all}
 use Rattle.edi_calls.specs.State.{File, is_title, pages_of}

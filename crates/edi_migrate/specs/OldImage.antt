@@ -1,4 +1,4 @@
--- Images of version 1, which are only read, to make images of version 2 of them.
+-- Definition. Images of version 1, which are only read, to make images of version 2 of them.
 --
 --     block 0         `EDIS`, the version, 1, the number of blocks (two bytes each), zeros
 --     blocks 1 to 4   64 entries of 32 bytes, 16 in each block, one for each slot

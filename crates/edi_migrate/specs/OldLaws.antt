@@ -1,4 +1,4 @@
--- What is known of the files of an image of version 1.
+-- Words of contracts. What is known of the files of an image of version 1.
 use Rattle.std.specs.Prelude.{◌≡◌, ◌↔◌, ℕ, List, Option, None}
 use Rattle.edi_calls.specs.State.{File}
 use Rattle.edi_migrate.specs.OldImage.{old_fault_of, OldHolds}

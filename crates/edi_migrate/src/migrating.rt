@@ -1,7 +1,7 @@
 //! Making an image of version 2 of one of version 1.
 
 ghost use Rattle.std.specs.Prelude.{◌≡◌, ◌≤◌, ◌<◌, ◌+◌, ◌++◌, ◌*◌, drop, length, MatchResult, true};
-ghost use Rattle.edi_told.specs.Faults.{Rose};
+ghost use Rattle.edi_told.specs.Faults.{CountRose};
 ghost use Rattle.edi_told.specs.Told.{WhereTold};
 ghost use Rattle.edi_host.specs.Blocks.{blocks_of};
 ghost use Rattle.edi_calls.specs.State as calls;
@@ -76,10 +76,10 @@ fn new_image(alloc: Global, count: u32, old: &[[u8; BLOCK]]) -> Result<Vec<u8>, 
 fn write_blocks<D: Drive>(drive: &mut D, blocks: &[[u8; BLOCK]]) -> DriveEnd
     requires room { length blocks.now ≤ D.count drive.old }
     requires most { length blocks.now ≤ 4096 }
-    ensures leaves { WhereTold (D.held drive.old) (D.held drive.new) (BlocksLeave result blocks.now) }
+    ensures leaves { WhereTold (D.contents drive.old) (D.contents drive.new) (BlocksLeave result blocks.now) }
     ensures count { D.count drive.new ≡ D.count drive.old }
     ensures later { D.faults drive.old ≤ D.faults drive.new }
-    ensures cause { result ≡ DriveEnd.Failed → Rose (D.faults drive.old) (D.faults drive.new) }
+    ensures cause { result ≡ DriveEnd.Failed → CountRose (D.faults drive.old) (D.faults drive.new) }
 {
     for (n, block) in blocks.iter().enumerate() {
         match drive.write(n as u32, block) {
@@ -100,10 +100,10 @@ pub fn migrate<D: Drive>(alloc: Global, drive: &mut D, blocks: u32, old: &[u8]) 
     requires most { blocks ≤ 4096 }
     ensures answers { MigrateAnswers result blocks (calls.blocks_taken (old_slots_of (blocks_of old.now))) (blocks_of old.now) }
     ensures untouched { MigrateTouches result drive.old drive.new }
-    ensures leaves { WhereTold (D.held drive.old) (D.held drive.new) (MigrateLeaves result blocks (blocks_of old.now)) }
+    ensures leaves { WhereTold (D.contents drive.old) (D.contents drive.new) (MigrateLeaves result blocks (blocks_of old.now)) }
     ensures count { MigrateCounts result blocks (D.count drive.old) (D.count drive.new) }
     ensures later { D.faults drive.old ≤ D.faults drive.new }
-    ensures cause { result ≡ MigrateEnd.Fault → Rose (D.faults drive.old) (D.faults drive.new) }
+    ensures cause { result ≡ MigrateEnd.Fault → CountRose (D.faults drive.old) (D.faults drive.new) }
 {
     let (old, _) = old.as_chunks::<BLOCK>();
     let bytes = match new_image(alloc, blocks, old) {

@@ -106,10 +106,10 @@ fn files_keep_their_slots(rt: HostRuntime) -> Result<(), Fail> {
     let mut drive = SteadyDrive::new(alloc, &[])?;
     assert_eq!(rt; migrate(alloc, &mut drive, 64, &bytes), MigrateEnd::Ok);
     let mut disk = Disk::attach(&mut drive);
-    let Ok(checked) = check(alloc, &mut disk) else {
+    let Ok(mut room) = check(alloc, &mut disk) else {
         return Err("not mounted")?;
     };
-    let mut catalog = mount(disk, checked);
+    let mut catalog = mount(disk, &mut room);
     assert_eq!(rt; catalog.free(), 29);
     assert_eq!(rt; catalog.slot(0), None);
     let title = Title::new(b"t").ok_or("no title")?;

@@ -72,7 +72,7 @@ module _ {A B : Type 0} (at : A → List Scope) (at' : B → List Scope) where
   pub end : {X Y : Type 0} {ns xs : List (List ℕ)} {a : List Scope} {m : Judged A} (f : A → Judged B) → Grows at X ns xs a m → ((e : A) → Adds ns xs a (at e) → Gives (λ b. Y × (at' b ≡ at e)) (f e)) → Grows at' (X × Y) ns xs a (m >>= f)
   end {X = X} {Y = Y} {ns = ns} {xs = xs} {a = a} {m = m} f h k = record { grows = ends X Y ns xs a m f h.grows k }
 
--- of a declaration with a mark, or without one
+-- of a declaration with an export, or without one
 pub chain_marked : (m : Bool) {X Y : Type 0} {ns ms : List (List ℕ)} {a : List Scope} {j : Judged Environment} {f : Environment → Judged Environment} → Grows in_env X ns (exports m ns) a j →
     ((e : Environment) → Adds ns (exports m ns) a e.scopes → Grows in_env Y ms (exports m ms) e.scopes (f e)) → Grows in_env (X × Y) (ns ++ ms) (exports m (ns ++ ms)) a (j >>= f)
 chain_marked m {X = X} {Y = Y} {ns = ns} {ms = ms} {a = a} {j = j} {f = f} h k =

@@ -41,7 +41,7 @@ in_left xs ys n h = among_append xs ys n ∙ left_or (is_among xs n) (is_among y
 pub in_right : (xs ys : List (List ℕ)) (n : List ℕ) → is_among ys n ≡ true → is_among (xs ++ ys) n ≡ true
 in_right xs ys n h = among_append xs ys n ∙ right_or (is_among xs n) (is_among ys n) h
 
--- the names of a declaration that its mark gives to the scope round the module
+-- the names of a declaration that its export gives to the scope round the module
 abbrev pub exports : Bool → List (List ℕ) → List (List ℕ)
 exports true names = names
 exports false names = []

@@ -1,4 +1,4 @@
--- Each name that is used in an expression or a statement is one of these names. The name of a field belongs to its record,
+-- Definition. Each name that is used in an expression or a statement is one of these names. The name of a field belongs to its record,
 -- and does not count here.
 use Rattle.std.specs.Prelude.{ℕ, Bool, false, ◌||◌, IsTrue, List, [], ◌∷◌, Option, Some, None}
 use Rattle.std.specs.Str.{bytes_eq}

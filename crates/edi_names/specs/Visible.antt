@@ -1,6 +1,6 @@
--- Each name of a program is visible where it is used: there it is a standard name, or one that is declared before, in the
+-- Definition. Each name of a program is visible where it is used: there it is a standard name, or one that is declared before, in the
 -- same scope or in one round it. What is declared in a procedure or a module is not seen behind its `end`, but for what a
--- module marks.
+-- module exports.
 use Rattle.std.specs.Prelude.{ℕ, List, [], ◌∷◌, ◌++◌, Option, Some, None, codes}
 use Rattle.edi_tree.specs.declared.names.Name.{Name}
 use Rattle.edi_tree.specs.Tree.{Names, no_name, next_name, ConstDecls, no_const_decl, next_const_decl, ConstList, const_list, Group, group, Groups, no_group, next_group, TypeDecl, enum_decl, record_decl, array_decl, set_decl, VarList, var_list, Heading, heading, Params, no_params, params, MoreParams, no_param, next_param, Param, value_param, var_param, procedure_param, Procedure, procedure, Item, const_item, type_item, var_item, procedure_item, pre_item, post_item, Module, module_with, Member, item_member, exported_member, module_member, Members, no_member, next_member, Declaration, item_declaration, module_declaration, Declarations, no_declaration, next_declaration, Global, const_global, type_global, Globals, no_global, next_global, Program, program}

@@ -106,11 +106,11 @@ variable_within : (line of : ℕ) (is_alone : Bool) (x : unit.Expression) (has m
 variable_within line of true (unit.load p) has most h = ruled (ArgumentWithin most) (has == of) kind.Call line _ (λ e. omega (arith, h))
 variable_within line of true (unit.constant u n) has most h = tt
 variable_within line of true (unit.not_of x) has most h = tt
-variable_within line of true (unit.minus x l) has most h = tt
+variable_within line of true (unit.sign_of x l) has most h = tt
 variable_within line of true (unit.chain x ls) has most h = tt
 variable_within line of true (unit.make u es l) has most h = tt
 variable_within line of true (unit.convert u x l) has most h = tt
-variable_within line of true (unit.invoke c xs l) has most h = tt
+variable_within line of true (unit.apply_of c xs l) has most h = tt
 variable_within line of false x has most h = tt
 
 passed_within : (line : ℕ) (asked : Heading) (u : Use) (most : ℕ) → Gives (ArgumentWithin most) (passed line asked u)

@@ -1,10 +1,10 @@
--- How deep a resolved program nests: how many of its expressions and statements stand one inside another, at most. What
+-- Words of contracts. How deep a resolved program nests: how many of its expressions and statements stand one inside another, at most. What
 -- follows in a list does not nest, nor do the operators of a chain and the steps to a part of a variable. A branch of a
 -- `cobegin` is a block of its own.
 use Rattle.std.specs.Prelude.{ℕ, suc, max, ◌+◌, ◌*◌, ◌≤◌, All}
 use Rattle.edi_tree.specs.Tree.{Program}
 use Rattle.edi_tree.specs.Depth.{depth}
-use Rattle.edi_unit.specs.Tree.{Expression, constant, load, not_of, minus, chain, make, convert, invoke, Expressions, no_expression, expression_then, Link, link, Links, no_link, link_then, Place, place, Part, field, index, Parts, no_part, part_then, Argument, by_value, by_variable, by_procedure, Arguments, no_argument, argument_then, Act, skip, assign, call, halt, conditional, loop, await, cobegin, Acts, no_act, act_then, Clause, clause, Clauses, no_clause, clause_then, Block, ProgramUnit}
+use Rattle.edi_unit.specs.Tree.{Expression, constant, load, not_of, sign_of, chain, make, convert, apply_of, Expressions, no_expression, expression_then, Link, link, Links, no_link, link_then, Place, place, Part, field, index, Parts, no_part, part_then, Argument, by_value, by_variable, by_procedure, Arguments, no_argument, argument_then, Act, skip, assign, call, halt, if_act, while_act, when_act, cobegin, Acts, no_act, act_then, Clause, clause, Clauses, no_clause, clause_then, Block, ProgramUnit}
 use Rattle.edi_static.specs.Programs.{Resolved}
 
 abbrev mutual
@@ -12,11 +12,11 @@ abbrev mutual
   expression_nesting (constant of ordinal) = 1
   expression_nesting (load p) = suc (place_nesting p)
   expression_nesting (not_of e) = suc (expression_nesting e)
-  expression_nesting (minus e line) = suc (expression_nesting e)
+  expression_nesting (sign_of e line) = suc (expression_nesting e)
   expression_nesting (chain e ls) = suc (max (expression_nesting e) (links_nesting ls))
   expression_nesting (make of es line) = suc (expressions_nesting es)
   expression_nesting (convert of e line) = suc (expression_nesting e)
-  expression_nesting (invoke callee xs line) = suc (arguments_nesting xs)
+  expression_nesting (apply_of callee xs line) = suc (arguments_nesting xs)
 
   pub expressions_nesting : Expressions → ℕ
   expressions_nesting no_expression = 0
@@ -55,9 +55,9 @@ abbrev mutual
   act_nesting (assign p e) = suc (max (place_nesting p) (expression_nesting e))
   act_nesting (call callee xs line) = suc (arguments_nesting xs)
   act_nesting (halt line) = 1
-  act_nesting (conditional cs) = suc (clauses_nesting cs)
-  act_nesting (loop cs) = suc (clauses_nesting cs)
-  act_nesting (await cs line) = suc (clauses_nesting cs)
+  act_nesting (if_act cs) = suc (clauses_nesting cs)
+  act_nesting (while_act cs) = suc (clauses_nesting cs)
+  act_nesting (when_act cs line) = suc (clauses_nesting cs)
   act_nesting (cobegin branches line) = 1
 
   pub acts_nesting : Acts → ℕ

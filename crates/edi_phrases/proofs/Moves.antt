@@ -2,7 +2,7 @@
 use Rattle.std.proofs.Common.{◌≡◌, ℕ, suc, ◌<◌, ◌≤◌, List, [], ◌∷◌, ◌++◌, true, false, Option, Some, None, sym, ap, ◌∙◌, subst, arith, append_assoc}
 use Rattle.edi_lex.specs.declared.symbol.Mark.{Mark}
 use Rattle.edi_tree.specs.Spelled.{Spelled}
-use Rattle.edi_tree.specs.Spells.{Stands, Stand, to_end}
+use Rattle.edi_tree.specs.Spells.{StandsAsMark, StandAsMarks, to_end}
 use Rattle.edi_tree.specs.Levels.{Element, mark, level_end, marks_among}
 use Rattle.edi_grammar.specs.Grammar as item
 use Rattle.edi_grammar.specs.Grammar.{Part, token, part, level}
@@ -31,21 +31,21 @@ takes_rule : (k : Sort) (rule x : List (Part Sort)) (p : List Mark) (w : Why) (r
 takes_rule k rule x [] w r e h = chosen k rule x None [] r w e h
 takes_rule k rule x (m ∷ p) w r e h = chosen k rule x (Some m) (to_end p) r w e h
 
-in_front : (s : Spelled) (m : Mark) (p q : List Mark) (es : List Element) → p ≡ m ∷ q → Stands s m → Stand (marks_among es) q → Stand (marks_among (mark s ∷ es)) p
-in_front s m p q es e st h = subst (λ p. Stand (marks_among (mark s ∷ es)) p) (sym e) (st, h)
+in_front : (s : Spelled) (m : Mark) (p q : List Mark) (es : List Element) → p ≡ m ∷ q → StandsAsMark s m → StandAsMarks (marks_among es) q → StandAsMarks (marks_among (mark s ∷ es)) p
+in_front s m p q es e st h = subst (λ p. StandAsMarks (marks_among (mark s ∷ es)) p) (sym e) (st, h)
 
 pub waits : (k : Sort) (n : ℕ) (p : List Mark) → Goes k n (λ es. es) (part k ∷ []) p p
 waits k n p = record { at = λ y w r l h. h; reads = λ es h. h }
 
 -- a symbol that opens no level
-pub over_mark : {k : Sort} {n a : ℕ} {f : List Element → List Element} {x : List (Part Sort)} {p q r : List Mark} (s : Spelled) (m : Mark) → Goes k n f (token a ∷ x) p q → q ≡ m ∷ r → kind_of m.symbol ≡ a → opens a ≡ false → Stands s m → Goes k n (λ es. f (mark s ∷ es)) x p r
+pub over_mark : {k : Sort} {n a : ℕ} {f : List Element → List Element} {x : List (Part Sort)} {p q r : List Mark} (s : Spelled) (m : Mark) → Goes k n f (token a ∷ x) p q → q ≡ m ∷ r → kind_of m.symbol ≡ a → opens a ≡ false → StandsAsMark s m → Goes k n (λ es. f (mark s ∷ es)) x p r
 over_mark {a = a} {x = x} {q = q} {r = r} s m go e is shut st = record {
   at = λ y w t l h. go.at y w t l (takes a m q r (x ++ y) w t e is (λ o. let no : true ≡ false = sym o ∙ shut in cc) h);
   reads = λ es h. go.reads (mark s ∷ es) (in_front s m q r es e st h);
 }
 
 -- one that opens a level
-pub over_open : {k : Sort} {n a : ℕ} {f : List Element → List Element} {x : List (Part Sort)} {p q r : List Mark} (s : Spelled) (m : Mark) → Goes k n f (token a ∷ x) p q → q ≡ m ∷ r → kind_of m.symbol ≡ a → level edison x n ≤ 64 → Stands s m → Goes k n (λ es. f (mark s ∷ es)) x p r
+pub over_open : {k : Sort} {n a : ℕ} {f : List Element → List Element} {x : List (Part Sort)} {p q r : List Mark} (s : Spelled) (m : Mark) → Goes k n f (token a ∷ x) p q → q ≡ m ∷ r → kind_of m.symbol ≡ a → level edison x n ≤ 64 → StandsAsMark s m → Goes k n (λ es. f (mark s ∷ es)) x p r
 over_open {n = n} {a = a} {x = x} {q = q} {r = r} s m go e is small st = record {
   at = λ y w t l h. go.at y w t l (takes a m q r (x ++ y) w t e is (λ o. subst (λ d. d ≤ 64) (ap (level edison x) (sym l) ∙ sym (level_both edison x y 0)) small) h);
   reads = λ es h. go.reads (mark s ∷ es) (in_front s m q r es e st h);
@@ -70,7 +70,7 @@ into {j = j} {x = x} {q = q} rule go e = record {
 
 -- the same elements, written otherwise
 pub written : {k : Sort} {n : ℕ} {f h : List Element → List Element} {x : List (Part Sort)} {p q : List Mark} → Goes k n f x p q → ((es : List Element) → f es ≡ h es) → Goes k n h x p q
-written {p = p} go e = record { at = go.at; reads = λ es s. subst (λ l. Stand (marks_among l) p) (e es) (go.reads es s) }
+written {p = p} go e = record { at = go.at; reads = λ es s. subst (λ l. StandAsMarks (marks_among l) p) (e es) (go.reads es s) }
 
 pub lacks : {k : Sort} {n a : ℕ} {f : List Element → List Element} {x : List (Part Sort)} {p q : List Mark} {e : Stop} → Goes k n f (token a ∷ x) p q → Lacks a q e → HaltsAt k n p e
 lacks {a = a} {x = x} {q = q} {e = stop.Fault rest} go h = record { at = λ y l. go.at y wrong (to_end rest.now) l (subst (λ r. Stops edison 64 (token a ∷ (x ++ y)) (to_end q) wrong (to_end r)) (sym h.at.0) (refuses a q (x ++ y) h.at.1)) }

@@ -1,4 +1,4 @@
--- Where a parsing function stops, unless memory is wanting.
+-- Words of contracts. Where a parsing function stops, unless memory is wanting.
 use Rattle.std.specs.Prelude.{◌≡◌, ◌≤◌, ℕ, List, ◌∷◌, Option}
 use Rattle.edi_lex.specs.declared.symbol.Mark.{Mark}
 use Rattle.edi_tree.specs.Spells.{to_end}

@@ -1,4 +1,4 @@
--- Symbols that are the only ones of their kind.
+-- Words of contracts. Symbols that are the only ones of their kind.
 use Rattle.std.specs.Prelude.{◌≡◌, ℕ, List, ◌∷◌, Bool, true, false}
 use Rattle.edi_lex.specs.declared.symbol.Symbol.{Symbol}
 use Rattle.edi_lex.specs.declared.symbol.Symbol.TheVariants as is

@@ -4,7 +4,7 @@ use Rattle.std.specs.Prelude.{Option, Some, None, slice_get}
 use Rattle.std.proofs.lemmas.List.{same_lists, length-map, get_or_default, get_or-map}
 use Rattle.edi_ring.specs.declared.Ends.{Ends}
 use Rattle.edi_ring.specs.Lists.{list_at}
-use Rattle.edi_ring.specs.Links.{walk, lists_in, step, redirected, redirected_end, Runs, Stands, IsLinked, no_ends}
+use Rattle.edi_ring.specs.Links.{walk, lists_in, step, redirected, redirected_end, Runs, ListStands, IsLinked, no_ends}
 
 pub redirected_same : (xs : List (Option ℕ)) (o v : Option ℕ) (c : ℕ) → o ≡ Some c → c < length xs → get_or (redirected xs o v) c None ≡ v
 redirected_same xs None v c e lt = cc
@@ -38,7 +38,7 @@ next-slice_get next prev first last b (y ∷ []) zero x r h = let same : y ≡ x
 next-slice_get next prev first last b (y ∷ z ∷ ys) zero x r h = let same : y ≡ x = cc in subst (λ (w : ℕ). get_or next w None ≡ Some z) same r.2.0
 next-slice_get next prev first last b (y ∷ ys) (suc k) x r h = next-slice_get next prev first last (Some y) ys k x r.2 h
 
-pub walk-Stands : (next prev : List (Option ℕ)) (e : Ends) (xs : List ℕ) → Stands next prev e xs → walk next e.first e.len ≡ xs
+pub walk-Stands : (next prev : List (Option ℕ)) (e : Ends) (xs : List ℕ) → ListStands next prev e xs → walk next e.first e.len ≡ xs
 walk-Stands next prev e xs s = rw s.counted (walk-Runs next prev e.first e.last None xs s.runs)
 
 -- the arrays hold no other lists
@@ -53,7 +53,7 @@ lists_in-IsLinked next prev home ends lists h =
     ∙ get_or_default lists k [] d listed)
 
 -- the first place of a chain is its first node
-pub first-Stands : (next prev : List (Option ℕ)) (e : Ends) (xs : List ℕ) → Stands next prev e xs → e.first ≡ slice_get xs 0
+pub first-Stands : (next prev : List (Option ℕ)) (e : Ends) (xs : List ℕ) → ListStands next prev e xs → e.first ≡ slice_get xs 0
 first-Stands next prev e [] s = s.runs.0
 first-Stands next prev e (x ∷ xs) s = s.runs.0
 

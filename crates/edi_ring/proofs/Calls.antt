@@ -12,7 +12,7 @@ use Rattle.edi_ring.proofs.Moves as moves
 
 -- the arrays hold these lists, in which each node has this home
 pub record Leaves (nodes count : ℕ) (next prev home : List (Option ℕ)) (ends : List Ends) (lists : List (List ℕ)) (homes : ℕ → Option ℕ) : Type 0 where
-  pub held : IsLinked next prev home ends (lists_in next ends)
+  pub still_linked : IsLinked next prev home ends (lists_in next ends)
   pub exact : lists_in next ends ≡ lists
   pub homes_are : (q : ℕ) → home_of (lists_in next ends) q ≡ homes q
   pub sound : IsSound nodes count (lists_in next ends)
@@ -23,7 +23,7 @@ leaves : (nodes count : ℕ) (next prev home : List (Option ℕ)) (ends : List E
 leaves nodes count next prev home ends lists homes h wide many kept =
     let again = IsLinked-again next prev home ends lists h in
     record {
-      held = again;
+      still_linked = again;
       exact = lists_in-IsLinked next prev home ends lists h;
       homes_are = λ q. home_of-IsLinked next prev home ends (lists_in next ends) again q ∙ kept q;
       sound = IsSound-IsLinked nodes count next prev home ends (lists_in next ends) again wide many;
@@ -54,10 +54,10 @@ home-set home node q v lt =
     ]
 
 module _ (nodes count : ℕ) (next prev home : List (Option ℕ)) (ends : List Ends) (lists : List (List ℕ))
-    (held : IsLinked next prev home ends (lists_in next ends)) (seen : lists_in next ends ≡ lists)
+    (still_linked : IsLinked next prev home ends (lists_in next ends)) (seen : lists_in next ends ≡ lists)
     (many : length ends ≡ count) (wide_next : length next ≡ nodes) (wide_prev : length prev ≡ nodes) (wide_home : length home ≡ nodes) where
   pub linked : IsLinked next prev home ends lists
-  linked = IsLinked-view next prev home ends lists held seen
+  linked = IsLinked-view next prev home ends lists still_linked seen
 
   pub sound : IsSound nodes count lists
   sound = IsSound-IsLinked nodes count next prev home ends lists linked wide_home many
@@ -65,8 +65,8 @@ module _ (nodes count : ℕ) (next prev home : List (Option ℕ)) (ends : List E
   pub home_is : (q : ℕ) → home_of lists q ≡ get_or home q None
   home_is q = home_of-IsLinked next prev home ends lists linked q
 
-  pub first_place : (list : ℕ) → list < count → (get_or ends list no_ends).first ≡ slice_get (list_at lists list) 0
-  first_place list lt = first-Stands next prev (get_or ends list no_ends) (list_at lists list) (linked.stands list (omega (arith, many)))
+  pub first_index : (list : ℕ) → list < count → (get_or ends list no_ends).first ≡ slice_get (list_at lists list) 0
+  first_index list lt = first-Stands next prev (get_or ends list no_ends) (list_at lists list) (linked.stands list (omega (arith, many)))
 
   pub counted : (list : ℕ) → list < count → (get_or ends list no_ends).len ≡ length (list_at lists list)
   counted list lt = (linked.stands list (omega (arith, many))).counted
@@ -74,12 +74,12 @@ module _ (nodes count : ℕ) (next prev home : List (Option ℕ)) (ends : List E
   pub short : (list : ℕ) → list < count → (get_or ends list no_ends).len ≤ nodes
   short list lt = rw (counted list lt) (length-le-nodes nodes count lists list sound)
 
-  pub place_within : (list k node : ℕ) → slice_get (list_at lists list) k ≡ Some node → node < nodes
-  place_within list k node at_k =
+  pub index_within : (list k node : ℕ) → slice_get (list_at lists list) k ≡ Some node → node < nodes
+  index_within list k node at_k =
       moves.in_range next prev home ends lists linked nodes wide_next wide_prev wide_home list node (among_at (list_at lists list) k node at_k)
 
-  pub next_place : (list k node : ℕ) → list < count → slice_get (list_at lists list) k ≡ Some node → get_or next node None ≡ slice_get (list_at lists list) (k + 1)
-  next_place list k node lt at_k =
+  pub next_index : (list k node : ℕ) → list < count → slice_get (list_at lists list) k ≡ Some node → get_or next node None ≡ slice_get (list_at lists list) (k + 1)
+  next_index list k node lt at_k =
       rw add-one (next-slice_get next prev _ _ _ (list_at lists list) k node (linked.stands list (omega (arith, many))).runs at_k)
 
   module _ (list node : ℕ) (is_list : list < count) (is_node : node < nodes) (free : home_of lists node ≡ None) where
@@ -113,9 +113,9 @@ module _ (nodes count : ℕ) (next prev home : List (Option ℕ)) (ends : List E
         let after = push_leaves in
         let short = length-le-nodes nodes count (appended lists list node) list (subst (λ (seen : List (List ℕ)). IsSound nodes count seen) after.exact after.sound) in
         let many_lists = linked.as_many in
-        let place : list_at (appended lists list node) list ≡ list_at lists list ++ node ∷ [] = get_or-set_same lists list _ [] (omega arith) in
+        let index : list_at (appended lists list node) list ≡ list_at lists list ++ node ∷ [] = get_or-set_same lists list _ [] (omega arith) in
         let counted = (linked.stands list listed).counted in
-        omega (arith, ap length place, length_push (list_at lists list) node)
+        omega (arith, ap length index, length_push (list_at lists list) node)
 
   module _ (node : ℕ) (is_node : node < nodes) (listed : IsSome (home_of lists node)) where
     pub has_home : IsSome (get_or home node None)
@@ -158,7 +158,7 @@ module _ (nodes count : ℕ) (next prev home : List (Option ℕ)) (ends : List E
       pub some_there : 1 ≤ here.len
       some_there =
           let counted = (linked.stands list (let lt = is_list in omega (arith, many))).counted in
-          let some = some_among node (list_at lists list) (linked.held list node its_home) in omega arith
+          let some = some_among node (list_at lists list) (linked.among_list list node its_home) in omega arith
 
 -- a node taken out and put at the back of the same list is where it was
 pub homes_again : (was mid now : ℕ → Option ℕ) (list node : ℕ) → was node ≡ Some list → ((q : ℕ) → mid q ≡ cond (eqb q node) None (was q))

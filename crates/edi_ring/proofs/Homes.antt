@@ -36,14 +36,14 @@ home_from : (q k : ℕ) (lists : List (List ℕ)) (h : Option ℕ)
     → ((l m : ℕ) → m ≡ k + l → IsAmong q (list_at lists l) → h ≡ Some m)
     → ((m : ℕ) → h ≡ Some m → (l : ℕ) × (m ≡ k + l) × IsAmong q (list_at lists l))
     → position_from (λ nodes. has nodes q) k lists ≡ h
-home_from q k [] None homes held = refl
-home_from q k [] (Some m) homes held = absurd (held m refl).2
-home_from q k (xs ∷ lists) h homes held =
+home_from q k [] None homes among_list = refl
+home_from q k [] (Some m) homes among_list = absurd (among_list m refl).2
+home_from q k (xs ∷ lists) h homes among_list =
     elim (two (has xs q)) [
       | inl here ↦ rw here (sym (homes 0 k (omega arith) (among-from_has q xs here)))
       | inr none ↦
           rw none (home_from q (k + 1) lists h (λ l m e i. homes (suc l) m (omega arith) i)
-          (λ m e. let f = held m e in further q k m xs lists f.0 none f.1 f.2))
+          (λ m e. let f = among_list m e in further q k m xs lists f.0 none f.1 f.2))
     ]
 
 pub home_of-IsLinked : (next prev home : List (Option ℕ)) (ends : List Ends) (lists : List (List ℕ)) → IsLinked next prev home ends lists
@@ -51,7 +51,7 @@ pub home_of-IsLinked : (next prev home : List (Option ℕ)) (ends : List Ends) (
 home_of-IsLinked next prev home ends lists h q =
     home_from q 0 lists (get_or home q None)
     (λ l m e i. let same : m ≡ l = omega arith in h.homes l q i ∙ ap (λ k. Some k) (sym same))
-    (λ m e. (m, omega arith, h.held m q e))
+    (λ m e. (m, omega arith, h.among_list m q e))
 
 -- no node twice, in the library's word
 apart : (n : ℕ) (xs : List ℕ) → (IsAmong n xs → ⊥) → AllByRecursion (λ y. eqb n y ≡ false) xs

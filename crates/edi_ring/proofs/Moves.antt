@@ -6,7 +6,7 @@ use Rattle.std.proofs.lemmas.List.{length-map, length_push, get_or_past}
 use Rattle.std.proofs.Math.ListN.{get_or-map as get_or-map_all}
 use Rattle.edi_ring.specs.declared.Ends.{Ends}
 use Rattle.edi_ring.specs.Lists.{list_at, appended, without}
-use Rattle.edi_ring.specs.Links.{step, redirected, redirected_end, Runs, Stands, IsLinked, no_ends, IsAmong, NoneTwice}
+use Rattle.edi_ring.specs.Links.{step, redirected, redirected_end, Runs, ListStands, IsLinked, no_ends, IsAmong, NoneTwice}
 use Rattle.edi_ring.proofs.Chain.{runs_same, runs_unlinked, runs_pushed, prev_of, next_of, last_of, minus, minus_none, among-minus, minus_gone, minus_keeps, NoneTwice-minus, length-minus, among_push, among_kept, among-push, NoneTwice-push}
 use Rattle.edi_ring.proofs.Arrays.{redirected_other, step-same, step-other}
 use Rattle.edi_ring.proofs.Homes.{within}
@@ -57,12 +57,12 @@ module _ (next prev home : List (Option ℕ)) (ends : List Ends) (lists : List (
     pub last_in : (c : ℕ) → e.last ≡ Some c → IsAmong c xs
     last_in c k = last_among (step next e.first) (step prev e.last) xs c (h.stands list is_list).runs k
 
-    other_place : (c : ℕ) → (c ≡ node → ⊥) → (e.last ≡ Some c → ⊥) → get_or next' c None ≡ get_or next c None
-    other_place c ne far = redirected_other (set next node None) e.last (Some node) c far ∙ get_or-set_other next node c None None ne
+    other_index : (c : ℕ) → (c ≡ node → ⊥) → (e.last ≡ Some c → ⊥) → get_or next' c None ≡ get_or next c None
+    other_index c ne far = redirected_other (set next node None) e.last (Some node) c far ∙ get_or-set_other next node c None None ne
 
     next_else : (q : Option ℕ) → (q ≡ e.last → ⊥) → (q ≡ Some node → ⊥) → step next' e'.first q ≡ step next e.first q
     next_else None far ne = step-other (set next node None) e.first e.last (Some node) None far
-    next_else (Some c) far ne = other_place c (λ k. ne (ap (λ n. Some n) k)) (λ k. far (sym k))
+    next_else (Some c) far ne = other_index c (λ k. ne (ap (λ n. Some n) k)) (λ k. far (sym k))
 
     node_in : node < length (set next node None)
     node_in = omega (arith, length-set next node None)
@@ -86,11 +86,11 @@ module _ (next prev home : List (Option ℕ)) (ends : List Ends) (lists : List (
     at_other : (l : ℕ) → (l ≡ list → ⊥) → list_at (appended lists list node) l ≡ list_at lists l
     at_other l ne = get_or-set_other lists list l (xs ++ node ∷ []) [] ne
 
-    pushed_stands : (l : ℕ) → l < length (set ends list e') → Stands next' prev' (get_or (set ends list e') l no_ends) (list_at (appended lists list node) l)
+    pushed_stands : (l : ℕ) → l < length (set ends list e') → ListStands next' prev' (get_or (set ends list e') l no_ends) (list_at (appended lists list node) l)
     pushed_stands l lt =
         elim (cases_eq l list) [
           | inl same ↦
-              subst (λ (k : ℕ). Stands next' prev' (get_or (set ends list e') k no_ends) (list_at (appended lists list node) k)) (sym same)
+              subst (λ (k : ℕ). ListStands next' prev' (get_or (set ends list e') k no_ends) (list_at (appended lists list node) k)) (sym same)
               (rw (at_list, get_or-set_same ends list e' no_ends is_list)
               (record { runs = pushed_runs; counted = let kept = (h.stands list is_list).counted in omega (arith, length_push xs node) }))
           | inr ne ↦
@@ -100,7 +100,7 @@ module _ (next prev home : List (Option ℕ)) (ends : List Ends) (lists : List (
                 runs =
                     runs_same (step next (get_or ends l no_ends).first) (step prev (get_or ends l no_ends).last)
                     (step next' (get_or ends l no_ends).first) (step prev' (get_or ends l no_ends).last) None (list_at lists l) old.runs refl
-                    (λ c i. other_place c (λ k. absent l (subst (λ (n : ℕ). IsAmong n (list_at lists l)) k i)) (λ k. ne (apart l list c i (last_in c k))))
+                    (λ c i. other_index c (λ k. absent l (subst (λ (n : ℕ). IsAmong n (list_at lists l)) k i)) (λ k. ne (apart l list c i (last_in c k))))
                     (λ c i. get_or-set_other prev node c e.last None (λ k. absent l (subst (λ (n : ℕ). IsAmong n (list_at lists l)) k i)))
                     refl;
                 counted = old.counted;
@@ -127,8 +127,8 @@ module _ (next prev home : List (Option ℕ)) (ends : List Ends) (lists : List (
               ]
         ]
 
-    pushed_held : (l q : ℕ) → get_or (set home node (Some list)) q None ≡ Some l → IsAmong q (list_at (appended lists list node) l)
-    pushed_held l q k =
+    pushed_among : (l q : ℕ) → get_or (set home node (Some list)) q None ≡ Some l → IsAmong q (list_at (appended lists list node) l)
+    pushed_among l q k =
         elim (cases_eq q node) [
           | inl same ↦
               let now : get_or (set home node (Some list)) node None ≡ Some list = get_or-set_same home node (Some list) None (omega arith) in
@@ -136,7 +136,7 @@ module _ (next prev home : List (Option ℕ)) (ends : List Ends) (lists : List (
               let is_it : list ≡ l = cc in
               rw (← is_it, at_list, same) (among_push node xs)
           | inr other ↦
-              let old : IsAmong q (list_at lists l) = h.held l q (sym (get_or-set_other home node q (Some list) None other) ∙ k) in
+              let old : IsAmong q (list_at lists l) = h.among_list l q (sym (get_or-set_other home node q (Some list) None other) ∙ k) in
               elim (cases_eq l list) [
                 | inl same ↦ rw (same, at_list) (among_kept node q xs (rw same at old))
                 | inr ne ↦ rw (at_other l ne) old
@@ -155,7 +155,7 @@ module _ (next prev home : List (Option ℕ)) (ends : List Ends) (lists : List (
       as_many = length-set lists list (xs ++ node ∷ []) ∙ h.as_many ∙ sym (length-set ends list e');
       stands = pushed_stands;
       homes = pushed_homes;
-      held = pushed_held;
+      among_list = pushed_among;
       once = pushed_once;
     }
 
@@ -182,7 +182,7 @@ module _ (next prev home : List (Option ℕ)) (ends : List Ends) (lists : List (
     left = record { first = redirected_end here.first preceding following; last = redirected_end here.last following preceding; len = here.len - 1 }
 
     in_it : IsAmong node ys
-    in_it = h.held list node its_home
+    in_it = h.among_list list node its_home
 
     pub is_one : list < length ends
     is_one = let lt = listed lists list node in_it in let many = h.as_many in omega arith
@@ -213,11 +213,11 @@ module _ (next prev home : List (Option ℕ)) (ends : List Ends) (lists : List (
     left_at : (l : ℕ) → list_at (without lists node) l ≡ minus node (list_at lists l)
     left_at l = get_or-map_all (minus node) lists l []
 
-    left_stands : (l : ℕ) → l < length (set ends list left) → Stands bridged_next bridged_prev (get_or (set ends list left) l no_ends) (list_at (without lists node) l)
+    left_stands : (l : ℕ) → l < length (set ends list left) → ListStands bridged_next bridged_prev (get_or (set ends list left) l no_ends) (list_at (without lists node) l)
     left_stands l lt =
         elim (cases_eq l list) [
           | inl same ↦
-              subst (λ (k : ℕ). Stands bridged_next bridged_prev (get_or (set ends list left) k no_ends) (list_at (without lists node) k)) (sym same)
+              subst (λ (k : ℕ). ListStands bridged_next bridged_prev (get_or (set ends list left) k no_ends) (list_at (without lists node) k)) (sym same)
               (rw (left_at list, get_or-set_same ends list left no_ends is_one)
               (record { runs = left_runs; counted = let kept = (h.stands list is_one).counted in omega (arith, length-minus node ys in_it (h.once list)) }))
           | inr ne ↦
@@ -240,15 +240,15 @@ module _ (next prev home : List (Option ℕ)) (ends : List Ends) (lists : List (
         get_or-set_other home node q None None (λ same. minus_gone node (list_at lists l) (subst (λ (n : ℕ). IsAmong n (minus node (list_at lists l))) same was))
         ∙ h.homes l q (among-minus node q (list_at lists l) was)
 
-    left_held : (l q : ℕ) → get_or (set home node None) q None ≡ Some l → IsAmong q (list_at (without lists node) l)
-    left_held l q k =
+    left_among : (l q : ℕ) → get_or (set home node None) q None ≡ Some l → IsAmong q (list_at (without lists node) l)
+    left_among l q k =
         elim (cases_eq q node) [
           | inl same ↦
               let now : get_or (set home node None) node None ≡ None = get_or-set_same home node None None (let lt = within home node list its_home in lt) in
               let there : get_or (set home node None) node None ≡ Some l = subst (λ (n : ℕ). get_or (set home node None) n None ≡ Some l) same k in
               let end : None ≡ Some l = sym now ∙ there in absurd (cc)
           | inr other ↦
-              rw (left_at l) (minus_keeps node q (list_at lists l) (h.held l q (sym (get_or-set_other home node q None None other) ∙ k)) other)
+              rw (left_at l) (minus_keeps node q (list_at lists l) (h.among_list l q (sym (get_or-set_other home node q None None other) ∙ k)) other)
         ]
 
     pub IsLinked-take : IsLinked bridged_next bridged_prev (set home node None) (set ends list left) (without lists node)
@@ -256,6 +256,6 @@ module _ (next prev home : List (Option ℕ)) (ends : List Ends) (lists : List (
       as_many = length-map lists (minus node) ∙ h.as_many ∙ sym (length-set ends list left);
       stands = left_stands;
       homes = left_homes;
-      held = left_held;
+      among_list = left_among;
       once = λ l. rw (left_at l) (NoneTwice-minus node (list_at lists l) (h.once l));
     }

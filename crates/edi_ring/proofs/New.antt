@@ -15,6 +15,6 @@ IsLinked-new nodes count = record {
   as_many = length-replicate count [] ∙ sym (length-replicate count no_ends);
   stands = λ l lt. rw (replicated no_ends count l, replicated {A = List ℕ} [] count l) (record { runs = (refl, refl); counted = refl });
   homes = λ l q i. absurd (rw (replicated {A = List ℕ} [] count l) at i);
-  held = λ l q h. let nowhere : None ≡ Some l = sym (replicated {A = Option ℕ} None nodes q) ∙ h in absurd (cc);
+  among_list = λ l q h. let nowhere : None ≡ Some l = sym (replicated {A = Option ℕ} None nodes q) ∙ h in absurd (cc);
   once = λ l. rw (replicated {A = List ℕ} [] count l) tt;
 }

@@ -5,7 +5,7 @@ use Rattle.edi_ring.specs.Lists.{list_at}
 
 -- so many nodes from this one on, each the next of the one before it
 abbrev pub walk : List (Option ℕ) → Option ℕ → ℕ → List ℕ
-walk next place zero = []
+walk next index zero = []
 walk next None (suc n) = []
 walk next (Some node) (suc n) = node ∷ walk next (slice_index_or next node None) n
 
@@ -30,9 +30,9 @@ redirected_end end (Some node) target = end
 
 -- the nodes follow a place, each linked both ways to the place before it, and behind the last of them the list ends
 abbrev pub Runs : (Option ℕ → Option ℕ) → (Option ℕ → Option ℕ) → Option ℕ → List ℕ → Type 0
-Runs after before place [] = (after place ≡ None) × (before None ≡ place)
-Runs after before place (node ∷ nodes) =
-    (after place ≡ Some node) × (before (Some node) ≡ place) × Runs after before (Some node) nodes
+Runs after before index [] = (after index ≡ None) × (before None ≡ index)
+Runs after before index (node ∷ nodes) =
+    (after index ≡ Some node) × (before (Some node) ≡ index) × Runs after before (Some node) nodes
 
 -- the node is among these nodes
 abbrev pub IsAmong : ℕ → List ℕ → Type 0
@@ -45,7 +45,7 @@ NoneTwice [] = Unit {0}
 NoneTwice (node ∷ nodes) = (IsAmong node nodes → ⊥) × NoneTwice nodes
 
 -- the nodes stand between these two ends, and their number is kept
-pub record Stands (next prev : List (Option ℕ)) (ends : Ends) (nodes : List ℕ) : Type 0 where
+pub record ListStands (next prev : List (Option ℕ)) (ends : Ends) (nodes : List ℕ) : Type 0 where
   pub runs : Runs (step next ends.first) (step prev ends.last) None nodes
   pub counted : ends.len ≡ length nodes
 
@@ -56,7 +56,7 @@ no_ends = record { first = None; last = None; len = 0 }
 -- the arrays hold these lists: each is linked from end to end, the home of a node is the list that has it, and no node stands twice
 pub record IsLinked (next prev home : List (Option ℕ)) (ends : List Ends) (lists : List (List ℕ)) : Type 0 where
   pub as_many : length lists ≡ length ends
-  pub stands : (list : ℕ) → list < length ends → Stands next prev (slice_index_or ends list no_ends) (list_at lists list)
+  pub stands : (list : ℕ) → list < length ends → ListStands next prev (slice_index_or ends list no_ends) (list_at lists list)
   pub homes : (list node : ℕ) → IsAmong node (list_at lists list) → slice_index_or home node None ≡ Some list
-  pub held : (list node : ℕ) → slice_index_or home node None ≡ Some list → IsAmong node (list_at lists list)
+  pub among_list : (list node : ℕ) → slice_index_or home node None ≡ Some list → IsAmong node (list_at lists list)
   pub once : (list : ℕ) → NoneTwice (list_at lists list)

@@ -28,18 +28,18 @@ pub struct Lists<const N: usize, const M: usize> {
     home: [Option<usize>; N],
 }
 
-// Where no node is at `place`, it is the one outside the list, whose link is the list's end.
+// Where no node is at `index`, it is the one outside the list, whose link is the list's end.
 fn redirect<const N: usize>(
     links: &mut [Option<usize>; N],
     end: &mut Option<usize>,
-    place: Option<usize>,
+    index: Option<usize>,
     target: Option<usize>,
 )
-    requires { ForSome place (λ node. node < N) }
-    ensures links { links.new ≡ redirected links.old place target }
-    ensures end { end.new ≡ redirected_end end.old place target }
+    requires { ForSome index (λ node. node < N) }
+    ensures links { links.new ≡ redirected links.old index target }
+    ensures end { end.new ≡ redirected_end end.old index target }
 {
-    match place {
+    match index {
         Some(node) => links[node] = target,
         None => *end = target,
     }
@@ -141,12 +141,12 @@ impl<const N: usize, const M: usize> Lists<N, M> {
         ensures exact { result ≡ slice_get (list_at self.now list) i }
         ensures sound { IsSound N M self.now }
     {
-        let mut place = self.ends[list].first;
+        let mut index = self.ends[list].first;
         for _step in 0..i {
-            let node = place?;
-            place = self.next[node];
+            let node = index?;
+            index = self.next[node];
         }
-        place
+        index
     }
 
     /// How many nodes the list has.

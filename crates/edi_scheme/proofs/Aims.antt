@@ -12,7 +12,7 @@ use Rattle.edi_target.specs.Decode.{decode}
 use Rattle.edi_target.specs.Check.{Way, ahead, back, enters, begins, is_start, starts_of, is_entry, targets_of, targets_fault, keeps, first_fault, or_else, unless}
 use Rattle.edi_target.specs.declared.code_fault.CodeFault.{CodeFault}
 use Rattle.edi_target.specs.declared.code_fault.CodeFault.TheVariants as fault
-use Rattle.edi_scheme.specs.Pieces.{Code, words_of_code, code_long, is_address, variable_code, element_code, on_sets, operation, decision, check_code, Choice, once, repeated, released, close_code, again_code}
+use Rattle.edi_scheme.specs.Pieces.{Code, words_of_code, code_length, is_address, variable_code, element_code, on_sets, operation, decision, check_code, ClauseKind, once, repeated, released, close_code, again_code}
 use Rattle.edi_scheme.proofs.Laid.{Long}
 
 -- ---- codes without targets
@@ -142,7 +142,7 @@ module _ (words : List ℕ) where
       let both = length-append (words_of i) (words_of_code code) in
       leads_then aims (leads_append (n - length (words_of i)) (record { is = omega (arith, long, both) }) rest (subst (Leads _) (omega (arith, long, both)) h))
 
-  pub decision_leads : (o : Operator) (at behind : ℕ) → at + code_long (decision o 0) ≤ behind → Good behind → Leads (decision o behind) at
+  pub decision_leads : (o : Operator) (at behind : ℕ) → at + code_length (decision o 0) ≤ behind → Good behind → Leads (decision o behind) at
   decision_leads op.And at behind less g = leads_one (aims_ahead at (instruction.and behind) behind refl g (omega (arith, less)))
   decision_leads op.Or at behind less g = leads_one (aims_ahead at (instruction.or behind) behind refl g (omega (arith, less)))
   decision_leads op.Equal at behind less g = nothing
@@ -163,17 +163,17 @@ module _ (words : List ℕ) where
   again_leads false top at less g = leads_one (aims_back at (instruction.retry top) top refl g less)
 
 -- the target of lists from one address to another lies behind them, or for a `while` before them
-abbrev pub IsBeyond : Choice → (target from to : ℕ) → Type 0
+abbrev pub IsBeyond : ClauseKind → (target from to : ℕ) → Type 0
 IsBeyond once target from to = to ≤ target
 IsBeyond repeated target from to = target ≤ from
 IsBeyond released target from to = to ≤ target
 
-pub beyond_part : (choice : Choice) (target from to inner end : ℕ) → from ≤ inner → end ≤ to → IsBeyond choice target from to → IsBeyond choice target inner end
+pub beyond_part : (choice : ClauseKind) (target from to inner end : ℕ) → from ≤ inner → end ≤ to → IsBeyond choice target from to → IsBeyond choice target inner end
 beyond_part once target from to inner end f e h = omega (arith, e, h)
 beyond_part repeated target from to inner end f e h = omega (arith, f, h)
 beyond_part released target from to inner end f e h = omega (arith, e, h)
 
-pub close_leads : (words : List ℕ) (choice : Choice) (target at : ℕ) (cs : Clauses) → IsBeyond choice target at (at + code_long (close_code choice 0 cs)) → Good words target → Leads words (close_code choice target cs) at
+pub close_leads : (words : List ℕ) (choice : ClauseKind) (target at : ℕ) (cs : Clauses) → IsBeyond choice target at (at + code_length (close_code choice 0 cs)) → Good words target → Leads words (close_code choice target cs) at
 close_leads words once target at no_clause h g = nothing
 close_leads words once target at (clause_then c cs) h g = leads_one words (aims_ahead words at (instruction.jump target) target refl g (omega (arith, h)))
 close_leads words repeated target at cs h g = leads_one words (aims_back words at (instruction.loop target) target refl g h)

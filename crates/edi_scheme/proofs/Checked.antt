@@ -179,14 +179,14 @@ module _ (unit : ProgramUnit) (fits : Fits unit) (parts : HaveParts unit.types) 
   first_block : (is_branch (block_at blocks 0).kind ≡ false) × ((block_at blocks 0).result ≡ None)
   first_block = program_block (block_at blocks 0).kind (block_at blocks 0) (fits.fits_blocks 0 fits.some).fits_kind
 
-  calls_long : sum_by (slot_words types) (block_at blocks 0).parameters ≡ 3 * length unit.calls
-  calls_long = formal_words types (block_at blocks 0).parameters fits.fits_calls.procedures ∙ ap (λ n. 3 * n) fits.fits_calls.as_many
+  calls_length : sum_by (slot_words types) (block_at blocks 0).parameters ≡ 3 * length unit.calls
+  calls_length = formal_words types (block_at blocks 0).parameters fits.fits_calls.procedures ∙ ap (λ n. 3 * n) fits.fits_calls.as_many
 
   begins_program : is_program (length unit.calls) (decode (drop 0 words)) ≡ true
   begins_program =
       fetched_test (is_program (length unit.calls)) (same_program (length unit.calls)) (decode (drop 0 words)) 0
       ∙ ap (is_program (length unit.calls)) (procedure 0 fits.some first_block.0).begins
-      ∙ program_test types (block_at blocks 0).result _ (length unit.calls) first_block.1 calls_long
+      ∙ program_test types (block_at blocks 0).result _ (length unit.calls) first_block.1 calls_length
 
   no_entry : entry_fault words (starts_of words) 0 (length unit.calls) ≡ None
   no_entry =

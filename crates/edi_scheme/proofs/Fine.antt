@@ -10,12 +10,12 @@ use Rattle.edi_unit.specs.declared.expressions.Callee.{Callee}
 use Rattle.edi_unit.specs.declared.expressions.Callee.TheVariants as callee
 use Rattle.edi_unit.specs.declared.units.Parameter.{Parameter}
 use Rattle.edi_unit.specs.Types.{Shape, int, char, bool, enumeration, record_of, array_of, set_of, shape_at, is_set_shape, size, named_types, greatest_size, IsTypeTable, HasOrderedBounds}
-use Rattle.edi_unit.specs.Tree.{Expression, constant, load, not_of, minus, chain, make, convert, invoke, Expressions, no_expression, expression_then, link, Links, no_link, link_then, Place, place, Part, field, index, Parts, no_part, part_then, by_value, by_variable, by_procedure, Arguments, no_argument, argument_then, Act, skip, assign, call, halt, conditional, loop, await, cobegin, Acts, no_act, act_then, Clause, clause, Clauses, no_clause, clause_then, Block}
+use Rattle.edi_unit.specs.Tree.{Expression, constant, load, not_of, sign_of, chain, make, convert, apply_of, Expressions, no_expression, expression_then, link, Links, no_link, link_then, Place, place, Part, field, index, Parts, no_part, part_then, by_value, by_variable, by_procedure, Arguments, no_argument, argument_then, Act, skip, assign, call, halt, if_act, while_act, when_act, cobegin, Acts, no_act, act_then, Clause, clause, Clauses, no_clause, clause_then, Block}
 use Rattle.edi_unit.specs.Need.{block_at, slot_at, slot_type, part_type, operator_type, place_type, expression_type}
 use Rattle.edi_unit.specs.Fits.{ShapesFit, ShapeFits, Heading, Formals, no_formal, value_then, variable_then, procedure_then, CalleeFits, ExpressionFits, ExpressionsFit, LinksFit, PlaceFits, PartFits, PartsFit, ArgumentsFit, BranchFits, ActFits, ActsFit, ClauseFits, ClausesFit, BlockFits}
 use Rattle.edi_meaning.specs.Step.{is_quiet}
 use Rattle.edi_target.specs.Op.{Instruction, Branch, has_frame, is_count, is_integer}
-use Rattle.edi_scheme.specs.Pieces.{Code, is_branch, is_address, function_flag, entry_of, variable_code, element_code, on_sets, operation, decision, check_code, constant_words, row_code, Choice, once, repeated, released, close_code, again_code}
+use Rattle.edi_scheme.specs.Pieces.{Code, is_branch, is_address, function_flag, entry_of, variable_code, element_code, on_sets, operation, decision, check_code, constant_words, row_code, ClauseKind, once, repeated, released, close_code, again_code}
 use Rattle.edi_scheme.specs.Laws.{HaveParts}
 use Rattle.edi_scheme.specs.Code.{call_code, procedure_code, expression_code, expressions_code, members_code, links_code, place_code, parts_code, part_code, arguments_code, act_code, acts_code, clause_code, clauses_code, entry, block_code, blocks_code}
 use Rattle.edi_scheme.proofs.Laid.{Allowed, AreAllowed, none, one_then, allowed_append, allowed_one}
@@ -89,7 +89,7 @@ check_allowed types (record_of fs) line h = none
 check_allowed types (array_of i lo hi e) line h = none
 check_allowed types (set_of t) line h = none
 
-close_allowed : (choice : Choice) (target : ℕ) (cs : Clauses) → AreAllowed (close_code choice target cs)
+close_allowed : (choice : ClauseKind) (target : ℕ) (cs : Clauses) → AreAllowed (close_code choice target cs)
 close_allowed once target no_clause = none
 close_allowed once target (clause_then c cs) = allowed_one (record { operands = refl; integers = refl })
 close_allowed repeated target cs = allowed_one (record { operands = refl; integers = refl })
@@ -141,11 +141,11 @@ module _ (types : List Shape) (table : IsTypeTable types) (parts : HaveParts typ
     constants_count (expression_then (constant t n) es) = one_more _ (count es) (constant_words es) (constants_count es)
     constants_count (expression_then (load p) es) = tt
     constants_count (expression_then (not_of e) es) = tt
-    constants_count (expression_then (minus e line) es) = tt
+    constants_count (expression_then (sign_of e line) es) = tt
     constants_count (expression_then (chain e ls) es) = tt
     constants_count (expression_then (make t fs line) es) = tt
     constants_count (expression_then (convert t e line) es) = tt
-    constants_count (expression_then (invoke c xs line) es) = tt
+    constants_count (expression_then (apply_of c xs line) es) = tt
 
     positive : (t : ℕ) → t < length types → 1 ≤ size types t
     positive = known.size_positive types table parts
@@ -168,7 +168,7 @@ module _ (types : List Shape) (table : IsTypeTable types) (parts : HaveParts typ
           allowed_append (place_allowed p at h)
           (allowed_one (record { operands = le-leb 1 _ (positive _ (known_place p h)); integers = refl }))
       expression_allowed (not_of e) at h = allowed_append (expression_allowed e at h.1) (allowed_one (record { operands = refl; integers = refl }))
-      expression_allowed (minus e line) at h = allowed_append (expression_allowed e at h.1) (allowed_one (record { operands = refl; integers = refl }))
+      expression_allowed (sign_of e line) at h = allowed_append (expression_allowed e at h.1) (allowed_one (record { operands = refl; integers = refl }))
       expression_allowed (chain e ls) at h =
           allowed_append (expression_allowed e at h.1) (links_allowed (expression_type types blocks b e) ls _ (known_expression e h.1) h.2)
       expression_allowed (make t es line) at h =
@@ -178,7 +178,7 @@ module _ (types : List Shape) (table : IsTypeTable types) (parts : HaveParts typ
           let n = known.parts_count types table parts blocks headings each b inside t es h.0 q h.1 in
           row_allowed (constant_words es) _ _ n.1 n.0 (constants_count es) (expressions_allowed es at h.2))
       expression_allowed (convert t e line) at h = allowed_append (expression_allowed e at h.3) (check_allowed types (shape_at types t) line (shapes t h.0))
-      expression_allowed (invoke c xs line) at h = allowed_append (arguments_allowed xs _ at h.2) (call_allowed c line h.0)
+      expression_allowed (apply_of c xs line) at h = allowed_append (arguments_allowed xs _ at h.2) (call_allowed c line h.0)
 
       expressions_allowed : (es : Expressions) (at : ℕ) → ExpressionsFit types blocks headings b es → AreAllowed (expressions_code types blocks entry b at es)
       expressions_allowed no_expression at h = none
@@ -241,9 +241,9 @@ module _ (types : List Shape) (table : IsTypeTable types) (parts : HaveParts typ
           (allowed_append (expression_allowed e _ h.2) (allowed_one (record { operands = le-leb 1 _ (positive _ (known_place p h.1)); integers = refl })))
       act_allowed (call c xs line) at h = allowed_append (arguments_allowed xs _ at h.2) (call_allowed c line h.0)
       act_allowed (halt line) at h = allowed_one (record { operands = refl; integers = refl })
-      act_allowed (conditional cs) at h = clauses_allowed once cs _ at h
-      act_allowed (loop cs) at h = clauses_allowed repeated cs _ at h
-      act_allowed (await cs line) at h =
+      act_allowed (if_act cs) at h = clauses_allowed once cs _ at h
+      act_allowed (while_act cs) at h = clauses_allowed repeated cs _ at h
+      act_allowed (when_act cs line) at h =
           one_then (record { operands = refl; integers = refl }) (allowed_append (clauses_allowed released cs _ _ h) (again_allowed (is_quiet cs) _))
       act_allowed (cobegin bs line) at h =
           let branch : ℕ → Branch = λ n. record { need = (block_at blocks n).need; address = entry n } in
@@ -263,7 +263,7 @@ module _ (types : List Shape) (table : IsTypeTable types) (parts : HaveParts typ
       clause_allowed (clause e s) next at h =
           allowed_append (expression_allowed e at h.1) (one_then (record { operands = refl; integers = refl }) (acts_allowed s _ h.2))
 
-      clauses_allowed : (choice : Choice) (cs : Clauses) (target at : ℕ) → ClausesFit types blocks headings b cs → AreAllowed (clauses_code types blocks entry b choice target at cs)
+      clauses_allowed : (choice : ClauseKind) (cs : Clauses) (target at : ℕ) → ClausesFit types blocks headings b cs → AreAllowed (clauses_code types blocks entry b choice target at cs)
       clauses_allowed choice no_clause target at h = none
       clauses_allowed choice (clause_then c cs) target at h =
           allowed_append (clause_allowed c _ at h.0) (allowed_append (close_allowed choice target cs) (clauses_allowed choice cs target _ h.1))

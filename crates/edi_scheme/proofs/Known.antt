@@ -12,7 +12,7 @@ use Rattle.edi_unit.specs.declared.expressions.Callee.TheVariants as callee
 use Rattle.edi_unit.specs.declared.units.Parameter.{Parameter}
 use Rattle.edi_unit.specs.declared.units.Parameter.TheVariants as slot
 use Rattle.edi_unit.specs.Types.{Shape, int, char, bool, enumeration, record_of, array_of, set_of, shape_at, int_type, is_ordinal_of, natural, element_count, shape_size, size, fields_of, named_types, is_set_shape, greatest_size, IsTypeTable, HasOrderedBounds}
-use Rattle.edi_unit.specs.Tree.{Expression, constant, load, not_of, minus, chain, make, convert, invoke, Expressions, no_expression, expression_then, link, Links, no_link, link_then, Place, place, Part, field, index, Parts, no_part, part_then, Block}
+use Rattle.edi_unit.specs.Tree.{Expression, constant, load, not_of, sign_of, chain, make, convert, apply_of, Expressions, no_expression, expression_then, link, Links, no_link, link_then, Place, place, Part, field, index, Parts, no_part, part_then, Block}
 use Rattle.edi_unit.specs.Need.{block_at, outer, slots, slot_at, slot_type, slot_result, slot_words, element_type, part_type, parts_type, operator_type, links_type, callee_result, place_type, expression_type, variable_words}
 use Rattle.edi_unit.specs.Fits.{ShapeFits, Heading, is_variable, CalleeFits, HaveTypes, MakesValue, ExpressionFits, PlaceFits, SlotIsKnown, BlockFits}
 use Rattle.edi_unit.proofs.Tables.{size-is, size-small, length-before}
@@ -194,11 +194,11 @@ module _ (types : List Shape) (table : IsTypeTable types) (parts : HaveParts typ
     expression_known (constant t n) h = h.0
     expression_known (load p) h = place_known p h
     expression_known (not_of e) h = standard_known 2 (omega arith)
-    expression_known (minus e line) h = standard_known 0 (omega arith)
+    expression_known (sign_of e line) h = standard_known 0 (omega arith)
     expression_known (chain e ls) h = links_known (expression_type types blocks b e) ls (expression_known e h.1)
     expression_known (make t es line) h = h.0
     expression_known (convert t e line) h = h.0
-    expression_known (invoke c xs line) h = found_known (callee_result blocks b c) (result_known c h.0)
+    expression_known (apply_of c xs line) h = found_known (callee_result blocks b c) (result_known c h.0)
 
     -- ---- the parts of a record or an array
 

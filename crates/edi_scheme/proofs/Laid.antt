@@ -7,7 +7,7 @@ use Rattle.edi_target.specs.Op.{Instruction, words_of, is_allowed, has_integers}
 use Rattle.edi_target.specs.Decode.{decode}
 use Rattle.edi_target.specs.Fetch.{fetch}
 use Rattle.edi_target.proofs.Reading.{decode_again}
-use Rattle.edi_scheme.specs.Pieces.{Code, words_of_code, code_long}
+use Rattle.edi_scheme.specs.Pieces.{Code, words_of_code, code_length}
 use Rattle.edi_scheme.specs.Stands.{AreInstructions}
 
 -- ---- words and lengths
@@ -19,7 +19,7 @@ words_append (i ∷ a) b =
 
 -- a code has so many words
 pub record Long (code : Code) (n : ℕ) : Type 0 where
-  pub is : code_long code ≡ n
+  pub is : code_length code ≡ n
 
 pub long_nothing : Long [] 0
 long_nothing = record { is = refl }
@@ -34,7 +34,7 @@ long_then i {b = b} h = record { is = omega (arith, length-append (words_of i) (
 pub long_one : (i : Instruction) → Long (i ∷ []) (length (words_of i))
 long_one i = record { is = ap length (append-nil (words_of i)) }
 
-pub long_of : (code : Code) → Long code (code_long code)
+pub long_of : (code : Code) → Long code (code_length code)
 long_of code = record { is = refl }
 
 pub long_is : {code : Code} {m n : ℕ} → m ≡ n → Long code m → Long code n
@@ -72,7 +72,7 @@ module _ (fetched : ℕ → Option (Instruction × ℕ)) where
 
   pub laid_back : (a b : Code) (at n : ℕ) → Long a n → Laid (a ++ b) at → Laid b (at + n)
   laid_back [] b at n g h =
-      let zero_long = g.is in subst (Laid b) (omega (arith, zero_long)) h
+      let zero_length = g.is in subst (Laid b) (omega (arith, zero_length)) h
   laid_back (i ∷ a) b at n g h =
       let long = g.is in
       let rest : Long a (n - length (words_of i)) = record { is = omega (arith, long, length-append (words_of i) (words_of_code a)) } in

@@ -3,14 +3,14 @@ use Rattle.std.proofs.Common.{ℕ, suc, ◌+◌, ◌<◌, ◌≤◌, Bool, true,
 use Rattle.edi_unit.specs.declared.expressions.Callee.{Callee}
 use Rattle.edi_unit.specs.declared.expressions.Callee.TheVariants as callee
 use Rattle.edi_unit.specs.Types.{Shape, shape_at, is_set_shape}
-use Rattle.edi_unit.specs.Tree.{Expression, constant, load, not_of, minus, chain, make, convert, invoke, Expressions, no_expression, expression_then, link, Links, no_link, link_then, Place, place, Part, field, index, Parts, no_part, part_then, by_value, by_variable, by_procedure, Arguments, no_argument, argument_then, Act, skip, assign, call, halt, conditional, loop, await, cobegin, Acts, no_act, act_then, Clause, clause, Clauses, no_clause, clause_then, Block}
+use Rattle.edi_unit.specs.Tree.{Expression, constant, load, not_of, sign_of, chain, make, convert, apply_of, Expressions, no_expression, expression_then, link, Links, no_link, link_then, Place, place, Part, field, index, Parts, no_part, part_then, by_value, by_variable, by_procedure, Arguments, no_argument, argument_then, Act, skip, assign, call, halt, if_act, while_act, when_act, cobegin, Acts, no_act, act_then, Clause, clause, Clauses, no_clause, clause_then, Block}
 use Rattle.edi_unit.specs.Need.{block_at, slot_at, slot_type, part_type, operator_type, expression_type}
 use Rattle.edi_unit.specs.Fits.{is_called, Heading, Formals, no_formal, value_then, variable_then, procedure_then, CalleeFits, ExpressionFits, ExpressionsFit, LinksFit, PlaceFits, PartFits, PartsFit, ArgumentsFit, BranchFits, ActFits, ActsFit, ClauseFits, ClausesFit}
 use Rattle.edi_meaning.specs.Step.{is_quiet}
 use Rattle.edi_target.specs.Op as instruction
 use Rattle.edi_target.specs.Op.{Branch}
-use Rattle.edi_scheme.specs.Pieces.{Code, code_long, variable_code, operation, decision, constant_words, row_code, Choice, once, repeated, released, close_code, again_code}
-use Rattle.edi_scheme.specs.Long.{expression_long, clause_long, clauses_long}
+use Rattle.edi_scheme.specs.Pieces.{Code, code_length, variable_code, operation, decision, constant_words, row_code, ClauseKind, once, repeated, released, close_code, again_code}
+use Rattle.edi_scheme.specs.Lengths.{expression_length, clause_length, clauses_length}
 use Rattle.edi_scheme.specs.Code.{slot_offset, call_code, procedure_code, expression_code, expressions_code, members_code, links_code, place_code, parts_code, part_code, arguments_code, act_code, acts_code, clause_code, clauses_code}
 use Rattle.edi_scheme.proofs.Laid.{Long, long_of, long_one}
 use Rattle.edi_scheme.proofs.Lengths as long
@@ -46,7 +46,7 @@ module _ (words : List ℕ) (types : List Shape) (blocks : List Block) (headings
         behind _ _ at _ (long.place_is_long types blocks entry b p at) (place_leads p at k) (λ h. leads_plain words _ (plain_one refl)) h
     expression_leads (not_of e) at k h =
         behind _ _ at _ (long.expression_is_long types blocks entry b e at) (expression_leads e at k.1) (λ h. leads_plain words _ (plain_one refl)) h
-    expression_leads (minus e line) at k h =
+    expression_leads (sign_of e line) at k h =
         behind _ _ at _ (long.expression_is_long types blocks entry b e at) (expression_leads e at k.1) (λ h. leads_plain words _ (plain_one refl)) h
     expression_leads (chain e ls) at k h =
         behind _ _ at _ (long.expression_is_long types blocks entry b e at) (expression_leads e at k.1) (links_lead (expression_type types blocks b e) ls _ k.2) h
@@ -57,7 +57,7 @@ module _ (words : List ℕ) (types : List Shape) (blocks : List Block) (headings
         (row_leads (constant_words es) _ at (expressions_lead es at k.2)) h
     expression_leads (convert t e line) at k h =
         behind _ _ at _ (long.expression_is_long types blocks entry b e at) (expression_leads e at k.3) (λ h. leads_plain words _ (check_plain (shape_at types t) line)) h
-    expression_leads (invoke c xs line) at k h =
+    expression_leads (apply_of c xs line) at k h =
         behind _ _ at _ (long.arguments_are_long types blocks entry b xs at) (arguments_lead xs _ at k.2) (λ h. call_leads c line _ k.0) h
 
     expressions_lead : (es : Expressions) (at : ℕ) → ExpressionsFit types blocks headings b es → Covers (Good words) (expressions_code types blocks entry b at es) at → Leads words (expressions_code types blocks entry b at es) at
@@ -68,24 +68,24 @@ module _ (words : List ℕ) (types : List Shape) (blocks : List Block) (headings
     members_lead : (line : ℕ) (es : Expressions) (at : ℕ) → ExpressionsFit types blocks headings b es → Covers (Good words) (members_code types blocks entry b at line es) at → Leads words (members_code types blocks entry b at line es) at
     members_lead line no_expression at k h = nothing
     members_lead line (expression_then e es) at k h =
-        let a = at + expression_long types blocks b e in
+        let a = at + expression_length types blocks b e in
         behind _ _ at _ (long.expression_is_long types blocks entry b e at) (expression_leads e at k.0)
         (λ h. leads_then (record { free = refl }) (members_lead line es (a + 2) k.1 (covers_back (Good words) (instruction.member line ∷ []) _ a 2 (long_one (instruction.member line)) h))) h
 
     links_lead : (t : ℕ) (ls : Links) (at : ℕ) → LinksFit types blocks headings b t ls → Covers (Good words) (links_code types blocks entry b at t ls) at → Leads words (links_code types blocks entry b at t ls) at
     links_lead t no_link at k h = nothing
     links_lead t (link_then (link o e line) ls) at k h =
-        let right = at + code_long (decision o 0) in
-        let end = right + expression_long types blocks b e in
-        let onward = end + code_long (operation types t o line) in
+        let right = at + code_length (decision o 0) in
+        let end = right + expression_length types blocks b e in
+        let onward = end + code_length (operation types t o line) in
         let c1 = decision o onward in
         let c2 = expression_code types blocks entry b right e in
         let c3 = operation types t o line in
         let c4 = links_code types blocks entry b onward (operator_type o t) ls in
-        let h2 = covers_back (Good words) c1 (c2 ++ (c3 ++ c4)) at _ (long.decision_long o onward) h in
+        let h2 = covers_back (Good words) c1 (c2 ++ (c3 ++ c4)) at _ (long.decision_length o onward) h in
         let h3 = covers_back (Good words) c2 (c3 ++ c4) right _ (long.expression_is_long types blocks entry b e right) h2 in
         let h4 = covers_back (Good words) c3 c4 end _ (long_of c3) h3 in
-        leads_append words _ (long.decision_long o onward) (decision_leads words o at onward (omega arith) (covers_start (Good words) c4 onward h4))
+        leads_append words _ (long.decision_length o onward) (decision_leads words o at onward (omega arith) (covers_start (Good words) c4 onward h4))
         (leads_append words _ (long.expression_is_long types blocks entry b e right) (expression_leads e right k.1 (covers_front (Good words) c2 (c3 ++ c4) right h2))
         (leads_append words _ (long_of c3) (leads_plain words end (operation_plain types t o line)) (links_lead (operator_type o t) ls onward k.2 h4)))
 
@@ -135,13 +135,13 @@ module _ (words : List ℕ) (types : List Shape) (blocks : List Block) (headings
     act_leads (call c xs line) at k h =
         behind _ _ at _ (long.arguments_are_long types blocks entry b xs at) (arguments_lead xs _ at k.2) (λ h. call_leads c line _ k.0) h
     act_leads (halt line) at k h = leads_plain words at (plain_one refl)
-    act_leads (conditional cs) at k h =
-        let end = at + clauses_long types blocks b once cs in
+    act_leads (if_act cs) at k h =
+        let end = at + clauses_length types blocks b once cs in
         clauses_lead once cs end at k (omega arith) (covers_end (Good words) _ at _ (long.clauses_are_long types blocks entry b once cs end at) h) h
-    act_leads (loop cs) at k h = clauses_lead repeated cs at at k (omega arith) (covers_start (Good words) _ at h) h
-    act_leads (await cs line) at k h =
+    act_leads (while_act cs) at k h = clauses_lead repeated cs at at k (omega arith) (covers_start (Good words) _ at h) h
+    act_leads (when_act cs line) at k h =
         let top = at + 2 in
-        let again = top + clauses_long types blocks b released cs in
+        let again = top + clauses_length types blocks b released cs in
         let end = again + 3 in
         let c1 = clauses_code types blocks entry b released end top cs in
         let c2 = again_code (is_quiet cs) top in
@@ -149,7 +149,7 @@ module _ (words : List ℕ) (types : List Shape) (blocks : List Block) (headings
         let h2 = covers_back (Good words) c1 c2 top _ (long.clauses_are_long types blocks entry b released cs end top) h1 in
         leads_then (record { free = refl })
         (leads_append words _ (long.clauses_are_long types blocks entry b released cs end top)
-        (clauses_lead released cs end top k (omega arith) (covers_end (Good words) c2 again 3 (long.again_long (is_quiet cs) top) h2) (covers_front (Good words) c1 c2 top h1))
+        (clauses_lead released cs end top k (omega arith) (covers_end (Good words) c2 again 3 (long.again_length (is_quiet cs) top) h2) (covers_front (Good words) c1 c2 top h1))
         (again_leads words (is_quiet cs) top again (omega arith) (covers_start (Good words) (c1 ++ c2) top h1)))
     act_leads (cobegin bs line) at k h = leads_one words (aims_branches words at line _ (branches_begin bs k.2))
 
@@ -158,26 +158,26 @@ module _ (words : List ℕ) (types : List Shape) (blocks : List Block) (headings
     acts_lead (act_then s ss) at k h =
         behind _ _ at _ (long.act_is_long types blocks entry b s at) (act_leads s at k.0) (acts_lead ss _ k.1) h
 
-    clause_leads : (c : Clause) (next at : ℕ) → ClauseFits types blocks headings b c → at + clause_long types blocks b c ≤ next → Good words next → Covers (Good words) (clause_code types blocks entry b at next c) at → Leads words (clause_code types blocks entry b at next c) at
+    clause_leads : (c : Clause) (next at : ℕ) → ClauseFits types blocks headings b c → at + clause_length types blocks b c ≤ next → Good words next → Covers (Good words) (clause_code types blocks entry b at next c) at → Leads words (clause_code types blocks entry b at next c) at
     clause_leads (clause e s) next at k less g h =
-        let test = at + expression_long types blocks b e in
+        let test = at + expression_length types blocks b e in
         behind _ _ at _ (long.expression_is_long types blocks entry b e at) (expression_leads e at k.1)
         (λ h. leads_then (aims_ahead words test (instruction.false_ next) next refl g (omega (arith, less)))
         (acts_lead s (test + 3) k.2 (covers_back (Good words) (instruction.false_ next ∷ []) _ test 3 (long_one (instruction.false_ next)) h))) h
 
-    clauses_lead : (choice : Choice) (cs : Clauses) (target at : ℕ) → ClausesFit types blocks headings b cs → IsBeyond choice target at (at + clauses_long types blocks b choice cs) → Good words target → Covers (Good words) (clauses_code types blocks entry b choice target at cs) at → Leads words (clauses_code types blocks entry b choice target at cs) at
+    clauses_lead : (choice : ClauseKind) (cs : Clauses) (target at : ℕ) → ClausesFit types blocks headings b cs → IsBeyond choice target at (at + clauses_length types blocks b choice cs) → Good words target → Covers (Good words) (clauses_code types blocks entry b choice target at cs) at → Leads words (clauses_code types blocks entry b choice target at cs) at
     clauses_lead choice no_clause target at k far g h = nothing
     clauses_lead choice (clause_then c cs) target at k far g h =
-        let end = at + clause_long types blocks b c in
-        let close = code_long (close_code choice 0 cs) in
+        let end = at + clause_length types blocks b c in
+        let close = code_length (close_code choice 0 cs) in
         let next = end + close in
-        let rest = clauses_long types blocks b choice cs in
+        let rest = clauses_length types blocks b choice cs in
         let c1 = clause_code types blocks entry b at next c in
         let c2 = close_code choice target cs in
         let c3 = clauses_code types blocks entry b choice target next cs in
         let h2 = covers_back (Good words) c1 (c2 ++ c3) at _ (long.clause_is_long types blocks entry b c next at) h in
-        let h3 = covers_back (Good words) c2 c3 end _ (long.close_long choice target cs) h2 in
+        let h3 = covers_back (Good words) c2 c3 end _ (long.close_length choice target cs) h2 in
         leads_append words _ (long.clause_is_long types blocks entry b c next at) (clause_leads c next at k.0 (omega arith) (covers_start (Good words) c3 next h3) (covers_front (Good words) c1 (c2 ++ c3) at h))
-        (leads_append words _ (long.close_long choice target cs)
+        (leads_append words _ (long.close_length choice target cs)
         (close_leads words choice target end cs (beyond_part choice target at _ end (end + close) (omega arith) (omega arith) far) g)
         (clauses_lead choice cs target next k.1 (beyond_part choice target at _ next (next + rest) (omega arith) (omega arith) far) g h3))

@@ -7,7 +7,7 @@ use Rattle.edi_target.specs.Decode.{decode}
 use Rattle.edi_target.specs.Check.{Start, is_start, starts_from}
 use Rattle.edi_target.proofs.Places.{starts_step, starts_end}
 use Rattle.edi_target.proofs.Reading.{decode_again}
-use Rattle.edi_scheme.specs.Pieces.{Code, words_of_code, code_long}
+use Rattle.edi_scheme.specs.Pieces.{Code, words_of_code, code_length}
 use Rattle.edi_scheme.proofs.Laid.{words_append, Long, AreAllowed, none, one_then}
 
 -- ---- the starts in the words of a code
@@ -22,7 +22,7 @@ abbrev pub starts : List ℕ → Code → ℕ → List Start
 starts words [] at = []
 starts words (i ∷ code) at = record { at = at; word = get_or words at 0; op = Some i } ∷ starts words code (at + length (words_of i))
 
-pub starts_are : (words : List ℕ) (code : Code) (at : ℕ) → AreAllowed code → drop at words ≡ words_of_code code → at + code_long code ≡ length words → starts_from (drop at words) at 0 ≡ starts words code at
+pub starts_are : (words : List ℕ) (code : Code) (at : ℕ) → AreAllowed code → drop at words ≡ words_of_code code → at + code_length code ≡ length words → starts_from (drop at words) at 0 ≡ starts words code at
 starts_are words [] at none e l = starts_end words at (omega (arith, l))
 starts_are words (i ∷ code) at (one_then g gs) e l =
     let n : ℕ = length (words_of i) in
@@ -56,7 +56,7 @@ position_front [] b at x h = absurd h
 position_front (i ∷ a) b at x (inl e) = inl e
 position_front (i ∷ a) b at x (inr h) = inr (position_front a b (at + length (words_of i)) x h)
 
-position_back : (a b : Code) (at x : ℕ) → IsPosition b (at + code_long a) x → IsPosition (a ++ b) at x
+position_back : (a b : Code) (at x : ℕ) → IsPosition b (at + code_length a) x → IsPosition (a ++ b) at x
 position_back [] b at x h = subst (λ n. IsPosition b n x) (omega arith) h
 position_back (i ∷ a) b at x h =
     inr (position_back a b (at + length (words_of i)) x (subst (λ n. IsPosition b n x) (omega (arith, length-append (words_of i) (words_of_code a))) h))
@@ -69,7 +69,7 @@ module _ (good : ℕ → Type 0) where
   -- and the address behind it is good too
   pub record Covers (code : Code) (at : ℕ) : Type 0 where
     pub each : (a : ℕ) → IsPosition code at a → good a
-    pub end : good (at + code_long code)
+    pub end : good (at + code_length code)
 
   pub starts_front : (a b : Code) (at : ℕ) → Starts (a ++ b) at → Starts a at
   starts_front a b at h = record { each = λ x k. h.each x (position_front a b at x k) }
@@ -81,7 +81,7 @@ module _ (good : ℕ → Type 0) where
   pub covers_before : (code : Code) (i : Instruction) (rest : Code) (at : ℕ) → Starts (code ++ i ∷ rest) at → Covers code at
   covers_before code i rest at h = record {
     each = (starts_front code (i ∷ rest) at h).each;
-    end = h.each _ (position_back code (i ∷ rest) at (at + code_long code) (inl refl));
+    end = h.each _ (position_back code (i ∷ rest) at (at + code_length code) (inl refl));
   }
 
   pub covers_start : (code : Code) (at : ℕ) → Covers code at → good at
@@ -97,7 +97,7 @@ module _ (good : ℕ → Type 0) where
   pub covers_front : (a b : Code) (at : ℕ) → Covers (a ++ b) at → Covers a at
   covers_front a b at h = record {
     each = λ x k. h.each x (position_front a b at x k);
-    end = covers_start b (at + code_long a) (covers_back a b at (code_long a) (record { is = refl }) h);
+    end = covers_start b (at + code_length a) (covers_back a b at (code_length a) (record { is = refl }) h);
   }
 
   pub covers_end : (code : Code) (at n : ℕ) → Long code n → Covers code at → good (at + n)

@@ -12,15 +12,15 @@ use Rattle.edi_unit.specs.declared.expressions.Callee.{Callee}
 use Rattle.edi_unit.specs.declared.expressions.Callee.TheVariants as callee
 use Rattle.edi_unit.specs.declared.units.Parameter.{Parameter}
 use Rattle.edi_unit.specs.Types.{Shape, int, char, bool, enumeration, record_of, array_of, set_of, shape_at, fields_of, shape_size, is_set_shape, size, named_types, greatest_size, IsTypeTable, HasOrderedBounds}
-use Rattle.edi_unit.specs.Tree.{Expression, constant, load, not_of, minus, chain, make, convert, invoke, Expressions, no_expression, expression_then, link, Links, no_link, link_then, Place, place, Part, field, index, Parts, no_part, part_then, by_value, by_variable, by_procedure, Arguments, no_argument, argument_then, Act, skip, assign, call, halt, conditional, loop, await, cobegin, Acts, no_act, act_then, Clause, clause, Clauses, no_clause, clause_then, Block}
+use Rattle.edi_unit.specs.Tree.{Expression, constant, load, not_of, sign_of, chain, make, convert, apply_of, Expressions, no_expression, expression_then, link, Links, no_link, link_then, Place, place, Part, field, index, Parts, no_part, part_then, by_value, by_variable, by_procedure, Arguments, no_argument, argument_then, Act, skip, assign, call, halt, if_act, while_act, when_act, cobegin, Acts, no_act, act_then, Clause, clause, Clauses, no_clause, clause_then, Block}
 use Rattle.edi_unit.specs.Need.{block_at, outer, slots, slot_words, slot_at, slot_type, part_type, operator_type, expression_type}
 use Rattle.edi_unit.specs.Fits.{ShapesFit, ShapeFits, Heading, Formals, no_formal, value_then, variable_then, procedure_then, CalleeFits, ExpressionFits, ExpressionsFit, LinksFit, PlaceFits, PartFits, PartsFit, ArgumentsFit, BranchFits, ActFits, ActsFit, ClauseFits, ClausesFit, BlockFits}
 use Rattle.edi_meaning.specs.Step.{is_quiet}
 use Rattle.edi_target.specs.Op as instruction
 use Rattle.edi_target.specs.Op.{Instruction, Branch, words_of, branch_words, high_word, low_word, word_of_integer, is_integer}
 use Rattle.edi_unit.proofs.Tables.{size-is, size-small}
-use Rattle.edi_scheme.specs.Pieces.{Code, words_of_code, code_long, offset, field_offset, is_address, variable_code, element_code, on_sets, operation, decision, check_code, constant_words, row_code, row_long, Choice, once, repeated, released, close_code, again_code}
-use Rattle.edi_scheme.specs.Long.{expression_long, expressions_long, members_long, links_long, place_long, parts_long, part_long, arguments_long, act_long, acts_long, clause_long, clauses_long}
+use Rattle.edi_scheme.specs.Pieces.{Code, words_of_code, code_length, offset, field_offset, is_address, variable_code, element_code, on_sets, operation, decision, check_code, constant_words, row_code, row_length, ClauseKind, once, repeated, released, close_code, again_code}
+use Rattle.edi_scheme.specs.Lengths.{expression_length, expressions_length, members_length, links_length, place_length, parts_length, part_length, arguments_length, act_length, acts_length, clause_length, clauses_length}
 use Rattle.edi_scheme.specs.Code.{slot_offset, call_code, procedure_code, expression_code, expressions_code, members_code, links_code, place_code, parts_code, part_code, arguments_code, act_code, acts_code, clause_code, clauses_code}
 use Rattle.edi_scheme.specs.Laws.{HaveParts}
 use Rattle.edi_scheme.specs.Lines.{IsLine, ExpressionLines, ExpressionsLines, LinksLines, PlaceLines, PartLines, PartsLines, ArgumentsLines, ActLines, ActsLines, ClauseLines, ClausesLines}
@@ -138,7 +138,7 @@ check_small types (record_of fs) line h l = none
 check_small types (array_of i lo hi e) line h l = none
 check_small types (set_of t) line h l = none
 
-close_small : (choice : Choice) (target : ℕ) (cs : Clauses) → target < 2 ^ 32 → AreSmall (close_code choice target cs)
+close_small : (choice : ClauseKind) (target : ℕ) (cs : Clauses) → target < 2 ^ 32 → AreSmall (close_code choice target cs)
 close_small once target no_clause h = none
 close_small once target (clause_then c cs) h = small_one (wt 28 target (omega arith) h)
 close_small repeated target cs h = small_one (wt 32 target (omega arith) h)
@@ -238,13 +238,13 @@ module _ (types : List Shape) (table : IsTypeTable types) (parts : HaveParts typ
         one_more _ (count es) (constant_words es) (integer_small n (ordinal_integer types (shape_at types t) n (shapes t h.0.0) h.0.1)) (constants_small es h.1)
     constants_small (expression_then (load p) es) h = tt
     constants_small (expression_then (not_of e) es) h = tt
-    constants_small (expression_then (minus e line) es) h = tt
+    constants_small (expression_then (sign_of e line) es) h = tt
     constants_small (expression_then (chain e ls) es) h = tt
     constants_small (expression_then (make t fs line) es) h = tt
     constants_small (expression_then (convert t e line) es) h = tt
-    constants_small (expression_then (invoke c xs line) es) h = tt
+    constants_small (expression_then (apply_of c xs line) es) h = tt
 
-    row_small : (ws : Option (List ℕ)) (code : Code) (n long at : ℕ) → n ≤ greatest_size → RowWords ws n → (at + long ≤ limit → AreSmall code) → at + row_long ws long ≤ limit → AreSmall (row_code ws code)
+    row_small : (ws : Option (List ℕ)) (code : Code) (n long at : ℕ) → n ≤ greatest_size → RowWords ws n → (at + long ≤ limit → AreSmall code) → at + row_length ws long ≤ limit → AreSmall (row_code ws code)
     row_small None code n long at small h f k = f k
     row_small (Some ws) code n long at small h f k =
         let same = h.1 in small_one (omega arith, (omega (arith, small, same), h.0))
@@ -255,67 +255,67 @@ module _ (types : List Shape) (table : IsTypeTable types) (parts : HaveParts typ
     chosen_small false m n at g h k = h refl k
 
     mutual
-      expression_small : (e : Expression) (at : ℕ) → ExpressionFits types blocks headings b e → ExpressionLines e → at + expression_long types blocks b e ≤ limit → AreSmall (expression_code types blocks entry b at e)
+      expression_small : (e : Expression) (at : ℕ) → ExpressionFits types blocks headings b e → ExpressionLines e → at + expression_length types blocks b e ≤ limit → AreSmall (expression_code types blocks entry b at e)
       expression_small (constant t n) at h l k = small_one (w1 1 _ (omega arith) (integer_small n (ordinal_integer types (shape_at types t) n (shapes t h.0) h.1)))
       expression_small (load p) at h l k =
           small_append (place_small p at h l (omega (arith, k)))
           (small_one (w1 7 _ (omega arith) (size_word _ (known.place_known types table parts blocks headings each b inside p h))))
       expression_small (not_of e) at h l k = small_append (expression_small e at h.1 l (omega (arith, k))) (small_one (w0 15 (omega arith)))
-      expression_small (minus e line) at h l k = small_append (expression_small e at h.1 l.1 (omega (arith, k))) (small_one (w1 14 line (omega arith) l.0))
+      expression_small (sign_of e line) at h l k = small_append (expression_small e at h.1 l.1 (omega (arith, k))) (small_one (w1 14 line (omega arith) l.0))
       expression_small (chain e ls) at h l k =
           small_append (expression_small e at h.1 l.0 (omega (arith, k)))
           (links_small (expression_type types blocks b e) ls _ (known.expression_known types table parts blocks headings each b inside e h.1) h.2 l.1 (omega (arith, k)))
       expression_small (make t es line) at h l k =
-          chosen_small (is_set_shape (shape_at types t)) (2 + members_long types blocks b es) (row_long (constant_words es) (expressions_long types blocks b es)) at
+          chosen_small (is_set_shape (shape_at types t)) (2 + members_length types blocks b es) (row_length (constant_words es) (expressions_length types blocks b es)) at
           (λ q k. small_then (w1 3 8 (omega arith) (omega arith)) (members_small line es (at + 2) h.2 l.0 l.1 (omega (arith, k))))
           (λ q k.
-          row_small (constant_words es) _ (count es) (expressions_long types blocks b es) at
+          row_small (constant_words es) _ (count es) (expressions_length types blocks b es) at
           (known.parts_count types table parts blocks headings each b inside t es h.0 q h.1).1 (constants_small es h.2) (expressions_small es at h.2 l.1) k)
           k
       expression_small (convert t e line) at h l k =
           small_append (expression_small e at h.3 l.1 (omega (arith, k))) (check_small types (shape_at types t) line (shapes t h.0) l.0)
-      expression_small (invoke c xs line) at h l k =
+      expression_small (apply_of c xs line) at h l k =
           small_append (arguments_small xs _ at h.2 l.1 (omega (arith, k))) (call_small c line h.0 l.0)
 
-      expressions_small : (es : Expressions) (at : ℕ) → ExpressionsFit types blocks headings b es → ExpressionsLines es → at + expressions_long types blocks b es ≤ limit → AreSmall (expressions_code types blocks entry b at es)
+      expressions_small : (es : Expressions) (at : ℕ) → ExpressionsFit types blocks headings b es → ExpressionsLines es → at + expressions_length types blocks b es ≤ limit → AreSmall (expressions_code types blocks entry b at es)
       expressions_small no_expression at h l k = none
       expressions_small (expression_then e es) at h l k =
           small_append (expression_small e at h.0 l.0 (omega (arith, k))) (expressions_small es _ h.1 l.1 (omega (arith, k)))
 
-      members_small : (line : ℕ) (es : Expressions) (at : ℕ) → ExpressionsFit types blocks headings b es → IsLine line → ExpressionsLines es → at + members_long types blocks b es ≤ limit → AreSmall (members_code types blocks entry b at line es)
+      members_small : (line : ℕ) (es : Expressions) (at : ℕ) → ExpressionsFit types blocks headings b es → IsLine line → ExpressionsLines es → at + members_length types blocks b es ≤ limit → AreSmall (members_code types blocks entry b at line es)
       members_small line no_expression at h i l k = none
       members_small line (expression_then e es) at h i l k =
           small_append (expression_small e at h.0 l.0 (omega (arith, k)))
           (small_then (w1 26 line (omega arith) i) (members_small line es _ h.1 i l.1 (omega (arith, k))))
 
-      links_small : (t : ℕ) (ls : Links) (at : ℕ) → t < length types → LinksFit types blocks headings b t ls → LinksLines ls → at + links_long types blocks b t ls ≤ limit → AreSmall (links_code types blocks entry b at t ls)
+      links_small : (t : ℕ) (ls : Links) (at : ℕ) → t < length types → LinksFit types blocks headings b t ls → LinksLines ls → at + links_length types blocks b t ls ≤ limit → AreSmall (links_code types blocks entry b at t ls)
       links_small t no_link at i h l k = none
       links_small t (link_then (link o e line) ls) at i h l k =
-          let right = at + code_long (decision o 0) in
-          let behind = right + expression_long types blocks b e + code_long (operation types t o line) in
+          let right = at + code_length (decision o 0) in
+          let behind = right + expression_length types blocks b e + code_length (operation types t o line) in
           small_append (decision_small o behind (omega (arith, k, limited)))
           (small_append (expression_small e right h.1 l.1 (omega (arith, k)))
           (small_append (operation_small types t o line (size_word t i) l.0)
           (links_small (operator_type o t) ls behind (known.operator_known types table parts o t i) h.2 l.2 (omega (arith, k)))))
 
-      place_small : (p : Place) (at : ℕ) → PlaceFits types blocks headings b p → PlaceLines p → at + place_long types blocks b p ≤ limit → AreSmall (place_code types blocks entry b at p)
+      place_small : (p : Place) (at : ℕ) → PlaceFits types blocks headings b p → PlaceLines p → at + place_length types blocks b p ≤ limit → AreSmall (place_code types blocks entry b at p)
       place_small (place levels v ps) at h l k =
           small_append (variable_small levels _ (slot_at blocks b levels v) h.0 (slot_word levels v))
           (parts_small (slot_type (slot_at blocks b levels v)) ps _ (known.root_known types table parts blocks headings each b inside levels v h.1) h.2 l (omega (arith, k)))
 
-      parts_small : (t : ℕ) (ps : Parts) (at : ℕ) → t < length types → PartsFit types blocks headings b t ps → PartsLines ps → at + parts_long types blocks b t ps ≤ limit → AreSmall (parts_code types blocks entry b at t ps)
+      parts_small : (t : ℕ) (ps : Parts) (at : ℕ) → t < length types → PartsFit types blocks headings b t ps → PartsLines ps → at + parts_length types blocks b t ps ≤ limit → AreSmall (parts_code types blocks entry b at t ps)
       parts_small t no_part at i h l k = none
       parts_small t (part_then p ps) at i h l k =
           small_append (part_small t p at i h.0 l.0 (omega (arith, k)))
           (parts_small (part_type types t p) ps _ (known.part_known types table parts blocks headings each b inside t p i) h.1 l.1 (omega (arith, k)))
 
-      part_small : (t : ℕ) (p : Part) (at : ℕ) → t < length types → PartFits types blocks headings b t p → PartLines p → at + part_long types blocks b t p ≤ limit → AreSmall (part_code types blocks entry b at t p)
+      part_small : (t : ℕ) (p : Part) (at : ℕ) → t < length types → PartFits types blocks headings b t p → PartLines p → at + part_length types blocks b t p ≤ limit → AreSmall (part_code types blocks entry b at t p)
       part_small t (field n) at i h l k = small_one (w1 5 _ (omega arith) (field_word t n i))
       part_small t (index e line) at i h l k =
           small_append (expression_small e at h.1 l.1 (omega (arith, k)))
           (element_small (shape_at types t) line (table.declared t i).ordered (shapes t i) (known.names_known types table parts t i) l.0)
 
-      arguments_small : (xs : Arguments) (fs : Formals) (at : ℕ) → ArgumentsFit types blocks headings b xs fs → ArgumentsLines xs → at + arguments_long types blocks b xs ≤ limit → AreSmall (arguments_code types blocks entry b at xs)
+      arguments_small : (xs : Arguments) (fs : Formals) (at : ℕ) → ArgumentsFit types blocks headings b xs fs → ArgumentsLines xs → at + arguments_length types blocks b xs ≤ limit → AreSmall (arguments_code types blocks entry b at xs)
       arguments_small no_argument fs at h l k = none
       arguments_small (argument_then (by_value e) xs) (value_then t fs) at h l k =
           small_append (expression_small e at h.1 l.0 (omega (arith, k))) (arguments_small xs fs _ h.2 l.1 (omega (arith, k)))
@@ -342,7 +342,7 @@ module _ (types : List Shape) (table : IsTypeTable types) (parts : HaveParts typ
         (need_word n there, (high_small (entry n) far, (low_small (entry n), branches_small bs (λ i d l. h (suc i) d (omega (arith, l))))))
 
     mutual
-      act_small : (s : Act) (at : ℕ) → ActFits types blocks headings b s → ActLines s → at + act_long types blocks b s ≤ limit → AreSmall (act_code types blocks entry b at s)
+      act_small : (s : Act) (at : ℕ) → ActFits types blocks headings b s → ActLines s → at + act_length types blocks b s ≤ limit → AreSmall (act_code types blocks entry b at s)
       act_small skip at h l k = none
       act_small (assign p e) at h l k =
           small_append (place_small p at h.1 l.0 (omega (arith, k)))
@@ -350,9 +350,9 @@ module _ (types : List Shape) (table : IsTypeTable types) (parts : HaveParts typ
           (small_one (w1 8 _ (omega arith) (size_word _ (known.place_known types table parts blocks headings each b inside p h.1)))))
       act_small (call c xs line) at h l k = small_append (arguments_small xs _ at h.2 l.1 (omega (arith, k))) (call_small c line h.0 l.0)
       act_small (halt line) at h l k = small_one (w1 38 line (omega arith) l)
-      act_small (conditional cs) at h l k = clauses_small once cs _ at h l (omega (arith, k, limited)) k
-      act_small (loop cs) at h l k = clauses_small repeated cs at at h l (omega (arith, k, limited)) k
-      act_small (await cs line) at h l k =
+      act_small (if_act cs) at h l k = clauses_small once cs _ at h l (omega (arith, k, limited)) k
+      act_small (while_act cs) at h l k = clauses_small repeated cs at at h l (omega (arith, k, limited)) k
+      act_small (when_act cs line) at h l k =
           small_then (w1 39 line (omega arith) l.0)
           (small_append (clauses_small released cs _ _ h l.1 (omega (arith, k, limited)) (omega (arith, k))) (again_small (is_quiet cs) _ (omega (arith, k, limited))))
       act_small (cobegin bs line) at h l k =
@@ -361,15 +361,15 @@ module _ (types : List Shape) (table : IsTypeTable types) (parts : HaveParts typ
           let few = h.1 in
           small_one (omega arith, (omega (arith, long, few), (l, branches_small bs h.2)))
 
-      pub acts_small : (s : Acts) (at : ℕ) → ActsFit types blocks headings b s → ActsLines s → at + acts_long types blocks b s ≤ limit → AreSmall (acts_code types blocks entry b at s)
+      pub acts_small : (s : Acts) (at : ℕ) → ActsFit types blocks headings b s → ActsLines s → at + acts_length types blocks b s ≤ limit → AreSmall (acts_code types blocks entry b at s)
       acts_small no_act at h l k = none
       acts_small (act_then s ss) at h l k = small_append (act_small s at h.0 l.0 (omega (arith, k))) (acts_small ss _ h.1 l.1 (omega (arith, k)))
 
-      clause_small : (c : Clause) (next at : ℕ) → ClauseFits types blocks headings b c → ClauseLines c → next < 2 ^ 32 → at + clause_long types blocks b c ≤ limit → AreSmall (clause_code types blocks entry b at next c)
+      clause_small : (c : Clause) (next at : ℕ) → ClauseFits types blocks headings b c → ClauseLines c → next < 2 ^ 32 → at + clause_length types blocks b c ≤ limit → AreSmall (clause_code types blocks entry b at next c)
       clause_small (clause e s) next at h l i k =
           small_append (expression_small e at h.1 l.0 (omega (arith, k))) (small_then (wt 29 next (omega arith) i) (acts_small s _ h.2 l.1 (omega (arith, k))))
 
-      clauses_small : (choice : Choice) (cs : Clauses) (target at : ℕ) → ClausesFit types blocks headings b cs → ClausesLines cs → target < 2 ^ 32 → at + clauses_long types blocks b choice cs ≤ limit → AreSmall (clauses_code types blocks entry b choice target at cs)
+      clauses_small : (choice : ClauseKind) (cs : Clauses) (target at : ℕ) → ClausesFit types blocks headings b cs → ClausesLines cs → target < 2 ^ 32 → at + clauses_length types blocks b choice cs ≤ limit → AreSmall (clauses_code types blocks entry b choice target at cs)
       clauses_small choice no_clause target at h l i k = none
       clauses_small choice (clause_then c cs) target at h l i k =
           small_append (clause_small c _ at h.0 l.0 (omega (arith, k, limited)) (omega (arith, k)))

@@ -7,7 +7,7 @@ use Rattle.edi_unit.specs.Need.{block_at, slot_words}
 use Rattle.edi_unit.specs.Fits.{Fits}
 use Rattle.edi_target.specs.Op.{words_of}
 use Rattle.edi_scheme.specs.Pieces.{Code, is_branch, result_words, function_flag, entry_of, return_of}
-use Rattle.edi_scheme.specs.Long.{acts_long}
+use Rattle.edi_scheme.specs.Lengths.{acts_length}
 use Rattle.edi_scheme.specs.Code.{entry, block_code, blocks_code, code_of}
 use Rattle.edi_scheme.specs.Laws.{HaveParts, CodeIsWords}
 use Rattle.edi_scheme.specs.Lines.{UnitLines}
@@ -69,7 +69,7 @@ module _ (unit : ProgramUnit) (fits : Fits unit) (parts : HaveParts unit.types) 
   block_small : (n : ℕ) → n < length blocks → AreSmall (block_code types blocks (entry types blocks n) n)
   block_small n h =
       let at = entry types blocks n in
-      let list = acts_long types blocks n (block_at blocks n).body in
+      let list = acts_length types blocks n (block_at blocks n).body in
       let frame = frame_words n h in
       let body = acts_small types fits.table parts fits.shapes blocks fits.headings fits.fits_blocks (entry types blocks) limit limited entries n h (block_at blocks n).body in
       let last = entry_later types blocks (suc n) (length blocks) (omega (arith, h)) in

@@ -1,4 +1,4 @@
--- Each construct of the language as code: the small programs of Programs run on the machine as they do by their meaning.
+-- Computed rows. Each construct of the language as code: the small programs of Programs run on the machine as they do by their meaning.
 use Rattle.std.specs.Prelude.{◌≡◌, ℕ, pos, negsuc, List, [], ◌∷◌, Option, refl}
 use Rattle.edi_calls.specs.declared.kinds.Cause.TheVariants as cause
 use Rattle.edi_calls.specs.Choice.{listed}
@@ -9,7 +9,7 @@ use Rattle.edi_word.specs.Sets.{members_where}
 use Rattle.edi_unit.specs.declared.expressions.Operator.TheVariants as op
 use Rattle.edi_unit.specs.Types.{enumeration, size}
 use Rattle.edi_unit.specs.Values.{zero_value}
-use Rattle.edi_unit.specs.Tree.{constant, minus, convert, ProgramUnit}
+use Rattle.edi_unit.specs.Tree.{constant, sign_of, convert, ProgramUnit}
 use Rattle.edi_meaning.specs.Rows.{empty_system, number, two}
 use Rattle.edi_target.specs.Decode.{decode}
 use Rattle.edi_scheme.specs.Programs.{program_of_operators, program_that_shows_value, program_with_clauses, program_that_halts, program_of_sets, program_with_member, program_of_records, program_with_bound, program_with_string, program_that_hands_on, program_with_parts, program_of_procedures, program_of_functions, program_through_outer, program_through_levels, program_that_calls_itself}
@@ -61,7 +61,7 @@ pub row_quotient_too_large : run (program_that_shows_value [] (two (number (negs
 unfolding decode zero_words size zero_value members_where
 row_quotient_too_large = refl
 
-pub row_sign_too_large : run (program_that_shows_value [] (minus (number (negsuc 32767)) 3)) [] ≡ ends [] (outcome.failed cause.Range 3) 1 0
+pub row_sign_too_large : run (program_that_shows_value [] (sign_of (number (negsuc 32767)) 3)) [] ≡ ends [] (outcome.failed cause.Range 3) 1 0
 unfolding decode zero_words size zero_value members_where
 row_sign_too_large = refl
 

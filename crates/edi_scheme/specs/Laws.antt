@@ -1,4 +1,4 @@
--- What is true of the code of every unit that fits.
+-- Words of contracts. What is true of the code of every unit that fits.
 use Rattle.std.specs.Prelude.{◌≡◌, ℕ, ◌<◌, ◌≤◌, ◌^◌, List, length}
 use Rattle.edi_unit.specs.Types.{Shape, record_of, shape_at}
 use Rattle.edi_unit.specs.Tree.{ProgramUnit}

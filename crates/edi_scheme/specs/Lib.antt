@@ -1,5 +1,5 @@
 pub mod Pieces
-pub mod Long
+pub mod Lengths
 pub mod Code
 pub mod Stands
 pub mod Lines
@@ -10,3 +10,4 @@ pub mod ProcessPrograms
 pub mod Rows
 pub mod ConstructRows
 pub mod ProcessRows
+pub mod CalledRows

@@ -1,6 +1,6 @@
--- The lines that a program keeps: each is below 65,536, so that a word holds it.
+-- Words of contracts. The lines that a program keeps: each is below 65,536, so that a word holds it.
 use Rattle.std.specs.Prelude.{ℕ, ◌<◌, ◌^◌, length}
-use Rattle.edi_unit.specs.Tree.{Expression, constant, load, not_of, minus, chain, make, convert, invoke, Expressions, no_expression, expression_then, link, Links, no_link, link_then, Place, place, Part, field, index, Parts, no_part, part_then, Argument, by_value, by_variable, by_procedure, Arguments, no_argument, argument_then, Act, skip, assign, call, halt, conditional, loop, await, cobegin, Acts, no_act, act_then, Clause, clause, Clauses, no_clause, clause_then, ProgramUnit}
+use Rattle.edi_unit.specs.Tree.{Expression, constant, load, not_of, sign_of, chain, make, convert, apply_of, Expressions, no_expression, expression_then, link, Links, no_link, link_then, Place, place, Part, field, index, Parts, no_part, part_then, Argument, by_value, by_variable, by_procedure, Arguments, no_argument, argument_then, Act, skip, assign, call, halt, if_act, while_act, when_act, cobegin, Acts, no_act, act_then, Clause, clause, Clauses, no_clause, clause_then, ProgramUnit}
 use Rattle.edi_unit.specs.Need.{block_at}
 
 abbrev pub IsLine : ℕ → Type 0
@@ -11,11 +11,11 @@ abbrev mutual
   ExpressionLines (constant t n) = Unit {0}
   ExpressionLines (load p) = PlaceLines p
   ExpressionLines (not_of e) = ExpressionLines e
-  ExpressionLines (minus e line) = IsLine line × ExpressionLines e
+  ExpressionLines (sign_of e line) = IsLine line × ExpressionLines e
   ExpressionLines (chain e ls) = ExpressionLines e × LinksLines ls
   ExpressionLines (make t es line) = IsLine line × ExpressionsLines es
   ExpressionLines (convert t e line) = IsLine line × ExpressionLines e
-  ExpressionLines (invoke c xs line) = IsLine line × ArgumentsLines xs
+  ExpressionLines (apply_of c xs line) = IsLine line × ArgumentsLines xs
 
   pub ExpressionsLines : Expressions → Type 0
   ExpressionsLines no_expression = Unit {0}
@@ -51,9 +51,9 @@ abbrev mutual
   ActLines (assign p e) = PlaceLines p × ExpressionLines e
   ActLines (call c xs line) = IsLine line × ArgumentsLines xs
   ActLines (halt line) = IsLine line
-  ActLines (conditional cs) = ClausesLines cs
-  ActLines (loop cs) = ClausesLines cs
-  ActLines (await cs line) = IsLine line × ClausesLines cs
+  ActLines (if_act cs) = ClausesLines cs
+  ActLines (while_act cs) = ClausesLines cs
+  ActLines (when_act cs line) = IsLine line × ClausesLines cs
   ActLines (cobegin bs line) = IsLine line
 
   pub ActsLines : Acts → Type 0

@@ -1,4 +1,4 @@
--- What the code of a construct is put together from: places in frames and records, and the instructions that depend on
+-- Definition. What the code of a construct is put together from: places in frames and records, and the instructions that depend on
 -- types, operators and kinds alone.
 use Rattle.std.specs.Prelude.{ℕ, ◌+◌, ◌-◌, pos, Bool, true, false, if◌then◌else◌, List, [], ◌∷◌, ◌++◌, length, take, sum_by, Option, Some, None}
 use Rattle.std.specs.Option.{option_map, option_map_or}
@@ -24,8 +24,8 @@ words_of_code [] = []
 words_of_code (i ∷ code) = words_of i ++ words_of_code code
 
 -- the number of its words
-abbrev pub code_long : Code → ℕ
-code_long code = length (words_of_code code)
+abbrev pub code_length : Code → ℕ
+code_length code = length (words_of_code code)
 
 -- ---- frames and records
 
@@ -132,25 +132,25 @@ abbrev pub row_code : Option (List ℕ) → Code → Code
 row_code (Some ws) parts = instruction.text ws ∷ []
 row_code None parts = parts
 
-abbrev pub row_long : Option (List ℕ) → ℕ → ℕ
-row_long (Some ws) long = 2 + length ws
-row_long None long = long
+abbrev pub row_length : Option (List ℕ) → ℕ → ℕ
+row_length (Some ws) long = 2 + length ws
+row_length None long = long
 
 -- ---- the ends of lists
 
 -- what the clauses belong to
-pub data Choice : Type 0 where
+pub data ClauseKind : Type 0 where
   -- an `if`
-  once : Choice
+  once : ClauseKind
   -- a `while`
-  repeated : Choice
+  repeated : ClauseKind
   -- a `when`
-  released : Choice
+  released : ClauseKind
 
 -- what stands behind the list of a clause, before the clauses that follow. After a list of an `if` the program goes on at
 -- the target behind the statement, where it is already after the last one; after one of a `while` it goes back to the
 -- target, the first condition; one of a `when` ends the critical phase, and the program goes on at the target behind it.
-abbrev pub close_code : Choice → (target : ℕ) → Clauses → Code
+abbrev pub close_code : ClauseKind → (target : ℕ) → Clauses → Code
 close_code once target no_clause = []
 close_code once target (clause_then c cs) = instruction.jump target ∷ []
 close_code repeated target cs = instruction.loop target ∷ []

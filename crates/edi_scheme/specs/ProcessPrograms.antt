@@ -1,4 +1,4 @@
--- Small programs with processes and calls of the system. The text of each stands in its comment; HEAD and `show` are as
+-- Helper. Small programs with processes and calls of the system. The text of each stands in its comment; HEAD and `show` are as
 -- in Programs.
 use Rattle.std.specs.Prelude.{ℕ, pos, List, [], ◌∷◌, replicate, map, None}
 use Rattle.edi_unit.specs.declared.expressions.Operator.TheVariants as op
@@ -6,7 +6,7 @@ use Rattle.edi_unit.specs.declared.expressions.Callee.TheVariants as callee
 use Rattle.edi_unit.specs.declared.units.BlockKind.TheVariants as kind
 use Rattle.edi_unit.specs.declared.units.Parameter.TheVariants as parameter
 use Rattle.edi_unit.specs.Types.{Shape, array_of}
-use Rattle.edi_unit.specs.Tree.{constant, load, not_of, make, index, by_value, by_variable, by_procedure, Act, skip, assign, call, halt, await, cobegin, Block, ProgramUnit}
+use Rattle.edi_unit.specs.Tree.{constant, load, not_of, make, index, by_value, by_variable, by_procedure, Act, skip, assign, call, halt, when_act, cobegin, Block, ProgramUnit}
 use Rattle.edi_meaning.specs.Rows.{variable, value_of, true_value, false_value, two, one_clause, block_of, program_of}
 use Rattle.edi_scheme.specs.Programs.{part_of, expressions, arguments, clauses, natural, call_formal, call_block, function, show, show_if, program_with, procedure, function_of, branch}
 
@@ -20,10 +20,10 @@ program_with_phases =
     program_with [] (0 ∷ []) (cobegin (2 ∷ 3 ∷ []) 1 ∷ show 0 (natural 3) ∷ [])
     (procedure 0 [] [] (assign (variable 1 1) (two (value_of 1 1) op.Plus (natural 1) 1) ∷ [])
     ∷ branch 0
-    (await (clauses ((two (value_of 1 1) op.Equal (natural 5) 1, show 1 (natural 5) ∷ []) ∷ (two (value_of 1 1) op.Equal (natural 1) 1, call_block 1 1 [] ∷ show 1 (value_of 1 1) ∷ []) ∷ [])) 1
+    (when_act (clauses ((two (value_of 1 1) op.Equal (natural 5) 1, show 1 (natural 5) ∷ []) ∷ (two (value_of 1 1) op.Equal (natural 1) 1, call_block 1 1 [] ∷ show 1 (value_of 1 1) ∷ []) ∷ [])) 1
     ∷ show 1 (natural 7)
     ∷ [])
-    ∷ branch 0 (call_block 1 1 [] ∷ await (one_clause true_value (show 1 (natural 9) ∷ [])) 1 ∷ [])
+    ∷ branch 0 (call_block 1 1 [] ∷ when_act (one_clause true_value (show 1 (natural 9) ∷ [])) 1 ∷ [])
     ∷ [])
 
 -- array t [0:1] (int) HEAD var a: t proc f: int begin val f := 1 end
@@ -31,7 +31,7 @@ program_with_phases =
 abbrev pub program_with_called_index : ProgramUnit
 program_with_called_index =
     program_with (array_of 0 (pos 0) (pos 1) 0 ∷ []) (3 ∷ [])
-    (await (clauses ((false_value, skip ∷ []) ∷ (two (load (part_of 0 1 (index (function 0 1 []) 1 ∷ []))) op.Equal (natural 1) 1, skip ∷ []) ∷ [])) 1 ∷ [])
+    (when_act (clauses ((false_value, skip ∷ []) ∷ (two (load (part_of 0 1 (index (function 0 1 []) 1 ∷ []))) op.Equal (natural 1) 1, skip ∷ []) ∷ [])) 1 ∷ [])
     (function_of 0 0 [] [] (assign (variable 0 0) (natural 1) ∷ []) ∷ [])
 
 -- HEAD proc p(n: int) begin cobegin 1 do show n also 2 do show n + 1 end end
@@ -59,7 +59,7 @@ program_that_shares n =
 -- HEAD begin when true do show 1; .. end end, where this statement stands in the critical phase
 abbrev pub program_in_phase : Act → ProgramUnit
 program_in_phase a =
-    program_with [] [] (await (one_clause true_value (show 0 (natural 1) ∷ a ∷ [])) 1 ∷ []) (branch 0 (skip ∷ []) ∷ [])
+    program_with [] [] (when_act (one_clause true_value (show 0 (natural 1) ∷ a ∷ [])) 1 ∷ []) (branch 0 (skip ∷ []) ∷ [])
 
 -- HEAD begin cobegin 1 do show 1; halt also 2 do show 2 end end, with `halt` on line 3
 abbrev pub program_that_halts_in_branch : ProgramUnit

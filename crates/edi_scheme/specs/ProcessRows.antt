@@ -1,4 +1,4 @@
--- Processes and calls of the system as code: these programs run on the machine as they do by their meaning.
+-- Computed rows. Processes and calls of the system as code: these programs run on the machine as they do by their meaning.
 use Rattle.std.specs.Prelude.{◌≡◌, ℕ, List, [], ◌∷◌, Option, Some, refl}
 use Rattle.edi_calls.specs.declared.kinds.Cause.TheVariants as cause
 use Rattle.edi_calls.specs.Choice.{listed, seeded}
@@ -8,7 +8,7 @@ use Rattle.edi_store.specs.Memory.{zero_words}
 use Rattle.edi_word.specs.Sets.{members_where}
 use Rattle.edi_unit.specs.Types.{size}
 use Rattle.edi_unit.specs.Values.{zero_value}
-use Rattle.edi_unit.specs.Tree.{skip, await, cobegin, ProgramUnit}
+use Rattle.edi_unit.specs.Tree.{skip, when_act, cobegin, ProgramUnit}
 use Rattle.edi_meaning.specs.Rows as program
 use Rattle.edi_meaning.specs.Rows.{empty_system, true_value, one_clause}
 use Rattle.edi_target.specs.Decode.{decode}
@@ -53,7 +53,7 @@ pub row_fork_in_phase : run (program_in_phase (cobegin (1 ∷ []) 7)) [] ≡ end
 unfolding decode zero_words size zero_value members_where
 row_fork_in_phase = refl
 
-pub row_when_in_phase : run (program_in_phase (await (one_clause true_value (skip ∷ [])) 8)) [] ≡ ends (1 ∷ []) (outcome.failed cause.Held 8) 2 0
+pub row_when_in_phase : run (program_in_phase (when_act (one_clause true_value (skip ∷ [])) 8)) [] ≡ ends (1 ∷ []) (outcome.failed cause.Held 8) 2 0
 unfolding decode zero_words size zero_value members_where
 row_when_in_phase = refl
 

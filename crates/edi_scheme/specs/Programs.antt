@@ -1,4 +1,4 @@
--- Small programs for each construct. The text of each stands in its comment; HEAD is the line
+-- Helper. Small programs for each construct. The text of each stands in its comment; HEAD is the line
 -- `proc main(proc display(value: char))`, and `show e` is `display(char(e))`.
 use Rattle.std.specs.Prelude.{ℕ, ℤ, pos, negsuc, List, [], ◌∷◌, Some, None}
 use Rattle.edi_unit.specs.declared.expressions.Operator.{Operator}
@@ -8,7 +8,7 @@ use Rattle.edi_unit.specs.declared.units.BlockKind.TheVariants as kind
 use Rattle.edi_unit.specs.declared.units.Parameter.{Parameter}
 use Rattle.edi_unit.specs.declared.units.Parameter.TheVariants as parameter
 use Rattle.edi_unit.specs.Types.{Shape, record_of, array_of, set_of}
-use Rattle.edi_unit.specs.Tree.{Expression, constant, load, not_of, minus, chain, make, convert, invoke, Expressions, no_expression, expression_then, Links, link, no_link, link_then, Place, place, Part, field, index, Parts, no_part, part_then, Argument, by_value, by_variable, by_procedure, Arguments, no_argument, argument_then, Act, assign, call, halt, conditional, loop, clause, Clauses, no_clause, clause_then, Block, ProgramUnit}
+use Rattle.edi_unit.specs.Tree.{Expression, constant, load, not_of, sign_of, chain, make, convert, apply_of, Expressions, no_expression, expression_then, Links, link, no_link, link_then, Place, place, Part, field, index, Parts, no_part, part_then, Argument, by_value, by_variable, by_procedure, Arguments, no_argument, argument_then, Act, assign, call, halt, if_act, while_act, clause, Clauses, no_clause, clause_then, Block, ProgramUnit}
 use Rattle.edi_meaning.specs.Rows.{list_of, variable, value_of, number, true_value, two, one_clause, two_clauses, block_of, program_of, head}
 
 -- ---- writing programs down
@@ -51,14 +51,14 @@ abbrev pub call_block : ℕ → ℕ → List Argument → Act
 call_block levels n xs = call (callee.Block levels n) (arguments xs) 1
 
 abbrev pub function : ℕ → ℕ → List Argument → Expression
-function levels n xs = invoke (callee.Block levels n) (arguments xs) 1
+function levels n xs = apply_of (callee.Block levels n) (arguments xs) 1
 
 -- display is variable 0 of the program
 abbrev pub show : ℕ → Expression → Act
 show levels e = call_formal levels 0 (by_value (convert 1 e 1) ∷ [])
 
 abbrev pub show_if : ℕ → Expression → ℕ → Act
-show_if levels e n = conditional (one_clause e (show levels (natural n) ∷ []))
+show_if levels e n = if_act (one_clause e (show levels (natural n) ∷ []))
 
 -- HEAD, with types, variables, a body and further blocks
 abbrev pub program_with : List Shape → List ℕ → List Act → List Block → ProgramUnit
@@ -82,10 +82,10 @@ abbrev pub program_of_operators : ProgramUnit
 program_of_operators =
     program_with [] []
     (show 0 (chain (natural 7) (links ((op.Minus, natural 2) ∷ (op.Times, natural 3) ∷ (op.Div, natural 2) ∷ (op.Mod, natural 4) ∷ [])))
-    ∷ show 0 (minus (number (negsuc 4)) 1)
+    ∷ show 0 (sign_of (number (negsuc 4)) 1)
     ∷ show_if 0 (chain (two (natural 1) op.LessOrEqual (natural 1) 1) (links ((op.And, two (natural 2) op.Greater (natural 1) 1) ∷ (op.And, two (natural 2) op.GreaterOrEqual (natural 2) 1) ∷ (op.And, not_of (two (natural 1) op.Equal (natural 2) 1)) ∷ []))) 4
     ∷ show_if 0 (chain (two (natural 1) op.Less (natural 1) 1) (links ((op.Or, two (natural 1) op.Greater (natural 1) 1) ∷ (op.Or, two (natural 1) op.NotEqual (natural 2) 1) ∷ []))) 6
-    ∷ conditional (two_clauses (chain (two (natural 1) op.GreaterOrEqual (natural 2) 1) (links ((op.Or, two (natural 2) op.LessOrEqual (natural 1) 1) ∷ []))) (show 0 (natural 7) ∷ []) (two (natural 3) op.Less (natural 4) 1) (show 0 (natural 8) ∷ []))
+    ∷ if_act (two_clauses (chain (two (natural 1) op.GreaterOrEqual (natural 2) 1) (links ((op.Or, two (natural 2) op.LessOrEqual (natural 1) 1) ∷ []))) (show 0 (natural 7) ∷ []) (two (natural 3) op.Less (natural 4) 1) (show 0 (natural 8) ∷ []))
     ∷ [])
     []
 
@@ -99,8 +99,8 @@ abbrev pub program_with_clauses : ProgramUnit
 program_with_clauses =
     program_with [] (0 ∷ [])
     (assign (variable 0 1) (natural 3)
-    ∷ loop (clauses ((two (value_of 0 1) op.Greater (natural 1) 1, show 0 (value_of 0 1) ∷ assign (variable 0 1) (two (value_of 0 1) op.Minus (natural 1) 1) ∷ []) ∷ (two (value_of 0 1) op.Equal (natural 1) 1, show 0 (natural 9) ∷ assign (variable 0 1) (natural 0) ∷ []) ∷ []))
-    ∷ conditional (clauses ((two (value_of 0 1) op.Equal (natural 1) 1, show 0 (natural 1) ∷ []) ∷ (two (value_of 0 1) op.Equal (natural 2) 1, show 0 (natural 2) ∷ []) ∷ (two (value_of 0 1) op.Equal (natural 3) 1, show 0 (natural 3) ∷ []) ∷ []))
+    ∷ while_act (clauses ((two (value_of 0 1) op.Greater (natural 1) 1, show 0 (value_of 0 1) ∷ assign (variable 0 1) (two (value_of 0 1) op.Minus (natural 1) 1) ∷ []) ∷ (two (value_of 0 1) op.Equal (natural 1) 1, show 0 (natural 9) ∷ assign (variable 0 1) (natural 0) ∷ []) ∷ []))
+    ∷ if_act (clauses ((two (value_of 0 1) op.Equal (natural 1) 1, show 0 (natural 1) ∷ []) ∷ (two (value_of 0 1) op.Equal (natural 2) 1, show 0 (natural 2) ∷ []) ∷ (two (value_of 0 1) op.Equal (natural 3) 1, show 0 (natural 3) ∷ []) ∷ []))
     ∷ show 0 (value_of 0 1)
     ∷ [])
     []
@@ -108,7 +108,7 @@ program_with_clauses =
 -- HEAD begin if true do show 1; halt else true do show 2 end end, with `halt` on line 6
 abbrev pub program_that_halts : ProgramUnit
 program_that_halts =
-    program_with [] [] (conditional (two_clauses true_value (show 0 (natural 1) ∷ halt 6 ∷ []) true_value (show 0 (natural 2) ∷ [])) ∷ []) []
+    program_with [] [] (if_act (two_clauses true_value (show 0 (natural 1) ∷ halt 6 ∷ []) true_value (show 0 (natural 2) ∷ [])) ∷ []) []
 
 -- ---- sets
 
@@ -263,9 +263,9 @@ program_of_functions =
     ∷ assign (variable 0 0) (value_of 0 4)
     ∷ [])
     ∷ function_of 0 0 (parameter.Value 0 ∷ []) []
-    (conditional (two_clauses (two (value_of 0 1) op.Equal (natural 0) 1) (assign (variable 0 0) (natural 1) ∷ []) true_value (assign (variable 0 0) (two (value_of 0 1) op.Times (function 1 2 (by_value (two (value_of 0 1) op.Minus (natural 1) 1) ∷ [])) 1) ∷ [])) ∷ [])
+    (if_act (two_clauses (two (value_of 0 1) op.Equal (natural 0) 1) (assign (variable 0 0) (natural 1) ∷ []) true_value (assign (variable 0 0) (two (value_of 0 1) op.Times (function 1 2 (by_value (two (value_of 0 1) op.Minus (natural 1) 1) ∷ [])) 1) ∷ [])) ∷ [])
     ∷ function_of 0 0 (parameter.Value 0 ∷ parameter.Formal (Some 0) ∷ []) []
-    (assign (variable 0 0) (two (natural 1) op.Plus (invoke (callee.Formal 0 2) (arguments (by_value (value_of 0 1) ∷ [])) 1) 1) ∷ [])
+    (assign (variable 0 0) (two (natural 1) op.Plus (apply_of (callee.Formal 0 2) (arguments (by_value (value_of 0 1) ∷ [])) 1) 1) ∷ [])
     ∷ [])
 
 -- HEAD proc p(n: int) proc inner begin if n > 0 do p(n - 1) end; show n end begin inner end begin p(2) end:
@@ -276,7 +276,7 @@ program_through_outer =
     (call_block 0 1 (by_value (natural 2) ∷ []) ∷ [])
     (procedure 0 (parameter.Value 0 ∷ []) [] (call_block 0 2 [] ∷ [])
     ∷ procedure 1 [] []
-    (conditional (one_clause (two (value_of 1 0) op.Greater (natural 0) 1) (call_block 2 1 (by_value (two (value_of 1 0) op.Minus (natural 1) 1) ∷ []) ∷ [])) ∷ show 2 (value_of 1 0) ∷ [])
+    (if_act (one_clause (two (value_of 1 0) op.Greater (natural 0) 1) (call_block 2 1 (by_value (two (value_of 1 0) op.Minus (natural 1) 1) ∷ []) ∷ [])) ∷ show 2 (value_of 1 0) ∷ [])
     ∷ [])
 
 -- array t [1:2] (int)
@@ -302,7 +302,7 @@ program_that_calls_itself =
     program_of [] (1 ∷ 2 ∷ [])
     (block_of kind.Program 0 None (parameter.Formal None ∷ parameter.Formal None ∷ []) (1 ∷ []) 0
     (call_formal 0 0 (by_variable (variable 0 2) ∷ [])
-    ∷ conditional (one_clause (two (value_of 0 2) op.Equal (constant 1 (pos 97)) 1) (call_block 0 0 (by_procedure (callee.Formal 0 0) ∷ by_procedure (callee.Formal 0 1) ∷ []) ∷ []))
+    ∷ if_act (one_clause (two (value_of 0 2) op.Equal (constant 1 (pos 97)) 1) (call_block 0 0 (by_procedure (callee.Formal 0 0) ∷ by_procedure (callee.Formal 0 1) ∷ []) ∷ []))
     ∷ call_formal 0 1 (by_value (value_of 0 2) ∷ [])
     ∷ [])
     ∷ [])

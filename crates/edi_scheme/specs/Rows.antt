@@ -1,4 +1,4 @@
--- The programs of `edi_meaning` as code: each runs on the machine as it does by its meaning.
+-- Computed rows. The programs of `edi_meaning` as code: each runs on the machine as it does by its meaning.
 use Rattle.std.specs.Prelude.{◌≡◌, ℕ, List, [], ◌∷◌, Option, refl}
 use Rattle.edi_calls.specs.declared.kinds.Cause.TheVariants as cause
 use Rattle.edi_calls.specs.Choice.{listed}

@@ -1,4 +1,4 @@
--- The two sides of a program: what it means, and what the machine does with its code.
+-- Helper. The two sides of a program: what it means, and what the machine does with its code.
 use Rattle.std.specs.Prelude.{ℕ, suc, ◌-◌, List, [], ◌∷◌, Option, Some, None}
 use Rattle.edi_calls.specs.State.{State}
 use Rattle.edi_calls.specs.Choice.{Choices}
@@ -29,9 +29,9 @@ End = State × Ending × ℕ × ℕ
 
 abbrev pub end_of_selection : ℕ → source.Selected → Option End
 end_of_selection bound source.unfinished = None
-end_of_selection bound (source.finished ending system turns drawn order) = Some (system, ending, bound - turns, drawn)
+end_of_selection bound (source.finished ending system turns drawn order) = Some (system.now, ending, bound - turns, drawn)
 
-abbrev pub end_of_run : ℕ → target.Run → Option End
+abbrev pub end_of_run : ℕ → target.MachineRun → Option End
 end_of_run bound target.unfinished = None
 end_of_run bound (target.finished ending m drawn) = Some (m.system, ending, bound - m.turns, drawn)
 

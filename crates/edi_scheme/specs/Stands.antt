@@ -1,13 +1,13 @@
--- Where the code of each construct stands: from an address to the one behind it. What stands at an address is told by any
+-- Words of contracts. Where the code of each construct stands: from an address to the one behind it. What stands at an address is told by any
 -- function, as in the definition of the machine; `entry` tells where each block begins.
 use Rattle.std.specs.Prelude.{◌≡◌, ℕ, ◌<◌, Bool, true, false, List, [], ◌∷◌, length, map, Option, Some, None}
 use Rattle.edi_unit.specs.Types.{Shape, shape_at, is_set_shape, size}
-use Rattle.edi_unit.specs.Tree.{Expression, constant, load, not_of, minus, chain, make, convert, invoke, Expressions, no_expression, expression_then, link, Links, no_link, link_then, Place, place, Part, field, index, Parts, no_part, part_then, Argument, by_value, by_variable, by_procedure, Arguments, no_argument, argument_then, Act, skip, assign, call, halt, conditional, loop, await, cobegin, Acts, no_act, act_then, Clause, clause, Clauses, no_clause, clause_then, Block}
+use Rattle.edi_unit.specs.Tree.{Expression, constant, load, not_of, sign_of, chain, make, convert, apply_of, Expressions, no_expression, expression_then, link, Links, no_link, link_then, Place, place, Part, field, index, Parts, no_part, part_then, Argument, by_value, by_variable, by_procedure, Arguments, no_argument, argument_then, Act, skip, assign, call, halt, if_act, while_act, when_act, cobegin, Acts, no_act, act_then, Clause, clause, Clauses, no_clause, clause_then, Block}
 use Rattle.edi_unit.specs.Need.{block_at, slot_at, slot_type, part_type, operator_type, place_type, expression_type}
 use Rattle.edi_meaning.specs.Step.{is_quiet}
 use Rattle.edi_target.specs.Op as instruction
 use Rattle.edi_target.specs.Op.{Instruction, word_of_integer}
-use Rattle.edi_scheme.specs.Pieces.{Code, field_offset, is_branch, entry_of, return_of, variable_code, element_code, operation, decision, check_code, constant_words, Choice, once, repeated, released, close_code, again_code}
+use Rattle.edi_scheme.specs.Pieces.{Code, field_offset, is_branch, entry_of, return_of, variable_code, element_code, operation, decision, check_code, constant_words, ClauseKind, once, repeated, released, close_code, again_code}
 use Rattle.edi_scheme.specs.Code.{slot_offset, call_code, procedure_code}
 
 -- one of two, as a test says
@@ -17,38 +17,38 @@ Either false A B = B
 
 module _ (fetched : ℕ → Option (Instruction × ℕ)) where
   -- an instruction stands at an address, and `next` is the address behind it
-  abbrev pub Stands : (at : ℕ) → Instruction → (next : ℕ) → Type 0
-  Stands at i next = fetched at ≡ Some (i, next)
+  abbrev pub InstructionStands : (at : ℕ) → Instruction → (next : ℕ) → Type 0
+  InstructionStands at i next = fetched at ≡ Some (i, next)
 
   -- instructions stand one behind another
   abbrev pub AreInstructions : Code → ℕ → ℕ → Type 0
   AreInstructions [] at to = at ≡ to
-  AreInstructions (i ∷ []) at to = Stands at i to
-  AreInstructions (i ∷ j ∷ code) at to = (next : ℕ) × Stands at i next × AreInstructions (j ∷ code) next to
+  AreInstructions (i ∷ []) at to = InstructionStands at i to
+  AreInstructions (i ∷ j ∷ code) at to = (next : ℕ) × InstructionStands at i next × AreInstructions (j ∷ code) next to
 
   -- constants in a row, or parts one behind another
   abbrev pub IsRow : Option (List ℕ) → (at to : ℕ) → Type 0 → Type 0
-  IsRow (Some ws) at to parts = Stands at (instruction.text ws) to
+  IsRow (Some ws) at to parts = InstructionStands at (instruction.text ws) to
   IsRow None at to parts = parts
 
   module _ (types : List Shape) (blocks : List Block) (entry : ℕ → ℕ) where
     module _ (b : ℕ) where
       abbrev mutual
         pub IsExpression : Expression → ℕ → ℕ → Type 0
-        IsExpression (constant t n) at to = Stands at (instruction.const (word_of_integer n)) to
+        IsExpression (constant t n) at to = InstructionStands at (instruction.const (word_of_integer n)) to
         IsExpression (load p) at to =
-            (a : ℕ) × IsPlace p at a × Stands a (instruction.load (size types (place_type types blocks b p))) to
-        IsExpression (not_of e) at to = (a : ℕ) × IsExpression e at a × Stands a instruction.not_ to
-        IsExpression (minus e line) at to = (a : ℕ) × IsExpression e at a × Stands a (instruction.neg line) to
+            (a : ℕ) × IsPlace p at a × InstructionStands a (instruction.load (size types (place_type types blocks b p))) to
+        IsExpression (not_of e) at to = (a : ℕ) × IsExpression e at a × InstructionStands a instruction.not_ to
+        IsExpression (sign_of e line) at to = (a : ℕ) × IsExpression e at a × InstructionStands a (instruction.neg line) to
         IsExpression (chain e ls) at to =
             (a : ℕ) × IsExpression e at a × AreLinks (expression_type types blocks b e) ls a to
         IsExpression (make t es line) at to =
             Either (is_set_shape (shape_at types t))
-            ((a : ℕ) × Stands at (instruction.zeros 8) a × AreMembers line es a to)
+            ((a : ℕ) × InstructionStands at (instruction.zeros 8) a × AreMembers line es a to)
             (IsRow (constant_words es) at to (AreExpressions es at to))
         IsExpression (convert t e line) at to =
             (a : ℕ) × IsExpression e at a × AreInstructions (check_code (shape_at types t) line) a to
-        IsExpression (invoke c xs line) at to =
+        IsExpression (apply_of c xs line) at to =
             (a : ℕ) × AreArguments xs at a × AreInstructions (call_code types blocks entry b c line) a to
 
         pub AreExpressions : Expressions → ℕ → ℕ → Type 0
@@ -59,7 +59,7 @@ module _ (fetched : ℕ → Option (Instruction × ℕ)) where
         pub AreMembers : (line : ℕ) → Expressions → ℕ → ℕ → Type 0
         AreMembers line no_expression at to = at ≡ to
         AreMembers line (expression_then e es) at to =
-            (a c : ℕ) × IsExpression e at a × Stands a (instruction.member line) c × AreMembers line es c to
+            (a c : ℕ) × IsExpression e at a × InstructionStands a (instruction.member line) c × AreMembers line es c to
 
         -- behind a left operand of this type
         pub AreLinks : ℕ → Links → ℕ → ℕ → Type 0
@@ -83,7 +83,7 @@ module _ (fetched : ℕ → Option (Instruction × ℕ)) where
         AreParts t (part_then p ps) at to = (a : ℕ) × IsPart t p at a × AreParts (part_type types t p) ps a to
 
         pub IsPart : ℕ → Part → ℕ → ℕ → Type 0
-        IsPart t (field n) at to = Stands at (instruction.field (field_offset types t n)) to
+        IsPart t (field n) at to = InstructionStands at (instruction.field (field_offset types t n)) to
         IsPart t (index e line) at to =
             (a : ℕ) × IsExpression e at a × AreInstructions (element_code types (shape_at types t) line) a to
 
@@ -103,19 +103,19 @@ module _ (fetched : ℕ → Option (Instruction × ℕ)) where
             (a c : ℕ)
             × IsPlace p at a
             × IsExpression e a c
-            × Stands c (instruction.store (size types (place_type types blocks b p))) to
+            × InstructionStands c (instruction.store (size types (place_type types blocks b p))) to
         IsAct (call c xs line) at to =
             (a : ℕ) × AreArguments xs at a × AreInstructions (call_code types blocks entry b c line) a to
-        IsAct (halt line) at to = Stands at (instruction.halt line) to
-        IsAct (conditional cs) at to = AreClauses once to cs at to
-        IsAct (loop cs) at to = AreClauses repeated at cs at to
-        IsAct (await cs line) at to =
+        IsAct (halt line) at to = InstructionStands at (instruction.halt line) to
+        IsAct (if_act cs) at to = AreClauses once to cs at to
+        IsAct (while_act cs) at to = AreClauses repeated at cs at to
+        IsAct (when_act cs line) at to =
             (top again : ℕ)
-            × Stands at (instruction.when line) top
+            × InstructionStands at (instruction.when line) top
             × AreClauses released to cs top again
             × AreInstructions (again_code (is_quiet cs) top) again to
         IsAct (cobegin bs line) at to =
-            Stands at (instruction.cobegin line (map (λ n. record { need = (block_at blocks n).need; address = entry n }) bs)) to
+            InstructionStands at (instruction.cobegin line (map (λ n. record { need = (block_at blocks n).need; address = entry n }) bs)) to
 
         pub AreActs : Acts → ℕ → ℕ → Type 0
         AreActs no_act at to = at ≡ to
@@ -126,10 +126,10 @@ module _ (fetched : ℕ → Option (Instruction × ℕ)) where
         IsClause (clause e s) next at end =
             (test list : ℕ)
             × IsExpression e at test
-            × Stands test (instruction.false_ next) list
+            × InstructionStands test (instruction.false_ next) list
             × AreActs s list end
 
-        pub AreClauses : Choice → (target : ℕ) → Clauses → ℕ → ℕ → Type 0
+        pub AreClauses : ClauseKind → (target : ℕ) → Clauses → ℕ → ℕ → Type 0
         AreClauses choice target no_clause at to = at ≡ to
         AreClauses choice target (clause_then c cs) at to =
             (end next : ℕ)
@@ -142,16 +142,16 @@ module _ (fetched : ℕ → Option (Instruction × ℕ)) where
       pub body : ℕ
       pub end : ℕ
       pub after : ℕ
-      pub begins : Stands (entry n) (entry_of types (block_at blocks n)) body
+      pub begins : InstructionStands (entry n) (entry_of types (block_at blocks n)) body
       pub list : AreActs n (block_at blocks n).body body end
-      pub returns : Stands end (return_of types (block_at blocks n)) after
+      pub returns : InstructionStands end (return_of types (block_at blocks n)) after
 
     -- a branch
     pub record IsBranch (n : ℕ) : Type 0 where
       pub end : ℕ
       pub after : ℕ
       pub list : AreActs n (block_at blocks n).body (entry n) end
-      pub exits : Stands end instruction.exit after
+      pub exits : InstructionStands end instruction.exit after
 
     abbrev pub IsBlock : ℕ → Type 0
     IsBlock n = Either (is_branch (block_at blocks n).kind) (IsBranch n) (IsProcedure n)

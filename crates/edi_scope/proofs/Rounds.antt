@@ -11,7 +11,7 @@ use Rattle.edi_scope.specs.declared.declarations.Declaration.{Declaration}
 use Rattle.edi_scope.specs.declared.declarations.Declarations.{Declarations}
 use Rattle.edi_scope.specs.Scope.{Scope, standard, meaning, declared, with_one, with_name, with_name_at, exported, outside, in_module}
 use Rattle.edi_scope.specs.Listed.{listed}
-use Rattle.edi_scope.specs.Standing.{here, standing, IsKept, EachOnce, HasOutermost}
+use Rattle.edi_scope.specs.Standing.{here, standing, ScopesAreKept, EachOnce, HasOutermost}
 use Rattle.edi_scope.proofs.Standings.{Changed, changed, standing-with_name, standing-with_name_other, once-with_name}
 use Rattle.edi_scope.proofs.Views.{first, reverse-cons, turned}
 
@@ -142,7 +142,7 @@ outermost-at (scope ∷ around ∷ outer) name entity (suc zero) h = outermost-a
 outermost-at (scope ∷ around ∷ outer) name entity (suc (suc steps)) h = outermost-at (around ∷ outer) name entity (suc steps) h
 
 -- the scope that is so many steps out has got a name
-pub kept-at : (old new : Declarations) (scopes : List Scope) (name : List ℕ) (entity : Entity) (steps depth at : ℕ) → IsKept old scopes → Changed (listed old) (listed new) name (λ l. insert l at (record { depth = depth; entity = entity })) → declared (drop steps scopes) name ≡ None → depth + steps + 1 ≡ length scopes → at ≡ prefix_len (less_deep depth) (listed old name) → IsKept new (with_name_at steps name entity scopes)
+pub kept-at : (old new : Declarations) (scopes : List Scope) (name : List ℕ) (entity : Entity) (steps depth at : ℕ) → ScopesAreKept old scopes → Changed (listed old) (listed new) name (λ l. insert l at (record { depth = depth; entity = entity })) → declared (drop steps scopes) name ≡ None → depth + steps + 1 ≡ length scopes → at ≡ prefix_len (less_deep depth) (listed old name) → ScopesAreKept new (with_name_at steps name entity scopes)
 kept-at old new scopes name entity steps depth at k h free e f =
     let place : at ≡ length (standing (drop steps scopes) name) =
     f ∙ ap (prefix_len (less_deep depth)) (k.stands name) ∙ further scopes name (suc steps) depth (omega arith) ∙ length-standing scopes name steps free in
@@ -153,7 +153,7 @@ kept-at old new scopes name entity steps depth at k h free e f =
     }
 
 -- there is such a place
-pub place_within : (old : Declarations) (scopes : List Scope) (name : List ℕ) (depth at : ℕ) → IsKept old scopes → at ≡ prefix_len (less_deep depth) (listed old name) → at ≤ length (listed old name)
+pub place_within : (old : Declarations) (scopes : List Scope) (name : List ℕ) (depth at : ℕ) → ScopesAreKept old scopes → at ≡ prefix_len (less_deep depth) (listed old name) → at ≤ length (listed old name)
 place_within old scopes name depth at k f = omega (arith, f, prefix_len-le-length (less_deep depth) (listed old name))
 
 pub drop_twice : {A : Type 0} (xs : List A) → drop 2 xs ≡ drop 1 (drop 1 xs)

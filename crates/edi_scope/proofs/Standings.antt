@@ -14,7 +14,7 @@ use Rattle.edi_scope.specs.declared.declarations.Declaration.{Declaration}
 use Rattle.edi_scope.specs.declared.declarations.Declarations.{Declarations}
 use Rattle.edi_scope.specs.Scope.{Scope, meaning, declared, visible, with_name, exported, in_module}
 use Rattle.edi_scope.specs.Listed.{listed}
-use Rattle.edi_scope.specs.Standing.{here, standing, IsKept, without_newest, newest, innermost_names, NoneTwice, EachOnce, HasOutermost}
+use Rattle.edi_scope.specs.Standing.{here, standing, ScopesAreKept, without_newest, newest, innermost_names, NoneTwice, EachOnce, HasOutermost}
 
 -- the entity of the last of these declarations
 abbrev pub last_entity : List Declaration → Option Entity
@@ -71,8 +71,8 @@ has_depth (scope ∷ outer) name (suc outward) depth e =
     ∙ grind (arith, has_depth outer name outward depth (omega arith))
 
 -- a name is this one, or it is told apart from it
-told_apart : (name q : List ℕ) → (name ≡ q) ⊎ ((bytes_eq name q ≡ false) × (bytes_eq q name ≡ false))
-told_apart name q =
+known_apart : (name q : List ℕ) → (name ≡ q) ⊎ ((bytes_eq name q ≡ false) × (bytes_eq q name ≡ false))
+known_apart name q =
     ⊎_elim (λ y. inl ((bytes_decides name q).0 y)) (λ n. inr (n, nat_list_eq_equiv.symm q name ∙ n)) (cases_Bool (bytes_eq name q))
 
 itself : (name : List ℕ) → bytes_eq name name ≡ true
@@ -94,7 +94,7 @@ changed old new a b name f h was here others q =
     ⊎_elim
     (λ e. subst (λ l. new l ≡ b l) e (h name ∙ ap (λ v. cond v (f (old name)) (old name)) (itself name) ∙ ap f (was name) ∙ here))
     (λ n. h q ∙ ap (λ v. cond v (f (old q)) (old q)) n.0 ∙ was q ∙ others q n.1)
-    (told_apart name q)
+    (known_apart name q)
 
 outermost-with_name : (scopes : List Scope) (name : List ℕ) (entity : Entity) → HasOutermost scopes → HasOutermost (with_name name entity scopes)
 outermost-with_name [] name entity h = h
@@ -145,7 +145,7 @@ standing-with_name_other [] name q entity n = refl
 standing-with_name_other (scope ∷ outer) name q entity n =
     ap (λ o. standing outer q ++ here (length outer) o) (sym (meaning-other name q entity scope.names n))
 
-pub kept-with_name : (old new : Declarations) (scopes : List Scope) (name : List ℕ) (entity : Entity) (depth at : ℕ) → IsKept old scopes → Changed (listed old) (listed new) name (λ l. insert l at (record { depth = depth; entity = entity })) → declared scopes name ≡ None → depth + 1 ≡ length scopes → at ≡ length (listed old name) → IsKept new (with_name name entity scopes)
+pub kept-with_name : (old new : Declarations) (scopes : List Scope) (name : List ℕ) (entity : Entity) (depth at : ℕ) → ScopesAreKept old scopes → Changed (listed old) (listed new) name (λ l. insert l at (record { depth = depth; entity = entity })) → declared scopes name ≡ None → depth + 1 ≡ length scopes → at ≡ length (listed old name) → ScopesAreKept new (with_name name entity scopes)
 kept-with_name old new scopes name entity depth at k h free e f = record {
   stands = changed (listed old) (listed new) (standing scopes) (standing (with_name name entity scopes)) name (λ l. insert l at (record { depth = depth; entity = entity })) h k.stands (standing-with_name scopes name entity depth at free e (f ∙ ap length (k.stands name))) (λ q n. standing-with_name_other scopes name q entity n);
   once = once-with_name scopes name entity free k.once;
@@ -176,7 +176,7 @@ standing-exported_other (scope ∷ []) name q entity n = refl
 standing-exported_other (scope ∷ around ∷ outer) name q entity n =
     ap (λ l. l ++ here (length (around ∷ outer)) (meaning scope.names q)) (standing-with_name_other (around ∷ outer) name q entity n)
 
-pub kept-exported : (old new : Declarations) (scopes : List Scope) (name : List ℕ) (entity : Entity) (depth at : ℕ) → IsKept old scopes → Changed (listed old) (listed new) name (λ l. insert l at (record { depth = depth; entity = entity })) → IsTrue (is_some (declared scopes name)) → declared (drop 1 scopes) name ≡ None → depth + 2 ≡ length scopes → at + 1 ≡ length (listed old name) → IsKept new (exported name entity scopes)
+pub kept-exported : (old new : Declarations) (scopes : List Scope) (name : List ℕ) (entity : Entity) (depth at : ℕ) → ScopesAreKept old scopes → Changed (listed old) (listed new) name (λ l. insert l at (record { depth = depth; entity = entity })) → IsTrue (is_some (declared scopes name)) → declared (drop 1 scopes) name ≡ None → depth + 2 ≡ length scopes → at + 1 ≡ length (listed old name) → ScopesAreKept new (exported name entity scopes)
 kept-exported old new [] name entity depth at k h has free e f = absurd (omega arith)
 kept-exported old new (scope ∷ []) name entity depth at k h has free e f = absurd (omega arith)
 kept-exported old new (scope ∷ around ∷ outer) name entity depth at k h has free e f =
@@ -213,14 +213,14 @@ newest-is [] named e = cc
 newest-is (other ∷ names) named e = (names, ap (λ x. x ∷ names) (sym (same_Some named other e)))
 
 -- so its lists have a last declaration
-pub listed-newest : (old : Declarations) (scopes : List Scope) (name : List ℕ) (entity : Entity) → IsKept old scopes → Some (name, entity) ≡ newest (innermost_names scopes) → 0 < length (listed old name)
+pub listed-newest : (old : Declarations) (scopes : List Scope) (name : List ℕ) (entity : Entity) → ScopesAreKept old scopes → Some (name, entity) ≡ newest (innermost_names scopes) → 0 < length (listed old name)
 listed-newest old [] name entity k e = cc
 listed-newest old (scope ∷ outer) name entity k e =
     let is = newest-is scope.names (name, entity) e in
     let lists : listed old name ≡ standing outer name ++ record { depth = length outer; entity = entity } ∷ [] = k.stands name ∙ ap (λ l. standing outer name ++ here (length outer) (meaning l name)) is.1 ∙ ap (λ o. standing outer name ++ here (length outer) o) (meaning-same name entity is.0) in
     omega (arith, ap length lists, length-append (standing outer name) (record { depth = length outer; entity = entity } ∷ []))
 
-pub kept-without_newest : (old new : Declarations) (scopes : List Scope) (name : List ℕ) (entity : Entity) (at : ℕ) → IsKept old scopes → Changed (listed old) (listed new) name (λ l. remove l at) → Some (name, entity) ≡ newest (innermost_names scopes) → at + 1 ≡ length (listed old name) → IsKept new (without_newest scopes)
+pub kept-without_newest : (old new : Declarations) (scopes : List Scope) (name : List ℕ) (entity : Entity) (at : ℕ) → ScopesAreKept old scopes → Changed (listed old) (listed new) name (λ l. remove l at) → Some (name, entity) ≡ newest (innermost_names scopes) → at + 1 ≡ length (listed old name) → ScopesAreKept new (without_newest scopes)
 kept-without_newest old new [] name entity at k h e f = cc
 kept-without_newest old new (scope ∷ outer) name entity at k h e f =
     let is = newest-is scope.names (name, entity) e in
@@ -243,7 +243,7 @@ round_module (scope ∷ []) h m = cc
 round_module (scope ∷ around ∷ outer) h m = omega arith
 
 -- without the innermost scope, which has no names, the declarations are the same
-pub kept-outside : (old : Declarations) (scopes : List Scope) → IsKept old scopes → innermost_names scopes ≡ [] → 1 < length scopes → IsKept old (drop 1 scopes)
+pub kept-outside : (old : Declarations) (scopes : List Scope) → ScopesAreKept old scopes → innermost_names scopes ≡ [] → 1 < length scopes → ScopesAreKept old (drop 1 scopes)
 kept-outside old [] k e lt = absurd (omega arith)
 kept-outside old (scope ∷ []) k e lt = absurd (omega arith)
 kept-outside old (scope ∷ around ∷ outer) k e lt = record {
@@ -253,7 +253,7 @@ kept-outside old (scope ∷ around ∷ outer) k e lt = record {
 }
 
 -- the same lists serve the same scopes
-pub kept-same : (old new : Declarations) (scopes : List Scope) → IsKept old scopes → ((q : List ℕ) → listed new q ≡ listed old q) → IsKept new scopes
+pub kept-same : (old new : Declarations) (scopes : List Scope) → ScopesAreKept old scopes → ((q : List ℕ) → listed new q ≡ listed old q) → ScopesAreKept new scopes
 kept-same old new scopes k same = record {
   stands = λ q. same q ∙ k.stands q;
   once = k.once;
@@ -270,5 +270,5 @@ standing-declared [] name has = cc
 standing-declared (scope ∷ outer) name has = here-some (standing outer name) (length outer) (meaning scope.names name) has
 
 -- a name of the innermost scope has a declaration
-pub listed-declared : (old : Declarations) (scopes : List Scope) (name : List ℕ) → IsKept old scopes → IsTrue (is_some (declared scopes name)) → 0 < length (listed old name)
+pub listed-declared : (old : Declarations) (scopes : List Scope) (name : List ℕ) → ScopesAreKept old scopes → IsTrue (is_some (declared scopes name)) → 0 < length (listed old name)
 listed-declared old scopes name k has = subst (λ l. 0 < length l) (sym (k.stands name)) (standing-declared scopes name has)

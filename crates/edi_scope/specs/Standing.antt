@@ -71,7 +71,7 @@ HasOutermost (scope ∷ []) = scope.is_module ≡ false
 HasOutermost (scope ∷ around ∷ outer) = HasOutermost (around ∷ outer)
 
 -- for each name its declarations in the scopes are kept
-pub record IsKept (declarations : Declarations) (scopes : List Scope) : Type 0 where
+pub record ScopesAreKept (declarations : Declarations) (scopes : List Scope) : Type 0 where
   pub stands : (name : List ℕ) → listed declarations name ≡ standing scopes name
   pub once : EachOnce scopes
   pub outermost : HasOutermost scopes

@@ -47,11 +47,11 @@ impl Model for Scopes {
 
     ghost Value = { List Scope };
 
-    ghost use Rattle.edi_scope.specs.Standing.{scopes_of, IsKept};
+    ghost use Rattle.edi_scope.specs.Standing.{scopes_of, ScopesAreKept};
 
     ghost view = { λ s. scopes_of s.scopes };
 
-    ghost invariant = { λ s. IsKept s.declarations (scopes_of s.scopes) };
+    ghost invariant = { λ s. ScopesAreKept s.declarations (scopes_of s.scopes) };
 }
 
 impl Scopes {

@@ -6,3 +6,4 @@ pub mod Pairs
 pub mod Reaching
 pub mod Queues
 pub mod Running
+pub mod Shares

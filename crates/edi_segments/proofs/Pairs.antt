@@ -9,7 +9,7 @@ use Rattle.edi_segments.specs.Nested.{IsInOrder, IsBehind, IsInParent, AreApart,
 use Rattle.edi_segments.proofs.Families.{some_is, parent_shorter, apart_swapped, Sound}
 
 -- q is a child of p, or a child of such a one
-data Under (p : Name) : Name → Type 0 where
+pub data Under (p : Name) : Name → Type 0 where
   child_of : (q : Name) → 0 < length q → parent_of q ≡ p → Under p q
   deeper : (q : Name) → 0 < length q → Under p (parent_of q) → Under p q
 
@@ -21,14 +21,14 @@ under_longer p _ (deeper q some u) = omega (arith, under_longer p (parent_of q) 
 tail_of : (q : Name) → 0 < length q → IsAncestor (parent_of q) q
 tail_of q some = (drop (length q - 2) q, omega (arith, length-drop (length q - 2) q), sym (take-append-drop (length q - 2) q))
 
-under_ancestor : (p q : Name) → Under p q → IsAncestor p q
+pub under_ancestor : (p q : Name) → Under p q → IsAncestor p q
 under_ancestor p _ (child_of q some e) = subst (λ y. IsAncestor y q) e (tail_of q some)
 under_ancestor p _ (deeper q some u) =
     let up : IsAncestor p (parent_of q) = under_ancestor p (parent_of q) u in
     let down : IsAncestor (parent_of q) q = tail_of q some in
     (up.0 ++ down.0, omega (arith, length-append up.0 down.0, down.1), down.2 ∙ ap (λ y. y ++ down.0) up.2 ∙ append_assoc p up.0 down.0)
 
-data Lying (p : Name) (a : Activity) (q : Name) (b : Activity) : Type 0 where
+pub data Lying (p : Name) (a : Activity) (q : Name) (b : Activity) : Type 0 where
   apart_from : AreApart a b → Lying p a q b
   under : Under q p → IsBehind a b → Lying p a q b
   over : Under p q → IsBehind b a → Lying p a q b
@@ -79,7 +79,7 @@ module _ (t : Table Activity) (s : Sound t) where
   first_of_all q a b (settled h) = h
   first_of_all q a b (still_open u) = absurd (omega (arith, under_longer (parent_of q) [] u))
 
-  lying : (n : ℕ) (p q : Name) (a b : Activity) → length p + length q < n → same p q ≡ false → find t p ≡ Some a → find t q ≡ Some b → Lying p a q b
+  pub lying : (n : ℕ) (p q : Name) (a b : Activity) → length p + length q < n → same p q ≡ false → find t p ≡ Some a → find t q ≡ Some b → Lying p a q b
   lying zero p q a b h n e f = absurd (omega (arith, h))
   lying (suc k) [] [] a b h n e f = absurd (cc)
   lying (suc k) [] (y ∷ q) a b h n e f =

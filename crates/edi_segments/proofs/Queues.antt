@@ -8,7 +8,7 @@ use Rattle.edi_calls.proofs.Tables.{same-refl, same-or-other, find-with_at-same,
 use Rattle.edi_calls.specs.Outcome.{standstill}
 use Rattle.edi_target.specs.Op.{Instruction, Branch}
 use Rattle.edi_target.specs.Effect.{Turn, entering, leaving, looping, arriving, again, forking, exiting, finishing}
-use Rattle.edi_target.specs.Mach.{Running, Answer, on, behind, turned, over, Standing, ready, at_when, waiting, Activity, Machine, Stepped, went, ended, running_of, activity_of, back, with_child, with_children, awaits, freed, one_less, told, attempted, at_turn, kernel, is_first, local_step, step_of, step}
+use Rattle.edi_target.specs.Mach.{Running, Answer, on, behind, turned, over, Standing, ready, at_when, waiting, Activity, Machine, Stepped, went, ended, running_of, activity_of, back, with_child, with_children, awaits, freed, one_less, notified, attempted, at_turn, kernel, is_first, local_step, step_of, step}
 use Rattle.edi_segments.specs.Nested.{MayGoOn}
 use Rattle.edi_segments.proofs.Families.{some_is, no_some, IsFree, Sound}
 use Rattle.edi_segments.proofs.Steps.{no_child}
@@ -53,7 +53,7 @@ child_number p f i = get_or-append_right p (f ∷ i ∷ []) (length p) (length p
     one_more : (n : ℕ) → n + 1 - n ≡ 1
     one_more n = omega arith
 
-children_apart : (p : Name) (f i j : ℕ) → i < j → same (child p f i) (child p f j) ≡ false
+pub children_apart : (p : Name) (f i j : ℕ) → i < j → same (child p f i) (child p f j) ≡ false
 children_apart p f i j h = go (same-or-other (child p f i) (child p f j))
   where
     go : (child p f i ≡ child p f j) ⊎ (same (child p f i) (child p f j) ≡ false) → same (child p f i) (child p f j) ≡ false
@@ -171,7 +171,7 @@ module _ (m : Machine) (p : Name) (a : Activity) (lives : find m.activities p �
   lessening r y at_when found e = nobody_joins m _ p
   lessening r y (waiting n) found e = joined r y n (n - 1) found e
 
-  telling : (r : Running) (y : Option Activity) → find (without m.activities p) (parent_of p) ≡ y → Queues m p (told (without_it r) (parent_of p) y)
+  telling : (r : Running) (y : Option Activity) → find (without m.activities p) (parent_of p) ≡ y → Queues m p (notified (without_it r) (parent_of p) y)
   telling r None e = nobody_joins m _ p
   telling r (Some y) e = lessening r y y.standing e refl
 

@@ -51,7 +51,7 @@ module _ (x : Activity) (order : IsInOrder x) (is : x.standing ≡ ready) where
   not_waiting [] a n e w = let no : ready ≡ waiting n = sym is ∙ ap (λ y. y.standing) (some_is e) ∙ w in absurd (cc)
   not_waiting (y ∷ p) a n e w = cc
 
-  alone : Sound (([], x) ∷ [])
+  pub alone : Sound (([], x) ∷ [])
   alone = record {
     ordered = in_order;
     nested = λ p a some e. absurd (nobody p a some e);
@@ -59,7 +59,7 @@ module _ (x : Activity) (order : IsInOrder x) (is : x.standing ≡ ready) where
     few = λ p a n e w. absurd (not_waiting p a n e w);
   }
 
-first_order : (need r p v f pc : ℕ) → is_allowed (op.entry need r p v f) ≡ true → need < 2 ^ 16 → IsInOrder (first_activity need (5 + p + v) pc)
+pub first_order : (need r p v f pc : ℕ) → is_allowed (op.entry need r p v f) ≡ true → need < 2 ^ 16 → IsInOrder (first_activity need (5 + p + v) pc)
 first_order need r p v f pc allowed small =
     let enough : 5 + r + p + v ≤ need = leb-true (5 + r + p + v) need (and_parts (nat_le (5 + r + p + v) need) (is_flag f) allowed).0 in
     record { begins = omega arith; links = omega arith; uses = omega (arith, enough); ends = omega (arith, small); fits = omega arith }

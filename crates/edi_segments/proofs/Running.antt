@@ -4,7 +4,7 @@ use Rattle.std.specs.Prelude.{⊤}
 use Rattle.edi_calls.specs.Choice.{Choices, choice}
 use Rattle.edi_calls.specs.Names.{Name, same, find}
 use Rattle.edi_calls.specs.Outcome.{Ending}
-use Rattle.edi_calls.specs.Ready.{has, stays, joins, Taking, nobody, taking, name_at, without_place, take_next}
+use Rattle.edi_calls.specs.Ready.{has, stays, joins, Taking, nobody, taking, name_at, without_index, take_next}
 use Rattle.edi_calls.proofs.Tables.{same-refl, same-equal}
 use Rattle.edi_target.specs.Decode.{AreWords}
 use Rattle.edi_target.specs.Fetch.{fetch}
@@ -60,28 +60,28 @@ name_in [] k h = absurd (omega (arith, h))
 name_in (p ∷ ps) zero h = has-here p ps
 name_in (p ∷ ps) (suc k) h = or_right (same (name_at ps k) p) (has ps (name_at ps k)) (name_in ps k (omega (arith, h)))
 
-others_in : (ps : List Name) (k : ℕ) (q : Name) → has (without_place ps k) q ≡ true → has ps q ≡ true
+others_in : (ps : List Name) (k : ℕ) (q : Name) → has (without_index ps k) q ≡ true → has ps q ≡ true
 others_in [] k q h = absurd (cc)
 others_in (p ∷ ps) zero q h = or_right (same q p) (has ps q) h
-others_in (p ∷ ps) (suc k) q h = elim (or_cases (same q p) (has (without_place ps k) q) h) [
+others_in (p ∷ ps) (suc k) q h = elim (or_cases (same q p) (has (without_index ps k) q) h) [
   | inl e ↦ ap (λ b. b || has ps q) e
   | inr e ↦ or_right (same q p) (has ps q) (others_in ps k q e)
 ]
 
-once_at : (ps : List Name) (k : ℕ) → k < length ps → Once ps → Once (name_at ps k ∷ without_place ps k)
+once_at : (ps : List Name) (k : ℕ) → k < length ps → Once ps → Once (name_at ps k ∷ without_index ps k)
 once_at [] k h o = absurd (omega (arith, h))
 once_at (p ∷ ps) zero h o = o
 once_at (p ∷ ps) (suc k) h o =
-    let ih : Once (name_at ps k ∷ without_place ps k) = once_at ps k (omega (arith, h)) o.1 in
+    let ih : Once (name_at ps k ∷ without_index ps k) = once_at ps k (omega (arith, h)) o.1 in
     let other : same (name_at ps k) p ≡ false = false_where (same (name_at ps k) p) (λ e. not_both (has ps p) (subst (λ x. has ps x ≡ true) (same-equal (name_at ps k) p e) (name_in ps k (omega (arith, h)))) o.0) in (
-      ap (λ b. b || has (without_place ps k) (name_at ps k)) other ∙ ih.0,
-      (false_where (has (without_place ps k) p) (λ e. not_both (has ps p) (others_in ps k p e) o.0), ih.1),
+      ap (λ b. b || has (without_index ps k) (name_at ps k)) other ∙ ih.0,
+      (false_where (has (without_index ps k) p) (λ e. not_both (has ps p) (others_in ps k p e) o.0), ih.1),
     )
 
-free_at : (m : Machine) (ps : List Name) (k : ℕ) → k < length ps → AllFree m ps → AllFree m (name_at ps k ∷ without_place ps k)
+free_at : (m : Machine) (ps : List Name) (k : ℕ) → k < length ps → AllFree m ps → AllFree m (name_at ps k ∷ without_index ps k)
 free_at m ps k h a = record {
   once = once_at ps k h a.once;
-  free = λ q e. elim (or_cases (same q (name_at ps k)) (has (without_place ps k) q) e) [
+  free = λ q e. elim (or_cases (same q (name_at ps k)) (has (without_index ps k) q) e) [
     | inl i ↦ a.free q (subst (λ x. has ps x ≡ true) (sym (same-equal q (name_at ps k) i)) (name_in ps k h))
     | inr i ↦ a.free q (others_in ps k q i)
   ];

@@ -9,7 +9,7 @@ use Rattle.edi_calls.proofs.Tables.{same-refl, same-or-other, find-with_at-same,
 use Rattle.edi_target.specs.Op.{Instruction, Branch}
 use Rattle.edi_target.specs.Effect.{Local, Turn, entering, leaving, looping, arriving, again, forking, exiting, finishing, Effect, goes, released, asks, due, fails, bad}
 use Rattle.edi_target.specs.Perform.{share_of}
-use Rattle.edi_target.specs.Mach.{Running, Answer, on, behind, turned, over, answer_at, called, turn_from, settled, effect_at, local_step, Standing, ready, at_when, waiting, Activity, Machine, Stepped, running_of, activity_of, back, with_children, awaits, one_less, told, exited, attempted, at_turn, kernel, is_first, step_of, step}
+use Rattle.edi_target.specs.Mach.{Running, Answer, on, behind, turned, over, answer_at, called, turn_from, settled, effect_at, local_step, Standing, ready, at_when, waiting, Activity, Machine, Stepped, running_of, activity_of, back, with_children, awaits, one_less, notified, exited, attempted, at_turn, kernel, is_first, step_of, step}
 use Rattle.edi_segments.specs.Nested.{machine_after, IsInOrder, Stays, unchanged, awaited}
 use Rattle.edi_segments.proofs.Keeping.{HaveRoom, Is, Keeping, Allows, each}
 use Rattle.edi_segments.proofs.Families.{some_is, parent_is, child_some, IsFree, Sound, Alike, no_children, was, replaced, left}
@@ -120,7 +120,7 @@ module _ (m : Machine) (p : Name) (a : Activity) (lives : find m.activities p �
   lessening r y at_when found e = rest
   lessening r y (waiting n) found e = less y n found e
 
-  telling : (r : Running) (y : Option Activity) → find (without m.activities p) (parent_of p) ≡ y → Leaves (told (without_it r) (parent_of p) y)
+  telling : (r : Running) (y : Option Activity) → find (without m.activities p) (parent_of p) ≡ y → Leaves (notified (without_it r) (parent_of p) y)
   telling r None e = rest
   telling r (Some y) e = lessening r y y.standing e refl
 

@@ -1,4 +1,4 @@
--- Where the frames and segments of the processes lie in the memory of the abstract machine.
+-- Words of contracts. Where the frames and segments of the processes lie in the memory of the abstract machine.
 use Rattle.std.specs.Prelude.{◌≡◌, ℕ, ◌+◌, ◌-◌, ◌^◌, ◌<◌, ◌≤◌, ◌⊎◌, false, List, length, Option, Some}
 use Rattle.edi_calls.specs.Choice.{Choices}
 use Rattle.edi_calls.specs.Names.{Name, Table, same, find}

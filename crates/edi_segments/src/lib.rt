@@ -3,6 +3,7 @@
 #![tactic(auto)]
 
 ghost use Rattle.edi_segments.specs.Nested.{EveryEndIsNested, SegmentsAreNested};
+ghost use Rattle.edi_segments.specs.Shares.{ChildrenLieInShares};
 
 /// In every machine that a code reaches, whatever the choices: each frame lies in its segment, and each segment in the
 /// memory; the segment of each process but the first lies in that of its parent, behind the frame of the parent, which
@@ -16,4 +17,9 @@ pub fn segments_are_nested()
 /// A run of a code, whatever its choices, ends with a machine whose segments are nested so.
 pub fn every_end_is_nested()
     ensures law { EveryEndIsNested }
+{}
+
+/// The segments of the children of a fork lie one behind the other: that of child i begins i shares behind where the first begins.
+pub fn children_lie_in_shares()
+    ensures law { ChildrenLieInShares }
 {}

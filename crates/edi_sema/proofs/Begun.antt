@@ -18,11 +18,11 @@ use Rattle.edi_static.specs.Judged.{Judged, gives, ◌>>=◌}
 use Rattle.edi_static.specs.Environment.{Begun, Environment, declare}
 use Rattle.edi_static.specs.Headings.{Headed, leave, round, own_name, heading_parts}
 use Rattle.edi_static.specs.Declarations.{kind_of, with_heading, begun_named, completes, post_marked, block_of, begin_procedure, begin_post, pre_decl}
-use Rattle.edi_static.specs.Answers.{Answers}
+use Rattle.edi_static.specs.Answers.{JudgedAnswers}
 use Rattle.edi_static.specs.Proper.{Proper}
 use Rattle.edi_static.proofs.Judging.{Gives, bind}
 use Rattle.edi_static.proofs.Proper.{around_proper}
-use Rattle.edi_sema.specs.Frames.{kinds, frame, BegunFit, Stands, Comes, Begins}
+use Rattle.edi_sema.specs.Frames.{kinds, frame, BegunFit, EnvironmentStands, Comes, HeadingBegins}
 use Rattle.edi_sema.specs.Splits.{block_named, completes_block, post_block, with_begun}
 use Rattle.edi_sema.proofs.Framed.{FramedHeaded, heading_framed, declare_framed}
 use Rattle.edi_sema.proofs.Staying.{outside_kinds, as_many_scopes, begun_grown}
@@ -39,17 +39,17 @@ pub headings_kept : (n : ℕ) (h : text.Heading) (env : Environment) (headed : H
 headings_kept n h env headed e = ap (λ f. f.headings_known) (subst (Gives (FramedHeaded (frame env))) e (heading_framed n h (frame env) env refl))
 
 -- what is known inside a heading
-pub inner_answer : {B : Type 0} (env after : Environment) (r : Result B StaticFault) (m : Judged Environment) → Answers (λ _. after) r m →
-    Gives (Inner env) m → OnOk r (Proper after) → OnOk r (Begins env after)
+pub inner_answer : {B : Type 0} (env after : Environment) (r : Result B StaticFault) (m : Judged Environment) → JudgedAnswers (λ _. after) r m →
+    Gives (Inner env) m → OnOk r (Proper after) → OnOk r (HeadingBegins env after)
 inner_answer env after (Ok b) m e g p = begins env after (subst (Gives (Inner env)) e g) p
 inner_answer env after (Err f) m e g p = tt
 
-pub begin_told : (m : Bool) (h : text.Heading) (name : Name) (env : Environment) (headed : Headed) (kind : BlockKind) (n : ℕ) → n ≡ length env.blocks → name ≡ own_name h →
+pub begin_stated : (m : Bool) (h : text.Heading) (name : Name) (env : Environment) (headed : Headed) (kind : BlockKind) (n : ℕ) → n ≡ length env.blocks → name ≡ own_name h →
     heading_parts n h env ≡ gives headed → kind ≡ kind_of (heading_result headed.asks) →
     begin_procedure m h env ≡ round (declare m name (entity.Procedure n)) (with_heading kind headed)
-begin_told m h name env headed kind n e i told k =
+begin_stated m h name env headed kind n e i stated k =
     ap (λ n. heading_parts n h env >>= λ headed. round (declare m (own_name h) (entity.Procedure n)) (with_heading (kind_of (heading_result headed.asks)) headed)) (sym e)
-    ∙ (ap (λ j. j >>= λ headed. round (declare m (own_name h) (entity.Procedure n)) (with_heading (kind_of (heading_result headed.asks)) headed)) told
+    ∙ (ap (λ j. j >>= λ headed. round (declare m (own_name h) (entity.Procedure n)) (with_heading (kind_of (heading_result headed.asks)) headed)) stated
     ∙ (ap (λ k. round (declare m (own_name h) (entity.Procedure n)) (with_heading k headed)) (sym k)
     ∙ ap (λ name. round (declare m name (entity.Procedure n)) (with_heading kind headed)) (sym i)))
 
@@ -88,13 +88,13 @@ completes_same : (found : Option Begun) (name : Name) (headed : Headed) → comp
 completes_same None name headed = refl
 completes_same (Some b) name headed = refl
 
-pub post_told : (m : Bool) (h : text.Heading) (name : Name) (env : Environment) (headed : Headed) (found : Option ℕ) (n : ℕ) → name ≡ own_name h →
+pub post_stated : (m : Bool) (h : text.Heading) (name : Name) (env : Environment) (headed : Headed) (found : Option ℕ) (n : ℕ) → name ≡ own_name h →
     found ≡ block_named env.begun name.text → n ≡ unwrap_or found (length env.blocks) → heading_parts n h env ≡ gives headed →
     begin_post m h env ≡ (completes_block found name headed.env headed.asks >>= λ _. post_marked m name n headed.env)
-post_told m h name env headed found n i f e told =
+post_stated m h name env headed found n i f e stated =
     let b : block_of env (begun_named env.begun (own_name h).text) ≡ n = sym (post_number h name env found n i f e) in
     ap (λ n. heading_parts n h env >>= λ headed. completes (begun_named env.begun (own_name h).text) (own_name h) headed >>= λ _. post_marked m (own_name h) n headed.env) b
-    ∙ (ap (λ j. j >>= λ headed. completes (begun_named env.begun (own_name h).text) (own_name h) headed >>= λ _. post_marked m (own_name h) n headed.env) told
+    ∙ (ap (λ j. j >>= λ headed. completes (begun_named env.begun (own_name h).text) (own_name h) headed >>= λ _. post_marked m (own_name h) n headed.env) stated
     ∙ (ap (λ j. j >>= λ _. post_marked m (own_name h) n headed.env) (completes_same (begun_named env.begun (own_name h).text) (own_name h) headed
     ∙ ap (λ found. completes_block found (own_name h) headed.env headed.asks) (sym (f ∙ ap (λ name. block_named env.begun name.text) i)))
     ∙ ap (λ name. completes_block found name headed.env headed.asks >>= λ _. post_marked m name n headed.env) (sym i)))
@@ -111,14 +111,14 @@ begin_more m h env =
     (λ outer e. omega (arith, ap (λ f. length f.headings_known) e, ap (λ f. length f.headings_known) k, length-append headed.env.headings)))
 
 pub begun_block : (m : Bool) (h : text.Heading) (env after : Environment) (n : ℕ) → begin_procedure m h env ≡ gives after → Proper env → n ≡ length env.blocks → n < length after.headings
-begun_block m h env after n told p e = omega (arith, subst (Gives (λ e. length env.headings < length e.headings)) told (begin_more m h env), p.headings, e)
+begun_block m h env after n stated p e = omega (arith, subst (Gives (λ e. length env.headings < length e.headings)) stated (begin_more m h env), p.headings, e)
 
-pub pre_comes : (env inside : Environment) (b : Begun) → Stands env → Begins env inside → Proper (leave inside) → b.block < length inside.headings →
+pub pre_comes : (env inside : Environment) (b : Begun) → EnvironmentStands env → HeadingBegins env inside → Proper (leave inside) → b.block < length inside.headings →
     Comes env (with_begun (inside.begun ++ b ∷ []) (leave inside))
 pre_comes env inside b s h p lt =
     let ks : kinds (outside inside.scopes) ≡ kinds env.scopes = outside_kinds inside.scopes ∙ ap (drop 1) h.kinds_inside in
     record {
-      same_place = ap (λ ks. record { kinds_of = ks; blocks_round = inside.around }) ks ∙ ap (λ r. record { kinds_of = kinds env.scopes; blocks_round = r }) h.around_same;
+      same_setting = ap (λ ks. record { kinds_of = ks; blocks_round = inside.around }) ks ∙ ap (λ r. record { kinds_of = kinds env.scopes; blocks_round = r }) h.around_same;
       grows = h.grows;
       stands = record {
         proper = around_proper inside.around (inside.begun ++ b ∷ []) (leave inside) p;
@@ -129,10 +129,10 @@ pre_comes env inside b s h p lt =
       };
     }
 
-pub pre_told : (m : Bool) (h : text.Heading) (name : Name) (env inside : Environment) (n : ℕ) → begin_procedure m h env ≡ gives inside → name ≡ own_name h → n ≡ length env.blocks →
+pub pre_stated : (m : Bool) (h : text.Heading) (name : Name) (env inside : Environment) (n : ℕ) → begin_procedure m h env ≡ gives inside → name ≡ own_name h → n ≡ length env.blocks →
     inside.begun ≡ env.begun → pre_decl m h env ≡ gives (with_begun (inside.begun ++ record { name = name; block = n } ∷ []) (leave inside))
-pre_told m h name env inside n told i e b =
-    ap (λ j. j >>= λ after. gives (record (leave after) { begun = env.begun ++ record { name = own_name h; block = length env.blocks } ∷ [] })) told
+pre_stated m h name env inside n stated i e b =
+    ap (λ j. j >>= λ after. gives (record (leave after) { begun = env.begun ++ record { name = own_name h; block = length env.blocks } ∷ [] })) stated
     ∙ (ap (λ begun. gives (record (leave inside) { begun = begun ++ record { name = own_name h; block = length env.blocks } ∷ [] })) (sym b)
     ∙ (ap (λ name. gives (record (leave inside) { begun = inside.begun ++ record { name = name; block = length env.blocks } ∷ [] })) (sym i)
     ∙ ap (λ n. gives (record (leave inside) { begun = inside.begun ++ record { name = name; block = n } ∷ [] })) (sym e)))

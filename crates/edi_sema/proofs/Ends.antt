@@ -40,21 +40,21 @@ no_such_block bs n b le = set_past (map block_of bs) n b (omega (arith, le, leng
 small_need : (n : ℕ) → nat_le (limited n) greatest_size ≡ nat_le n greatest_size
 small_need n = grind (arith, nat_tests)
 
-told_need : (n : ℕ) → nat_le n greatest_size ≡ true → limited n ≡ n
-told_need n h = grind (arith, nat_tests)
+stated_need : (n : ℕ) → nat_le n greatest_size ≡ true → limited n ≡ n
+stated_need n h = grind (arith, nat_tests)
 
 holds : (b : Bool) (line : ℕ) → must b kind.Range line ≡ gives tt → b ≡ true
 holds true line e = refl
 holds false line e = absurd (cc)
 
 -- a block is closed, and what it needs is told
-pub need_told : (n line words : ℕ) (env : Environment) → words ≡ limited (need env.types env.blocks n) →
+pub need_stated : (n line words : ℕ) (env : Environment) → words ≡ limited (need env.types env.blocks n) →
     must (nat_le words greatest_size) kind.Range line ≡ gives tt → with_need n line env ≡ gives (need_set n words env)
-need_told n line words env e h =
+need_stated n line words env e h =
     let small : nat_le (need env.types env.blocks n) greatest_size ≡ true =
     sym (small_need (need env.types env.blocks n)) ∙ (ap (λ w. nat_le w greatest_size) (sym e) ∙ holds (nat_le words greatest_size) line h) in
     ap (λ b. must b kind.Range line >>= λ _. gives (need_set n (need env.types env.blocks n) env)) small
-    ∙ ap (λ w. gives (need_set n w env)) (sym (e ∙ told_need (need env.types env.blocks n) small))
+    ∙ ap (λ w. gives (need_set n w env)) (sym (e ∙ stated_need (need env.types env.blocks n) small))
 
 pub need_faults : (n line words : ℕ) (env : Environment) → words ≡ limited (need env.types env.blocks n) →
     (why : StaticKind) (at : ℕ) → must (nat_le words greatest_size) kind.Range line ≡ faults why at → with_need n line env ≡ faults why at

@@ -8,7 +8,7 @@ pub mod Opening
 pub mod Begun
 pub mod Completing
 pub mod Answered
-pub mod Held
+pub mod Bounded
 pub mod RangesParts
 pub mod Ranges
 pub mod Soundness

@@ -18,7 +18,7 @@ use Rattle.edi_static.specs.Declarations.{kind_of, with_heading, begun_named, wi
 use Rattle.edi_static.specs.Proper.{Proper}
 use Rattle.edi_static.proofs.Proper.{around_proper, enter_proper}
 use Rattle.edi_static.proofs.Judging.{Gives, bind, behind, choose}
-use Rattle.edi_sema.specs.Frames.{kinds, frame, Frame, BegunFit, Stands, Comes, Begins, Leaves}
+use Rattle.edi_sema.specs.Frames.{kinds, frame, DeclarationFrame, BegunFit, EnvironmentStands, Comes, HeadingBegins, Leaves}
 use Rattle.edi_sema.specs.Blocks.{outside_block}
 use Rattle.edi_sema.specs.Splits.{with_begun}
 use Rattle.edi_sema.specs.Bodies.{finished, finished_module, inside_module, whole_procedure}
@@ -34,17 +34,17 @@ pub record Inner (env after : Environment) : Type 0 where
   pub inner_begun : after.begun ≡ env.begun
   pub inner_grows : length env.headings ≤ length after.headings
 
-pub begins : (env after : Environment) → Inner env after → Proper after → Begins env after
+pub begins : (env after : Environment) → Inner env after → Proper after → HeadingBegins env after
 begins env after h p = record { kinds_inside = h.inner_kinds; around_same = h.inner_around; begun_same = h.inner_begun; grows = h.inner_grows; proper = p }
 
-pub begins_stands : (env after : Environment) → Stands env → Begins env after → Stands after
+pub begins_stands : (env after : Environment) → EnvironmentStands env → HeadingBegins env after → EnvironmentStands after
 begins_stands env after s h = record {
   proper = h.proper;
   open_scopes = omega (arith, ap length h.kinds_inside, kinds_length after.scopes);
   begun_fit = subst (BegunFit after.headings) (sym h.begun_same) (begun_grown env.headings after.headings env.begun h.grows s.begun_fit);
 }
 
-pub begins_deep : (env after : Environment) → Stands env → Begins env after → 1 < length after.scopes
+pub begins_deep : (env after : Environment) → EnvironmentStands env → HeadingBegins env after → 1 < length after.scopes
 begins_deep env after s h = omega (arith, ap length h.kinds_inside, kinds_length after.scopes, kinds_length env.scopes, s.open_scopes)
 
 joined_kinds : (ss ts : List Scope) → kinds ts ≡ kinds (outside ss) → kinds (take 1 ss ++ ts) ≡ kinds ss
@@ -85,7 +85,7 @@ begin_inner m h env =
     (block_inner env (kind_of (heading_result headed.asks)) headed (headed_inner env headed k))
     (declare_framed m (own_name h) (entity.Procedure (length env.blocks)) _ (leave (with_heading (kind_of (heading_result headed.asks)) headed)) refl))
 
-outside_framed : (name : Name) (means : Entity) (f : Frame) (env : Environment) → frame env ≡ f → Gives (λ e. frame e ≡ f) (give_outside name means env)
+outside_framed : (name : Name) (means : Entity) (f : DeclarationFrame) (env : Environment) → frame env ≡ f → Gives (λ e. frame e ≡ f) (give_outside name means env)
 outside_framed name means f env h =
     choose (λ e. frame e ≡ f) (is_some (declared (outside env.scopes) name.text)) _ _ tt
     (ap (λ ks. record { kinds_of = ks; blocks_round = env.around; begun_here = env.begun; headings_known = env.headings }) (exported_kinds name.text means env.scopes) ∙ h)
@@ -104,32 +104,32 @@ post_inner m h env =
 -- ---- behind a procedure
 
 pub body_around : (block : ℕ) (env b c : Environment) → Comes (enter_block block env) b → Comes b c → c.around ≡ block ∷ env.around
-body_around block env b c h k = ap (λ p. p.blocks_round) (k.same_place ∙ h.same_place)
+body_around block env b c h k = ap (λ p. p.blocks_round) (k.same_setting ∙ h.same_setting)
 
 pub rest_leaves : (block : ℕ) (env b c : Environment) (begun : List Begun) → begun ≡ env.begun → Comes (enter_block block env) b → Comes b c →
     Proper (leave (with_begun begun (outside_block c))) → Leaves env (leave (with_begun begun (outside_block c)))
 rest_leaves block env b c begun e h k p = record {
-  kinds_outside = outside_kinds c.scopes ∙ (ap (λ p. drop 1 p.kinds_of) (k.same_place ∙ h.same_place) ∙ sym (outside_kinds env.scopes));
+  kinds_outside = outside_kinds c.scopes ∙ (ap (λ p. drop 1 p.kinds_of) (k.same_setting ∙ h.same_setting) ∙ sym (outside_kinds env.scopes));
   around_same = ap (drop 1) (body_around block env b c h k);
   begun_same = e;
   grows = omega (arith, h.grows, k.grows);
   proper = p;
 }
 
-pub rest_told : (block : ℕ) (h : text.Heading) (ds : text.Declarations) (s : text.StatementList) (end : ℕ) (env b c : Environment) (begun : List Begun) →
+pub rest_stated : (block : ℕ) (h : text.Heading) (ds : text.Declarations) (s : text.StatementList) (end : ℕ) (env b c : Environment) (begun : List Begun) →
     begun ≡ env.begun → Comes (enter_block block env) b → Comes b c → declarations ds (enter_block block env) ≡ gives b → finished block s end b ≡ gives c →
     whole_procedure block (text.procedure h ds s end) env ≡ gives (leave (with_begun begun (outside_block c)))
-rest_told block h ds s end env b c begun e hb hc told closed =
-    ap (λ m. m >>= finished block s end >>= λ after. gives (leave_to env env.begun after)) told
+rest_stated block h ds s end env b c begun e hb hc stated closed =
+    ap (λ m. m >>= finished block s end >>= λ after. gives (leave_to env env.begun after)) stated
     ∙ (ap (λ m. m >>= λ after. gives (leave_to env env.begun after)) closed
     ∙ (ap (λ around. gives (record (leave c) { around = around; begun = env.begun })) (sym (ap (drop 1) (body_around block env b c hb hc)))
     ∙ ap (λ begun. gives (record (leave c) { around = drop 1 c.around; begun = begun })) (sym e)))
 
-pub procedure_comes : (env inside after : Environment) → Stands env → Begins env inside → Leaves inside after → Comes env after
+pub procedure_comes : (env inside after : Environment) → EnvironmentStands env → HeadingBegins env inside → Leaves inside after → Comes env after
 procedure_comes env inside after s h k =
     let ks : kinds after.scopes ≡ kinds env.scopes = k.kinds_outside ∙ (outside_kinds inside.scopes ∙ ap (drop 1) h.kinds_inside) in
     record {
-      same_place = ap (λ ks. record { kinds_of = ks; blocks_round = after.around }) ks ∙ ap (λ r. record { kinds_of = kinds env.scopes; blocks_round = r }) (k.around_same ∙ h.around_same);
+      same_setting = ap (λ ks. record { kinds_of = ks; blocks_round = after.around }) ks ∙ ap (λ r. record { kinds_of = kinds env.scopes; blocks_round = r }) (k.around_same ∙ h.around_same);
       grows = omega (arith, h.grows, k.grows);
       stands = record {
         proper = k.proper;
@@ -140,17 +140,17 @@ procedure_comes env inside after s h k =
       };
     }
 
-left_to : (env inside : Environment) → Begins env inside → (begun : List Begun) → begun ≡ env.begun → (m : Judged Environment) →
+left_to : (env inside : Environment) → HeadingBegins env inside → (begun : List Begun) → begun ≡ env.begun → (m : Judged Environment) →
     (m >>= λ after. gives (leave_to env env.begun after)) ≡ (m >>= λ after. gives (leave_to inside begun after))
 left_to env inside h begun e (gives after) =
     ap (λ around. gives (record (leave after) { around = around; begun = env.begun })) (sym h.around_same)
     ∙ ap (λ begun. gives (record (leave after) { around = inside.around; begun = begun })) (sym e)
 left_to env inside h begun e (faults why line) = refl
 
-pub procedure_item_told : (m : Bool) (p : text.Procedure) (n : ℕ) (env inside : Environment) → begin_procedure m (heading_of p) env ≡ gives inside →
-    n ≡ length env.blocks → Begins env inside → item m (text.procedure_item p) env ≡ whole_procedure n p inside
-procedure_item_told m p n env inside told e h =
-    ap (λ j. j >>= procedure_rest (length env.blocks) p >>= λ after. gives (leave_to env env.begun after)) told
+pub procedure_item_stated : (m : Bool) (p : text.Procedure) (n : ℕ) (env inside : Environment) → begin_procedure m (heading_of p) env ≡ gives inside →
+    n ≡ length env.blocks → HeadingBegins env inside → item m (text.procedure_item p) env ≡ whole_procedure n p inside
+procedure_item_stated m p n env inside stated e h =
+    ap (λ j. j >>= procedure_rest (length env.blocks) p >>= λ after. gives (leave_to env env.begun after)) stated
     ∙ (ap (λ n. procedure_rest n p inside >>= λ after. gives (leave_to env env.begun after)) (sym e)
     ∙ left_to env inside h inside.begun h.begun_same (procedure_rest n p inside))
 
@@ -158,7 +158,7 @@ procedure_item_told m p n env inside told e h =
 pub completed_comes : (env after : Environment) (name : List ℕ) → Comes env after → BegunFit after.headings (without_begun name after.begun) →
     Comes env (with_begun (without_begun name after.begun) after)
 completed_comes env after name h k = record {
-  same_place = h.same_place;
+  same_setting = h.same_setting;
   grows = h.grows;
   stands = record {
     proper = around_proper after.around (without_begun name after.begun) after h.stands.proper;
@@ -167,7 +167,7 @@ completed_comes env after name h k = record {
   };
 }
 
-posted : (env inside : Environment) → Begins env inside → (name : List ℕ) (begun : List Begun) → begun ≡ env.begun → (m : Judged Environment) →
+posted : (env inside : Environment) → HeadingBegins env inside → (name : List ℕ) (begun : List Begun) → begun ≡ env.begun → (m : Judged Environment) →
     (m >>= λ after. gives (leave_to env (without_begun name env.begun) after))
     ≡ ((m >>= λ after. gives (leave_to inside begun after)) >>= λ after. gives (with_begun (without_begun name after.begun) after))
 posted env inside h name begun e (gives after) =
@@ -175,12 +175,12 @@ posted env inside h name begun e (gives after) =
     ∙ ap (λ begun. gives (record (leave after) { around = inside.around; begun = without_begun name begun })) (sym e)
 posted env inside h name begun e (faults why line) = refl
 
-pub post_item_told : (m : Bool) (p : text.Procedure) (n : ℕ) (env inside : Environment) → begin_post m (heading_of p) env ≡ gives inside →
-    n ≡ block_of env (begun_named env.begun (own_name (heading_of p)).text) → Begins env inside →
+pub post_item_stated : (m : Bool) (p : text.Procedure) (n : ℕ) (env inside : Environment) → begin_post m (heading_of p) env ≡ gives inside →
+    n ≡ block_of env (begun_named env.begun (own_name (heading_of p)).text) → HeadingBegins env inside →
     item m (text.post_item p) env ≡ (whole_procedure n p inside >>= λ after. gives (with_begun (without_begun (own_name (heading_of p)).text after.begun) after))
-post_item_told m (text.procedure h ds s end) n env inside told e k =
+post_item_stated m (text.procedure h ds s end) n env inside stated e k =
     let p : text.Procedure = text.procedure h ds s end in
-    ap (λ j. j >>= procedure_rest (block_of env (begun_named env.begun (own_name h).text)) p >>= λ after. gives (leave_to env (without_begun (own_name h).text env.begun) after)) told
+    ap (λ j. j >>= procedure_rest (block_of env (begun_named env.begun (own_name h).text)) p >>= λ after. gives (leave_to env (without_begun (own_name h).text env.begun) after)) stated
     ∙ (ap (λ n. procedure_rest n p inside >>= λ after. gives (leave_to env (without_begun (own_name h).text env.begun) after)) (sym e)
     ∙ posted env inside k (own_name h).text inside.begun k.begun_same (procedure_rest n p inside))
 
@@ -197,25 +197,25 @@ module_rest : (env inner : Environment) (s : text.StatementList) (first : Judged
 module_rest env inner s (faults why line) = refl
 module_rest env inner s (gives u) = left_module env (statement_list s inner)
 
-pub module_told : (ms : text.Members) (s : text.StatementList) (env b c : Environment) (begun : List Begun) → begun ≡ env.begun →
+pub module_stated : (ms : text.Members) (s : text.StatementList) (env b c : Environment) (begun : List Begun) → begun ≡ env.begun →
     Comes (inside_module env) b → Comes b c → members ms (inside_module env) ≡ gives b → finished_module (here b) s b ≡ gives c →
     module_decl (text.module_with ms s) env ≡ gives (leave (with_begun begun c))
-module_told ms s env b c begun e hb hc told closed =
-    let r : c.around ≡ env.around = ap (λ p. p.blocks_round) (hc.same_place ∙ hb.same_place) in
-    let n : here b ≡ here env = ap (λ p. slice_index_or p.blocks_round 0 0) hb.same_place in
-    ap (λ m. m >>= λ inner. all_completed inner.begun >>= λ _. statement_list s inner >>= λ done. gives (leave_module env done)) told
+module_stated ms s env b c begun e hb hc stated closed =
+    let r : c.around ≡ env.around = ap (λ p. p.blocks_round) (hc.same_setting ∙ hb.same_setting) in
+    let n : here b ≡ here env = ap (λ p. slice_index_or p.blocks_round 0 0) hb.same_setting in
+    ap (λ m. m >>= λ inner. all_completed inner.begun >>= λ _. statement_list s inner >>= λ done. gives (leave_module env done)) stated
     ∙ (module_rest env b s (all_completed b.begun)
     ∙ (ap (λ n. finished_module n s b >>= λ after. gives (leave_to env env.begun after)) (sym n)
     ∙ (ap (λ m. m >>= λ after. gives (leave_to env env.begun after)) closed
     ∙ (ap (λ around. gives (record (leave c) { around = around; begun = env.begun })) (sym r)
     ∙ ap (λ begun. gives (record (leave c) { begun = begun })) (sym e)))))
 
-pub module_comes : (env b c : Environment) (begun : List Begun) → begun ≡ env.begun → Stands env → Comes (inside_module env) b → Comes b c →
+pub module_comes : (env b c : Environment) (begun : List Begun) → begun ≡ env.begun → EnvironmentStands env → Comes (inside_module env) b → Comes b c →
     Proper (leave (with_begun begun c)) → Comes env (leave (with_begun begun c))
 module_comes env b c begun e s hb hc p =
-    let ks : kinds (outside c.scopes) ≡ kinds env.scopes = outside_kinds c.scopes ∙ ap (λ p. drop 1 p.kinds_of) (hc.same_place ∙ hb.same_place) in
+    let ks : kinds (outside c.scopes) ≡ kinds env.scopes = outside_kinds c.scopes ∙ ap (λ p. drop 1 p.kinds_of) (hc.same_setting ∙ hb.same_setting) in
     record {
-      same_place = ap (λ ks. record { kinds_of = ks; blocks_round = c.around }) ks ∙ ap (λ p. record { kinds_of = kinds env.scopes; blocks_round = p.blocks_round }) (hc.same_place ∙ hb.same_place);
+      same_setting = ap (λ ks. record { kinds_of = ks; blocks_round = c.around }) ks ∙ ap (λ p. record { kinds_of = kinds env.scopes; blocks_round = p.blocks_round }) (hc.same_setting ∙ hb.same_setting);
       grows = omega (arith, hb.grows, hc.grows);
       stands = record {
         proper = p;
@@ -225,7 +225,7 @@ module_comes env b c begun e s hb hc p =
     }
 
 -- inside a block
-pub open_stands : (n : ℕ) (env : Environment) → Stands env → Stands (enter_block n env)
+pub open_stands : (n : ℕ) (env : Environment) → EnvironmentStands env → EnvironmentStands (enter_block n env)
 open_stands n env s = record {
   proper = around_proper (n ∷ env.around) [] env s.proper;
   open_scopes = s.open_scopes;
@@ -235,8 +235,8 @@ open_stands n env s = record {
 -- the block of a program
 pub program_inner : (m : Bool) (name : Name) (n k : ℕ) (h : text.Heading) (env after : Environment) (kind : BlockKind) (headed : Headed) →
     heading_parts n h env ≡ gives headed → round (declare m name (entity.Procedure k)) (with_heading kind headed) ≡ gives after → Inner env after
-program_inner m name n k h env after kind headed told begun =
-    let f : FramedHeaded (frame env) headed = subst (Gives (FramedHeaded (frame env))) told (heading_framed n h (frame env) env refl) in
+program_inner m name n k h env after kind headed stated begun =
+    let f : FramedHeaded (frame env) headed = subst (Gives (FramedHeaded (frame env))) stated (heading_framed n h (frame env) env refl) in
     subst (Gives (Inner env)) begun
     (round_inner env (declare m name (entity.Procedure k)) (with_heading kind headed) (block_inner env kind headed (headed_inner env headed f))
     (declare_framed m name (entity.Procedure k) _ (leave (with_heading kind headed)) refl))
@@ -247,11 +247,11 @@ rest_faults block h ds s end env why line e = ap (λ m. m >>= finished block s e
 
 pub end_faults : (block : ℕ) (h : text.Heading) (ds : text.Declarations) (s : text.StatementList) (end : ℕ) (env b : Environment) (why : StaticKind) (line : ℕ) →
     declarations ds (enter_block block env) ≡ gives b → finished block s end b ≡ faults why line → whole_procedure block (text.procedure h ds s end) env ≡ faults why line
-end_faults block h ds s end env b why line told e =
-    ap (λ m. m >>= finished block s end >>= λ after. gives (leave_to env env.begun after)) told ∙ ap (λ m. m >>= λ after. gives (leave_to env env.begun after)) e
+end_faults block h ds s end env b why line stated e =
+    ap (λ m. m >>= finished block s end >>= λ after. gives (leave_to env env.begun after)) stated ∙ ap (λ m. m >>= λ after. gives (leave_to env env.begun after)) e
 
 -- inside a module
-pub module_stands : (env : Environment) → Stands env → Stands (inside_module env)
+pub module_stands : (env : Environment) → EnvironmentStands env → EnvironmentStands (inside_module env)
 module_stands env s = record {
   proper = around_proper env.around [] (enter true env) (enter_proper true env s.proper);
   open_scopes = omega arith;

@@ -12,19 +12,19 @@ use Rattle.edi_tree.specs.declared.expressions.Root.TheVariants as root
 use Rattle.edi_tree.specs.Tree.{Names, no_name, next_name, ConstDecls, no_const_decl, next_const_decl, ConstList, const_list, Group, group, Groups, no_group, next_group, TypeDecl, enum_decl, record_decl, array_decl, set_decl, VarList, var_list, Heading, heading, Params, no_params, params, MoreParams, no_param, next_param, Param, value_param, var_param, procedure_param, Expr, expr, Comparison, no_comparison, compared, Exprs, no_expr, next_expr, Simple, simple, Addend, addend, Addends, no_addend, next_addend, Term, term, Multiplier, multiplier, Multipliers, no_multiplier, next_multiplier, Factor, numeral, string, not_factor, parenthesized, call_factor, variable_factor, Args, args, Variable, variable, Selector, field, index, Selectors, no_selector, next_selector}
 use Rattle.edi_tree.specs.Spelled.{Spelled, just, char_mark, chars_mark, name_mark, names_then, constant_then, const_decl_then, const_decls_then, const_list_then, group_then, groups_then, type_decl_then, var_list_then, result_then, heading_then, params_then, more_params_then, param_then, sign_then, root_then, expr_then, comparison_then, exprs_then, simple_then, addend_then, addends_then, term_then, multiplier_then, multipliers_then, factor_then, args_then, variable_then, selector_then, selectors_then, optional_args_then}
 use Rattle.edi_static.specs.InRange.{ConstantInRange, ConstDeclsInRange, ConstListInRange, TypeDeclInRange, ExprInRange, ComparisonInRange, ExprsInRange, SimpleInRange, AddendInRange, AddendsInRange, TermInRange, MultiplierInRange, MultipliersInRange, FactorInRange, ArgsInRange, VariableInRange, SelectorInRange, SelectorsInRange, OptionalArgsInRange}
-use Rattle.edi_sema.proofs.Held.{numeral_in_range, numeral_not_negative, string_in_range, Held, first_of, rest, Passed, nothing, mark, then_mark, two, over, loose}
+use Rattle.edi_sema.proofs.Bounded.{numeral_in_range, numeral_not_negative, string_in_range, Bounded, first_of, rest, Passed, nothing, mark, then_mark, two, over, loose}
 
 -- ---- names, constants, types, variables
 
-names_passed : (x : Names) (more : List Spelled) → Held (names_then x more) → Passed 0 (Unit {0}) (names_then x more) more
+names_passed : (x : Names) (more : List Spelled) → Bounded (names_then x more) → Passed 0 (Unit {0}) (names_then x more) more
 names_passed no_name more h = nothing h
 names_passed (next_name n ns) more h = loose (mark (mark (names_passed ns more (rest (rest h)))))
 
 -- a part that is spelled by the first mark
-one : {P : Type 0} {s : Spelled} {ss : List Spelled} → Held (s ∷ ss) → P → Passed 1 P (s ∷ ss) ss
+one : {P : Type 0} {s : Spelled} {ss : List Spelled} → Bounded (s ∷ ss) → P → Passed 1 P (s ∷ ss) ss
 one h p = mark (record { part = p; behind_it = rest h; fewer = (nothing (rest h)).fewer })
 
-pub constant_passed : (x : Constant) (more : List Spelled) → Held (constant_then x more) → Passed 1 (ConstantInRange x) (constant_then x more) more
+pub constant_passed : (x : Constant) (more : List Spelled) → Bounded (constant_then x more) → Passed 1 (ConstantInRange x) (constant_then x more) more
 constant_passed (constant.Numeral v) more h = one h (numeral_in_range v (first_of (just (is.Numeral v)) more h))
 constant_passed (constant.Char c) more h = one h (string_in_range (c.character ∷ []) (first_of (char_mark c) more h)).0
 constant_passed (constant.Name n None) more h = one h tt
@@ -32,31 +32,31 @@ constant_passed (constant.Name n (Some v)) more h =
     let inner = rest (rest h) in
     mark (mark (then_mark (one inner (numeral_not_negative v (first_of (just (is.Numeral v)) (just is.Close ∷ more) inner)))))
 
-const_decl_passed : (x : ConstDecl) (more : List Spelled) → Held (const_decl_then x more) → Passed 1 (ConstantInRange x.constant) (const_decl_then x more) more
+const_decl_passed : (x : ConstDecl) (more : List Spelled) → Bounded (const_decl_then x more) → Passed 1 (ConstantInRange x.constant) (const_decl_then x more) more
 const_decl_passed d more h = mark (mark (constant_passed d.constant more (rest (rest h))))
 
-const_decls_passed : (x : ConstDecls) (more : List Spelled) → Held (const_decls_then x more) → Passed 0 (ConstDeclsInRange x) (const_decls_then x more) more
+const_decls_passed : (x : ConstDecls) (more : List Spelled) → Bounded (const_decls_then x more) → Passed 0 (ConstDeclsInRange x) (const_decls_then x more) more
 const_decls_passed no_const_decl more h = nothing h
 const_decls_passed (next_const_decl d ds) more h =
     let x = const_decl_passed d (const_decls_then ds more) (rest h) in
     loose (mark (two x (const_decls_passed ds more x.behind_it)))
 
-pub const_list_passed : (x : ConstList) (more : List Spelled) → Held (const_list_then x more) → Passed 0 (ConstListInRange x) (const_list_then x more) more
+pub const_list_passed : (x : ConstList) (more : List Spelled) → Bounded (const_list_then x more) → Passed 0 (ConstListInRange x) (const_list_then x more) more
 const_list_passed (const_list d ds) more h =
     let x = const_decl_passed d (const_decls_then ds more) (rest h) in
     loose (mark (two x (const_decls_passed ds more x.behind_it)))
 
-group_passed : (x : Group) (more : List Spelled) → Held (group_then x more) → Passed 0 (Unit {0}) (group_then x more) more
+group_passed : (x : Group) (more : List Spelled) → Bounded (group_then x more) → Passed 0 (Unit {0}) (group_then x more) more
 group_passed (group n ns t) more h =
     loose (mark (then_mark (then_mark (names_passed ns (just is.Colon ∷ name_mark t ∷ more) (rest h)))))
 
-groups_passed : (x : Groups) (more : List Spelled) → Held (groups_then x more) → Passed 0 (Unit {0}) (groups_then x more) more
+groups_passed : (x : Groups) (more : List Spelled) → Bounded (groups_then x more) → Passed 0 (Unit {0}) (groups_then x more) more
 groups_passed no_group more h = nothing h
 groups_passed (next_group g gs) more h =
     let x = group_passed g (groups_then gs more) (rest h) in
     loose (mark (over x (groups_passed gs more x.behind_it)))
 
-pub type_decl_passed : (x : TypeDecl) (more : List Spelled) → Held (type_decl_then x more) → Passed 0 (TypeDeclInRange x) (type_decl_then x more) more
+pub type_decl_passed : (x : TypeDecl) (more : List Spelled) → Bounded (type_decl_then x more) → Passed 0 (TypeDeclInRange x) (type_decl_then x more) more
 type_decl_passed (enum_decl n m ms) more h =
     loose (mark (mark (mark (mark (then_mark (names_passed ms (just is.Close ∷ more) (rest (rest (rest (rest h))))))))))
 type_decl_passed (record_decl n g gs) more h =
@@ -68,97 +68,97 @@ type_decl_passed (array_decl n line lower upper e) more h =
     loose (mark (mark (mark (two x (then_mark (then_mark (then_mark (then_mark (constant_passed upper last x.behind_it)))))))))
 type_decl_passed (set_decl n b) more h = loose (mark (mark (mark (mark (mark (nothing (rest (rest (rest (rest (rest h)))))))))))
 
-pub var_list_passed : (x : VarList) (more : List Spelled) → Held (var_list_then x more) → Passed 0 (Unit {0}) (var_list_then x more) more
+pub var_list_passed : (x : VarList) (more : List Spelled) → Bounded (var_list_then x more) → Passed 0 (Unit {0}) (var_list_then x more) more
 var_list_passed (var_list g gs) more h =
     let x = group_passed g (groups_then gs more) (rest h) in
     loose (mark (over x (groups_passed gs more x.behind_it)))
 
 -- ---- headings
 
-result_passed : (x : Option Name) (more : List Spelled) → Held (result_then x more) → Passed 0 (Unit {0}) (result_then x more) more
+result_passed : (x : Option Name) (more : List Spelled) → Bounded (result_then x more) → Passed 0 (Unit {0}) (result_then x more) more
 result_passed None more h = nothing h
 result_passed (Some n) more h = loose (mark (mark (nothing (rest (rest h)))))
 
 mutual
-  pub heading_passed : (x : Heading) (more : List Spelled) → Held (heading_then x more) → Passed 0 (Unit {0}) (heading_then x more) more
+  pub heading_passed : (x : Heading) (more : List Spelled) → Bounded (heading_then x more) → Passed 0 (Unit {0}) (heading_then x more) more
   heading_passed (heading n ps r) more h =
       let x = params_passed ps (result_then r more) (rest (rest h)) in
       loose (mark (mark (over x (result_passed r more x.behind_it))))
 
-  params_passed : (x : Params) (more : List Spelled) → Held (params_then x more) → Passed 0 (Unit {0}) (params_then x more) more
+  params_passed : (x : Params) (more : List Spelled) → Bounded (params_then x more) → Passed 0 (Unit {0}) (params_then x more) more
   params_passed no_params more h = nothing h
   params_passed (params p ps) more h =
       let x = param_passed p (more_params_then ps (just is.Close ∷ more)) (rest h) in
       loose (mark (over x (then_mark (more_params_passed ps (just is.Close ∷ more) x.behind_it))))
 
-  more_params_passed : (x : MoreParams) (more : List Spelled) → Held (more_params_then x more) → Passed 0 (Unit {0}) (more_params_then x more) more
+  more_params_passed : (x : MoreParams) (more : List Spelled) → Bounded (more_params_then x more) → Passed 0 (Unit {0}) (more_params_then x more) more
   more_params_passed no_param more h = nothing h
   more_params_passed (next_param p ps) more h =
       let x = param_passed p (more_params_then ps more) (rest h) in
       loose (mark (over x (more_params_passed ps more x.behind_it)))
 
-  param_passed : (x : Param) (more : List Spelled) → Held (param_then x more) → Passed 0 (Unit {0}) (param_then x more) more
+  param_passed : (x : Param) (more : List Spelled) → Bounded (param_then x more) → Passed 0 (Unit {0}) (param_then x more) more
   param_passed (value_param g) more h = group_passed g more h
   param_passed (var_param g) more h = loose (mark (group_passed g more (rest h)))
   param_passed (procedure_param p) more h = heading_passed p more h
 
 -- ---- expressions
 
-sign_passed : (x : Option Sign) (more : List Spelled) → Held (sign_then x more) → Passed 0 (Unit {0}) (sign_then x more) more
+sign_passed : (x : Option Sign) (more : List Spelled) → Bounded (sign_then x more) → Passed 0 (Unit {0}) (sign_then x more) more
 sign_passed None more h = nothing h
 sign_passed (Some (sign.Plus line)) more h = loose (mark (nothing (rest h)))
 sign_passed (Some (sign.Minus line)) more h = loose (mark (nothing (rest h)))
 
-root_passed : (x : Root) (more : List Spelled) → Held (root_then x more) → Passed 1 (Unit {0}) (root_then x more) more
+root_passed : (x : Root) (more : List Spelled) → Bounded (root_then x more) → Passed 1 (Unit {0}) (root_then x more) more
 root_passed (root.Name n) more h = mark (nothing (rest h))
 root_passed (root.Val n) more h = mark (mark (nothing (rest (rest h))))
 
 mutual
-  pub expr_passed : (x : Expr) (more : List Spelled) → Held (expr_then x more) → Passed 0 (ExprInRange x) (expr_then x more) more
+  pub expr_passed : (x : Expr) (more : List Spelled) → Bounded (expr_then x more) → Passed 0 (ExprInRange x) (expr_then x more) more
   expr_passed (expr s c) more h =
       let x = simple_passed s (comparison_then c more) h in
       two x (comparison_passed c more x.behind_it)
 
-  comparison_passed : (x : Comparison) (more : List Spelled) → Held (comparison_then x more) → Passed 0 (ComparisonInRange x) (comparison_then x more) more
+  comparison_passed : (x : Comparison) (more : List Spelled) → Bounded (comparison_then x more) → Passed 0 (ComparisonInRange x) (comparison_then x more) more
   comparison_passed no_comparison more h = nothing h
   comparison_passed (compared r line s) more h = loose (mark (simple_passed s more (rest h)))
 
-  exprs_passed : (x : Exprs) (more : List Spelled) → Held (exprs_then x more) → Passed 0 (ExprsInRange x) (exprs_then x more) more
+  exprs_passed : (x : Exprs) (more : List Spelled) → Bounded (exprs_then x more) → Passed 0 (ExprsInRange x) (exprs_then x more) more
   exprs_passed no_expr more h = nothing h
   exprs_passed (next_expr e es) more h =
       let x = expr_passed e (exprs_then es more) (rest h) in
       loose (mark (two x (exprs_passed es more x.behind_it)))
 
-  simple_passed : (x : Simple) (more : List Spelled) → Held (simple_then x more) → Passed 0 (SimpleInRange x) (simple_then x more) more
+  simple_passed : (x : Simple) (more : List Spelled) → Bounded (simple_then x more) → Passed 0 (SimpleInRange x) (simple_then x more) more
   simple_passed (simple s t ts) more h =
       let first = sign_passed s (term_then t (addends_then ts more)) h in
       let x = term_passed t (addends_then ts more) first.behind_it in
       over first (two x (addends_passed ts more x.behind_it))
 
-  addend_passed : (x : Addend) (more : List Spelled) → Held (addend_then x more) → Passed 0 (AddendInRange x) (addend_then x more) more
+  addend_passed : (x : Addend) (more : List Spelled) → Bounded (addend_then x more) → Passed 0 (AddendInRange x) (addend_then x more) more
   addend_passed (addend o line t) more h = loose (mark (term_passed t more (rest h)))
 
-  addends_passed : (x : Addends) (more : List Spelled) → Held (addends_then x more) → Passed 0 (AddendsInRange x) (addends_then x more) more
+  addends_passed : (x : Addends) (more : List Spelled) → Bounded (addends_then x more) → Passed 0 (AddendsInRange x) (addends_then x more) more
   addends_passed no_addend more h = nothing h
   addends_passed (next_addend t ts) more h =
       let x = addend_passed t (addends_then ts more) h in
       two x (addends_passed ts more x.behind_it)
 
-  term_passed : (x : Term) (more : List Spelled) → Held (term_then x more) → Passed 0 (TermInRange x) (term_then x more) more
+  term_passed : (x : Term) (more : List Spelled) → Bounded (term_then x more) → Passed 0 (TermInRange x) (term_then x more) more
   term_passed (term f fs) more h =
       let x = factor_passed f (multipliers_then fs more) h in
       two x (multipliers_passed fs more x.behind_it)
 
-  multiplier_passed : (x : Multiplier) (more : List Spelled) → Held (multiplier_then x more) → Passed 0 (MultiplierInRange x) (multiplier_then x more) more
+  multiplier_passed : (x : Multiplier) (more : List Spelled) → Bounded (multiplier_then x more) → Passed 0 (MultiplierInRange x) (multiplier_then x more) more
   multiplier_passed (multiplier o line f) more h = loose (mark (factor_passed f more (rest h)))
 
-  multipliers_passed : (x : Multipliers) (more : List Spelled) → Held (multipliers_then x more) → Passed 0 (MultipliersInRange x) (multipliers_then x more) more
+  multipliers_passed : (x : Multipliers) (more : List Spelled) → Bounded (multipliers_then x more) → Passed 0 (MultipliersInRange x) (multipliers_then x more) more
   multipliers_passed no_multiplier more h = nothing h
   multipliers_passed (next_multiplier f fs) more h =
       let x = multiplier_passed f (multipliers_then fs more) h in
       two x (multipliers_passed fs more x.behind_it)
 
-  factor_passed : (x : Factor) (more : List Spelled) → Held (factor_then x more) → Passed 0 (FactorInRange x) (factor_then x more) more
+  factor_passed : (x : Factor) (more : List Spelled) → Bounded (factor_then x more) → Passed 0 (FactorInRange x) (factor_then x more) more
   factor_passed (numeral v) more h = loose (one h (numeral_in_range v (first_of (just (is.Numeral v)) more h)))
   factor_passed (string s) more h = loose (one h (string_in_range s.text (first_of (chars_mark s) more h)))
   factor_passed (not_factor line f) more h = loose (mark (factor_passed f more (rest h)))
@@ -166,26 +166,26 @@ mutual
   factor_passed (call_factor n a) more h = loose (mark (args_passed a more (rest h)))
   factor_passed (variable_factor v) more h = loose (variable_passed v more h)
 
-  pub args_passed : (x : Args) (more : List Spelled) → Held (args_then x more) → Passed 0 (ArgsInRange x) (args_then x more) more
+  pub args_passed : (x : Args) (more : List Spelled) → Bounded (args_then x more) → Passed 0 (ArgsInRange x) (args_then x more) more
   args_passed (args e es) more h =
       let x = expr_passed e (exprs_then es (just is.Close ∷ more)) (rest h) in
       loose (mark (two x (then_mark (exprs_passed es (just is.Close ∷ more) x.behind_it))))
 
-  pub variable_passed : (x : Variable) (more : List Spelled) → Held (variable_then x more) → Passed 0 (VariableInRange x) (variable_then x more) more
+  pub variable_passed : (x : Variable) (more : List Spelled) → Bounded (variable_then x more) → Passed 0 (VariableInRange x) (variable_then x more) more
   variable_passed (variable r ss) more h =
       let first = root_passed r (selectors_then ss more) h in
       over first (selectors_passed ss more first.behind_it)
 
-  selector_passed : (x : Selector) (more : List Spelled) → Held (selector_then x more) → Passed 0 (SelectorInRange x) (selector_then x more) more
+  selector_passed : (x : Selector) (more : List Spelled) → Bounded (selector_then x more) → Passed 0 (SelectorInRange x) (selector_then x more) more
   selector_passed (field line n) more h = loose (mark (mark (nothing (rest (rest h)))))
   selector_passed (index line e) more h = loose (mark (then_mark (expr_passed e (just is.CloseBracket ∷ more) (rest h))))
 
-  selectors_passed : (x : Selectors) (more : List Spelled) → Held (selectors_then x more) → Passed 0 (SelectorsInRange x) (selectors_then x more) more
+  selectors_passed : (x : Selectors) (more : List Spelled) → Bounded (selectors_then x more) → Passed 0 (SelectorsInRange x) (selectors_then x more) more
   selectors_passed no_selector more h = nothing h
   selectors_passed (next_selector s ss) more h =
       let x = selector_passed s (selectors_then ss more) h in
       two x (selectors_passed ss more x.behind_it)
 
-pub optional_args_passed : (x : Option Args) (more : List Spelled) → Held (optional_args_then x more) → Passed 0 (OptionalArgsInRange x) (optional_args_then x more) more
+pub optional_args_passed : (x : Option Args) (more : List Spelled) → Bounded (optional_args_then x more) → Passed 0 (OptionalArgsInRange x) (optional_args_then x more) more
 optional_args_passed None more h = nothing h
 optional_args_passed (Some a) more h = args_passed a more h

@@ -46,11 +46,11 @@ in_one : (h : Heading) (f g : One) → formals (f ∷ []) ≡ heading_formals h 
 in_one (heading gs r) f g e =
     ap (λ gs. same_formals gs (formals (g ∷ [])) && same_result r None) (sym e) ∙ ap (λ b. b && same_result r None) (only_one f g)
 
-pub one_told : (h : Heading) (fs : List code_formal.Formal) (x : code_formal.Formal) (g : One) → formals (map formal_of fs) ≡ heading_formals h →
+pub one_stated : (h : Heading) (fs : List code_formal.Formal) (x : code_formal.Formal) (g : One) → formals (map formal_of fs) ≡ heading_formals h →
     length fs ≡ 1 → x ≡ get_or fs 0 x → same_heading h (heading (formals (g ∷ [])) None) ≡ (same_one (formal_of x) g && same_result (heading_result h) None)
-one_told h [] x g e n i = absurd (omega arith)
-one_told h (a ∷ []) x g e n i = in_one h (formal_of a) g e ∙ ap (λ f. same_one (formal_of f) g && same_result (heading_result h) None) (sym i)
-one_told h (a ∷ b ∷ fs) x g e n i = absurd (omega arith)
+one_stated h [] x g e n i = absurd (omega arith)
+one_stated h (a ∷ []) x g e n i = in_one h (formal_of a) g e ∙ ap (λ f. same_one (formal_of f) g && same_result (heading_result h) None) (sym i)
+one_stated h (a ∷ b ∷ fs) x g e n i = absurd (omega arith)
 
 more_than_none : (f : One) (fs : List One) → same_formals (formals (f ∷ fs)) no_formal ≡ false
 more_than_none (value t) fs = refl
@@ -84,9 +84,9 @@ not_one (heading gs r) fs g e n =
 pub with_result : (h g : Heading) → same_result (heading_result h) (heading_result g) ≡ false → same_heading h g ≡ false
 with_result (heading fs r) (heading gs s) e = ap (λ b. same_formals fs gs && b) e ∙ and_false (same_formals fs gs)
 
-pub bare_told : (h : Heading) (fs : List code_formal.Formal) → formals (map formal_of fs) ≡ heading_formals h → same_result (heading_result h) None ≡ true →
+pub bare_stated : (h : Heading) (fs : List code_formal.Formal) → formals (map formal_of fs) ≡ heading_formals h → same_result (heading_result h) None ≡ true →
     same_heading h no_heading ≡ (length fs == 0)
-bare_told h fs e n =
+bare_stated h fs e n =
     nothing h (map formal_of fs) e ∙ (ap (λ b. (length (map formal_of fs) == 0) && b) n ∙ (and_true (length (map formal_of fs) == 0) ∙ ap (λ n. n == 0) (length-map fs formal_of)))
 
 -- ---- a title and a variable
@@ -100,17 +100,17 @@ two types (value t) (procedure b) r = sym (ap (λ b. b && same_result r None) (a
 two types (variable t) g r = refl
 two types (procedure t) g r = refl
 
-pub titled_told : (types : List Shape) (h : Heading) (fs : List code_formal.Formal) (x y : code_formal.Formal) → formals (map formal_of fs) ≡ heading_formals h →
+pub titled_stated : (types : List Shape) (h : Heading) (fs : List code_formal.Formal) (x y : code_formal.Formal) → formals (map formal_of fs) ≡ heading_formals h →
     length fs ≡ 2 → x ≡ get_or fs 0 x → y ≡ get_or fs 1 y →
     is_titled types h ≡ ((takes_title types (formal_of x) && same_one (formal_of y) (variable bool_type)) && same_result (heading_result h) None)
-titled_told types h [] x y e n i j = absurd (omega arith)
-titled_told types h (a ∷ []) x y e n i j = absurd (omega arith)
-titled_told types (heading gs r) (a ∷ b ∷ []) x y e n i j =
+titled_stated types h [] x y e n i j = absurd (omega arith)
+titled_stated types h (a ∷ []) x y e n i j = absurd (omega arith)
+titled_stated types (heading gs r) (a ∷ b ∷ []) x y e n i j =
     ap (λ gs. is_titled types (heading gs r)) (sym e)
     ∙ (two types (formal_of a) (formal_of b) r
     ∙ (ap (λ f. (takes_title types (formal_of f) && same_one (formal_of b) (variable bool_type)) && same_result r None) (sym i)
     ∙ ap (λ f. (takes_title types (formal_of x) && same_one (formal_of f) (variable bool_type)) && same_result r None) (sym j)))
-titled_told types h (a ∷ b ∷ c ∷ fs) x y e n i j = absurd (omega arith)
+titled_stated types h (a ∷ b ∷ c ∷ fs) x y e n i j = absurd (omega arith)
 
 not_two_of : (types : List Shape) (fs : List One) (r : Option ℕ) → length fs ≢ 2 → is_titled types (heading (formals fs) r) ≡ false
 not_two_of types [] r n = refl

@@ -11,15 +11,15 @@ use Rattle.edi_static.specs.declared.faults.StaticFault.{StaticFault}
 use Rattle.edi_static.specs.Judged.{Judged, gives}
 use Rattle.edi_static.specs.Environment.{Begun, Environment, set_block}
 use Rattle.edi_static.specs.Statements.{add_statements, close_block, enter_branch}
-use Rattle.edi_static.specs.Answers.{Answers}
+use Rattle.edi_static.specs.Answers.{JudgedAnswers}
 use Rattle.edi_static.specs.Proper.{Proper}
 use Rattle.edi_static.proofs.Judging.{Gives, ruled}
 use Rattle.edi_static.proofs.Proper.{set_block_proper, around_proper}
-use Rattle.edi_sema.specs.Frames.{kinds, frame, place, BegunFit, Stands, Comes, Stays}
+use Rattle.edi_sema.specs.Frames.{kinds, frame, setting, BegunFit, EnvironmentStands, Comes, Stays}
 use Rattle.edi_sema.specs.Blocks.{outside_block}
 
 -- what holds of whatever a construct gives holds where it is answered
-pub answered : {A B : Type 0} (P : A → Type 0) (a : A) (r : Result B StaticFault) (m : Judged A) → Answers (λ _. a) r m → Gives P m → OnOk r (P a)
+pub answered : {A B : Type 0} (P : A → Type 0) (a : A) (r : Result B StaticFault) (m : Judged A) → JudgedAnswers (λ _. a) r m → Gives P m → OnOk r (P a)
 answered P a (Ok b) m e g = subst (Gives P) e g
 answered P a (Err f) m e g = tt
 
@@ -72,15 +72,15 @@ branch_stays env b c h k = record {
 
 -- ---- declarations
 
-pub comes_self : (env : Environment) → Stands env → Comes env env
-comes_self env h = record { same_place = refl; grows = omega arith; stands = h }
+pub comes_self : (env : Environment) → EnvironmentStands env → Comes env env
+comes_self env h = record { same_setting = refl; grows = omega arith; stands = h }
 
 pub comes_then : (a b c : Environment) → Comes a b → Comes b c → Comes a c
-comes_then a b c h k = record { same_place = k.same_place ∙ h.same_place; grows = omega (arith, h.grows, k.grows); stands = k.stands }
+comes_then a b c h k = record { same_setting = k.same_setting ∙ h.same_setting; grows = omega (arith, h.grows, k.grows); stands = k.stands }
 
-pub stays_comes : (a b : Environment) → Stands a → Stays a b → Comes a b
+pub stays_comes : (a b : Environment) → EnvironmentStands a → Stays a b → Comes a b
 stays_comes a b s h = record {
-  same_place = ap place h.same;
+  same_setting = ap setting h.same;
   grows = h.grows;
   stands = record {
     proper = h.proper;
@@ -89,9 +89,9 @@ stays_comes a b s h = record {
   };
 }
 
-pub framed_comes : (env after : Environment) → frame after ≡ frame env → Proper after → Stands env → Comes env after
+pub framed_comes : (env after : Environment) → frame after ≡ frame env → Proper after → EnvironmentStands env → Comes env after
 framed_comes env after e p s = record {
-  same_place = ap (λ f. record { kinds_of = f.kinds_of; blocks_round = f.blocks_round }) e;
+  same_setting = ap (λ f. record { kinds_of = f.kinds_of; blocks_round = f.blocks_round }) e;
   grows = omega (arith, ap (λ f. length f.headings_known) e);
   stands = record {
     proper = p;
@@ -102,20 +102,20 @@ framed_comes env after e p s = record {
 
 -- what declarations without a body are answered
 pub framed_answer : {B : Type 0} (env after : Environment) (r : Result B StaticFault) (m : Judged Environment) →
-    Answers (λ _. after) r m → Gives (λ e. frame e ≡ frame env) m → OnOk r (Proper after) → Stands env → OnOk r (Comes env after)
+    JudgedAnswers (λ _. after) r m → Gives (λ e. frame e ≡ frame env) m → OnOk r (Proper after) → EnvironmentStands env → OnOk r (Comes env after)
 framed_answer env after (Ok b) m e g p s = framed_comes env after (subst (Gives (λ e. frame e ≡ frame env)) e g) p s
 framed_answer env after (Err f) m e g p s = tt
 
 -- ---- ends of bodies
 
-pub finish_comes : {B : Type 0} (env b after : Environment) (n line : ℕ) (s : Acts) (r : Result B StaticFault) → Stands env → Stays env b →
-    Answers (λ _. after) r (close_block n s line b) → OnOk r (Comes env after)
+pub finish_comes : {B : Type 0} (env b after : Environment) (n line : ℕ) (s : Acts) (r : Result B StaticFault) → EnvironmentStands env → Stays env b →
+    JudgedAnswers (λ _. after) r (close_block n s line b) → OnOk r (Comes env after)
 finish_comes env b after n line s (Ok u) st h e =
     stays_comes env after st (stays_then env b after h (subst (Gives (Stays b)) e (close_stays n s line b h.proper)))
 finish_comes env b after n line s (Err f) st h e = tt
 
-pub module_finish_comes : {B : Type 0} (env b after : Environment) (n : ℕ) (s : Acts) (r : Result B StaticFault) → Stands env → Stays env b →
-    Answers (λ _. after) r (gives (add_statements n s b)) → OnOk r (Comes env after)
+pub module_finish_comes : {B : Type 0} (env b after : Environment) (n : ℕ) (s : Acts) (r : Result B StaticFault) → EnvironmentStands env → Stays env b →
+    JudgedAnswers (λ _. after) r (gives (add_statements n s b)) → OnOk r (Comes env after)
 module_finish_comes env b after n s (Ok u) st h e =
     stays_comes env after st (stays_then env b after h (subst (Gives (Stays b)) e (add_stays n s b h.proper)))
 module_finish_comes env b after n s (Err f) st h e = tt

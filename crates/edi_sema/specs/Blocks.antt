@@ -1,4 +1,4 @@
--- Steps from one environment to another at the begin and the end of a block.
+-- Words of contracts. Steps from one environment to another at the begin and the end of a block.
 use Rattle.std.specs.Prelude.{ℕ, ◌∷◌, drop}
 use Rattle.edi_unit.specs.Need.{block_at}
 use Rattle.edi_static.specs.Environment.{Environment, set_block}

@@ -1,4 +1,4 @@
--- The parts of a system call's heading.
+-- Words of contracts. The parts of a system call's heading.
 use Rattle.std.specs.Prelude.{ℕ, Bool, false, if◌then◌else◌, List, [], ◌∷◌, ◌++◌, Option, Some, None, codes}
 use Rattle.edi_tree.specs.Tree as text
 use Rattle.edi_unit.specs.Types.{Shape, shape_at}

@@ -1,4 +1,4 @@
--- Split procedures by their blocks.
+-- Words of contracts. Split procedures by their blocks.
 use Rattle.std.specs.Prelude.{ℕ, Bool, List, Option, Some, None, option_map}
 use Rattle.edi_tree.specs.declared.names.Name.{Name}
 use Rattle.edi_tree.specs.Tree as text
@@ -18,7 +18,7 @@ abbrev pub completes_block : Option ℕ → Name → Environment → Heading →
 completes_block None name env asks = faults kind.Split name.line
 completes_block (Some b) name env asks = must (same_heading (heading_at env.headings b) asks) kind.Split name.line
 
--- a `post` is held to its `pre`, and then a mark on it gives its name outside
+-- a `post` is held to its `pre`, and then an export on it gives its name outside
 abbrev pub posted : (marked : Bool) → Name → Option ℕ → (block : ℕ) → Heading → Environment → Judged Environment
 posted marked name found block asks env = completes_block found name env asks >>= λ _. post_marked marked name block env
 

@@ -1,4 +1,4 @@
--- Lists of constructs, judged from left to right.
+-- Words of contracts. Lists of constructs, judged from left to right.
 use Rattle.std.specs.Prelude.{ℕ, List, [], ◌∷◌, ◌++◌}
 use Rattle.edi_tree.specs.Tree as text
 use Rattle.edi_tree.specs.View.{ClosedBranch}

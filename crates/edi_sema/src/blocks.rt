@@ -4,7 +4,7 @@ ghost use Rattle.std.specs.Prelude.{◌≡◌, IfOk, OnErr, Err};
 ghost use Rattle.edi_unit.specs.View.{acts_of};
 ghost use Rattle.edi_static.specs.Judged.{gives};
 ghost use Rattle.edi_static.specs.Statements as spec;
-ghost use Rattle.edi_static.specs.Answers.{Answers};
+ghost use Rattle.edi_static.specs.Answers.{JudgedAnswers};
 ghost use Rattle.edi_static.specs.Views.{environment};
 ghost use Rattle.edi_sema.specs.Blocks.{need_set, inside_block, outside_block};
 
@@ -36,7 +36,7 @@ pub(crate) fn add_statements(
     block: u32,
     acts: Acts,
 ) -> Result<(), StaticFault>
-    ensures exact { Answers (λ _. environment known.new) result (gives (spec.add_statements block (acts_of acts) (environment known.old))) }
+    ensures exact { JudgedAnswers (λ _. environment known.new) result (gives (spec.add_statements block (acts_of acts) (environment known.old))) }
 {
     if let Some(found) = known.blocks.get_mut(block as usize) {
         let body = std::mem::replace(&mut found.body, List::new(alloc));
@@ -62,7 +62,7 @@ pub(crate) fn close_block(
     acts: Acts,
     line: u16,
 ) -> Result<(), StaticFault>
-    ensures exact { Answers (λ _. environment known.new) result (spec.close_block block (acts_of acts) line (environment known.old)) }
+    ensures exact { JudgedAnswers (λ _. environment known.new) result (spec.close_block block (acts_of acts) line (environment known.old)) }
 {
     add_statements(known, alloc, block, acts)?;
     let words = need(&known.types, known.blocks.as_slice(), block);
@@ -73,7 +73,7 @@ pub(crate) fn close_block(
 
 /// Enters a block.
 pub fn enter_around(known: &mut Known, block: u32) -> Result<(), StaticFault>
-    ensures exact { Answers (λ _. environment known.new) result (gives (inside_block block (environment known.old))) }
+    ensures exact { JudgedAnswers (λ _. environment known.new) result (gives (inside_block block (environment known.old))) }
 {
     match known.around.insert(0, block) {
         Ok(()) => Ok(()),

@@ -9,7 +9,7 @@ ghost use Rattle.edi_unit.specs.Fits.{heading, heading_formals, heading_result, 
 ghost use Rattle.edi_static.specs.Environment.{same_heading, same_result, no_heading};
 ghost use Rattle.edi_static.specs.Programs as spec;
 ghost use Rattle.edi_static.specs.Fitting.{rest_of};
-ghost use Rattle.edi_static.specs.Answers.{Answers};
+ghost use Rattle.edi_static.specs.Answers.{JudgedAnswers};
 ghost use Rattle.edi_static.specs.Views as view;
 ghost use Rattle.edi_static.specs.Views.{asked_of, formal_of, same_one};
 ghost use Rattle.edi_sema.specs.Calls.{takes_title, number_if, file_calls, asked_by, param_call};
@@ -186,7 +186,7 @@ fn call_number(known: &Known, asked: &Asked, name: &[u8]) -> Option<u8>
 
 /// The call of a name and its heading; it must be one.
 fn call_with(known: &Known, asked: &Asked, name: &Name) -> Result<u8, StaticFault>
-    ensures exact { Answers (λ n. n) result
+    ensures exact { JudgedAnswers (λ n. n) result
         (spec.call_with name.now (spec.number_of_call (spec.system_calls known.now.types (asked_of asked.now)) name.now.text)) }
 {
     match call_number(known, asked, name.text.as_slice()) {
@@ -230,7 +230,7 @@ fn behind_first(formals: &[Formal]) -> &[Formal]
 
 /// The call that a parameter is; a group is none.
 fn call_of(known: &Known, param: &Param, asked: &Asked) -> Result<u8, StaticFault>
-    ensures exact { Answers (λ n. n) result (param_call known.now.types (param_of param.now) (asked_of asked.now)) }
+    ensures exact { JudgedAnswers (λ n. n) result (param_call known.now.types (param_of param.now) (asked_of asked.now)) }
 {
     match param {
         Param::Heading(heading) => call_with(known, asked, &heading.name),
@@ -246,7 +246,7 @@ fn calls_of(
     params: &[Param],
     asked: &Asked,
 ) -> Result<CallList, StaticFault>
-    ensures exact { Answers (λ calls. list_items calls) result
+    ensures exact { JudgedAnswers (λ calls. list_items calls) result
         (spec.calls_of_more known.now.types (more_params (map param_of params.now)) (heading_formals (asked_of asked.now))) }
 {
     let nothing = no_asked(alloc);
@@ -267,7 +267,7 @@ pub(crate) fn program_heading(
     heading: &Heading,
     asked: &Asked,
 ) -> Result<CallList, StaticFault>
-    ensures exact { Answers (λ calls. list_items calls) result
+    ensures exact { JudgedAnswers (λ calls. list_items calls) result
         (spec.program_heading known.now.types (heading_of heading.now) (asked_of asked.now)) }
 {
     match &heading.result {

@@ -4,9 +4,9 @@ ghost use Rattle.std.specs.Prelude.{◌≡◌, ◌<◌, length, IsTrue, OnOk};
 ghost use Rattle.edi_scope.specs.Scope.{in_module};
 ghost use Rattle.edi_tree.specs.View.{declaration_of, item_of, member_of, module_of, procedure_of};
 ghost use Rattle.edi_static.specs.Declarations as spec;
-ghost use Rattle.edi_static.specs.Answers.{Answers};
+ghost use Rattle.edi_static.specs.Answers.{JudgedAnswers};
 ghost use Rattle.edi_static.specs.Views.{environment};
-ghost use Rattle.edi_sema.specs.Frames.{Comes, Leaves, Stands};
+ghost use Rattle.edi_sema.specs.Frames.{Comes, Leaves, EnvironmentStands};
 ghost use Rattle.edi_sema.specs.Bodies.{whole_procedure};
 
 use crate::blocks::leave_around;
@@ -28,8 +28,8 @@ pub(crate) fn procedure_rest(
     procedure: &Procedure,
 ) -> Result<(), StaticFault>
     requires depth { 1 < length known.old.scopes }
-    requires stands { Stands (environment known.old) }
-    ensures exact { Answers (λ _. environment known.new) result (whole_procedure block (procedure_of procedure.now) (environment known.old)) }
+    requires stands { EnvironmentStands (environment known.old) }
+    ensures exact { JudgedAnswers (λ _. environment known.new) result (whole_procedure block (procedure_of procedure.now) (environment known.old)) }
     ensures leaves { OnOk result (Leaves (environment known.old) (environment known.new)) }
 {
     let begun = open_block(known, alloc, block)?;
@@ -45,8 +45,8 @@ pub(crate) fn procedure_rest(
 #[cycle(declarations)]
 fn item(known: &mut Known, alloc: Global, marked: bool, item: &Item) -> Result<(), StaticFault>
     requires module { IsTrue marked → IsTrue (in_module known.old.scopes) }
-    requires stands { Stands (environment known.old) }
-    ensures exact { Answers (λ _. environment known.new) result (spec.item marked (item_of item.now) (environment known.old)) }
+    requires stands { EnvironmentStands (environment known.old) }
+    ensures exact { JudgedAnswers (λ _. environment known.new) result (spec.item marked (item_of item.now) (environment known.old)) }
     ensures comes { OnOk result (Comes (environment known.old) (environment known.new)) }
 {
     match item {
@@ -69,8 +69,8 @@ fn item(known: &mut Known, alloc: Global, marked: bool, item: &Item) -> Result<(
 
 #[cycle(declarations)]
 fn module(known: &mut Known, alloc: Global, module: &Module) -> Result<(), StaticFault>
-    requires stands { Stands (environment known.old) }
-    ensures exact { Answers (λ _. environment known.new) result (spec.module_decl (module_of «module».now) (environment known.old)) }
+    requires stands { EnvironmentStands (environment known.old) }
+    ensures exact { JudgedAnswers (λ _. environment known.new) result (spec.module_decl (module_of «module».now) (environment known.old)) }
     ensures comes { OnOk result (Comes (environment known.old) (environment known.new)) }
 {
     let begun = open_module(known, alloc)?;
@@ -82,12 +82,12 @@ fn module(known: &mut Known, alloc: Global, module: &Module) -> Result<(), Stati
     Ok(())
 }
 
-/// A mark `*` exports all names of the declaration behind it.
+/// An export `*` exports all names of the declaration behind it.
 #[cycle(declarations)]
 fn member(known: &mut Known, alloc: Global, member: &Member) -> Result<(), StaticFault>
     requires module { IsTrue (in_module known.old.scopes) }
-    requires stands { Stands (environment known.old) }
-    ensures exact { Answers (λ _. environment known.new) result (spec.member (member_of member.now) (environment known.old)) }
+    requires stands { EnvironmentStands (environment known.old) }
+    ensures exact { JudgedAnswers (λ _. environment known.new) result (spec.member (member_of member.now) (environment known.old)) }
     ensures comes { OnOk result (Comes (environment known.old) (environment known.new)) }
 {
     match member {
@@ -99,8 +99,8 @@ fn member(known: &mut Known, alloc: Global, member: &Member) -> Result<(), Stati
 
 #[cycle(declarations)]
 fn declare(known: &mut Known, alloc: Global, declaration: &Declaration) -> Result<(), StaticFault>
-    requires stands { Stands (environment known.old) }
-    ensures exact { Answers (λ _. environment known.new) result (spec.declaration (declaration_of declaration.now) (environment known.old)) }
+    requires stands { EnvironmentStands (environment known.old) }
+    ensures exact { JudgedAnswers (λ _. environment known.new) result (spec.declaration (declaration_of declaration.now) (environment known.old)) }
     ensures comes { OnOk result (Comes (environment known.old) (environment known.new)) }
 {
     match declaration {

@@ -8,10 +8,10 @@ ghost use Rattle.edi_static.specs.Environment as environments;
 ghost use Rattle.edi_static.specs.Headings as headings;
 ghost use Rattle.edi_static.specs.Types as types;
 ghost use Rattle.edi_static.specs.Declarations as spec;
-ghost use Rattle.edi_static.specs.Answers.{Answers};
+ghost use Rattle.edi_static.specs.Answers.{JudgedAnswers};
 ghost use Rattle.edi_static.specs.Proper.{Proper};
 ghost use Rattle.edi_static.specs.Views.{begun_of, environment};
-ghost use Rattle.edi_sema.specs.Frames.{Comes, Stands};
+ghost use Rattle.edi_sema.specs.Frames.{Comes, EnvironmentStands};
 ghost use Rattle.edi_sema.specs.Splits.{with_begun};
 ghost use Rattle.edi_sema.specs.Bodies.{finished, finished_module, inside_module};
 
@@ -30,8 +30,8 @@ pub fn constants(
     list: &ConstList,
 ) -> Result<(), StaticFault>
     requires module { IsTrue marked → IsTrue (in_module known.old.scopes) }
-    requires stands { Stands (environment known.old) }
-    ensures exact { Answers (λ _. environment known.new) result (types.const_list marked (const_list_of list.now) (environment known.old)) }
+    requires stands { EnvironmentStands (environment known.old) }
+    ensures exact { JudgedAnswers (λ _. environment known.new) result (types.const_list marked (const_list_of list.now) (environment known.old)) }
     ensures comes { OnOk result (Comes (environment known.old) (environment known.new)) }
 {
     const_list(known, alloc, marked, list)
@@ -45,8 +45,8 @@ pub fn declared_type(
     declared: &TypeDecl,
 ) -> Result<(), StaticFault>
     requires module { IsTrue marked → IsTrue (in_module known.old.scopes) }
-    requires stands { Stands (environment known.old) }
-    ensures exact { Answers (λ _. environment known.new) result (types.type_decl marked (type_decl_of declared.now) (environment known.old)) }
+    requires stands { EnvironmentStands (environment known.old) }
+    ensures exact { JudgedAnswers (λ _. environment known.new) result (types.type_decl marked (type_decl_of declared.now) (environment known.old)) }
     ensures comes { OnOk result (Comes (environment known.old) (environment known.new)) }
 {
     type_decl(known, alloc, marked, declared)
@@ -60,8 +60,8 @@ pub fn variables(
     list: &VarList,
 ) -> Result<(), StaticFault>
     requires module { IsTrue marked → IsTrue (in_module known.old.scopes) }
-    requires stands { Stands (environment known.old) }
-    ensures exact { Answers (λ _. environment known.new) result (types.var_list marked (var_list_of list.now) (environment known.old)) }
+    requires stands { EnvironmentStands (environment known.old) }
+    ensures exact { JudgedAnswers (λ _. environment known.new) result (types.var_list marked (var_list_of list.now) (environment known.old)) }
     ensures comes { OnOk result (Comes (environment known.old) (environment known.new)) }
 {
     var_list(known, alloc, marked, list)
@@ -77,10 +77,10 @@ fn take_begun(known: &mut Known, alloc: Global) -> Vec<Begun>
 
 /// Enters a block whose heading's scope is the innermost, and gives the procedures that are begun round it.
 pub fn open_block(known: &mut Known, alloc: Global, block: u32) -> Result<Vec<Begun>, StaticFault>
-    requires stands { Stands (environment known.old) }
-    ensures exact { Answers (λ _. environment known.new) result (gives (spec.enter_block block (environment known.old))) }
+    requires stands { EnvironmentStands (environment known.old) }
+    ensures exact { JudgedAnswers (λ _. environment known.new) result (gives (spec.enter_block block (environment known.old))) }
     ensures begun { IfOk result (λ begun. map begun_of begun.items ≡ (environment known.old).begun) }
-    ensures stands { OnOk result (Stands (environment known.new)) }
+    ensures stands { OnOk result (EnvironmentStands (environment known.new)) }
 {
     enter_around(known, block)?;
     Ok(take_begun(known, alloc))
@@ -88,10 +88,10 @@ pub fn open_block(known: &mut Known, alloc: Global, block: u32) -> Result<Vec<Be
 
 /// Enters a module, and gives the procedures that are begun round it.
 pub fn open_module(known: &mut Known, alloc: Global) -> Result<Vec<Begun>, StaticFault>
-    requires stands { Stands (environment known.old) }
-    ensures exact { Answers (λ _. environment known.new) result (gives (inside_module (environment known.old))) }
+    requires stands { EnvironmentStands (environment known.old) }
+    ensures exact { JudgedAnswers (λ _. environment known.new) result (gives (inside_module (environment known.old))) }
     ensures begun { IfOk result (λ begun. map begun_of begun.items ≡ (environment known.old).begun) }
-    ensures stands { OnOk result (Stands (environment known.new)) }
+    ensures stands { OnOk result (EnvironmentStands (environment known.new)) }
 {
     known.enter(alloc, true)?;
     Ok(take_begun(known, alloc))
@@ -116,8 +116,8 @@ pub fn finish_block(
     list: &List,
     end: u16,
 ) -> Result<(), StaticFault>
-    requires stands { Stands (environment known.old) }
-    ensures exact { Answers (λ _. environment known.new) result (finished block (list_of list.now) end (environment known.old)) }
+    requires stands { EnvironmentStands (environment known.old) }
+    ensures exact { JudgedAnswers (λ _. environment known.new) result (finished block (list_of list.now) end (environment known.old)) }
     ensures comes { OnOk result (Comes (environment known.old) (environment known.new)) }
 {
     all_completed(known)?;
@@ -127,8 +127,8 @@ pub fn finish_block(
 
 /// The statements of a module, which the block where it stands executes when it is entered.
 pub fn finish_module(known: &mut Known, alloc: Global, list: &List) -> Result<(), StaticFault>
-    requires stands { Stands (environment known.old) }
-    ensures exact { Answers (λ _. environment known.new) result
+    requires stands { EnvironmentStands (environment known.old) }
+    ensures exact { JudgedAnswers (λ _. environment known.new) result
         (finished_module (environments.here (environment known.old)) (list_of list.now) (environment known.old)) }
     ensures comes { OnOk result (Comes (environment known.old) (environment known.new)) }
 {

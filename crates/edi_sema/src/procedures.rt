@@ -10,10 +10,10 @@ ghost use Rattle.edi_static.specs.Headings.{round};
 ghost use Rattle.edi_static.specs.Environment as environments;
 ghost use Rattle.edi_static.specs.Declarations as spec;
 ghost use Rattle.edi_static.specs.Judged.{gives};
-ghost use Rattle.edi_static.specs.Answers.{Answers};
+ghost use Rattle.edi_static.specs.Answers.{JudgedAnswers};
 ghost use Rattle.edi_static.specs.Proper.{Proper};
 ghost use Rattle.edi_static.specs.Views.{asked_of, begun_of, environment};
-ghost use Rattle.edi_sema.specs.Frames.{Begins, Comes, Stands};
+ghost use Rattle.edi_sema.specs.Frames.{HeadingBegins, Comes, EnvironmentStands};
 ghost use Rattle.edi_sema.specs.Splits.{block_named, post_block, posted, with_begun};
 
 use edi_lex::Text;
@@ -50,7 +50,7 @@ pub(crate) fn begin_block_of(
     requires module { IsTrue marked → IsTrue (in_module (outside known.old.scopes)) }
     requires proper { Proper (environment known.old) }
     requires fits { block ≤ length (environment known.old).headings }
-    ensures exact { Answers (λ _. environment known.new) result
+    ensures exact { JudgedAnswers (λ _. environment known.new) result
         (round (environments.declare marked name.now (entity.Procedure block)) (spec.with_heading kind (record { env = environment known.old; asks = asked_of asked }))) }
     ensures number { IfOk result (λ n. n ≡ block) }
     ensures proper { OnOk result (Proper (environment known.new)) }
@@ -68,10 +68,10 @@ pub fn begin_procedure(
     heading: &Heading,
 ) -> Result<u32, StaticFault>
     requires module { IsTrue marked → IsTrue (in_module known.old.scopes) }
-    requires stands { Stands (environment known.old) }
-    ensures exact { Answers (λ _. environment known.new) result (spec.begin_procedure marked (heading_of heading.now) (environment known.old)) }
+    requires stands { EnvironmentStands (environment known.old) }
+    ensures exact { JudgedAnswers (λ _. environment known.new) result (spec.begin_procedure marked (heading_of heading.now) (environment known.old)) }
     ensures number { IfOk result (λ block. block ≡ length (environment known.old).blocks) }
-    ensures begins { OnOk result (Begins (environment known.old) (environment known.new)) }
+    ensures begins { OnOk result (HeadingBegins (environment known.old) (environment known.new)) }
 {
     let block = number(known.blocks.len())?;
     let asked = heading_parts(known, alloc, block, heading)?;
@@ -101,7 +101,7 @@ fn has_shape(known: &Known, alloc: Global, block: u32, asked: &Asked) -> bool
     }
 }
 
-/// A mark on a `post` gives the name to the scope round the module.
+/// An export on a `post` gives the name to the scope round the module.
 fn give_marked(
     known: &mut Known,
     alloc: Global,
@@ -112,7 +112,7 @@ fn give_marked(
     requires module { IsTrue marked → IsTrue (in_module (outside known.old.scopes)) }
     requires proper { Proper (environment known.old) }
     requires fits { block < length (environment known.old).headings }
-    ensures exact { Answers (λ _. environment known.new) result (spec.post_marked marked name.now block (environment known.old)) }
+    ensures exact { JudgedAnswers (λ _. environment known.new) result (spec.post_marked marked name.now block (environment known.old)) }
     ensures proper { OnOk result (Proper (environment known.new)) }
 {
     if marked {
@@ -136,7 +136,7 @@ fn complete(
     requires proper { Proper (environment known.old) }
     requires fits { IfSome found (λ b. block < length (environment known.old).headings) }
     requires same { IfSome found (λ b. b ≡ block) }
-    ensures exact { Answers (λ _. environment known.new) result
+    ensures exact { JudgedAnswers (λ _. environment known.new) result
         (posted marked name.now found block (asked_of asked.now) (environment known.old)) }
     ensures number { IfOk result (λ n. n ≡ block) }
     ensures proper { OnOk result (Proper (environment known.new)) }
@@ -157,7 +157,7 @@ fn complete(
 
 /// The block of a `post`; without its `pre` it will be refused, and has none.
 fn block_of(known: &Known, found: Option<u32>) -> Result<u32, StaticFault>
-    ensures exact { Answers (λ n. n) result (gives (unwrap_or found (length (environment known.now).blocks))) }
+    ensures exact { JudgedAnswers (λ n. n) result (gives (unwrap_or found (length (environment known.now).blocks))) }
 {
     match found {
         Some(block) => Ok(block),
@@ -173,10 +173,10 @@ pub fn begin_post(
     heading: &Heading,
 ) -> Result<u32, StaticFault>
     requires module { IsTrue marked → IsTrue (in_module known.old.scopes) }
-    requires stands { Stands (environment known.old) }
-    ensures exact { Answers (λ _. environment known.new) result (spec.begin_post marked (heading_of heading.now) (environment known.old)) }
+    requires stands { EnvironmentStands (environment known.old) }
+    ensures exact { JudgedAnswers (λ _. environment known.new) result (spec.begin_post marked (heading_of heading.now) (environment known.old)) }
     ensures number { IfOk result (λ block. block ≡ post_block (heading_of heading.now) (environment known.old)) }
-    ensures begins { OnOk result (Begins (environment known.old) (environment known.new)) }
+    ensures begins { OnOk result (HeadingBegins (environment known.old) (environment known.new)) }
 {
     let found = begun_named(known.begun.as_slice(), heading.name.text.as_slice());
     let block = block_of(known, found)?;
@@ -201,7 +201,7 @@ fn copy_name(alloc: Global, name: &Name) -> Result<Name, StaticFault>
 /// A procedure is begun.
 #[tactic(auto, using(edi_static::proofs::Proper::pushed))]
 fn begin_split(known: &mut Known, begun: Begun) -> Result<(), StaticFault>
-    ensures exact { Answers (λ _. environment known.new) result
+    ensures exact { JudgedAnswers (λ _. environment known.new) result
         (gives (with_begun ((environment known.old).begun ++ begun_of begun ∷ []) (environment known.old))) }
 {
     put(&mut known.begun, begun)
@@ -215,8 +215,8 @@ pub fn pre_decl(
     heading: &Heading,
 ) -> Result<(), StaticFault>
     requires module { IsTrue marked → IsTrue (in_module known.old.scopes) }
-    requires stands { Stands (environment known.old) }
-    ensures exact { Answers (λ _. environment known.new) result (spec.pre_decl marked (heading_of heading.now) (environment known.old)) }
+    requires stands { EnvironmentStands (environment known.old) }
+    ensures exact { JudgedAnswers (λ _. environment known.new) result (spec.pre_decl marked (heading_of heading.now) (environment known.old)) }
     ensures comes { OnOk result (Comes (environment known.old) (environment known.new)) }
 {
     let block = begin_procedure(known, alloc, marked, heading)?;
@@ -227,7 +227,7 @@ pub fn pre_decl(
 
 /// At the `begin` of a scope each procedure that is begun in it has been completed.
 pub(crate) fn all_completed(known: &Known) -> Result<(), StaticFault>
-    ensures exact { Answers (λ _. tt) result (spec.all_completed (environment known.now).begun) }
+    ensures exact { JudgedAnswers (λ _. tt) result (spec.all_completed (environment known.now).begun) }
 {
     match known.begun.first() {
         Some(begun) => fault(StaticKind::Split, begun.name.line),

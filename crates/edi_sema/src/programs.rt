@@ -8,9 +8,9 @@ ghost use Rattle.edi_unit.specs.Lists.{list_items};
 ghost use Rattle.edi_unit.specs.Types.{IsTypeTable};
 ghost use Rattle.edi_unit.specs.View.{unit_of};
 ghost use Rattle.edi_static.specs.Programs as spec;
-ghost use Rattle.edi_static.specs.Answers.{Answers};
+ghost use Rattle.edi_static.specs.Answers.{JudgedAnswers};
 ghost use Rattle.edi_static.specs.Views.{asked_of, environment};
-ghost use Rattle.edi_sema.specs.Frames.{Begins, Comes, Stands};
+ghost use Rattle.edi_sema.specs.Frames.{HeadingBegins, Comes, EnvironmentStands};
 ghost use Rattle.edi_static.specs.Judged.{gives};
 ghost use Rattle.edi_sema.specs.Whole.{begun_program, first_place, program_unit};
 
@@ -25,8 +25,8 @@ use std::alloc::Global;
 
 /// A declaration before the program's procedure.
 fn global(known: &mut Known, alloc: Global, global: &Declared) -> Result<(), StaticFault>
-    requires stands { Stands (environment known.old) }
-    ensures exact { Answers (λ _. environment known.new) result (spec.global_decl (global_of global.now) (environment known.old)) }
+    requires stands { EnvironmentStands (environment known.old) }
+    ensures exact { JudgedAnswers (λ _. environment known.new) result (spec.global_decl (global_of global.now) (environment known.old)) }
     ensures comes { OnOk result (Comes (environment known.old) (environment known.new)) }
 {
     match global {
@@ -41,8 +41,8 @@ pub fn declare_globals(
     alloc: Global,
     declared: &[Declared],
 ) -> Result<(), StaticFault>
-    requires stands { Stands (environment known.old) }
-    ensures exact { Answers (λ _. environment known.new) result (spec.global_decls (globals (map global_of declared.now)) (environment known.old)) }
+    requires stands { EnvironmentStands (environment known.old) }
+    ensures exact { JudgedAnswers (λ _. environment known.new) result (spec.global_decls (globals (map global_of declared.now)) (environment known.old)) }
     ensures comes { OnOk result (Comes (environment known.old) (environment known.new)) }
 {
     for one in declared {
@@ -68,10 +68,10 @@ pub fn begin_program(
     alloc: Global,
     heading: &Heading,
 ) -> Result<CallList, StaticFault>
-    requires stands { Stands (environment known.old) }
-    ensures exact { Answers (λ calls. record { calls = list_items calls; env = environment known.new }) result
+    requires stands { EnvironmentStands (environment known.old) }
+    ensures exact { JudgedAnswers (λ calls. record { calls = list_items calls; env = environment known.new }) result
         (begun_program (heading_of heading.now) (environment known.old)) }
-    ensures begins { OnOk result (Begins (environment known.old) (environment known.new)) }
+    ensures begins { OnOk result (HeadingBegins (environment known.old) (environment known.new)) }
 {
     let asked = heading_parts(known, alloc, 0, heading)?;
     let asks = copy_of(alloc, &asked)?;
@@ -93,8 +93,8 @@ fn program_procedure(
     alloc: Global,
     procedure: &Procedure,
 ) -> Result<CallList, StaticFault>
-    requires stands { Stands (environment known.old) }
-    ensures exact { Answers (λ calls. program_unit (list_items calls) (environment known.new)) result
+    requires stands { EnvironmentStands (environment known.old) }
+    ensures exact { JudgedAnswers (λ calls. program_unit (list_items calls) (environment known.new)) result
         (spec.program_procedure (procedure_of procedure.now) (environment known.old)) }
     ensures table { OnOk result (IsTypeTable known.new.types) }
 {
@@ -105,8 +105,8 @@ fn program_procedure(
 
 /// What is known before a program, whose scope is open.
 pub fn before_program(alloc: Global) -> Result<Known, StaticFault>
-    ensures exact { Answers environment result (gives first_place) }
-    ensures stands { IfOk result (λ known. Stands (environment known)) }
+    ensures exact { JudgedAnswers environment result (gives first_place) }
+    ensures stands { IfOk result (λ known. EnvironmentStands (environment known)) }
 {
     match Known::at_first(alloc) {
         Ok(mut known) => {
@@ -119,7 +119,7 @@ pub fn before_program(alloc: Global) -> Result<Known, StaticFault>
 
 /// A tree judged construct by construct: its unit, or its first fault.
 fn judge_tree(alloc: Global, tree: &Program) -> Result<Unit, StaticFault>
-    ensures exact { Answers unit_of result (spec.resolve_tree (program_of tree.now)) }
+    ensures exact { JudgedAnswers unit_of result (spec.resolve_tree (program_of tree.now)) }
     ensures fits { IfOk result (λ unit. Fits (unit_of unit)) }
 {
     let mut known = before_program(alloc)?;
@@ -138,7 +138,7 @@ fn judge_tree(alloc: Global, tree: &Program) -> Result<Unit, StaticFault>
 /// A unit fits: each number in it names a type, block or variable that is there, types agree in every expression, statement
 /// and call, each block's need is as it says, and the program's parameters are calls of the system, no two the same.
 pub fn resolve(alloc: Global, tree: &Program) -> Result<Unit, StaticFault>
-    ensures exact { Answers unit_of result (spec.resolve_tree (program_of tree.now)) }
+    ensures exact { JudgedAnswers unit_of result (spec.resolve_tree (program_of tree.now)) }
     ensures fits { IfOk result (λ unit. Fits (unit_of unit)) }
     ensures sound { IfOk result (λ _. spec.Sound (program_of tree.now)) }
     ensures refuses { IfErr result (λ fault. spec.Refuses (program_of tree.now) fault) }

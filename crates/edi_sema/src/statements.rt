@@ -8,7 +8,7 @@ ghost use Rattle.edi_unit.specs.View.{act_of, acts_of, clause_of, clauses_of};
 ghost use Rattle.edi_static.specs.Judged.{gives};
 ghost use Rattle.edi_static.specs.Fitting as fitting;
 ghost use Rattle.edi_static.specs.Statements as spec;
-ghost use Rattle.edi_static.specs.Answers.{Answers};
+ghost use Rattle.edi_static.specs.Answers.{JudgedAnswers};
 ghost use Rattle.edi_static.specs.Proper.{Proper};
 ghost use Rattle.edi_static.specs.Views.{environment};
 ghost use Rattle.edi_values.specs.Views.{called_of, used_of};
@@ -28,7 +28,7 @@ fn assignment(
     alloc: Global,
     assignment: &text::Assignment,
 ) -> Result<Act, StaticFault>
-    ensures exact { Answers (λ a. record { what = act_of a; env = environment known.now }) result
+    ensures exact { JudgedAnswers (λ a. record { what = act_of a; env = environment known.now }) result
         (spec.statement (assignment_of assignment.now) (environment known.now)) }
 {
     let located = variable_place(known, alloc, &assignment.variable)?;
@@ -45,7 +45,7 @@ fn procedure_call(
     called: Called,
     args: &text::Args,
 ) -> Result<Act, StaticFault>
-    ensures exact { Answers act_of result (spec.called (environment known.now) line (fitting.calls (called_of called.entry)) (Some (args_of args.now))) }
+    ensures exact { JudgedAnswers act_of result (spec.called (environment known.now) line (fitting.calls (called_of called.entry)) (Some (args_of args.now))) }
 {
     must(
         called.is_procedure_of(args_count(args)),
@@ -58,7 +58,7 @@ fn procedure_call(
 
 /// A call of a procedure without arguments.
 fn bare_call(known: &Known, alloc: Global, line: u16, called: Called) -> Result<Act, StaticFault>
-    ensures exact { Answers act_of result (spec.called (environment known.now) line (fitting.calls (called_of called.entry)) None) }
+    ensures exact { JudgedAnswers act_of result (spec.called (environment known.now) line (fitting.calls (called_of called.entry)) None) }
 {
     let _ = known;
     must(called.is_procedure_of(0), StaticKind::Call, line)?;
@@ -73,7 +73,7 @@ fn called(
     used: Use,
     args: Option<&text::Args>,
 ) -> Result<Act, StaticFault>
-    ensures exact { Answers act_of result (spec.called (environment known.now) line (used_of used.entry) (option_map args_of (option_copied args.entry))) }
+    ensures exact { JudgedAnswers act_of result (spec.called (environment known.now) line (used_of used.entry) (option_map args_of (option_copied args.entry))) }
 {
     match used {
         Use::Calls(called) => match args {
@@ -91,7 +91,7 @@ fn called(
 
 /// The name before arguments, or alone, is judged first.
 fn call(known: &Known, alloc: Global, call: &text::Call) -> Result<Act, StaticFault>
-    ensures exact { Answers (λ a. record { what = act_of a; env = environment known.now }) result
+    ensures exact { JudgedAnswers (λ a. record { what = act_of a; env = environment known.now }) result
         (spec.statement (call_of call.now) (environment known.now)) }
 {
     let means = known.look_up(&call.name)?;
@@ -102,7 +102,7 @@ fn call(known: &Known, alloc: Global, call: &text::Call) -> Result<Act, StaticFa
 /// A branch is a block of its own in the block where it stands.
 fn enter_branch(known: &mut Known, alloc: Global) -> Result<u32, StaticFault>
     requires proper { Proper (environment known.old) }
-    ensures exact { Answers (λ _. environment known.new) result (gives (spec.enter_branch (environment known.old))) }
+    ensures exact { JudgedAnswers (λ _. environment known.new) result (gives (spec.enter_branch (environment known.old))) }
     ensures number { IfOk result (λ block. block ≡ length (environment known.old).blocks) }
     ensures proper { OnOk result (Proper (environment known.new)) }
 {
@@ -126,7 +126,7 @@ pub(crate) fn statement_list(
     list: &text::List,
 ) -> Result<Acts, StaticFault>
     requires proper { Proper (environment known.old) }
-    ensures exact { Answers (λ acts. record { what = acts_of acts; env = environment known.new }) result
+    ensures exact { JudgedAnswers (λ acts. record { what = acts_of acts; env = environment known.new }) result
         (spec.statement_list (list_of list.now) (environment known.old)) }
     ensures stays { OnOk result (Stays (environment known.old) (environment known.new)) }
 {
@@ -147,7 +147,7 @@ fn statement(
     statement: &text::Statement,
 ) -> Result<Act, StaticFault>
     requires proper { Proper (environment known.old) }
-    ensures exact { Answers (λ act. record { what = act_of act; env = environment known.new }) result
+    ensures exact { JudgedAnswers (λ act. record { what = act_of act; env = environment known.new }) result
         (spec.statement (statement_of statement.now) (environment known.old)) }
     ensures stays { OnOk result (Stays (environment known.old) (environment known.new)) }
 {
@@ -173,7 +173,7 @@ fn conditions(
     conditions: &text::Conditions,
 ) -> Result<Clauses, StaticFault>
     requires proper { Proper (environment known.old) }
-    ensures exact { Answers (λ clauses. record { what = clauses_of clauses; env = environment known.new }) result
+    ensures exact { JudgedAnswers (λ clauses. record { what = clauses_of clauses; env = environment known.new }) result
         (spec.conditions (conditions_of conditions.now) (environment known.old)) }
     ensures stays { OnOk result (Stays (environment known.old) (environment known.new)) }
 {
@@ -195,7 +195,7 @@ fn condition(
     condition: &text::Condition,
 ) -> Result<Clause, StaticFault>
     requires proper { Proper (environment known.old) }
-    ensures exact { Answers (λ clause. record { what = clause_of clause; env = environment known.new }) result
+    ensures exact { JudgedAnswers (λ clause. record { what = clause_of clause; env = environment known.new }) result
         (spec.condition (condition_of condition.now) (environment known.old)) }
     ensures stays { OnOk result (Stays (environment known.old) (environment known.new)) }
 {
@@ -212,7 +212,7 @@ fn condition(
 #[cycle(statements)]
 fn cobegin(known: &mut Known, alloc: Global, cobegin: &text::Cobegin) -> Result<Act, StaticFault>
     requires proper { Proper (environment known.old) }
-    ensures exact { Answers (λ act. record { what = act_of act; env = environment known.new }) result
+    ensures exact { JudgedAnswers (λ act. record { what = act_of act; env = environment known.new }) result
         (spec.statement (cobegin_of cobegin.now) (environment known.old)) }
     ensures stays { OnOk result (Stays (environment known.old) (environment known.new)) }
 {
@@ -230,7 +230,7 @@ fn cobegin(known: &mut Known, alloc: Global, cobegin: &text::Cobegin) -> Result<
 #[cycle(statements)]
 fn branch_block(known: &mut Known, alloc: Global, branch: &text::Branch) -> Result<u32, StaticFault>
     requires proper { Proper (environment known.old) }
-    ensures exact { Answers (λ block. record { what = block; env = environment known.new }) result
+    ensures exact { JudgedAnswers (λ block. record { what = block; env = environment known.new }) result
         (closed_branch (branch_of branch.now) (environment known.old)) }
     ensures stays { OnOk result (Stays (environment known.old) (environment known.new)) }
 {

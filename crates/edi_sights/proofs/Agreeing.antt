@@ -8,7 +8,7 @@ use Rattle.edi_unit.specs.Tree.{Acts}
 use Rattle.edi_unit.specs.Need.{need}
 use Rattle.edi_static.specs.declared.faults.StaticKind.TheVariants as kind
 use Rattle.edi_static.specs.declared.faults.StaticFault.{StaticFault}
-use Rattle.edi_static.specs.Answers.{Answers}
+use Rattle.edi_static.specs.Answers.{JudgedAnswers}
 use Rattle.edi_static.specs.Judged.{Judged, gives, faults, ◌>>=◌}
 use Rattle.edi_static.specs.Environment.{Environment, look_up}
 use Rattle.edi_static.specs.Types.{constant}
@@ -131,10 +131,10 @@ mutual
   statement_agrees name (text.call called_name xs) at env m awaits h =
       unknown_before (λ (done : After unit.Act). Agrees at done.env m awaits) (look_up env called_name) _ (λ means.
       unknown_before (λ (done : After unit.Act). Agrees at done.env m awaits) (called env called_name.line (use_of env means) xs) _ (λ a. h))
-  statement_agrees name (text.if_statement cs) at env m awaits h = renamed at (conditions cs env) unit.conditional _ _ (conditions_agrees name cs at env m awaits h)
-  statement_agrees name (text.while_statement cs) at env m awaits h = renamed at (conditions cs env) unit.loop _ _ (conditions_agrees name cs at env m awaits h)
+  statement_agrees name (text.if_statement cs) at env m awaits h = renamed at (conditions cs env) unit.if_act _ _ (conditions_agrees name cs at env m awaits h)
+  statement_agrees name (text.while_statement cs) at env m awaits h = renamed at (conditions cs env) unit.while_act _ _ (conditions_agrees name cs at env m awaits h)
   statement_agrees name (text.when_statement line cs) at env m awaits h =
-      renamed at (conditions cs env) (λ done. unit.await done line) _ _
+      renamed at (conditions cs env) (λ done. unit.when_act done line) _ _
       (conditions_agrees name cs at env (with_await (await_at name line at) m) (awaits ++ await_at name line env ∷ []) (awaited name line at env m awaits h))
   statement_agrees name (text.cobegin line b bs) at env m awaits h =
       renamed at (branch b env >>= branches bs env) (λ numbers. unit.cobegin numbers line) _ _
@@ -202,23 +202,23 @@ sound_before P (faults why line) m f after e k = absurd (cc)
 pub finished_agrees : (name : List ℕ) (block : ℕ) (s : text.StatementList) (end : ℕ) (env after : Environment) (awaits : List Await) → finished block s end env ≡ gives after →
     counted.body_counted name s env awaits ≡ met.list_met name s env awaits
 finished_agrees name block s end env after awaits e =
-    sound_before _ (all_completed env.begun) (statement_list s env) (λ done. close_block block done.what end done.env) after e (λ done told. body_agrees name s env done awaits told)
+    sound_before _ (all_completed env.begun) (statement_list s env) (λ done. close_block block done.what end done.env) after e (λ done stated. body_agrees name s env done awaits stated)
 
 pub module_agrees : (name : List ℕ) (block : ℕ) (s : text.StatementList) (env after : Environment) (awaits : List Await) → finished_module block s env ≡ gives after →
     counted.body_counted name s env awaits ≡ met.list_met name s env awaits
 module_agrees name block s env after awaits e =
-    sound_before _ (all_completed env.begun) (statement_list s env) (λ done. gives (add_statements block done.what done.env)) after e (λ done told. body_agrees name s env done awaits told)
+    sound_before _ (all_completed env.begun) (statement_list s env) (λ done. gives (add_statements block done.what done.env)) after e (λ done stated. body_agrees name s env done awaits stated)
 
 -- ---- what is answered at the end of a body
 
 pub finished_answer : {B : Type 0} (name : List ℕ) (block : ℕ) (s : text.StatementList) (end : ℕ) (env now after : Environment) (awaits more : List Await) (r : Result B StaticFault) →
-    Answers (λ _. after) r (finished block s end now) → now ≡ env → more ≡ counted.body_counted name s env awaits → OnOk r (more ≡ met.list_met name s env awaits)
+    JudgedAnswers (λ _. after) r (finished block s end now) → now ≡ env → more ≡ counted.body_counted name s env awaits → OnOk r (more ≡ met.list_met name s env awaits)
 finished_answer name block s end env now after awaits more (Ok b) e i m =
     m ∙ finished_agrees name block s end env after awaits (ap (finished block s end) (sym i) ∙ e)
 finished_answer name block s end env now after awaits more (Err f) e i m = tt
 
 pub module_answer : {B : Type 0} (name : List ℕ) (block : ℕ) (s : text.StatementList) (env now after : Environment) (awaits more : List Await) (r : Result B StaticFault) →
-    Answers (λ _. after) r (finished_module block s now) → now ≡ env → more ≡ counted.body_counted name s env awaits → OnOk r (more ≡ met.list_met name s env awaits)
+    JudgedAnswers (λ _. after) r (finished_module block s now) → now ≡ env → more ≡ counted.body_counted name s env awaits → OnOk r (more ≡ met.list_met name s env awaits)
 module_answer name block s env now after awaits more (Ok b) e i m =
     m ∙ module_agrees name block s env after awaits (ap (finished_module block s) (sym i) ∙ e)
 module_answer name block s env now after awaits more (Err f) e i m = tt

@@ -17,29 +17,29 @@ behind_given m env f awaits e = ap (λ m. behind m f awaits) e
 pub declared_next : (name : List ℕ) (rest ds : List text.Declaration) (d : text.Declaration) (now after : Environment) (awaits more whole : List Await) →
     declarations_met name (tree.declarations rest) now awaits ≡ whole → rest ≡ d ∷ ds → declaration d now ≡ gives after →
     more ≡ declaration_met name d now awaits → declarations_met name (tree.declarations ds) after more ≡ whole
-declared_next name rest ds d now after awaits more whole h r told e =
+declared_next name rest ds d now after awaits more whole h r stated e =
     ap (declarations_met name (tree.declarations ds) after) e
-    ∙ (sym (behind_given (declaration d now) after (declarations_met name (tree.declarations ds)) (declaration_met name d now awaits) told)
+    ∙ (sym (behind_given (declaration d now) after (declarations_met name (tree.declarations ds)) (declaration_met name d now awaits) stated)
     ∙ (ap (λ rest. declarations_met name (tree.declarations rest) now awaits) (sym r) ∙ h))
 
 pub member_next : (name : List ℕ) (rest ms : List text.Member) (m : text.Member) (now after : Environment) (awaits more whole : List Await) →
     members_met name (tree.members rest) now awaits ≡ whole → rest ≡ m ∷ ms → member m now ≡ gives after →
     more ≡ member_met name m now awaits → members_met name (tree.members ms) after more ≡ whole
-member_next name rest ms m now after awaits more whole h r told e =
+member_next name rest ms m now after awaits more whole h r stated e =
     ap (members_met name (tree.members ms) after) e
-    ∙ (sym (behind_given (member m now) after (members_met name (tree.members ms)) (member_met name m now awaits) told)
+    ∙ (sym (behind_given (member m now) after (members_met name (tree.members ms)) (member_met name m now awaits) stated)
     ∙ (ap (λ rest. members_met name (tree.members rest) now awaits) (sym r) ∙ h))
 
 -- all declarations of a procedure, and then its statements
 pub procedure_done : (name : List ℕ) (block : ℕ) (h : text.Heading) (ds : text.Declarations) (s : text.StatementList) (end : ℕ) (env now : Environment) (start awaits more : List Await) →
     declarations ds (enter_block block env) ≡ gives now → awaits ≡ declarations_met name ds (enter_block block env) start →
     more ≡ list_met name s now awaits → more ≡ procedure_met name block (text.procedure h ds s end) env start
-procedure_done name block h ds s end env now start awaits more told e m =
-    m ∙ (ap (list_met name s now) e ∙ sym (behind_given (declarations ds (enter_block block env)) now (list_met name s) (declarations_met name ds (enter_block block env) start) told))
+procedure_done name block h ds s end env now start awaits more stated e m =
+    m ∙ (ap (list_met name s now) e ∙ sym (behind_given (declarations ds (enter_block block env)) now (list_met name s) (declarations_met name ds (enter_block block env) start) stated))
 
 -- all members of a module, and then its statements
 pub module_done : (name : List ℕ) (ms : text.Members) (s : text.StatementList) (env now : Environment) (start awaits more : List Await) →
     members ms (inside_module env) ≡ gives now → awaits ≡ members_met name ms (inside_module env) start →
     more ≡ list_met name s now awaits → more ≡ module_met name (text.module_with ms s) env start
-module_done name ms s env now start awaits more told e m =
-    m ∙ (ap (list_met name s now) e ∙ sym (behind_given (members ms (inside_module env)) now (list_met name s) (members_met name ms (inside_module env) start) told))
+module_done name ms s env now start awaits more stated e m =
+    m ∙ (ap (list_met name s now) e ∙ sym (behind_given (members ms (inside_module env)) now (list_met name s) (members_met name ms (inside_module env) start) stated))

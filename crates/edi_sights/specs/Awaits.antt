@@ -1,4 +1,4 @@
--- The `when`s of a program in the order of the text, each with its line, its block, and what one name means there.
+-- Definition. The `when`s of a program in the order of the text, each with its line, its block, and what one name means there.
 use Rattle.std.specs.Prelude.{ℕ, Bool, false, true, if◌then◌else◌, List, [], ◌∷◌, ◌++◌, length, Option, Some, None}
 use Rattle.edi_scope.specs.declared.entity.Entity.{Entity}
 use Rattle.edi_scope.specs.declared.entity.Entity.TheVariants as entity

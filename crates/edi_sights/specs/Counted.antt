@@ -1,4 +1,4 @@
--- The `when`s of statements, met without judging these: only the number of the next block has to be known besides.
+-- Words of contracts. The `when`s of statements, met without judging these: only the number of the next block has to be known besides.
 use Rattle.std.specs.Prelude.{ℕ, suc, List, [], ◌∷◌, ◌++◌, length}
 use Rattle.edi_tree.specs.Tree as text
 use Rattle.edi_static.specs.Environment.{Environment}

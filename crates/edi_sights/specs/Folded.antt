@@ -1,4 +1,4 @@
--- The `when`s of a list of constructs.
+-- Helper. The `when`s of a list of constructs.
 use Rattle.std.specs.Prelude.{List, [], ◌∷◌}
 use Rattle.edi_sights.specs.Counted.{Met}
 

@@ -1,4 +1,4 @@
--- Worked programs. The text of each stands in its comment, where `/` ends a line.
+-- Computed rows. Worked programs. The text of each stands in its comment, where `/` ends a line.
 use Rattle.std.specs.Prelude.{◌≡◌, ℕ, pos, [], ◌∷◌, Option, Some, None, codes, refl}
 use Prim.Native.String.{String}
 use Rattle.edi_tree.specs.declared.constants.Constant.TheVariants as constant

@@ -1,4 +1,4 @@
--- The `when`s of a line, each with its place among those of its block.
+-- Definition. The `when`s of a line, each with its place among those of its block.
 use Rattle.std.specs.Prelude.{ℕ, ◌==◌, if◌then◌else◌, List, [], ◌∷◌, ◌++◌, length, filter}
 use Rattle.edi_tree.specs.Tree as text
 use Rattle.edi_sights.specs.declared.awaits.Await.{Await}

@@ -1,4 +1,4 @@
--- The plain data for which the code's values stand.
+-- Words of contracts. The plain data for which the code's values stand.
 use Rattle.std.specs.Prelude.{◌≡◌, ⊤, Result, Ok, Err}
 use Rattle.edi_static.specs.declared.faults.StaticFault.{StaticFault}
 use Rattle.edi_static.specs.declared.faults.StaticFault.TheVariants as fault

@@ -6,9 +6,9 @@ ghost use Rattle.edi_tree.specs.View.{declaration_of, item_of, list_of, member_o
 ghost use Rattle.edi_static.specs.Environment.{here};
 ghost use Rattle.edi_static.specs.Declarations as rule;
 ghost use Rattle.edi_static.specs.Judged.{gives};
-ghost use Rattle.edi_static.specs.Answers.{Answers};
+ghost use Rattle.edi_static.specs.Answers.{JudgedAnswers};
 ghost use Rattle.edi_static.specs.Views.{environment};
-ghost use Rattle.edi_sema.specs.Frames.{Comes, Leaves, Stands};
+ghost use Rattle.edi_sema.specs.Frames.{Comes, Leaves, EnvironmentStands};
 ghost use Rattle.edi_sema.specs.Bodies.{finished, finished_module, whole_procedure};
 ghost use Rattle.edi_sights.specs.Awaits as spec;
 ghost use Rattle.edi_sights.specs.Counted.{body_counted};
@@ -38,7 +38,7 @@ fn body_met(
     name: &[u8],
     awaits: &mut Vec<Await>,
 ) -> Result<(), StaticFault>
-    ensures exact { Answers (λ _. environment known.new) result (gives (environment known.old)) }
+    ensures exact { JudgedAnswers (λ _. environment known.new) result (gives (environment known.old)) }
     ensures awaits { OnOk result (awaits.new.items ≡ body_counted name.now (list_of list.now) (environment known.old) awaits.old.items) }
 {
     let Ok(next) = small(known.blocks.len()) else {
@@ -67,8 +67,8 @@ fn finish_block_met(
     name: &[u8],
     awaits: &mut Vec<Await>,
 ) -> Result<(), StaticFault>
-    requires stands { Stands (environment known.old) }
-    ensures exact { Answers (λ _. environment known.new) result (finished block (list_of list.now) end (environment known.old)) }
+    requires stands { EnvironmentStands (environment known.old) }
+    ensures exact { JudgedAnswers (λ _. environment known.new) result (finished block (list_of list.now) end (environment known.old)) }
     ensures comes { OnOk result (Comes (environment known.old) (environment known.new)) }
     ensures awaits { OnOk result (awaits.new.items ≡ spec.list_met name.now (list_of list.now) (environment known.old) awaits.old.items) }
 {
@@ -84,8 +84,8 @@ fn finish_module_met(
     name: &[u8],
     awaits: &mut Vec<Await>,
 ) -> Result<(), StaticFault>
-    requires stands { Stands (environment known.old) }
-    ensures exact { Answers (λ _. environment known.new) result
+    requires stands { EnvironmentStands (environment known.old) }
+    ensures exact { JudgedAnswers (λ _. environment known.new) result
         (finished_module (here (environment known.old)) (list_of list.now) (environment known.old)) }
     ensures comes { OnOk result (Comes (environment known.old) (environment known.new)) }
     ensures awaits { OnOk result (awaits.new.items ≡ spec.list_met name.now (list_of list.now) (environment known.old) awaits.old.items) }
@@ -105,8 +105,8 @@ pub(crate) fn procedure_met(
     awaits: &mut Vec<Await>,
 ) -> Result<(), StaticFault>
     requires depth { 1 < length known.old.scopes }
-    requires stands { Stands (environment known.old) }
-    ensures exact { Answers (λ _. environment known.new) result (whole_procedure block (procedure_of procedure.now) (environment known.old)) }
+    requires stands { EnvironmentStands (environment known.old) }
+    ensures exact { JudgedAnswers (λ _. environment known.new) result (whole_procedure block (procedure_of procedure.now) (environment known.old)) }
     ensures leaves { OnOk result (Leaves (environment known.old) (environment known.new)) }
     ensures awaits { OnOk result (awaits.new.items ≡ spec.procedure_met name.now block (procedure_of procedure.now) (environment known.old) awaits.old.items) }
 {
@@ -138,8 +138,8 @@ fn item_met(
     awaits: &mut Vec<Await>,
 ) -> Result<(), StaticFault>
     requires module { IsTrue marked → IsTrue (in_module known.old.scopes) }
-    requires stands { Stands (environment known.old) }
-    ensures exact { Answers (λ _. environment known.new) result (rule.item marked (item_of item.now) (environment known.old)) }
+    requires stands { EnvironmentStands (environment known.old) }
+    ensures exact { JudgedAnswers (λ _. environment known.new) result (rule.item marked (item_of item.now) (environment known.old)) }
     ensures comes { OnOk result (Comes (environment known.old) (environment known.new)) }
     ensures awaits { OnOk result (awaits.new.items ≡ spec.item_met name.now marked (item_of item.now) (environment known.old) awaits.old.items) }
 {
@@ -169,8 +169,8 @@ fn module_met(
     name: &[u8],
     awaits: &mut Vec<Await>,
 ) -> Result<(), StaticFault>
-    requires stands { Stands (environment known.old) }
-    ensures exact { Answers (λ _. environment known.new) result (rule.module_decl (module_of «module».now) (environment known.old)) }
+    requires stands { EnvironmentStands (environment known.old) }
+    ensures exact { JudgedAnswers (λ _. environment known.new) result (rule.module_decl (module_of «module».now) (environment known.old)) }
     ensures comes { OnOk result (Comes (environment known.old) (environment known.new)) }
     ensures awaits { OnOk result (awaits.new.items ≡ spec.module_met name.now (module_of «module».now) (environment known.old) awaits.old.items) }
 {
@@ -192,8 +192,8 @@ fn member_met(
     awaits: &mut Vec<Await>,
 ) -> Result<(), StaticFault>
     requires module { IsTrue (in_module known.old.scopes) }
-    requires stands { Stands (environment known.old) }
-    ensures exact { Answers (λ _. environment known.new) result (rule.member (member_of member.now) (environment known.old)) }
+    requires stands { EnvironmentStands (environment known.old) }
+    ensures exact { JudgedAnswers (λ _. environment known.new) result (rule.member (member_of member.now) (environment known.old)) }
     ensures comes { OnOk result (Comes (environment known.old) (environment known.new)) }
     ensures awaits { OnOk result (awaits.new.items ≡ spec.member_met name.now (member_of member.now) (environment known.old) awaits.old.items) }
 {
@@ -212,8 +212,8 @@ fn declaration_met(
     name: &[u8],
     awaits: &mut Vec<Await>,
 ) -> Result<(), StaticFault>
-    requires stands { Stands (environment known.old) }
-    ensures exact { Answers (λ _. environment known.new) result (rule.declaration (declaration_of declaration.now) (environment known.old)) }
+    requires stands { EnvironmentStands (environment known.old) }
+    ensures exact { JudgedAnswers (λ _. environment known.new) result (rule.declaration (declaration_of declaration.now) (environment known.old)) }
     ensures comes { OnOk result (Comes (environment known.old) (environment known.new)) }
     ensures awaits { OnOk result (awaits.new.items ≡ spec.declaration_met name.now (declaration_of declaration.now) (environment known.old) awaits.old.items) }
 {

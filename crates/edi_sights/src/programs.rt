@@ -5,7 +5,7 @@ ghost use Rattle.edi_tree.specs.View.{procedure_of};
 ghost use Rattle.edi_tree.specs.Whole.{program_of};
 ghost use Rattle.edi_static.specs.Programs as rule;
 ghost use Rattle.edi_static.specs.Views.{environment};
-ghost use Rattle.edi_sema.specs.Frames.{Stands};
+ghost use Rattle.edi_sema.specs.Frames.{EnvironmentStands};
 ghost use Rattle.edi_sights.specs.Awaits as spec;
 ghost use Rattle.edi_sights.specs.Sights.{sights_of};
 ghost use Rattle.edi_sights.specs.Views.{FaultOf};
@@ -27,7 +27,7 @@ fn program_met(
     name: &[u8],
     awaits: &mut Vec<Await>,
 ) -> Result<(), StaticFault>
-    requires stands { Stands (environment known.old) }
+    requires stands { EnvironmentStands (environment known.old) }
     ensures fault { FaultOf result (rule.program_procedure (procedure_of procedure.now) (environment known.old)) }
     ensures awaits { OnOk result (awaits.new.items ≡ spec.program_met name.now (procedure_of procedure.now) (environment known.old) awaits.old.items) }
 {

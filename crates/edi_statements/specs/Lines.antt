@@ -1,4 +1,4 @@
--- The lines on which branches are closed.
+-- Words of contracts. The lines on which branches are closed.
 use Rattle.std.specs.Prelude.{ℕ, List, [], ◌∷◌}
 use Rattle.edi_lex.specs.declared.symbol.Mark.{Mark}
 

@@ -5,7 +5,7 @@ use Rattle.std.proofs.lemmas.List.Sums.{sum_by-cons}
 use Rattle.edi_unit.specs.declared.units.Parameter.{Parameter}
 use Rattle.edi_unit.specs.declared.units.Parameter.TheVariants as slot
 use Rattle.edi_unit.specs.Types.{Shape}
-use Rattle.edi_unit.specs.Tree.{Act, skip, assign, call, halt, conditional, loop, await, cobegin, Acts, no_act, act_then, Clause, clause, Clauses, no_clause, clause_then, Block}
+use Rattle.edi_unit.specs.Tree.{Act, skip, assign, call, halt, if_act, while_act, when_act, cobegin, Acts, no_act, act_then, Clause, clause, Clauses, no_clause, clause_then, Block}
 use Rattle.edi_unit.specs.Need.{block_at, slots, slot_words, callee_result, act_height, acts_height, clause_height, clauses_height, need}
 use Rattle.edi_unit.specs.Fits.{Heading, heading_formals, callee_heading, BranchFits, ActFits, ActsFit, ArgumentsFit, ClauseFits, ClausesFit, SlotIsKnown}
 use Rattle.edi_static.specs.Statements.{acts_append}
@@ -52,9 +52,9 @@ module _ (types more : List Shape) (blocks later : List Block) (headings next : 
           );
         }
     act_same (halt line) h = record { height = refl; fits = tt }
-    act_same (conditional cs) h = let s = clauses_same cs h in record { height = s.height; fits = s.fits }
-    act_same (loop cs) h = let s = clauses_same cs h in record { height = s.height; fits = s.fits }
-    act_same (await cs line) h = let s = clauses_same cs h in record { height = s.height; fits = s.fits }
+    act_same (if_act cs) h = let s = clauses_same cs h in record { height = s.height; fits = s.fits }
+    act_same (while_act cs) h = let s = clauses_same cs h in record { height = s.height; fits = s.fits }
+    act_same (when_act cs line) h = let s = clauses_same cs h in record { height = s.height; fits = s.fits }
     act_same (cobegin bs line) h = record { height = refl; fits = (h.0, h.1, λ k d i. branch_same _ (h.2 k d i)) }
 
     pub acts_same : (s : Acts) → ActsFit types blocks headings b s → SameActs s

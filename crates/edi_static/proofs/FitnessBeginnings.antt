@@ -35,7 +35,7 @@ use Rattle.edi_static.proofs.FitnessOnward.{BegunFits, AllBegun, begun_later, Ti
 use Rattle.edi_static.proofs.FitnessChanges.{scopes_sit, scopes_later_same}
 use Rattle.edi_static.proofs.FitnessVariables.{Ready, here_inside, here_round}
 use Rattle.edi_static.proofs.FitnessHeadings.{Given, TypeKnown, TypesKnown, headed_env, Heads, heading_heads}
-use Rattle.edi_static.proofs.FitnessBlocks.{shapes_later, shapes_sit, Begins, block_later, block_sits, new_block, new_heading}
+use Rattle.edi_static.proofs.FitnessBlocks.{shapes_later, shapes_sit, BlockBegins, block_later, block_sits, new_block, new_heading}
 use Rattle.edi_static.proofs.FitnessStatements.{stands_here}
 
 -- ---- parameters as variables of their block
@@ -126,7 +126,7 @@ abbrev procedure_block : Environment → Heading → Block
 procedure_block env asks = begun_block (kind_of (heading_result asks)) (here env) (heading_result asks) (parameters_of (heading_formals asks))
 
 procedure_begins : (env : Environment) (asks : Heading) → here env < length env.blocks → All (SlotIsKnown env.types) (map slot.Value (option_to_list (heading_result asks)) ++ parameters_of (heading_formals asks)) →
-    Begins env.types (length env.blocks) (procedure_block env asks) asks
+    BlockBegins env.types (length env.blocks) (procedure_block env asks) asks
 procedure_begins env asks at known = record {
   fits_kind = kind_fits (heading_result asks);
   outermost = λ e. absurd (omega (arith, at, e));
@@ -249,12 +249,12 @@ abbrev with_scope : Scope → Environment → Environment
 with_scope scope env = record env { scopes = scope ∷ env.scopes }
 
 outside_gives : (name : Name) (means : Entity) (env : Environment) → Gives (λ e. (e ≡ given_out name means env) × (is_some (declared (outside env.scopes) name.text) ≡ false)) (give_outside name means env)
-outside_gives name means env = told (is_some (declared (outside env.scopes) name.text)) refl
+outside_gives name means env = stated (is_some (declared (outside env.scopes) name.text)) refl
   where
-    told : (b : Bool) → is_some (declared (outside env.scopes) name.text) ≡ b →
+    stated : (b : Bool) → is_some (declared (outside env.scopes) name.text) ≡ b →
         Gives (λ e. (e ≡ given_out name means env) × (is_some (declared (outside env.scopes) name.text) ≡ false)) (if b then faults kind.Ambiguous name.line else gives (given_out name means env))
-    told true e = tt
-    told false e = (refl, e)
+    stated true e = tt
+    stated false e = (refl, e)
 
 module _ (env : Environment) (scope : Scope) (more : List Heading) (asks : Heading) (name : Name) (b : Begun) (s : Sits env) (r : Ready env)
     (f : BegunFits env.scopes env.blocks (here env) b) (same : heading_at env.headings b.block ≡ asks) (named : b.name.text ≡ name.text)
@@ -326,11 +326,11 @@ module _ (env : Environment) (scope : Scope) (more : List Heading) (asks : Headi
 -- a procedure of a name that is begun
 pub found_begun : (P : Begun → Type 0) (begun : List Begun) (name : List ℕ) → All P begun → IfSome (begun_named begun name) (λ b. P b × (b.name.text ≡ name))
 found_begun P [] name all = tt
-found_begun P (b ∷ bs) name all = told (found_begun P bs name (λ k d h. all (suc k) d (omega (arith, h)))) (bytes_eq b.name.text name) refl
+found_begun P (b ∷ bs) name all = stated (found_begun P bs name (λ k d h. all (suc k) d (omega (arith, h)))) (bytes_eq b.name.text name) refl
   where
-    told : IfSome (begun_named bs name) (λ b. P b × (b.name.text ≡ name)) → (same : Bool) → bytes_eq b.name.text name ≡ same → IfSome (if same then Some b else begun_named bs name) (λ b. P b × (b.name.text ≡ name))
-    told rest true e = (all 0 b (omega arith), (bytes_eq-Decides b.name.text name).0 e)
-    told rest false e = rest
+    stated : IfSome (begun_named bs name) (λ b. P b × (b.name.text ≡ name)) → (same : Bool) → bytes_eq b.name.text name ≡ same → IfSome (if same then Some b else begun_named bs name) (λ b. P b × (b.name.text ≡ name))
+    stated rest true e = (all 0 b (omega arith), (bytes_eq-Decides b.name.text name).0 e)
+    stated rest false e = rest
 
 post_found : (marked : Bool) (h : text.Heading) (env : Environment) → Sits env → Ready env → (found : Option Begun) →
     IfSome found (λ b. BegunFits env.scopes env.blocks (here env) b × (b.name.text ≡ (own_name h).text)) →

@@ -80,7 +80,7 @@ shapes_sit more env s = record {
 -- ---- a block that begins
 
 -- a block behind the others
-pub record Begins (types : List Shape) (n : ℕ) (block : Block) (asks : Heading) : Type 0 where
+pub record BlockBegins (types : List Shape) (n : ℕ) (block : Block) (asks : Heading) : Type 0 where
   pub fits_kind : KindFits block.kind n block
   pub outermost : n ≡ 0 → block.up ≡ 0
   pub inner : 0 < n → block.up < n
@@ -107,7 +107,7 @@ module _ (block : Block) (asks : Heading) (env : Environment) (s : Sits env) whe
   pub new_heading : heading_at (env.headings ++ asks ∷ []) (length env.blocks) ≡ asks
   new_heading = ap (heading_at (env.headings ++ asks ∷ [])) (sym s.as_many) ∙ get_or-append_seam env.headings asks [] no_heading
 
-  new_stands : Begins env.types (length env.blocks) block asks → BlockStands env.types (env.blocks ++ block ∷ []) (env.headings ++ asks ∷ []) (length env.blocks)
+  new_stands : BlockBegins env.types (length env.blocks) block asks → BlockStands env.types (env.blocks ++ block ∷ []) (env.headings ++ asks ∷ []) (length env.blocks)
   new_stands b = record {
     fits_kind = subst (λ x. KindFits x.kind (length env.blocks) x) (sym new_block) b.fits_kind;
     outermost = λ e. ap (λ x. x.up) new_block ∙ b.outermost e;
@@ -120,7 +120,7 @@ module _ (block : Block) (asks : Heading) (env : Environment) (s : Sits env) whe
         (sym (ap (λ x. x.body) new_block ∙ b.nothing)) tt;
   }
 
-  pub block_sits : Begins env.types (length env.blocks) block asks → Sits (with_block block asks env)
+  pub block_sits : BlockBegins env.types (length env.blocks) block asks → Sits (with_block block asks env)
   block_sits b = record {
     table = s.table;
     shapes = s.shapes;

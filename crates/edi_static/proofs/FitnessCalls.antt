@@ -134,11 +134,11 @@ variable_argument_fits env line of fs true (unit.load p) has t f =
     ruled (ArgumentFits env (variable_then of fs)) (has == of) kind.Call line _ (λ e xs rest. (t ∙ eqb-true has of e, f, rest))
 variable_argument_fits env line of fs true (unit.constant u n) has t f = tt
 variable_argument_fits env line of fs true (unit.not_of x) has t f = tt
-variable_argument_fits env line of fs true (unit.minus x l) has t f = tt
+variable_argument_fits env line of fs true (unit.sign_of x l) has t f = tt
 variable_argument_fits env line of fs true (unit.chain x ls) has t f = tt
 variable_argument_fits env line of fs true (unit.make u es l) has t f = tt
 variable_argument_fits env line of fs true (unit.convert u x l) has t f = tt
-variable_argument_fits env line of fs true (unit.invoke c xs l) has t f = tt
+variable_argument_fits env line of fs true (unit.apply_of c xs l) has t f = tt
 variable_argument_fits env line of fs false x has t f = tt
 
 passed_fits : (env : Environment) (line : ℕ) (asked : Heading) (fs : Formals) (u : Use) → UseFits env u → Gives (ArgumentFits env (procedure_then asked fs)) (passed line asked u)

@@ -12,7 +12,7 @@ use Rattle.edi_unit.specs.declared.expressions.Callee.TheVariants as callee
 use Rattle.edi_unit.specs.declared.units.Parameter.{Parameter}
 use Rattle.edi_unit.specs.declared.units.Parameter.TheVariants as slot
 use Rattle.edi_unit.specs.Types.{Shape, int, char, bool, enumeration, record_of, array_of, set_of, shape_at, int_type, bool_type, fields_of, field_type, part_types, named_types, is_elementary, is_elementary_shape, is_ordinal_of, is_set_shape, size, AreDeclared}
-use Rattle.edi_unit.specs.Tree.{Expression, constant, load, not_of, minus, chain, make, convert, invoke, Expressions, no_expression, expression_then, link, Links, no_link, link_then, Place, place, Part, field, index, Parts, no_part, part_then, by_value, by_variable, by_procedure, Arguments, no_argument, argument_then, Act, skip, assign, call, halt, conditional, loop, await, cobegin, Acts, no_act, act_then, Clause, clause, Clauses, no_clause, clause_then, Block}
+use Rattle.edi_unit.specs.Tree.{Expression, constant, load, not_of, sign_of, chain, make, convert, apply_of, Expressions, no_expression, expression_then, link, Links, no_link, link_then, Place, place, Part, field, index, Parts, no_part, part_then, by_value, by_variable, by_procedure, Arguments, no_argument, argument_then, Act, skip, assign, call, halt, if_act, while_act, when_act, cobegin, Acts, no_act, act_then, Clause, clause, Clauses, no_clause, clause_then, Block}
 use Rattle.edi_unit.specs.Need.{block_at, outer, slots, slot_at, slot_type, slot_result, element_type, part_type, parts_type, operator_type, links_type, left_words, callee_result, place_type, expression_type, result_words, argument_words, expression_height, members_height, compound_height, links_height, place_height, part_height, parts_height, argument_height, arguments_height, act_height, acts_height, clause_height, clauses_height}
 use Rattle.edi_unit.specs.Fits.{is_called, Heading, heading, heading_formals, Formals, no_formal, value_then, variable_then, procedure_then, formals_from, first_parameter, block_heading, callee_heading, is_variable, is_procedure, CalleeFits, OperatorFits, HasLink, IsIndexedBy, HaveTypes, AllHaveType, MakesValue, ExpressionFits, ExpressionsFit, LinksFit, PlaceFits, PartFits, PartsFit, ArgumentsFit, BranchFits, ActFits, ActsFit, ClauseFits, ClausesFit, SlotIsKnown}
 use Rattle.edi_unit.proofs.Tables.{size-before, length-before}
@@ -311,7 +311,7 @@ module _ (types more : List Shape) (blocks later : List Block) (headings next : 
     expression_same (not_of e) h =
         let s = expression_same e h.1 in
         record { of = refl; known = standard_known 2 (omega arith); height = s.height; fits = (s.of ∙ h.0, s.fits) }
-    expression_same (minus e line) h =
+    expression_same (sign_of e line) h =
         let s = expression_same e h.1 in
         record { of = refl; known = standard_known 0 (omega arith); height = s.height; fits = (s.of ∙ h.0, s.fits) }
     expression_same (chain e ls) h =
@@ -345,7 +345,7 @@ module _ (types more : List Shape) (blocks later : List Block) (headings next : 
           height = s.height;
           fits = (omega (arith, h.0, longer_types), elementary_same t t refl h.0 h.1, elementary_same _ _ s.of s.known h.2, s.fits);
         }
-    expression_same (invoke c xs line) h =
+    expression_same (apply_of c xs line) h =
         let s = arguments_same xs (heading_formals (callee_heading headings blocks b c)) h.2 in
         record {
           of = ap (λ r. unwrap_or r int_type) (result_same c h.0);

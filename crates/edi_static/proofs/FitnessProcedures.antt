@@ -87,11 +87,11 @@ pub together : (f r b : Bool) → f ≡ false → r ≡ false → b ≡ false �
 together f r b i j k = ap (λ x. x || (r || b)) i ∙ ap (λ x. x || b) j ∙ k
 
 pub differs : (m n : ℕ) → m ≢ n → (m == n) ≡ false
-differs m n h = told (m == n) refl
+differs m n h = stated (m == n) refl
   where
-    told : (b : Bool) → (m == n) ≡ b → b ≡ false
-    told true e = absurd (h (eqb-true m n e))
-    told false e = refl
+    stated : (b : Bool) → (m == n) ≡ b → b ≡ false
+    stated true e = absurd (h (eqb-true m n e))
+    stated false e = refl
 
 -- the statements and the end of a procedure
 pub ends : (n line : ℕ) (inner now : Environment) (done : After Acts) → (around : List ℕ) → inner.around ≡ n ∷ around → Onward false inner now → Sits inner → AllBegun inner → now.begun ≡ [] → n < length inner.blocks → Does ActsFit now done →

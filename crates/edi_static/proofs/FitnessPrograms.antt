@@ -31,7 +31,7 @@ use Rattle.edi_static.proofs.FitnessOnward.{Closed, BegunFits, Tidy, is_begun, i
 use Rattle.edi_static.proofs.FitnessTypes.{go_on, const_list_onward, type_decl_onward}
 use Rattle.edi_static.proofs.FitnessVariables.{Ready}
 use Rattle.edi_static.proofs.FitnessHeadings.{Given, headed_env, Heads, heading_heads, declare_is}
-use Rattle.edi_static.proofs.FitnessBlocks.{placed_sits, shapes_sit, Begins, block_sits, new_block, new_heading}
+use Rattle.edi_static.proofs.FitnessBlocks.{placed_sits, shapes_sit, BlockBegins, block_sits, new_block, new_heading}
 use Rattle.edi_static.proofs.FitnessStatements.{Does, list_does, scopes_wider}
 use Rattle.edi_static.proofs.FitnessBeginnings.{scope_given, types_known}
 use Rattle.edi_static.proofs.FitnessProcedures.{Ends, no_begun, completed, ends}
@@ -112,7 +112,7 @@ module _ (env : Environment) (s : Sits env) (bare : env.blocks ≡ []) (out : en
   first : length env.blocks ≡ 0
   first = ap length bare
 
-  begins : Begins env.types (length env.blocks) (program_block env asks) asks
+  begins : BlockBegins env.types (length env.blocks) (program_block env asks) asks
   begins = record {
     fits_kind = (first, none);
     outermost = λ e. outermost;
@@ -182,8 +182,8 @@ not_first zero h = absurd (h refl)
 not_first (suc m) h = eqb-zero-suc m
 
 -- each block of a program has told its need
-all_told : (inner after : Environment) → inner.around ≡ 0 ∷ [] → length inner.blocks ≡ 1 → Ends 0 inner after → (m : ℕ) → m < length after.blocks → NeedsSo after.types after.blocks m
-all_told inner after around alone e m h =
+all_stated : (inner after : Environment) → inner.around ≡ 0 ∷ [] → length inner.blocks ≡ 1 → Ends 0 inner after → (m : ℕ) → m < length after.blocks → NeedsSo after.types after.blocks m
+all_stated inner after around alone e m h =
     elim (cases_eq m 0) [
       | inl first ↦ let c : Closed after.types after.blocks m = subst (Closed after.types after.blocks) (sym first) e.closed in (c.needs, c.small)
       | inr other ↦
@@ -238,7 +238,7 @@ named_fits p env s bare out deep h scope more asks names known calls_named =
     let lt : 0 < length inner.blocks = there env s bare out scope more asks name none names known in
     let at : heading_at after.headings 0 ≡ asks = l.headings 0 lt ∙ at_heading env s bare out scope more asks name none names known in
     unit_fits after calls e.sits
-    (all_told inner after (ap (λ a. 0 ∷ a) out) (alone env s bare out scope more asks name none names known) e)
+    (all_stated inner after (ap (λ a. 0 ∷ a) out) (alone env s bare out scope more asks name none names known) e)
     (omega (arith, lt, longer)) short
     (subst (λ ts. AreCalls ts (heading_at after.headings 0) calls) (sym l.types)
     (subst (λ g. AreCalls (env.types ++ l.more) g calls) (sym at) (are_calls_later env.types l.more asks calls named)))))

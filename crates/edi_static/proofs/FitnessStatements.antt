@@ -33,7 +33,7 @@ use Rattle.edi_static.proofs.FitnessExpressions.{expression_fits, place_fits, ar
 use Rattle.edi_static.proofs.FitnessLater.{Later, later_same, later_then, acts_later, chain_later, scopes_later}
 use Rattle.edi_static.proofs.FitnessOnward.{Onward, Closed, Tidy, is_open, is_begun, BegunFits, AllBegun, begun_later, closed_later}
 use Rattle.edi_static.proofs.FitnessVariables.{here_inside}
-use Rattle.edi_static.proofs.FitnessBlocks.{placed_sits, placed_later, Begins, block_later, block_sits, new_block, Closes, block_closes}
+use Rattle.edi_static.proofs.FitnessBlocks.{placed_sits, placed_later, BlockBegins, block_later, block_sits, new_block, Closes, block_closes}
 
 -- ---- from one statement to the next
 
@@ -68,12 +68,12 @@ steps_then a b c g h = record {
       let l = g.later in
       let longer = l.longer in
       h.old n (omega (arith, i, longer)) ∙ g.old n i;
-  new = λ n i k. told n i k (nat_lt n (length b.blocks)) refl;
+  new = λ n i k. stated n i k (nat_lt n (length b.blocks)) refl;
 }
   where
-    told : (n : ℕ) → n < length c.blocks → length a.blocks ≤ n → (before : Bool) → nat_lt n (length b.blocks) ≡ before → Closed c.types c.blocks n
-    told n i k true e = let inside : n < length b.blocks = grind (arith, e) in closed_later b c g.sits h.later n inside (h.old n inside) (g.new n inside k)
-    told n i k false e = h.new n i (grind (arith, e))
+    stated : (n : ℕ) → n < length c.blocks → length a.blocks ≤ n → (before : Bool) → nat_lt n (length b.blocks) ≡ before → Closed c.types c.blocks n
+    stated n i k true e = let inside : n < length b.blocks = grind (arith, e) in closed_later b c g.sits h.later n inside (h.old n inside) (g.new n inside k)
+    stated n i k false e = h.new n i (grind (arith, e))
 
 pub here_same : (env next : Environment) → next.around ≡ env.around → here next ≡ here env
 here_same env next e = ap (λ a. get_or a 0 0) e
@@ -89,16 +89,16 @@ steps_onward m env next s g = record {
   kept = λ x e k. ap (λ ss. declared ss x) g.scopes ∙ k;
   kept_outside = λ x e k. ap (λ ss. declared (outside ss) x) g.scopes ∙ k;
   begun = λ k. subst (All (BegunFits next.scopes next.blocks (here next))) (sym g.begun) (begun_later env next g.later g.around (λ x e i. ap (λ ss. declared ss x) g.scopes ∙ i) env.begun k);
-  tidy = λ b further k n h o. told further k n h o (nat_lt n (length env.blocks)) refl;
+  tidy = λ b further k n h o. stated further k n h o (nat_lt n (length env.blocks)) refl;
   scopes = ap length g.scopes;
 }
   where
-    told : (further : ℕ → Bool) → Tidy (is_open further env) env → (n : ℕ) → n < length next.blocks → is_open further next n ≡ false → (before : Bool) → nat_lt n (length env.blocks) ≡ before → Closed next.types next.blocks n
-    told further k n h o true e =
+    stated : (further : ℕ → Bool) → Tidy (is_open further env) env → (n : ℕ) → n < length next.blocks → is_open further next n ≡ false → (before : Bool) → nat_lt n (length env.blocks) ≡ before → Closed next.types next.blocks n
+    stated further k n h o true e =
         let inside : n < length env.blocks = grind (arith, e) in
         closed_later env next s g.later n inside (g.old n inside)
         (k n inside (ap (λ a. further n || (is_round n a || is_begun n env.begun)) (sym g.around) ∙ ap (λ b. further n || (is_round n next.around || is_begun n b)) (sym g.begun) ∙ o))
-    told further k n h o false e = g.new n h (grind (arith, e))
+    stated further k n h o false e = g.new n h (grind (arith, e))
 
 -- ---- what statements become
 
@@ -130,7 +130,7 @@ module _ (env : Environment) (at : here env < length env.blocks) where
   sequel_clauses one others h k = record {
     steps = steps_then env one.env others.env h.steps k.steps;
     fits = (
-      (lifted one.env others.env h.steps k.steps (unit.act_then (unit.conditional (unit.clause_then one.what unit.no_clause)) unit.no_act) ((h.fits, tt), tt)).0.0,
+      (lifted one.env others.env h.steps k.steps (unit.act_then (unit.if_act (unit.clause_then one.what unit.no_clause)) unit.no_act) ((h.fits, tt), tt)).0.0,
       subst (λ b. ClausesFit others.env.types others.env.blocks (headings_of others.env.headings) b others.what) (here_same env one.env h.steps.around) k.fits,
     );
   }
@@ -138,9 +138,9 @@ module _ (env : Environment) (at : here env < length env.blocks) where
   -- a condition before its statements
   guarded : (c : Typed) (done : After Acts) → Sits env → TypedFits env c → c.of ≡ bool_type → Does ActsFit env done → Does ClauseFits env (record { what = unit.clause c.what done.what; env = done.env })
   guarded c done s f is k =
-      let first : Acts = unit.act_then (unit.conditional (unit.clause_then (unit.clause c.what unit.no_act) unit.no_clause)) unit.no_act in
-      let held = lifted env done.env (steps_same env s) k.steps first (((f.has_type ∙ is, f.fits, tt), tt), tt) in
-      record { steps = k.steps; fits = (held.0.0.0, held.0.0.1, k.fits) }
+      let first : Acts = unit.act_then (unit.if_act (unit.clause_then (unit.clause c.what unit.no_act) unit.no_clause)) unit.no_act in
+      let raised = lifted env done.env (steps_same env s) k.steps first (((f.has_type ∙ is, f.fits, tt), tt), tt) in
+      record { steps = k.steps; fits = (raised.0.0.0, raised.0.0.1, k.fits) }
 
 -- ---- calls and assignments
 
@@ -177,7 +177,7 @@ called_fits env s line neither xs h i = tt
 
 -- ---- branches
 
-branch_begins : (env : Environment) → here env < length env.blocks → Begins env.types (length env.blocks) (begun_block block_kind.Branch (here env) None []) no_heading
+branch_begins : (env : Environment) → here env < length env.blocks → BlockBegins env.types (length env.blocks) (begun_block block_kind.Branch (here env) None []) no_heading
 branch_begins env at = record {
   fits_kind = (omega (arith, at), refl);
   outermost = λ e. absurd (omega (arith, at, e));

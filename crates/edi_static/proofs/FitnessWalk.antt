@@ -65,12 +65,12 @@ same_number : (n : ℕ) → (n == n) ≡ true
 same_number n = (Decides-eqb n n).1 refl
 
 is_still : (further : ℕ → Bool) (env : Environment) (n : ℕ) → still further env n n ≡ true
-is_still further env n = told (further n) (is_begun n env.begun) (n == n) (same_number n)
+is_still further env n = stated (further n) (is_begun n env.begun) (n == n) (same_number n)
   where
-    told : (a b c : Bool) → c ≡ true → (a || (b || c)) ≡ true
-    told true b c e = refl
-    told false true c e = refl
-    told false false c e = e
+    stated : (a b c : Bool) → c ≡ true → (a || (b || c)) ≡ true
+    stated true b c e = refl
+    stated false true c e = refl
+    stated false false c e = e
 
 module _ (n : ℕ) (marked : Bool) (name : Name) (env next : Environment) (s : Sits env) (r : Ready env) (e : Entered n marked name env next) (begun : List Begun)
     (fewer : (scopes : List Scope) (blocks : List Block) (k : ℕ) → All (BegunFits scopes blocks k) env.begun → All (BegunFits scopes blocks k) begun)
@@ -170,13 +170,13 @@ others_begun : (P : Begun → Type 0) (name : List ℕ) (n m : ℕ) → ((b : Be
     is_begun m (without_begun name begun) ≡ false → is_begun m begun ≡ false
 others_begun P name n m same [] all other h = refl
 others_begun P name n m same (b ∷ bs) all other h =
-    told (others_begun P name n m same bs (λ k d i. all (suc k) d (omega (arith, i))) other) (bytes_eq b.name.text name) refl h
+    stated (others_begun P name n m same bs (λ k d i. all (suc k) d (omega (arith, i))) other) (bytes_eq b.name.text name) refl h
   where
-    told : (is_begun m (without_begun name bs) ≡ false → is_begun m bs ≡ false) → (t : Bool) → bytes_eq b.name.text name ≡ t → is_begun m (cond (not t) (b ∷ without_begun name bs) (without_begun name bs)) ≡ false → ((b.block == m) || is_begun m bs) ≡ false
-    told rest true e h =
+    stated : (is_begun m (without_begun name bs) ≡ false → is_begun m bs ≡ false) → (t : Bool) → bytes_eq b.name.text name ≡ t → is_begun m (cond (not t) (b ∷ without_begun name bs) (without_begun name bs)) ≡ false → ((b.block == m) || is_begun m bs) ≡ false
+    stated rest true e h =
         let is : b.block ≡ n = same b (all 0 b (omega arith)) e in
         ap (λ x. x || is_begun m bs) (differs b.block m (λ i. other (sym i ∙ is))) ∙ rest h
-    told rest false e h =
+    stated rest false e h =
         let p = two_apart (b.block == m) (is_begun m (without_begun name bs)) h in
         ap (λ x. x || is_begun m bs) p.0 ∙ rest p.1
 
@@ -271,9 +271,9 @@ module_left env now done d o does none =
           let other : m ≢ n = λ is. false≢true (sym a.1 ∙ ap (λ k. is_round k env.around) is ∙ here_round env.around r.inside) in
           let many = c.many in
           let before : m < length done.env.blocks = omega (arith, h, many) in
-          let held : ℕ → Bool = λ k. further k || is_begun k env.begun in
+          let may_stay : ℕ → Bool = λ k. further k || is_begun k env.begun in
           closed_later done.env after p.sits c.later m before (c.others m other)
-          (p.tidy (o.begun no) held (o.tidy no held (inner_tidy further t)) m before
+          (p.tidy (o.begun no) may_stay (o.tidy no may_stay (inner_tidy further t)) m before
           (together (further m || is_begun m env.begun) (is_round m done.env.around) (is_begun m done.env.begun)
           (ap (λ x. x || is_begun m env.begun) a.0 ∙ a.2) (ap (is_round m) around ∙ a.1) (ap (is_begun m) (st.begun ∙ none))));
       scopes = outside_length done.env.scopes (length env.scopes) (p.scopes ∙ o.scopes);

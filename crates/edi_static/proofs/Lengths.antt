@@ -10,7 +10,7 @@ use Rattle.edi_static.specs.Judged.{Judged, gives}
 use Rattle.edi_static.specs.Operators.{Typed, chain_of}
 use Rattle.edi_static.specs.declared.faults.StaticFault.{StaticFault}
 use Rattle.edi_static.specs.declared.operands.Typed as code_typed
-use Rattle.edi_static.specs.Answers.{Answers}
+use Rattle.edi_static.specs.Answers.{JudgedAnswers}
 use Rattle.edi_static.specs.Views.{One, value, variable, procedure, formals, formal_of, typed_of}
 
 rest : (b : Bool) {c : Bool} → c ≡ false → (b && c) ≡ false
@@ -53,5 +53,5 @@ chain_is e [] h = absurd (grind (arith, h))
 chain_is e (l ∷ ls) h = refl
 
 pub a_chain : (e : Expression) (ls : List code_link.Link) (of : ℕ) (result : Result code_typed.Typed StaticFault) → (length ls == 0) ≡ false →
-    Answers typed_of result (given (chain e (links (map link_of ls))) of) → Answers typed_of result (given (chain_of e (links (map link_of ls))) of)
-a_chain e ls of result h answered = subst (λ x. Answers typed_of result (given x of)) (chain_is e ls h) answered
+    JudgedAnswers typed_of result (given (chain e (links (map link_of ls))) of) → JudgedAnswers typed_of result (given (chain_of e (links (map link_of ls))) of)
+a_chain e ls of result h answered = subst (λ x. JudgedAnswers typed_of result (given x of)) (chain_is e ls h) answered

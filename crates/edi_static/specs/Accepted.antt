@@ -1,4 +1,4 @@
--- Sound programs, with their whole units. The text of each stands in its comment.
+-- Computed rows. Sound programs, with their whole units. The text of each stands in its comment.
 use Rattle.std.specs.Prelude.{◌≡◌, ℕ, pos, Bool, ◌==◌, List, [], ◌∷◌, ◌++◌, map, replicate, Option, Some, None, codes, refl}
 use Rattle.edi_tree.specs.declared.constants.Constant.TheVariants as constant
 use Rattle.edi_tree.specs.declared.expressions.Relation.TheVariants as relation
@@ -159,17 +159,17 @@ pub row_branches : resolve_tree program_with_branches ≡ gives (record {
       (two
       (unit.load (unit.place 1 1 (unit.part_then (unit.index (number 1) 14) (unit.part_then (unit.field 0) unit.no_part))))
       op.In (value_at 0 3) 14)
-      op.And (unit.not_of (two (value_at 0 1) op.Less (unit.minus (number 1) 14) 14)) 14) ∷ [])
+      op.And (unit.not_of (two (value_at 0 1) op.Less (unit.sign_of (number 1) 14) 14)) 14) ∷ [])
       ∷ block block_kind.Procedure 0 None (slot.Var 0 ∷ []) [] 9 (
       unit.assign (variable_at 0 0) (two (value_at 0 0) op.Plus (number 1) 9) ∷ [])
       ∷ block block_kind.Branch 0 None [] [] 9 (
-      unit.await (one_clause
-      (unit.invoke (callee.Block 1 1)
+      unit.when_act (one_clause
+      (unit.apply_of (callee.Block 1 1)
       (unit.argument_then (unit.by_value (number 2))
       (unit.argument_then (unit.by_procedure (callee.Block 1 2)) unit.no_argument)) 17)
       (unit.assign (variable_at 1 2) (number 3))) 17 ∷ [])
       ∷ block block_kind.Branch 0 None [] [] 7 (
-      unit.loop (one_clause (two (value_at 1 2) op.Equal (number 0) 18) unit.skip) ∷ [])
+      unit.while_act (one_clause (two (value_at 1 2) op.Equal (number 0) 18) unit.skip) ∷ [])
       ∷ [];
   program = 0;
   calls = 8 ∷ [];
@@ -236,7 +236,7 @@ pub row_operators : resolve_tree program_of_operators ≡ gives (record {
       unit.assign (variable_at 0 2) (two (value_at 0 0) op.Greater (value_at 0 1) 7) ∷
       unit.assign (variable_at 0 2) (two (value_at 0 0) op.GreaterOrEqual (value_at 0 1) 7) ∷
       unit.assign (variable_at 0 2) (two (value_at 0 0) op.In (value_at 0 3) 7) ∷
-      unit.assign (variable_at 0 0) (unit.minus (two (value_at 0 0) op.Times (value_at 0 1) 7) 7) ∷
+      unit.assign (variable_at 0 0) (unit.sign_of (two (value_at 0 0) op.Times (value_at 0 1) 7) 7) ∷
       unit.assign (variable_at 0 0) (two (value_at 0 0) op.Minus (unit.convert 0 (value_at 0 2) 7) 7) ∷
       unit.assign (variable_at 0 3) (value_at 0 3) ∷ [])
       ∷ [];

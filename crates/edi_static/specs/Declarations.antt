@@ -1,4 +1,4 @@
--- The rules on procedures, also split ones, and on modules and what they export.
+-- Definition. The rules on procedures, also split ones, and on modules and what they export.
 use Rattle.std.specs.Prelude.{ℕ, Bool, true, false, not, if◌then◌else◌, List, [], ◌∷◌, ◌++◌, length, filter, Option, Some, None}
 use Rattle.std.specs.Option.{option_map_or}
 use Rattle.std.specs.Str.{bytes_eq}
@@ -46,7 +46,7 @@ abbrev pub completes : Option Begun → Name → Headed → Judged (Unit {0})
 completes None name headed = faults kind.Split name.line
 completes (Some b) name headed = must (same_heading (heading_at headed.env.headings b.block) headed.asks) kind.Split name.line
 
--- a mark on a `post` gives the name to the scope round the module
+-- an export on a `post` gives the name to the scope round the module
 abbrev pub post_marked : Bool → Name → (block : ℕ) → Environment → Judged Environment
 post_marked true name block env = round (give_outside name (entity.Procedure block)) env
 post_marked false name block env = gives env
@@ -136,7 +136,7 @@ abbrev mutual
   members text.no_member env = gives env
   members (text.next_member m ms) env = member m env >>= members ms
 
-  -- a mark `*` exports all names of the declaration behind it
+  -- an export `*` exports all names of the declaration behind it
   pub member : text.Member → Environment → Judged Environment
   member (text.item_member i) env = item false i env
   member (text.exported_member i) env = item true i env

@@ -1,4 +1,4 @@
--- What is known at a place of the text: what each name means there, and what has become of the constructs before it.
+-- Definition. What is known at a place of the text: what each name means there, and what has become of the constructs before it.
 use Rattle.std.specs.Prelude.{ℕ, suc, Bool, true, false, ◌&&◌, ◌||◌, ◌==◌, if◌then◌else◌, List, [], ◌∷◌, ◌++◌, length, Option, Some, None, is_some, slice_index_or, slice_set, codes}
 use Rattle.std.specs.Str.{bytes_eq}
 use Rattle.edi_scope.specs.declared.entity.Entity.{Entity}
@@ -80,7 +80,7 @@ type_named env name = look_up env name >>= as_type name.line
 
 -- ---- declared names
 
--- a declared name must be new in the innermost scope; behind a mark `*` it enters the scope round the module too, and
+-- a declared name must be new in the innermost scope; behind an export `*` it enters the scope round the module too, and
 -- must be new there too
 abbrev pub declare : (marked : Bool) → Name → Entity → Environment → Judged Environment
 declare marked name means env =

@@ -1,4 +1,4 @@
--- The rules on expressions and variables, construct by construct: each is judged after its parts, the parts from left to
+-- Definition. The rules on expressions and variables, construct by construct: each is judged after its parts, the parts from left to
 -- right.
 use Rattle.std.specs.Prelude.{ℕ, suc, Bool, true, ◌==◌, List, [], ◌∷◌, ◌++◌, map, slice_index_or, Option, Some, None, unwrap_or}
 use Rattle.edi_scope.specs.declared.entity.Entity.{Entity}

@@ -1,4 +1,4 @@
--- What a name can be used for, and the rules on calls and constructors that do not look into their arguments.
+-- Definition. What a name can be used for, and the rules on calls and constructors that do not look into their arguments.
 use Rattle.std.specs.Prelude.{ℕ, suc, pos, Bool, true, false, ◌&&◌, ◌==◌, if◌then◌else◌, List, [], ◌∷◌, map, length, is_some, Option, Some, None, option_map, unwrap_or}
 use Rattle.std.specs.List.{list_all, list_any}
 use Rattle.std.specs.Str.{bytes_eq}
@@ -123,7 +123,7 @@ abbrev pub call_result : Called → ℕ
 call_result c = unwrap_or (heading_result c.asks) int_type
 
 abbrev pub invoked : (line : ℕ) → Called → unit.Arguments → Typed
-invoked line c xs = record { what = unit.invoke c.callee xs line; of = call_result c }
+invoked line c xs = record { what = unit.apply_of c.callee xs line; of = call_result c }
 
 -- ---- variables
 

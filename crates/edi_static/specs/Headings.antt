@@ -1,4 +1,4 @@
--- The rules on headings: their parameters, their result, and their own name.
+-- Definition. The rules on headings: their parameters, their result, and their own name.
 use Rattle.std.specs.Prelude.{ℕ, ◌+◌, Bool, false, true, ◌++◌, length, take, Option, Some, None}
 use Rattle.edi_scope.specs.declared.entity.Entity.TheVariants as entity
 use Rattle.edi_scope.specs.Scope.{outside}

@@ -1,4 +1,4 @@
--- What is true of a tree that is parsed from a text, and what no static rule tests again: a numeral is a value of `int`, a
+-- Words of contracts. What is true of a tree that is parsed from a text, and what no static rule tests again: a numeral is a value of `int`, a
 -- character one of `char`, and a `cobegin` has fewer than 65,536 branches.
 use Rattle.std.specs.Prelude.{ℕ, suc, ◌<◌, ◌≤◌, ◌^◌, ℤ, pos, int_le, IsTrue, List, [], ◌∷◌, Option, Some, None}
 use Rattle.edi_tree.specs.declared.constants.Constant.{Constant}

@@ -1,4 +1,4 @@
--- What it is to judge a construct: it gives what the construct becomes in the resolved program, or it faults, by the
+-- Definition. What it is to judge a construct: it gives what the construct becomes in the resolved program, or it faults, by the
 -- kind and the line of the first rule that is broken in it.
 use Rattle.std.specs.Prelude.{ℕ, Bool, true, false}
 use Rattle.edi_static.specs.declared.faults.StaticKind.{StaticKind}

@@ -1,4 +1,4 @@
--- What is true of every sound program.
+-- Words of contracts. What is true of every sound program.
 use Rattle.std.specs.Prelude.{◌≡◌, ℕ, ◌<◌, ◌≤◌, ◌^◌, length, All}
 use Rattle.edi_tree.specs.Tree.{Program}
 use Rattle.edi_tree.specs.Depth.{depth}

@@ -1,4 +1,4 @@
--- The rules on operators.
+-- Definition. The rules on operators.
 use Rattle.std.specs.Prelude.{ℕ, Bool, false, ◌&&◌, ◌||◌, ◌==◌, List, Option, Some, None}
 use Rattle.edi_tree.specs.declared.expressions.Relation.{Relation}
 use Rattle.edi_tree.specs.declared.expressions.Relation.TheVariants as relation
@@ -11,7 +11,7 @@ use Rattle.edi_tree.specs.declared.expressions.Sign.TheVariants as sign
 use Rattle.edi_unit.specs.declared.expressions.Operator.{Operator}
 use Rattle.edi_unit.specs.declared.expressions.Operator.TheVariants as op
 use Rattle.edi_unit.specs.Types.{Shape, set_of, int_type, bool_type, shape_at, is_elementary, is_set_shape}
-use Rattle.edi_unit.specs.Tree.{Expression, minus, chain, Link, link, Links, no_link, link_then}
+use Rattle.edi_unit.specs.Tree.{Expression, sign_of, chain, Link, link, Links, no_link, link_then}
 use Rattle.edi_unit.specs.Need.{operator_type}
 use Rattle.edi_static.specs.declared.faults.StaticKind.TheVariants as kind
 use Rattle.edi_static.specs.Judged.{Judged, gives, ◌>>=◌, must}
@@ -86,7 +86,7 @@ abbrev pub signed : Option Sign → Typed → Judged Typed
 signed None v = gives v
 signed (Some (sign.Plus line)) v = must (v.of == int_type) kind.Types line >>= λ _. gives v
 signed (Some (sign.Minus line)) v =
-    must (v.of == int_type) kind.Types line >>= λ _. gives (record { what = minus v.what line; of = int_type })
+    must (v.of == int_type) kind.Types line >>= λ _. gives (record { what = sign_of v.what line; of = int_type })
 
 -- an operator with its right operand, and the type of what it gives
 pub record Linked : Type 0 where

@@ -1,4 +1,4 @@
--- The rules on a program's heading, and what a whole program is resolved to.
+-- Definition. The rules on a program's heading, and what a whole program is resolved to.
 use Rattle.std.specs.Prelude.{◌≡◌, ◌≤◌, ⊤, ℕ, pos, Bool, false, ◌&&◌, ◌==◌, if◌then◌else◌, List, [], ◌∷◌, Option, Some, None, codes}
 use Rattle.std.specs.Ordering.{int_eq}
 use Rattle.std.specs.Str.{bytes_eq}
@@ -6,7 +6,7 @@ use Rattle.edi_scope.specs.declared.entity.Entity.TheVariants as entity
 use Rattle.edi_tree.specs.declared.names.Name.{Name}
 use Rattle.edi_tree.specs.Tree as text
 use Rattle.edi_tree.specs.Depth.{depth}
-use Rattle.edi_tree.specs.Spells.{IsHeld}
+use Rattle.edi_tree.specs.Spells.{IsBounded}
 use Rattle.edi_unit.specs.declared.units.BlockKind.TheVariants as block_kind
 use Rattle.edi_unit.specs.Types.{Shape, array_of, shape_at, int_type, char_type, bool_type}
 use Rattle.edi_unit.specs.Tree.{ProgramUnit}
@@ -133,7 +133,7 @@ Resolved tree unit = resolve_tree tree ≡ gives unit
 -- The tree spells marks that `Symbols` can hold, at most 64 levels are open in it at once, and no construct of it breaks a
 -- rule.
 pub record Sound (tree : text.Program) : Type 0 where
-  pub held : ∥ IsHeld tree ∥₁
+  pub is_bounded : ∥ IsBounded tree ∥₁
   pub shallow : depth tree ≤ 64
   pub resolved : (unit : ProgramUnit) × Resolved tree unit
 

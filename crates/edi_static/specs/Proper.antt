@@ -1,4 +1,4 @@
--- What is kept with the numbers that an environment names: whatever a name means is known.
+-- Words of contracts. What is kept with the numbers that an environment names: whatever a name means is known.
 use Rattle.std.specs.Prelude.{◌≡◌, ℕ, ◌<◌, IsTrue, List, [], ◌∷◌, length}
 use Rattle.edi_scope.specs.declared.entity.Entity.{Entity}
 use Rattle.edi_scope.specs.declared.entity.Entity.TheVariants as entity

@@ -1,4 +1,4 @@
--- Refused programs: the first construct that breaks a rule on calls and constructors, by kind and line.
+-- Computed rows. Refused programs: the first construct that breaks a rule on calls and constructors, by kind and line.
 -- The text of each stands in its comment, where `/` ends a line.
 use Rattle.std.specs.Prelude.{◌≡◌, pos, Some, None, codes, refl}
 use Rattle.edi_tree.specs.declared.constants.Constant.TheVariants as constant

@@ -1,4 +1,4 @@
--- Refused programs: the first construct that breaks a rule on names, by kind and line.
+-- Computed rows. Refused programs: the first construct that breaks a rule on names, by kind and line.
 -- The text of each stands in its comment, where `/` ends a line.
 use Rattle.std.specs.Prelude.{◌≡◌, pos, Some, None, codes, refl}
 use Rattle.edi_tree.specs.declared.constants.Constant.TheVariants as constant
@@ -152,7 +152,7 @@ pub row_both_marked : resolve_tree
     ≡ faults kind.Ambiguous 4
 row_both_marked = refl
 
--- the name of a split procedure is exported by a mark on its `post` alone:
+-- the name of a split procedure is exported by an export on its `post` alone:
 -- proc main / module pre proc p * post proc p begin skip end begin skip end / begin p; / x end
 pub row_post_marked : resolve_tree
     (program no_global (procedure (heading (id "main" 1) no_params None) (next_declaration (module_declaration (module_with
@@ -171,7 +171,7 @@ pub row_pre_marked : resolve_tree
     ≡ faults kind.Undeclared 4
 row_pre_marked = refl
 
--- a mark exports an enumeration with its constants:
+-- an export takes out an enumeration with its constants:
 -- proc main / module * enum e (a, b) begin skip end / var x: e / begin x := b; / y end
 pub row_constants_marked : resolve_tree
     (program no_global (procedure (heading (id "main" 1) no_params None) (next_declaration (module_declaration (module_with

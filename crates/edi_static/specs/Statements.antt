@@ -1,4 +1,4 @@
--- The rules on statements.
+-- Definition. The rules on statements.
 use Rattle.std.specs.Prelude.{ℕ, not, ◌&&◌, ◌==◌, nat_le, List, [], ◌∷◌, length, Option, Some, None}
 use Rattle.edi_tree.specs.Tree as text
 use Rattle.edi_unit.specs.declared.units.BlockKind.TheVariants as block_kind
@@ -100,11 +100,11 @@ abbrev mutual
   statement (text.call name xs) env =
       look_up env name >>= λ means. called env name.line (use_of env means) xs >>= λ a. gives (record { what = a; env = env })
   statement (text.if_statement cs) env =
-      conditions cs env >>= λ done. gives (record { what = unit.conditional done.what; env = done.env })
+      conditions cs env >>= λ done. gives (record { what = unit.if_act done.what; env = done.env })
   statement (text.while_statement cs) env =
-      conditions cs env >>= λ done. gives (record { what = unit.loop done.what; env = done.env })
+      conditions cs env >>= λ done. gives (record { what = unit.while_act done.what; env = done.env })
   statement (text.when_statement line cs) env =
-      conditions cs env >>= λ done. gives (record { what = unit.await done.what line; env = done.env })
+      conditions cs env >>= λ done. gives (record { what = unit.when_act done.what line; env = done.env })
   statement (text.cobegin line b bs) env =
       branch b env >>= branches bs env >>= λ done. gives (record { what = unit.cobegin done.what line; env = done.env })
 

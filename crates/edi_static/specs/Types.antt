@@ -1,4 +1,4 @@
--- The rules on constants, types and variables.
+-- Definition. The rules on constants, types and variables.
 use Rattle.std.specs.Prelude.{ℕ, suc, ℤ, pos, int_le, Bool, not, ◌==◌, nat_lt, nat_le, List, [], ◌∷◌, ◌++◌, length, Some, None}
 use Rattle.std.specs.List.{list_any}
 use Rattle.std.specs.Str.{bytes_eq}

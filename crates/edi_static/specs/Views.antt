@@ -1,4 +1,4 @@
--- The plain data for which the code's headings and environments stand.
+-- Words of contracts. The plain data for which the code's headings and environments stand.
 use Rattle.std.specs.Prelude.{ℕ, Bool, false, ◌==◌, List, [], ◌∷◌, map}
 use Rattle.edi_unit.specs.declared.units.Parameter.{Parameter}
 use Rattle.edi_unit.specs.declared.units.Parameter.TheVariants as slot

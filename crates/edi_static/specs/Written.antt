@@ -1,4 +1,4 @@
--- Writing trees down.
+-- Helper. Writing trees down.
 use Rattle.std.specs.Prelude.{ℕ, None, codes}
 use Prim.Native.String.{String}
 use Rattle.edi_tree.specs.declared.names.Name.{Name}

@@ -4,7 +4,7 @@ ghost use Rattle.std.specs.Prelude.{◌≡◌, ◌<◌, length, IsTrue, IfOk, On
 ghost use Rattle.edi_scope.specs.Scope.{in_module};
 ghost use Rattle.edi_tree.specs.View.{const_list_of};
 ghost use Rattle.edi_unit.specs.Types.{char_type, is_elementary};
-ghost use Rattle.edi_static.specs.Answers.{Answers};
+ghost use Rattle.edi_static.specs.Answers.{JudgedAnswers};
 ghost use Rattle.edi_static.specs.Proper.{Proper};
 ghost use Rattle.edi_static.specs.Types as spec;
 ghost use Rattle.edi_static.specs.Views.{environment, ordinal_of};
@@ -25,7 +25,7 @@ pub struct Ordinal {
 
 /// A constant is asked.
 fn as_constant(line: u16, entity: Entity) -> Result<Ordinal, StaticFault>
-    ensures exact { Answers ordinal_of result (spec.as_constant line entity) }
+    ensures exact { JudgedAnswers ordinal_of result (spec.as_constant line entity) }
     ensures constant { IfOk result (λ c. entity ≡ Entity.Constant c.of c.ordinal) }
 {
     match entity {
@@ -36,7 +36,7 @@ fn as_constant(line: u16, entity: Entity) -> Result<Ordinal, StaticFault>
 
 /// Before a numeral in parentheses the standard type `char` is asked; the numeral is at most 127.
 fn as_character(line: u16, ordinal: i16, entity: Entity) -> Result<Ordinal, StaticFault>
-    ensures exact { Answers ordinal_of result (spec.as_character line ordinal entity) }
+    ensures exact { JudgedAnswers ordinal_of result (spec.as_character line ordinal entity) }
     ensures character { IfOk result (λ c. c.of ≡ char_type) }
 {
     match entity {
@@ -50,7 +50,7 @@ fn as_character(line: u16, ordinal: i16, entity: Entity) -> Result<Ordinal, Stat
 
 /// The value of a constant.
 pub fn constant(known: &Known, constant: &Constant) -> Result<Ordinal, StaticFault>
-    ensures exact { Answers ordinal_of result (spec.constant (environment known.now) constant.now) }
+    ensures exact { JudgedAnswers ordinal_of result (spec.constant (environment known.now) constant.now) }
     ensures known { Proper (environment known.now) → IfOk result (λ c. (c.of < length known.now.types) × IsTrue (is_elementary known.now.types c.of)) }
 {
     match constant {
@@ -78,7 +78,7 @@ fn const_decl(
 ) -> Result<(), StaticFault>
     requires exporting { IsTrue marked → IsTrue (in_module known.old.scopes) }
     requires proper { Proper (environment known.old) }
-    ensures exact { Answers (λ _. environment known.new) result (spec.const_decl marked declaration.now (environment known.old)) }
+    ensures exact { JudgedAnswers (λ _. environment known.new) result (spec.const_decl marked declaration.now (environment known.old)) }
     ensures exporting { IsTrue marked → IsTrue (in_module known.new.scopes) }
     ensures proper { OnOk result (Proper (environment known.new)) }
     ensures depth { length known.new.scopes ≡ length known.old.scopes }
@@ -99,7 +99,7 @@ pub fn const_list(
 ) -> Result<(), StaticFault>
     requires exporting { IsTrue marked → IsTrue (in_module known.old.scopes) }
     requires proper { Proper (environment known.old) }
-    ensures exact { Answers (λ _. environment known.new) result (spec.const_list marked (const_list_of list.now) (environment known.old)) }
+    ensures exact { JudgedAnswers (λ _. environment known.new) result (spec.const_list marked (const_list_of list.now) (environment known.old)) }
     ensures exporting { IsTrue marked → IsTrue (in_module known.new.scopes) }
     ensures proper { OnOk result (Proper (environment known.new)) }
     ensures depth { length known.new.scopes ≡ length known.old.scopes }

@@ -6,7 +6,7 @@ ghost use Rattle.edi_unit.specs.Types as types;
 ghost use Rattle.edi_unit.specs.ShapeView.{shape_of};
 ghost use Rattle.edi_unit.specs.View.{argument_of, expression_of};
 ghost use Rattle.edi_unit.specs.Need as need;
-ghost use Rattle.edi_static.specs.Answers.{Answers};
+ghost use Rattle.edi_static.specs.Answers.{JudgedAnswers};
 ghost use Rattle.edi_static.specs.Environment.{steps_to};
 ghost use Rattle.edi_static.specs.Judged.{gives};
 ghost use Rattle.edi_static.specs.Fitting as spec;
@@ -26,7 +26,7 @@ pub fn variable_argument(
     alone: bool,
     value: Typed,
 ) -> Result<Argument, StaticFault>
-    ensures exact { Answers argument_of result (spec.variable_argument line of alone (expression_of value.what) value.of) }
+    ensures exact { JudgedAnswers argument_of result (spec.variable_argument line of alone (expression_of value.what) value.of) }
 {
     let Typed { what, of: has } = value;
     match what {
@@ -50,7 +50,7 @@ pub fn character(character: u8) -> Typed
 
 /// A string stands for its characters only where a constructor takes it; elsewhere it has to be one character.
 pub fn single(line: u16, characters: &[u8]) -> Result<Typed, StaticFault>
-    ensures exact { Answers typed_of result (spec.single line characters.now) }
+    ensures exact { JudgedAnswers typed_of result (spec.single line characters.now) }
 {
     match characters {
         [one] => Ok(character(*one)),
@@ -60,7 +60,7 @@ pub fn single(line: u16, characters: &[u8]) -> Result<Typed, StaticFault>
 
 /// A set type alone is the empty set.
 pub fn empty_set(known: &Known, alloc: Global, line: u16, of: u32) -> Result<Typed, StaticFault>
-    ensures exact { Answers typed_of result (spec.empty_set (environment known.now) line of) }
+    ensures exact { JudgedAnswers typed_of result (spec.empty_set (environment known.now) line of) }
 {
     must(is_set(known.shape(of)), StaticKind::Constructor, line)?;
     let what = Value::Make {
@@ -81,7 +81,7 @@ pub struct Rooted {
 
 /// A variable of this block.
 fn rooted_in(known: &Known, block: u32, variable: u32, of: u32) -> Result<Rooted, StaticFault>
-    ensures exact { Answers rooted_of result (gives (record { levels = steps_to block (environment known.now).around; variable = variable; of = of })) }
+    ensures exact { JudgedAnswers rooted_of result (gives (record { levels = steps_to block (environment known.now).around; variable = variable; of = of })) }
 {
     let levels = number(known.steps_to(block))?;
     Ok(Rooted {
@@ -93,7 +93,7 @@ fn rooted_in(known: &Known, block: u32, variable: u32, of: u32) -> Result<Rooted
 
 /// A variable is asked.
 pub fn as_variable(known: &Known, line: u16, entity: Entity) -> Result<Rooted, StaticFault>
-    ensures exact { Answers rooted_of result (spec.as_variable (environment known.now) line entity) }
+    ensures exact { JudgedAnswers rooted_of result (spec.as_variable (environment known.now) line entity) }
 {
     match entity {
         Entity::Variable {
@@ -117,7 +117,7 @@ fn block_result(known: &Known, block: u32) -> Option<u32>
 
 /// The variable of a function whose body contains this place.
 pub fn as_function(known: &Known, line: u16, entity: Entity) -> Result<Rooted, StaticFault>
-    ensures exact { Answers rooted_of result (spec.as_function (environment known.now) line entity) }
+    ensures exact { JudgedAnswers rooted_of result (spec.as_function (environment known.now) line entity) }
 {
     match entity {
         Entity::Procedure { block } => function_variable(known, line, block),
@@ -126,7 +126,7 @@ pub fn as_function(known: &Known, line: u16, entity: Entity) -> Result<Rooted, S
 }
 
 fn function_variable(known: &Known, line: u16, block: u32) -> Result<Rooted, StaticFault>
-    ensures exact { Answers rooted_of result (spec.function_variable (environment known.now) line block
+    ensures exact { JudgedAnswers rooted_of result (spec.function_variable (environment known.now) line block
         (list_any (λ a. a == block) (environment known.now).around) (need.block_at (environment known.now).blocks block).result) }
 {
     if !known.is_around(block) {

@@ -11,7 +11,7 @@ ghost use Rattle.edi_static.specs.Judged as judged;
 ghost use Rattle.edi_static.specs.Environment as spec;
 ghost use Rattle.edi_static.specs.Headings.{leave, round};
 ghost use Rattle.edi_static.specs.Proper.{Proper, EntityFits};
-ghost use Rattle.edi_static.specs.Answers.{Answers};
+ghost use Rattle.edi_static.specs.Answers.{JudgedAnswers};
 ghost use Rattle.edi_static.specs.Answers as answers;
 ghost use Rattle.edi_static.specs.Views.{environment};
 
@@ -56,7 +56,7 @@ pub fn fault<T>(kind: StaticKind, line: u16) -> Result<T, StaticFault>
 
 /// A rule: where it does not hold, there is a fault of this kind at this line.
 pub fn must(holds: bool, kind: StaticKind, line: u16) -> Result<(), StaticFault>
-    ensures exact { Answers (λ _. tt) result (judged.must holds kind line) }
+    ensures exact { JudgedAnswers (λ _. tt) result (judged.must holds kind line) }
 {
     if holds { Ok(()) } else { fault(kind, line) }
 }
@@ -104,7 +104,7 @@ pub fn boxed(alloc: Global, value: Value) -> Result<Box<Value>, StaticFault>
 
 /// A place in a list as a number, if there is room for more numbers.
 pub fn number(place: usize) -> Result<u32, StaticFault>
-    ensures exact { Answers (λ n. n) result (gives place) }
+    ensures exact { JudgedAnswers (λ n. n) result (gives place) }
 {
     if place < 0xFFFF_FFFF {
         Ok(place as u32)
@@ -132,7 +132,7 @@ impl Known {
     /// Opens a scope inside the innermost.
     pub fn enter(&mut self, alloc: Global, is_module: bool) -> Result<(), StaticFault>
         requires proper { Proper (environment self.old) }
-        ensures exact { Answers (λ _. environment self.new) result (gives (spec.enter is_module (environment self.old))) }
+        ensures exact { JudgedAnswers (λ _. environment self.new) result (gives (spec.enter is_module (environment self.old))) }
         ensures proper { OnOk result (Proper (environment self.new)) }
     {
         match self.scopes.enter(alloc, is_module) {
@@ -153,7 +153,7 @@ impl Known {
 
     /// What a used name means. It must mean something.
     pub fn look_up(&self, name: &Name) -> Result<Entity, StaticFault>
-        ensures exact { Answers (λ e. e) result (spec.look_up (environment self.now) name.now) }
+        ensures exact { JudgedAnswers (λ e. e) result (spec.look_up (environment self.now) name.now) }
         ensures known { Proper (environment self.now) → IfOk result (λ e. EntityFits (environment self.now) e) }
     {
         match self.scopes.look(name.text.as_slice()) {
@@ -164,7 +164,7 @@ impl Known {
 
     /// A type is asked.
     pub fn type_named(&self, name: &Name) -> Result<u32, StaticFault>
-        ensures exact { Answers (λ t. t) result (spec.type_named (environment self.now) name.now) }
+        ensures exact { JudgedAnswers (λ t. t) result (spec.type_named (environment self.now) name.now) }
         ensures known { Proper (environment self.now) → IfOk result (λ t. t < length self.now.types) }
     {
         match self.look_up(name)? {
@@ -184,17 +184,17 @@ impl Known {
         requires module { IsTrue marked → IsTrue (in_module self.old.scopes) }
         requires proper { Proper (environment self.old) }
         requires fits { EntityFits (environment self.old) entity }
-        ensures exact { Answers (λ _. environment self.new) result (spec.declare marked name.now entity (environment self.old)) }
+        ensures exact { JudgedAnswers (λ _. environment self.new) result (spec.declare marked name.now entity (environment self.old)) }
         ensures exporting { IsTrue marked → IsTrue (in_module self.new.scopes) }
         ensures proper { OnOk result (Proper (environment self.new)) }
         ensures depth { length self.new.scopes ≡ length self.old.scopes }
         ensures outside { marked ≡ false → outside self.new.scopes ≡ outside self.old.scopes }
         ensures types { self.new.types ≡ self.old.types }
     {
-        let told = self
+        let stated = self
             .scopes
             .declare(alloc, name.text.as_slice(), entity, marked);
-        told_at(told, name.line)
+        fault_at(stated, name.line)
     }
 
     /// Declares a name in the scope round the innermost, where it must be new; where it is marked, in the scope round that one
@@ -210,15 +210,15 @@ impl Known {
         requires module { IsTrue marked → IsTrue (in_module (outside self.old.scopes)) }
         requires proper { Proper (environment self.old) }
         requires fits { EntityFits (environment self.old) entity }
-        ensures exact { Answers (λ _. environment self.new) result (round (spec.declare marked name.now entity) (environment self.old)) }
+        ensures exact { JudgedAnswers (λ _. environment self.new) result (round (spec.declare marked name.now entity) (environment self.old)) }
         ensures exporting { OnOk result (IsTrue marked → IsTrue (in_module (outside self.new.scopes))) }
         ensures proper { OnOk result (Proper (environment self.new)) }
         ensures depth { OnOk result (length self.new.scopes ≡ length self.old.scopes) }
     {
-        let told = self
+        let stated = self
             .scopes
             .declare_round(alloc, name.text.as_slice(), entity, marked);
-        told_at(told, name.line)
+        fault_at(stated, name.line)
     }
 
     /// Gives a name with what it means to the scope round the one round the innermost, which is that of a module. It must be new
@@ -232,15 +232,15 @@ impl Known {
         requires module { IsTrue (in_module (outside self.old.scopes)) }
         requires proper { Proper (environment self.old) }
         requires fits { EntityFits (environment self.old) entity }
-        ensures exact { Answers (λ _. environment self.new) result (round (spec.give_outside name.now entity) (environment self.old)) }
+        ensures exact { JudgedAnswers (λ _. environment self.new) result (round (spec.give_outside name.now entity) (environment self.old)) }
         ensures exporting { OnOk result (IsTrue (in_module (outside self.new.scopes))) }
         ensures proper { OnOk result (Proper (environment self.new)) }
         ensures depth { OnOk result (length self.new.scopes ≡ length self.old.scopes) }
     {
-        let told = self
+        let stated = self
             .scopes
             .export_round(alloc, name.text.as_slice(), entity);
-        told_at(told, name.line)
+        fault_at(stated, name.line)
     }
 
     /// What a type is; a number that is not in the table counts as `int`.
@@ -299,10 +299,10 @@ impl Known {
 }
 
 /// What an answer of the scopes is for a name on a line.
-fn told_at(told: Result<(), ScopeFault>, line: u16) -> Result<(), StaticFault>
-    ensures exact { result ≡ answers.told_at line told }
+fn fault_at(stated: Result<(), ScopeFault>, line: u16) -> Result<(), StaticFault>
+    ensures exact { result ≡ answers.fault_at line stated }
 {
-    match told {
+    match stated {
         Ok(()) => Ok(()),
         Err(ScopeFault::Ambiguous) => fault(StaticKind::Ambiguous, line),
         Err(ScopeFault::NoMemory) => Err(StaticFault::NoMemory),

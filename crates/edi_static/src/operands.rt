@@ -7,7 +7,7 @@ ghost use Rattle.edi_unit.specs.View.{expression_of, links_of};
 ghost use Rattle.edi_unit.specs.Tree as unit;
 ghost use Rattle.edi_static.specs.Judged.{gives};
 ghost use Rattle.edi_static.specs.Operators as spec;
-ghost use Rattle.edi_static.specs.Answers.{Answers};
+ghost use Rattle.edi_static.specs.Answers.{JudgedAnswers};
 ghost use Rattle.edi_static.specs.Views.{typed_of, linked_of};
 
 use crate::faults::{StaticFault, StaticKind};
@@ -105,7 +105,7 @@ fn takes(known: &Known, operator: Operator, left: u32, right: u32) -> bool
 
 /// A sign takes `int`; a leading `+` leaves nothing in the resolved program.
 pub fn signed(alloc: Global, sign: Option<Sign>, value: Typed) -> Result<Typed, StaticFault>
-    ensures exact { Answers typed_of result (spec.signed sign (typed_of value)) }
+    ensures exact { JudgedAnswers typed_of result (spec.signed sign (typed_of value)) }
 {
     match sign {
         None => Ok(value),
@@ -129,7 +129,7 @@ pub fn operated(
     left: u32,
     right: Typed,
 ) -> Result<Linked, StaticFault>
-    ensures exact { Answers linked_of result (spec.operated known.now.types operator line left (typed_of right)) }
+    ensures exact { JudgedAnswers linked_of result (spec.operated known.now.types operator line left (typed_of right)) }
 {
     let holds = takes(known, operator, left, right.of);
     must(holds, StaticKind::Types, line)?;
@@ -146,7 +146,7 @@ pub fn operated(
 
 /// A chain of at least one operator.
 fn chain(alloc: Global, first: Value, links: Links, of: u32) -> Result<Typed, StaticFault>
-    ensures exact { Answers typed_of result (gives (record { what = unit.chain (expression_of first) (links_of links); of = of })) }
+    ensures exact { JudgedAnswers typed_of result (gives (record { what = unit.chain (expression_of first) (links_of links); of = of })) }
 {
     let what = Value::Chain(boxed(alloc, first)?, links);
     Ok(Typed { what, of })
@@ -155,7 +155,7 @@ fn chain(alloc: Global, first: Value, links: Links, of: u32) -> Result<Typed, St
 /// A part without an operator is no chain.
 #[tactic(auto, using(crate::proofs::Lengths::no_chain, crate::proofs::Lengths::a_chain))]
 pub fn with_links(alloc: Global, first: Value, links: Links, of: u32) -> Result<Typed, StaticFault>
-    ensures exact { Answers typed_of result (gives (record { what = spec.chain_of (expression_of first) (links_of links); of = of })) }
+    ensures exact { JudgedAnswers typed_of result (gives (record { what = spec.chain_of (expression_of first) (links_of links); of = of })) }
 {
     if links.is_empty() {
         Ok(Typed { what: first, of })

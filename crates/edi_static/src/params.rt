@@ -5,7 +5,7 @@ ghost use Rattle.edi_scope.specs.Scope.{outside};
 ghost use Rattle.edi_tree.specs.Tree as text;
 ghost use Rattle.edi_tree.specs.View.{group_of, heading_of, more_params, param_of, params_of};
 ghost use Rattle.edi_unit.specs.Lists.{list_items};
-ghost use Rattle.edi_static.specs.Answers.{Answers};
+ghost use Rattle.edi_static.specs.Answers.{JudgedAnswers};
 ghost use Rattle.edi_static.specs.Headings as spec;
 ghost use Rattle.edi_static.specs.Judged.{gives};
 ghost use Rattle.edi_static.specs.Proper.{Proper};
@@ -42,7 +42,7 @@ fn owner_of(block: u32, heading: &Heading) -> Owner
 /// The number of the next parameter.
 #[tactic(auto, using(crate::proofs::Askings::parameters_counted))]
 fn next_parameter(owner: Owner, formals: &List<Formal>) -> Result<u32, StaticFault>
-    ensures exact { Answers (λ n. n) result (gives (spec.next_parameter owner.block owner.before (view.formals (map formal_of (list_items formals.now))))) }
+    ensures exact { JudgedAnswers (λ n. n) result (gives (spec.next_parameter owner.block owner.before (view.formals (map formal_of (list_items formals.now))))) }
 {
     number(formals.items().len() + owner.before as usize)
 }
@@ -59,7 +59,7 @@ fn parameter_named(
 ) -> Result<(), StaticFault>
     requires proper { Proper (environment known.old) }
     requires fits { of < length known.old.types }
-    ensures exact { Answers (λ _. listed_of known.new formals.new) result (spec.param_named owner.block owner.before of (spec.formal_one by_variable of) name.now (listed_of known.old formals.old)) }
+    ensures exact { JudgedAnswers (λ _. listed_of known.new formals.new) result (spec.param_named owner.block owner.before of (spec.formal_one by_variable of) name.now (listed_of known.old formals.old)) }
     ensures proper { OnOk result (Proper (environment known.new)) }
     ensures scope { outside known.new.scopes ≡ outside known.old.scopes }
     ensures depth { length known.new.scopes ≡ length known.old.scopes }
@@ -85,7 +85,7 @@ fn parameter_group(
     by_variable: bool,
 ) -> Result<(), StaticFault>
     requires proper { Proper (environment known.old) }
-    ensures exact { Answers (λ _. listed_of known.new formals.new) result (spec.param_group owner.block owner.before by_variable (group_of group.now) (listed_of known.old formals.old)) }
+    ensures exact { JudgedAnswers (λ _. listed_of known.new formals.new) result (spec.param_group owner.block owner.before by_variable (group_of group.now) (listed_of known.old formals.old)) }
     ensures proper { OnOk result (Proper (environment known.new)) }
     ensures scope { outside known.new.scopes ≡ outside known.old.scopes }
     ensures depth { length known.new.scopes ≡ length known.old.scopes }
@@ -109,7 +109,7 @@ fn procedure_parameter(
 ) -> Result<(), StaticFault>
     requires depth { 1 < length known.old.scopes }
     requires proper { Proper (environment known.old) }
-    ensures exact { Answers (λ _. listed_of known.new formals.new) result (spec.procedure_named owner.block owner.before name.now (view.formals (map formal_of (list_items formals.old))) (headed_of known.old asked)) }
+    ensures exact { JudgedAnswers (λ _. listed_of known.new formals.new) result (spec.procedure_named owner.block owner.before name.now (view.formals (map formal_of (list_items formals.old))) (headed_of known.old asked)) }
     ensures proper { OnOk result (Proper (environment known.new)) }
     ensures scope { OnOk result (outside known.new.scopes ≡ outside (outside known.old.scopes)) }
     ensures depth { OnOk result (suc (length known.new.scopes) ≡ length known.old.scopes) }
@@ -128,7 +128,7 @@ fn procedure_parameter(
 
 /// The type of the result, whose name is looked up from inside the heading's scope.
 fn result_named(known: &Known, of: &Option<Name>) -> Result<Option<u32>, StaticFault>
-    ensures exact { Answers (λ t. t) result (spec.result_named of.now (environment known.now)) }
+    ensures exact { JudgedAnswers (λ t. t) result (spec.result_named of.now (environment known.now)) }
 {
     match of {
         Some(name) => Ok(Some(known.type_named(name)?)),
@@ -144,7 +144,7 @@ pub fn heading_parts(
     heading: &Heading,
 ) -> Result<Asked, StaticFault>
     requires proper { Proper (environment known.old) }
-    ensures exact { Answers (headed_of known.new) result (spec.heading_parts block (heading_of heading.now) (environment known.old)) }
+    ensures exact { JudgedAnswers (headed_of known.new) result (spec.heading_parts block (heading_of heading.now) (environment known.old)) }
     ensures scope { OnOk result (outside known.new.scopes ≡ known.old.scopes) }
     ensures depth { OnOk result (length known.new.scopes ≡ suc (length known.old.scopes)) }
     ensures proper { OnOk result (Proper (environment known.new)) }
@@ -160,7 +160,7 @@ fn parts_of(
     block: u32,
 ) -> Result<Asked, StaticFault>
     requires proper { Proper (environment known.old) }
-    ensures exact { Answers (headed_of known.new) result (spec.heading_parts block (heading_of heading.now) (environment known.old)) }
+    ensures exact { JudgedAnswers (headed_of known.new) result (spec.heading_parts block (heading_of heading.now) (environment known.old)) }
     ensures scope { OnOk result (outside known.new.scopes ≡ known.old.scopes) }
     ensures depth { OnOk result (length known.new.scopes ≡ suc (length known.old.scopes)) }
     ensures proper { OnOk result (Proper (environment known.new)) }
@@ -184,7 +184,7 @@ fn parameters(
 ) -> Result<(), StaticFault>
     requires inside { 0 < length known.old.scopes }
     requires proper { Proper (environment known.old) }
-    ensures exact { Answers (λ _. listed_of known.new formals.new) result (spec.more_parameters owner.block owner.before (more_params (map param_of params.now)) (listed_of known.old formals.old)) }
+    ensures exact { JudgedAnswers (λ _. listed_of known.new formals.new) result (spec.more_parameters owner.block owner.before (more_params (map param_of params.now)) (listed_of known.old formals.old)) }
     ensures scope { OnOk result (outside known.new.scopes ≡ outside known.old.scopes) }
     ensures depth { OnOk result (length known.new.scopes ≡ length known.old.scopes) }
     ensures proper { OnOk result (Proper (environment known.new)) }
@@ -205,7 +205,7 @@ fn parameter(
 ) -> Result<(), StaticFault>
     requires inside { 0 < length known.old.scopes }
     requires proper { Proper (environment known.old) }
-    ensures exact { Answers (λ _. listed_of known.new formals.new) result (spec.parameter owner.block owner.before (param_of param.now) (listed_of known.old formals.old)) }
+    ensures exact { JudgedAnswers (λ _. listed_of known.new formals.new) result (spec.parameter owner.block owner.before (param_of param.now) (listed_of known.old formals.old)) }
     ensures scope { OnOk result (outside known.new.scopes ≡ outside known.old.scopes) }
     ensures depth { OnOk result (length known.new.scopes ≡ length known.old.scopes) }
     ensures proper { OnOk result (Proper (environment known.new)) }

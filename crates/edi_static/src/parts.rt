@@ -3,7 +3,7 @@
 ghost use Rattle.std.specs.Prelude.{◌≡◌, map, slice_index_or, [], unwrap_or};
 ghost use Rattle.edi_unit.specs.Types as types;
 ghost use Rattle.edi_unit.specs.ShapeView.{shape_of};
-ghost use Rattle.edi_static.specs.Answers.{Answers};
+ghost use Rattle.edi_static.specs.Answers.{JudgedAnswers};
 ghost use Rattle.edi_static.specs.Expressions as rule;
 ghost use Rattle.edi_static.specs.Fitting as spec;
 ghost use Rattle.edi_static.specs.Views.{environment, parted_of, typed_of};
@@ -77,7 +77,7 @@ fn field_at(
     name: &Name,
     place: Option<usize>,
 ) -> Result<Parted, StaticFault>
-    ensures exact { Answers parted_of result (rule.field_at (environment known.now) of name.now place) }
+    ensures exact { JudgedAnswers parted_of result (rule.field_at (environment known.now) of name.now place) }
 {
     match place {
         Some(place) => Ok(Parted {
@@ -90,7 +90,7 @@ fn field_at(
 
 /// The field of a record.
 pub fn field_of(known: &Known, line: u16, of: u32, name: &Name) -> Result<Parted, StaticFault>
-    ensures exact { Answers parted_of result (rule.field_of (environment known.now) line of name.now) }
+    ensures exact { JudgedAnswers parted_of result (rule.field_of (environment known.now) line of name.now) }
 {
     must(is_record(known.shape(of)), StaticKind::Types, line)?;
     field_at(
@@ -109,7 +109,7 @@ pub fn element_of(
     of: u32,
     index: Typed,
 ) -> Result<Parted, StaticFault>
-    ensures exact { Answers parted_of result (rule.element_of (environment known.now) line of (typed_of index)) }
+    ensures exact { JudgedAnswers parted_of result (rule.element_of (environment known.now) line of (typed_of index)) }
 {
     let holds = is_indexed_by(known.shape(of), index.of);
     must(holds, StaticKind::Types, line)?;

@@ -6,7 +6,7 @@ ghost use Rattle.std.specs.Str.{bytes_eq};
 ghost use Rattle.edi_tree.specs.Tree as text;
 ghost use Rattle.edi_tree.specs.View.{group_of, groups_of};
 ghost use Rattle.edi_unit.specs.Lists.{list_items};
-ghost use Rattle.edi_static.specs.Answers.{Answers};
+ghost use Rattle.edi_static.specs.Answers.{JudgedAnswers};
 ghost use Rattle.edi_static.specs.Proper.{Proper};
 ghost use Rattle.edi_static.specs.Types as spec;
 ghost use Rattle.edi_static.specs.Views.{environment};
@@ -51,7 +51,7 @@ fn spelling(alloc: Global, name: &[u8]) -> Result<Vec<u8>, StaticFault>
 impl Fields {
     /// A field's name must be new in its record.
     fn add(&mut self, alloc: Global, name: &Name, of: u32) -> Result<(), StaticFault>
-        ensures exact { Answers (λ _. view.fields_of self.new) result (spec.field_named of name.now (view.fields_of self.old)) }
+        ensures exact { JudgedAnswers (λ _. view.fields_of self.new) result (spec.field_named of name.now (view.fields_of self.old)) }
         ensures types { OnOk result (list_items self.new.types ≡ list_items self.old.types ++ of ∷ []) }
     {
         if has_field(self.names.as_slice(), name.text.as_slice()) {
@@ -66,7 +66,7 @@ impl Fields {
     fn add_group(&mut self, known: &Known, alloc: Global, group: &Group) -> Result<(), StaticFault>
         requires proper { Proper (environment known.now) }
         requires known { All (λ t. t < length known.now.types) (list_items self.old.types) }
-        ensures exact { Answers (λ _. view.fields_of self.new) result (spec.fields_of_group (environment known.now) (group_of group.now) (view.fields_of self.old)) }
+        ensures exact { JudgedAnswers (λ _. view.fields_of self.new) result (spec.fields_of_group (environment known.now) (group_of group.now) (view.fields_of self.old)) }
         ensures known { OnOk result (All (λ t. t < length known.now.types) (list_items self.new.types)) }
     {
         let of = known.type_named(&group.type_name)?;
@@ -85,7 +85,7 @@ pub(crate) fn fields_of(
     declared: &Record,
 ) -> Result<Fields, StaticFault>
     requires proper { Proper (environment known.now) }
-    ensures exact { Answers view.fields_of result (spec.fields_of_groups (environment known.now) (text.next_group (group_of declared.now.first) (groups_of declared.now.more)) spec.no_fields) }
+    ensures exact { JudgedAnswers view.fields_of result (spec.fields_of_groups (environment known.now) (text.next_group (group_of declared.now.first) (groups_of declared.now.more)) spec.no_fields) }
     ensures known { IfOk result (λ fields. All (λ t. t < length known.now.types) (list_items fields.types)) }
 {
     let mut fields = Fields {

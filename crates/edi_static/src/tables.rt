@@ -11,7 +11,7 @@ ghost use Rattle.edi_static.specs.Judged.{gives};
 ghost use Rattle.edi_static.specs.Environment as spec;
 ghost use Rattle.edi_static.specs.Declarations.{with_heading};
 ghost use Rattle.edi_static.specs.Proper.{Proper};
-ghost use Rattle.edi_static.specs.Answers.{Answers};
+ghost use Rattle.edi_static.specs.Answers.{JudgedAnswers};
 ghost use Rattle.edi_static.specs.Views.{environment, asked_of};
 
 use crate::faults::StaticFault;
@@ -50,7 +50,7 @@ fn add_variable_to(
     of: u32,
 ) -> Result<(), StaticFault>
     requires inside { at < vec_len blocks.old }
-    ensures exact { Answers (λ _. map block_of blocks.new.items) result (gives (slice_set (map block_of blocks.old.items) at (spec.with_variable of (block_at (map block_of blocks.old.items) at)))) }
+    ensures exact { JudgedAnswers (λ _. map block_of blocks.new.items) result (gives (slice_set (map block_of blocks.old.items) at (spec.with_variable of (block_at (map block_of blocks.old.items) at)))) }
     ensures len { vec_len blocks.new ≡ vec_len blocks.old }
 {
     add(&mut blocks[at].variables, alloc, of)?;
@@ -87,7 +87,7 @@ impl Known {
     ) -> Result<(), StaticFault>
         requires declarable { IsDeclarable self.old.types (shape_of shape) }
         requires proper { Proper (environment self.old) }
-        ensures exact { Answers (λ _. environment self.new) result (gives (spec.with_type (shape_of shape) (map (λ name. name.items) names.items) (environment self.old))) }
+        ensures exact { JudgedAnswers (λ _. environment self.new) result (gives (spec.with_type (shape_of shape) (map (λ name. name.items) names.items) (environment self.old))) }
         ensures proper { OnOk result (Proper (environment self.new)) }
         ensures scopes { self.new.scopes ≡ self.old.scopes }
         ensures types { OnOk result (self.new.types ≡ self.old.types ++ shape_of shape ∷ []) }
@@ -103,7 +103,7 @@ impl Known {
 
     /// The number of the next variable of the block in which this place stands.
     pub fn next_variable(&self) -> Result<u32, StaticFault>
-        ensures exact { Answers (λ n. n) result (gives (spec.next_variable (environment self.now))) }
+        ensures exact { JudgedAnswers (λ n. n) result (gives (spec.next_variable (environment self.now))) }
     {
         match self.blocks.get(self.here() as usize) {
             Some(block) => {
@@ -117,7 +117,7 @@ impl Known {
     /// One more declared variable of the block in which this place stands.
     pub fn add_variable(&mut self, alloc: Global, of: u32) -> Result<(), StaticFault>
         requires proper { Proper (environment self.old) }
-        ensures exact { Answers (λ _. environment self.new) result (gives (spec.set_block (spec.here (environment self.old))
+        ensures exact { JudgedAnswers (λ _. environment self.new) result (gives (spec.set_block (spec.here (environment self.old))
             (spec.with_variable of (block_at (environment self.old).blocks (spec.here (environment self.old)))) (environment self.old))) }
         ensures proper { OnOk result (Proper (environment self.new)) }
         ensures scopes { self.new.scopes ≡ self.old.scopes }
@@ -140,7 +140,7 @@ impl Known {
         asked: Asked,
     ) -> Result<(), StaticFault>
         requires proper { Proper (environment self.old) }
-        ensures exact { Answers (λ _. environment self.new) result (gives (spec.with_block
+        ensures exact { JudgedAnswers (λ _. environment self.new) result (gives (spec.with_block
             (spec.begun_block kind (spec.here (environment self.old)) (heading_result (asked_of asked)) (list_items parameters))
             (asked_of asked) (environment self.old))) }
         ensures proper { OnOk result (Proper (environment self.new)) }
@@ -161,7 +161,7 @@ impl Known {
     /// Keeps the heading of a procedure parameter.
     pub fn keep_shape(&mut self, alloc: Global, asked: &Asked) -> Result<(), StaticFault>
         requires proper { Proper (environment self.old) }
-        ensures exact { Answers (λ _. environment self.new) result (gives (spec.with_shape (asked_of asked.now) (environment self.old))) }
+        ensures exact { JudgedAnswers (λ _. environment self.new) result (gives (spec.with_shape (asked_of asked.now) (environment self.old))) }
         ensures proper { OnOk result (Proper (environment self.new)) }
         ensures scopes { self.new.scopes ≡ self.old.scopes }
         ensures shapes { OnOk result (length self.new.shapes.items ≡ length self.old.shapes.items + 1) }
@@ -180,7 +180,7 @@ impl Known {
         asked: Asked,
     ) -> Result<(), StaticFault>
         requires proper { Proper (environment self.old) }
-        ensures exact { Answers (λ _. environment self.new) result (gives (with_heading kind (record { env = environment self.old; asks = asked_of asked }))) }
+        ensures exact { JudgedAnswers (λ _. environment self.new) result (gives (with_heading kind (record { env = environment self.old; asks = asked_of asked }))) }
         ensures proper { OnOk result (Proper (environment self.new)) }
     {
         match kept_parameters(alloc, &asked) {

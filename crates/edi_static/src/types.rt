@@ -7,7 +7,7 @@ ghost use Rattle.edi_tree.specs.Tree as text;
 ghost use Rattle.edi_tree.specs.View.{names, group_of, groups_of, type_decl_of};
 ghost use Rattle.edi_unit.specs.ShapeView.{shape_of};
 ghost use Rattle.edi_unit.specs.Types.{is_elementary, named_types, ordinal_types, HasOrderedBounds};
-ghost use Rattle.edi_static.specs.Answers.{Answers};
+ghost use Rattle.edi_static.specs.Answers.{JudgedAnswers};
 ghost use Rattle.edi_static.specs.Proper.{Proper};
 ghost use Rattle.edi_static.specs.Types as spec;
 ghost use Rattle.edi_static.specs.Views.{environment};
@@ -36,7 +36,7 @@ fn enum_constant(
     requires exporting { IsTrue marked → IsTrue (in_module known.old.scopes) }
     requires proper { Proper (environment known.old) }
     requires fits { (of < length known.old.types) × IsTrue (is_elementary known.old.types of) }
-    ensures exact { Answers (λ _. environment known.new) result (spec.enum_constant marked of ordinal name.now (environment known.old)) }
+    ensures exact { JudgedAnswers (λ _. environment known.new) result (spec.enum_constant marked of ordinal name.now (environment known.old)) }
     ensures exporting { IsTrue marked → IsTrue (in_module known.new.scopes) }
     ensures proper { OnOk result (Proper (environment known.new)) }
     ensures depth { length known.new.scopes ≡ length known.old.scopes }
@@ -61,7 +61,7 @@ fn enum_constants(
     requires exporting { IsTrue marked → IsTrue (in_module known.old.scopes) }
     requires proper { Proper (environment known.old) }
     requires fits { (of < length known.old.types) × IsTrue (is_elementary known.old.types of) }
-    ensures exact { Answers (λ _. environment known.new) result (spec.enum_constants marked of 0 (text.next_name declared.now.first (names (items_of declared.now.more))) (environment known.old)) }
+    ensures exact { JudgedAnswers (λ _. environment known.new) result (spec.enum_constants marked of 0 (text.next_name declared.now.first (names (items_of declared.now.more))) (environment known.old)) }
     ensures exporting { IsTrue marked → IsTrue (in_module known.new.scopes) }
     ensures proper { OnOk result (Proper (environment known.new)) }
     ensures depth { length known.new.scopes ≡ length known.old.scopes }
@@ -84,7 +84,7 @@ fn enum_decl(
 ) -> Result<(), StaticFault>
     requires exporting { IsTrue marked → IsTrue (in_module known.old.scopes) }
     requires proper { Proper (environment known.old) }
-    ensures exact { Answers (λ _. environment known.new) result (spec.enum_decl marked declared.now.name (text.next_name declared.now.first (names (items_of declared.now.more))) (environment known.old)) }
+    ensures exact { JudgedAnswers (λ _. environment known.new) result (spec.enum_decl marked declared.now.name (text.next_name declared.now.first (names (items_of declared.now.more))) (environment known.old)) }
     ensures exporting { IsTrue marked → IsTrue (in_module known.new.scopes) }
     ensures proper { OnOk result (Proper (environment known.new)) }
     ensures depth { length known.new.scopes ≡ length known.old.scopes }
@@ -110,7 +110,7 @@ fn declare_type(
     requires named { All (λ t. t < length known.old.types) (named_types (shape_of shape)) }
     requires elementary { All (λ t. IsTrue (is_elementary known.old.types t)) (ordinal_types (shape_of shape)) }
     requires ordered { HasOrderedBounds (shape_of shape) }
-    ensures exact { Answers (λ _. environment known.new) result (spec.declare_type marked name.now (shape_of shape) (map (λ field. field.items) fields.items) (environment known.old)) }
+    ensures exact { JudgedAnswers (λ _. environment known.new) result (spec.declare_type marked name.now (shape_of shape) (map (λ field. field.items) fields.items) (environment known.old)) }
     ensures exporting { IsTrue marked → IsTrue (in_module known.new.scopes) }
     ensures proper { OnOk result (Proper (environment known.new)) }
     ensures depth { length known.new.scopes ≡ length known.old.scopes }
@@ -131,7 +131,7 @@ fn record_decl(
 ) -> Result<(), StaticFault>
     requires exporting { IsTrue marked → IsTrue (in_module known.old.scopes) }
     requires proper { Proper (environment known.old) }
-    ensures exact { Answers (λ _. environment known.new) result (spec.type_decl marked (text.record_decl declared.now.name (group_of declared.now.first) (groups_of declared.now.more)) (environment known.old)) }
+    ensures exact { JudgedAnswers (λ _. environment known.new) result (spec.type_decl marked (text.record_decl declared.now.name (group_of declared.now.first) (groups_of declared.now.more)) (environment known.old)) }
     ensures exporting { IsTrue marked → IsTrue (in_module known.new.scopes) }
     ensures proper { OnOk result (Proper (environment known.new)) }
     ensures depth { length known.new.scopes ≡ length known.old.scopes }
@@ -150,7 +150,7 @@ fn array_decl(
 ) -> Result<(), StaticFault>
     requires exporting { IsTrue marked → IsTrue (in_module known.old.scopes) }
     requires proper { Proper (environment known.old) }
-    ensures exact { Answers (λ _. environment known.new) result (spec.array_decl marked declared.now.name declared.now.lower declared.now.upper declared.now.element (environment known.old)) }
+    ensures exact { JudgedAnswers (λ _. environment known.new) result (spec.array_decl marked declared.now.name declared.now.lower declared.now.upper declared.now.element (environment known.old)) }
     ensures exporting { IsTrue marked → IsTrue (in_module known.new.scopes) }
     ensures proper { OnOk result (Proper (environment known.new)) }
     ensures depth { length known.new.scopes ≡ length known.old.scopes }
@@ -182,7 +182,7 @@ fn set_decl(
 ) -> Result<(), StaticFault>
     requires exporting { IsTrue marked → IsTrue (in_module known.old.scopes) }
     requires proper { Proper (environment known.old) }
-    ensures exact { Answers (λ _. environment known.new) result (spec.set_decl marked declared.now.name declared.now.base (environment known.old)) }
+    ensures exact { JudgedAnswers (λ _. environment known.new) result (spec.set_decl marked declared.now.name declared.now.base (environment known.old)) }
     ensures exporting { IsTrue marked → IsTrue (in_module known.new.scopes) }
     ensures proper { OnOk result (Proper (environment known.new)) }
     ensures depth { length known.new.scopes ≡ length known.old.scopes }
@@ -210,7 +210,7 @@ pub fn type_decl(
 ) -> Result<(), StaticFault>
     requires exporting { IsTrue marked → IsTrue (in_module known.old.scopes) }
     requires proper { Proper (environment known.old) }
-    ensures exact { Answers (λ _. environment known.new) result (spec.type_decl marked (type_decl_of declared.now) (environment known.old)) }
+    ensures exact { JudgedAnswers (λ _. environment known.new) result (spec.type_decl marked (type_decl_of declared.now) (environment known.old)) }
     ensures exporting { IsTrue marked → IsTrue (in_module known.new.scopes) }
     ensures proper { OnOk result (Proper (environment known.new)) }
     ensures depth { length known.new.scopes ≡ length known.old.scopes }

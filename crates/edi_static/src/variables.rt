@@ -3,7 +3,7 @@
 ghost use Rattle.std.specs.Prelude.{◌≡◌, ◌<◌, IsTrue, OnOk, length};
 ghost use Rattle.edi_scope.specs.Scope.{in_module};
 ghost use Rattle.edi_tree.specs.View.{group_of, var_list_of};
-ghost use Rattle.edi_static.specs.Answers.{Answers};
+ghost use Rattle.edi_static.specs.Answers.{JudgedAnswers};
 ghost use Rattle.edi_static.specs.Proper.{Proper};
 ghost use Rattle.edi_static.specs.Types as spec;
 ghost use Rattle.edi_static.specs.Views.{environment};
@@ -25,7 +25,7 @@ fn variable_decl(
     requires exporting { IsTrue marked → IsTrue (in_module known.old.scopes) }
     requires proper { Proper (environment known.old) }
     requires fits { of < length known.old.types }
-    ensures exact { Answers (λ _. environment known.new) result (spec.variable_decl marked of name.now (environment known.old)) }
+    ensures exact { JudgedAnswers (λ _. environment known.new) result (spec.variable_decl marked of name.now (environment known.old)) }
     ensures exporting { IsTrue marked → IsTrue (in_module known.new.scopes) }
     ensures proper { OnOk result (Proper (environment known.new)) }
     ensures depth { length known.new.scopes ≡ length known.old.scopes }
@@ -49,7 +49,7 @@ fn variable_group(
 ) -> Result<(), StaticFault>
     requires exporting { IsTrue marked → IsTrue (in_module known.old.scopes) }
     requires proper { Proper (environment known.old) }
-    ensures exact { Answers (λ _. environment known.new) result (spec.variables_of_group marked (group_of group.now) (environment known.old)) }
+    ensures exact { JudgedAnswers (λ _. environment known.new) result (spec.variables_of_group marked (group_of group.now) (environment known.old)) }
     ensures exporting { IsTrue marked → IsTrue (in_module known.new.scopes) }
     ensures proper { OnOk result (Proper (environment known.new)) }
     ensures depth { length known.new.scopes ≡ length known.old.scopes }
@@ -71,7 +71,7 @@ pub fn var_list(
 ) -> Result<(), StaticFault>
     requires exporting { IsTrue marked → IsTrue (in_module known.old.scopes) }
     requires proper { Proper (environment known.old) }
-    ensures exact { Answers (λ _. environment known.new) result (spec.var_list marked (var_list_of list.now) (environment known.old)) }
+    ensures exact { JudgedAnswers (λ _. environment known.new) result (spec.var_list marked (var_list_of list.now) (environment known.old)) }
     ensures exporting { IsTrue marked → IsTrue (in_module known.new.scopes) }
     ensures proper { OnOk result (Proper (environment known.new)) }
     ensures depth { length known.new.scopes ≡ length known.old.scopes }

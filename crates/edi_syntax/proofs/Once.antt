@@ -2,7 +2,7 @@
 use Rattle.std.proofs.Common.{◌≡◌, ℕ, ◌≤◌, List, [], ◌∷◌, ◌++◌, length, Option, Some, Result, Err, Bool, true, false, refl, sym, ap, ◌∙◌, subst, arith, append_assoc, ◌⊎◌, inl, inr}
 use Rattle.edi_lex.specs.declared.symbol.Mark.{Mark}
 use Rattle.edi_tree.specs.Tree.{Program}
-use Rattle.edi_tree.specs.Spells.{Spells, Begins}
+use Rattle.edi_tree.specs.Spells.{Spells, ProgramBegins}
 use Rattle.edi_tree.specs.Depth.{depth}
 use Rattle.edi_derivation.specs.Faults.{somes, AreShallow, IsMisplaced, IsTooDeepAt}
 use Rattle.edi_syntax.specs.Refusal.{line_of, is_outside, IsWrong, IsSyntaxFault, Refuses}
@@ -37,9 +37,9 @@ same_deep marks u v m n p q = by (apart u v (Some m) (Some n) p.place.0 q.place.
 not_both : (marks u v : List Mark) (a : Option Mark) (m : Mark) → IsMisplaced marks u a → IsTooDeepAt marks v m → ⊥
 not_both marks u v a m p q = by (apart u v a (Some m) p.place.0 q.place.0 (sym p.place.1 ∙ q.place.1)) where
   by : ((u ≡ v) × (a ≡ Some m)) ⊎ (IsBehind u a v ⊎ IsBehind v (Some m) u) → ⊥
-  by (inl h) = p.fails (subst (λ o. Begins (somes u ++ o ∷ [])) (sym h.1) (subst (λ l. Begins (somes l ++ Some m ∷ [])) (sym h.0) q.begins))
+  by (inl h) = p.fails (subst (λ o. ProgramBegins (somes u ++ o ∷ [])) (sym h.1) (subst (λ l. ProgramBegins (somes l ++ Some m ∷ [])) (sym h.0) q.begins))
   by (inr (inl h)) = p.fails (front_begins u v a h (begins_less q.begins)) where
-    begins_less : Begins (somes v ++ Some m ∷ []) → Begins (somes v)
+    begins_less : ProgramBegins (somes v ++ Some m ∷ []) → ProgramBegins (somes v)
     begins_less b = (b.0, b.1, Some m ∷ b.2, b.3, b.4 ∙ append_assoc (somes v) (Some m ∷ []) b.2)
   by (inr (inr h)) = not_before v u m marks q p.shallow h
 

@@ -3,7 +3,7 @@ use Rattle.std.proofs.Common.{◌≡◌, ℕ, suc, ◌≤◌, List, [], ◌∷�
 use Rattle.edi_lex.specs.declared.symbol.Mark.{Mark}
 use Rattle.edi_tree.specs.Tree.{Program}
 use Rattle.edi_tree.specs.Spelled.{Spelled}
-use Rattle.edi_tree.specs.Spells.{Stands, Stand, Spells, to_end, Begins}
+use Rattle.edi_tree.specs.Spells.{StandsAsMark, StandAsMarks, Spells, to_end, ProgramBegins}
 use Rattle.edi_tree.specs.Levels.{Element, mark, level_end, marks_among, elements, opens, with_symbol, one_less, level_behind, greatest_level, Level}
 use Rattle.edi_tree.specs.Depth.{depth}
 use Rattle.edi_tree.proofs.Greatest.{greatest_is_depth}
@@ -15,7 +15,7 @@ somes_both [] v = refl
 somes_both (a ∷ u) v = ap (λ l. Some a ∷ l) (somes_both u v)
 
 -- what begins with what begins a program begins one
-pub begins_front : (u v : List (Option Mark)) → Begins (u ++ v) → Begins u
+pub begins_front : (u v : List (Option Mark)) → ProgramBegins (u ++ v) → ProgramBegins u
 begins_front u v b = (b.0, b.1, v ++ b.2, b.3, b.4 ∙ append_assoc u v b.2)
 
 -- the place of the other is behind the mark at this place
@@ -38,10 +38,10 @@ apart (c ∷ u) (d ∷ v) a b x y e =
       further same (inr (inr h)) = inr (inr (h.0, h.1, h.2, ap (λ l. c ∷ l) h.3 ∙ ap (λ m. m ∷ (v ++ h.0 ∷ h.1)) same))
 
 -- the marks up to the place of another one begin the marks before that
-pub front_begins : (before other : List Mark) (here : Option Mark) → IsBehind before here other → Begins (somes other) → Begins (somes before ++ here ∷ [])
+pub front_begins : (before other : List Mark) (here : Option Mark) → IsBehind before here other → ProgramBegins (somes other) → ProgramBegins (somes before ++ here ∷ [])
 front_begins before other here h b =
     let whole : somes other ≡ (somes before ++ here ∷ []) ++ somes h.1 = ap somes h.3 ∙ somes_both before (h.0 ∷ h.1) ∙ ap (λ o. somes before ++ o ∷ somes h.1) (sym h.2) ∙ sym (append_assoc (somes before) (here ∷ []) (somes h.1)) in
-    begins_front (somes before ++ here ∷ []) (somes h.1) (subst (λ l. Begins l) whole b)
+    begins_front (somes before ++ here ∷ []) (somes h.1) (subst (λ l. ProgramBegins l) whole b)
 
 -- elements whose marks are these, cut before a mark
 pub record Cut (es : List Element) (front : List Mark) (m : Mark) : Type 0 where
@@ -49,27 +49,27 @@ pub record Cut (es : List Element) (front : List Mark) (m : Mark) : Type 0 where
   pub s : Spelled
   pub after : List Element
   pub cut : es ≡ before ++ mark s ∷ after
-  pub stand : Stand (marks_among before) front
-  pub stands : Stands s m
+  pub stand : StandAsMarks (marks_among before) front
+  pub stands : StandsAsMark s m
 
 behind_end : {es : List Element} {front : List Mark} {m : Mark} → Cut es front m → Cut (level_end ∷ es) front m
 behind_end c = record { before = level_end ∷ c.before; s = c.s; after = c.after; cut = ap (λ l. level_end ∷ l) c.cut; stand = c.stand; stands = c.stands }
 
-behind_mark : {es : List Element} {front : List Mark} {m : Mark} (s : Spelled) (b : Mark) → Stands s b → Cut es front m → Cut (mark s ∷ es) (b ∷ front) m
+behind_mark : {es : List Element} {front : List Mark} {m : Mark} (s : Spelled) (b : Mark) → StandsAsMark s b → Cut es front m → Cut (mark s ∷ es) (b ∷ front) m
 behind_mark s b st c = record { before = mark s ∷ c.before; s = c.s; after = c.after; cut = ap (λ l. mark s ∷ l) c.cut; stand = (st, c.stand); stands = c.stands }
 
-pub cut_of : (es : List Element) (marks front : List Mark) (m : Mark) (rest : List (Option Mark)) → Stand (marks_among es) marks → to_end marks ≡ somes front ++ Some m ∷ rest → Cut es front m
+pub cut_of : (es : List Element) (marks front : List Mark) (m : Mark) (rest : List (Option Mark)) → StandAsMarks (marks_among es) marks → to_end marks ≡ somes front ++ Some m ∷ rest → Cut es front m
 cut_of [] [] [] m rest h e = cc
 cut_of [] [] (b ∷ front) m rest h e = cc
 cut_of [] (c ∷ marks) front m rest h e = absurd h
 cut_of (level_end ∷ es) marks front m rest h e = behind_end (cut_of es marks front m rest h e)
 cut_of (mark s ∷ es) [] front m rest h e = absurd h
-cut_of (mark s ∷ es) (c ∷ marks) [] m rest h e = let same : c ≡ m = cc in record { before = []; s = s; after = es; cut = refl; stand = tt; stands = subst (λ m. Stands s m) same h.0 }
+cut_of (mark s ∷ es) (c ∷ marks) [] m rest h e = let same : c ≡ m = cc in record { before = []; s = s; after = es; cut = refl; stand = tt; stands = subst (λ m. StandsAsMark s m) same h.0 }
 cut_of (mark s ∷ es) (c ∷ marks) (b ∷ front) m rest h e =
     let heads : Some c ∷ to_end marks ≡ Some b ∷ (somes front ++ Some m ∷ rest) = e in
     let same : c ≡ b = cc in
     let less : to_end marks ≡ somes front ++ Some m ∷ rest = cc in
-    behind_mark s b (subst (λ m. Stands s m) same h.0) (cut_of es marks front m rest h.1 less)
+    behind_mark s b (subst (λ m. StandsAsMark s m) same h.0) (cut_of es marks front m rest h.1 less)
 
 -- a level in this tree
 abbrev pub LevelIn : Program → List Mark → Mark → Type 0
@@ -96,5 +96,5 @@ level_in tree marks front m rest h e =
     (level_behind 0 (c.before ++ mark c.s ∷ []), (tree, c.before, c.s, c.after, c.cut, c.stand, c.stands, refl), small)
 
 -- what begins a program has a level at its last mark
-pub level_of : (front : List Mark) (m : Mark) → Begins (somes front ++ Some m ∷ []) → (level : ℕ) × Level front m level
+pub level_of : (front : List Mark) (m : Mark) → ProgramBegins (somes front ++ Some m ∷ []) → (level : ℕ) × Level front m level
 level_of front m b = let l = level_in b.0 b.1 front m b.2 b.3 (b.4 ∙ append_assoc (somes front) (Some m ∷ []) b.2) in (l.0, l.1)

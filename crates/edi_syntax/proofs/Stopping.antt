@@ -7,7 +7,7 @@ use Rattle.edi_lex.specs.declared.symbol.Mark.{Mark}
 use Rattle.edi_lex.specs.Order.{is_orderly, size_of, extent}
 use Rattle.edi_lex.specs.Spelling.{is_spelled, are_spelled}
 use Rattle.edi_tree.specs.Tree.{Program}
-use Rattle.edi_tree.specs.Spells.{Stand, Spells, to_end, IsHeld}
+use Rattle.edi_tree.specs.Spells.{StandAsMarks, Spells, to_end, IsBounded}
 use Rattle.edi_tree.specs.Levels.{Element, marks_among, elements}
 use Rattle.edi_grammar.specs.Grammar.{token}
 use Rattle.edi_grammar.specs.Parser.{complete, wrong, too_deep, Stops, done, taken, other}
@@ -88,7 +88,7 @@ ends_behind f marks (r ∷ rest) p some = ends_wrong marks (r ∷ rest) (p.at (t
 pub whole : (f : List Element → List Element) (marks rest : List Mark) (tree : Program) → Passes g.Program 0 f marks rest → length rest ≡ 0 → f [] ≡ elements tree → IsTheTree marks tree
 whole f marks (r ∷ rest) tree p none same = absurd (omega (arith, none))
 whole f marks [] tree p none same =
-    whole_tree marks tree (elements_spelled tree marks (subst (λ es. Stand (marks_among es) marks) same (p.reads [] tt))) (p.at (token kind.End_of_text ∷ []) complete [] refl (taken kind.End_of_text None [] [] [] complete refl (λ o. let no : false ≡ true = o in absurd (cc)) (done [])))
+    whole_tree marks tree (elements_spelled tree marks (subst (λ es. StandAsMarks (marks_among es) marks) same (p.reads [] tt))) (p.at (token kind.End_of_text ∷ []) complete [] refl (taken kind.End_of_text None [] [] [] complete refl (λ o. let no : false ≡ true = o in absurd (cc)) (done [])))
 
 -- ---- the symbols
 
@@ -110,5 +110,5 @@ few_marks (m ∷ marks) e = omega (arith, sum_by-cons (λ (n : Mark). size_of n.
   and_right false b e = cc
 
 -- a tree of what symbols hold is held
-pub is_held : (marks given : List Mark) (last : ℕ) (tree : Program) → given ≡ marks → IsTheTree given tree → are_spelled marks ≡ true → is_orderly 1 marks last ≡ true → extent marks ≤ 262144 → last < 2 ^ 16 → IsHeld tree
-is_held marks given last tree same t letters lines few small = record { marks = marks; last = last; spells = subst (λ l. Spells tree l) same t.spells; held = record { spelled = letters; orderly = lines; few = few; bounded = small } }
+pub tree_is_bounded : (marks given : List Mark) (last : ℕ) (tree : Program) → given ≡ marks → IsTheTree given tree → are_spelled marks ≡ true → is_orderly 1 marks last ≡ true → extent marks ≤ 262144 → last < 2 ^ 16 → IsBounded tree
+tree_is_bounded marks given last tree same t letters lines few small = record { marks = marks; last = last; spells = subst (λ l. Spells tree l) same t.spells; is_bounded = record { spelled = letters; orderly = lines; few = few; bounded = small } }

@@ -1,4 +1,4 @@
--- Where the parsing of a whole program ends.
+-- Words of contracts. Where the parsing of a whole program ends.
 use Rattle.std.specs.Prelude.{◌≡◌, List, [], ◌∷◌, ◌++◌, Option, Some, None}
 use Rattle.edi_lex.specs.declared.symbol.Mark.{Mark}
 use Rattle.edi_derivation.specs.Faults.{IsMisplaced, IsTooDeepAt}

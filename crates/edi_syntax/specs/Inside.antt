@@ -1,4 +1,4 @@
--- Whether a `begin` stands in marks whose closing `end` does not.
+-- Definition. Whether a `begin` stands in marks whose closing `end` does not.
 use Rattle.std.specs.Prelude.{ℕ, zero, suc, Bool, true, false, List, [], ◌∷◌, ◌||◌, if◌then◌else◌}
 use Rattle.edi_lex.specs.declared.symbol.Symbol.{Symbol}
 use Rattle.edi_lex.specs.declared.symbol.Symbol.TheVariants as is

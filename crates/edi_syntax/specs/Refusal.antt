@@ -1,4 +1,4 @@
--- The syntax fault of marks: the first place where they are no program, or open a 65th level.
+-- Definition. The syntax fault of marks: the first place where they are no program, or open a 65th level.
 use Rattle.std.specs.Prelude.{◌≡◌, ℕ, Bool, true, false, List, length, Option, Some, None}
 use Rattle.edi_lex.specs.declared.symbol.Symbol.{Symbol}
 use Rattle.edi_lex.specs.declared.symbol.Symbol.TheVariants as is

@@ -9,7 +9,7 @@ use Rattle.edi_catalog.specs.Files.{entry_of, file_titled}
 use Rattle.edi_catalog.specs.Mounted.{files_of, IsMounted}
 use Rattle.edi_image.specs.Stored.{IsKeptOf}
 use Rattle.edi_catalog.proofs.Mounts.{told_same_blocks}
-use Rattle.edi_system.specs.State.{catalog_in, drive_in, found_of, input_in, printer_in, state_of, state_with, terminal_in, IsReading, IsReady}
+use Rattle.edi_system.specs.State.{buffer_in, catalog_in, drive_in, found_of, input_in, printer_in, state_of, state_with, terminal_in, IsReading, IsReady}
 use Rattle.edi_system.specs.Ends.{Reaches}
 use Rattle.edi_system.specs.Reading.{text_of, text_spelled}
 use Rattle.edi_system.specs.declared.reading.Reading.{Reading}
@@ -19,7 +19,7 @@ use Rattle.edi_system.proofs.Pages.{text_found, text_ready}
 
 -- the states before and after a call that changes neither what is known of the found file nor the buffer
 pub state_open : {D S T P : Type 0} (before after : System D S T P) (b b' : List (List ℕ)) (i i' s s' p p' : List ℕ)
-    → option_map found_of after.found ≡ option_map found_of before.found → after.buffer ≡ before.buffer → b' ≡ b → i' ≡ i → s' ≡ s → p' ≡ p
+    → option_map found_of after.found ≡ option_map found_of before.found → buffer_in after ≡ buffer_in before → b' ≡ b → i' ≡ i → s' ≡ s → p' ≡ p
     → state_with after b' i' s' p' ≡ state_with before b i s p
 state_open before after b b' i i' s s' p p' ef eu eb ei es ep =
     ap (λ x. state_with after x i' s' p') eb ∙ ap (λ x. state_with after b x s' p') ei ∙ ap (λ x. state_with after b i x p') es
@@ -39,16 +39,16 @@ spelled system b i s p words kept = go (title_of words) where
   go None = refl
   go (Some title) = text_found b title (files_of (catalog_in system)) kept
 
-pub finds_told : {D S T P : Type 0} (held : D → Option (List (List ℕ))) (count : D → ℕ) (left : S → Option (List ℕ)) (shown : T → Option (List ℕ)) (printed : P → Option (List ℕ))
+pub finds_told : {D S T P : Type 0} (contents : D → Option (List (List ℕ))) (count : D → ℕ) (left : S → Option (List ℕ)) (shown : T → Option (List ℕ)) (printed : P → Option (List ℕ))
     (before : System D S T P) (words : List ℕ) (found : Option Reading) (word : ℕ)
-    → IsMounted held count (catalog_in before) → found ≡ text_spelled words (files_of (catalog_in before)) → word ≡ word_of (is_some found)
-    → WhereTold (state_of held left shown printed before) (state_of held left shown printed (record before { found = found }))
+    → IsMounted contents count (catalog_in before) → found ≡ text_spelled words (files_of (catalog_in before)) → word ≡ word_of (is_some found)
+    → WhereTold (state_of contents left shown printed before) (state_of contents left shown printed (record before { found = found }))
     (λ b a. Reaches (find words b) (Ok (Some word)) b a)
-finds_told held count left shown printed before words found word mounted is answer =
+finds_told contents count left shown printed before words found word mounted is answer =
     told_together (state_with before) (state_with (record before { found = found })) _ _ _ _ _ _ _ _
     (λ old new. (new ≡ old) × IsKeptOf old (files_of (catalog_in before))) (λ x y. y ≡ x) (λ x y. y ≡ x) (λ x y. y ≡ x)
     (λ b a. Reaches (find words b) (Ok (Some word)) b a)
-    (told_same_blocks (held (drive_in before)) (held (drive_in before)) (λ old. IsKeptOf old (files_of (catalog_in before))) (λ blocks told. (told, mounted.image blocks told)))
+    (told_same_blocks (contents (drive_in before)) (contents (drive_in before)) (λ old. IsKeptOf old (files_of (catalog_in before))) (λ blocks told. (told, mounted.image blocks told)))
     (told_same (left (input_in before)) (left (input_in before)) refl) (told_same (shown (terminal_in before)) (shown (terminal_in before)) refl)
     (told_same (printed (printer_in before)) (printed (printer_in before)) refl)
     (λ b b' i i' s s' p p' eb ei es ep.
@@ -59,13 +59,13 @@ finds_told held count left shown printed before words found word mounted is answ
           ∙ ap (λ x. record (state_with before b i s p) { found = x }) (sym now),
     )))
 
-pub found_ready : {D S T P : Type 0} (held : D → Option (List (List ℕ))) (count : D → ℕ) (before : System D S T P) (words : List ℕ) (found : Option Reading)
-    → IsReady held count before → found ≡ text_spelled words (files_of (catalog_in before)) → IsReady held count (record before { found = found })
-found_ready held count before words found ready is = record {
+pub found_ready : {D S T P : Type 0} (contents : D → Option (List (List ℕ))) (count : D → ℕ) (before : System D S T P) (words : List ℕ) (found : Option Reading)
+    → IsReady contents count before → found ≡ text_spelled words (files_of (catalog_in before)) → IsReady contents count (record before { found = found })
+found_ready contents count before words found ready is = record {
   nothing_failed = ready.nothing_failed;
   mounted = ready.mounted;
-  reading = subst (λ o. IfSome o (IsReading held (catalog_in before) before.page)) (sym is) (go (title_of words));
+  reading = subst (λ o. IfSome o (IsReading contents (catalog_in before) before.page)) (sym is) (go (title_of words));
 } where
-  go : (o : Option (List ℕ)) → IfSome (option_and_then (λ title. text_of title (option_map entry_of (file_titled title (files_of (catalog_in before))))) o) (IsReading held (catalog_in before) before.page)
+  go : (o : Option (List ℕ)) → IfSome (option_and_then (λ title. text_of title (option_map entry_of (file_titled title (files_of (catalog_in before))))) o) (IsReading contents (catalog_in before) before.page)
   go None = tt
-  go (Some title) = text_ready held (catalog_in before) before.page title
+  go (Some title) = text_ready contents (catalog_in before) before.page title

@@ -1,13 +1,14 @@
 pub mod Told
 pub mod Characters
-pub mod Sizes
 pub mod Pages
 pub mod FoundFile
+pub mod Lasting
 pub mod Catalogue
 pub mod OtherFiles
 pub mod Rooms
 pub mod Closing
 pub mod CloseCalls
+pub mod InState
 pub mod Protecting
 pub mod Calling
 pub mod Due

@@ -8,10 +8,10 @@ use Rattle.edi_calls.specs.declared.kinds.FileKind.{FileKind}
 use Rattle.edi_catalog.specs.declared.catalog.Catalog.{Catalog}
 use Rattle.edi_catalog.specs.declared.entry.Entry.{Entry}
 use Rattle.edi_image.specs.Stored.{StoredFile, is_titled}
-use Rattle.edi_catalog.specs.Files.{file_titled, find_place}
+use Rattle.edi_catalog.specs.Files.{file_titled, find_index}
 use Rattle.edi_catalog.specs.Mounted.{files_of}
 use Rattle.edi_catalog.specs.Changes.{changed_at, deleted, kept_changed, kept_protected}
-use Rattle.edi_catalog.specs.Storing.{free_place, place_for, stored_entry, IsStoredAt}
+use Rattle.edi_catalog.specs.Storing.{free_index, index_for, stored_entry, IsStoredAt}
 use Rattle.edi_system.specs.State.{IsReading}
 use Rattle.edi_system.specs.Reading.{forgotten, not_titled}
 use Rattle.edi_system.specs.declared.reading.Reading.{Reading}
@@ -21,11 +21,11 @@ use Rattle.edi_system.specs.declared.reading.Reading.{Reading}
 -- it is in the first slot or behind it
 titled_step : (title : List ℕ) (file : Option StoredFile) (files : List (Option StoredFile))
     → file_titled title (file ∷ files) ≡ (if is_titled title file then file else file_titled title files)
-titled_step title file files = go (is_titled title file) (find_place title files) where
-  go : (b : Bool) (place : Option ℕ)
-      → option_and_then (λ k. slice_index_or (file ∷ files) k None) (if b then Some 0 else option_map suc place)
-      ≡ (if b then file else option_and_then (λ k. slice_index_or files k None) place)
-  go true place = refl
+titled_step title file files = go (is_titled title file) (find_index title files) where
+  go : (b : Bool) (index : Option ℕ)
+      → option_and_then (λ k. slice_index_or (file ∷ files) k None) (if b then Some 0 else option_map suc index)
+      ≡ (if b then file else option_and_then (λ k. slice_index_or files k None) index)
+  go true index = refl
   go false None = refl
   go false (Some k) = refl
 
@@ -52,15 +52,15 @@ none_titled title None here = refl
 none_titled title (Some file) here = absurd (let no : false ≡ true = here in cc)
 
 -- what is in the place of a title, and in that of the first free slot
-pub find_titled : (title : List ℕ) (files : List (Option StoredFile)) (at : ℕ) → find_place title files ≡ Some at
+pub find_titled : (title : List ℕ) (files : List (Option StoredFile)) (at : ℕ) → find_index title files ≡ Some at
     → is_titled title (slice_index_or files at None) ≡ true
 find_titled title [] at h = absurd (let no : None ≡ Some at = h in cc)
-find_titled title (file ∷ files) at h = go (is_titled title file) refl (find_place title files) refl h (find_titled title files) where
-  go : (b : Bool) → is_titled title file ≡ b → (place : Option ℕ) → find_place title files ≡ place
-      → (if b then Some 0 else option_map suc place) ≡ Some at
-      → ((k : ℕ) → find_place title files ≡ Some k → is_titled title (slice_index_or files k None) ≡ true)
+find_titled title (file ∷ files) at h = go (is_titled title file) refl (find_index title files) refl h (find_titled title files) where
+  go : (b : Bool) → is_titled title file ≡ b → (index : Option ℕ) → find_index title files ≡ index
+      → (if b then Some 0 else option_map suc index) ≡ Some at
+      → ((k : ℕ) → find_index title files ≡ Some k → is_titled title (slice_index_or files k None) ≡ true)
       → is_titled title (slice_index_or (file ∷ files) at None) ≡ true
-  go true first place e h rest =
+  go true first index e h rest =
       (let is : Some 0 ≡ Some at = h in
       let same : 0 ≡ at = cc in ap (λ n. is_titled title (slice_index_or (file ∷ files) n None)) (sym same) ∙ first)
   go false first None e h rest = absurd (let no : None ≡ Some at = h in cc)
@@ -68,14 +68,14 @@ find_titled title (file ∷ files) at h = go (is_titled title file) refl (find_p
       (let is : Some (suc k) ≡ Some at = h in
       let same : suc k ≡ at = cc in ap (λ n. is_titled title (slice_index_or (file ∷ files) n None)) (sym same) ∙ rest k e)
 
-free_empty : (files : List (Option StoredFile)) (at : ℕ) → free_place files ≡ Some at → is_none (slice_index_or files at None) ≡ true
+free_empty : (files : List (Option StoredFile)) (at : ℕ) → free_index files ≡ Some at → is_none (slice_index_or files at None) ≡ true
 free_empty [] at h = absurd (let no : None ≡ Some at = h in cc)
-free_empty (file ∷ files) at h = go (is_none file) refl (free_place files) refl h (free_empty files) where
-  go : (b : Bool) → is_none file ≡ b → (place : Option ℕ) → free_place files ≡ place
-      → (if b then Some 0 else option_map suc place) ≡ Some at
-      → ((k : ℕ) → free_place files ≡ Some k → is_none (slice_index_or files k None) ≡ true)
+free_empty (file ∷ files) at h = go (is_none file) refl (free_index files) refl h (free_empty files) where
+  go : (b : Bool) → is_none file ≡ b → (index : Option ℕ) → free_index files ≡ index
+      → (if b then Some 0 else option_map suc index) ≡ Some at
+      → ((k : ℕ) → free_index files ≡ Some k → is_none (slice_index_or files k None) ≡ true)
       → is_none (slice_index_or (file ∷ files) at None) ≡ true
-  go true first place e h rest =
+  go true first index e h rest =
       (let is : Some 0 ≡ Some at = h in
       let same : 0 ≡ at = cc in ap (λ n. is_none (slice_index_or (file ∷ files) n None)) (sym same) ∙ first)
   go false first None e h rest = absurd (let no : None ≡ Some at = h in cc)
@@ -86,13 +86,13 @@ free_empty (file ∷ files) at h = go (is_none file) refl (free_place files) ref
 -- ---- after a store, and after a removal
 
 pub stored_others : (title : List ℕ) (kind : FileKind) (size : ℕ) (files new : List (Option StoredFile)) (other : List ℕ) → bytes_eq other title ≡ false
-    → IsStoredAt (place_for title files) (stored_entry title kind size) files new → file_titled other new ≡ file_titled other files
+    → IsStoredAt (index_for title files) (stored_entry title kind size) files new → file_titled other new ≡ file_titled other files
 stored_others title kind size files new other differ stored =
     ap (file_titled other) stored.others
-    ∙ other_titled other files stored.at (Some stored.file) (was (find_place title files) refl stored.place_)
+    ∙ other_titled other files stored.at (Some stored.file) (was (find_index title files) refl stored.index_)
     (ap (bytes_eq other) (ap (λ (e : Entry). e.title) stored.entry_) ∙ differ)
   where
-    was : (place : Option ℕ) → find_place title files ≡ place → (if is_none place then free_place files else place) ≡ Some stored.at
+    was : (index : Option ℕ) → find_index title files ≡ index → (if is_none index then free_index files else index) ≡ Some stored.at
         → is_titled other (slice_index_or files stored.at None) ≡ false
     was None e h = none_titled other (slice_index_or files stored.at None) (free_empty files stored.at h)
     was (Some k) e h =
@@ -100,12 +100,12 @@ stored_others title kind size files new other differ stored =
 
 pub removed_others : (title : List ℕ) (files new : List (Option StoredFile)) (other : List ℕ) → bytes_eq other title ≡ false
     → new ≡ kept_changed deleted title files → file_titled other new ≡ file_titled other files
-removed_others title files new other differ now = ap (file_titled other) now ∙ go (find_place title files) refl where
+removed_others title files new other differ now = ap (file_titled other) now ∙ go (find_index title files) refl where
   nothing : (slot : Option StoredFile) → is_titled other (option_and_then deleted slot) ≡ false
   nothing None = refl
   nothing (Some file) = refl
 
-  go : (place : Option ℕ) → find_place title files ≡ place
+  go : (index : Option ℕ) → find_index title files ≡ index
       → file_titled other (kept_changed deleted title files) ≡ file_titled other files
   go None e = ap (λ o. file_titled other (changed_at deleted o files)) e
   go (Some k) e =
@@ -157,25 +157,25 @@ alike_set title (file ∷ files) (suc at) slot alike =
 pub protected_alike : (protected : Bool) (title : List ℕ) (files new : List (Option StoredFile)) (other : List ℕ)
     → new ≡ kept_changed (kept_protected protected) title files → AreAlike (file_titled other files) (file_titled other new)
 protected_alike protected title files new other now =
-    subst (λ fs. AreAlike (file_titled other files) (file_titled other fs)) (sym now) (go (find_place title files)) where
+    subst (λ fs. AreAlike (file_titled other files) (file_titled other fs)) (sym now) (go (find_index title files)) where
       marked : (slot : Option StoredFile) → AreAlike slot (option_and_then (kept_protected protected) slot)
       marked None = tt
       marked (Some file) = (refl, refl, refl)
 
-      go : (place : Option ℕ) → AreAlike (file_titled other files) (file_titled other (changed_at (kept_protected protected) place files))
+      go : (index : Option ℕ) → AreAlike (file_titled other files) (file_titled other (changed_at (kept_protected protected) index files))
       go None = alike_same (file_titled other files)
       go (Some k) = alike_set other files k (option_and_then (kept_protected protected) (slice_index_or files k None)) (marked (slice_index_or files k None))
 
 -- ---- the text that is read
 
-again : {D : Type 0} (held : D → Option (List (List ℕ))) (before after : Catalog D) (page : List ℕ) (reading : Reading)
+again : {D : Type 0} (contents : D → Option (List (List ℕ))) (before after : Catalog D) (page : List ℕ) (reading : Reading)
     → AreAlike (file_titled reading.title (files_of before)) (file_titled reading.title (files_of after))
-    → IsReading held before page reading → IsReading held after page (forgotten reading)
-again held before after page reading alike r =
+    → IsReading contents before page reading → IsReading contents after page (forgotten reading)
+again contents before after page reading alike r =
     go (file_titled reading.title (files_of after)) refl
     (subst (λ o. AreAlike o (file_titled reading.title (files_of after))) r.there alike)
   where
-    go : (o : Option StoredFile) → file_titled reading.title (files_of after) ≡ o → AreAlike (Some r.file) o → IsReading held after page (forgotten reading)
+    go : (o : Option StoredFile) → file_titled reading.title (files_of after) ≡ o → AreAlike (Some r.file) o → IsReading contents after page (forgotten reading)
     go None e alike = absurd alike
     go (Some file) e alike = record {
       file = file;
@@ -186,19 +186,19 @@ again held before after page reading alike r =
       kept = tt;
     }
 
-pub forgotten_ready : {D : Type 0} (held : D → Option (List (List ℕ))) (before after : Catalog D) (page : List ℕ) (found : Option Reading)
+pub forgotten_ready : {D : Type 0} (contents : D → Option (List (List ℕ))) (before after : Catalog D) (page : List ℕ) (found : Option Reading)
     → ((title : List ℕ) → AreAlike (file_titled title (files_of before)) (file_titled title (files_of after)))
-    → IfSome found (IsReading held before page) → IfSome (option_map forgotten found) (IsReading held after page)
-forgotten_ready held before after page None alike r = tt
-forgotten_ready held before after page (Some reading) alike r = again held before after page reading (alike reading.title) r
+    → IfSome found (IsReading contents before page) → IfSome (option_map forgotten found) (IsReading contents after page)
+forgotten_ready contents before after page None alike r = tt
+forgotten_ready contents before after page (Some reading) alike r = again contents before after page reading (alike reading.title) r
 
-pub not_titled_ready : {D : Type 0} (held : D → Option (List (List ℕ))) (before after : Catalog D) (page title : List ℕ) (found : Option Reading)
+pub not_titled_ready : {D : Type 0} (contents : D → Option (List (List ℕ))) (before after : Catalog D) (page title : List ℕ) (found : Option Reading)
     → ((other : List ℕ) → bytes_eq other title ≡ false → file_titled other (files_of after) ≡ file_titled other (files_of before))
-    → IfSome found (IsReading held before page) → IfSome (not_titled title found) (IsReading held after page)
-not_titled_ready held before after page title None same r = tt
-not_titled_ready held before after page title (Some reading) same r = go (bytes_eq reading.title title) refl where
-  go : (b : Bool) → bytes_eq reading.title title ≡ b → IfSome (if b then None else Some (forgotten reading)) (IsReading held after page)
+    → IfSome found (IsReading contents before page) → IfSome (not_titled title found) (IsReading contents after page)
+not_titled_ready contents before after page title None same r = tt
+not_titled_ready contents before after page title (Some reading) same r = go (bytes_eq reading.title title) refl where
+  go : (b : Bool) → bytes_eq reading.title title ≡ b → IfSome (if b then None else Some (forgotten reading)) (IsReading contents after page)
   go true e = tt
   go false e =
-      again held before after page reading
+      again contents before after page reading
       (subst (λ o. AreAlike (file_titled reading.title (files_of before)) o) (sym (same reading.title e)) (alike_same (file_titled reading.title (files_of before)))) r

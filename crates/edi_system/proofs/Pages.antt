@@ -1,10 +1,10 @@
--- The pages of a text, and the byte at a position.
-use Rattle.std.proofs.Common.{◌≡◌, true, ◌≤◌, ◌<◌, ℕ, zero, suc, ◌+◌, ◌*◌, List, [], ◌∷◌, ◌++◌, length, take, get_or, Option, Some, None, refl, sym, ap, subst, ◌∙◌, arith, length-append}
-use Rattle.std.specs.Prelude.{◌/◌, ◌%◌, min, map, flat_map, slice_get, slice_index, IfSome, Ok, if◌then◌else◌}
+-- The byte of a text at a position, from the page that is kept.
+use Rattle.std.proofs.Common.{◌≡◌, true, ◌≤◌, ◌<◌, ℕ, List, length, take, Option, Some, None, refl, sym, ap, subst, ◌∙◌, arith}
+use Rattle.std.specs.Prelude.{◌/◌, ◌%◌, min, flat_map, slice_get, slice_index, IfSome, Ok, if◌then◌else◌}
 use Rattle.std.specs.List.{list_all}
 use Rattle.std.specs.Option.{option_map, option_and_then, ForSome}
-use Rattle.std.proofs.lemmas.List.{get_or_append_left, get_or-append-add, get_or-take, length-take}
-use Rattle.std.proofs.lemmas.Option.{slice_get_past, slice_get-get_or}
+use Rattle.std.proofs.lemmas.List.{length-take}
+use Rattle.std.proofs.lemmas.Option.{slice_get_past}
 use Rattle.edi_told.specs.Told.{WhereTold}
 use Rattle.edi_disk.specs.Shown.{drive_of}
 use Rattle.edi_host.specs.Blocks.{is_block}
@@ -19,55 +19,12 @@ use Rattle.edi_image.specs.Stored.{StoredFile, is_stored, bytes_in, IsKeptOf}
 use Rattle.edi_catalog.specs.Files.{entry_of, file_titled, PageIs}
 use Rattle.edi_catalog.specs.Mounted.{disk_of, files_of, IsMounted}
 use Rattle.edi_catalog.proofs.Mounts.{told_now}
-use Rattle.edi_image.proofs.KeptFiles.{file_of, slots_are}
-use Rattle.edi_catalog.proofs.WholeFiles.{file_same}
+use Rattle.edi_image.proofs.KeptFiles.{file_of}
 use Rattle.edi_system.specs.State.{found_of, IsReading}
 use Rattle.edi_system.specs.Reading.{begun, byte_in, text_of}
 use Rattle.edi_system.specs.declared.reading.Reading.{Reading}
-use Rattle.edi_system.proofs.Sizes.{kept_pages, page_sized, some_fact, titled_kept}
-
--- ---- bytes of whole pages
-
--- the place of a byte of a page among those of all pages
-page_at : (f : ℕ → List ℕ) (pages : List ℕ) (i k : ℕ) → ((j : ℕ) → j < length pages → length (f (slice_index pages j)) ≡ 512) → k < 512 → i < length pages
-    → (512 * i + k < length (flat_map f pages)) × (get_or (flat_map f pages) (512 * i + k) 0 ≡ get_or (f (slice_index pages i)) k 0)
-page_at f [] i k whole h within = absurd (omega arith)
-page_at f (p ∷ ps) zero k whole h within =
-    let first : length (f p) ≡ 512 = whole 0 (omega arith) in
-    let long : length (f p ++ flat_map f ps) ≡ length (f p) + length (flat_map f ps) = length-append (f p) (flat_map f ps) in
-    let place : 512 * 0 + k ≡ k = omega arith in (
-      omega (arith, first, long),
-      ap (λ n. get_or (f p ++ flat_map f ps) n 0) place ∙ get_or_append_left (f p) (flat_map f ps) 0 k (omega (arith, first)),
-    )
-page_at f (p ∷ ps) (suc i) k whole h within =
-    let first : length (f p) ≡ 512 = whole 0 (omega arith) in
-    let long : length (f p ++ flat_map f ps) ≡ length (f p) + length (flat_map f ps) = length-append (f p) (flat_map f ps) in
-    let place : 512 * suc i + k ≡ length (f p) + (512 * i + k) = omega (arith, first) in
-    let rest = page_at f ps i k (λ j b. whole (suc j) (omega arith)) h (omega arith) in (
-      omega (arith, first, long, rest.0),
-      ap (λ n. get_or (f p ++ flat_map f ps) n 0) place ∙ get_or-append-add (f p) (flat_map f ps) (512 * i + k) 0 ∙ rest.1,
-    )
-
--- the byte at a position of a text of n bytes, whose page is kept
-byte_at : (f : ℕ → List ℕ) (pages : List ℕ) (n position i : ℕ) (page : List ℕ)
-    → ((j : ℕ) → j < length pages → length (f (slice_index pages j)) ≡ 512) → position / 512 ≡ i → i < length pages → position < n
-    → f (slice_index pages i) ≡ page → slice_get (take n (flat_map f pages)) position ≡ Some (slice_index page (position % 512))
-byte_at f pages n position i page whole at within below is =
-    let place : 512 * i + position % 512 ≡ position = omega (arith, at) in
-    let there = page_at f pages i (position % 512) whole (omega arith) within in
-    let many : length (take n (flat_map f pages)) ≡ min n (length (flat_map f pages)) = length-take n (flat_map f pages) in
-    slice_get-get_or (take n (flat_map f pages)) position 0 (omega (arith, many, place, there.0))
-    ∙ ap Some
-    (get_or-take n (flat_map f pages) position 0 below
-    ∙ ap (λ k. get_or (flat_map f pages) k 0) (sym place) ∙ there.1 ∙ ap (λ xs. get_or xs (position % 512) 0) is)
-
--- ---- the file of a title
-
--- the file of a title in the image is the one that is kept
-pub file_in : (blocks : List (List ℕ)) (title : List ℕ) (files : List (Option StoredFile)) → IsKeptOf blocks files
-    → find_file (slots_of blocks) title ≡ option_map (file_of blocks) (file_titled title files)
-file_in blocks title files kept =
-    ap (λ s. find_file s title) (slots_are blocks ∙ ap (map (option_map (file_of blocks))) (sym kept.slots)) ∙ file_same blocks title files
+use Rattle.edi_catalog.proofs.PageBytes.{byte_at, file_in}
+use Rattle.edi_catalog.proofs.Sizes.{kept_pages, page_sized, some_fact, titled_kept}
 
 byte_of : (blocks : List (List ℕ)) (title : List ℕ) (files : List (Option StoredFile)) (file : StoredFile) (position : ℕ) → IsKeptOf blocks files
     → file_titled title files ≡ Some file → byte_in blocks title position ≡ slice_get (bytes_in blocks file) position
@@ -75,31 +32,31 @@ byte_of blocks title files file position kept there =
     ap (λ o. slice_get (bytes_of o) position) (file_in blocks title files kept ∙ ap (option_map (file_of blocks)) there)
 
 -- no byte stands at the end
-pub byte_none : {D : Type 0} (held : D → Option (List (List ℕ))) (count : D → ℕ) (catalog : Catalog D) (page : List ℕ) (reading : Reading) (blocks : List (List ℕ))
-    → IsMounted held count catalog → IsReading held catalog page reading → reading.length ≤ reading.position
-    → held (drive_of (disk_of catalog)) ≡ Some blocks → byte_in blocks reading.title reading.position ≡ None
-byte_none held count catalog page reading blocks mounted r ends told =
+pub byte_none : {D : Type 0} (contents : D → Option (List (List ℕ))) (count : D → ℕ) (catalog : Catalog D) (page : List ℕ) (reading : Reading) (blocks : List (List ℕ))
+    → IsMounted contents count catalog → IsReading contents catalog page reading → reading.length ≤ reading.position
+    → contents (drive_of (disk_of catalog)) ≡ Some blocks → byte_in blocks reading.title reading.position ≡ None
+byte_none contents count catalog page reading blocks mounted r ends told =
     let many : length (take r.file.record_.length (flat_map (block_at blocks) r.file.pages)) ≡ min r.file.record_.length (length (flat_map (block_at blocks) r.file.pages)) =
     length-take r.file.record_.length (flat_map (block_at blocks) r.file.pages) in
     byte_of blocks reading.title (files_of catalog) r.file reading.position (mounted.image blocks told) r.there
     ∙ slice_get_past (bytes_in blocks r.file) reading.position (omega (arith, many, r.length_, ends))
 
 -- the byte at a position whose page is kept
-pub byte_some : {D : Type 0} (held : D → Option (List (List ℕ))) (count : D → ℕ)
-    → ((drive : D) → IfSome (held drive) (λ blocks. length blocks ≡ count drive)) → ((drive : D) → IfSome (held drive) (λ blocks. list_all is_block blocks ≡ true))
-    → (catalog : Catalog D) (page : List ℕ) (reading : Reading) (blocks : List (List ℕ)) → IsMounted held count catalog → IsReading held catalog page reading
-    → reading.position < reading.length → reading.kept ≡ Some (reading.position / 512) → held (drive_of (disk_of catalog)) ≡ Some blocks
+pub byte_some : {D : Type 0} (contents : D → Option (List (List ℕ))) (count : D → ℕ)
+    → ((drive : D) → IfSome (contents drive) (λ blocks. length blocks ≡ count drive)) → ((drive : D) → IfSome (contents drive) (λ blocks. list_all is_block blocks ≡ true))
+    → (catalog : Catalog D) (page : List ℕ) (reading : Reading) (blocks : List (List ℕ)) → IsMounted contents count catalog → IsReading contents catalog page reading
+    → reading.position < reading.length → reading.kept ≡ Some (reading.position / 512) → contents (drive_of (disk_of catalog)) ≡ Some blocks
     → byte_in blocks reading.title reading.position ≡ Some (slice_index page (reading.position % 512))
-byte_some {D} held count counted sized catalog page reading blocks mounted r below loaded told =
+byte_some {D} contents count counted sized catalog page reading blocks mounted r below loaded told =
     let i = reading.position / 512 in
     let drive : D = drive_of (disk_of catalog) in
     let stored = subst (λ o. is_stored (count drive) o ≡ true) r.there (titled_kept (count drive) reading.title (files_of catalog) mounted.stored) in
     let fits = kept_pages (count drive) r.file stored in
-    let here = some_fact (λ i. ForSome (held drive) (λ blocks. block_at blocks (slice_index r.file.pages i) ≡ page)) reading.kept i loaded r.kept in
+    let here = some_fact (λ i. ForSome (contents drive) (λ blocks. block_at blocks (slice_index r.file.pages i) ≡ page)) reading.kept i loaded r.kept in
     byte_of blocks reading.title (files_of catalog) r.file reading.position (mounted.image blocks told) r.there
     ∙ byte_at (block_at blocks) r.file.pages r.file.record_.length reading.position i page
     (λ j h. page_sized blocks (count drive) r.file.pages j
-    (some_fact (λ b. list_all is_block b ≡ true) (held drive) blocks told (sized drive)) (some_fact (λ b. length b ≡ count drive) (held drive) blocks told (counted drive)) fits.0 h)
+    (some_fact (λ b. list_all is_block b ≡ true) (contents drive) blocks told (sized drive)) (some_fact (λ b. length b ≡ count drive) (contents drive) blocks told (counted drive)) fits.0 h)
     refl (few reading.position reading.length r.file.record_.length (length r.file.pages) below r.length_ fits.1)
     (subst (λ n. reading.position < n) (sym r.length_) below) (here blocks told)
   where
@@ -109,12 +66,12 @@ byte_some {D} held count counted sized catalog page reading blocks mounted r bel
 -- ---- a page that is read
 
 -- the text with the page of its position kept
-pub page_read : {D X : Type 0} (E : Type 0) (held : D → Option (List (List ℕ))) (x : X) (before after : Catalog D) (page page' : List ℕ) (reading : Reading) (i : ℕ)
-    → IsReading held before page reading → files_of after ≡ files_of before
-    → WhereTold (held (drive_of (disk_of before))) (held (drive_of (disk_of after)))
+pub page_read : {D X : Type 0} (E : Type 0) (contents : D → Option (List (List ℕ))) (x : X) (before after : Catalog D) (page page' : List ℕ) (reading : Reading) (i : ℕ)
+    → IsReading contents before page reading → files_of after ≡ files_of before
+    → WhereTold (contents (drive_of (disk_of before))) (contents (drive_of (disk_of after)))
     (λ old new. (new ≡ old) × PageIs {X = X} {E = E} (Ok x) (file_titled reading.title (files_of before)) i page' old)
-    → IsReading held after page' (record reading { kept = Some i })
-page_read {D} {X} E held x before after page page' reading i r same reads = record {
+    → IsReading contents after page' (record reading { kept = Some i })
+page_read {D} {X} E contents x before after page page' reading i r same reads = record {
   file = r.file;
   there = ap (file_titled reading.title) same ∙ r.there;
   text = r.text;
@@ -122,17 +79,17 @@ page_read {D} {X} E held x before after page page' reading i r same reads = reco
   within = r.within;
   kept = λ blocks told.
       subst (λ o. PageIs {X = X} {E = E} (Ok x) o i page' blocks) r.there
-      (told_now (held (drive_of (disk_of before))) (held (drive_of (disk_of after)))
+      (told_now (contents (drive_of (disk_of before))) (contents (drive_of (disk_of after)))
       (λ old. PageIs {X = X} {E = E} (Ok x) (file_titled reading.title (files_of before)) i page' old) reads blocks told).1;
 }
 
 -- ---- a text at its start
 
-pub text_ready : {D : Type 0} (held : D → Option (List (List ℕ))) (catalog : Catalog D) (page title : List ℕ)
-    → IfSome (text_of title (option_map entry_of (file_titled title (files_of catalog)))) (IsReading held catalog page)
-text_ready held catalog page title = go (file_titled title (files_of catalog)) refl where
+pub text_ready : {D : Type 0} (contents : D → Option (List (List ℕ))) (catalog : Catalog D) (page title : List ℕ)
+    → IfSome (text_of title (option_map entry_of (file_titled title (files_of catalog)))) (IsReading contents catalog page)
+text_ready contents catalog page title = go (file_titled title (files_of catalog)) refl where
   by_kind : (file : StoredFile) → file_titled title (files_of catalog) ≡ Some file → (k : FileKind) → file.record_.kind ≡ k
-      → IfSome (if is_text k then Some (begun title file.record_.length) else None) (IsReading held catalog page)
+      → IfSome (if is_text k then Some (begun title file.record_.length) else None) (IsReading contents catalog page)
   by_kind file there kind.Text text = record {
     file = file;
     there = there;
@@ -143,7 +100,7 @@ text_ready held catalog page title = go (file_titled title (files_of catalog)) r
   }
   by_kind file there kind.Code text = tt
 
-  go : (o : Option StoredFile) → file_titled title (files_of catalog) ≡ o → IfSome (text_of title (option_map entry_of o)) (IsReading held catalog page)
+  go : (o : Option StoredFile) → file_titled title (files_of catalog) ≡ o → IfSome (text_of title (option_map entry_of o)) (IsReading contents catalog page)
   go None there = tt
   go (Some file) there = by_kind file there file.record_.kind refl
 

@@ -15,16 +15,16 @@ use Rattle.edi_catalog.specs.declared.ends.CatEnd.{CatEnd}
 use Rattle.edi_catalog.specs.declared.ends.CatEnd.TheVariants as cat
 use Rattle.edi_image.specs.Image.{Holds, slots_of}
 use Rattle.edi_image.specs.Stored.{StoredFile, is_stored, is_titled, IsKeptOf}
-use Rattle.edi_catalog.specs.Files.{file_titled, find_place}
+use Rattle.edi_catalog.specs.Files.{file_titled, find_index}
 use Rattle.edi_catalog.specs.Changes.{changed_at, deleted, not_deleted, slots_changed, Leaves}
-use Rattle.edi_catalog.specs.Storing.{blocks_free, not_stored, place_for, put_at}
+use Rattle.edi_catalog.specs.Storing.{blocks_free, not_stored, index_for, put_at}
 use Rattle.edi_catalog.specs.Writing.{is_protected}
 use Rattle.edi_image.proofs.KeptFiles.{file_of}
-use Rattle.edi_catalog.proofs.WholeFiles.{place_same}
-use Rattle.edi_catalog.proofs.StoredPlace.{slot_for_same}
+use Rattle.edi_catalog.proofs.WholeFiles.{index_same}
+use Rattle.edi_catalog.proofs.StoredIndex.{slot_for_same}
 use Rattle.edi_system.specs.Catalogue.{is_refused}
 use Rattle.edi_system.proofs.OtherFiles.{find_titled}
-use Rattle.edi_system.proofs.Sizes.{slots_kept, taken_same}
+use Rattle.edi_catalog.proofs.Sizes.{slots_kept, taken_same}
 
 -- ---- an image, and what a catalogue over it keeps
 
@@ -53,14 +53,14 @@ protected_same blocks None = refl
 protected_same blocks (Some file) = refl
 
 open_same : (blocks : List (List ℕ)) (title : List ℕ) (files : List (Option StoredFile))
-    → open_slot (map (option_map (file_of blocks)) files) title ≡ (if is_protected (file_titled title files) then None else find_place title files)
+    → open_slot (map (option_map (file_of blocks)) files) title ≡ (if is_protected (file_titled title files) then None else find_index title files)
 open_same blocks title files =
-    ap (option_and_then (λ k. if made.is_protected (slot_at (map (option_map (file_of blocks)) files) k) then None else Some k)) (place_same blocks title files)
-    ∙ go (find_place title files)
+    ap (option_and_then (λ k. if made.is_protected (slot_at (map (option_map (file_of blocks)) files) k) then None else Some k)) (index_same blocks title files)
+    ∙ go (find_index title files)
   where
-    go : (place : Option ℕ)
-        → option_and_then (λ k. if made.is_protected (slot_at (map (option_map (file_of blocks)) files) k) then None else Some k) place
-        ≡ (if is_protected (option_and_then (λ k. slice_index_or files k None) place) then None else place)
+    go : (index : Option ℕ)
+        → option_and_then (λ k. if made.is_protected (slot_at (map (option_map (file_of blocks)) files) k) then None else Some k) index
+        ≡ (if is_protected (option_and_then (λ k. slice_index_or files k None) index) then None else index)
     go None = refl
     go (Some k) =
         ap (λ b. if b then None else Some k)
@@ -70,22 +70,22 @@ open_same blocks title files =
 closed : (blocks : List (List ℕ)) (title : List ℕ) (files : List (Option StoredFile)) → is_protected (file_titled title files) ≡ true
     → slot_for (map (option_map (file_of blocks)) files) title ≡ None
 closed blocks title files e =
-    ap (λ o. if is_none o then first_free (map (option_map (file_of blocks)) files) else open_slot (map (option_map (file_of blocks)) files) title) (place_same blocks title files)
-    ∙ go (find_place title files) refl
+    ap (λ o. if is_none o then first_free (map (option_map (file_of blocks)) files) else open_slot (map (option_map (file_of blocks)) files) title) (index_same blocks title files)
+    ∙ go (find_index title files) refl
   where
-    go : (place : Option ℕ) → find_place title files ≡ place
-        → (if is_none place then first_free (map (option_map (file_of blocks)) files) else open_slot (map (option_map (file_of blocks)) files) title) ≡ None
+    go : (index : Option ℕ) → find_index title files ≡ index
+        → (if is_none index then first_free (map (option_map (file_of blocks)) files) else open_slot (map (option_map (file_of blocks)) files) title) ≡ None
     go None is =
         absurd (let no : false ≡ true = sym (ap (λ o. is_protected (option_and_then (λ k. slice_index_or files k None) o)) is) ∙ e in cc)
-    go (Some k) is = open_same blocks title files ∙ ap (λ b. if b then None else find_place title files) e
+    go (Some k) is = open_same blocks title files ∙ ap (λ b. if b then None else find_index title files) e
 
 -- ---- storing
 
 -- a place where bytes are stored
 pub record HasRoom (blocks : List (List ℕ)) (title : List ℕ) (size : ℕ) : Type 0 where
-  pub place : ℕ
-  pub room : room_in blocks title size ≡ Some place
-  pub slot : slot_for (slots_of blocks) title ≡ Some place
+  pub index : ℕ
+  pub room : room_in blocks title size ≡ Some index
+  pub slot : slot_for (slots_of blocks) title ≡ Some index
 
 either_way : {A : Type 0} (b : Bool) (x : A) → (if b then x else x) ≡ x
 either_way true x = refl
@@ -93,24 +93,24 @@ either_way false x = refl
 
 module _ (count : ℕ) (files : List (Option StoredFile)) (blocks : List (List ℕ)) (title : List ℕ) (size : ℕ) (image : IsImageOf count files blocks) where
   -- the tests in their order, with the answers that they give
-  refused : (protected large : Bool) (place : Option ℕ) (full : Bool) → Option CatEnd
-  refused protected large place full =
+  refused : (protected large : Bool) (index : Option ℕ) (full : Bool) → Option CatEnd
+  refused protected large index full =
       if protected then Some cat.Protected
       else (if large then Some (cat.TooLarge size)
-      else (if is_none place then Some cat.CatalogFull
+      else (if is_none index then Some cat.CatalogFull
       else (if full then Some (cat.Full (blocks_of size) (blocks_free count files)) else None)))
 
   pub has_room : not_stored title size (blocks_free count files) files ≡ None → HasRoom blocks title size
   unfolding refused
-  has_room = go (is_protected (file_titled title files)) (nat_lt most_bytes size) (place_for title files) (nat_lt (blocks_free count files) (blocks_of size)) refl refl refl refl where
-    go : (protected large : Bool) (place : Option ℕ) (full : Bool) → is_protected (file_titled title files) ≡ protected → nat_lt most_bytes size ≡ large
-        → place_for title files ≡ place → nat_lt (blocks_free count files) (blocks_of size) ≡ full → refused protected large place full ≡ None → HasRoom blocks title size
-    go true large place full p l o f h = absurd (let no : Some cat.Protected ≡ None = h in cc)
-    go false true place full p l o f h = absurd (let no : Some (cat.TooLarge size) ≡ None = h in cc)
+  has_room = go (is_protected (file_titled title files)) (nat_lt most_bytes size) (index_for title files) (nat_lt (blocks_free count files) (blocks_of size)) refl refl refl refl where
+    go : (protected large : Bool) (index : Option ℕ) (full : Bool) → is_protected (file_titled title files) ≡ protected → nat_lt most_bytes size ≡ large
+        → index_for title files ≡ index → nat_lt (blocks_free count files) (blocks_of size) ≡ full → refused protected large index full ≡ None → HasRoom blocks title size
+    go true large index full p l o f h = absurd (let no : Some cat.Protected ≡ None = h in cc)
+    go false true index full p l o f h = absurd (let no : Some (cat.TooLarge size) ≡ None = h in cc)
     go false false None full p l o f h = absurd (let no : Some cat.CatalogFull ≡ None = h in cc)
-    go false false (Some place) true p l o f h = absurd (let no : Some (cat.Full (blocks_of size) (blocks_free count files)) ≡ None = h in cc)
-    go false false (Some place) false p l o f h = record {
-      place = place;
+    go false false (Some index) true p l o f h = absurd (let no : Some (cat.Full (blocks_of size) (blocks_free count files)) ≡ None = h in cc)
+    go false false (Some index) false p l o f h = record {
+      index = index;
       room = room_is count files blocks title size image
           ∙ ap (λ b. if b then slot_for (slots_of blocks) title else None) (le-leb (blocks_of size) (blocks_free count files) (ltb-false (blocks_free count files) (blocks_of size) f))
           ∙ slot_for_same blocks title files image.kept p ∙ o;
@@ -121,44 +121,44 @@ module _ (count : ℕ) (files : List (Option StoredFile)) (blocks : List (List �
   unfolding refused
   has_no_room why most h =
       room_is count files blocks title size image
-      ∙ go (is_protected (file_titled title files)) (nat_lt most_bytes size) (place_for title files) (nat_lt (blocks_free count files) (blocks_of size)) refl refl refl refl h
+      ∙ go (is_protected (file_titled title files)) (nat_lt most_bytes size) (index_for title files) (nat_lt (blocks_free count files) (blocks_of size)) refl refl refl refl h
     where
       no_slot : slot_for (slots_of blocks) title ≡ None → (if nat_le (blocks_of size) (blocks_free count files) then slot_for (slots_of blocks) title else None) ≡ None
       no_slot none =
           ap (λ o. if nat_le (blocks_of size) (blocks_free count files) then o else None) none ∙ either_way (nat_le (blocks_of size) (blocks_free count files)) None
 
-      go : (protected large : Bool) (place : Option ℕ) (full : Bool) → is_protected (file_titled title files) ≡ protected → nat_lt most_bytes size ≡ large
-          → place_for title files ≡ place → nat_lt (blocks_free count files) (blocks_of size) ≡ full → refused protected large place full ≡ Some why
+      go : (protected large : Bool) (index : Option ℕ) (full : Bool) → is_protected (file_titled title files) ≡ protected → nat_lt most_bytes size ≡ large
+          → index_for title files ≡ index → nat_lt (blocks_free count files) (blocks_of size) ≡ full → refused protected large index full ≡ Some why
           → (if nat_le (blocks_of size) (blocks_free count files) then slot_for (slots_of blocks) title else None) ≡ None
-      go true large place full p l o f h = no_slot (ap (λ slots. slot_for slots title) (slots_kept blocks files image.kept) ∙ closed blocks title files p)
-      go false true place full p l o f h = absurd (let no : false ≡ true = sym (le-ltb most_bytes size most) ∙ l in cc)
+      go true large index full p l o f h = no_slot (ap (λ slots. slot_for slots title) (slots_kept blocks files image.kept) ∙ closed blocks title files p)
+      go false true index full p l o f h = absurd (let no : false ≡ true = sym (le-ltb most_bytes size most) ∙ l in cc)
       go false false None full p l o f h = no_slot (slot_for_same blocks title files image.kept p ∙ o)
-      go false false (Some place) true p l o f h =
+      go false false (Some index) true p l o f h =
           ap (λ b. if b then slot_for (slots_of blocks) title else None)
           (lt-leb (blocks_of size) (blocks_free count files) (ltb-true (blocks_free count files) (blocks_of size) f))
-      go false false (Some place) false p l o f h = absurd (let no : None ≡ Some why = h in cc)
+      go false false (Some index) false p l o f h = absurd (let no : None ≡ Some why = h in cc)
 
 -- ---- removing
 
 -- a place whose file may be removed
 pub record MayLeave (blocks : List (List ℕ)) (title : List ℕ) : Type 0 where
-  pub place : ℕ
-  pub open_ : open_slot (slots_of blocks) title ≡ Some place
-  pub slot : find_slot (slots_of blocks) title ≡ Some place
+  pub index : ℕ
+  pub open_ : open_slot (slots_of blocks) title ≡ Some index
+  pub slot : find_slot (slots_of blocks) title ≡ Some index
 
 module _ (files : List (Option StoredFile)) (blocks : List (List ℕ)) (title : List ℕ) (kept : IsKeptOf blocks files) where
-  open_is : open_slot (slots_of blocks) title ≡ (if is_protected (file_titled title files) then None else find_place title files)
+  open_is : open_slot (slots_of blocks) title ≡ (if is_protected (file_titled title files) then None else find_index title files)
   open_is = ap (λ slots. open_slot slots title) (slots_kept blocks files kept) ∙ open_same blocks title files
 
-  found_is : find_slot (slots_of blocks) title ≡ find_place title files
-  found_is = ap (λ slots. find_slot slots title) (slots_kept blocks files kept) ∙ place_same blocks title files
+  found_is : find_slot (slots_of blocks) title ≡ find_index title files
+  found_is = ap (λ slots. find_slot slots title) (slots_kept blocks files kept) ∙ index_same blocks title files
 
   pub may_leave : not_deleted (file_titled title files) ≡ None → MayLeave blocks title
-  may_leave h = go (find_place title files) refl h where
-    go : (place : Option ℕ) → find_place title files ≡ place → not_deleted (option_and_then (λ k. slice_index_or files k None) place) ≡ None → MayLeave blocks title
+  may_leave h = go (find_index title files) refl h where
+    go : (index : Option ℕ) → find_index title files ≡ index → not_deleted (option_and_then (λ k. slice_index_or files k None) index) ≡ None → MayLeave blocks title
     go None e h = absurd (let no : Some cat.NoSuch ≡ None = h in cc)
     go (Some k) e h = record {
-      place = k;
+      index = k;
       open_ = open_is
           ∙ ap (λ o. if is_protected (option_and_then (λ j. slice_index_or files j None) o) then None else o) e ∙ free_of (slice_index_or files k None) h;
       slot = found_is ∙ e;
@@ -171,9 +171,9 @@ module _ (files : List (Option StoredFile)) (blocks : List (List ℕ)) (title : 
         unmarked false h = refl
 
   pub may_not_leave : (why : CatEnd) → not_deleted (file_titled title files) ≡ Some why → open_slot (slots_of blocks) title ≡ None
-  may_not_leave why h = open_is ∙ go (find_place title files) refl h where
-    go : (place : Option ℕ) → find_place title files ≡ place → not_deleted (option_and_then (λ k. slice_index_or files k None) place) ≡ Some why
-        → (if is_protected (option_and_then (λ k. slice_index_or files k None) place) then None else place) ≡ None
+  may_not_leave why h = open_is ∙ go (find_index title files) refl h where
+    go : (index : Option ℕ) → find_index title files ≡ index → not_deleted (option_and_then (λ k. slice_index_or files k None) index) ≡ Some why
+        → (if is_protected (option_and_then (λ k. slice_index_or files k None) index) then None else index) ≡ None
     go None e h = refl
     go (Some k) e h = held_by (slice_index_or files k None) (find_titled title files k e) h where
       held_by : (file : Option StoredFile) → is_titled title file ≡ true → not_deleted file ≡ Some why → (if is_protected file then None else Some k) ≡ None
@@ -204,17 +204,17 @@ leaves_slots (Err (cat.TooLarge n)) wanted slots old new open_ same leaves = abs
 leaves_slots (Err cat.CatalogFull) wanted slots old new open_ same leaves = absurd (let no : true ≡ false = open_ in cc)
 leaves_slots (Err (cat.Full n m)) wanted slots old new open_ same leaves = absurd (let no : true ≡ false = open_ in cc)
 
-pub stored_slots : {X : Type 0} (answer : Result X CatEnd) (title : List ℕ) (file : File) (place : ℕ) (old new : List (List ℕ)) → is_refused answer ≡ false
-    → slot_for (slots_of old) title ≡ Some place → Leaves answer (slots_of old) (put_at (slot_for (slots_of old) title) file (slots_of old)) old new
-    → Slots answer (put_slot (slots_of old) place (Some file)) old new
-stored_slots answer title file place old new open_ is = leaves_slots answer _ _ old new open_ (ap (λ o. put_at o file (slots_of old)) is)
+pub stored_slots : {X : Type 0} (answer : Result X CatEnd) (title : List ℕ) (file : File) (index : ℕ) (old new : List (List ℕ)) → is_refused answer ≡ false
+    → slot_for (slots_of old) title ≡ Some index → Leaves answer (slots_of old) (put_at (slot_for (slots_of old) title) file (slots_of old)) old new
+    → Slots answer (put_slot (slots_of old) index (Some file)) old new
+stored_slots answer title file index old new open_ is = leaves_slots answer _ _ old new open_ (ap (λ o. put_at o file (slots_of old)) is)
 
-pub removed_slots : {X : Type 0} (answer : Result X CatEnd) (title : List ℕ) (place : ℕ) (old new : List (List ℕ)) → is_refused answer ≡ false
-    → find_slot (slots_of old) title ≡ Some place → Leaves answer (slots_of old) (slots_changed deleted title (slots_of old)) old new
-    → Slots answer (put_slot (slots_of old) place None) old new
-removed_slots answer title place old new open_ is =
+pub removed_slots : {X : Type 0} (answer : Result X CatEnd) (title : List ℕ) (index : ℕ) (old new : List (List ℕ)) → is_refused answer ≡ false
+    → find_slot (slots_of old) title ≡ Some index → Leaves answer (slots_of old) (slots_changed deleted title (slots_of old)) old new
+    → Slots answer (put_slot (slots_of old) index None) old new
+removed_slots answer title index old new open_ is =
     leaves_slots answer _ _ old new open_
-    (ap (λ o. changed_at deleted o (slots_of old)) is ∙ ap (λ slot. slice_set (slots_of old) place slot) (nothing (slice_index_or (slots_of old) place None)))
+    (ap (λ o. changed_at deleted o (slots_of old)) is ∙ ap (λ slot. slice_set (slots_of old) index slot) (nothing (slice_index_or (slots_of old) index None)))
   where
     nothing : (slot : Option File) → option_and_then deleted slot ≡ None
     nothing None = refl

@@ -1,4 +1,4 @@
--- Writing to the buffer.
+-- Words of contracts. Writing to the buffer.
 use Rattle.std.specs.Prelude.{◌≡◌, ℕ, true, false, nat_lt, List, [], ◌∷◌, ◌++◌, length, Option, Some, None, Result, Ok, Err}
 use Rattle.edi_calls.specs.State.{most_bytes}
 use Rattle.edi_system.specs.declared.ends.Stop.{Stop}

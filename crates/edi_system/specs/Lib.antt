@@ -4,4 +4,6 @@ pub mod Ends
 pub mod Parts
 pub mod Reading
 pub mod Catalogue
+pub mod InState
 pub mod AsCalls
+pub mod Closing

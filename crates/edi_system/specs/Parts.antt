@@ -1,15 +1,40 @@
--- What the calls on one object leave of a system.
-use Rattle.std.specs.Prelude.{◌≡◌, ℕ, ◌-◌, ◌≤◌, Bool, true, false, not, ◌==◌, List, [], ◌∷◌, ◌++◌, take, length, slice_get, Option, None}
+-- Words of contracts. What the calls on one object leave of a system.
+use Rattle.std.specs.Prelude.{◌≡◌, ℕ, ◌-◌, ◌≤◌, Bool, true, false, not, ◌==◌, List, [], ◌∷◌, ◌++◌, take, length, slice_get, Option, None, IfSome}
 use Rattle.std.specs.Option.{option_map_or}
 use Rattle.edi_told.specs.Told.{WhereTold}
 use Rattle.edi_calls.specs.State.{State}
-use Rattle.edi_system.specs.State.{terminal_in, printer_in, due_in}
+use Rattle.edi_image.specs.Image.{mount_fault_of}
+use Rattle.edi_system.specs.State.{buffer_in, drive_in, input_in, terminal_in, printer_in, due_in}
 use Rattle.edi_system.specs.declared.system.System.{System}
 
+-- the blocks of a drive are a valid image, where they are told
+abbrev pub IsValid : Option (List (List ℕ)) → Type 0
+IsValid disk = IfSome disk (λ blocks. mount_fault_of blocks ≡ None)
+
+-- the bytes that were taken are the first of those that are taken now
+abbrev pub Grows : (taken now : List ℕ) → Type 0
+Grows taken now = take (length taken) now ≡ taken
+
+-- What is told of a drive, an input, a terminal and a printer before and after: what is told in the end was told at the start,
+-- the blocks are a valid image, and what the terminal has taken only grows.
+pub record ToldStays (disk disk' : Option (List (List ℕ))) (input input' shown shown' printed printed' : Option (List ℕ)) : Type 0 where
+  pub drive : disk ≡ None → disk' ≡ None
+  pub source : input ≡ None → input' ≡ None
+  pub terminal : shown ≡ None → shown' ≡ None
+  pub printer : printed ≡ None → printed' ≡ None
+  pub valid : IsValid disk'
+  pub grows : WhereTold shown shown' Grows
+
+-- the same of the objects of a system, whatever a call answers
+abbrev pub KeepsTold : {D S T P : Type 0} → (contents : D → Option (List (List ℕ))) → (left : S → Option (List ℕ)) → (shown : T → Option (List ℕ)) → (printed : P → Option (List ℕ)) → (before after : System D S T P) → Type 0
+KeepsTold contents left shown printed before after =
+    ToldStays (contents (drive_in before)) (contents (drive_in after)) (left (input_in before)) (left (input_in after)) (shown (terminal_in before))
+    (shown (terminal_in after)) (printed (printer_in before)) (printed (printer_in after))
+
 -- no file is open, and no line was begun on the terminal
-pub record Begins {D S T P : Type 0} (system : System D S T P) : Type 0 where
+pub record SystemBegins {D S T P : Type 0} (system : System D S T P) : Type 0 where
   pub found : system.found ≡ None
-  pub buffer : system.buffer ≡ None
+  pub buffer : buffer_in system ≡ None
   pub due : due_in system ≡ false
 
 -- only the input was used

@@ -1,18 +1,18 @@
--- Reading a text of the catalogue.
-use Rattle.std.specs.Prelude.{◌≡◌, ℕ, ◌≤◌, Bool, true, false, ◌==◌, if◌then◌else◌, List, slice_get, Option, Some, None, Result, Ok, Err, ⊤}
+-- Words of contracts. Reading a text of the catalogue.
+use Rattle.std.specs.Prelude.{◌≡◌, ℕ, ◌≤◌, ◌+◌, Bool, true, false, nat_lt, ◌==◌, if◌then◌else◌, List, slice_get, Option, Some, None, Result, Ok, Err, ⊤}
 use Rattle.std.specs.Option.{option_map, option_and_then}
 use Rattle.std.specs.Str.{bytes_eq}
-use Rattle.edi_told.specs.Faults.{Rose}
+use Rattle.edi_told.specs.Faults.{CountRose}
 use Rattle.edi_disk.specs.Shown.{drive_of, reference_of}
 use Rattle.edi_calls.specs.State.{Found, State, find_file, title_of}
-use Rattle.edi_calls.specs.Calls.{bytes_of, found_bytes, is_text}
+use Rattle.edi_calls.specs.Calls.{bytes_of, found_bytes, is_text, word_of}
 use Rattle.edi_calls.specs.Ends.{IsTorn}
 use Rattle.edi_catalog.specs.declared.catalog.Catalog.{Catalog}
 use Rattle.edi_catalog.specs.declared.entry.Entry.{Entry}
 use Rattle.edi_catalog.specs.Files.{entry_of, file_titled}
 use Rattle.edi_image.specs.Image.{slots_of}
 use Rattle.edi_image.specs.Stored.{StoredFile}
-use Rattle.edi_catalog.specs.Mounted.{disk_of, files_of}
+use Rattle.edi_catalog.specs.Mounted.{disk_of, files_of, room_reference}
 use Rattle.edi_system.specs.declared.ends.Stop.{Stop}
 use Rattle.edi_system.specs.declared.ends.Stop.TheVariants as stop
 use Rattle.edi_system.specs.declared.reading.Reading.{Reading}
@@ -64,9 +64,36 @@ byte_in blocks title position = slice_get (bytes_of (find_file (slots_of blocks)
 -- The catalogue is only read, and is as it was where the drive has not failed.
 pub record OnlyReads {D : Type 0} (faults : D → ℕ) (fault : Bool) (before after : Catalog D) : Type 0 where
   pub files : files_of after ≡ files_of before
+  pub same_room : room_reference after ≡ room_reference before
   pub same_reference : reference_of (disk_of after) ≡ reference_of (disk_of before)
   pub later : faults (drive_of (disk_of before)) ≤ faults (drive_of (disk_of after))
-  pub cause : fault ≡ true → Rose (faults (drive_of (disk_of before))) (faults (drive_of (disk_of after)))
+  pub cause : fault ≡ true → CountRose (faults (drive_of (disk_of before))) (faults (drive_of (disk_of after)))
+
+-- The next byte of the found file was looked for, of which there is one exactly before its end, and the file stays where it is.
+abbrev pub LooksIn : Bool → (before after : Option Reading) → Type 0
+LooksIn there None after = ⊥
+LooksIn there (Some reading) None = ⊥
+LooksIn there (Some reading) (Some next) = (next ≡ record reading { kept = next.kept }) × (there ≡ nat_lt reading.position reading.length)
+
+-- the word that tells whether bytes are left
+abbrev pub MoreIs : Option ℕ → (before after : Option Reading) → Type 0
+MoreIs None before after = ⊥
+MoreIs (Some word) before None = ⊥
+MoreIs (Some word) None (Some next) = ⊥
+MoreIs (Some word) (Some reading) (Some next) =
+    (next ≡ record reading { kept = next.kept }) × (word ≡ word_of (nat_lt reading.position reading.length))
+
+-- the position is one further, or at the end the same, and then the word is that of the end
+abbrev pub GoesOn : Bool → ℕ → (before after : Reading) → Type 0
+GoesOn true word before after = after ≡ record before { position = before.position + 1; kept = after.kept }
+GoesOn false word before after = (after ≡ record before { kept = after.kept }) × (word ≡ 25)
+
+abbrev pub ReadsOn : Option ℕ → (before after : Option Reading) → Type 0
+ReadsOn None before after = ⊥
+ReadsOn (Some word) before None = ⊥
+ReadsOn (Some word) None (Some next) = ⊥
+ReadsOn (Some word) (Some reading) (Some next) =
+    GoesOn (nat_lt reading.position reading.length) word reading next
 
 -- the next byte of the found file was looked for, which changes nothing
 abbrev pub LooksAt : Result (Option ℕ) Stop → Option Found → State → State → Type 0

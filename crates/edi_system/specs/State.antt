@@ -1,4 +1,4 @@
--- What a system over its devices stands for: a catalogue of files, an input, a terminal and a printer.
+-- Words of contracts. What a system over its devices stands for: a catalogue of files, an input, a terminal and a printer.
 use Rattle.std.specs.Prelude.{◌≡◌, ℕ, ◌≤◌, Bool, List, length, slice_index, Option, Some, None, IfSome}
 use Rattle.std.specs.Option.{option_map, option_and_then, ForSome}
 use Rattle.edi_disk.specs.Shown.{drive_of}
@@ -32,6 +32,10 @@ terminal_in system = system.terminal.now
 abbrev pub printer_in : {D S T P : Type 0} → System D S T P → P
 printer_in system = system.printer.now
 
+-- the bytes of the file that is being written, if one is
+abbrev pub buffer_in : {D S T P : Type 0} → System D S T P → Option (List ℕ)
+buffer_in system = system.buffer.now
+
 -- the references to them
 abbrev pub input_reference : {D S T P : Type 0} → System D S T P → ℕ
 input_reference system = system.input.ghost_name
@@ -41,6 +45,9 @@ terminal_reference system = system.terminal.ghost_name
 
 abbrev pub printer_reference : {D S T P : Type 0} → System D S T P → ℕ
 printer_reference system = system.printer.ghost_name
+
+abbrev pub buffer_reference : {D S T P : Type 0} → System D S T P → ℕ
+buffer_reference system = system.buffer.ghost_name
 
 -- the object that has failed
 abbrev pub failed_in : {D S T P : Type 0} → System D S T P → Option Outside
@@ -72,7 +79,7 @@ state_with system blocks input shown printed = record {
   slots = slots_of blocks;
   blocks = length blocks;
   found = option_map found_of system.found;
-  buffer = system.buffer;
+  buffer = buffer_in system;
 }
 
 -- what four options have, where all have it
@@ -82,23 +89,23 @@ all_told make a b c e =
 
 -- the state of a system, where all its objects tell what they hold
 abbrev pub state_of : {D S T P : Type 0} → (D → Option (List (List ℕ))) → (S → Option (List ℕ)) → (T → Option (List ℕ)) → (P → Option (List ℕ)) → System D S T P → Option State
-state_of held left shown printed system =
-    all_told (state_with system) (held (drive_in system)) (left (input_in system)) (shown (terminal_in system)) (printed (printer_in system))
+state_of contents left shown printed system =
+    all_told (state_with system) (contents (drive_in system)) (left (input_in system)) (shown (terminal_in system)) (printed (printer_in system))
 
 -- ---- what is known of a system that has not failed
 
 -- A text of the catalogue is being read: its position is not behind its end, and where a page is kept, it is that page of the
 -- text.
-pub record IsReading {D : Type 0} (held : D → Option (List (List ℕ))) (catalog : Catalog D) (page : List ℕ) (reading : Reading) : Type 0 where
+pub record IsReading {D : Type 0} (contents : D → Option (List (List ℕ))) (catalog : Catalog D) (page : List ℕ) (reading : Reading) : Type 0 where
   pub file : StoredFile
   pub there : file_titled reading.title (files_of catalog) ≡ Some file
   pub text : file.record_.kind ≡ kind.Text
   pub length_ : file.record_.length ≡ reading.length
   pub within : reading.position ≤ reading.length
-  pub kept : IfSome reading.kept (λ i. ForSome (held (drive_of (disk_of catalog))) (λ blocks. block_at blocks (slice_index file.pages i) ≡ page))
+  pub kept : IfSome reading.kept (λ i. ForSome (contents (drive_of (disk_of catalog))) (λ blocks. block_at blocks (slice_index file.pages i) ≡ page))
 
 -- A call may be made: nothing has failed, the catalogue is mounted, and the file that is being read is there.
-pub record IsReady {D S T P : Type 0} (held : D → Option (List (List ℕ))) (count : D → ℕ) (system : System D S T P) : Type 0 where
+pub record IsReady {D S T P : Type 0} (contents : D → Option (List (List ℕ))) (count : D → ℕ) (system : System D S T P) : Type 0 where
   pub nothing_failed : failed_in system ≡ None
-  pub mounted : IsMounted held count (catalog_in system)
-  pub reading : IfSome system.found (IsReading held (catalog_in system) system.page)
+  pub mounted : IsMounted contents count (catalog_in system)
+  pub reading : IfSome system.found (IsReading contents (catalog_in system) system.page)

@@ -6,23 +6,25 @@ ghost use Rattle.edi_calls.specs.Calls.{argument_words, call};
 ghost use Rattle.edi_system.specs.State.{state_of, IsReady};
 ghost use Rattle.edi_system.specs.AsCalls.{KeepsDue};
 ghost use Rattle.edi_system.specs.Ends.{is_fault, Keeps, Reaches};
+ghost use Rattle.edi_system.specs.Parts.{KeepsTold};
 
 use crate::ends::Stop;
 use crate::system::System;
 use edi_calls::{CallEnd, Calls};
 use edi_host::{Drive, Sink, Source};
 
-impl<'a, D: Drive, S: Source, T: Sink, P: Sink> System<'a, D, S, T, P> {
+impl<D: Drive, S: Source, T: Sink, P: Sink> System<'_, '_, '_, '_, '_, '_, D, S, T, P> {
     // Makes the call of this number.
     fn step(&mut self, number: u8, args: &[u16]) -> Result<Option<u16>, Stop>
-        requires ready { IsReady D.held D.count self.old }
+        requires ready { IsReady D.contents D.count self.old }
         requires from { 1 ≤ number }
         requires to { number ≤ 10 }
         requires arguments { length args.now ≡ argument_words number }
-        ensures exact { WhereTold (state_of D.held S.left T.taken P.taken self.old) (state_of D.held S.left T.taken P.taken self.new)
+        ensures exact { WhereTold (state_of D.contents S.left T.taken P.taken self.old) (state_of D.contents S.left T.taken P.taken self.new)
             (λ before after. Reaches (call number args.now before) result before after) }
-        ensures ready { is_fault result ≡ false → IsReady D.held D.count self.new }
+        ensures ready { is_fault result ≡ false → IsReady D.contents D.count self.new }
         ensures due { KeepsDue T.taken self.old self.new }
+        ensures told { KeepsTold D.contents S.left T.taken P.taken self.old self.new }
         ensures keeps { Keeps D.faults S.faults T.faults P.faults (is_fault result) self.old self.new }
     {
         match number {
@@ -40,19 +42,23 @@ impl<'a, D: Drive, S: Source, T: Sink, P: Sink> System<'a, D, S, T, P> {
     }
 }
 
-impl<'a, D: Drive, S: Source, T: Sink, P: Sink> Calls for System<'a, D, S, T, P> {
+impl<'d, 'c, 'i, 't, 'p, 'b, D: Drive, S: Source, T: Sink, P: Sink> Calls
+    for System<'d, 'c, 'i, 't, 'p, 'b, D, S, T, P> {
+    ghost use Rattle.std.proofs.Common.{sym, ◌∙◌};
     ghost use Rattle.edi_system.specs.State.{faults_of, state_of};
-    ghost use Rattle.edi_system.specs.AsCalls.{HasFailed, IsDueSince, references_in};
+    ghost use Rattle.edi_system.specs.AsCalls.{HasFailed, Lasts, references_in};
 
-    ghost state = { λ system. state_of D.held S.left T.taken P.taken system };
+    ghost state = { λ system. state_of D.contents S.left T.taken P.taken system };
 
     ghost faults = { λ system. faults_of D.faults S.faults T.faults P.faults system };
 
-    ghost failed = { λ system outside. HasFailed D.held D.count system outside };
+    ghost failed = { λ system outside. HasFailed D.contents D.count system outside };
 
     ghost references = { λ system. references_in system };
 
-    ghost lasting = { λ system start. IsDueSince T.taken system start };
+    ghost lasting = { λ system n. Lasts D.contents S.left T.taken P.taken system n };
+
+    ghost one_failed = { λ system one other p q. sym p.is ∙ q.is };
 
     fn call(&mut self, number: u8, args: &[u16], answer: &mut [u16]) -> CallEnd {
         match self.step(number, args) {

@@ -1,17 +1,21 @@
 //! The calls of the catalogue, on a system.
 
-ghost use Rattle.std.specs.Prelude.{◌≡◌, ◌≤◌, ◌<◌, ◌+◌, ◌-◌, ◌^◌, ◌↔◌, true, false, None, Some, Err, IfOk, IfSome, length, slice_index_or};
+ghost use Rattle.std.specs.Prelude.{◌≡◌, ◌⊎◌, ◌≤◌, ◌<◌, ◌+◌, ◌-◌, ◌^◌, ◌↔◌, true, false, None, Some, Err, IfErr, IfOk, IfSome, length, slice_index_or};
 ghost use Rattle.std.specs.Option.{option_map};
 ghost use Rattle.edi_told.specs.Told.{WhereTold};
-ghost use Rattle.edi_calls.specs.State.{most_bytes, pages_of};
+ghost use Rattle.edi_calls.specs.State.{find_file, free, fresh, most_bytes, pages_of, slot_at};
 ghost use Rattle.edi_catalog.specs.Changes.{Changes, deleted, file_protected, file_renamed, kept_changed, kept_protected, kept_renamed, not_deleted, not_found, not_renamed, slots_changed, Untouched};
-ghost use Rattle.edi_catalog.specs.Storing.{StoreChanges, blocks_free, not_stored};
+ghost use Rattle.edi_catalog.specs.InSlots.{entry_told, free_in, no_deletion, no_renaming, no_room, no_such, PageIn};
+ghost use Rattle.edi_image.specs.Image.{slots_of};
+ghost use Rattle.edi_system.specs.InState.{left_open, ReadsPage, ReadsWhole, StateAnswer};
+ghost use Rattle.edi_catalog.specs.Storing.{slots_stored, StoreChanges, blocks_free, not_stored};
 ghost use Rattle.edi_catalog.specs.Files.{entry_of, file_titled, FileIs, PageIs};
 ghost use Rattle.edi_image.specs.Stored.{blocks_taken};
 ghost use Rattle.edi_catalog.specs.Mounted.{files_of};
-ghost use Rattle.edi_system.specs.State.{catalog_in, drive_in, failed_in, IsReady};
+ghost use Rattle.edi_system.specs.State.{catalog_in, drive_in, failed_in, state_of, IsReady};
 ghost use Rattle.edi_system.specs.Ends.{Keeps};
-ghost use Rattle.edi_system.specs.Catalogue.{failed_at, is_drive_fault, is_refused, IsClosed, OnlyCatalog, OnlyFiles, OpenStays, PlaceStays};
+ghost use Rattle.edi_system.specs.Parts.{KeepsTold};
+ghost use Rattle.edi_system.specs.Catalogue.{failed_at, is_drive_fault, is_refused, IsClosed, OnlyCatalog, OnlyFiles, OpenStays, PositionStays};
 
 use crate::reading::forget_page;
 use crate::system::{PAGE, System};
@@ -51,10 +55,12 @@ pub(crate) fn is_refused<X>(answer: &Result<X, CatEnd>) -> bool
     }
 }
 
-impl<'a, D: Drive, S: Source, T: Sink, P: Sink> System<'a, D, S, T, P> {
+impl<D: Drive, S: Source, T: Sink, P: Sink> System<'_, '_, '_, '_, '_, '_, D, S, T, P> {
     /// The file with this title; `None` exactly where no file has it.
     pub fn find(&self, title: &Title) -> Option<Entry>
         ensures exact { result ≡ option_map entry_of (file_titled title.now (files_of (catalog_in self.now))) }
+        ensures in_slots { IsReady D.contents D.count self.now → IfSome (D.contents (drive_in self.now))
+            (λ blocks. result ≡ option_map entry_told (find_file (slots_of blocks) title.now)) }
     {
         self.catalog.find(title)
     }
@@ -62,14 +68,17 @@ impl<'a, D: Drive, S: Source, T: Sink, P: Sink> System<'a, D, S, T, P> {
     /// The file in a slot; `None` exactly where the slot is free, or there is none of this number.
     pub fn slot(&self, i: usize) -> Option<Entry>
         ensures exact { result ≡ option_map entry_of (slice_index_or (files_of (catalog_in self.now)) i None) }
+        ensures in_slots { IsReady D.contents D.count self.now → IfSome (D.contents (drive_in self.now))
+            (λ blocks. result ≡ option_map entry_told (slot_at (slots_of blocks) i)) }
     {
         self.catalog.slot(i)
     }
 
     /// The number of free blocks.
     pub fn free(&self) -> u32
-        requires ready { IsReady D.held D.count self.now }
+        requires ready { IsReady D.contents D.count self.now }
         ensures exact { result ≡ D.count (drive_in self.now) - (33 + blocks_taken (files_of (catalog_in self.now))) }
+        ensures in_slots { IfSome (D.contents (drive_in self.now)) (λ blocks. result ≡ free_in blocks) }
     {
         self.catalog.free()
     }
@@ -77,17 +86,23 @@ impl<'a, D: Drive, S: Source, T: Sink, P: Sink> System<'a, D, S, T, P> {
     /// Reads page `i` of a file, which has more than `i` pages, where a file has the title. What stands in `into` beyond the
     /// file's length is open. The one refusal is `NoSuch`.
     pub fn read_page(&mut self, title: &Title, i: u32, into: &mut [u8; PAGE]) -> Result<(), CatEnd>
-        requires ready { IsReady D.held D.count self.old }
+        requires ready { IsReady D.contents D.count self.old }
         requires page { IfSome (file_titled title.now (files_of (catalog_in self.old))) (λ file. i < pages_of file.record_.length) }
         ensures no_such { (result ≡ Err CatEnd.NoSuch) ↔ (file_titled title.now (files_of (catalog_in self.old)) ≡ None) }
+        ensures refusals { IfErr result (λ why. (why ≡ CatEnd.NoSuch) ⊎ (why ≡ CatEnd.Fault)) }
         ensures untouched { result ≡ Err CatEnd.NoSuch → (self.new ≡ self.old) × (into.new ≡ into.old) }
         ensures files { files_of (catalog_in self.new) ≡ files_of (catalog_in self.old) }
-        ensures reads { WhereTold (D.held (drive_in self.old)) (D.held (drive_in self.new))
+        ensures reads { WhereTold (D.contents (drive_in self.old)) (D.contents (drive_in self.new))
             (λ old new. (new ≡ old) × PageIs result (file_titled title.now (files_of (catalog_in self.old))) i into.new old) }
+        ensures page { WhereTold (D.contents (drive_in self.old)) (D.contents (drive_in self.new))
+            (λ old new. PageIn result (find_file (slots_of old) title.now) i into.new) }
+        ensures exact { WhereTold (state_of D.contents S.left T.taken P.taken self.old) (state_of D.contents S.left T.taken P.taken self.new)
+            (λ before after. (after ≡ before) × ReadsPage result (find_file before.slots title.now) i into.new) }
         ensures count { D.count (drive_in self.new) ≡ D.count (drive_in self.old) }
         ensures only { OnlyCatalog self.old self.new }
         ensures failed { failed_in self.new ≡ failed_at result }
-        ensures ready { is_drive_fault result ≡ false → IsReady D.held D.count self.new }
+        ensures ready { is_drive_fault result ≡ false → IsReady D.contents D.count self.new }
+        ensures told { KeepsTold D.contents S.left T.taken P.taken self.old self.new }
         ensures keeps { Keeps D.faults S.faults T.faults P.faults (is_drive_fault result) self.old self.new }
     {
         let answer = self.catalog.read_page(title, i, into);
@@ -98,18 +113,22 @@ impl<'a, D: Drive, S: Source, T: Sink, P: Sink> System<'a, D, S, T, P> {
     /// Reads a whole file into `into`, which has room for 261,120 bytes, and gives the number of its bytes. What stands in
     /// `into` beyond them is open. The one refusal is `NoSuch`.
     pub fn read_into(&mut self, title: &Title, into: &mut [u8]) -> Result<u32, CatEnd>
-        requires ready { IsReady D.held D.count self.old }
+        requires ready { IsReady D.contents D.count self.old }
         requires room { most_bytes ≤ length into.old }
         ensures no_such { (result ≡ Err CatEnd.NoSuch) ↔ (file_titled title.now (files_of (catalog_in self.old)) ≡ None) }
         ensures length { IfOk result (λ n. option_map (λ file. file.record_.length) (file_titled title.now (files_of (catalog_in self.old))) ≡ Some n) }
+        ensures refusals { IfErr result (λ why. (why ≡ CatEnd.NoSuch) ⊎ (why ≡ CatEnd.Fault)) }
         ensures untouched { result ≡ Err CatEnd.NoSuch → (self.new ≡ self.old) × (into.new ≡ into.old) }
         ensures files { files_of (catalog_in self.new) ≡ files_of (catalog_in self.old) }
-        ensures reads { WhereTold (D.held (drive_in self.old)) (D.held (drive_in self.new))
+        ensures reads { WhereTold (D.contents (drive_in self.old)) (D.contents (drive_in self.new))
             (λ old new. (new ≡ old) × FileIs result title.now into.new old) }
+        ensures exact { WhereTold (state_of D.contents S.left T.taken P.taken self.old) (state_of D.contents S.left T.taken P.taken self.new)
+            (λ before after. (after ≡ before) × ReadsWhole result (find_file before.slots title.now) into.new) }
         ensures count { D.count (drive_in self.new) ≡ D.count (drive_in self.old) }
         ensures only { OnlyCatalog self.old self.new }
         ensures failed { failed_in self.new ≡ failed_at result }
-        ensures ready { is_drive_fault result ≡ false → IsReady D.held D.count self.new }
+        ensures ready { is_drive_fault result ≡ false → IsReady D.contents D.count self.new }
+        ensures told { KeepsTold D.contents S.left T.taken P.taken self.old self.new }
         ensures keeps { Keeps D.faults S.faults T.faults P.faults (is_drive_fault result) self.old self.new }
     {
         let answer = self.catalog.read_into(title, into);
@@ -121,17 +140,20 @@ impl<'a, D: Drive, S: Source, T: Sink, P: Sink> System<'a, D, S, T, P> {
     /// file and the buffer. A named refusal leaves them: in their order `Protected`; `TooLarge` with the number of bytes;
     /// `CatalogFull`; `Full` with the blocks that the file would take and those that are free.
     pub fn store(&mut self, title: &Title, kind: FileKind, bytes: &[u8]) -> Result<(), CatEnd>
-        requires ready { IsReady D.held D.count self.old }
+        requires ready { IsReady D.contents D.count self.old }
         requires size { length bytes.now < 2 ^ 32 }
-        ensures changes { StoreChanges D.held D.count D.faults result
+        ensures changes { StoreChanges D.contents D.count D.faults result
             (not_stored title.now (length bytes.now) (blocks_free (D.count (drive_in self.old)) (files_of (catalog_in self.old))) (files_of (catalog_in self.old)))
             title.now kind bytes.now (catalog_in self.old) (catalog_in self.new) }
+        ensures exact { WhereTold (state_of D.contents S.left T.taken P.taken self.old) (state_of D.contents S.left T.taken P.taken self.new)
+            (λ before after. StateAnswer result (no_room title.now (length bytes.now) (free before) before.slots) (slots_stored title.now kind bytes.now before.slots) fresh before after) }
         ensures untouched { Untouched result self.old self.new }
         ensures stays { is_refused result ≡ true → OpenStays self.old self.new }
         ensures closes { is_refused result ≡ false → IsClosed self.new }
         ensures only { OnlyFiles self.old self.new }
         ensures failed { failed_in self.new ≡ failed_at result }
-        ensures ready { is_drive_fault result ≡ false → IsReady D.held D.count self.new }
+        ensures ready { is_drive_fault result ≡ false → IsReady D.contents D.count self.new }
+        ensures told { KeepsTold D.contents S.left T.taken P.taken self.old self.new }
         ensures keeps { Keeps D.faults S.faults T.faults P.faults (is_drive_fault result) self.old self.new }
     {
         let answer = self.catalog.store(title, kind, bytes);
@@ -147,14 +169,17 @@ impl<'a, D: Drive, S: Source, T: Sink, P: Sink> System<'a, D, S, T, P> {
     /// Protects the file with this title, which may be protected already. The found file, with its
     /// position, and the buffer stay. The one refusal is `NoSuch`.
     pub fn protect(&mut self, title: &Title) -> Result<(), CatEnd>
-        requires ready { IsReady D.held D.count self.old }
-        ensures changes { Changes D.held D.count D.faults result (not_found (file_titled title.now (files_of (catalog_in self.old))))
+        requires ready { IsReady D.contents D.count self.old }
+        ensures changes { Changes D.contents D.count D.faults result (not_found (file_titled title.now (files_of (catalog_in self.old))))
             (kept_changed (kept_protected true) title.now (files_of (catalog_in self.old))) (slots_changed (file_protected true) title.now) (catalog_in self.old) (catalog_in self.new) }
+        ensures exact { WhereTold (state_of D.contents S.left T.taken P.taken self.old) (state_of D.contents S.left T.taken P.taken self.new)
+            (λ before after. StateAnswer result (no_such (find_file before.slots title.now)) (slots_changed (file_protected true) title.now before.slots) left_open before after) }
         ensures untouched { Untouched result self.old self.new }
-        ensures stays { PlaceStays self.old self.new }
+        ensures stays { PositionStays self.old self.new }
         ensures only { OnlyFiles self.old self.new }
         ensures failed { failed_in self.new ≡ failed_at result }
-        ensures ready { is_drive_fault result ≡ false → IsReady D.held D.count self.new }
+        ensures ready { is_drive_fault result ≡ false → IsReady D.contents D.count self.new }
+        ensures told { KeepsTold D.contents S.left T.taken P.taken self.old self.new }
         ensures keeps { Keeps D.faults S.faults T.faults P.faults (is_drive_fault result) self.old self.new }
     {
         let answer = self.catalog.protect(title);
@@ -169,14 +194,17 @@ impl<'a, D: Drive, S: Source, T: Sink, P: Sink> System<'a, D, S, T, P> {
     /// Takes the protection from the file with this title, which may have none. The found file, with its
     /// position, and the buffer stay. The one refusal is `NoSuch`.
     pub fn release(&mut self, title: &Title) -> Result<(), CatEnd>
-        requires ready { IsReady D.held D.count self.old }
-        ensures changes { Changes D.held D.count D.faults result (not_found (file_titled title.now (files_of (catalog_in self.old))))
+        requires ready { IsReady D.contents D.count self.old }
+        ensures changes { Changes D.contents D.count D.faults result (not_found (file_titled title.now (files_of (catalog_in self.old))))
             (kept_changed (kept_protected false) title.now (files_of (catalog_in self.old))) (slots_changed (file_protected false) title.now) (catalog_in self.old) (catalog_in self.new) }
+        ensures exact { WhereTold (state_of D.contents S.left T.taken P.taken self.old) (state_of D.contents S.left T.taken P.taken self.new)
+            (λ before after. StateAnswer result (no_such (find_file before.slots title.now)) (slots_changed (file_protected false) title.now before.slots) left_open before after) }
         ensures untouched { Untouched result self.old self.new }
-        ensures stays { PlaceStays self.old self.new }
+        ensures stays { PositionStays self.old self.new }
         ensures only { OnlyFiles self.old self.new }
         ensures failed { failed_in self.new ≡ failed_at result }
-        ensures ready { is_drive_fault result ≡ false → IsReady D.held D.count self.new }
+        ensures ready { is_drive_fault result ≡ false → IsReady D.contents D.count self.new }
+        ensures told { KeepsTold D.contents S.left T.taken P.taken self.old self.new }
         ensures keeps { Keeps D.faults S.faults T.faults P.faults (is_drive_fault result) self.old self.new }
     {
         let answer = self.catalog.release(title);
@@ -191,15 +219,18 @@ impl<'a, D: Drive, S: Source, T: Sink, P: Sink> System<'a, D, S, T, P> {
     /// Deletes the file with this title, and drops the found file and the buffer. A named refusal leaves them: in their order
     /// `NoSuch`, `Protected`.
     pub fn delete(&mut self, title: &Title) -> Result<(), CatEnd>
-        requires ready { IsReady D.held D.count self.old }
-        ensures changes { Changes D.held D.count D.faults result (not_deleted (file_titled title.now (files_of (catalog_in self.old))))
+        requires ready { IsReady D.contents D.count self.old }
+        ensures changes { Changes D.contents D.count D.faults result (not_deleted (file_titled title.now (files_of (catalog_in self.old))))
             (kept_changed deleted title.now (files_of (catalog_in self.old))) (slots_changed deleted title.now) (catalog_in self.old) (catalog_in self.new) }
+        ensures exact { WhereTold (state_of D.contents S.left T.taken P.taken self.old) (state_of D.contents S.left T.taken P.taken self.new)
+            (λ before after. StateAnswer result (no_deletion (find_file before.slots title.now)) (slots_changed deleted title.now before.slots) fresh before after) }
         ensures untouched { Untouched result self.old self.new }
         ensures stays { is_refused result ≡ true → OpenStays self.old self.new }
         ensures closes { is_refused result ≡ false → IsClosed self.new }
         ensures only { OnlyFiles self.old self.new }
         ensures failed { failed_in self.new ≡ failed_at result }
-        ensures ready { is_drive_fault result ≡ false → IsReady D.held D.count self.new }
+        ensures ready { is_drive_fault result ≡ false → IsReady D.contents D.count self.new }
+        ensures told { KeepsTold D.contents S.left T.taken P.taken self.old self.new }
         ensures keeps { Keeps D.faults S.faults T.faults P.faults (is_drive_fault result) self.old self.new }
     {
         let answer = self.catalog.delete(title);
@@ -215,15 +246,18 @@ impl<'a, D: Drive, S: Source, T: Sink, P: Sink> System<'a, D, S, T, P> {
     /// Gives the file with the title `old` the title `new`, and drops the found file and the buffer. A named refusal leaves
     /// them: in their order `NoSuch`, `Protected`, `Taken`, also where both titles are the same.
     pub fn rename(&mut self, old: &Title, new: &Title) -> Result<(), CatEnd>
-        requires ready { IsReady D.held D.count self.old }
-        ensures changes { Changes D.held D.count D.faults result (not_renamed (file_titled old.now (files_of (catalog_in self.old))) (file_titled new.now (files_of (catalog_in self.old))))
+        requires ready { IsReady D.contents D.count self.old }
+        ensures changes { Changes D.contents D.count D.faults result (not_renamed (file_titled old.now (files_of (catalog_in self.old))) (file_titled new.now (files_of (catalog_in self.old))))
             (kept_changed (kept_renamed new.now) old.now (files_of (catalog_in self.old))) (slots_changed (file_renamed new.now) old.now) (catalog_in self.old) (catalog_in self.new) }
+        ensures exact { WhereTold (state_of D.contents S.left T.taken P.taken self.old) (state_of D.contents S.left T.taken P.taken self.new)
+            (λ before after. StateAnswer result (no_renaming (find_file before.slots old.now) (find_file before.slots new.now)) (slots_changed (file_renamed new.now) old.now before.slots) fresh before after) }
         ensures untouched { Untouched result self.old self.new }
         ensures stays { is_refused result ≡ true → OpenStays self.old self.new }
         ensures closes { is_refused result ≡ false → IsClosed self.new }
         ensures only { OnlyFiles self.old self.new }
         ensures failed { failed_in self.new ≡ failed_at result }
-        ensures ready { is_drive_fault result ≡ false → IsReady D.held D.count self.new }
+        ensures ready { is_drive_fault result ≡ false → IsReady D.contents D.count self.new }
+        ensures told { KeepsTold D.contents S.left T.taken P.taken self.old self.new }
         ensures keeps { Keeps D.faults S.faults T.faults P.faults (is_drive_fault result) self.old self.new }
     {
         let answer = self.catalog.rename(old, new);

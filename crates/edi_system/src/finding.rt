@@ -1,13 +1,15 @@
 //! The found file.
 
-ghost use Rattle.std.specs.Prelude.{◌≡◌, ◌<◌, false, length, IfOk, IfSome, IsSome};
+ghost use Rattle.std.specs.Prelude.{◌≡◌, ◌<◌, ◌↔◌, false, length, is_some, Ok, Err, None, Some, IfOk, IfSome, IsSome};
 ghost use Rattle.edi_told.specs.Told.{WhereTold};
-ghost use Rattle.edi_calls.specs.Calls.{find, more, read};
-ghost use Rattle.edi_system.specs.State.{state_of, IsReady};
+ghost use Rattle.edi_calls.specs.Calls.{find, more, read, word_of};
+ghost use Rattle.edi_catalog.specs.Mounted.{files_of};
+ghost use Rattle.edi_system.specs.State.{catalog_in, state_of, IsReady};
+ghost use Rattle.edi_system.specs.Catalogue.{OnlyReading};
 ghost use Rattle.edi_system.specs.Ends.{is_fault, Keeps, Reaches};
 ghost use Rattle.edi_system.specs.AsCalls.{KeepsDue};
-ghost use Rattle.edi_system.specs.Parts.{OnlyOpenFiles};
-ghost use Rattle.edi_system.specs.Reading.{LooksAt};
+ghost use Rattle.edi_system.specs.Parts.{KeepsTold, OnlyOpenFiles};
+ghost use Rattle.edi_system.specs.Reading.{text_spelled, LooksAt, LooksIn, MoreIs, ReadsOn};
 
 use crate::ends::Stop;
 use crate::reading::{next_byte, text_spelled};
@@ -16,16 +18,19 @@ use crate::system::System;
 use edi_calls::Outside;
 use edi_host::{Drive, Sink, Source};
 
-impl<'a, D: Drive, S: Source, T: Sink, P: Sink> System<'a, D, S, T, P> {
+impl<D: Drive, S: Source, T: Sink, P: Sink> System<'_, '_, '_, '_, '_, '_, D, S, T, P> {
     /// The text file of a title becomes the found file.
     pub(crate) fn find_text(&mut self, words: &[u16]) -> Result<Option<u16>, Stop>
-        requires ready { IsReady D.held D.count self.old }
+        requires ready { IsReady D.contents D.count self.old }
         requires words { length words.now ≡ 12 }
-        ensures exact { WhereTold (state_of D.held S.left T.taken P.taken self.old) (state_of D.held S.left T.taken P.taken self.new)
+        ensures exact { WhereTold (state_of D.contents S.left T.taken P.taken self.old) (state_of D.contents S.left T.taken P.taken self.new)
             (λ before after. Reaches (find words.now before) result before after) }
         ensures only { OnlyOpenFiles self.old self.new }
-        ensures ready { IsReady D.held D.count self.new }
+        ensures found { self.new.found ≡ text_spelled words.now (files_of (catalog_in self.old)) }
+        ensures answer { result ≡ Ok (Some (word_of (is_some self.new.found))) }
+        ensures ready { IsReady D.contents D.count self.new }
         ensures due { KeepsDue T.taken self.old self.new }
+        ensures told { KeepsTold D.contents S.left T.taken P.taken self.old self.new }
         ensures keeps { Keeps D.faults S.faults T.faults P.faults (is_fault result) self.old self.new }
     {
         let found = text_spelled(&self.catalog, words);
@@ -36,12 +41,16 @@ impl<'a, D: Drive, S: Source, T: Sink, P: Sink> System<'a, D, S, T, P> {
 
     // The byte of the found file at its position, or nothing at its end. The refusals are `NoFile` and `Fault`.
     fn next_found(&mut self) -> Result<Option<u8>, Stop>
-        requires ready { IsReady D.held D.count self.old }
-        ensures exact { WhereTold (state_of D.held S.left T.taken P.taken self.old) (state_of D.held S.left T.taken P.taken self.new)
+        requires ready { IsReady D.contents D.count self.old }
+        ensures exact { WhereTold (state_of D.contents S.left T.taken P.taken self.old) (state_of D.contents S.left T.taken P.taken self.new)
             (λ before after. LooksAt result before.found before after) }
-        ensures ready { is_fault result ≡ false → IsReady D.held D.count self.new }
+        ensures no_file { (result ≡ Err Stop.NoFile) ↔ (self.old.found ≡ None) }
+        ensures looks { IfOk result (λ byte. LooksIn (is_some byte) self.old.found self.new.found) }
+        ensures only { OnlyReading self.old self.new }
+        ensures ready { is_fault result ≡ false → IsReady D.contents D.count self.new }
         ensures inside { IfOk result (λ byte. IsSome byte → IfSome self.new.found (λ reading. reading.position < reading.length)) }
         ensures due { KeepsDue T.taken self.old self.new }
+        ensures told { KeepsTold D.contents S.left T.taken P.taken self.old self.new }
         ensures keeps { Keeps D.faults S.faults T.faults P.faults (is_fault result) self.old self.new }
     {
         let Some(mut reading) = self.found.take() else {
@@ -61,11 +70,15 @@ impl<'a, D: Drive, S: Source, T: Sink, P: Sink> System<'a, D, S, T, P> {
 
     /// Whether bytes of the found file are left.
     pub(crate) fn more(&mut self) -> Result<Option<u16>, Stop>
-        requires ready { IsReady D.held D.count self.old }
-        ensures exact { WhereTold (state_of D.held S.left T.taken P.taken self.old) (state_of D.held S.left T.taken P.taken self.new)
+        requires ready { IsReady D.contents D.count self.old }
+        ensures exact { WhereTold (state_of D.contents S.left T.taken P.taken self.old) (state_of D.contents S.left T.taken P.taken self.new)
             (λ before after. Reaches (more before) result before after) }
-        ensures ready { is_fault result ≡ false → IsReady D.held D.count self.new }
+        ensures no_file { (result ≡ Err Stop.NoFile) ↔ (self.old.found ≡ None) }
+        ensures tells { IfOk result (λ word. MoreIs word self.old.found self.new.found) }
+        ensures only { OnlyReading self.old self.new }
+        ensures ready { is_fault result ≡ false → IsReady D.contents D.count self.new }
         ensures due { KeepsDue T.taken self.old self.new }
+        ensures told { KeepsTold D.contents S.left T.taken P.taken self.old self.new }
         ensures keeps { Keeps D.faults S.faults T.faults P.faults (is_fault result) self.old self.new }
     {
         match self.next_found() {
@@ -76,11 +89,15 @@ impl<'a, D: Drive, S: Source, T: Sink, P: Sink> System<'a, D, S, T, P> {
 
     /// The next byte of the found file as a character.
     pub(crate) fn read(&mut self) -> Result<Option<u16>, Stop>
-        requires ready { IsReady D.held D.count self.old }
-        ensures exact { WhereTold (state_of D.held S.left T.taken P.taken self.old) (state_of D.held S.left T.taken P.taken self.new)
+        requires ready { IsReady D.contents D.count self.old }
+        ensures exact { WhereTold (state_of D.contents S.left T.taken P.taken self.old) (state_of D.contents S.left T.taken P.taken self.new)
             (λ before after. Reaches (read before) result before after) }
-        ensures ready { is_fault result ≡ false → IsReady D.held D.count self.new }
+        ensures no_file { (result ≡ Err Stop.NoFile) ↔ (self.old.found ≡ None) }
+        ensures moves { IfOk result (λ word. ReadsOn word self.old.found self.new.found) }
+        ensures only { OnlyReading self.old self.new }
+        ensures ready { is_fault result ≡ false → IsReady D.contents D.count self.new }
         ensures due { KeepsDue T.taken self.old self.new }
+        ensures told { KeepsTold D.contents S.left T.taken P.taken self.old self.new }
         ensures keeps { Keeps D.faults S.faults T.faults P.faults (is_fault result) self.old self.new }
     {
         match self.next_found() {

@@ -1,6 +1,6 @@
 //! Reading a text of the catalogue, page by page.
 
-ghost use Rattle.std.specs.Prelude.{◌≡◌, ◌/◌, ◌<◌, length, Some, IfOk, OnOk, IsSome};
+ghost use Rattle.std.specs.Prelude.{◌≡◌, ◌/◌, ◌<◌, length, Some, IfOk, OnOk, IsSome, is_some, nat_lt};
 ghost use Rattle.std.specs.Option.{option_map};
 ghost use Rattle.edi_told.specs.Told.{WhereTold};
 ghost use Rattle.edi_disk.specs.Shown.{drive_of};
@@ -35,8 +35,8 @@ pub(crate) fn title_of(words: &[u16]) -> Option<Title>
     ensures { result ≡ title_of words.now }
 {
     let mut characters = [0; 12];
-    for (place, word) in words.iter().enumerate() {
-        characters[place] = character(*word);
+    for (index, word) in words.iter().enumerate() {
+        characters[index] = character(*word);
     }
     Title::new(&characters)
 }
@@ -52,7 +52,7 @@ fn is_kept(kept: Option<u32>, page: u32) -> bool
 }
 
 // The text with this title, at its start. A code is no text.
-fn text_titled<D: Drive>(catalog: &Catalog<'_, D>, title: Title) -> Option<Reading>
+fn text_titled<D: Drive>(catalog: &Catalog<'_, '_, D>, title: Title) -> Option<Reading>
     ensures { result ≡ text_of title (option_map entry_of (file_titled title (files_of catalog.now))) }
 {
     let Some(entry) = catalog.find(&title) else {
@@ -70,7 +70,7 @@ fn text_titled<D: Drive>(catalog: &Catalog<'_, D>, title: Title) -> Option<Readi
 }
 
 /// The text with the title that the words of a call spell, at its start.
-pub(crate) fn text_spelled<D: Drive>(catalog: &Catalog<'_, D>, words: &[u16]) -> Option<Reading>
+pub(crate) fn text_spelled<D: Drive>(catalog: &Catalog<'_, '_, D>, words: &[u16]) -> Option<Reading>
     requires { length words.now ≡ 12 }
     ensures { result ≡ text_spelled words.now (files_of catalog.now) }
 {
@@ -104,19 +104,19 @@ pub(crate) fn drop_titled(found: &mut Option<Reading>, title: &Title)
 
 // Reads the page with the position of a text, unless it is kept. The text is not at its end.
 fn load<D: Drive>(
-    catalog: &mut Catalog<'_, D>,
+    catalog: &mut Catalog<'_, '_, D>,
     reading: &mut Reading,
     page: &mut [u8; PAGE],
 ) -> Result<(), CatEnd>
-    requires mounted { IsMounted D.held D.count catalog.old }
-    requires reading { IsReading D.held catalog.old page.old reading.old }
+    requires mounted { IsMounted D.contents D.count catalog.old }
+    requires reading { IsReading D.contents catalog.old page.old reading.old }
     requires more { reading.old.position < reading.old.length }
-    ensures mounted { OnOk result (IsMounted D.held D.count catalog.new) }
-    ensures reading { OnOk result (IsReading D.held catalog.new page.new reading.new) }
+    ensures mounted { OnOk result (IsMounted D.contents D.count catalog.new) }
+    ensures reading { OnOk result (IsReading D.contents catalog.new page.new reading.new) }
     ensures loaded { OnOk result (reading.new.kept ≡ Some (reading.new.position / PAGE)) }
     ensures same { reading.new ≡ record reading.old { kept = reading.new.kept } }
     ensures reads { OnlyReads D.faults (is_err result) catalog.old catalog.new }
-    ensures blocks { WhereTold (D.held (drive_of (disk_of catalog.old))) (D.held (drive_of (disk_of catalog.new))) (λ old new. new ≡ old) }
+    ensures blocks { WhereTold (D.contents (drive_of (disk_of catalog.old))) (D.contents (drive_of (disk_of catalog.new))) (λ old new. new ≡ old) }
 {
     let wanted = reading.position / (PAGE as u32);
     if is_kept(reading.kept, wanted) {
@@ -131,20 +131,21 @@ fn load<D: Drive>(
     }
 }
 
-/// The byte of a text at its position, or nothing at its end. While the text is read on, the drive is read once for each page.
+/// The byte of a text at its position, or nothing at its end. A page stays while the text is read on in it.
 pub(crate) fn next_byte<D: Drive>(
-    catalog: &mut Catalog<'_, D>,
+    catalog: &mut Catalog<'_, '_, D>,
     reading: &mut Reading,
     page: &mut [u8; PAGE],
 ) -> Result<Option<u8>, CatEnd>
-    requires mounted { IsMounted D.held D.count catalog.old }
-    requires reading { IsReading D.held catalog.old page.old reading.old }
-    ensures mounted { OnOk result (IsMounted D.held D.count catalog.new) }
-    ensures reading { OnOk result (IsReading D.held catalog.new page.new reading.new) }
+    requires mounted { IsMounted D.contents D.count catalog.old }
+    requires reading { IsReading D.contents catalog.old page.old reading.old }
+    ensures mounted { OnOk result (IsMounted D.contents D.count catalog.new) }
+    ensures reading { OnOk result (IsReading D.contents catalog.new page.new reading.new) }
     ensures inside { IfOk result (λ byte. IsSome byte → reading.new.position < reading.new.length) }
+    ensures there { IfOk result (λ byte. is_some byte ≡ nat_lt reading.old.position reading.old.length) }
     ensures same { reading.new ≡ record reading.old { kept = reading.new.kept } }
     ensures reads { OnlyReads D.faults (is_err result) catalog.old catalog.new }
-    ensures byte { WhereTold (D.held (drive_of (disk_of catalog.old))) (D.held (drive_of (disk_of catalog.new)))
+    ensures byte { WhereTold (D.contents (drive_of (disk_of catalog.old))) (D.contents (drive_of (disk_of catalog.new)))
         (λ old new. (new ≡ old) × GivesByte result (byte_in old reading.old.title reading.old.position)) }
 {
     if reading.position >= reading.length {

@@ -7,7 +7,7 @@ ghost use Rattle.edi_calls.specs.Calls.{accept, display, print, word_of};
 ghost use Rattle.edi_system.specs.State.{due_in, failed_in, input_in, state_of, IsReady};
 ghost use Rattle.edi_system.specs.Ends.{is_fault, Keeps, Reaches};
 ghost use Rattle.edi_system.specs.AsCalls.{KeepsDue};
-ghost use Rattle.edi_system.specs.Parts.{due_after, line_end, OnlyInput, OnlyPrinter, OnlyTerminal, Prints, PrintsMore, Shows, ShowsMore};
+ghost use Rattle.edi_system.specs.Parts.{due_after, line_end, KeepsTold, OnlyInput, OnlyPrinter, OnlyTerminal, Prints, PrintsMore, Shows, ShowsMore};
 
 use crate::ends::Stop;
 use crate::system::System;
@@ -43,15 +43,16 @@ fn due_after(due: bool, shown: &[u8]) -> bool
     }
 }
 
-impl<'a, D: Drive, S: Source, T: Sink, P: Sink> System<'a, D, S, T, P> {
+impl<D: Drive, S: Source, T: Sink, P: Sink> System<'_, '_, '_, '_, '_, '_, D, S, T, P> {
     /// The next byte of the input.
     pub fn take(&mut self) -> Next
-        requires ready { IsReady D.held D.count self.old }
+        requires ready { IsReady D.contents D.count self.old }
         ensures takes { WhereTold (S.left (input_in self.old)) (S.left (input_in self.new)) (Takes result) }
         ensures only { OnlyInput self.old self.new }
         ensures failed { failed_in self.new ≡ (if next_fault result then Some Outside.Input else None) }
-        ensures ready { next_fault result ≡ false → IsReady D.held D.count self.new }
+        ensures ready { next_fault result ≡ false → IsReady D.contents D.count self.new }
         ensures due { KeepsDue T.taken self.old self.new }
+        ensures told { KeepsTold D.contents S.left T.taken P.taken self.old self.new }
         ensures keeps { Keeps D.faults S.faults T.faults P.faults (next_fault result) self.old self.new }
     {
         match self.input.next() {
@@ -67,14 +68,15 @@ impl<'a, D: Drive, S: Source, T: Sink, P: Sink> System<'a, D, S, T, P> {
     /// Shows these bytes, and tells whether the terminal has taken them all. Where it has failed it has taken a first part of
     /// them, perhaps all.
     pub fn show(&mut self, bytes: &[u8]) -> bool
-        requires ready { IsReady D.held D.count self.old }
+        requires ready { IsReady D.contents D.count self.old }
         ensures shows { Shows T.taken result bytes.now self.old self.new }
-        ensures exact { WhereTold (state_of D.held S.left T.taken P.taken self.old) (state_of D.held S.left T.taken P.taken self.new)
+        ensures exact { WhereTold (state_of D.contents S.left T.taken P.taken self.old) (state_of D.contents S.left T.taken P.taken self.new)
             (ShowsMore result bytes.now) }
         ensures only { OnlyTerminal self.old self.new }
         ensures failed { failed_in self.new ≡ (if result then None else Some Outside.Terminal) }
-        ensures ready { result ≡ true → IsReady D.held D.count self.new }
+        ensures ready { result ≡ true → IsReady D.contents D.count self.new }
         ensures due { KeepsDue T.taken self.old self.new }
+        ensures told { KeepsTold D.contents S.left T.taken P.taken self.old self.new }
         ensures keeps { Keeps D.faults S.faults T.faults P.faults (not result) self.old self.new }
     {
         let put = self.terminal.put(bytes);
@@ -91,14 +93,15 @@ impl<'a, D: Drive, S: Source, T: Sink, P: Sink> System<'a, D, S, T, P> {
     /// Prints these bytes, and tells whether the printer has taken them all. Where it has failed it has taken a first part of
     /// them, perhaps all.
     pub fn print_out(&mut self, bytes: &[u8]) -> bool
-        requires ready { IsReady D.held D.count self.old }
+        requires ready { IsReady D.contents D.count self.old }
         ensures prints { Prints P.taken result bytes.now self.old self.new }
-        ensures exact { WhereTold (state_of D.held S.left T.taken P.taken self.old) (state_of D.held S.left T.taken P.taken self.new)
+        ensures exact { WhereTold (state_of D.contents S.left T.taken P.taken self.old) (state_of D.contents S.left T.taken P.taken self.new)
             (PrintsMore result bytes.now) }
         ensures only { OnlyPrinter self.old self.new }
         ensures failed { failed_in self.new ≡ (if result then None else Some Outside.Printer) }
-        ensures ready { result ≡ true → IsReady D.held D.count self.new }
+        ensures ready { result ≡ true → IsReady D.contents D.count self.new }
         ensures due { KeepsDue T.taken self.old self.new }
+        ensures told { KeepsTold D.contents S.left T.taken P.taken self.old self.new }
         ensures keeps { Keeps D.faults S.faults T.faults P.faults (not result) self.old self.new }
     {
         match self.printer.put(bytes).end {
@@ -112,13 +115,14 @@ impl<'a, D: Drive, S: Source, T: Sink, P: Sink> System<'a, D, S, T, P> {
 
     /// Shows a line feed where a line was begun on the terminal and is not ended, and else nothing. It answers as `show`.
     pub fn fresh_line(&mut self) -> bool
-        requires ready { IsReady D.held D.count self.old }
+        requires ready { IsReady D.contents D.count self.old }
         ensures shows { Shows T.taken result (line_end (due_in self.old)) self.old self.new }
-        ensures exact { WhereTold (state_of D.held S.left T.taken P.taken self.old) (state_of D.held S.left T.taken P.taken self.new)
+        ensures exact { WhereTold (state_of D.contents S.left T.taken P.taken self.old) (state_of D.contents S.left T.taken P.taken self.new)
             (ShowsMore result (line_end (due_in self.old))) }
         ensures only { OnlyTerminal self.old self.new }
         ensures failed { failed_in self.new ≡ (if result then None else Some Outside.Terminal) }
-        ensures ready { result ≡ true → IsReady D.held D.count self.new }
+        ensures ready { result ≡ true → IsReady D.contents D.count self.new }
+        ensures told { KeepsTold D.contents S.left T.taken P.taken self.old self.new }
         ensures keeps { Keeps D.faults S.faults T.faults P.faults (not result) self.old self.new }
     {
         if self.due {
@@ -130,11 +134,13 @@ impl<'a, D: Drive, S: Source, T: Sink, P: Sink> System<'a, D, S, T, P> {
 
     /// The next byte of the input as a character.
     pub(crate) fn accept(&mut self) -> Result<Option<u16>, Stop>
-        requires ready { IsReady D.held D.count self.old }
-        ensures exact { WhereTold (state_of D.held S.left T.taken P.taken self.old) (state_of D.held S.left T.taken P.taken self.new)
+        requires ready { IsReady D.contents D.count self.old }
+        ensures exact { WhereTold (state_of D.contents S.left T.taken P.taken self.old) (state_of D.contents S.left T.taken P.taken self.new)
             (λ before after. Reaches (accept before) result before after) }
-        ensures ready { is_fault result ≡ false → IsReady D.held D.count self.new }
+        ensures only { OnlyInput self.old self.new }
+        ensures ready { is_fault result ≡ false → IsReady D.contents D.count self.new }
         ensures due { KeepsDue T.taken self.old self.new }
+        ensures told { KeepsTold D.contents S.left T.taken P.taken self.old self.new }
         ensures keeps { Keeps D.faults S.faults T.faults P.faults (is_fault result) self.old self.new }
     {
         match self.take() {
@@ -146,11 +152,14 @@ impl<'a, D: Drive, S: Source, T: Sink, P: Sink> System<'a, D, S, T, P> {
 
     /// Shows a character.
     pub(crate) fn display(&mut self, word: u16) -> Result<Option<u16>, Stop>
-        requires ready { IsReady D.held D.count self.old }
-        ensures exact { WhereTold (state_of D.held S.left T.taken P.taken self.old) (state_of D.held S.left T.taken P.taken self.new)
+        requires ready { IsReady D.contents D.count self.old }
+        ensures exact { WhereTold (state_of D.contents S.left T.taken P.taken self.old) (state_of D.contents S.left T.taken P.taken self.new)
             (λ before after. Reaches (display word before) result before after) }
-        ensures ready { is_fault result ≡ false → IsReady D.held D.count self.new }
+        ensures shows { Shows T.taken (not (is_fault result)) (word % 128 ∷ []) self.old self.new }
+        ensures only { OnlyTerminal self.old self.new }
+        ensures ready { is_fault result ≡ false → IsReady D.contents D.count self.new }
         ensures due { KeepsDue T.taken self.old self.new }
+        ensures told { KeepsTold D.contents S.left T.taken P.taken self.old self.new }
         ensures keeps { Keeps D.faults S.faults T.faults P.faults (is_fault result) self.old self.new }
     {
         if self.show(&[character(word)]) {
@@ -162,11 +171,14 @@ impl<'a, D: Drive, S: Source, T: Sink, P: Sink> System<'a, D, S, T, P> {
 
     /// Prints a character.
     pub(crate) fn print(&mut self, word: u16) -> Result<Option<u16>, Stop>
-        requires ready { IsReady D.held D.count self.old }
-        ensures exact { WhereTold (state_of D.held S.left T.taken P.taken self.old) (state_of D.held S.left T.taken P.taken self.new)
+        requires ready { IsReady D.contents D.count self.old }
+        ensures exact { WhereTold (state_of D.contents S.left T.taken P.taken self.old) (state_of D.contents S.left T.taken P.taken self.new)
             (λ before after. Reaches (print word before) result before after) }
-        ensures ready { is_fault result ≡ false → IsReady D.held D.count self.new }
+        ensures prints { Prints P.taken (not (is_fault result)) (word % 128 ∷ []) self.old self.new }
+        ensures only { OnlyPrinter self.old self.new }
+        ensures ready { is_fault result ≡ false → IsReady D.contents D.count self.new }
         ensures due { KeepsDue T.taken self.old self.new }
+        ensures told { KeepsTold D.contents S.left T.taken P.taken self.old self.new }
         ensures keeps { Keeps D.faults S.faults T.faults P.faults (is_fault result) self.old self.new }
     {
         if self.print_out(&[character(word)]) {

@@ -1,13 +1,16 @@
 //! Writing, storing and removing a file.
 
-ghost use Rattle.std.specs.Prelude.{◌≡◌, false, length};
+ghost use Rattle.std.specs.Prelude.{◌≡◌, ◌%◌, ◌↔◌, false, length, [], Ok, Err, None, Some, IfSome};
 ghost use Rattle.edi_told.specs.Told.{WhereTold};
+ghost use Rattle.edi_calls.specs.State.{title_of};
 ghost use Rattle.edi_calls.specs.Calls.{close, fresh_buffer, remove, write};
+ghost use Rattle.edi_system.specs.Buffers.{WritesTo};
 ghost use Rattle.edi_system.specs.Catalogue.{done, is_refused, OnlyFiles};
-ghost use Rattle.edi_system.specs.State.{state_of, IsReady};
+ghost use Rattle.edi_system.specs.Closing.{Closes, Removes};
+ghost use Rattle.edi_system.specs.State.{buffer_in, state_of, IsReady};
 ghost use Rattle.edi_system.specs.AsCalls.{KeepsDue};
 ghost use Rattle.edi_system.specs.Ends.{is_fault, Keeps, Reaches};
-ghost use Rattle.edi_system.specs.Parts.{OnlyOpenFiles};
+ghost use Rattle.edi_system.specs.Parts.{KeepsTold, OnlyOpenFiles};
 
 use crate::ends::Stop;
 use crate::files::{failed_at, is_refused};
@@ -29,15 +32,17 @@ fn done(answer: Result<(), CatEnd>) -> Result<Option<u16>, Stop>
     }
 }
 
-impl<'a, D: Drive, S: Source, T: Sink, P: Sink> System<'a, D, S, T, P> {
+impl<D: Drive, S: Source, T: Sink, P: Sink> System<'_, '_, '_, '_, '_, '_, D, S, T, P> {
     /// Begins an empty file.
     pub(crate) fn fresh(&mut self) -> Result<Option<u16>, Stop>
-        requires ready { IsReady D.held D.count self.old }
-        ensures exact { WhereTold (state_of D.held S.left T.taken P.taken self.old) (state_of D.held S.left T.taken P.taken self.new)
+        requires ready { IsReady D.contents D.count self.old }
+        ensures exact { WhereTold (state_of D.contents S.left T.taken P.taken self.old) (state_of D.contents S.left T.taken P.taken self.new)
             (λ before after. Reaches (fresh_buffer before) result before after) }
+        ensures begins { (result ≡ Ok None) × (buffer_in self.new ≡ Some []) }
         ensures only { OnlyOpenFiles self.old self.new }
-        ensures ready { IsReady D.held D.count self.new }
+        ensures ready { IsReady D.contents D.count self.new }
         ensures due { KeepsDue T.taken self.old self.new }
+        ensures told { KeepsTold D.contents S.left T.taken P.taken self.old self.new }
         ensures keeps { Keeps D.faults S.faults T.faults P.faults (is_fault result) self.old self.new }
     {
         self.buffer.begin();
@@ -46,12 +51,15 @@ impl<'a, D: Drive, S: Source, T: Sink, P: Sink> System<'a, D, S, T, P> {
 
     /// Appends a character to the file that is being written.
     pub(crate) fn write(&mut self, word: u16) -> Result<Option<u16>, Stop>
-        requires ready { IsReady D.held D.count self.old }
-        ensures exact { WhereTold (state_of D.held S.left T.taken P.taken self.old) (state_of D.held S.left T.taken P.taken self.new)
+        requires ready { IsReady D.contents D.count self.old }
+        ensures exact { WhereTold (state_of D.contents S.left T.taken P.taken self.old) (state_of D.contents S.left T.taken P.taken self.new)
             (λ before after. Reaches (write word before) result before after) }
+        ensures writes { WritesTo result (word % 128) (buffer_in self.old) (buffer_in self.new) }
+        ensures found { self.new.found ≡ self.old.found }
         ensures only { OnlyOpenFiles self.old self.new }
-        ensures ready { IsReady D.held D.count self.new }
+        ensures ready { IsReady D.contents D.count self.new }
         ensures due { KeepsDue T.taken self.old self.new }
+        ensures told { KeepsTold D.contents S.left T.taken P.taken self.old self.new }
         ensures keeps { Keeps D.faults S.faults T.faults P.faults (is_fault result) self.old self.new }
     {
         match self.buffer.write(character(word)) {
@@ -62,13 +70,16 @@ impl<'a, D: Drive, S: Source, T: Sink, P: Sink> System<'a, D, S, T, P> {
 
     /// Stores the file that is being written as the text of a title, and tells whether that was done.
     pub(crate) fn close(&mut self, words: &[u16]) -> Result<Option<u16>, Stop>
-        requires ready { IsReady D.held D.count self.old }
+        requires ready { IsReady D.contents D.count self.old }
         requires words { length words.now ≡ 12 }
-        ensures exact { WhereTold (state_of D.held S.left T.taken P.taken self.old) (state_of D.held S.left T.taken P.taken self.new)
+        ensures exact { WhereTold (state_of D.contents S.left T.taken P.taken self.old) (state_of D.contents S.left T.taken P.taken self.new)
             (λ before after. Reaches (close words.now before) result before after) }
+        ensures no_file { (result ≡ Err Stop.NoFile) ↔ (buffer_in self.old ≡ None) }
+        ensures stores { IfSome (buffer_in self.old) (λ bytes. Closes D.count result (title_of words.now) bytes self.old self.new) }
         ensures only { OnlyFiles self.old self.new }
-        ensures ready { is_fault result ≡ false → IsReady D.held D.count self.new }
+        ensures ready { is_fault result ≡ false → IsReady D.contents D.count self.new }
         ensures due { KeepsDue T.taken self.old self.new }
+        ensures told { KeepsTold D.contents S.left T.taken P.taken self.old self.new }
         ensures keeps { Keeps D.faults S.faults T.faults P.faults (is_fault result) self.old self.new }
     {
         let Some(bytes) = self.buffer.bytes() else {
@@ -89,13 +100,15 @@ impl<'a, D: Drive, S: Source, T: Sink, P: Sink> System<'a, D, S, T, P> {
 
     /// Removes the file of a title, and tells whether that was done.
     pub(crate) fn remove(&mut self, words: &[u16]) -> Result<Option<u16>, Stop>
-        requires ready { IsReady D.held D.count self.old }
+        requires ready { IsReady D.contents D.count self.old }
         requires words { length words.now ≡ 12 }
-        ensures exact { WhereTold (state_of D.held S.left T.taken P.taken self.old) (state_of D.held S.left T.taken P.taken self.new)
+        ensures exact { WhereTold (state_of D.contents S.left T.taken P.taken self.old) (state_of D.contents S.left T.taken P.taken self.new)
             (λ before after. Reaches (remove words.now before) result before after) }
+        ensures removes { Removes result (title_of words.now) self.old self.new }
         ensures only { OnlyFiles self.old self.new }
-        ensures ready { is_fault result ≡ false → IsReady D.held D.count self.new }
+        ensures ready { is_fault result ≡ false → IsReady D.contents D.count self.new }
         ensures due { KeepsDue T.taken self.old self.new }
+        ensures told { KeepsTold D.contents S.left T.taken P.taken self.old self.new }
         ensures keeps { Keeps D.faults S.faults T.faults P.faults (is_fault result) self.old self.new }
     {
         let Some(title) = title_of(words) else {

@@ -11,7 +11,7 @@ use edi_calls::{FileKind, Outside};
 use edi_catalog::{CatEnd, check, mount};
 use edi_disk::Disk;
 use edi_host::{MemoryDrive, MemorySink, MemorySource};
-use edi_system::System;
+use edi_system::{Buffer, System};
 use std::alloc::Global;
 use std::process::Abort;
 use std::test::Fail;
@@ -43,13 +43,14 @@ fn ran(
     let mut input = MemorySource::new(alloc, b"x", &[])?;
     let mut terminal = MemorySink::new(alloc, 5, &[])?;
     let mut printer = MemorySink::new(alloc, 16, &[])?;
+    let mut buffer = Buffer::new(alloc)?;
     let (answered, failed) = {
         let mut disk = Disk::attach(&mut drive);
-        let Ok(checked) = check(alloc, &mut disk) else {
+        let Ok(mut kept) = check(alloc, &mut disk) else {
             return Err("not mounted")?;
         };
-        let files = mount(disk, checked);
-        let mut system = System::new(alloc, files, &mut input, &mut terminal, &mut printer)?;
+        let files = mount(disk, &mut kept);
+        let mut system = System::new(files, &mut input, &mut terminal, &mut printer, &mut buffer);
         let count = answered(&mut system, table, &mut room);
         (count, system.failed())
     };

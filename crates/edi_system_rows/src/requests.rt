@@ -88,12 +88,12 @@ fn title(text: &str) -> Option<Title> {
 
 // The first byte of a page, if it is there.
 fn first_byte<D: Drive, S: Source, T: Sink, P: Sink>(
-    system: &mut System<'_, D, S, T, P>,
+    system: &mut System<'_, '_, '_, '_, '_, '_, D, S, T, P>,
     title: &Title,
     i: u32,
 ) -> Option<Told>
-    requires { IsReady D.held D.count system.old }
-    ensures { IsSome result → IsReady D.held D.count system.new }
+    requires { IsReady D.contents D.count system.old }
+    ensures { IsSome result → IsReady D.contents D.count system.new }
 {
     let Some(entry) = system.find(title) else {
         return Some(Told::No);
@@ -110,13 +110,13 @@ fn first_byte<D: Drive, S: Source, T: Sink, P: Sink>(
 
 // The number of the bytes of a file.
 fn whole<D: Drive, S: Source, T: Sink, P: Sink>(
-    system: &mut System<'_, D, S, T, P>,
+    system: &mut System<'_, '_, '_, '_, '_, '_, D, S, T, P>,
     title: &Title,
     room: &mut [u8],
 ) -> Option<Told>
-    requires ready { IsReady D.held D.count system.old }
+    requires ready { IsReady D.contents D.count system.old }
     requires room { most_bytes ≤ length room.old }
-    ensures ready { IsSome result → IsReady D.held D.count system.new }
+    ensures ready { IsSome result → IsReady D.contents D.count system.new }
     ensures room { length room.new ≡ length room.old }
 {
     let answer = system.read_into(title, room);
@@ -131,12 +131,12 @@ fn whole<D: Drive, S: Source, T: Sink, P: Sink>(
 
 // Stores a few bytes as a text.
 fn store<D: Drive, S: Source, T: Sink, P: Sink>(
-    system: &mut System<'_, D, S, T, P>,
+    system: &mut System<'_, '_, '_, '_, '_, '_, D, S, T, P>,
     title: &Title,
     bytes: &[u8],
 ) -> Option<Told>
-    requires { IsReady D.held D.count system.old }
-    ensures { IsSome result → IsReady D.held D.count system.new }
+    requires { IsReady D.contents D.count system.old }
+    ensures { IsSome result → IsReady D.contents D.count system.new }
 {
     if bytes.len() > 100 {
         return Some(Told::No);
@@ -146,11 +146,11 @@ fn store<D: Drive, S: Source, T: Sink, P: Sink>(
 
 // Makes a call on the objects; `None` where one has failed.
 fn stream<D: Drive, S: Source, T: Sink, P: Sink>(
-    system: &mut System<'_, D, S, T, P>,
+    system: &mut System<'_, '_, '_, '_, '_, '_, D, S, T, P>,
     request: Request,
 ) -> Option<Told>
-    requires { IsReady D.held D.count system.old }
-    ensures { IsSome result → IsReady D.held D.count system.new }
+    requires { IsReady D.contents D.count system.old }
+    ensures { IsSome result → IsReady D.contents D.count system.new }
 {
     match request {
         Request::Take => match system.take() {
@@ -188,13 +188,13 @@ fn stream<D: Drive, S: Source, T: Sink, P: Sink>(
 
 // Makes a call; `None` where an object has failed. `room` has room for the longest file.
 fn make<D: Drive, S: Source, T: Sink, P: Sink>(
-    system: &mut System<'_, D, S, T, P>,
+    system: &mut System<'_, '_, '_, '_, '_, '_, D, S, T, P>,
     request: Request,
     room: &mut [u8],
 ) -> Option<Told>
-    requires ready { IsReady D.held D.count system.old }
+    requires ready { IsReady D.contents D.count system.old }
     requires room { most_bytes ≤ length room.old }
-    ensures ready { IsSome result → IsReady D.held D.count system.new }
+    ensures ready { IsSome result → IsReady D.contents D.count system.new }
     ensures room { length room.new ≡ length room.old }
 {
     match request {
@@ -212,11 +212,11 @@ fn make<D: Drive, S: Source, T: Sink, P: Sink>(
 
 /// How many of the calls tell what the table says, from the first on. No call is made after one that does not.
 pub(crate) fn answered<D: Drive, S: Source, T: Sink, P: Sink>(
-    system: &mut System<'_, D, S, T, P>,
+    system: &mut System<'_, '_, '_, '_, '_, '_, D, S, T, P>,
     table: &[(Request, Told)],
     room: &mut [u8],
 ) -> usize
-    requires ready { IsReady D.held D.count system.old }
+    requires ready { IsReady D.contents D.count system.old }
     requires room { most_bytes ≤ length room.old }
 {
     for (i, (request, expected)) in table.iter().enumerate() {

@@ -8,3 +8,7 @@ pub mod Writing
 pub mod Progress
 pub mod Stands
 pub mod Runs
+pub mod Histories
+pub mod Limited
+pub mod Spent
+pub mod Starting

@@ -12,7 +12,7 @@ use Rattle.edi_target.specs.Op.{Instruction, Branch}
 use Rattle.edi_calls.specs.Ready.{child, parent_of, all_marked, stays, joins, Taking, nobody, taking, take_next}
 use Rattle.edi_target.specs.Effect.{Local, Turn, entering, leaving, looping, arriving, again, forking, exiting, finishing, Effect, goes, released, asks, due, fails, bad}
 use Rattle.edi_target.specs.Perform.{perform}
-use Rattle.edi_target.specs.Mach.{Running, Answer, on, behind, turned, over, answer_at, called, turn_from, settled, effect_at, local_step, Standing, ready, at_when, waiting, Activity, Machine, Stepped, went, ended, running_of, activity_of, back, with_child, with_children, awaits, freed, one_less, told, at_turn, kernel, is_first, step_of, step, Run, unfinished, finished, go_on, after_step, run, run_from_start, entered}
+use Rattle.edi_target.specs.Mach.{Running, Answer, on, behind, turned, over, answer_at, called, turn_from, settled, effect_at, local_step, Standing, ready, at_when, waiting, Activity, Machine, Stepped, went, ended, running_of, activity_of, back, with_child, with_children, awaits, freed, one_less, notified, at_turn, kernel, is_first, step_of, step, MachineRun, unfinished, finished, go_on, after_step, run, entered}
 use Rattle.edi_target.specs.Laws.{MovesUp, StandsBelow, EveryRunEnds, RunsAreDetermined}
 use Rattle.edi_target.specs.Fetch as code
 use Rattle.edi_target.proofs.Progress.{each_moves_up}
@@ -32,13 +32,13 @@ find-with_at-same (entry ∷ t) p a = go (same p entry.0) refl (find-with_at-sam
 
 -- ---- a run of more instructions has the same end
 
-taken_more : (t : Taking) (one other : Name → List Name → ℕ → Run) (m : Machine) (drawn : ℕ) (r : Run) →
+taken_more : (t : Taking) (one other : Name → List Name → ℕ → MachineRun) (m : Machine) (drawn : ℕ) (r : MachineRun) →
     ((p : Name) (others : List Name) (d : ℕ) → one p others d ≡ r → other p others d ≡ r) →
     go_on t one m drawn ≡ r → go_on t other m drawn ≡ r
 taken_more nobody one other m drawn r h e = e
 taken_more (taking p others d) one other m drawn r h e = h p others d e
 
-stepped_more : (choices : Choices) (s : Stepped) (one other : Machine → Name → List Name → ℕ → Run) (p : Name) (others : List Name) (drawn : ℕ) (r : Run) →
+stepped_more : (choices : Choices) (s : Stepped) (one other : Machine → Name → List Name → ℕ → MachineRun) (p : Name) (others : List Name) (drawn : ℕ) (r : MachineRun) →
     ((m : Machine) (p : Name) (others : List Name) (d : ℕ) → one m p others d ≡ r → other m p others d ≡ r) →
     after_step choices one p others drawn s ≡ r → after_step choices other p others drawn s ≡ r
 stepped_more choices (ended ending m) one other p others drawn r h e = e
@@ -114,7 +114,7 @@ module _ (fetch : ℕ → Option (Instruction × ℕ)) (choices : Choices) where
     one_less_falls m q a (waiting n) t at p h =
         freed_falls (n - 1) t at p q (record m { activities = with_at m.activities q (record a { standing = awaits (n - 1) }) }) h
 
-    told_falls : (m : Machine) (q : Name) (a : Option Activity) (t at : ℕ) (p : Name) → m.turns < t → Falls t at p (told m q a)
+    told_falls : (m : Machine) (q : Name) (a : Option Activity) (t at : ℕ) (p : Name) → m.turns < t → Falls t at p (notified m q a)
     told_falls m q None t at p h = h
     told_falls m q (Some a) t at p h = one_less_falls m q a a.standing t at p h
 
@@ -211,10 +211,10 @@ module _ (fetch : ℕ → Option (Instruction × ℕ)) (choices : Choices) where
         of_found counted None e = continued_ends m p others drawn (subst (λ (x : Option Activity). Continues p others drawn (step_of fetch m p others x)) (sym e) tt)
         of_found counted (Some a) e = counted size m p others drawn a e (omega arith) (omega arith)
 
-    started_ends : (s : Stepped) → (n : ℕ) × (ending : Ending) × (end : Machine) × (d : ℕ) × (after_step choices (run fetch choices n) [] [] 0 s ≡ finished ending end d)
-    started_ends (ended ending m) = (0, ending, m, 0, refl)
-    started_ends (went m stays) = by_turns (suc m.turns) m [] [] 0 (omega arith)
-    started_ends (went m (joins ps)) = taken_ends (take_next choices 0 ps) m 0 (joined (take_next choices 0 ps))
+    pub started_ends : (before : ℕ) (s : Stepped) → (n : ℕ) × (ending : Ending) × (end : Machine) × (d : ℕ) × (after_step choices (run fetch choices n) [] [] before s ≡ finished ending end d)
+    started_ends before (ended ending m) = (0, ending, m, before, refl)
+    started_ends before (went m stays) = by_turns (suc m.turns) m [] [] before (omega arith)
+    started_ends before (went m (joins ps)) = taken_ends (take_next choices before ps) m before (joined (take_next choices before ps))
       where
         joined : (t : Taking) → Continued t m
         joined nobody = tt
@@ -223,11 +223,11 @@ module _ (fetch : ℕ → Option (Instruction × ℕ)) (choices : Choices) where
 pub every_run_ends : EveryRunEnds
 every_run_ends words entry calls system bound choices =
     let e : (n : ℕ) × (ending : Ending) × (end : Machine) × (d : ℕ) × (after_step choices (run (code.fetch words) choices n) [] [] 0 (entered (code.fetch words entry) entry calls bound system) ≡ finished ending end d) =
-    started_ends (code.fetch words) choices (length words) (code_stands_below words) (entered (code.fetch words entry) entry calls bound system) in
+    started_ends (code.fetch words) choices (length words) (code_stands_below words) 0 (entered (code.fetch words entry) entry calls bound system) in
     (outcome_of e.2.system e.1 (bound - e.2.turns) e.3, (e.1, e.2, e.3, (e.0, e.4), refl))
 
 -- the end of a finished run
-abbrev outcome_at : ℕ → Run → Option Outcome
+abbrev outcome_at : ℕ → MachineRun → Option Outcome
 outcome_at bound unfinished = None
 outcome_at bound (finished ending m drawn) = Some (outcome_of m.system ending (bound - m.turns) drawn)
 
@@ -235,12 +235,12 @@ some-same : {A : Type 0} {a b : A} → Some a ≡ Some b → a ≡ b
 some-same e = cc
 
 module _ (fetch : ℕ → Option (Instruction × ℕ)) (entry : ℕ) (calls : List ℕ) (system : State) (bound : ℕ) (choices : Choices) where
-  same_end : (n k : ℕ) (one other : Ending) (m m' : Machine) (d d' : ℕ) → n ≤ k →
-      run_from_start fetch entry calls system bound choices n ≡ finished one m d → run_from_start fetch entry calls system bound choices k ≡ finished other m' d' →
-      finished one m d ≡ finished other m' d'
-  same_end n k one other m m' d d' h e e' =
-      let more : run_from_start fetch entry calls system bound choices k ≡ finished one m d =
-      stepped_more choices (entered (fetch entry) entry calls bound system) (run fetch choices n) (run fetch choices k) [] [] 0 (finished one m d)
+  pub same_end : (before n k : ℕ) (one other : Ending) (m m' : Machine) (d d' : ℕ) → n ≤ k →
+      after_step choices (run fetch choices n) [] [] before (entered (fetch entry) entry calls bound system) ≡ finished one m d →
+      after_step choices (run fetch choices k) [] [] before (entered (fetch entry) entry calls bound system) ≡ finished other m' d' → finished one m d ≡ finished other m' d'
+  same_end before n k one other m m' d d' h e e' =
+      let more : after_step choices (run fetch choices k) [] [] before (entered (fetch entry) entry calls bound system) ≡ finished one m d =
+      stepped_more choices (entered (fetch entry) entry calls bound system) (run fetch choices n) (run fetch choices k) [] [] before (finished one m d)
       (λ m1 p os d1 x. run_more fetch choices n k one m d h m1 p os d1 x) e in
       sym more ∙ e'
 
@@ -250,6 +250,6 @@ module _ (fetch : ℕ → Option (Instruction × ℕ)) (entry : ℕ) (calls : Li
 pub runs_are_determined : RunsAreDetermined
 runs_are_determined fetch entry calls system bound choices one other a b =
     a.4 ∙ elim (cases_lt a.3.0 b.3.0) [
-      | inl h ↦ same_outcome fetch entry calls system bound choices a.0 b.0 a.1 b.1 a.2 b.2 (same_end fetch entry calls system bound choices a.3.0 b.3.0 a.0 b.0 a.1 b.1 a.2 b.2 (omega arith) a.3.1 b.3.1)
-      | inr h ↦ sym (same_outcome fetch entry calls system bound choices b.0 a.0 b.1 a.1 b.2 a.2 (same_end fetch entry calls system bound choices b.3.0 a.3.0 b.0 a.0 b.1 a.1 b.2 a.2 h b.3.1 a.3.1))
+      | inl h ↦ same_outcome fetch entry calls system bound choices a.0 b.0 a.1 b.1 a.2 b.2 (same_end fetch entry calls system bound choices 0 a.3.0 b.3.0 a.0 b.0 a.1 b.1 a.2 b.2 (omega arith) a.3.1 b.3.1)
+      | inr h ↦ sym (same_outcome fetch entry calls system bound choices b.0 a.0 b.1 a.1 b.2 a.2 (same_end fetch entry calls system bound choices 0 b.3.0 a.3.0 b.0 a.0 b.1 a.1 b.2 a.2 h b.3.1 a.3.1))
     ] ∙ sym b.4

@@ -1,4 +1,4 @@
--- The instruction that stands at an address: as a function of the words there, and as a relation.
+-- Definition. The instruction that stands at an address: as a function of the words there, and as a relation.
 use Rattle.std.specs.Prelude.{◌≡◌, ℕ, ◌+◌, ◌*◌, ◌^◌, ◌<◌, All, ◌↔◌, true, nat_lt, if◌then◌else◌, List, [], ◌∷◌, ◌++◌, take, drop, length, slice_get, Option, Some, None}
 use Rattle.edi_target.specs.Op.{Instruction, Branch, words_of, is_allowed, has_integers, integer_of_word, address_of_words, const, text, zeros, address, field, index, load, store, add, sub, mul, div, mod_, neg, not_, eq, ne, lt, le, gt, ge, union, minus, meet, in_, member, check, jump, false_, and, or, loop, entry, call, call_p, proc, return, halt, when, retry, done, cobegin, exit, quiet}
 

@@ -1,4 +1,4 @@
--- The file of a code: 32 bytes of header, then the words. Numbers stand with their high byte first.
+-- Definition. The file of a code: 32 bytes of header, then the words. Numbers stand with their high byte first.
 --
 --     bytes 0 and 1     237 21
 --     bytes 2 and 3     the version, 1 or 2; files are written in version 2

@@ -1,13 +1,15 @@
--- What is true of every code that the machine runs.
+-- Words of contracts. What is true of every code that the machine runs.
 use Rattle.std.specs.Prelude.{◌≡◌, ℕ, ◌<◌, Bool, List, ⊤, Option, Some}
 use Rattle.edi_calls.specs.Choice.{Choices}
 use Rattle.edi_calls.specs.State.{State}
+use Rattle.edi_calls.specs.Outcome as outcome
 use Rattle.edi_calls.specs.Outcome.{Outcome}
 use Rattle.edi_target.specs.Op.{Instruction}
 use Rattle.edi_target.specs.Effect.{Local, Effect, goes, released, asks, due, fails, bad}
 use Rattle.edi_target.specs.Fetch.{fetch}
 use Rattle.edi_target.specs.Perform.{perform}
-use Rattle.edi_target.specs.Mach.{Mach}
+use Rattle.edi_target.specs.Mach.{Machine, Mach}
+use Rattle.edi_target.specs.Moments.{EndsThrough}
 
 -- an instruction that goes on without a turn leaves the program counter above its own address
 abbrev pub MovesUp : ℕ → Effect → Type 0
@@ -39,3 +41,9 @@ abbrev pub RunsAreDetermined : Type 0
 RunsAreDetermined =
     (fetch : ℕ → Option (Instruction × ℕ)) (entry : ℕ) (calls : List ℕ) (system : State) (bound : ℕ) (choices : Choices) (one other : Outcome) →
     Mach fetch entry calls system bound choices one → Mach fetch entry calls system bound choices other → one ≡ other
+
+-- a run ends by its turns only where none is left, however many choices were drawn before it
+abbrev pub EndsByTurnsSpent : Type 0
+EndsByTurnsSpent =
+    (fetch : ℕ → Option (Instruction × ℕ)) (entry : ℕ) (calls : List ℕ) (system : State) (bound : ℕ) (choices : Choices) (before : ℕ) (m : Machine) (drawn : ℕ) (past : List State) →
+    EndsThrough fetch entry calls system bound choices before outcome.turns m drawn past → m.turns ≡ 0

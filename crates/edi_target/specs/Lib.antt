@@ -3,10 +3,13 @@ pub mod Decode
 pub mod View
 pub mod Check
 pub mod File
+pub mod Limit
 pub mod Fetch
 pub mod Memory
 pub mod Effect
 pub mod Perform
 pub mod Mach
+pub mod Moments
 pub mod Laws
+pub mod Starts
 pub mod Rows

@@ -1,4 +1,4 @@
--- The abstract machine: the activities of all live processes in one memory of 65,536 words. It takes a process from
+-- Definition. The abstract machine: the activities of all live processes in one memory of 65,536 words. It takes a process from
 -- the list of ready ones, runs its instructions one by one until it arrives at a `when`, forks or ends, and takes the
 -- next.
 use Rattle.std.specs.Prelude.{◌≡◌, ℕ, zero, suc, ◌+◌, ◌-◌, ◌/◌, ◌<◌, ◌≤◌, ◌⊎◌, Bool, true, false, if◌then◌else◌, List, [], ◌∷◌, ◌++◌, length, Option, Some, None}
@@ -193,14 +193,14 @@ one_less m p a (waiting n) =
 one_less m p a standing = went m (joins [])
 
 -- the end of a child is told to its parent
-abbrev pub told : Machine → Name → Option Activity → Stepped
-told m p None = went m (joins [])
-told m p (Some a) = one_less m p a a.standing
+abbrev pub notified : Machine → Name → Option Activity → Stepped
+notified m p None = went m (joins [])
+notified m p (Some a) = one_less m p a a.standing
 
 abbrev pub exited : Machine → Name → Running → Stepped
 exited m p r =
     let rest = without m.activities p in
-    told
+    notified
     (record { memory = r.local.memory; activities = rest; marks = []; turns = r.turns; system = r.system })
     (parent_of p)
     (find rest (parent_of p))
@@ -255,22 +255,22 @@ module _ (fetch : ℕ → Option (Instruction × ℕ)) where
 
 -- ---- a run
 
-pub data Run : Type 0 where
-  unfinished : Run
-  finished : Ending → Machine → (drawn : ℕ) → Run
+pub data MachineRun : Type 0 where
+  unfinished : MachineRun
+  finished : Ending → Machine → (drawn : ℕ) → MachineRun
 
 -- where nobody is ready nothing can happen any more either
-abbrev pub go_on : Taking → (Name → List Name → ℕ → Run) → Machine → ℕ → Run
+abbrev pub go_on : Taking → (Name → List Name → ℕ → MachineRun) → Machine → ℕ → MachineRun
 go_on nobody more m drawn = finished outcome.standstill m drawn
 go_on (taking p others drawn) more m before = more p others drawn
 
-abbrev pub after_step : Choices → (Machine → Name → List Name → ℕ → Run) → Name → List Name → ℕ → Stepped → Run
+abbrev pub after_step : Choices → (Machine → Name → List Name → ℕ → MachineRun) → Name → List Name → ℕ → Stepped → MachineRun
 after_step choices more p others drawn (ended ending m) = finished ending m drawn
 after_step choices more p others drawn (went m stays) = more m p others drawn
 after_step choices more p others drawn (went m (joins ps)) = go_on (take_next choices drawn (others ++ ps)) (more m) m drawn
 
 -- the run of at most n instructions from here, where p is taken and the others are ready
-abbrev pub run : (ℕ → Option (Instruction × ℕ)) → Choices → ℕ → Machine → Name → List Name → ℕ → Run
+abbrev pub run : (ℕ → Option (Instruction × ℕ)) → Choices → ℕ → Machine → Name → List Name → ℕ → MachineRun
 run fetch choices zero m p others drawn = unfinished
 run fetch choices (suc n) m p others drawn =
     after_step choices (run fetch choices n) p others drawn (step fetch m p others)
@@ -316,7 +316,7 @@ entered (Some (op.entry need r p v f, body)) entry calls (suc n) system =
 entered _ entry calls bound system = ended (outcome.bad entry) (machine_at (start_memory calls) [] bound system)
 
 -- a run of at most n instructions from the start
-abbrev pub run_from_start : (ℕ → Option (Instruction × ℕ)) → (entry : ℕ) → List ℕ → State → ℕ → Choices → ℕ → Run
+abbrev pub run_from_start : (ℕ → Option (Instruction × ℕ)) → (entry : ℕ) → List ℕ → State → ℕ → Choices → ℕ → MachineRun
 run_from_start fetch entry calls system bound choices n =
     after_step choices (run fetch choices n) [] [] 0 (entered (fetch entry) entry calls bound system)
 

@@ -1,4 +1,4 @@
--- The one memory: a list of words, each below 65,536.
+-- Definition. The one memory: a list of words, each below 65,536.
 use Rattle.std.specs.Prelude.{ℕ, zero, suc, List, slice_index}
 
 -- the word at an address

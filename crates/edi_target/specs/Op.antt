@@ -1,4 +1,4 @@
--- The instructions of the abstract machine, the operands that they may have, and their words.
+-- Definition. The instructions of the abstract machine, the operands that they may have, and their words.
 use Rattle.std.specs.Prelude.{ℕ, ◌+◌, ◌*◌, ◌^◌, ◌/◌, ◌%◌, ℤ, pos, negsuc, Bool, true, ◌&&◌, nat_le, nat_lt, int_le, List, [], ◌∷◌, length}
 use Rattle.std.specs.List.{list_all}
 use Rattle.edi_word.specs.Words.{signed, unsigned}

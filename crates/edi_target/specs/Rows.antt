@@ -1,4 +1,4 @@
--- Small codes, run by the definition of the machine.
+-- Computed rows. Small codes, run by the definition of the machine.
 use Rattle.std.specs.Prelude.{◌≡◌, ℕ, List, [], ◌∷◌, ◌++◌, replicate, None, refl}
 use Rattle.edi_calls.specs.State.{State}
 use Rattle.edi_calls.specs.Choice.{listed}
@@ -7,13 +7,13 @@ use Rattle.edi_calls.specs.Outcome.{Ending, outcome_of}
 use Rattle.edi_store.specs.Memory.{zero_words}
 use Rattle.edi_target.specs.Decode.{decode}
 use Rattle.edi_target.specs.Fetch.{fetch}
-use Rattle.edi_target.specs.Mach.{Run, unfinished, finished, run_from_start}
+use Rattle.edi_target.specs.Mach.{MachineRun, unfinished, finished, run_from_start}
 
 abbrev empty_system : State
 empty_system = record { input = []; shown = []; printed = []; slots = replicate 256 None; blocks = 0; found = None; buffer = None }
 
 -- what is shown by the end, the ending, the turns that are left, and the choices drawn
-abbrev summary : Run → List ℕ × Ending × ℕ × ℕ
+abbrev summary : MachineRun → List ℕ × Ending × ℕ × ℕ
 summary unfinished = ([], outcome.standstill, 0, 0)
 summary (finished ending m drawn) = (m.system.shown, ending, m.turns, drawn)
 

@@ -2,5 +2,5 @@
 use Rattle.std.specs.Prelude.{ℕ, ◌+◌, ◌-◌, ◌^◌, ◌≤◌, min}
 
 -- the count is greater after the call than before it, or it stands at its last value
-abbrev pub Rose : ℕ → ℕ → Type 0
-Rose before now = min (before + 1) (2 ^ 64 - 1) ≤ now
+abbrev pub CountRose : ℕ → ℕ → Type 0
+CountRose before now = min (before + 1) (2 ^ 64 - 1) ≤ now

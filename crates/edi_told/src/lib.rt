@@ -3,12 +3,12 @@
 #![tactic(auto)]
 
 ghost use Rattle.std.specs.Prelude.{◌≡◌, ◌+◌, ◌-◌, ◌^◌, ◌≤◌, min};
-ghost use Rattle.edi_told.specs.Faults.{Rose};
+ghost use Rattle.edi_told.specs.Faults.{CountRose};
 
 /// A count of faults after one more fault. It stands still at its last value, `u64::MAX`.
 pub fn one_more(faults: u64) -> u64
     ensures exact { result ≡ min (faults + 1) (2 ^ 64 - 1) }
-    ensures rose { Rose faults result }
+    ensures rose { CountRose faults result }
     ensures later { faults ≤ result }
 {
     faults.saturating_add(1)

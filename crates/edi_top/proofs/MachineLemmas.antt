@@ -93,18 +93,18 @@ same_instruction x i j m n a b =
     ap (λ (o : Option (Instruction × ℕ)). elim o [ None ↦ i | Some p ↦ p.0 ]) (sym a ∙ b)
 
 -- the machine stands in the code of a program that shows `all`, and has shown a front of it
-pub record Stands (words : List ℕ) (at pushed : ℕ) (all : List ℕ) (before now : Option (List ℕ)) : Type 0 where
+pub record PushedStands (words : List ℕ) (at pushed : ℕ) (all : List ℕ) (before now : Option (List ℕ)) : Type 0 where
   pub done : List ℕ
   pub left : List ℕ
   pub whole : done ++ left ≡ all
   pub phase : Phase (drop at words) pushed left
   pub shown : Shows before now done
 
-pub starts : (words : List ℕ) (pushed : ℕ) (ss : List Statement) (told : Option (List ℕ)) → AreBytes ss → words ≡ code_of ss → Stands words 0 pushed (shown_by ss) told told
+pub starts : (words : List ℕ) (pushed : ℕ) (ss : List Statement) (told : Option (List ℕ)) → AreBytes ss → words ≡ code_of ss → PushedStands words 0 pushed (shown_by ss) told told
 starts words pushed ss told bytes is = record { done = []; left = shown_by ss; whole = refl; phase = entering ss bytes is refl; shown = shown_none told }
 
-pub enters : (words : List ℕ) (at next pushed need r p v f : ℕ) (all : List ℕ) (before now : Option (List ℕ)) → Stands words at pushed all before now
-    → drop at words ≡ words_of (entry need r p v f) ++ drop next words → Stands words next pushed all before now
+pub enters : (words : List ℕ) (at next pushed need r p v f : ℕ) (all : List ℕ) (before now : Option (List ℕ)) → PushedStands words at pushed all before now
+    → drop at words ≡ words_of (entry need r p v f) ++ drop next words → PushedStands words next pushed all before now
 enters words at next pushed need r p v f all before now s is = record {
   done = s.done;
   left = s.left;
@@ -113,8 +113,8 @@ enters words at next pushed need r p v f all before now s is = record {
   shown = s.shown;
 }
 
-pub pushes : (words : List ℕ) (at next pushed value : ℕ) (all : List ℕ) (before now : Option (List ℕ)) → Stands words at pushed all before now
-    → drop at words ≡ words_of (const value) ++ drop next words → Stands words next value all before now
+pub pushes : (words : List ℕ) (at next pushed value : ℕ) (all : List ℕ) (before now : Option (List ℕ)) → PushedStands words at pushed all before now
+    → drop at words ≡ words_of (const value) ++ drop next words → PushedStands words next value all before now
 pushes words at next pushed value all before now s is = record {
   done = s.done;
   left = s.left;
@@ -124,12 +124,12 @@ pushes words at next pushed value all before now s is = record {
 }
 
 -- only a byte is shown
-pub fits : (words : List ℕ) (at next pushed k d l : ℕ) (all : List ℕ) (before now : Option (List ℕ)) → Stands words at pushed all before now
+pub fits : (words : List ℕ) (at next pushed k d l : ℕ) (all : List ℕ) (before now : Option (List ℕ)) → PushedStands words at pushed all before now
     → drop at words ≡ words_of (call_p k d l) ++ drop next words → pushed < 256
 fits words at next pushed k d l all before now s is = (past_call (drop at words) (drop next words) k d l pushed s.left s.phase is).fits
 
-pub calls : (words : List ℕ) (at next pushed k d l : ℕ) (all : List ℕ) (before now after : Option (List ℕ)) → Stands words at pushed all before now
-    → drop at words ≡ words_of (call_p k d l) ++ drop next words → ShowsPart true now after (pushed ∷ []) → Stands words next pushed all before after
+pub calls : (words : List ℕ) (at next pushed k d l : ℕ) (all : List ℕ) (before now after : Option (List ℕ)) → PushedStands words at pushed all before now
+    → drop at words ≡ words_of (call_p k d l) ++ drop next words → ShowsPart true now after (pushed ∷ []) → PushedStands words next pushed all before after
 calls words at next pushed k d l all before now after s is put =
     let call = past_call (drop at words) (drop next words) k d l pushed s.left s.phase is in
     record {
@@ -141,28 +141,28 @@ calls words at next pushed k d l all before now after s is put =
     }
 
 -- where the terminal fails at a call, a front of all was shown
-pub fails : (words : List ℕ) (at next pushed k d l : ℕ) (all : List ℕ) (before now after : Option (List ℕ)) → Stands words at pushed all before now
+pub fails : (words : List ℕ) (at next pushed k d l : ℕ) (all : List ℕ) (before now after : Option (List ℕ)) → PushedStands words at pushed all before now
     → drop at words ≡ words_of (call_p k d l) ++ drop next words → ShowsPart false now after (pushed ∷ []) → (part : List ℕ) × IsFront part all × Shows before after part
 fails words at next pushed k d l all before now after s is put =
     let call = past_call (drop at words) (drop next words) k d l pushed s.left s.phase is in
     let left : s.left ≡ put.part ++ (put.front.0 ++ call.more) = call.shows ∙ ap (λ x. x ++ call.more) put.front.1 ∙ append_assoc put.part put.front.0 call.more in
     (s.done ++ put.part, (put.front.0 ++ call.more, sym s.whole ∙ ap (λ x. s.done ++ x) left ∙ sym (append_assoc s.done put.part (put.front.0 ++ call.more))), shown_twice before now after s.done put.part s.shown put.shown)
 
-pub returns : (words : List ℕ) (at next pushed r f : ℕ) (all : List ℕ) (before now : Option (List ℕ)) → Stands words at pushed all before now
+pub returns : (words : List ℕ) (at next pushed r f : ℕ) (all : List ℕ) (before now : Option (List ℕ)) → PushedStands words at pushed all before now
     → drop at words ≡ words_of (return r f) ++ drop next words → Shows before now all
 returns words at next pushed r f all before now s is =
     let none : s.left ≡ [] = past_return (drop at words) (drop next words) r f pushed s.left s.phase is in
     subst (λ (x : List ℕ). Shows before now x) (sym (append-nil s.done) ∙ ap (λ x. s.done ++ x) (sym none) ∙ s.whole) s.shown
 
 -- something is read
-pub reads : (words : List ℕ) (at pushed : ℕ) (all : List ℕ) (before now : Option (List ℕ)) → Stands words at pushed all before now → decode (drop at words) ≡ None → ⊥
+pub reads : (words : List ℕ) (at pushed : ℕ) (all : List ℕ) (before now : Option (List ℕ)) → PushedStands words at pushed all before now → decode (drop at words) ≡ None → ⊥
 reads words at pushed all before now s none =
     let here = small_here (drop at words) pushed s.left s.phase in
     let e : None ≡ Some (here.0, here.1.0) = sym none ∙ here.1.1 in
     cc
 
 -- what is read is one of the instructions of these programs
-pub reads_small : (words : List ℕ) (at pushed n : ℕ) (i : Instruction) (all : List ℕ) (before now : Option (List ℕ)) → Stands words at pushed all before now → decode (drop at words) ≡ Some (i, n) → IsSmall i
+pub reads_small : (words : List ℕ) (at pushed n : ℕ) (i : Instruction) (all : List ℕ) (before now : Option (List ℕ)) → PushedStands words at pushed all before now → decode (drop at words) ≡ Some (i, n) → IsSmall i
 reads_small words at pushed n i all before now s is =
     let here = small_here (drop at words) pushed s.left s.phase in
     subst (λ (j : Instruction). IsSmall j) (same_instruction (decode (drop at words)) here.0 i here.1.0 n here.1.1 is) here.1.2

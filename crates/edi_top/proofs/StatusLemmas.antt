@@ -1,30 +1,28 @@
 -- From what is done to what a status means.
-use Rattle.std.proofs.Common.{◌≡◌, ℕ, ◌<◌, true, List, [], ◌++◌, length, take, Option, Some, None, Result, Err, ltb, refl, sym, ap, subst, ◌∙◌, arith, inl, inr, append_assoc}
+use Rattle.std.proofs.Common.{◌≡◌, ℕ, List, [], ◌++◌, take, Option, Some, None, Result, refl, sym, ap, subst, ◌∙◌, append_assoc}
 use Rattle.std.specs.Prelude.{⊤}
 use Rattle.std.specs.FinMap as map
 use Rattle.std.specs.Option.{IsSomeAnd}
-use Rattle.std.proofs.lemmas.Bool.{cases_lt}
-use Rattle.std.proofs.lemmas.Bool.Decides.{nat_tests}
-use Rattle.std.proofs.lemmas.List.{append-nil, take_all, length-take}
+use Rattle.std.proofs.lemmas.List.{append-nil}
 use Rattle.edi_told.specs.Told.{WhereTold}
-use Rattle.edi_told.specs.Faults.{Rose}
+use Rattle.edi_told.specs.Faults.{CountRose}
 use Rattle.edi_lex.specs.Symbols.{symbols_of}
 use Rattle.edi_lex.specs.declared.symbol.Mark.{Mark}
 use Rattle.edi_lex.specs.declared.fault.LexFault.{LexFault}
-use Rattle.edi_lex.specs.declared.fault.LexFault.TheVariants as lex
-use Rattle.edi_host.specs.Files.{Held, FetchGives}
+use Rattle.edi_lex.proofs.Limited.{first_bytes_decide}
+use Rattle.edi_host.specs.Files.{Contents, FetchGives}
 use Rattle.edi_host.specs.declared.files.FetchEnd.TheVariants as fetch
-use Rattle.edi_top.specs.declared.status.RefusalKind.{RefusalKind}
+use Rattle.edi_texts.specs.declared.kind.RefusalKind.{RefusalKind}
 use Rattle.edi_top.specs.declared.status.Status.{Status}
 use Rattle.edi_top.specs.declared.status.Status.TheVariants as status
 use Rattle.edi_top.specs.Command.{file_to_run}
 use Rattle.edi_top.specs.Lines.{closing}
 use Rattle.edi_top.specs.Shown.{Shows, IsFront}
 use Rattle.edi_top.specs.Small.{shown_by}
-use Rattle.edi_top.specs.Verdict.{AreProgram, AreRefused, IsProgram, IsRefused, Runs}
+use Rattle.edi_top.specs.Verdict.{AreProgram, IsProgram, IsRefused, Runs}
 use Rattle.edi_top.specs.Top.{Asks, Ends, IsDecisive, IsFile, IsNoFile, Means, Performs, Seen}
 use Rattle.edi_top.proofs.ShownLemmas.{shown_none}
-use Rattle.edi_top.proofs.TextLemmas.{one_program, one_refusal, not_both}
+use Rattle.edi_top.proofs.TextLemmas.{not_both, one_program, one_refusal, refused_alike}
 
 -- ---- the line of the status
 
@@ -87,57 +85,50 @@ closes_fault given words seen shown now is p =
     ([], (status.Ok, q.0, q.1, (q.2.0, front)), shown_none now)
 
 -- a file fault has its cause
-pub file_rose : (s : Status) (words : List (List ℕ)) (seen : Seen) (all : List ℕ) → Ends s words seen all → s ≡ status.FileFault → Rose seen.before seen.after
+pub file_rose : (s : Status) (words : List (List ℕ)) (seen : Seen) (all : List ℕ) → Ends s words seen all → s ≡ status.FileFault → CountRose seen.before seen.after
 file_rose s words seen all e is =
     let f : Ends status.FileFault words seen all = subst (λ (x : Status). Ends x words seen all) is e in
     f.1.2
 
 -- ---- from the bytes that were fetched to the file
 
-long : (text : List ℕ) → 262144 < length text → symbols_of text ≡ Err lex.TooLong
-long text above = let e : ltb 262144 (length text) ≡ true = grind (arith, nat_tests) in rw e refl
-
 -- the bytes that are fetched decide
 symbols_of-take : (bytes : List ℕ) → symbols_of (take 262145 bytes) ≡ symbols_of bytes
-symbols_of-take bytes =
-    elim (cases_lt 262144 (length bytes)) [
-      | inl above ↦ long (take 262145 bytes) (omega (arith, above, length-take 262145 bytes)) ∙ sym (long bytes above)
-      | inr fits ↦ ap symbols_of (take_all 262145 bytes (omega (arith, fits)))
-    ]
+symbols_of-take bytes = (first_bytes_decide bytes).0
 
 -- the file from which these bytes were fetched
-pub file_of : (old new : Option Held) (name into : List ℕ) → WhereTold old new (λ held after. FetchGives fetch.Ok (map.get held name) 262145 into) → WhereTold old new (λ held after. after ≡ held)
+pub file_of : (old new : Option Contents) (name into : List ℕ) → WhereTold old new (λ contents after. FetchGives fetch.Ok (map.get contents name) 262145 into) → WhereTold old new (λ contents after. after ≡ contents)
     → (bytes : List ℕ) × IsFile new name bytes × (symbols_of into ≡ symbols_of bytes)
 file_of old None name into gives same = (into, tt, refl)
 file_of None (Some after) name into gives same = absurd gives
-file_of (Some held) (Some after) name into gives same = by_file (map.get held name) refl gives where
-  by_file : (file : Option (List ℕ)) → map.get held name ≡ file → IsSomeAnd file (λ bytes. into ≡ take 262145 bytes) → (bytes : List ℕ) × (map.get after name ≡ Some bytes) × (symbols_of into ≡ symbols_of bytes)
+file_of (Some contents) (Some after) name into gives same = by_file (map.get contents name) refl gives where
+  by_file : (file : Option (List ℕ)) → map.get contents name ≡ file → IsSomeAnd file (λ bytes. into ≡ take 262145 bytes) → (bytes : List ℕ) × (map.get after name ≡ Some bytes) × (symbols_of into ≡ symbols_of bytes)
   by_file None is some = absurd some
-  by_file (Some bytes) is some = (bytes, ap (λ (h : Held). map.get h name) same ∙ is, ap symbols_of some ∙ symbols_of-take bytes)
+  by_file (Some bytes) is some = (bytes, ap (λ (h : Contents). map.get h name) same ∙ is, ap symbols_of some ∙ symbols_of-take bytes)
 
 -- a file that is there
-pub some_file : (old new : Option Held) (name into : List ℕ) → WhereTold old new (λ held after. FetchGives fetch.Failed (map.get held name) 262145 into) → WhereTold old new (λ held after. after ≡ held)
+pub some_file : (old new : Option Contents) (name into : List ℕ) → WhereTold old new (λ contents after. FetchGives fetch.Failed (map.get contents name) 262145 into) → WhereTold old new (λ contents after. after ≡ contents)
     → (bytes : List ℕ) × IsFile new name bytes
 some_file old None name into gives same = (into, tt)
 some_file None (Some after) name into gives same = absurd gives
-some_file (Some held) (Some after) name into gives same = by_file (map.get held name) refl gives where
-  by_file : (file : Option (List ℕ)) → map.get held name ≡ file → FetchGives fetch.Failed file 262145 into → (bytes : List ℕ) × (map.get after name ≡ Some bytes)
+some_file (Some contents) (Some after) name into gives same = by_file (map.get contents name) refl gives where
+  by_file : (file : Option (List ℕ)) → map.get contents name ≡ file → FetchGives fetch.Failed file 262145 into → (bytes : List ℕ) × (map.get after name ≡ Some bytes)
   by_file None is some = cc
-  by_file (Some bytes) is some = (bytes, ap (λ (h : Held). map.get h name) same ∙ is)
+  by_file (Some bytes) is some = (bytes, ap (λ (h : Contents). map.get h name) same ∙ is)
 
-pub no_file : (old new : Option Held) (name into : List ℕ) → WhereTold old new (λ held after. FetchGives fetch.Absent (map.get held name) 262145 into) → WhereTold old new (λ held after. after ≡ held) → IsNoFile new name
+pub no_file : (old new : Option Contents) (name into : List ℕ) → WhereTold old new (λ contents after. FetchGives fetch.Absent (map.get contents name) 262145 into) → WhereTold old new (λ contents after. after ≡ contents) → IsNoFile new name
 no_file old None name into gives same = tt
 no_file None (Some after) name into gives same = absurd gives
-no_file (Some held) (Some after) name into gives same = ap (λ (h : Held). map.get h name) same ∙ gives
+no_file (Some contents) (Some after) name into gives same = ap (λ (h : Contents). map.get h name) same ∙ gives
 
 -- the run of the bytes that were fetched
-pub performed : (s : Status) (words : List (List ℕ)) (seen : Seen) (name into bytes shown : List ℕ) → file_to_run words ≡ Some name → IsFile seen.held name bytes → symbols_of into ≡ symbols_of bytes
+pub performed : (s : Status) (words : List (List ℕ)) (seen : Seen) (name into bytes shown : List ℕ) → file_to_run words ≡ Some name → IsFile seen.contents name bytes → symbols_of into ≡ symbols_of bytes
     → Runs s into shown → Performs s words seen shown
 performed status.Ok words seen name into bytes shown asked there same r =
     (bytes, r.0, record { name = name; asked = asked; there = there }, subst (λ (k : Result (List Mark × ℕ) LexFault). AreProgram k r.0) same r.1, r.2)
 performed status.Words words seen name into bytes shown asked there same r = absurd r
 performed (status.Refused kind line) words seen name into bytes shown asked there same r =
-    (bytes, record { name = name; asked = asked; there = there }, subst (λ (k : Result (List Mark × ℕ) LexFault). AreRefused k kind line) same r.0, r.1)
+    (bytes, record { name = name; asked = asked; there = there }, refused_alike into bytes kind line same r.0, r.1)
 performed status.NoMemory words seen name into bytes shown asked there same r = (bytes, record { name = name; asked = asked; there = there }, r)
 performed status.FileFault words seen name into bytes shown asked there same r = absurd r
 performed status.OutputFault words seen name into bytes shown asked there same r =
@@ -153,21 +144,21 @@ no_name : (x : Option (List ℕ)) (m : List ℕ) → x ≡ Some m → x ≡ None
 no_name x m a b = let e : Some m ≡ None = sym a ∙ b in cc
 
 -- the files of a call, where they are told
-told : (seen : Seen) (files : Held) (name bytes : List ℕ) → seen.held ≡ Some files → IsFile seen.held name bytes → map.get files name ≡ Some bytes
-told seen files name bytes is there = subst (λ (h : Option Held). IsFile h name bytes) is there
+told : (seen : Seen) (files : Contents) (name bytes : List ℕ) → seen.contents ≡ Some files → IsFile seen.contents name bytes → map.get files name ≡ Some bytes
+told seen files name bytes is there = subst (λ (h : Option Contents). IsFile h name bytes) is there
 
-one_file : (words : List (List ℕ)) (seen : Seen) (files : Held) (a b : List ℕ) → seen.held ≡ Some files → Asks words seen a → Asks words seen b → a ≡ b
+one_file : (words : List (List ℕ)) (seen : Seen) (files : Contents) (a b : List ℕ) → seen.contents ≡ Some files → Asks words seen a → Asks words seen b → a ≡ b
 one_file words seen files a b is x y =
     let same : x.name ≡ y.name = one_name (file_to_run words) x.name y.name x.asked y.asked in
     one_name (map.get files y.name) a b (ap (map.get files) (sym same) ∙ told seen files x.name a is x.there) (told seen files y.name b is y.there)
 
-not_absent : (words : List (List ℕ)) (seen : Seen) (files : Held) (bytes name : List ℕ) → seen.held ≡ Some files → Asks words seen bytes → file_to_run words ≡ Some name → IsNoFile seen.held name → ⊥
+not_absent : (words : List (List ℕ)) (seen : Seen) (files : Contents) (bytes name : List ℕ) → seen.contents ≡ Some files → Asks words seen bytes → file_to_run words ≡ Some name → IsNoFile seen.contents name → ⊥
 not_absent words seen files bytes name is x asked absent =
     let same : x.name ≡ name = one_name (file_to_run words) x.name name x.asked asked in
-    let none : map.get files name ≡ None = subst (λ (h : Option Held). IsNoFile h name) is absent in
+    let none : map.get files name ≡ None = subst (λ (h : Option Contents). IsNoFile h name) is absent in
     no_name (map.get files name) bytes (ap (map.get files) (sym same) ∙ told seen files x.name bytes is x.there) none
 
-pub one_meaning : (s t : Status) (words : List (List ℕ)) (seen : Seen) (files : Held) (a b : List ℕ) → seen.held ≡ Some files → IsDecisive s → IsDecisive t → Means s words seen a → Means t words seen b → (s ≡ t) × (a ≡ b)
+pub one_meaning : (s t : Status) (words : List (List ℕ)) (seen : Seen) (files : Contents) (a b : List ℕ) → seen.contents ≡ Some files → IsDecisive s → IsDecisive t → Means s words seen a → Means t words seen b → (s ≡ t) × (a ≡ b)
 one_meaning status.NoMemory t words seen files a b is d e m n = absurd d
 one_meaning status.FileFault t words seen files a b is d e m n = absurd d
 one_meaning status.OutputFault t words seen files a b is d e m n = absurd d
@@ -181,7 +172,7 @@ one_meaning status.Ok status.Ok words seen files a b is d e m n =
 one_meaning status.Ok status.Words words seen files a b is d e m n = absurd (no_name (file_to_run words) m.2.name m.2.asked n.0)
 one_meaning status.Ok (status.Refused kind line) words seen files a b is d e m n =
     let file : m.0 ≡ n.0 = one_file words seen files m.0 n.0 is m.2 n.1 in
-    absurd (not_both (symbols_of n.0) m.1 kind line (subst (λ (bytes : List ℕ). IsProgram bytes m.1) file m.3) n.2)
+    absurd (not_both n.0 m.1 kind line (subst (λ (bytes : List ℕ). IsProgram bytes m.1) file m.3) n.2)
 one_meaning status.Ok status.Absent words seen files a b is d e m n = absurd (not_absent words seen files m.0 n.0 is m.2 n.1 n.2)
 one_meaning status.Words status.Ok words seen files a b is d e m n = absurd (no_name (file_to_run words) n.2.name n.2.asked m.0)
 one_meaning status.Words status.Words words seen files a b is d e m n = (refl, m.1 ∙ sym n.1)
@@ -189,11 +180,11 @@ one_meaning status.Words (status.Refused kind line) words seen files a b is d e 
 one_meaning status.Words status.Absent words seen files a b is d e m n = absurd (no_name (file_to_run words) n.0 n.1 m.0)
 one_meaning (status.Refused kind line) status.Ok words seen files a b is d e m n =
     let file : n.0 ≡ m.0 = one_file words seen files n.0 m.0 is n.2 m.1 in
-    absurd (not_both (symbols_of m.0) n.1 kind line (subst (λ (bytes : List ℕ). IsProgram bytes n.1) file n.3) m.2)
+    absurd (not_both m.0 n.1 kind line (subst (λ (bytes : List ℕ). IsProgram bytes n.1) file n.3) m.2)
 one_meaning (status.Refused kind line) status.Words words seen files a b is d e m n = absurd (no_name (file_to_run words) m.1.name m.1.asked n.0)
 one_meaning (status.Refused kind line) (status.Refused kind' line') words seen files a b is d e m n =
     let file : m.0 ≡ n.0 = one_file words seen files m.0 n.0 is m.1 n.1 in
-    let same = one_refusal (symbols_of n.0) kind kind' line line' (subst (λ (bytes : List ℕ). IsRefused bytes kind line) file m.2) n.2 in
+    let same = one_refusal n.0 kind kind' line line' (subst (λ (bytes : List ℕ). IsRefused bytes kind line) file m.2) n.2 in
     (λ i. status.Refused (same.0 i) (same.1 i), m.3 ∙ sym n.3)
 one_meaning (status.Refused kind line) status.Absent words seen files a b is d e m n = absurd (not_absent words seen files m.0 n.0 is m.1 n.1 n.2)
 one_meaning status.Absent status.Ok words seen files a b is d e m n = absurd (not_absent words seen files n.0 m.0 is n.2 m.1 m.2)

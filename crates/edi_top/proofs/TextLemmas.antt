@@ -1,32 +1,21 @@
 -- What a program's symbols are, read from the front.
-use Rattle.std.proofs.Common.{◌≡◌, ℕ, ◌≤◌, true, List, [], ◌∷◌, ◌++◌, length, Result, Ok, Err, refl, sym, ap, subst, ◌∙◌, arith, append_assoc, ◌⊎◌, inl, inr}
+use Rattle.std.proofs.Common.{◌≡◌, ℕ, ◌≤◌, true, List, [], ◌∷◌, ◌++◌, length, Result, Ok, Err, refl, sym, ap, subst, ◌∙◌, arith, append_assoc, inl, inr}
 use Rattle.std.proofs.lemmas.List.{append-nil}
 use Rattle.edi_lex.specs.declared.symbol.Symbol.{Symbol}
 use Rattle.edi_lex.specs.declared.symbol.Symbol.TheVariants as is
 use Rattle.edi_lex.specs.declared.symbol.Mark.{Mark}
 use Rattle.edi_lex.specs.declared.fault.LexFault.{LexFault}
-use Rattle.edi_lex.specs.declared.fault.LexFault.TheVariants as lex
-use Rattle.edi_top.specs.declared.status.RefusalKind.{RefusalKind}
+use Rattle.edi_lex.specs.Order.{extent}
+use Rattle.edi_lex.specs.Spelling.{are_spelled}
+use Rattle.edi_lex.specs.Symbols.{symbols_of}
+use Rattle.edi_syntax.proofs.Stopping as stopping
+use Rattle.edi_texts.specs.declared.kind.RefusalKind.{RefusalKind}
+use Rattle.edi_texts.proofs.Once as texts
+use Rattle.edi_texts.proofs.Same.{tells}
 use Rattle.edi_top.specs.declared.small.Statement.{Statement}
 use Rattle.edi_top.specs.declared.small.Statement.TheVariants.{Skip, Display}
 use Rattle.edi_top.specs.Small.{AreBytes, behind, heading, heading_end, heading_middle, heading_start, spelled, symbols, Spells}
-use Rattle.edi_lex.specs.Order.{extent}
-use Rattle.edi_lex.specs.Spelling.{are_spelled}
-use Rattle.edi_lex.specs.Symbols.{symbols_of, ScanGives}
-use Rattle.edi_top.specs.declared.status.RefusalKind.TheVariants.{InvalidCharacter, InvalidNumeral, TextTooLong}
-use Rattle.edi_top.specs.Verdict.{AreProgram, AreRefused, HaveStaticFault, HaveSyntaxFault, IsFault, IsRefusedAs, RefusesBy, RefusesTree, fault_of, told}
-use Rattle.edi_top.specs.declared.small.CompileFault.{CompileFault}
-use Rattle.edi_top.specs.declared.small.CompileFault.TheVariants as compile
-use Rattle.edi_syntax.specs.Refusal.{Refuses}
-use Rattle.edi_syntax.specs.declared.fault.SyntaxFault.{SyntaxFault}
-use Rattle.edi_syntax.specs.declared.fault.SyntaxFault.TheVariants as syntax
-use Rattle.edi_syntax.proofs.Once.{same_fault, no_tree}
-use Rattle.edi_syntax.proofs.Stopping as stopping
-use Rattle.edi_tree.specs.Tree.{Program}
-use Rattle.edi_derivation.specs.Faults.{IsTheTree}
-use Rattle.edi_unit.specs.Tree.{ProgramUnit}
-use Rattle.edi_static.specs.Judged.{Judged, gives, faults}
-use Rattle.edi_static.specs.Programs.{resolve_tree}
+use Rattle.edi_top.specs.Verdict.{AreProgram, HasCause, IsProgram, IsRefused}
 
 -- no statement begins another
 pub same_rest : (s t : Statement) (x y : List Symbol) → spelled s ++ x ≡ spelled t ++ y → x ≡ y
@@ -82,8 +71,8 @@ left_after rest next after s left a b =
 pub found_next : (items more : List Statement) (s : Statement) (all rest next after : List Symbol) → more ≡ items ++ s ∷ [] → rest ≡ is.Semicolon ∷ next → next ≡ spelled s ++ after
     → ((ts : List Statement) → rest ≡ behind ts → Spells (items ++ ts) all) → (ts : List Statement) → after ≡ behind ts → Spells (more ++ ts) all
 found_next items more s all rest next after pushed a b found ts e =
-    let told : rest ≡ behind (s ∷ ts) = a ∙ ap (λ x. is.Semicolon ∷ x) (b ∙ ap (λ x. spelled s ++ x) e) in
-    subst (λ (l : List Statement). Spells l all) (sym (append_assoc items (s ∷ []) ts) ∙ ap (λ l. l ++ ts) (sym pushed)) (found (s ∷ ts) told)
+    let syntax_fault_of : rest ≡ behind (s ∷ ts) = a ∙ ap (λ x. is.Semicolon ∷ x) (b ∙ ap (λ x. spelled s ++ x) e) in
+    subst (λ (l : List Statement). Spells l all) (sym (append_assoc items (s ∷ []) ts) ∙ ap (λ l. l ++ ts) (sym pushed)) (found (s ∷ ts) syntax_fault_of)
 
 -- with no semicolon the end is left
 pub left_end : (rest : List Symbol) → IsLeft rest → ((more : List Symbol) → rest ≡ is.Semicolon ∷ more → ⊥) → rest ≡ is.End ∷ []
@@ -104,30 +93,6 @@ found_end items all rest (m ∷ after) a none found = absurd (omega (arith, none
 -- there are no more symbols than their sizes make
 pub few_marks : (marks : List Mark) → are_spelled marks ≡ true → length marks ≤ extent marks
 few_marks marks e = stopping.few_marks marks e
-
--- the fault of a text that has no symbols
-pub refused_lexically : (text : List ℕ) (fault : LexFault) → ScanGives (Err fault) (symbols_of text) → IsFault text (fault_of fault)
-refused_lexically text (lex.BadCharacter line) e = subst (λ (k : Result (List Mark × ℕ) LexFault). AreRefused k InvalidCharacter line) (sym e) (refl, refl)
-refused_lexically text (lex.BadNumeral line) e = subst (λ (k : Result (List Mark × ℕ) LexFault). AreRefused k InvalidNumeral line) (sym e) (refl, refl)
-refused_lexically text lex.TooLong e = subst (λ (k : Result (List Mark × ℕ) LexFault). AreRefused k TextTooLong 0) (sym e) (refl, refl)
-refused_lexically text lex.NoMemory e = tt
-
--- the syntax fault of symbols that are no program of this stage
-pub refused_syntactically : (known : List Mark × ℕ) (f : SyntaxFault) → Refuses known.0 known.1 f → RefusesBy known (told f)
-refused_syntactically known (syntax.Syntax line index) r = inl (syntax.Syntax line index, r, refl)
-refused_syntactically known (syntax.TooDeep line index) r = inl (syntax.TooDeep line index, r, refl)
-refused_syntactically known (syntax.NotInProfile line index) r = inl (syntax.NotInProfile line index, r, refl)
-refused_syntactically known syntax.NoMemory r = tt
-
--- the fault of a tree is that of its symbols
-pub refused_statically : (known : List Mark × ℕ) (tree : Program) (fault : CompileFault) → IsTheTree known.0 tree → RefusesTree (resolve_tree tree) fault → RefusesBy known fault
-refused_statically known tree (compile.At kind line) it r = inr (tree, it, r)
-refused_statically known tree compile.NoMemory it r = tt
-
--- the fault of a text that has symbols
-pub refused_symbols : (text : List ℕ) (known : List Mark × ℕ) (fault : CompileFault) → symbols_of text ≡ Ok known → RefusesBy known fault → ((ss : List Statement) → Spells ss (symbols known.0) → ⊥) → IsFault text fault
-refused_symbols text known (compile.At kind line) e r none = subst (λ (k : Result (List Mark × ℕ) LexFault). AreRefused k kind line) (sym e) (none, r)
-refused_symbols text known compile.NoMemory e r none = tt
 
 pub AreBytes-push : (ss : List Statement) (s : Statement) → AreBytes ss → AreBytes (s ∷ []) → AreBytes (ss ++ s ∷ [])
 AreBytes-push [] s a b = b
@@ -158,27 +123,24 @@ pub one_program : (known : Result (List Mark × ℕ) LexFault) (ss ts : List Sta
 one_program (Ok known) ss ts a b = same_spelled ss ts (symbols known.0) a b
 one_program (Err fault) ss ts a b = absurd a
 
-pub not_both : (known : Result (List Mark × ℕ) LexFault) (ss : List Statement) (kind : RefusalKind) (line : ℕ) → AreProgram known ss → AreRefused known kind line → ⊥
-not_both (Ok known) ss kind line a b = b.0 ss a
-not_both (Err fault) ss kind line a b = a
+pub not_both : (text : List ℕ) (ss : List Statement) (kind : RefusalKind) (line : ℕ) → IsProgram text ss → IsRefused text kind line → ⊥
+not_both text ss kind line a b = b.0 ss a
 
-told_once : (f : CompileFault) (kind kind' : RefusalKind) (line line' : ℕ) → f ≡ compile.At kind line → f ≡ compile.At kind' line' → (kind ≡ kind') × (line ≡ line')
-told_once f kind kind' line line' a b = let same : compile.At kind line ≡ compile.At kind' line' = sym a ∙ b in (cc, cc)
+one_cause : (text : List ℕ) (kind kind' : RefusalKind) (line line' : ℕ) → HasCause text kind line → HasCause text kind' line' → (kind ≡ kind') × (line ≡ line')
+one_cause text kind kind' line line' (inl a) (inl b) =
+    let same = texts.one_fault (symbols_of text) a.0 b.0 kind kind' line line' a.1 b.1 in
+    (same.1, same.2)
+one_cause text kind kind' line line' (inl a) (inr b) = absurd (texts.not_both (symbols_of text) a.0 kind line b.0 a.1 b.1)
+one_cause text kind kind' line line' (inr a) (inl b) = absurd (texts.not_both (symbols_of text) b.0 kind' line' a.0 b.1 a.1)
+one_cause text kind kind' line line' (inr a) (inr b) = (a.2 ∙ sym b.2, a.3 ∙ sym b.3)
 
-judged_once : (judged : Judged ProgramUnit) (kind kind' : RefusalKind) (line line' : ℕ) → IsRefusedAs judged kind line → IsRefusedAs judged kind' line' → (kind ≡ kind') × (line ≡ line')
-judged_once (faults why at) kind kind' line line' a b = (a.0 ∙ sym b.0, a.1 ∙ sym b.1)
-judged_once (gives unit) kind kind' line line' a b = (a.0 ∙ sym b.0, a.1 ∙ sym b.1)
+pub one_refusal : (text : List ℕ) (kind kind' : RefusalKind) (line line' : ℕ) → IsRefused text kind line → IsRefused text kind' line' → (kind ≡ kind') × (line ≡ line')
+one_refusal text kind kind' line line' a b = one_cause text kind kind' line line' a.1 b.1
 
-one_cause : (known : List Mark × ℕ) (kind kind' : RefusalKind) (line line' : ℕ) → HaveSyntaxFault known kind line ⊎ HaveStaticFault known kind line → HaveSyntaxFault known kind' line' ⊎ HaveStaticFault known kind' line' → (kind ≡ kind') × (line ≡ line')
-one_cause known kind kind' line line' (inl a) (inl b) = told_once (told b.0) kind kind' line line' (ap told (sym (same_fault known.0 known.1 a.0 b.0 a.1 b.1)) ∙ a.2) b.2
-one_cause known kind kind' line line' (inl a) (inr b) = absurd (no_tree known.0 known.1 a.0 b.0 a.1 b.1.spells b.1.shallow)
-one_cause known kind kind' line line' (inr a) (inl b) = absurd (no_tree known.0 known.1 b.0 a.0 b.1 a.1.spells a.1.shallow)
-one_cause known kind kind' line line' (inr a) (inr b) =
-    judged_once (resolve_tree a.0) kind kind' line line' a.2 (subst (λ (t : Program). IsRefusedAs (resolve_tree t) kind' line') (a.1.one b.0 b.1.spells) b.2)
-
-pub one_refusal : (known : Result (List Mark × ℕ) LexFault) (kind kind' : RefusalKind) (line line' : ℕ) → AreRefused known kind line → AreRefused known kind' line' → (kind ≡ kind') × (line ≡ line')
-one_refusal (Err (lex.BadCharacter at)) kind kind' line line' a b = (a.0 ∙ sym b.0, a.1 ∙ sym b.1)
-one_refusal (Err (lex.BadNumeral at)) kind kind' line line' a b = (a.0 ∙ sym b.0, a.1 ∙ sym b.1)
-one_refusal (Err lex.TooLong) kind kind' line line' a b = (a.0 ∙ sym b.0, a.1 ∙ sym b.1)
-one_refusal (Err lex.NoMemory) kind kind' line line' a b = absurd a
-one_refusal (Ok known) kind kind' line line' a b = one_cause known kind kind' line line' a.1 b.1
+-- texts with the same symbols are refused alike
+pub refused_alike : (one other : List ℕ) (kind : RefusalKind) (line : ℕ) → symbols_of one ≡ symbols_of other → IsRefused one kind line → IsRefused other kind line
+refused_alike one other kind line same a =
+    ((λ ss p. a.0 ss (subst (λ (k : Result (List Mark × ℕ) LexFault). AreProgram k ss) (sym same) p)), by_cause a.1) where
+      by_cause : HasCause one kind line → HasCause other kind line
+      by_cause (inl f) = inl (f.0, (tells one other same).fault f.0 kind line f.1)
+      by_cause (inr u) = inr (u.0, (tells one other same).unit u.0 u.1, u.2, u.3)

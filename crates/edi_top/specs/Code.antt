@@ -1,4 +1,4 @@
--- The code of a program of this stage, and what its execution shows.
+-- Words of contracts. The code of a program of this stage, and what its execution shows.
 use Rattle.std.specs.Prelude.{ℕ, List, [], ◌∷◌, ◌++◌, Option}
 use Rattle.edi_target.specs.Op.{words_of, const, entry, call_p, return}
 use Rattle.edi_top.specs.declared.small.Statement.{Statement}

@@ -1,4 +1,4 @@
--- The commands. There is one so far: `run FILE`.
+-- Definition. The commands. There is one so far: `run FILE`.
 use Rattle.std.specs.Prelude.{ℕ, Bool, false, ◌&&◌, not, ◌==◌, List, [], ◌∷◌, Option, Some, None, if◌then◌else◌, codes}
 use Rattle.std.specs.Str.{bytes_eq}
 

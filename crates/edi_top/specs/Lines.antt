@@ -1,27 +1,10 @@
--- The line that is shown for each status, and where it begins.
+-- Definition. The line that is shown for each status, and where it begins.
 use Rattle.std.specs.Prelude.{ℕ, ◌==◌, List, [], ◌∷◌, ◌++◌, Option, Some, None, if◌then◌else◌, codes}
 use Rattle.std.specs.Fmt.{decimal}
-use Rattle.edi_top.specs.declared.status.RefusalKind.{RefusalKind}
-use Rattle.edi_top.specs.declared.status.RefusalKind.TheVariants.{InvalidCharacter, InvalidNumeral, TextTooLong, InvalidSyntax, NestingTooDeep, NotInProfile, UndeclaredName, AmbiguousName, InvalidNameKind, IncompatibleTypes, InvalidRange, InvalidCall, InvalidConstructor, InvalidSplitProcedure, InvalidProgramHeading}
+use Rattle.edi_texts.specs.declared.kind.RefusalKind.{RefusalKind}
+use Rattle.edi_texts.specs.Kinds.{kind_text}
 use Rattle.edi_top.specs.declared.status.Status.{Status}
 use Rattle.edi_top.specs.declared.status.Status.TheVariants as status
-
-abbrev pub kind_text : RefusalKind → List ℕ
-kind_text InvalidCharacter = codes "invalid character"
-kind_text InvalidNumeral = codes "invalid numeral"
-kind_text TextTooLong = codes "text too long"
-kind_text InvalidSyntax = codes "invalid syntax"
-kind_text NestingTooDeep = codes "nesting too deep"
-kind_text NotInProfile = codes "not in profile"
-kind_text UndeclaredName = codes "undeclared name"
-kind_text AmbiguousName = codes "ambiguous name"
-kind_text InvalidNameKind = codes "invalid name kind"
-kind_text IncompatibleTypes = codes "incompatible types"
-kind_text InvalidRange = codes "invalid range"
-kind_text InvalidCall = codes "invalid call"
-kind_text InvalidConstructor = codes "invalid constructor"
-kind_text InvalidSplitProcedure = codes "invalid split procedure"
-kind_text InvalidProgramHeading = codes "invalid program heading"
 
 -- `line N KIND`
 abbrev pub refusal_line : RefusalKind → ℕ → List ℕ

@@ -1,4 +1,4 @@
--- The symbols that are always spelled alike.
+-- Words of contracts. The symbols that are always spelled alike.
 use Rattle.edi_lex.specs.declared.symbol.Symbol.{Symbol}
 use Rattle.edi_lex.specs.declared.symbol.Symbol.TheVariants as is
 use Rattle.edi_top.specs.declared.small.eat.Plain.{Plain}

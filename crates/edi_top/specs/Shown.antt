@@ -1,4 +1,4 @@
--- What a call has shown, where the terminal tells its bytes.
+-- Definition. What a call has shown, where the terminal tells its bytes.
 use Rattle.std.specs.Prelude.{◌≡◌, ℕ, Bool, true, List, ◌++◌, Option}
 use Rattle.edi_told.specs.Told.{WhereTold}
 

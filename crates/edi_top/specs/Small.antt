@@ -1,4 +1,4 @@
--- The programs of this stage: how they are spelled, and what they show. They stand in for the whole language.
+-- Definition. The programs of this stage: how they are spelled, and what they show. They stand in for the whole language.
 use Rattle.std.specs.Prelude.{◌≡◌, ℕ, ◌<◌, List, [], ◌∷◌, ◌++◌, map, codes, ⊤}
 use Rattle.edi_lex.specs.declared.symbol.Symbol.{Symbol}
 use Rattle.edi_lex.specs.declared.symbol.Symbol.TheVariants as is

@@ -1,4 +1,4 @@
--- The exit status of each way to end.
+-- Words of contracts. The exit status of each way to end.
 use Rattle.std.specs.Prelude.{ℕ}
 use Rattle.edi_top.specs.declared.status.Status.{Status}
 use Rattle.edi_top.specs.declared.status.Status.TheVariants as status

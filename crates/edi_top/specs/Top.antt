@@ -1,8 +1,8 @@
--- What each status means.
+-- Definition. What each status means.
 use Rattle.std.specs.Prelude.{◌≡◌, ℕ, List, [], ◌++◌, Option, Some, None, ⊤}
 use Rattle.std.specs.FinMap as map
-use Rattle.edi_told.specs.Faults.{Rose}
-use Rattle.edi_host.specs.Files.{Held}
+use Rattle.edi_told.specs.Faults.{CountRose}
+use Rattle.edi_host.specs.Files.{Contents}
 use Rattle.edi_top.specs.declared.small.Statement.{Statement}
 use Rattle.edi_top.specs.declared.status.Status.{Status}
 use Rattle.edi_top.specs.declared.status.Status.TheVariants as status
@@ -14,17 +14,17 @@ use Rattle.edi_top.specs.Verdict.{IsProgram, IsRefused}
 
 -- What a call saw of the files: their bytes by their names, where they are told, and the count of faults before and after.
 pub record Seen : Type 0 where
-  pub held : Option Held
+  pub contents : Option Contents
   pub before : ℕ
   pub after : ℕ
 
 -- a file has this name and these bytes, where the files are told
-abbrev pub IsFile : Option Held → List ℕ → List ℕ → Type 0
+abbrev pub IsFile : Option Contents → List ℕ → List ℕ → Type 0
 IsFile None name bytes = ⊤
 IsFile (Some files) name bytes = map.get files name ≡ Some bytes
 
 -- no file has this name, where the files are told
-abbrev pub IsNoFile : Option Held → List ℕ → Type 0
+abbrev pub IsNoFile : Option Contents → List ℕ → Type 0
 IsNoFile None name = ⊤
 IsNoFile (Some files) name = map.get files name ≡ None
 
@@ -32,7 +32,7 @@ IsNoFile (Some files) name = map.get files name ≡ None
 pub record Asks (words : List (List ℕ)) (seen : Seen) (bytes : List ℕ) : Type 0 where
   pub name : List ℕ
   pub asked : file_to_run words ≡ Some name
-  pub there : IsFile seen.held name bytes
+  pub there : IsFile seen.contents name bytes
 
 -- What a status says of the words and the files, and which bytes were shown before the line of the status. A terminal
 -- that has failed is no meaning of words and files.
@@ -41,8 +41,8 @@ Means status.Ok words seen shown = (bytes : List ℕ) × (ss : List Statement) �
 Means status.Words words seen shown = (file_to_run words ≡ None) × (shown ≡ [])
 Means (status.Refused kind line) words seen shown = (bytes : List ℕ) × Asks words seen bytes × IsRefused bytes kind line × (shown ≡ [])
 Means status.NoMemory words seen shown = (bytes : List ℕ) × Asks words seen bytes × (shown ≡ [])
-Means status.FileFault words seen shown = (bytes : List ℕ) × Asks words seen bytes × Rose seen.before seen.after × (shown ≡ [])
-Means status.Absent words seen shown = (name : List ℕ) × (file_to_run words ≡ Some name) × IsNoFile seen.held name × (shown ≡ [])
+Means status.FileFault words seen shown = (bytes : List ℕ) × Asks words seen bytes × CountRose seen.before seen.after × (shown ≡ [])
+Means status.Absent words seen shown = (name : List ℕ) × (file_to_run words ≡ Some name) × IsNoFile seen.contents name × (shown ≡ [])
 Means status.OutputFault words seen shown = ⊥
 
 -- How far a command came before the line of its status: where the terminal failed, it has shown the front of what the
@@ -70,5 +70,5 @@ IsDecisive status.OutputFault = ⊥
 -- words and files that are told decide the status and what is shown before its line
 abbrev pub OneStatus : Type 0
 OneStatus =
-    (s t : Status) (words : List (List ℕ)) (seen : Seen) (files : Held) (a b : List ℕ)
-    → seen.held ≡ Some files → IsDecisive s → IsDecisive t → Means s words seen a → Means t words seen b → (s ≡ t) × (a ≡ b)
+    (s t : Status) (words : List (List ℕ)) (seen : Seen) (files : Contents) (a b : List ℕ)
+    → seen.contents ≡ Some files → IsDecisive s → IsDecisive t → Means s words seen a → Means t words seen b → (s ≡ t) × (a ≡ b)

@@ -8,5 +8,6 @@ mod terminal;
 mod top;
 mod words;
 
-pub use status::{RefusalKind, Status};
+pub use edi_compile::RefusalKind;
+pub use status::Status;
 pub use top::{edison, one_status};

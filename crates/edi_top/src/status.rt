@@ -3,41 +3,7 @@
 ghost use Rattle.std.specs.Prelude.{◌≡◌};
 ghost use Rattle.edi_top.specs.Status.{number_of};
 
-/// What kind of fault a text has.
-#[derive(Clone, Copy, Debug, PartialEq, Eq)]
-pub enum RefusalKind {
-    /// Something that is no symbol, separator or comment.
-    InvalidCharacter,
-    /// A numeral above 32767.
-    InvalidNumeral,
-    /// More than 262,144 bytes or more than 65,534 line feeds.
-    TextTooLong,
-    /// The first symbol with which the symbols begin no program.
-    InvalidSyntax,
-    /// A symbol that opens a 65th level.
-    NestingTooDeep,
-    /// A symbol or a standard name of Edison that the profile leaves out; or a sound program that is not one of those that are
-    /// compiled so far.
-    NotInProfile,
-    /// A name that means nothing at its place.
-    UndeclaredName,
-    /// A name that its scope has already.
-    AmbiguousName,
-    /// A name that does not mean what is asked for at its place.
-    InvalidNameKind,
-    /// Operands, bounds or parts that do not have the types that they must have.
-    IncompatibleTypes,
-    /// Something that is larger than it may be.
-    InvalidRange,
-    /// A call that does not fit the heading of what it calls.
-    InvalidCall,
-    /// A constructor that does not fit its type.
-    InvalidConstructor,
-    /// Two parts of a split procedure that do not belong together.
-    InvalidSplitProcedure,
-    /// A heading that a program may not have.
-    InvalidProgramHeading,
-}
+use edi_compile::RefusalKind;
 
 /// How a call ended.
 #[derive(Clone, Copy, Debug, PartialEq, Eq)]

@@ -1,7 +1,7 @@
 //! Showing bytes on the terminal.
 
 ghost use Rattle.std.specs.Prelude.{◌++◌, ◌∷◌, ◌≤◌, ◌≡◌, [], false, if◌then◌else◌};
-ghost use Rattle.edi_told.specs.Faults.{Rose};
+ghost use Rattle.edi_told.specs.Faults.{CountRose};
 ghost use Rattle.edi_top.specs.Lines.{feed_after};
 ghost use Rattle.edi_top.specs.Shown.{ShowsPart};
 
@@ -11,7 +11,7 @@ use edi_host::{PutEnd, Sink};
 pub fn show<T: Sink>(terminal: &mut T, bytes: &[u8]) -> bool
     ensures shows { ShowsPart result (T.taken terminal.old) (T.taken terminal.new) bytes.now }
     ensures later { T.faults terminal.old ≤ T.faults terminal.new }
-    ensures cause { result ≡ false → Rose (T.faults terminal.old) (T.faults terminal.new) }
+    ensures cause { result ≡ false → CountRose (T.faults terminal.old) (T.faults terminal.new) }
 {
     match terminal.put(bytes).end {
         PutEnd::Ok => true,
@@ -33,7 +33,7 @@ fn needs_feed(last: Option<u8>) -> bool
 pub fn show_line<T: Sink>(terminal: &mut T, last: Option<u8>, line: &[u8]) -> bool
     ensures shows { ShowsPart result (T.taken terminal.old) (T.taken terminal.new) (feed_after last ++ line.now) }
     ensures later { T.faults terminal.old ≤ T.faults terminal.new }
-    ensures cause { result ≡ false → Rose (T.faults terminal.old) (T.faults terminal.new) }
+    ensures cause { result ≡ false → CountRose (T.faults terminal.old) (T.faults terminal.new) }
 {
     if !needs_feed(last) {
         return show(terminal, line);

@@ -2,7 +2,7 @@
 
 ghost use Rattle.std.specs.Prelude.{◌≡◌, ◌⊎◌, ◌≤◌, ◌++◌, ℕ, List, [], None, map};
 ghost use Rattle.std.specs.String.{string_bytes};
-ghost use Rattle.edi_told.specs.Faults.{Rose};
+ghost use Rattle.edi_told.specs.Faults.{CountRose};
 ghost use Rattle.edi_told.specs.Told.{WhereTold};
 ghost use Rattle.edi_top.specs.declared.status.Status.{Status};
 ghost use Rattle.edi_top.specs.Command.{file_to_run};
@@ -29,13 +29,13 @@ fn perform<F: Files, T: Sink>(
     terminal: &mut T,
 ) -> Status
     ensures performs { (shown : List ℕ)
-        × Performs result (map string_bytes words.now) (record { held = F.held files.new; before = F.faults files.old; after = F.faults files.new }) shown
+        × Performs result (map string_bytes words.now) (record { contents = F.contents files.new; before = F.faults files.old; after = F.faults files.new }) shown
         × Shows (T.taken terminal.old) (T.taken terminal.new) shown }
-    ensures unchanged { WhereTold (F.held files.old) (F.held files.new) (λ old new. new ≡ old) }
+    ensures unchanged { WhereTold (F.contents files.old) (F.contents files.new) (λ old new. new ≡ old) }
     ensures untouched { file_to_run (map string_bytes words.now) ≡ None → files.new ≡ files.old }
     ensures later_files { F.faults files.old ≤ F.faults files.new }
     ensures later_terminal { T.faults terminal.old ≤ T.faults terminal.new }
-    ensures cause { result ≡ Status.OutputFault → Rose (T.faults terminal.old) (T.faults terminal.new) }
+    ensures cause { result ≡ Status.OutputFault → CountRose (T.faults terminal.old) (T.faults terminal.new) }
 {
     let Some(name) = file_to_run(words) else {
         return Status::Words;
@@ -55,7 +55,7 @@ fn close<T: Sink>(terminal: &mut T, status: Status, line: &[u8]) -> Status
     ensures ends { (words : List (List ℕ)) (seen : Seen) → Means status words seen []
         → (tail : List ℕ) × Ends result words seen tail × Shows (T.taken terminal.old) (T.taken terminal.new) tail }
     ensures later { T.faults terminal.old ≤ T.faults terminal.new }
-    ensures cause { result ≡ Status.OutputFault → (status ≡ Status.OutputFault) ⊎ Rose (T.faults terminal.old) (T.faults terminal.new) }
+    ensures cause { result ≡ Status.OutputFault → (status ≡ Status.OutputFault) ⊎ CountRose (T.faults terminal.old) (T.faults terminal.new) }
 {
     if show_line(terminal, None, line) {
         status
@@ -69,7 +69,7 @@ fn show_status<T: Sink>(alloc: Global, terminal: &mut T, status: Status) -> Stat
     ensures ends { (words : List (List ℕ)) (seen : Seen) (shown : List ℕ) → Performs status words seen shown
         → (tail : List ℕ) × Ends result words seen (shown ++ tail) × Shows (T.taken terminal.old) (T.taken terminal.new) tail }
     ensures later { T.faults terminal.old ≤ T.faults terminal.new }
-    ensures cause { result ≡ Status.OutputFault → (status ≡ Status.OutputFault) ⊎ Rose (T.faults terminal.old) (T.faults terminal.new) }
+    ensures cause { result ≡ Status.OutputFault → (status ≡ Status.OutputFault) ⊎ CountRose (T.faults terminal.old) (T.faults terminal.new) }
 {
     match status {
         Status::Ok => Status::Ok,
@@ -101,17 +101,17 @@ pub fn edison<F: Files, D: Drive, S: Source, T: Sink, P: Sink>(
     // The status is one that the words and files mean, and the terminal has shown what goes with it and no more. Where the
     // terminal has failed, it has shown the front of that.
     ensures ends { (all : List ℕ)
-        × Ends result (map string_bytes words.now) (record { held = F.held files.new; before = F.faults files.old; after = F.faults files.new }) all
+        × Ends result (map string_bytes words.now) (record { contents = F.contents files.new; before = F.faults files.old; after = F.faults files.new }) all
         × Shows (T.taken terminal.old) (T.taken terminal.new) all }
 
     // A fault comes only where the count of its object rose.
-    ensures file_fault { result ≡ Status.FileFault → Rose (F.faults files.old) (F.faults files.new) }
-    ensures output_fault { result ≡ Status.OutputFault → Rose (T.faults terminal.old) (T.faults terminal.new) }
+    ensures file_fault { result ≡ Status.FileFault → CountRose (F.faults files.old) (F.faults files.new) }
+    ensures output_fault { result ≡ Status.OutputFault → CountRose (T.faults terminal.old) (T.faults terminal.new) }
     ensures later_files { F.faults files.old ≤ F.faults files.new }
     ensures later_terminal { T.faults terminal.old ≤ T.faults terminal.new }
 
     // No file changes, and words that are refused touch none.
-    ensures unchanged { WhereTold (F.held files.old) (F.held files.new) (λ old new. new ≡ old) }
+    ensures unchanged { WhereTold (F.contents files.old) (F.contents files.new) (λ old new. new ≡ old) }
     ensures untouched { file_to_run (map string_bytes words.now) ≡ None → files.new ≡ files.old }
 
     // The other objects are not touched.

@@ -3,3 +3,4 @@ pub mod Digits
 pub mod Draws
 pub mod Readings
 pub mod Writing
+pub mod Limited

@@ -3,7 +3,7 @@ use Rattle.std.proofs.Common.{◌≡◌, ℕ, ◌+◌, ◌<◌, ◌≤◌, Bool,
 use Rattle.std.specs.Prelude.{nat_le, ◌&&◌, if◌then◌else◌, ⊤}
 use Rattle.std.specs.List.{slice_split, onto_first}
 use Rattle.edi_trace.specs.Drawn.{most_kept}
-use Rattle.edi_trace.specs.Lines.{Reading, values, bad_line, is_choice, is_line_feed, number_of, with_value, read_parts, read_of, Answers}
+use Rattle.edi_trace.specs.Lines.{Reading, values, bad_line, is_choice, is_line_feed, number_of, with_value, read_parts, read_of, ReadingAnswers}
 use Rattle.edi_trace.specs.declared.file.ChoiceFault.TheVariants as fault
 
 -- choices before those of a reading
@@ -48,23 +48,23 @@ read_cut n bytes line after cut =
     ap (read_parts n) cut ∙ read_line n line (slice_split is_line_feed after) (split-parts is_line_feed after)
 
 -- where the reading of a file stands: the choices so far, and the bytes that are left
-pub record Stands (list rest all : List ℕ) : Type 0 where
+pub record LinesStand (list rest all : List ℕ) : Type 0 where
   pub so : with_values list (read_parts (length list + 1) (slice_split is_line_feed rest)) ≡ read_of all
 
-pub stands_first : (all : List ℕ) → Stands [] all all
+pub stands_first : (all : List ℕ) → LinesStand [] all all
 stands_first all = record { so = nothing_before (read_of all) }
   where
     nothing_before : (r : Reading) → with_values [] r ≡ r
     nothing_before (values rest) = refl
     nothing_before (bad_line n) = refl
 
-pub stands_last : (list rest all : List ℕ) → Stands list rest all → rest ≡ [] → read_of all ≡ values list
+pub stands_last : (list rest all : List ℕ) → LinesStand list rest all → rest ≡ [] → read_of all ≡ values list
 stands_last list rest all h e =
     sym h.so ∙ ap (λ r. with_values list (read_parts (length list + 1) (slice_split is_line_feed r))) e
     ∙ ap values (append-nil list)
 
 -- the next line, whether it is a choice or not
-pub stands_line : (list rest all line after : List ℕ) (t : Bool) → Stands list rest all
+pub stands_line : (list rest all line after : List ℕ) (t : Bool) → LinesStand list rest all
     → slice_split is_line_feed rest ≡ line ∷ slice_split is_line_feed after
     → (is_choice line && nat_le (length list + 1) most_kept) ≡ t
     → with_values list (if t then with_value (number_of line) (read_parts (length list + 1 + 1) (slice_split is_line_feed after)) else bad_line (length list + 1)) ≡ read_of all
@@ -72,9 +72,9 @@ stands_line list rest all line after t h cut e =
     ap (λ b. with_values list (if b then with_value (number_of line) (read_parts (length list + 1 + 1) (slice_split is_line_feed after)) else bad_line (length list + 1))) (sym e)
     ∙ ap (with_values list) (sym (read_cut (length list + 1) rest line after cut)) ∙ h.so
 
-pub stands_more : (list rest all line after : List ℕ) → Stands list rest all
+pub stands_more : (list rest all line after : List ℕ) → LinesStand list rest all
     → slice_split is_line_feed rest ≡ line ∷ slice_split is_line_feed after
-    → is_choice line ≡ true → length list < most_kept → Stands (list ++ number_of line ∷ []) after all
+    → is_choice line ≡ true → length list < most_kept → LinesStand (list ++ number_of line ∷ []) after all
 stands_more list rest all line after h cut good room = record {
   so =
       ap (λ n. with_values (list ++ number_of line ∷ []) (read_parts n (slice_split is_line_feed after))) longer
@@ -91,13 +91,13 @@ stands_more list rest all line after h cut good room = record {
     both : (is_choice line && nat_le (length list + 1) most_kept) ≡ true
     both = ap (λ b. b && nat_le (length list + 1) most_kept) good ∙ within
 
-pub stands_bad : (list rest all line after : List ℕ) → Stands list rest all
+pub stands_bad : (list rest all line after : List ℕ) → LinesStand list rest all
     → slice_split is_line_feed rest ≡ line ∷ slice_split is_line_feed after
     → is_choice line ≡ false → read_of all ≡ bad_line (length list + 1)
 stands_bad list rest all line after h cut bad =
     sym (stands_line list rest all line after false h cut (ap (λ b. b && nat_le (length list + 1) most_kept) bad))
 
-pub stands_over : (list rest all line after : List ℕ) → Stands list rest all
+pub stands_over : (list rest all line after : List ℕ) → LinesStand list rest all
     → slice_split is_line_feed rest ≡ line ∷ slice_split is_line_feed after
     → most_kept ≤ length list → read_of all ≡ bad_line (length list + 1)
 stands_over list rest all line after h cut over =
@@ -114,7 +114,7 @@ stands_over list rest all line after h cut over =
     and_false true b h = h
     and_false false b h = refl
 
-pub stands_open : (list rest all : List ℕ) → Stands list rest all → slice_split is_line_feed rest ≡ rest ∷ []
+pub stands_open : (list rest all : List ℕ) → LinesStand list rest all → slice_split is_line_feed rest ≡ rest ∷ []
     → 0 < length rest → read_of all ≡ bad_line (length list + 1)
 stands_open list [] all h cut some = absurd (omega arith)
 stands_open list (c ∷ cs) all h cut some = sym h.so ∙ ap (λ ps. with_values list (read_parts (length list + 1) ps)) cut
@@ -138,8 +138,8 @@ choice_some line value h = go (is_choice line) refl h
     go true e h = record { good = e; value_is = cc }
     go false e h = absurd (cc)
 
-pub answers_bad : {V : Type 0} (items : V → List ℕ) (r : Reading) (n m : ℕ) → r ≡ bad_line n → m ≡ n → Answers items r (Err (fault.Line m))
-answers_bad items r n m is same = subst (λ r. Answers items r (Err (fault.Line m))) (sym is) same
+pub answers_bad : {V : Type 0} (items : V → List ℕ) (r : Reading) (n m : ℕ) → r ≡ bad_line n → m ≡ n → ReadingAnswers items r (Err (fault.Line m))
+answers_bad items r n m is same = subst (λ r. ReadingAnswers items r (Err (fault.Line m))) (sym is) same
 
-pub answers_all : {V : Type 0} (items : V → List ℕ) (v : V) (r : Reading) → r ≡ values (items v) → Answers items r (Ok v)
-answers_all items v r is = subst (λ r. Answers items r (Ok v)) (sym is) refl
+pub answers_all : {V : Type 0} (items : V → List ℕ) (v : V) (r : Reading) → r ≡ values (items v) → ReadingAnswers items r (Ok v)
+answers_all items v r is = subst (λ r. ReadingAnswers items r (Ok v)) (sym is) refl

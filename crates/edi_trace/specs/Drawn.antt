@@ -1,4 +1,4 @@
--- Choices of which some were drawn.
+-- Definition. Choices of which some were drawn.
 use Rattle.std.specs.Prelude.{ℕ}
 use Rattle.edi_calls.specs.Choice.{Choices}
 

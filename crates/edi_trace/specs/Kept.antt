@@ -1,4 +1,4 @@
--- What is kept of choices, and what it stands for.
+-- Words of contracts. What is kept of choices, and what it stands for.
 use Rattle.std.specs.Prelude.{◌≡◌, ℕ, ◌-◌, ◌^◌, ◌<◌, ◌≤◌, min, ⊤}
 use Rattle.std.specs.Vec.{vec_capacity}
 use Rattle.edi_calls.specs.Choice.{Choices, listed, seeded, generated, first_choices}
@@ -20,7 +20,7 @@ IsAt (source.Seed seed state) drawn = drawn < 2 ^ 64 - 1 → state ≡ generated
 abbrev pub drawn_of : Inside → Drawn
 drawn_of inside = record { source = source_of inside.source; drawn = inside.drawn }
 
-pub record IsKept (inside : Inside) : Type 0 where
+pub record ChoicesAreKept (inside : Inside) : Type 0 where
   pub at : IsAt inside.source inside.drawn
   pub used : inside.used.items ≡ first_choices (source_of inside.source) (min inside.drawn most_kept)
   pub room : most_kept ≤ vec_capacity inside.used

@@ -1,3 +1,4 @@
 pub mod Drawn
 pub mod Kept
 pub mod Lines
+pub mod Limit

@@ -1,4 +1,4 @@
--- Files of choices: each choice is a line of one to three decimal digits with a value 0 to 255.
+-- Definition. Files of choices: each choice is a line of one to three decimal digits with a value 0 to 255.
 use Rattle.std.specs.Prelude.{◌≡◌, ℕ, ◌+◌, ◌-◌, ◌*◌, Bool, ◌&&◌, ◌==◌, nat_le, if◌then◌else◌, List, [], ◌∷◌, ◌++◌, length, Result, Ok, Err, ⊤, decimal}
 use Rattle.std.specs.List.{slice_split, list_all, fold}
 use Rattle.edi_trace.specs.declared.file.ChoiceFault.{ChoiceFault}
@@ -55,8 +55,8 @@ written [] = []
 written (value ∷ rest) = decimal value ++ 10 ∷ written rest
 
 -- how a reading is answered; want of memory may come instead
-abbrev pub Answers : {V : Type 0} → (V → List ℕ) → Reading → Result V ChoiceFault → Type 0
-Answers items (values list) (Ok v) = items v ≡ list
-Answers items (bad_line n) (Err (fault.Line m)) = m ≡ n
-Answers items _ (Err fault.NoMemory) = ⊤
-Answers items _ _ = ⊥
+abbrev pub ReadingAnswers : {V : Type 0} → (V → List ℕ) → Reading → Result V ChoiceFault → Type 0
+ReadingAnswers items (values list) (Ok v) = items v ≡ list
+ReadingAnswers items (bad_line n) (Err (fault.Line m)) = m ≡ n
+ReadingAnswers items _ (Err fault.NoMemory) = ⊤
+ReadingAnswers items _ _ = ⊥

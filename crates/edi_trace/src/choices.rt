@@ -65,11 +65,11 @@ impl Model for Choices {
 
     ghost Value = { Drawn };
 
-    ghost use Rattle.edi_trace.specs.Kept.{drawn_of, IsKept};
+    ghost use Rattle.edi_trace.specs.Kept.{drawn_of, ChoicesAreKept};
 
     ghost view = { drawn_of };
 
-    ghost invariant = { IsKept };
+    ghost invariant = { ChoicesAreKept };
 }
 
 impl Choices {

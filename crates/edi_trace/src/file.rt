@@ -3,7 +3,7 @@
 ghost use Rattle.std.specs.Prelude.{◌≡◌, ◌<◌, ◌≤◌, true, ◌∷◌, [], length, position, if◌then◌else◌, MatchOption, IfSome, IfOk};
 ghost use Rattle.std.specs.List.{slice_split, list_all};
 ghost use Rattle.edi_trace.specs.Drawn.{most_kept};
-ghost use Rattle.edi_trace.specs.Lines.{is_digit, is_line_feed, is_choice, number_of, values, read_of, written, Answers};
+ghost use Rattle.edi_trace.specs.Lines.{is_digit, is_line_feed, is_choice, number_of, values, read_of, written, ReadingAnswers};
 
 use std::alloc::{AllocError, Global};
 use thiserror::Error;
@@ -85,7 +85,7 @@ fn choice_of(line: &[u8]) -> Option<u8>
 /// The choices of a file: lines of one to three decimal digits with a value 0 to 255, each ended by one line feed, at
 /// most 65,536 lines. A file without bytes has no choices.
 pub fn read_choices(alloc: Global, bytes: &[u8]) -> Result<Vec<u8>, ChoiceFault>
-    ensures { Answers (λ v. v.items) (read_of bytes.now) result }
+    ensures { ReadingAnswers (λ v. v.items) (read_of bytes.now) result }
 {
     let mut values = Vec::new(alloc);
     let mut rest = bytes;

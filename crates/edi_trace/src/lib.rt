@@ -3,6 +3,7 @@
 
 mod choices;
 mod file;
+pub mod laws;
 
 pub use choices::Choices;
 pub use file::{ChoiceFault, read_choices, write_choices};

@@ -18,7 +18,7 @@ use Rattle.edi_lex.specs.declared.fault.LexFault.TheVariants.{TooLong}
 use Rattle.edi_lex.proofs.Runs.{marked, both, same_byte, stops, name_first, numeral_first, string_first, apostrophe_first, special_first, pair_first, space_first}
 use Rattle.edi_tree.specs.Tree.{Program}
 use Rattle.edi_tree.specs.Spelled.{Spelled, spelled}
-use Rattle.edi_tree.specs.Spells.{Stand, IsOn, IsHeld}
+use Rattle.edi_tree.specs.Spells.{StandAsMarks, IsOn, IsBounded}
 use Rattle.edi_tree.specs.Printed.{text_of, separator, gap, line_at, printed_from, printed}
 use Rattle.edi_tree.specs.Scanned.{ScansTo}
 use Rattle.edi_tree.proofs.Decimals.{decimal_is_numeral, decimal_number}
@@ -206,7 +206,7 @@ on_line : (line : ℕ) (kept : Option ℕ) → is_rising line kept ≡ true → 
 on_line line None h = tt {0}
 on_line line (Some kept) h = grind (arith, nat_tests)
 
-placed_stand : (ss : List Spelled) (line : ℕ) → are_rising line ss ≡ true → Stand ss (placed line ss)
+placed_stand : (ss : List Spelled) (line : ℕ) → are_rising line ss ≡ true → StandAsMarks ss (placed line ss)
 unfolding placed
 placed_stand [] line h = tt {0}
 placed_stand (s ∷ ss) line h =
@@ -215,7 +215,7 @@ placed_stand (s ∷ ss) line h =
 
 -- ---- what a program keeps
 
-all_are_spelled : (ss : List Spelled) (marks : List Mark) → Stand ss marks → are_spelled marks ≡ true → all_spelled ss ≡ true
+all_are_spelled : (ss : List Spelled) (marks : List Mark) → StandAsMarks ss marks → are_spelled marks ≡ true → all_spelled ss ≡ true
 all_are_spelled [] marks h e = refl
 all_are_spelled (s ∷ ss) [] h e = absurd h
 all_are_spelled (s ∷ ss) (m ∷ marks) h e =
@@ -231,7 +231,7 @@ below : (line at : ℕ) (kept : Option ℕ) → IsOn kept at → line ≤ at →
 below line at None h e = e
 below line at (Some kept) h e = omega (arith, h, e)
 
-all_are_rising : (ss : List Spelled) (marks : List Mark) (line from last : ℕ) → Stand ss marks → is_orderly from marks last ≡ true → line ≤ from → are_rising line ss ≡ true
+all_are_rising : (ss : List Spelled) (marks : List Mark) (line from last : ℕ) → StandAsMarks ss marks → is_orderly from marks last ≡ true → line ≤ from → are_rising line ss ≡ true
 all_are_rising [] marks line from last h e low = refl
 all_are_rising (s ∷ ss) [] line from last h e low = absurd h
 all_are_rising (s ∷ ss) (m ∷ marks) line from last h e low =
@@ -239,16 +239,16 @@ all_are_rising (s ∷ ss) (m ∷ marks) line from last h e low =
     let up : line ≤ m.line = grind (arith, nat_tests) in
     rw (rises line m.line s.line h.0.1 up, all_are_rising ss marks (line_at line s.line) m.line last h.1 parts.1 (below line m.line s.line h.0.1 up)) refl
 
-program_spelled : (tree : Program) → IsHeld tree → all_spelled (spelled tree) ≡ true
-program_spelled tree h = all_are_spelled (spelled tree) h.marks h.spells h.held.spelled
+program_spelled : (tree : Program) → IsBounded tree → all_spelled (spelled tree) ≡ true
+program_spelled tree h = all_are_spelled (spelled tree) h.marks h.spells h.is_bounded.spelled
 
-program_rising : (tree : Program) → IsHeld tree → are_rising 1 (spelled tree) ≡ true
-program_rising tree h = all_are_rising (spelled tree) h.marks 1 1 h.last h.spells h.held.orderly (omega arith)
+program_rising : (tree : Program) → IsBounded tree → are_rising 1 (spelled tree) ≡ true
+program_rising tree h = all_are_rising (spelled tree) h.marks 1 1 h.last h.spells h.is_bounded.orderly (omega arith)
 
 -- the symbols of the printed text are marks that the tree spells
-pub program_scans : (tree : Program) → ∥ IsHeld tree ∥₁ → is_too_long (printed tree) ≡ false → ScansTo tree (symbols_of (printed tree))
-program_scans tree held short =
-    let letters : all_spelled (spelled tree) ≡ true = ∥∥₁_elim held (Bool-set _ _) (program_spelled tree) in
-    let lines : are_rising 1 (spelled tree) ≡ true = ∥∥₁_elim held (Bool-set _ _) (program_rising tree) in
+pub program_scans : (tree : Program) → ∥ IsBounded tree ∥₁ → is_too_long (printed tree) ≡ false → ScansTo tree (symbols_of (printed tree))
+program_scans tree is_bounded short =
+    let letters : all_spelled (spelled tree) ≡ true = ∥∥₁_elim is_bounded (Bool-set _ _) (program_spelled tree) in
+    let lines : are_rising 1 (spelled tree) ≡ true = ∥∥₁_elim is_bounded (Bool-set _ _) (program_rising tree) in
     let found = ap (λ t. cond t (Err TooLong) (symbols_from (printed tree) 0 1)) short ∙ printed_scans (spelled tree) false 1 letters in
     subst (ScansTo tree) (sym found) (placed_stand (spelled tree) 1 lines)

@@ -1,4 +1,4 @@
--- The levels of a tree. A level is opened by `proc`, `module`, `if`, `while`, `when`, `cobegin`, `(`, `[` and `not`, and is
+-- Definition. The levels of a tree. A level is opened by `proc`, `module`, `if`, `while`, `when`, `cobegin`, `(`, `[` and `not`, and is
 -- closed where its construct ends: `(` and `[` at their `)` and `]`, a procedure at its `end`, a heading alone, which is a
 -- parameter or stands behind `pre`, at its last symbol, and `not` at the end of its factor. The elements of a tree are the
 -- marks that it spells, with the ends of the levels between them.
@@ -16,7 +16,7 @@ use Rattle.edi_tree.specs.declared.expressions.Root.{Root}
 use Rattle.edi_tree.specs.declared.expressions.Root.TheVariants as root
 use Rattle.edi_tree.specs.Tree.{Names, no_name, next_name, ConstDecls, no_const_decl, next_const_decl, ConstList, const_list, Group, group, Groups, no_group, next_group, TypeDecl, enum_decl, record_decl, array_decl, set_decl, VarList, var_list, Heading, heading, Params, no_params, params, MoreParams, no_param, next_param, Param, value_param, var_param, procedure_param, Expr, expr, Comparison, no_comparison, compared, Exprs, no_expr, next_expr, Simple, simple, Addend, addend, Addends, no_addend, next_addend, Term, term, Multiplier, multiplier, Multipliers, no_multiplier, next_multiplier, Factor, numeral, string, not_factor, parenthesized, call_factor, variable_factor, Args, args, Variable, variable, Selector, field, index, Selectors, no_selector, next_selector, StatementList, list, Statements, no_statement, next_statement, Statement, skip, assignment, call, if_statement, while_statement, when_statement, cobegin, Conditions, conditions, Condition, condition, Else, no_else, next_else, Branch, branch, Branches, no_branch, next_branch, Procedure, procedure, Item, const_item, type_item, var_item, procedure_item, pre_item, post_item, Module, module_with, Member, item_member, exported_member, module_member, Members, no_member, next_member, Declaration, item_declaration, module_declaration, Declarations, no_declaration, next_declaration, Global, const_global, type_global, Globals, no_global, next_global, Program, program}
 use Rattle.edi_tree.specs.Spelled.{Spelled, on, just, name_mark, chars_mark, char_mark, relation_symbol, addition_symbol, multiplication_symbol}
-use Rattle.edi_tree.specs.Spells.{Stands, Stand}
+use Rattle.edi_tree.specs.Spells.{StandsAsMark, StandAsMarks}
 
 pub data Element : Type 0 where
   mark : Spelled → Element
@@ -332,4 +332,4 @@ elements p = program_elements p []
 
 -- some program spells marks that begin with these and then with this one, with which so many levels are open
 abbrev pub Level : List Mark → Mark → ℕ → Type 0
-Level front m level = (tree : Program) × (before : List Element) × (s : Spelled) × (after : List Element) × (elements tree ≡ before ++ mark s ∷ after) × Stand (marks_among before) front × Stands s m × (level ≡ level_behind 0 (before ++ mark s ∷ []))
+Level front m level = (tree : Program) × (before : List Element) × (s : Spelled) × (after : List Element) × (elements tree ≡ before ++ mark s ∷ after) × StandAsMarks (marks_among before) front × StandsAsMark s m × (level ≡ level_behind 0 (before ++ mark s ∷ []))

@@ -1,4 +1,4 @@
--- What the printer does for each production: it puts the marks of the parts behind what it has printed so far. No public
+-- Helper. What the printer does for each production: it puts the marks of the parts behind what it has printed so far. No public
 -- contract cites this.
 use Rattle.std.specs.Prelude.{ℕ, true, List, ◌++◌, Option, Some, None}
 use Rattle.edi_lex.specs.declared.symbol.Symbol.TheVariants as is

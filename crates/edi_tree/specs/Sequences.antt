@@ -1,4 +1,4 @@
--- The lists in a tree.
+-- Words of contracts. The lists in a tree.
 use Rattle.std.specs.Prelude.{List}
 use Rattle.edi_tree.specs.declared.sequence.Sequence as code
 

@@ -1,4 +1,4 @@
--- What a tree spells: one clause for each production. `X_then part more` is what the part spells, in front of `more`.
+-- Definition. What a tree spells: one clause for each production. `X_then part more` is what the part spells, in front of `more`.
 use Rattle.std.specs.Prelude.{ℕ, List, [], ◌∷◌, Option, Some, None}
 use Rattle.edi_lex.specs.declared.symbol.Symbol.{Symbol}
 use Rattle.edi_lex.specs.declared.symbol.Symbol.TheVariants as is

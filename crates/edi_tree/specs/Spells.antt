@@ -1,4 +1,4 @@
--- When a tree spells the marks of a text, and when marks begin a program.
+-- Definition. When a tree spells the marks of a text, and when marks begin a program.
 use Rattle.std.specs.Prelude.{◌≡◌, ℕ, ◌≤◌, ◌<◌, ◌^◌, true, List, [], ◌∷◌, ◌++◌, Option, Some, None}
 use Rattle.edi_lex.specs.Order.{is_orderly, extent}
 use Rattle.edi_lex.specs.Spelling.{are_spelled}
@@ -12,34 +12,34 @@ IsOn None line = Unit {0}
 IsOn (Some kept) line = line ≡ kept
 
 -- the symbol of a mark, on its line where the tree keeps it
-abbrev pub Stands : Spelled → Mark → Type 0
-Stands s m = (m.symbol ≡ s.symbol) × IsOn s.line m.line
+abbrev pub StandsAsMark : Spelled → Mark → Type 0
+StandsAsMark s m = (m.symbol ≡ s.symbol) × IsOn s.line m.line
 
 -- as many marks, one after another
-abbrev pub Stand : List Spelled → List Mark → Type 0
-Stand [] [] = Unit {0}
-Stand [] (m ∷ marks) = ⊥
-Stand (s ∷ ss) [] = ⊥
-Stand (s ∷ ss) (m ∷ marks) = Stands s m × Stand ss marks
+abbrev pub StandAsMarks : List Spelled → List Mark → Type 0
+StandAsMarks [] [] = Unit {0}
+StandAsMarks [] (m ∷ marks) = ⊥
+StandAsMarks (s ∷ ss) [] = ⊥
+StandAsMarks (s ∷ ss) (m ∷ marks) = StandsAsMark s m × StandAsMarks ss marks
 
 -- a tree spells what its parts spell, one after another
 abbrev pub Spells : Program → List Mark → Type 0
-Spells tree marks = Stand (spelled tree) marks
+Spells tree marks = StandAsMarks (spelled tree) marks
 
 -- marks, and the line of the end of their text, as `Symbols` holds them: each symbol is one that the language spells, the
 -- lines are at least 1 and never fall, and the symbols, a string counting its characters, number at most 262,144
-pub record AreHeld (marks : List Mark) (last : ℕ) : Type 0 where
+pub record AreBounded (marks : List Mark) (last : ℕ) : Type 0 where
   pub spelled : are_spelled marks ≡ true
   pub orderly : is_orderly 1 marks last ≡ true
   pub few : extent marks ≤ 262144
   pub bounded : last < 2 ^ 16
 
 -- a tree spells marks that `Symbols` can hold
-pub record IsHeld (tree : Program) : Type 0 where
+pub record IsBounded (tree : Program) : Type 0 where
   pub marks : List Mark
   pub last : ℕ
   pub spells : Spells tree marks
-  pub held : AreHeld marks last
+  pub is_bounded : AreBounded marks last
 
 -- the marks of a text, and behind them the end of the text, which is a mark of its own
 abbrev pub to_end : List Mark → List (Option Mark)
@@ -47,5 +47,5 @@ to_end [] = None ∷ []
 to_end (m ∷ marks) = Some m ∷ to_end marks
 
 -- some program, of any size and depth, spells marks that begin with these; the end of the text follows a whole program only
-abbrev pub Begins : List (Option Mark) → Type 0
-Begins front = (tree : Program) × (marks : List Mark) × (behind : List (Option Mark)) × Spells tree marks × (to_end marks ≡ front ++ behind)
+abbrev pub ProgramBegins : List (Option Mark) → Type 0
+ProgramBegins front = (tree : Program) × (marks : List Mark) × (behind : List (Option Mark)) × Spells tree marks × (to_end marks ≡ front ++ behind)

@@ -1,4 +1,4 @@
--- The syntax tree as plain data: a type for each production of the grammar, a constructor for each of its alternatives,
+-- Definition. The syntax tree as plain data: a type for each production of the grammar, a constructor for each of its alternatives,
 -- and a list for each part that braces repeat. A number beside the parts is the line of a symbol that the tree keeps. The
 -- smallest parts (names, strings, constants, operators) are those of the code, which have no memory in them.
 use Rattle.std.specs.Prelude.{ℕ, ℤ, Option}

@@ -1,4 +1,4 @@
--- The plain tree for which a tree of the code stands: the same parts, without memory.
+-- Words of contracts. The plain tree for which a tree of the code stands: the same parts, without memory.
 use Rattle.std.specs.Prelude.{ℕ, List, [], ◌∷◌, map, Option, Some, None, option_map}
 use Rattle.edi_tree.specs.Sequences.{items_of}
 use Rattle.edi_tree.specs.declared.names.Name.{Name}
@@ -165,34 +165,44 @@ abbrev pub variable_step : Variable-F Factor Selector Addend Args Comparison Exp
 variable_step v = variable v.root (selectors (items_of v.selectors))
 
 abbrev pub factor_of : code_factor.Factor → Factor
-factor_of = fold-Factor Factor Selector Addend Args Comparison Expr Multiplier Simple Term Variable factor_step selector_step addend_step args_step comparison_step expr_step multiplier_step simple_step term_step variable_step
+factor_of = fold-Factor Factor Selector Addend Args Comparison Expr Multiplier Simple Term Variable factor_step
+    selector_step addend_step args_step comparison_step expr_step multiplier_step simple_step term_step variable_step
 
 abbrev pub selector_of : code_selector.Selector → Selector
-selector_of = fold-Selector Factor Selector Addend Args Comparison Expr Multiplier Simple Term Variable factor_step selector_step addend_step args_step comparison_step expr_step multiplier_step simple_step term_step variable_step
+selector_of = fold-Selector Factor Selector Addend Args Comparison Expr Multiplier Simple Term Variable factor_step
+    selector_step addend_step args_step comparison_step expr_step multiplier_step simple_step term_step variable_step
 
 abbrev pub addend_of : code_addend.Addend → Addend
-addend_of = fold-Addend Factor Selector Addend Args Comparison Expr Multiplier Simple Term Variable factor_step selector_step addend_step args_step comparison_step expr_step multiplier_step simple_step term_step variable_step
+addend_of = fold-Addend Factor Selector Addend Args Comparison Expr Multiplier Simple Term Variable factor_step
+    selector_step addend_step args_step comparison_step expr_step multiplier_step simple_step term_step variable_step
 
 abbrev pub args_of : code_args.Args → Args
-args_of = fold-Args Factor Selector Addend Args Comparison Expr Multiplier Simple Term Variable factor_step selector_step addend_step args_step comparison_step expr_step multiplier_step simple_step term_step variable_step
+args_of = fold-Args Factor Selector Addend Args Comparison Expr Multiplier Simple Term Variable factor_step
+    selector_step addend_step args_step comparison_step expr_step multiplier_step simple_step term_step variable_step
 
 abbrev pub comparison_of : code_comparison.Comparison → Comparison
-comparison_of = fold-Comparison Factor Selector Addend Args Comparison Expr Multiplier Simple Term Variable factor_step selector_step addend_step args_step comparison_step expr_step multiplier_step simple_step term_step variable_step
+comparison_of = fold-Comparison Factor Selector Addend Args Comparison Expr Multiplier Simple Term Variable factor_step
+    selector_step addend_step args_step comparison_step expr_step multiplier_step simple_step term_step variable_step
 
 abbrev pub expr_of : code_expr.Expr → Expr
-expr_of = fold-Expr Factor Selector Addend Args Comparison Expr Multiplier Simple Term Variable factor_step selector_step addend_step args_step comparison_step expr_step multiplier_step simple_step term_step variable_step
+expr_of = fold-Expr Factor Selector Addend Args Comparison Expr Multiplier Simple Term Variable factor_step
+    selector_step addend_step args_step comparison_step expr_step multiplier_step simple_step term_step variable_step
 
 abbrev pub multiplier_of : code_multiplier.Multiplier → Multiplier
-multiplier_of = fold-Multiplier Factor Selector Addend Args Comparison Expr Multiplier Simple Term Variable factor_step selector_step addend_step args_step comparison_step expr_step multiplier_step simple_step term_step variable_step
+multiplier_of = fold-Multiplier Factor Selector Addend Args Comparison Expr Multiplier Simple Term Variable factor_step
+    selector_step addend_step args_step comparison_step expr_step multiplier_step simple_step term_step variable_step
 
 abbrev pub simple_of : code_simple.Simple → Simple
-simple_of = fold-Simple Factor Selector Addend Args Comparison Expr Multiplier Simple Term Variable factor_step selector_step addend_step args_step comparison_step expr_step multiplier_step simple_step term_step variable_step
+simple_of = fold-Simple Factor Selector Addend Args Comparison Expr Multiplier Simple Term Variable factor_step
+    selector_step addend_step args_step comparison_step expr_step multiplier_step simple_step term_step variable_step
 
 abbrev pub term_of : code_term.Term → Term
-term_of = fold-Term Factor Selector Addend Args Comparison Expr Multiplier Simple Term Variable factor_step selector_step addend_step args_step comparison_step expr_step multiplier_step simple_step term_step variable_step
+term_of = fold-Term Factor Selector Addend Args Comparison Expr Multiplier Simple Term Variable factor_step
+    selector_step addend_step args_step comparison_step expr_step multiplier_step simple_step term_step variable_step
 
 abbrev pub variable_of : code_variable.Variable → Variable
-variable_of = fold-Variable Factor Selector Addend Args Comparison Expr Multiplier Simple Term Variable factor_step selector_step addend_step args_step comparison_step expr_step multiplier_step simple_step term_step variable_step
+variable_of = fold-Variable Factor Selector Addend Args Comparison Expr Multiplier Simple Term Variable factor_step
+    selector_step addend_step args_step comparison_step expr_step multiplier_step simple_step term_step variable_step
 
 abbrev pub exprs_of : code_sequence.Sequence code_expr.Expr → Exprs
 exprs_of es = exprs (map expr_of (items_of es))
@@ -260,25 +270,32 @@ abbrev pub when_step : When-F Statement ClosedBranch Statement Condition Conditi
 when_step w = when_statement w.line w.conditions
 
 abbrev pub statement_of : code_statement.Statement → Statement
-statement_of = fold-Statement Statement ClosedBranch Statement Condition Conditions StatementList Statement statement_step branch_step cobegin_step condition_step conditions_step list_step when_step
+statement_of = fold-Statement Statement ClosedBranch Statement Condition Conditions StatementList Statement
+    statement_step branch_step cobegin_step condition_step conditions_step list_step when_step
 
 abbrev pub branch_of : code_branch.Branch → ClosedBranch
-branch_of = fold-Branch Statement ClosedBranch Statement Condition Conditions StatementList Statement statement_step branch_step cobegin_step condition_step conditions_step list_step when_step
+branch_of = fold-Branch Statement ClosedBranch Statement Condition Conditions StatementList Statement statement_step
+    branch_step cobegin_step condition_step conditions_step list_step when_step
 
 abbrev pub cobegin_of : code_cobegin.Cobegin → Statement
-cobegin_of = fold-Cobegin Statement ClosedBranch Statement Condition Conditions StatementList Statement statement_step branch_step cobegin_step condition_step conditions_step list_step when_step
+cobegin_of = fold-Cobegin Statement ClosedBranch Statement Condition Conditions StatementList Statement statement_step
+    branch_step cobegin_step condition_step conditions_step list_step when_step
 
 abbrev pub condition_of : code_condition.Condition → Condition
-condition_of = fold-Condition Statement ClosedBranch Statement Condition Conditions StatementList Statement statement_step branch_step cobegin_step condition_step conditions_step list_step when_step
+condition_of = fold-Condition Statement ClosedBranch Statement Condition Conditions StatementList Statement
+    statement_step branch_step cobegin_step condition_step conditions_step list_step when_step
 
 abbrev pub conditions_of : code_conditions.Conditions → Conditions
-conditions_of = fold-Conditions Statement ClosedBranch Statement Condition Conditions StatementList Statement statement_step branch_step cobegin_step condition_step conditions_step list_step when_step
+conditions_of = fold-Conditions Statement ClosedBranch Statement Condition Conditions StatementList Statement
+    statement_step branch_step cobegin_step condition_step conditions_step list_step when_step
 
 abbrev pub list_of : code_list.List → StatementList
-list_of = fold-List Statement ClosedBranch Statement Condition Conditions StatementList Statement statement_step branch_step cobegin_step condition_step conditions_step list_step when_step
+list_of = fold-List Statement ClosedBranch Statement Condition Conditions StatementList Statement statement_step
+    branch_step cobegin_step condition_step conditions_step list_step when_step
 
 abbrev pub when_of : code_when.When → Statement
-when_of = fold-When Statement ClosedBranch Statement Condition Conditions StatementList Statement statement_step branch_step cobegin_step condition_step conditions_step list_step when_step
+when_of = fold-When Statement ClosedBranch Statement Condition Conditions StatementList Statement statement_step
+    branch_step cobegin_step condition_step conditions_step list_step when_step
 
 abbrev pub statements_of : code_sequence.Sequence code_statement.Statement → Statements
 statements_of ss = statements (map statement_of (items_of ss))

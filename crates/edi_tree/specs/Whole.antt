@@ -1,4 +1,4 @@
--- The plain tree of a program.
+-- Words of contracts. The plain tree of a program.
 use Rattle.edi_tree.specs.declared.programs.Program as code
 use Rattle.edi_tree.specs.Tree.{Program}
 use Rattle.edi_tree.specs.View.{program_with}

@@ -3,7 +3,7 @@
 ghost use Rattle.std.specs.Prelude.{◌≤◌};
 ghost use Rattle.edi_tree.specs.View.{program_with};
 ghost use Rattle.edi_tree.specs.Depth as depths;
-ghost use Rattle.edi_tree.specs.Spells.{IsHeld};
+ghost use Rattle.edi_tree.specs.Spells.{IsBounded};
 
 use crate::constants::ConstList;
 use crate::declarations::Procedure;
@@ -17,7 +17,7 @@ use crate::types::TypeDecl;
 pub struct Program {
     pub globals: Globals,
     pub procedure: Procedure,
-    pub ghost held: { ∥ IsHeld (program_with globals procedure) ∥₁ },
+    pub ghost is_bounded: { ∥ IsBounded (program_with globals procedure) ∥₁ },
     pub ghost shallow: { depths.depth (program_with globals procedure) ≤ 64 },
 }
 

@@ -1,4 +1,4 @@
--- The tree of `proc main ( proc display ( value : char ) ) begin display ( 'a' ) end`.
+-- Computed rows. The tree of `proc main ( proc display ( value : char ) ) begin display ( 'a' ) end`.
 use Rattle.std.specs.Prelude.{ℕ, List, Option, Some, None, codes}
 use Rattle.edi_tree.specs.declared.names.Name.{Name}
 use Rattle.edi_tree.specs.declared.names.Chars.{Chars}

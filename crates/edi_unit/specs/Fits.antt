@@ -10,7 +10,7 @@ use Rattle.edi_unit.specs.declared.units.Parameter.TheVariants as slot
 use Rattle.edi_unit.specs.declared.units.BlockKind.{BlockKind}
 use Rattle.edi_unit.specs.declared.units.BlockKind.TheVariants as kind
 use Rattle.edi_unit.specs.Types.{Shape, array_of, record_of, set_of, int, char, bool, enumeration, shape_at, int_type, char_type, bool_type, field_type, part_types, is_elementary, is_ordinal_of, is_set_shape, greatest_size, IsTypeTable}
-use Rattle.edi_unit.specs.Tree.{Expression, constant, load, not_of, minus, chain, make, convert, invoke, Expressions, no_expression, expression_then, link, Links, no_link, link_then, Place, place, Part, field, index, Parts, no_part, part_then, by_value, by_variable, by_procedure, Arguments, no_argument, argument_then, Act, skip, assign, call, halt, conditional, loop, await, cobegin, Acts, no_act, act_then, Clause, clause, Clauses, no_clause, clause_then, Block, ProgramUnit}
+use Rattle.edi_unit.specs.Tree.{Expression, constant, load, not_of, sign_of, chain, make, convert, apply_of, Expressions, no_expression, expression_then, link, Links, no_link, link_then, Place, place, Part, field, index, Parts, no_part, part_then, by_value, by_variable, by_procedure, Arguments, no_argument, argument_then, Act, skip, assign, call, halt, if_act, while_act, when_act, cobegin, Acts, no_act, act_then, Clause, clause, Clauses, no_clause, clause_then, Block, ProgramUnit}
 use Rattle.edi_unit.specs.Need.{block_at, outer, slot_at, slot_type, slots, part_type, operator_type, callee_result, place_type, expression_type, need}
 
 -- ---- types
@@ -161,7 +161,7 @@ module _ (types : List Shape) (blocks : List Block) (headings : ℕ → ℕ → 
     ExpressionFits (constant t n) = (t < length types) × IsTrue (is_ordinal_of (shape_at types t) n)
     ExpressionFits (load p) = PlaceFits p
     ExpressionFits (not_of e) = (expression_type types blocks b e ≡ bool_type) × ExpressionFits e
-    ExpressionFits (minus e line) = (expression_type types blocks b e ≡ int_type) × ExpressionFits e
+    ExpressionFits (sign_of e line) = (expression_type types blocks b e ≡ int_type) × ExpressionFits e
     ExpressionFits (chain e ls) = HasLink ls × ExpressionFits e × LinksFit (expression_type types blocks b e) ls
     ExpressionFits (make t es line) = (t < length types) × MakesValue (shape_at types t) es × ExpressionsFit es
     ExpressionFits (convert t e line) =
@@ -169,7 +169,7 @@ module _ (types : List Shape) (blocks : List Block) (headings : ℕ → ℕ → 
         × IsTrue (is_elementary types t)
         × IsTrue (is_elementary types (expression_type types blocks b e))
         × ExpressionFits e
-    ExpressionFits (invoke c xs line) =
+    ExpressionFits (apply_of c xs line) =
         CalleeFits blocks b c × IsSome (callee_result blocks b c) × ArgumentsFit xs (heading_formals (callee_heading headings blocks b c))
 
     pub ExpressionsFit : Expressions → Type 0
@@ -222,9 +222,9 @@ module _ (types : List Shape) (blocks : List Block) (headings : ℕ → ℕ → 
     ActFits (call c xs line) =
         CalleeFits blocks b c × (callee_result blocks b c ≡ None) × ArgumentsFit xs (heading_formals (callee_heading headings blocks b c))
     ActFits (halt line) = Unit {0}
-    ActFits (conditional cs) = ClausesFit cs
-    ActFits (loop cs) = ClausesFit cs
-    ActFits (await cs line) = ClausesFit cs
+    ActFits (if_act cs) = ClausesFit cs
+    ActFits (while_act cs) = ClausesFit cs
+    ActFits (when_act cs line) = ClausesFit cs
     ActFits (cobegin bs line) = (0 < length bs) × (length bs < 2 ^ 16) × All BranchFits bs
 
     pub ActsFit : Acts → Type 0

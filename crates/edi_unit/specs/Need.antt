@@ -9,7 +9,7 @@ use Rattle.edi_unit.specs.declared.units.Parameter.{Parameter}
 use Rattle.edi_unit.specs.declared.units.Parameter.TheVariants as slot
 use Rattle.edi_unit.specs.declared.units.BlockKind.TheVariants as kind
 use Rattle.edi_unit.specs.Types.{Shape, array_of, shape_at, int_type, bool_type, field_type, is_set_shape, size}
-use Rattle.edi_unit.specs.Tree.{Expression, constant, load, not_of, minus, chain, make, convert, invoke, Expressions, no_expression, expression_then, link, Links, no_link, link_then, Place, place, Part, field, index, Parts, no_part, part_then, Argument, by_value, by_variable, by_procedure, Arguments, no_argument, argument_then, Act, skip, assign, call, halt, conditional, loop, await, cobegin, Acts, no_act, act_then, Clause, clause, Clauses, no_clause, clause_then, Block}
+use Rattle.edi_unit.specs.Tree.{Expression, constant, load, not_of, sign_of, chain, make, convert, apply_of, Expressions, no_expression, expression_then, link, Links, no_link, link_then, Place, place, Part, field, index, Parts, no_part, part_then, Argument, by_value, by_variable, by_procedure, Arguments, no_argument, argument_then, Act, skip, assign, call, halt, if_act, while_act, when_act, cobegin, Acts, no_act, act_then, Clause, clause, Clauses, no_clause, clause_then, Block}
 
 -- ---- blocks and their variables
 
@@ -106,11 +106,11 @@ module _ (types : List Shape) (blocks : List Block) (b : ℕ) where
   expression_type (constant t n) = t
   expression_type (load p) = place_type p
   expression_type (not_of e) = bool_type
-  expression_type (minus e line) = int_type
+  expression_type (sign_of e line) = int_type
   expression_type (chain e ls) = links_type (expression_type e) ls
   expression_type (make t es line) = t
   expression_type (convert t e line) = t
-  expression_type (invoke c xs line) = unwrap_or (callee_result blocks b c) int_type
+  expression_type (apply_of c xs line) = unwrap_or (callee_result blocks b c) int_type
 
   -- the words of the result of what is called: a procedure has none
   abbrev pub result_words : Callee → ℕ
@@ -129,11 +129,11 @@ module _ (types : List Shape) (blocks : List Block) (b : ℕ) where
     expression_height (constant t n) = 1
     expression_height (load p) = max (place_height p) (size types (place_type p))
     expression_height (not_of e) = expression_height e
-    expression_height (minus e line) = expression_height e
+    expression_height (sign_of e line) = expression_height e
     expression_height (chain e ls) = max (expression_height e) (links_height (expression_type e) ls)
     expression_height (make t es line) = if is_set_shape (shape_at types t) then members_height es else compound_height 0 es
     expression_height (convert t e line) = expression_height e
-    expression_height (invoke c xs line) = max (arguments_height 0 xs) (result_words c)
+    expression_height (apply_of c xs line) = max (arguments_height 0 xs) (result_words c)
 
     -- the greatest over the members of a set: its 8 words stand below each, and stand alone where there is none
     pub members_height : Expressions → ℕ
@@ -181,9 +181,9 @@ module _ (types : List Shape) (blocks : List Block) (b : ℕ) where
     act_height (assign p e) = max (place_height p) (1 + expression_height e)
     act_height (call c xs line) = arguments_height 0 xs
     act_height (halt line) = 0
-    act_height (conditional cs) = clauses_height cs
-    act_height (loop cs) = clauses_height cs
-    act_height (await cs line) = clauses_height cs
+    act_height (if_act cs) = clauses_height cs
+    act_height (while_act cs) = clauses_height cs
+    act_height (when_act cs line) = clauses_height cs
     act_height (cobegin bs line) = 0
 
     pub acts_height : Acts → ℕ

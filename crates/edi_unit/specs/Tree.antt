@@ -1,5 +1,6 @@
 -- The resolved tree as plain data: what a program is once each of its names has been replaced by the number of a type,
 -- a block or a variable. A line is that of the symbol at which a failure of the construct is told.
+-- `Expression` is the tree that the code calls `Value`; a value of the definitions is one at run time.
 use Rattle.std.specs.Prelude.{ℕ, ℤ, List, Option}
 use Rattle.edi_unit.specs.declared.expressions.Operator.{Operator}
 use Rattle.edi_unit.specs.declared.expressions.Callee.{Callee}
@@ -16,7 +17,7 @@ mutual
     -- `not e`
     not_of : Expression → Expression
     -- a leading `-`
-    minus : Expression → (line : ℕ) → Expression
+    sign_of : Expression → (line : ℕ) → Expression
     -- a first operand, and operators with their right operands, which apply from the left
     chain : Expression → Links → Expression
     -- a record, an array or a set of this type, from its fields, elements or members
@@ -24,7 +25,7 @@ mutual
     -- the value of this elementary type that has the ordinal of the expression
     convert : (of : ℕ) → Expression → (line : ℕ) → Expression
     -- the result of a function
-    invoke : Callee → Arguments → (line : ℕ) → Expression
+    apply_of : Callee → Arguments → (line : ℕ) → Expression
 
   pub data Expressions : Type 0 where
     no_expression : Expressions
@@ -71,11 +72,11 @@ mutual
     call : Callee → Arguments → (line : ℕ) → Act
     halt : (line : ℕ) → Act
     -- `if`
-    conditional : Clauses → Act
+    if_act : Clauses → Act
     -- `while`
-    loop : Clauses → Act
+    while_act : Clauses → Act
     -- `when`
-    await : Clauses → (line : ℕ) → Act
+    when_act : Clauses → (line : ℕ) → Act
     -- `cobegin`, with the blocks of its branches
     cobegin : (branches : List ℕ) → (line : ℕ) → Act
 

@@ -15,7 +15,7 @@ use Rattle.edi_unit.specs.declared.lists.List as code_list
 use Rattle.edi_unit.specs.declared.units.Block as code_block
 use Rattle.edi_unit.specs.declared.units.Unit as code_unit
 use Rattle.edi_unit.specs.Lists.{list_items}
-use Rattle.edi_unit.specs.Tree.{Expression, constant, load, not_of, minus, chain, make, convert, invoke, Expressions, no_expression, expression_then, Link, link, Links, no_link, link_then, Place, place, Part, field, index, Parts, no_part, part_then, Argument, by_value, by_variable, by_procedure, Arguments, no_argument, argument_then, Act, skip, assign, call, halt, conditional, loop, await, cobegin, Acts, no_act, act_then, Clause, clause, Clauses, no_clause, clause_then, Block, ProgramUnit}
+use Rattle.edi_unit.specs.Tree.{Expression, constant, load, not_of, sign_of, chain, make, convert, apply_of, Expressions, no_expression, expression_then, Link, link, Links, no_link, link_then, Place, place, Part, field, index, Parts, no_part, part_then, Argument, by_value, by_variable, by_procedure, Arguments, no_argument, argument_then, Act, skip, assign, call, halt, if_act, while_act, when_act, cobegin, Acts, no_act, act_then, Clause, clause, Clauses, no_clause, clause_then, Block, ProgramUnit}
 
 -- ---- lists
 
@@ -58,11 +58,11 @@ abbrev pub expression_step : Value-F Argument Part Expression Link Place → Exp
 expression_step (Value-F.Constant t n) = constant t n
 expression_step (Value-F.Load p) = load p
 expression_step (Value-F.Not e) = not_of e.value
-expression_step (Value-F.Sign e line) = minus e.value line
+expression_step (Value-F.Sign e line) = sign_of e.value line
 expression_step (Value-F.Chain e ls) = chain e.value (links (list_items ls))
 expression_step (Value-F.Make t es line) = make t (expressions (list_items es)) line
 expression_step (Value-F.Convert t e line) = convert t e.value line
-expression_step (Value-F.Apply c xs line) = invoke c (arguments (list_items xs)) line
+expression_step (Value-F.Apply c xs line) = apply_of c (arguments (list_items xs)) line
 
 abbrev pub link_step : Link-F Argument Part Expression Link Place → Link
 link_step l = link l.operator l.right l.line
@@ -106,9 +106,9 @@ act_step Act-F.Skip = skip
 act_step (Act-F.Assign p e) = assign (place_of p) (expression_of e)
 act_step (Act-F.Call c xs line) = call c (arguments_of xs) line
 act_step (Act-F.Halt line) = halt line
-act_step (Act-F.If cs) = conditional (clauses (list_items cs))
-act_step (Act-F.While cs) = loop (clauses (list_items cs))
-act_step (Act-F.When cs line) = await (clauses (list_items cs)) line
+act_step (Act-F.If cs) = if_act (clauses (list_items cs))
+act_step (Act-F.While cs) = while_act (clauses (list_items cs))
+act_step (Act-F.When cs line) = when_act (clauses (list_items cs)) line
 act_step (Act-F.Cobegin bs line) = cobegin (list_items bs) line
 
 abbrev pub clause_step : Clause-F Act Clause → Clause

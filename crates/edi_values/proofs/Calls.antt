@@ -6,7 +6,7 @@ use Rattle.edi_unit.specs.Tree.{argument_then}
 use Rattle.edi_unit.specs.Types.{shape_at}
 use Rattle.edi_static.specs.declared.faults.StaticFault.{StaticFault}
 use Rattle.edi_static.specs.declared.operands.Typed as code_typed
-use Rattle.edi_static.specs.Answers.{Answers}
+use Rattle.edi_static.specs.Answers.{JudgedAnswers}
 use Rattle.edi_static.specs.Judged.{Judged, gives, faults, ◌>>=◌}
 use Rattle.edi_static.specs.Environment.{Environment}
 use Rattle.edi_static.specs.Fitting.{Called, constructs, calls, constructed, function_called, invoked, rest_of, takes_strings}
@@ -36,9 +36,9 @@ invocation_is env line c (text.args e es) =
 
 -- what is answered for a constructor or a function is answered for its name before arguments
 pub construction_answered : (env : Environment) (line of : ℕ) (xs : text.Args) (result : Result code_typed.Typed StaticFault) →
-    Answers typed_of result (construction env line of xs) → Answers typed_of result (rule.applied env line (constructs of) xs)
-construction_answered env line of xs result answered = subst (λ m. Answers typed_of result m) (construction_is env line of xs) answered
+    JudgedAnswers typed_of result (construction env line of xs) → JudgedAnswers typed_of result (rule.applied env line (constructs of) xs)
+construction_answered env line of xs result answered = subst (λ m. JudgedAnswers typed_of result m) (construction_is env line of xs) answered
 
 pub invocation_answered : (env : Environment) (line : ℕ) (c : Called) (xs : text.Args) (result : Result code_typed.Typed StaticFault) →
-    Answers typed_of result (invocation env line c xs) → Answers typed_of result (rule.applied env line (calls c) xs)
-invocation_answered env line c xs result answered = subst (λ m. Answers typed_of result m) (invocation_is env line c xs) answered
+    JudgedAnswers typed_of result (invocation env line c xs) → JudgedAnswers typed_of result (rule.applied env line (calls c) xs)
+invocation_answered env line c xs result answered = subst (λ m. JudgedAnswers typed_of result m) (invocation_is env line c xs) answered

@@ -6,7 +6,7 @@ use Rattle.edi_unit.specs.View.{argument_of}
 use Rattle.edi_static.specs.declared.faults.StaticFault.{StaticFault}
 use Rattle.edi_static.specs.declared.faults.StaticKind.TheVariants as kind
 use Rattle.edi_static.specs.declared.headings.Formal as code_formal
-use Rattle.edi_static.specs.Answers.{Answers}
+use Rattle.edi_static.specs.Answers.{JudgedAnswers}
 use Rattle.edi_static.specs.Judged.{Judged, faults}
 use Rattle.edi_static.specs.Environment.{Environment}
 use Rattle.edi_static.specs.Operators.{Typed}
@@ -20,10 +20,10 @@ first_is env line e j (variable of) rest = refl
 first_is env line e j (procedure asked) rest = refl
 
 pub first_answered : (env : Environment) (line : ℕ) (e : text.Expr) (j : Judged Typed) (fs rest : List code_formal.Formal) (f : code_formal.Formal) (r : Result code_argument.Argument StaticFault) →
-    fs ≡ f ∷ rest → Answers argument_of r (fitted env line e j (formal_of f)) → Answers argument_of r (rule.argument env line e j (formals (map formal_of fs)))
+    fs ≡ f ∷ rest → JudgedAnswers argument_of r (fitted env line e j (formal_of f)) → JudgedAnswers argument_of r (rule.argument env line e j (formals (map formal_of fs)))
 first_answered env line e j fs rest f r h answered =
-    subst (λ m. Answers argument_of r m) (first_is env line e j (formal_of f) (map formal_of rest) ∙ ap (λ xs. rule.argument env line e j (formals (map formal_of xs))) (sym h)) answered
+    subst (λ m. JudgedAnswers argument_of r m) (first_is env line e j (formal_of f) (map formal_of rest) ∙ ap (λ xs. rule.argument env line e j (formals (map formal_of xs))) (sym h)) answered
 
 pub none_answered : (env : Environment) (line : ℕ) (e : text.Expr) (j : Judged Typed) (fs : List code_formal.Formal) (r : Result code_argument.Argument StaticFault) →
-    fs ≡ [] → Answers argument_of r (faults kind.Call line) → Answers argument_of r (rule.argument env line e j (formals (map formal_of fs)))
-none_answered env line e j fs r h answered = subst (λ xs. Answers argument_of r (rule.argument env line e j (formals (map formal_of xs)))) (sym h) answered
+    fs ≡ [] → JudgedAnswers argument_of r (faults kind.Call line) → JudgedAnswers argument_of r (rule.argument env line e j (formals (map formal_of fs)))
+none_answered env line e j fs r h answered = subst (λ xs. JudgedAnswers argument_of r (rule.argument env line e j (formals (map formal_of xs)))) (sym h) answered

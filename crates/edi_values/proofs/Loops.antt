@@ -20,7 +20,7 @@ use Rattle.edi_static.specs.declared.faults.StaticFault.TheVariants as fault
 use Rattle.edi_static.specs.declared.operands.Linked as code_linked
 use Rattle.edi_static.specs.declared.operands.Typed as code_typed
 use Rattle.edi_static.specs.declared.parts.Parted as code_parted
-use Rattle.edi_static.specs.Answers.{Answers}
+use Rattle.edi_static.specs.Answers.{JudgedAnswers}
 use Rattle.edi_static.specs.Judged.{Judged, gives, ◌>>=◌}
 use Rattle.edi_static.specs.Environment.{Environment}
 use Rattle.edi_static.specs.Operators.{Typed, Chained}
@@ -52,8 +52,8 @@ addends_step env links more of rest behind_it one l whole d e h left =
     ∙ left
 
 pub addends_fault : (env : Environment) (links : List code_link.Link) (of : ℕ) (rest behind_it : List code_addend.Addend) (one : code_addend.Addend) (whole : Judged Chained) (f : StaticFault) {Y : Type 0} (w : Y → Chained) →
-    rest ≡ one ∷ behind_it → Answers linked_of (Err f) (rule.addend env of (addend_of one)) →
-    addends_left env links of rest ≡ whole → Answers w (Err f) whole
+    rest ≡ one ∷ behind_it → JudgedAnswers linked_of (Err f) (rule.addend env of (addend_of one)) →
+    addends_left env links of rest ≡ whole → JudgedAnswers w (Err f) whole
 addends_fault env links of rest behind_it one whole (fault.At why line) w d h left =
     sym left ∙ ap (λ r. addends_left env links of r) d
     ∙ addend_fails env of (addend_of one) (see.addends (map addend_of behind_it)) (map link_of links) why line h
@@ -83,8 +83,8 @@ multipliers_step env links more of rest behind_it one l whole d e h left =
     ∙ left
 
 pub multipliers_fault : (env : Environment) (links : List code_link.Link) (of : ℕ) (rest behind_it : List code_multiplier.Multiplier) (one : code_multiplier.Multiplier) (whole : Judged Chained) (f : StaticFault) {Y : Type 0} (w : Y → Chained) →
-    rest ≡ one ∷ behind_it → Answers linked_of (Err f) (rule.multiplier env of (multiplier_of one)) →
-    multipliers_left env links of rest ≡ whole → Answers w (Err f) whole
+    rest ≡ one ∷ behind_it → JudgedAnswers linked_of (Err f) (rule.multiplier env of (multiplier_of one)) →
+    multipliers_left env links of rest ≡ whole → JudgedAnswers w (Err f) whole
 multipliers_fault env links of rest behind_it one whole (fault.At why line) w d h left =
     sym left ∙ ap (λ r. multipliers_left env links of r) d
     ∙ multiplier_fails env of (multiplier_of one) (see.multipliers (map multiplier_of behind_it)) (map link_of links) why line h
@@ -114,8 +114,8 @@ selectors_step env parts more of rest behind_it one p whole d e h left =
     ∙ left
 
 pub selectors_fault : (env : Environment) (parts : List code_part.Part) (of : ℕ) (rest behind_it : List code_selector.Selector) (one : code_selector.Selector) (whole : Judged Reached) (f : StaticFault) {Y : Type 0} (w : Y → Reached) →
-    rest ≡ one ∷ behind_it → Answers parted_of (Err f) (rule.selector env of (selector_of one)) →
-    selectors_left env parts of rest ≡ whole → Answers w (Err f) whole
+    rest ≡ one ∷ behind_it → JudgedAnswers parted_of (Err f) (rule.selector env of (selector_of one)) →
+    selectors_left env parts of rest ≡ whole → JudgedAnswers w (Err f) whole
 selectors_fault env parts of rest behind_it one whole (fault.At why line) w d h left =
     sym left ∙ ap (λ r. selectors_left env parts of r) d
     ∙ selector_fails env of (selector_of one) (see.selectors (map selector_of behind_it)) (map part_of parts) why line h
@@ -141,8 +141,8 @@ arguments_step env line arguments more rest behind_it one fs gs a whole d e g h 
     ∙ left
 
 pub arguments_fault : (env : Environment) (line : ℕ) (arguments : List code_argument.Argument) (rest behind_it : List code_expr.Expr) (one : code_expr.Expr) (fs : Formals) (whole : Judged Arguments) (f : StaticFault) →
-    rest ≡ one ∷ behind_it → Answers argument_of (Err f) (rule.argument env line (expr_of one) (rule.expression env (expr_of one)) fs) →
-    arguments_left env line arguments rest fs ≡ whole → Answers arguments_of (Err f) whole
+    rest ≡ one ∷ behind_it → JudgedAnswers argument_of (Err f) (rule.argument env line (expr_of one) (rule.expression env (expr_of one)) fs) →
+    arguments_left env line arguments rest fs ≡ whole → JudgedAnswers arguments_of (Err f) whole
 arguments_fault env line arguments rest behind_it one fs whole (fault.At why at) d h left =
     sym left ∙ ap (λ r. arguments_left env line arguments r fs) d
     ∙ argument_fails env line (expr_of one) (see.exprs (map expr_of behind_it)) fs (map argument_of arguments) why at h
@@ -162,7 +162,7 @@ arguments_all env line e es fs gs first none arguments n a g h =
     ∙ ap (λ m. m >>= λ x. rule.more_arguments env line es (rest_of fs) >>= λ ys. gives (argument_then x ys)) (sym h)
 
 pub arguments_first : (env : Environment) (line : ℕ) (e : text.Expr) (es : text.Exprs) (xs : text.Args) (fs : Formals) (f : StaticFault) →
-    text.args e es ≡ xs → Answers argument_of (Err f) (rule.argument env line e (rule.expression env e) fs) → Answers arguments_of (Err f) (rule.all_arguments env line xs fs)
+    text.args e es ≡ xs → JudgedAnswers argument_of (Err f) (rule.argument env line e (rule.expression env e) fs) → JudgedAnswers arguments_of (Err f) (rule.all_arguments env line xs fs)
 arguments_first env line e es xs fs (fault.At why at) s h =
     ap (λ ys. rule.all_arguments env line ys fs) (sym s)
     ∙ ap (λ m. m >>= λ x. rule.more_arguments env line es (rest_of fs) >>= λ ys. gives (argument_then x ys)) h
@@ -182,8 +182,8 @@ elements_step env strings parts more rest behind_it one whole d h left =
     ∙ left
 
 pub elements_fault : (env : Environment) (strings : Bool) (parts : List code_typed.Typed) (rest behind_it : List code_expr.Expr) (one : code_expr.Expr) (whole : Judged (List Typed)) (f : StaticFault) {X Y : Type 0} (v : X → List Typed) (w : Y → List Typed) →
-    rest ≡ one ∷ behind_it → Answers v (Err f) (behind (map typed_of parts) (rule.element env strings (expr_of one) (rule.expression env (expr_of one)))) →
-    elements_left env strings parts rest ≡ whole → Answers w (Err f) whole
+    rest ≡ one ∷ behind_it → JudgedAnswers v (Err f) (behind (map typed_of parts) (rule.element env strings (expr_of one) (rule.expression env (expr_of one)))) →
+    elements_left env strings parts rest ≡ whole → JudgedAnswers w (Err f) whole
 elements_fault env strings parts rest behind_it one whole (fault.At why line) v w d h left =
     sym left ∙ ap (λ r. elements_left env strings parts r) d
     ∙ element_fails env strings (expr_of one) (see.exprs (map expr_of behind_it)) (map typed_of parts) why line h
@@ -205,7 +205,7 @@ elements_all env strings e es none parts n h =
     ∙ bind_gives (elements env strings (text.args e es))
 
 pub elements_first : (env : Environment) (strings : Bool) (e : text.Expr) (es : text.Exprs) (xs : text.Args) (none : List code_typed.Typed) (f : StaticFault) {X Y : Type 0} (v : X → List Typed) (w : Y → List Typed) →
-    none ≡ [] → text.args e es ≡ xs → Answers v (Err f) (behind (map typed_of none) (rule.element env strings e (rule.expression env e))) → Answers w (Err f) (elements env strings xs)
+    none ≡ [] → text.args e es ≡ xs → JudgedAnswers v (Err f) (behind (map typed_of none) (rule.element env strings e (rule.expression env e))) → JudgedAnswers w (Err f) (elements env strings xs)
 elements_first env strings e es xs none (fault.At why line) v w n s h =
     ap (elements env strings) (sym s)
     ∙ sym (bind_gives (elements env strings (text.args e es)))

@@ -9,7 +9,7 @@ use Rattle.edi_unit.specs.Fits.{Formals}
 use Rattle.edi_static.specs.declared.faults.StaticKind.{StaticKind}
 use Rattle.edi_static.specs.declared.faults.StaticFault.{StaticFault}
 use Rattle.edi_static.specs.declared.operands.Typed as code_typed
-use Rattle.edi_static.specs.Answers.{Answers}
+use Rattle.edi_static.specs.Answers.{JudgedAnswers}
 use Rattle.edi_static.specs.Views.{typed_of}
 use Rattle.edi_static.specs.Judged.{Judged, gives, faults, ◌>>=◌}
 use Rattle.edi_static.specs.Environment.{Environment}
@@ -140,9 +140,9 @@ not_whole_is env (text.variable (root.Name n) (text.next_selector s ss)) h = of_
 not_whole_is env (text.variable (root.Val n) ss) h = of_place (rule.rooted env (root.Val n)) (λ r. rule.selectors env r.of ss)
 
 pub whole : (env : Environment) (v : text.Variable) (name : Name) (result : Result code_typed.Typed StaticFault) → Some name ≡ whole_name v →
-    Answers typed_of result (rule.alone env name) → Answers typed_of result (rule.variable_value env v)
-whole env v name result h answered = subst (λ m. Answers typed_of result m) (whole_is env v name h) answered
+    JudgedAnswers typed_of result (rule.alone env name) → JudgedAnswers typed_of result (rule.variable_value env v)
+whole env v name result h answered = subst (λ m. JudgedAnswers typed_of result m) (whole_is env v name h) answered
 
 pub not_whole : (env : Environment) (v : text.Variable) (result : Result code_typed.Typed StaticFault) → None ≡ whole_name v →
-    Answers typed_of result (place_value env v) → Answers typed_of result (rule.variable_value env v)
-not_whole env v result h answered = subst (λ m. Answers typed_of result m) (not_whole_is env v h) answered
+    JudgedAnswers typed_of result (place_value env v) → JudgedAnswers typed_of result (rule.variable_value env v)
+not_whole env v result h answered = subst (λ m. JudgedAnswers typed_of result m) (not_whole_is env v h) answered

@@ -1,4 +1,4 @@
--- Parts of the rules on expressions, under names of their own.
+-- Helper. Parts of the rules on expressions, under names of their own.
 use Rattle.std.specs.Prelude.{ℕ, Bool, ◌==◌, if◌then◌else◌, List, ◌++◌, Option, Some, None}
 use Rattle.edi_tree.specs.declared.expressions.Relation.{Relation}
 use Rattle.edi_tree.specs.Tree as text

@@ -1,4 +1,4 @@
--- The plain data for which the values of the code stand.
+-- Words of contracts. The plain data for which the values of the code stand.
 use Rattle.std.specs.Prelude.{Option, Some, None, option_copied}
 use Rattle.edi_unit.specs.Fits.{Heading}
 use Rattle.edi_unit.specs.View.{links_of, parts_of, place_of}

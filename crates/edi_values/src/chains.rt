@@ -4,7 +4,7 @@ ghost use Rattle.std.specs.Prelude.{◌≡◌};
 ghost use Rattle.edi_unit.specs.Tree as unit;
 ghost use Rattle.edi_unit.specs.Types.{bool_type};
 ghost use Rattle.edi_unit.specs.View.{expression_of};
-ghost use Rattle.edi_static.specs.Answers.{Answers};
+ghost use Rattle.edi_static.specs.Answers.{JudgedAnswers};
 ghost use Rattle.edi_static.specs.Judged.{gives};
 ghost use Rattle.edi_static.specs.Operators as spec;
 ghost use Rattle.edi_static.specs.Views.{environment, linked_of, typed_of};
@@ -32,14 +32,14 @@ pub(crate) fn with_chain(
     first: Typed,
     chained: Chained,
 ) -> Result<Typed, StaticFault>
-    ensures exact { Answers typed_of result (gives (spec.with_links (typed_of first) (chained_of chained))) }
+    ensures exact { JudgedAnswers typed_of result (gives (spec.with_links (typed_of first) (chained_of chained))) }
 {
     with_links(alloc, first.what, chained.links, chained.of)
 }
 
 /// One operator.
 fn one_link(alloc: Global, linked: Linked) -> Result<Chained, StaticFault>
-    ensures exact { Answers chained_of result (gives (record { links = unit.link_then (linked_of linked).what unit.no_link; of = linked.of })) }
+    ensures exact { JudgedAnswers chained_of result (gives (record { links = unit.link_then (linked_of linked).what unit.no_link; of = linked.of })) }
 {
     let mut links = List::new(alloc);
     add(&mut links, alloc, linked.link)?;
@@ -51,7 +51,7 @@ fn one_link(alloc: Global, linked: Linked) -> Result<Chained, StaticFault>
 
 /// A left operand with the one operator behind it.
 fn with_one(alloc: Global, left: Typed, linked: Linked) -> Result<Typed, StaticFault>
-    ensures exact { Answers typed_of result (gives (part.with_one (typed_of left) (linked_of linked))) }
+    ensures exact { JudgedAnswers typed_of result (gives (part.with_one (typed_of left) (linked_of linked))) }
 {
     let chained = one_link(alloc, linked)?;
     with_chain(alloc, left, chained)
@@ -66,14 +66,14 @@ pub(crate) fn compared(
     line: u16,
     right: Typed,
 ) -> Result<Typed, StaticFault>
-    ensures exact { Answers typed_of result (part.compared (environment known.now) (typed_of left) relation line (typed_of right)) }
+    ensures exact { JudgedAnswers typed_of result (part.compared (environment known.now) (typed_of left) relation line (typed_of right)) }
 {
     let linked = operated(known, relation_operator(relation), line, left.of, right)?;
     with_one(alloc, left, linked)
 }
 
 fn not_of(alloc: Global, value: Value) -> Result<Typed, StaticFault>
-    ensures exact { Answers typed_of result (gives (record { what = unit.not_of (expression_of value); of = bool_type })) }
+    ensures exact { JudgedAnswers typed_of result (gives (record { what = unit.not_of (expression_of value); of = bool_type })) }
 {
     let what = Value::Not(boxed(alloc, value)?);
     Ok(Typed { what, of: BOOL })
@@ -81,7 +81,7 @@ fn not_of(alloc: Global, value: Value) -> Result<Typed, StaticFault>
 
 /// `not` takes `bool`.
 pub(crate) fn negated(alloc: Global, line: u16, value: Typed) -> Result<Typed, StaticFault>
-    ensures exact { Answers typed_of result (part.negated line (typed_of value)) }
+    ensures exact { JudgedAnswers typed_of result (part.negated line (typed_of value)) }
 {
     must(value.of == BOOL, StaticKind::Types, line)?;
     not_of(alloc, value.what)

@@ -4,7 +4,7 @@ ghost use Rattle.std.specs.Prelude.{◌≡◌, ◌++◌, map};
 ghost use Rattle.edi_unit.specs.Tree as unit;
 ghost use Rattle.edi_unit.specs.Types.{shape_at};
 ghost use Rattle.edi_unit.specs.View.{expression_of, expressions_of};
-ghost use Rattle.edi_static.specs.Answers.{Answers};
+ghost use Rattle.edi_static.specs.Answers.{JudgedAnswers};
 ghost use Rattle.edi_static.specs.Fitting as spec;
 ghost use Rattle.edi_static.specs.Judged.{gives};
 ghost use Rattle.edi_static.specs.Views.{environment, typed_of};
@@ -18,7 +18,7 @@ use std::alloc::Global;
 /// The values of these parts.
 #[tactic(auto, using(crate::proofs::Making::values_are))]
 fn values_of(alloc: Global, parts: Vec<Typed>) -> Result<Values, StaticFault>
-    ensures exact { Answers expressions_of result (gives (spec.expressions_of (map typed_of parts.items))) }
+    ensures exact { JudgedAnswers expressions_of result (gives (spec.expressions_of (map typed_of parts.items))) }
 {
     let mut values = List::new(alloc);
     for part in parts {
@@ -40,7 +40,7 @@ fn make(of: u32, values: Values, line: u16) -> Value
 
 /// An elementary value of another type.
 fn convert(alloc: Global, of: u32, value: Value, line: u16) -> Result<Value, StaticFault>
-    ensures exact { Answers expression_of result (gives (unit.convert of (expression_of value) line)) }
+    ensures exact { JudgedAnswers expression_of result (gives (unit.convert of (expression_of value) line)) }
 {
     Ok(Value::Convert {
         of,
@@ -57,7 +57,7 @@ fn made(
     mut parts: Vec<Typed>,
     line: u16,
 ) -> Result<Value, StaticFault>
-    ensures exact { Answers expression_of result (gives (spec.made elementary of (map typed_of parts.items) line)) }
+    ensures exact { JudgedAnswers expression_of result (gives (spec.made elementary of (map typed_of parts.items) line)) }
 {
     if elementary && parts.len() == 1 {
         if let Some(one) = parts.pop() {
@@ -82,7 +82,7 @@ pub(crate) fn constructed(
     of: u32,
     parts: Vec<Typed>,
 ) -> Result<Typed, StaticFault>
-    ensures exact { Answers typed_of result (spec.constructed (environment known.now) line of (map typed_of parts.items)) }
+    ensures exact { JudgedAnswers typed_of result (spec.constructed (environment known.now) line of (map typed_of parts.items)) }
 {
     let fit = fits(known, of, parts.as_slice());
     must(fit, StaticKind::Constructor, line)?;
@@ -92,7 +92,7 @@ pub(crate) fn constructed(
 
 /// A string that a constructor takes stands for its characters.
 pub(crate) fn add_characters(characters: &[u8], parts: &mut Vec<Typed>) -> Result<(), StaticFault>
-    ensures exact { Answers (λ _. map typed_of parts.new.items) result (gives (map typed_of parts.old.items ++ map spec.character characters.now)) }
+    ensures exact { JudgedAnswers (λ _. map typed_of parts.new.items) result (gives (map typed_of parts.old.items ++ map spec.character characters.now)) }
 {
     for one in characters {
         put(parts, character(*one))?;

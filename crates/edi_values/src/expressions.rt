@@ -20,7 +20,7 @@ ghost use Rattle.edi_tree.specs.View.{
 ghost use Rattle.edi_tree.specs.Tree as text;
 ghost use Rattle.edi_unit.specs.View.{argument_of, arguments_of, expression_of};
 ghost use Rattle.edi_unit.specs.Tree as unit;
-ghost use Rattle.edi_static.specs.Answers.{Answers};
+ghost use Rattle.edi_static.specs.Answers.{JudgedAnswers};
 ghost use Rattle.edi_static.specs.Expressions as rule;
 ghost use Rattle.edi_static.specs.Fitting as spec;
 ghost use Rattle.edi_static.specs.Views as view;
@@ -50,7 +50,7 @@ use std::alloc::Global;
 /// An expression with its type.
 #[cycle(expressions)]
 pub fn expression(known: &Known, alloc: Global, expr: &Expr) -> Result<Typed, StaticFault>
-    ensures exact { Answers typed_of result (rule.expression (environment known.now) (expr_of expr.now)) }
+    ensures exact { JudgedAnswers typed_of result (rule.expression (environment known.now) (expr_of expr.now)) }
 {
     let left = simple(known, alloc, &expr.left)?;
     match &expr.comparison {
@@ -72,7 +72,7 @@ pub fn expression(known: &Known, alloc: Global, expr: &Expr) -> Result<Typed, St
 /// A leading sign belongs to the first term.
 #[cycle(expressions)]
 fn simple(known: &Known, alloc: Global, simple: &Simple) -> Result<Typed, StaticFault>
-    ensures exact { Answers typed_of result (rule.simple (environment known.now) (simple_of simple.now)) }
+    ensures exact { JudgedAnswers typed_of result (rule.simple (environment known.now) (simple_of simple.now)) }
 {
     let first = term(known, alloc, &simple.first)?;
     let first = signed(alloc, simple.sign, first)?;
@@ -87,7 +87,7 @@ fn addends(
     left: u32,
     addends: &Addends,
 ) -> Result<Chained, StaticFault>
-    ensures exact { Answers chained_of result (rule.addends (environment known.now) left (addends_of addends.now)) }
+    ensures exact { JudgedAnswers chained_of result (rule.addends (environment known.now) left (addends_of addends.now)) }
 {
     let mut links = List::new(alloc);
     let mut of = left;
@@ -101,7 +101,7 @@ fn addends(
 
 #[cycle(expressions)]
 fn addend(known: &Known, alloc: Global, left: u32, addend: &Addend) -> Result<Linked, StaticFault>
-    ensures exact { Answers linked_of result (rule.addend (environment known.now) left (addend_of addend.now)) }
+    ensures exact { JudgedAnswers linked_of result (rule.addend (environment known.now) left (addend_of addend.now)) }
 {
     let right = term(known, alloc, &addend.term)?;
     let operator = addition_operator(addend.operator);
@@ -110,7 +110,7 @@ fn addend(known: &Known, alloc: Global, left: u32, addend: &Addend) -> Result<Li
 
 #[cycle(expressions)]
 fn term(known: &Known, alloc: Global, term: &Term) -> Result<Typed, StaticFault>
-    ensures exact { Answers typed_of result (rule.term (environment known.now) (term_of term.now)) }
+    ensures exact { JudgedAnswers typed_of result (rule.term (environment known.now) (term_of term.now)) }
 {
     let first = factor(known, alloc, &term.first)?;
     let links = multipliers(known, alloc, first.of, &term.more)?;
@@ -124,7 +124,7 @@ fn multipliers(
     left: u32,
     multipliers: &Multipliers,
 ) -> Result<Chained, StaticFault>
-    ensures exact { Answers chained_of result (rule.multipliers (environment known.now) left (multipliers_of multipliers.now)) }
+    ensures exact { JudgedAnswers chained_of result (rule.multipliers (environment known.now) left (multipliers_of multipliers.now)) }
 {
     let mut links = List::new(alloc);
     let mut of = left;
@@ -143,7 +143,7 @@ fn multiplier(
     left: u32,
     multiplier: &Multiplier,
 ) -> Result<Linked, StaticFault>
-    ensures exact { Answers linked_of result (rule.multiplier (environment known.now) left (multiplier_of multiplier.now)) }
+    ensures exact { JudgedAnswers linked_of result (rule.multiplier (environment known.now) left (multiplier_of multiplier.now)) }
 {
     let right = factor(known, alloc, &multiplier.factor)?;
     let operator = multiplication_operator(multiplier.operator);
@@ -152,7 +152,7 @@ fn multiplier(
 
 #[cycle(expressions)]
 fn factor(known: &Known, alloc: Global, one: &Factor) -> Result<Typed, StaticFault>
-    ensures exact { Answers typed_of result (rule.factor (environment known.now) (factor_of one.now)) }
+    ensures exact { JudgedAnswers typed_of result (rule.factor (environment known.now) (factor_of one.now)) }
 {
     match one {
         Factor::Numeral(ordinal) => Ok(constant_value(INT, *ordinal)),
@@ -170,7 +170,7 @@ fn factor(known: &Known, alloc: Global, one: &Factor) -> Result<Typed, StaticFau
 /// The name before arguments is judged first: it is a type or a function.
 #[cycle(expressions)]
 fn call(known: &Known, alloc: Global, name: &Name, args: &Args) -> Result<Typed, StaticFault>
-    ensures exact { Answers typed_of result (rule.factor (environment known.now) (text.call_factor name.now (args_of args.now))) }
+    ensures exact { JudgedAnswers typed_of result (rule.factor (environment known.now) (text.call_factor name.now (args_of args.now))) }
 {
     let entity = known.look_up(name)?;
     let used = use_of(known, entity)?;
@@ -186,7 +186,7 @@ fn applied(
     used: Use,
     args: &Args,
 ) -> Result<Typed, StaticFault>
-    ensures exact { Answers typed_of result (rule.applied (environment known.now) line (used_of used.entry) (args_of args.now)) }
+    ensures exact { JudgedAnswers typed_of result (rule.applied (environment known.now) line (used_of used.entry) (args_of args.now)) }
 {
     match used {
         Use::Constructs(of) => constructor(known, alloc, line, of, args),
@@ -204,7 +204,7 @@ fn constructor(
     of: u32,
     args: &Args,
 ) -> Result<Typed, StaticFault>
-    ensures exact { Answers typed_of result (part.construction (environment known.now) line of (args_of args.now)) }
+    ensures exact { JudgedAnswers typed_of result (part.construction (environment known.now) line of (args_of args.now)) }
 {
     let strings = takes_strings(known.shape(of));
     let parts = parts(known, alloc, strings, args)?;
@@ -219,7 +219,7 @@ fn application(
     called: Called,
     args: &Args,
 ) -> Result<Typed, StaticFault>
-    ensures exact { Answers typed_of result (part.invocation (environment known.now) line (called_of called.entry) (args_of args.now)) }
+    ensures exact { JudgedAnswers typed_of result (part.invocation (environment known.now) line (called_of called.entry) (args_of args.now)) }
 {
     function_called(line, called, args_count(args))?;
     let arguments = arguments(known, alloc, line, args, called.formals())?;
@@ -234,7 +234,7 @@ fn parts(
     strings: bool,
     args: &Args,
 ) -> Result<Vec<Typed>, StaticFault>
-    ensures exact { Answers (λ parts. map typed_of parts.items) result (part.elements (environment known.now) strings (args_of args.now)) }
+    ensures exact { JudgedAnswers (λ parts. map typed_of parts.items) result (part.elements (environment known.now) strings (args_of args.now)) }
 {
     let mut parts = Vec::new(alloc);
     add_element(known, alloc, strings, &args.first, &mut parts)?;
@@ -253,7 +253,7 @@ fn add_element(
     expr: &Expr,
     parts: &mut Vec<Typed>,
 ) -> Result<(), StaticFault>
-    ensures exact { Answers (λ _. map typed_of parts.new.items) result (part.behind (map typed_of parts.old.items)
+    ensures exact { JudgedAnswers (λ _. map typed_of parts.new.items) result (part.behind (map typed_of parts.old.items)
         (rule.element (environment known.now) strings (expr_of expr.now) (rule.expression (environment known.now) (expr_of expr.now)))) }
 {
     match taken_string(strings, expr) {
@@ -274,7 +274,7 @@ pub fn arguments(
     args: &Args,
     formals: &[Formal],
 ) -> Result<Arguments, StaticFault>
-    ensures exact { Answers arguments_of result (rule.all_arguments (environment known.now) line (args_of args.now) (view.formals (map formal_of formals.now))) }
+    ensures exact { JudgedAnswers arguments_of result (rule.all_arguments (environment known.now) line (args_of args.now) (view.formals (map formal_of formals.now))) }
 {
     let mut arguments = List::new(alloc);
     let first = argument(known, alloc, line, &args.first, formals)?;
@@ -298,7 +298,7 @@ fn argument(
     expr: &Expr,
     formals: &[Formal],
 ) -> Result<Argument, StaticFault>
-    ensures exact { Answers argument_of result (rule.argument (environment known.now) line (expr_of expr.now)
+    ensures exact { JudgedAnswers argument_of result (rule.argument (environment known.now) line (expr_of expr.now)
         (rule.expression (environment known.now) (expr_of expr.now)) (view.formals (map formal_of formals.now))) }
 {
     match formals.split_first() {
@@ -316,7 +316,7 @@ fn fitted(
     expr: &Expr,
     formal: &Formal,
 ) -> Result<Argument, StaticFault>
-    ensures exact { Answers argument_of result (part.fitted (environment known.now) line (expr_of expr.now)
+    ensures exact { JudgedAnswers argument_of result (part.fitted (environment known.now) line (expr_of expr.now)
         (rule.expression (environment known.now) (expr_of expr.now)) (formal_of formal.now)) }
 {
     match formal {
@@ -342,7 +342,7 @@ fn procedure_argument(
     expr: &Expr,
     asked: &Asked,
 ) -> Result<Argument, StaticFault>
-    ensures exact { Answers argument_of result (rule.procedure_argument (environment known.now) line (asked_of asked.now)
+    ensures exact { JudgedAnswers argument_of result (rule.procedure_argument (environment known.now) line (asked_of asked.now)
         (spec.name_alone (expr_of expr.now)) (rule.expression (environment known.now) (expr_of expr.now))) }
 {
     match name_alone(expr) {
@@ -362,7 +362,7 @@ fn procedure_argument(
 #[cycle(expressions)]
 #[tactic(auto, using(crate::proofs::Steps::whole, crate::proofs::Steps::not_whole))]
 fn variable_value(known: &Known, alloc: Global, variable: &Variable) -> Result<Typed, StaticFault>
-    ensures exact { Answers typed_of result (rule.variable_value (environment known.now) (variable_of variable.now)) }
+    ensures exact { JudgedAnswers typed_of result (rule.variable_value (environment known.now) (variable_of variable.now)) }
 {
     match whole_name(variable) {
         Some(name) => alone(known, alloc, name),
@@ -373,7 +373,7 @@ fn variable_value(known: &Known, alloc: Global, variable: &Variable) -> Result<T
 /// The value of a variable that is `val f` or has a selector.
 #[cycle(expressions)]
 fn place_value(known: &Known, alloc: Global, variable: &Variable) -> Result<Typed, StaticFault>
-    ensures exact { Answers typed_of result (part.place_value (environment known.now) (variable_of variable.now)) }
+    ensures exact { JudgedAnswers typed_of result (part.place_value (environment known.now) (variable_of variable.now)) }
 {
     let located = variable_place(known, alloc, variable)?;
     Ok(loaded(located))
@@ -386,7 +386,7 @@ pub fn variable_place(
     alloc: Global,
     variable: &Variable,
 ) -> Result<Located, StaticFault>
-    ensures exact { Answers located_of result (rule.variable_place (environment known.now) (variable_of variable.now)) }
+    ensures exact { JudgedAnswers located_of result (rule.variable_place (environment known.now) (variable_of variable.now)) }
 {
     let root = rooted(known, &variable.root)?;
     let steps = selectors(known, alloc, root.of, &variable.selectors)?;
@@ -400,7 +400,7 @@ fn selectors(
     of: u32,
     selectors: &Selectors,
 ) -> Result<Reached, StaticFault>
-    ensures exact { Answers reached_of result (rule.selectors (environment known.now) of (selectors_of selectors.now)) }
+    ensures exact { JudgedAnswers reached_of result (rule.selectors (environment known.now) of (selectors_of selectors.now)) }
 {
     let mut parts = List::new(alloc);
     let mut reached = of;
@@ -419,7 +419,7 @@ fn selector(
     of: u32,
     selector: &Selector,
 ) -> Result<Parted, StaticFault>
-    ensures exact { Answers parted_of result (rule.selector (environment known.now) of (selector_of selector.now)) }
+    ensures exact { JudgedAnswers parted_of result (rule.selector (environment known.now) of (selector_of selector.now)) }
 {
     match selector {
         Selector::Field(line, name) => field_of(known, *line, of, name),

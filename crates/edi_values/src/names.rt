@@ -3,7 +3,7 @@
 ghost use Rattle.std.specs.Prelude.{◌≡◌};
 ghost use Rattle.edi_unit.specs.Tree as unit;
 ghost use Rattle.edi_unit.specs.View.{arguments_of};
-ghost use Rattle.edi_static.specs.Answers.{Answers};
+ghost use Rattle.edi_static.specs.Answers.{JudgedAnswers};
 ghost use Rattle.edi_static.specs.Expressions as rule;
 ghost use Rattle.edi_static.specs.Fitting as spec;
 ghost use Rattle.edi_static.specs.Views.{environment, typed_of};
@@ -45,14 +45,14 @@ pub(crate) fn function_called(
     called: Called,
     arguments: usize,
 ) -> Result<(), StaticFault>
-    ensures exact { Answers (λ _. tt) result (spec.function_called line (called_of called.entry) arguments) }
+    ensures exact { JudgedAnswers (λ _. tt) result (spec.function_called line (called_of called.entry) arguments) }
 {
     must(called.is_function_of(arguments), StaticKind::Call, line)
 }
 
 /// A function without parameters.
 fn invoked_alone(alloc: Global, line: u16, called: Called) -> Result<Typed, StaticFault>
-    ensures exact { Answers typed_of result (part.invoked_alone line (called_of called.entry)) }
+    ensures exact { JudgedAnswers typed_of result (part.invoked_alone line (called_of called.entry)) }
 {
     function_called(line, called, 0)?;
     Ok(invoked(line, called, List::new(alloc)))
@@ -65,7 +65,7 @@ fn value_alone(
     line: u16,
     entity: Entity,
 ) -> Result<Typed, StaticFault>
-    ensures exact { Answers typed_of result (rule.used_alone (environment known.now) line spec.neither entity) }
+    ensures exact { JudgedAnswers typed_of result (rule.used_alone (environment known.now) line spec.neither entity) }
 {
     match entity {
         Entity::Constant { of, ordinal } => Ok(constant_value(of, ordinal)),
@@ -81,7 +81,7 @@ fn used_alone(
     used: Use,
     entity: Entity,
 ) -> Result<Typed, StaticFault>
-    ensures exact { Answers typed_of result (rule.used_alone (environment known.now) line (used_of used.entry) entity) }
+    ensures exact { JudgedAnswers typed_of result (rule.used_alone (environment known.now) line (used_of used.entry) entity) }
 {
     match used {
         Use::Constructs(of) => empty_set(known, alloc, line, of),
@@ -93,7 +93,7 @@ fn used_alone(
 
 /// A name alone: a constant, a variable, a call of a function without parameters, or a set type.
 pub(crate) fn alone(known: &Known, alloc: Global, name: &Name) -> Result<Typed, StaticFault>
-    ensures exact { Answers typed_of result (rule.alone (environment known.now) name.now) }
+    ensures exact { JudgedAnswers typed_of result (rule.alone (environment known.now) name.now) }
 {
     let entity = known.look_up(name)?;
     let used = use_of(known, entity)?;

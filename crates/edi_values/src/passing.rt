@@ -4,7 +4,7 @@ ghost use Rattle.std.specs.Prelude.{◌≡◌, map};
 ghost use Rattle.edi_unit.specs.Tree as unit;
 ghost use Rattle.edi_unit.specs.View.{argument_of, expression_of};
 ghost use Rattle.edi_tree.specs.View.{args_of};
-ghost use Rattle.edi_static.specs.Answers.{Answers};
+ghost use Rattle.edi_static.specs.Answers.{JudgedAnswers};
 ghost use Rattle.edi_static.specs.Expressions as rule;
 ghost use Rattle.edi_static.specs.Fitting as spec;
 ghost use Rattle.edi_static.specs.Views as view;
@@ -40,7 +40,7 @@ fn by_value(value: Value) -> Argument
 
 /// An argument for a value parameter is of its type.
 pub(crate) fn value_argument(line: u16, of: u32, value: Typed) -> Result<Argument, StaticFault>
-    ensures exact { Answers argument_of result (part.value_argument line of (typed_of value)) }
+    ensures exact { JudgedAnswers argument_of result (part.value_argument line of (typed_of value)) }
 {
     must(value.of == of, StaticKind::Call, line)?;
     Ok(by_value(value.what))

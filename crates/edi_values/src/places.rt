@@ -2,7 +2,7 @@
 
 ghost use Rattle.std.specs.Prelude.{◌≡◌};
 ghost use Rattle.edi_unit.specs.View.{parts_of};
-ghost use Rattle.edi_static.specs.Answers.{Answers};
+ghost use Rattle.edi_static.specs.Answers.{JudgedAnswers};
 ghost use Rattle.edi_static.specs.Expressions as rule;
 ghost use Rattle.edi_static.specs.Fitting as spec;
 ghost use Rattle.edi_static.specs.Views.{environment, rooted_of, typed_of};
@@ -29,7 +29,7 @@ pub struct Located {
 
 /// The variable that a name or `val f` means.
 pub(crate) fn rooted(known: &Known, root: &Root) -> Result<Rooted, StaticFault>
-    ensures exact { Answers rooted_of result (rule.rooted (environment known.now) root.now) }
+    ensures exact { JudgedAnswers rooted_of result (rule.rooted (environment known.now) root.now) }
 {
     match root {
         Root::Name(name) => as_variable(known, name.line, known.look_up(name)?),

@@ -6,7 +6,7 @@ ghost use Rattle.edi_unit.specs.Fits.{heading_formals, no_formal};
 ghost use Rattle.edi_unit.specs.Lists.{list_items};
 ghost use Rattle.edi_unit.specs.View.{argument_of};
 ghost use Rattle.edi_unit.specs.Need.{block_at};
-ghost use Rattle.edi_static.specs.Answers.{Answers};
+ghost use Rattle.edi_static.specs.Answers.{JudgedAnswers};
 ghost use Rattle.edi_static.specs.Environment.{heading_at, no_heading, same_formals, same_heading};
 ghost use Rattle.edi_static.specs.Fitting as spec;
 ghost use Rattle.edi_static.specs.Judged.{gives};
@@ -58,7 +58,7 @@ fn heading_of(headings: &[Asked], number: u32) -> Option<&Asked>
 
 /// A block is called in the block in which it is declared, so many steps out.
 fn block_use<'a>(known: &'a Known, block: u32) -> Result<Use<'a>, StaticFault>
-    ensures exact { Answers used_of result (gives (spec.use_of (environment known.now) (entity.Procedure block))) }
+    ensures exact { JudgedAnswers used_of result (gives (spec.use_of (environment known.now) (entity.Procedure block))) }
 {
     let levels = number(known.steps_to(up(known, block)))?;
     Ok(Use::Calls(Called {
@@ -74,7 +74,7 @@ fn formal_use<'a>(
     variable: u32,
     shape: u32,
 ) -> Result<Use<'a>, StaticFault>
-    ensures exact { Answers used_of result (gives (spec.use_of (environment known.now) (entity.Formal block variable shape))) }
+    ensures exact { JudgedAnswers used_of result (gives (spec.use_of (environment known.now) (entity.Formal block variable shape))) }
 {
     let levels = number(known.steps_to(block))?;
     Ok(Use::Calls(Called {
@@ -85,7 +85,7 @@ fn formal_use<'a>(
 
 /// What an entity can be used for.
 pub fn use_of<'a>(known: &'a Known, entity: Entity) -> Result<Use<'a>, StaticFault>
-    ensures exact { Answers used_of result (gives (spec.use_of (environment known.now) entity)) }
+    ensures exact { JudgedAnswers used_of result (gives (spec.use_of (environment known.now) entity)) }
 {
     match entity {
         Entity::Types(of) => Ok(Use::Constructs(of)),
@@ -181,7 +181,7 @@ fn asks_nothing(asked: &Asked) -> bool
 
 /// An argument for a procedure parameter is a name alone, of a procedure other than `halt` with its shape.
 pub(crate) fn passed(line: u16, asked: &Asked, used: Use) -> Result<Argument, StaticFault>
-    ensures exact { Answers argument_of result (spec.passed line (asked_of asked.now) (used_of used.entry)) }
+    ensures exact { JudgedAnswers argument_of result (spec.passed line (asked_of asked.now) (used_of used.entry)) }
 {
     match used {
         Use::Calls(called) => passed_procedure(line, asked, called),
@@ -192,7 +192,7 @@ pub(crate) fn passed(line: u16, asked: &Asked, used: Use) -> Result<Argument, St
 }
 
 fn passed_procedure(line: u16, asked: &Asked, called: Called) -> Result<Argument, StaticFault>
-    ensures exact { Answers argument_of result (spec.passed line (asked_of asked.now) (spec.calls (called_of called.entry))) }
+    ensures exact { JudgedAnswers argument_of result (spec.passed line (asked_of asked.now) (spec.calls (called_of called.entry))) }
 {
     must(called.has_shape(asked), StaticKind::Call, line)?;
     Ok(Argument::Formal(called.callee))

@@ -2,7 +2,7 @@
 
 ghost use Rattle.std.specs.Prelude.{◌≡◌, ◌<◌, ◌≤◌, IsErrAnd, is_err, true};
 ghost use Rattle.std.specs.IoError.{error_kind};
-ghost use Rattle.edi_told.specs.Faults.{Rose};
+ghost use Rattle.edi_told.specs.Faults.{CountRose};
 ghost use Rattle.edi_host.specs.Blocks.{drive_fault, resize_fault, CountLeaves};
 ghost use Rattle.edi_host.specs.Images.{is_broken};
 ghost use Rattle.edi_host.specs.Plan.{faults_after};
@@ -155,7 +155,7 @@ impl<'a, R: rt::Files> HostDrive<'a, R> {
 impl<'a, R: rt::Files> Drive for HostDrive<'a, R> {
     ghost use Rattle.std.specs.Prelude.{None};
 
-    ghost held = { λ s. None };
+    ghost contents = { λ s. None };
 
     ghost count = { λ s. s.count };
 
@@ -173,7 +173,7 @@ impl<'a, R: rt::Files> Drive for HostDrive<'a, R> {
         requires { n < self.old.count }
         ensures count { self.new.count ≡ self.old.count }
         ensures later { self.old.faults ≤ self.new.faults }
-        ensures cause { result ≡ DriveEnd.Failed → Rose self.old.faults self.new.faults }
+        ensures cause { result ≡ DriveEnd.Failed → CountRose self.old.faults self.new.faults }
         ensures broken { self.old.broken ≡ true → result ≡ DriveEnd.Failed }
         ensures stays { self.new.broken ≡ self.old.broken }
         ensures faults { self.new.faults ≡ faults_after (drive_fault result) self.old.faults }
@@ -189,7 +189,7 @@ impl<'a, R: rt::Files> Drive for HostDrive<'a, R> {
         requires { n < self.old.count }
         ensures count { self.new.count ≡ self.old.count }
         ensures later { self.old.faults ≤ self.new.faults }
-        ensures cause { result ≡ DriveEnd.Failed → Rose self.old.faults self.new.faults }
+        ensures cause { result ≡ DriveEnd.Failed → CountRose self.old.faults self.new.faults }
         ensures broken { self.old.broken ≡ true → result ≡ DriveEnd.Failed }
         ensures stays { self.new.broken ≡ self.old.broken }
         ensures faults { self.new.faults ≡ faults_after (drive_fault result) self.old.faults }
@@ -206,7 +206,7 @@ impl<'a, R: rt::Files> Drive for HostDrive<'a, R> {
         ensures count { CountLeaves result n self.old.count self.new.count }
         ensures failed_count { result ≡ ResizeEnd.Failed → self.new.count ≡ self.old.count }
         ensures later { self.old.faults ≤ self.new.faults }
-        ensures cause { result ≡ ResizeEnd.Failed → Rose self.old.faults self.new.faults }
+        ensures cause { result ≡ ResizeEnd.Failed → CountRose self.old.faults self.new.faults }
         ensures broken { self.old.broken ≡ true → result ≡ ResizeEnd.Failed }
         ensures stays { self.new.broken ≡ self.old.broken }
         ensures faults { self.new.faults ≡ faults_after (resize_fault result) self.old.faults }

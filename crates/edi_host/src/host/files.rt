@@ -1,7 +1,7 @@
 //! The adapter over the host's files.
 
 ghost use Rattle.std.specs.Prelude.{◌≡◌, ◌≤◌, vec_len};
-ghost use Rattle.edi_told.specs.Faults.{Rose};
+ghost use Rattle.edi_told.specs.Faults.{CountRose};
 ghost use Rattle.edi_host.specs.Files.{FetchEmpties, fetch_fault, keep_fault};
 ghost use Rattle.edi_host.specs.Plan.{faults_after};
 
@@ -79,7 +79,7 @@ impl<'a, R: rt::Files> HostFiles<'a, R> {
 impl<'a, R: rt::Files> Files for HostFiles<'a, R> {
     ghost use Rattle.std.specs.Prelude.{None};
 
-    ghost held = { λ s. None };
+    ghost contents = { λ s. None };
 
     ghost faults = { λ s. s.faults };
 
@@ -89,7 +89,7 @@ impl<'a, R: rt::Files> Files for HostFiles<'a, R> {
         ensures empties { FetchEmpties result into.new.items }
         ensures bounded { vec_len into.new ≤ limit }
         ensures later { self.old.faults ≤ self.new.faults }
-        ensures cause { result ≡ FetchEnd.Failed → Rose self.old.faults self.new.faults }
+        ensures cause { result ≡ FetchEnd.Failed → CountRose self.old.faults self.new.faults }
         ensures faults { self.new.faults ≡ faults_after (fetch_fault result) self.old.faults }
     {
         let _ = alloc;
@@ -106,7 +106,7 @@ impl<'a, R: rt::Files> Files for HostFiles<'a, R> {
 
     fn keep(&mut self, alloc: Global, name: &str, bytes: &[u8]) -> KeepEnd
         ensures later { self.old.faults ≤ self.new.faults }
-        ensures cause { result ≡ KeepEnd.Failed → Rose self.old.faults self.new.faults }
+        ensures cause { result ≡ KeepEnd.Failed → CountRose self.old.faults self.new.faults }
         ensures faults { self.new.faults ≡ faults_after (keep_fault result) self.old.faults }
     {
         let _ = alloc;

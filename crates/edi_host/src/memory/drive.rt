@@ -61,7 +61,7 @@ impl Drive for MemoryDrive {
     ghost use Rattle.edi_host.specs.Blocks.{block_of};
     ghost use Rattle.edi_host.specs.Sized.{all_are_blocks};
 
-    ghost held = { λ s. Some (map block_of s.blocks) };
+    ghost contents = { λ s. Some (map block_of s.blocks) };
 
     ghost count = { λ s. length s.blocks };
 

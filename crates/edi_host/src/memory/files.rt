@@ -25,13 +25,13 @@ impl Model for MemoryFiles {
 
     ghost coded = { failing_files_code };
 
-    ghost view = { λ f. record { held = f.files; plan = f.plan } };
+    ghost view = { λ f. record { contents = f.files; plan = f.plan } };
 }
 
 impl MemoryFiles {
     /// No files. The calls of `fetch` and `keep` whose numbers, counted together from 1, are in `failing` fail.
     pub fn new(alloc: Global, failing: &[u64]) -> Result<MemoryFiles, AllocError>
-        ensures made { IfOk result (λ files. files ≡ record { held = map.empty; plan = planned failing.now }) }
+        ensures made { IfOk result (λ files. files ≡ record { contents = map.empty; plan = planned failing.now }) }
     {
         Ok(MemoryFiles {
             files: SteadyFiles::new(alloc)?,
@@ -42,9 +42,9 @@ impl MemoryFiles {
     /// Puts a file in, whose name is new. It is not one of the calls that can fail. After want of memory
     /// nothing has changed.
     pub fn add(&mut self, alloc: Global, name: &str, bytes: &[u8]) -> Result<(), AllocError>
-        requires { map.get self.old.held name.now ≡ None }
-        ensures ok { OnOk result (self.new.held ≡ map.insert self.old.held name.now bytes.now) }
-        ensures err { OnErr result (self.new.held ≡ self.old.held) }
+        requires { map.get self.old.contents name.now ≡ None }
+        ensures ok { OnOk result (self.new.contents ≡ map.insert self.old.contents name.now bytes.now) }
+        ensures err { OnErr result (self.new.contents ≡ self.old.contents) }
         ensures plan { self.new.plan ≡ self.old.plan }
     {
         self.files.add(alloc, name, bytes)
@@ -52,7 +52,7 @@ impl MemoryFiles {
 
     /// The bytes of a file. `None` comes exactly where no file has the name.
     pub fn get(&self, name: &str) -> Option<&[u8]>
-        ensures found { option_map (λ bytes. bytes.now) result ≡ map.get self.now.held name.now }
+        ensures found { option_map (λ bytes. bytes.now) result ≡ map.get self.now.contents name.now }
     {
         self.files.get(name)
     }
@@ -61,17 +61,17 @@ impl MemoryFiles {
 impl Files for MemoryFiles {
     ghost use Rattle.std.specs.Prelude.{Some};
 
-    ghost held = { λ s. Some s.held };
+    ghost contents = { λ s. Some s.contents };
 
     ghost faults = { λ s. s.plan.faults };
 
     /// A call that is to fail fails only where the file is there, since `Absent` comes exactly where it is not.
     fn fetch(&mut self, alloc: Global, name: &str, limit: usize, into: &mut Vec<u8>) -> FetchEnd
-        ensures gives { FetchGives result (map.get self.old.held name.now) limit into.new.items }
-        ensures fails { fetch_fault result ≡ (strikes self.old.plan && is_some (map.get self.old.held name.now)) }
+        ensures gives { FetchGives result (map.get self.old.contents name.now) limit into.new.items }
+        ensures fails { fetch_fault result ≡ (strikes self.old.plan && is_some (map.get self.old.contents name.now)) }
         ensures empties { FetchEmpties result into.new.items }
         ensures bounded { vec_len into.new ≤ limit }
-        ensures unchanged { self.new.held ≡ self.old.held }
+        ensures unchanged { self.new.contents ≡ self.old.contents }
         ensures plan { self.new.plan ≡ after_call (fetch_fault result) self.old.plan }
     {
         let fault = self.plan.strikes() && self.files.get(name).is_some();
@@ -84,7 +84,7 @@ impl Files for MemoryFiles {
     }
 
     fn keep(&mut self, alloc: Global, name: &str, bytes: &[u8]) -> KeepEnd
-        ensures leaves { KeepsOrNot result name.now bytes.now self.old.held self.new.held }
+        ensures leaves { KeepsOrNot result name.now bytes.now self.old.contents self.new.contents }
         ensures fails { keep_fault result ≡ strikes self.old.plan }
         ensures plan { self.new.plan ≡ after_call (strikes self.old.plan) self.old.plan }
     {

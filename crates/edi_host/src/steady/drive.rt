@@ -56,7 +56,7 @@ impl Drive for SteadyDrive {
     ghost use Rattle.edi_host.specs.Blocks.{block_of};
     ghost use Rattle.edi_host.specs.Sized.{all_are_blocks};
 
-    ghost held = { λ s. Some (map block_of s) };
+    ghost contents = { λ s. Some (map block_of s) };
 
     ghost count = { λ s. length s };
 

@@ -15,14 +15,14 @@ pub struct SteadyFiles {
 }
 
 impl Model for SteadyFiles {
-    ghost use Rattle.edi_host.specs.Files.{Held};
-    ghost use Rattle.edi_host.specs.Forms.{held_code, held_in};
+    ghost use Rattle.edi_host.specs.Files.{Contents};
+    ghost use Rattle.edi_host.specs.Forms.{contents_code, contents_in};
 
-    ghost Value = { Held };
+    ghost Value = { Contents };
 
-    ghost coded = { held_code };
+    ghost coded = { contents_code };
 
-    ghost view = { λ f. held_in f.files.entries };
+    ghost view = { λ f. contents_in f.files.entries };
 }
 
 impl SteadyFiles {
@@ -66,7 +66,7 @@ impl SteadyFiles {
 impl Files for SteadyFiles {
     ghost use Rattle.std.specs.Prelude.{Some};
 
-    ghost held = { λ s. Some s };
+    ghost contents = { λ s. Some s };
 
     ghost faults = { λ s. 0 };
 

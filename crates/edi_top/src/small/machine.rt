@@ -1,7 +1,7 @@
 //! The machine that runs the code of these programs.
 
 ghost use Rattle.std.specs.Prelude.{◌≡◌, ◌≤◌, ◌<◌, ◌^◌, List, length};
-ghost use Rattle.edi_told.specs.Faults.{Rose};
+ghost use Rattle.edi_told.specs.Faults.{CountRose};
 ghost use Rattle.edi_top.specs.declared.small.Statement.{Statement};
 ghost use Rattle.edi_top.specs.Code.{code_of, Executes};
 ghost use Rattle.edi_top.specs.Small.{AreBytes, shown_by};
@@ -28,7 +28,7 @@ pub fn execute<T: Sink>(words: &[u16], terminal: &mut T) -> RunEnd
     ensures runs { (ss : List Statement) → AreBytes ss → words.now ≡ code_of ss
         → Executes result (T.taken terminal.old) (T.taken terminal.new) (shown_by ss) }
     ensures later { T.faults terminal.old ≤ T.faults terminal.new }
-    ensures cause { result ≡ RunEnd.OutputFault → Rose (T.faults terminal.old) (T.faults terminal.new) }
+    ensures cause { result ≡ RunEnd.OutputFault → CountRose (T.faults terminal.old) (T.faults terminal.new) }
 {
     let mut at = 0;
     let mut pushed: u16 = 0;

@@ -1,5 +1,5 @@
 use Rattle.std.proofs.Common.{arith}
-use Rattle.edi_calls.proofs.Places.{blocks_taken-more}
+use Rattle.edi_calls.proofs.Indices.{blocks_taken-more}
 use Rattle.edi_calls.proofs.slots.blocks_taken.Goals as goal
 
 pub loop-slot-preserved : goal.loop-slot-preserved

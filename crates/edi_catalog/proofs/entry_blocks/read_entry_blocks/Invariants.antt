@@ -6,7 +6,7 @@ use Rattle.edi_catalog.proofs.entry_blocks.read_entry_blocks.Given as goal
 
 abbrev pub invariant-loop-i : goal.invariant-loop-i
 invariant-loop-i g l = record {
-  checks : Checks g.D.Drive.held g.D.Drive.count g.D.Drive.faults false l.initial.disk l.disk
+  checks : Checks g.D.Drive.contents g.D.Drive.count g.D.Drive.faults false l.initial.disk l.disk
       (λ blocks. (k : ℕ) → k < l.i → slice_index_or l.entries.items k [] ≡ block_at blocks (1 + k));
   many : length l.entries.items ≡ l.i;
 }

@@ -41,7 +41,7 @@ returns-in-Err-clause-cause g c = λ is. c.in-Err.ensures.checks.cause (ap faile
 pub returns-in-Err-clause-settled : goal.returns-in-Err-clause-settled
 returns-in-Err-clause-settled g c = λ fine.
     still_settled _ _ _ _ _ (λ blocks. IsFirst c.in-Err.fault (mount_fault_of blocks)) c.requires.settled
-    (subst (λ b. Checks g.D.Drive.held g.D.Drive.count g.D.Drive.faults b c.args.disk.now c.read_disk.new.disk
+    (subst (λ b. Checks g.D.Drive.contents g.D.Drive.count g.D.Drive.faults b c.args.disk.now c.read_disk.new.disk
     (λ blocks. IsFirst c.in-Err.fault (mount_fault_of blocks))) fine c.in-Err.ensures.checks)
 
 pub returns-in-Ok-clause-settled : goal.returns-in-Ok-clause-settled

@@ -1,4 +1,4 @@
-use Rattle.std.proofs.Common.{◌≡◌, ◌≤◌, ◌<◌, sym, subst}
+use Rattle.std.proofs.Common.{◌≤◌, ◌<◌, sym, subst}
 use Rattle.edi_image.specs.Image.{mount_fault_of}
 use Rattle.edi_catalog.proofs.Sequence.{checks_then}
 use Rattle.edi_catalog.proofs.EntryBlocks.{no_image_fault}

@@ -3,17 +3,17 @@ use Rattle.edi_disk.specs.declared.disk.DiskEnd.TheVariants as disk
 use Rattle.edi_disk.specs.Shown.{drive_of}
 use Rattle.edi_disk.proofs.Calls as calls
 use Rattle.edi_catalog.specs.Plan.{content_of, used_in}
-use Rattle.edi_catalog.specs.Putting.{Puts}
+use Rattle.edi_catalog.specs.Putting.{PutsBlocks}
 use Rattle.edi_catalog.proofs.PutBlocks.{puts_none, puts_more}
-use Rattle.edi_catalog.proofs.FileShape.{shape_of, number_below, maps_enough, pages_enough, place_within, all_within}
+use Rattle.edi_catalog.proofs.FileShape.{shape_of, number_below, maps_enough, pages_enough, index_within, all_within}
 use Rattle.edi_catalog.proofs.putting.put_blocks.Goals as goal
 
 pub loop-i-init : goal.loop-i-init
-loop-i-init g c = puts_none g.D.Drive.held g.D.Drive.count g.D.Drive.faults _ _ c.args.disk.now c.requires.works
+loop-i-init g c = puts_none g.D.Drive.contents g.D.Drive.count g.D.Drive.faults _ _ c.args.disk.now c.requires.works
 
 pub block_of-requires : goal.block_of-requires
 block_of-requires g c =
-    place_within (g.D.Drive.count (drive_of c.args.disk.now)) c.args.file.now (length c.args.bytes.now) c.blocks_of-i-end.result c.loop-i.i
+    index_within (g.D.Drive.count (drive_of c.args.disk.now)) c.args.file.now (length c.args.bytes.now) c.blocks_of-i-end.result c.loop-i.i
     c.requires.stored c.requires.size c.blocks_of-i-end.ensures.exact c.loop-i-test.true
 
 pub content_of-requires : goal.content_of-requires
@@ -21,7 +21,7 @@ content_of-requires g c =
     let shape = shape_of (g.D.Drive.count (drive_of c.args.disk.now)) c.args.file.now c.requires.stored in
     record {
       within =
-          place_within (g.D.Drive.count (drive_of c.args.disk.now)) c.args.file.now (length c.args.bytes.now) c.blocks_of-i-end.result c.loop-i.i
+          index_within (g.D.Drive.count (drive_of c.args.disk.now)) c.args.file.now (length c.args.bytes.now) c.blocks_of-i-end.result c.loop-i.i
           c.requires.stored c.requires.size c.blocks_of-i-end.ensures.exact c.loop-i-test.true;
       maps = (maps_enough (g.D.Drive.count (drive_of c.args.disk.now)) c.args.file.now shape).1;
       pages = subst (λ n. 512 * (length c.args.file.now.pages - 1) ≤ n) (sym c.requires.size)
@@ -36,11 +36,11 @@ put_page-requires-clause-in_range g c =
 
 pub returns-in-Fault : goal.returns-in-Fault
 returns-in-Fault g c = record {
-  puts = puts_more g.D.Drive.held g.D.Drive.count g.D.Drive.faults disk.Fault _ _ c.loop-i.i c.from-number.result _ c.args.disk.now c.loop-i.disk
+  puts = puts_more g.D.Drive.contents g.D.Drive.count g.D.Drive.faults disk.Fault _ _ c.loop-i.i c.from-number.result _ c.args.disk.now c.loop-i.disk
       c.put_page.new.self
-      (calls.shown_counted g.D.Drive.held g.D.Drive.count g.D.Drive.faults g.met.D.Drive.counted c.loop-i.disk.drive.now c.loop-i.disk.cache)
+      (calls.shown_counted g.D.Drive.contents g.D.Drive.count g.D.Drive.faults g.met.D.Drive.counted c.loop-i.disk.drive.now c.loop-i.disk.cache)
       c.requires.different
-      (place_within (g.D.Drive.count (drive_of c.args.disk.now)) c.args.file.now (length c.args.bytes.now) c.blocks_of-i-end.result c.loop-i.i
+      (index_within (g.D.Drive.count (drive_of c.args.disk.now)) c.args.file.now (length c.args.bytes.now) c.blocks_of-i-end.result c.loop-i.i
       c.requires.stored c.requires.size c.blocks_of-i-end.ensures.exact c.loop-i-test.true)
       (c.from-number.ensures ∙ c.block_of.ensures) c.content_of.ensures
       (number_below (g.D.Drive.count (drive_of c.args.disk.now)) (g.D.Drive.count (drive_of c.loop-i.disk)) c.args.file.now (length c.args.bytes.now)
@@ -61,11 +61,11 @@ returns-in-Fault g c = record {
 
 pub loop-i-preserved : goal.loop-i-preserved
 loop-i-preserved g c =
-    puts_more g.D.Drive.held g.D.Drive.count g.D.Drive.faults disk.Ok _ _ c.loop-i.i c.from-number.result _ c.args.disk.now c.loop-i.disk
+    puts_more g.D.Drive.contents g.D.Drive.count g.D.Drive.faults disk.Ok _ _ c.loop-i.i c.from-number.result _ c.args.disk.now c.loop-i.disk
     c.put_page.new.self
-    (calls.shown_counted g.D.Drive.held g.D.Drive.count g.D.Drive.faults g.met.D.Drive.counted c.loop-i.disk.drive.now c.loop-i.disk.cache)
+    (calls.shown_counted g.D.Drive.contents g.D.Drive.count g.D.Drive.faults g.met.D.Drive.counted c.loop-i.disk.drive.now c.loop-i.disk.cache)
     c.requires.different
-    (place_within (g.D.Drive.count (drive_of c.args.disk.now)) c.args.file.now (length c.args.bytes.now) c.blocks_of-i-end.result c.loop-i.i
+    (index_within (g.D.Drive.count (drive_of c.args.disk.now)) c.args.file.now (length c.args.bytes.now) c.blocks_of-i-end.result c.loop-i.i
     c.requires.stored c.requires.size c.blocks_of-i-end.ensures.exact c.loop-i-test.true)
     (c.from-number.ensures ∙ c.block_of.ensures) c.content_of.ensures
     (number_below (g.D.Drive.count (drive_of c.args.disk.now)) (g.D.Drive.count (drive_of c.loop-i.disk)) c.args.file.now (length c.args.bytes.now)
@@ -86,7 +86,7 @@ loop-i-preserved g c =
 pub returns : goal.returns
 returns g c = record {
   puts = subst
-      (λ n. Puts g.D.Drive.held g.D.Drive.count g.D.Drive.faults disk.Ok (used_in (Some c.args.file.now)) (content_of c.args.file.now c.args.bytes.now) n
+      (λ n. PutsBlocks g.D.Drive.contents g.D.Drive.count g.D.Drive.faults disk.Ok (used_in (Some c.args.file.now)) (content_of c.args.file.now c.args.bytes.now) n
       c.args.disk.now c.loop-i.disk)
       (sym (all_within (g.D.Drive.count (drive_of c.args.disk.now)) c.args.file.now (length c.args.bytes.now) c.blocks_of-i-end.result c.loop-i.i
       c.requires.stored c.requires.size c.blocks_of-i-end.ensures.exact c.loop-i-test.false (omega arith)))

@@ -13,8 +13,8 @@ use Rattle.edi_catalog.proofs.putting.write_new.Goals as goal
 pub put_entry-requires-clause-kept : goal.put_entry-requires-clause-kept
 put_entry-requires-clause-kept g c = λ laid told.
     (let old = writing.told (ArePut (used_in (Some c.args.file.now)) (content_of c.args.file.now c.args.bytes.now) (length (used_in (Some c.args.file.now))))
-    (g.D.Drive.held (drive_of c.args.disk.now)) (g.D.Drive.held (drive_of c.write_file.new.disk)) laid
-    (puts_there g.D.Drive.held g.D.Drive.count g.D.Drive.faults _ _ _ c.args.disk.now c.write_file.new.disk c.requires.settled
+    (g.D.Drive.contents (drive_of c.args.disk.now)) (g.D.Drive.contents (drive_of c.write_file.new.disk)) laid
+    (puts_there g.D.Drive.contents g.D.Drive.count g.D.Drive.faults _ _ _ c.args.disk.now c.write_file.new.disk c.requires.settled
     (c.in-Ok.ensures.settles refl) c.in-Ok.ensures.puts) told in
     old.2.others (1 + c.args.slot / 8)
     (not_early (g.D.Drive.count (drive_of c.args.disk.now)) (used_in (Some c.args.file.now)) (1 + c.args.slot / 8)
@@ -24,9 +24,9 @@ put_entry-requires-clause-kept g c = λ laid told.
 
 pub returns-in-Ok-clause-writes : goal.returns-in-Ok-clause-writes
 returns-in-Ok-clause-writes g c =
-    new_entry g.D.Drive.held g.D.Drive.count g.D.Drive.faults c.put_entry.result c.args.slot c.args.file.now c.args.bytes.now
+    new_entry g.D.Drive.contents g.D.Drive.count g.D.Drive.faults c.put_entry.result c.args.slot c.args.file.now c.args.bytes.now
     c.args.disk.now c.write_file.new.disk c.put_entry.new.disk c.requires.settled (c.in-Ok.ensures.settles refl) c.in-Ok.ensures.puts
-    (subst (λ e. PutsEntry g.D.Drive.held g.D.Drive.count g.D.Drive.faults c.put_entry.result c.args.slot e c.write_file.new.disk c.put_entry.new.disk)
+    (subst (λ e. PutsEntry g.D.Drive.contents g.D.Drive.count g.D.Drive.faults c.put_entry.result c.args.slot e c.write_file.new.disk c.put_entry.new.disk)
     (c.entry_bytes.ensures ∙ ap bytes_of_record (ap (λ (f : StoredFile). f.record_) c.file.view_is)) c.put_entry.ensures.puts)
 
 pub returns-in-Ok-clause-kept : goal.returns-in-Ok-clause-kept
@@ -37,5 +37,5 @@ returns-in-Ok-clause-kept g c = λ done.
 
 pub returns-in-Fault-clause-writes : goal.returns-in-Fault-clause-writes
 returns-in-Fault-clause-writes g c =
-    new_fails g.D.Drive.held g.D.Drive.count g.D.Drive.faults c.args.slot c.args.file.now c.args.bytes.now c.args.disk.now c.write_file.new.disk
+    new_fails g.D.Drive.contents g.D.Drive.count g.D.Drive.faults c.args.slot c.args.file.now c.args.bytes.now c.args.disk.now c.write_file.new.disk
     c.requires.settled c.in-Fault.ensures.puts

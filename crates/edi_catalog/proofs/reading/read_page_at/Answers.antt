@@ -9,5 +9,5 @@ returns-in-Ok-clause-checks g c =
     checks_map _ _ _ _ _ _ _ _
     (λ blocks is. page_put c.args.at c.args.into.now _ _ _ _ c.split_at_mut-rest.ensures.front c.split_at_mut-rest.ensures.front_len
     (c.copy_from_slice.ensures.after ∙ sym is ∙ ap (block_at blocks) c.from.ensures)
-    (omega (arith, c.copy_from_slice.ensures.len, c.split_at_mut-place.ensures.front_len)))
+    (omega (arith, c.copy_from_slice.ensures.len, c.split_at_mut-index.ensures.front_len)))
     c.in-Ok.ensures.checks

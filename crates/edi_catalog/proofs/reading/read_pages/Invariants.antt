@@ -6,7 +6,7 @@ use Rattle.edi_catalog.proofs.reading.read_pages.Given as goal
 
 abbrev pub invariant-loop-i : goal.invariant-loop-i
 invariant-loop-i g l = record {
-  checks : Checks g.D.Drive.held g.D.Drive.count g.D.Drive.faults false l.initial.disk l.disk
+  checks : Checks g.D.Drive.contents g.D.Drive.count g.D.Drive.faults false l.initial.disk l.disk
       (λ blocks. take (512 * l.i) l.into ≡ flat_map (block_at blocks) (take l.i l.pages));
   many : length l.into ≡ length l.initial.into;
 }

@@ -8,7 +8,7 @@ use Rattle.edi_catalog.proofs.slots.read_slots.Given as goal
 
 abbrev pub invariant-loop-slot : goal.invariant-loop-slot
 invariant-loop-slot g l = record {
-  checks : Checks g.D.Drive.held g.D.Drive.count g.D.Drive.faults false l.initial.disk l.disk
+  checks : Checks g.D.Drive.contents g.D.Drive.count g.D.Drive.faults false l.initial.disk l.disk
       (λ blocks. Progress blocks l.slot l.used.items l.files.items);
   many : length l.files.items ≡ l.slot;
   stored : list_all (is_stored (g.D.Drive.count (drive_of l.initial.disk))) l.files.items ≡ true;

@@ -1,4 +1,4 @@
-use Rattle.std.proofs.Common.{◌+◌, ◌/◌, ◌*◌, ◌%◌, ◌≡◌, ◌∙◌, ap, subst, rules, refl, Some, List, ℕ}
+use Rattle.std.proofs.Common.{◌+◌, ◌/◌, ◌*◌, ◌%◌, ◌∙◌, ap, rules, refl}
 use Rattle.edi_image.specs.Entries.{block_at}
 use Rattle.edi_catalog.specs.Writing.{patched}
 use Rattle.edi_image.proofs.Told.{told_map}
@@ -10,7 +10,7 @@ returns-in-Fault-clause-puts g c =
     puts_made _ _ _ _ c.args.slot _ c.args.entry.now _ c.args.kept.now _ _ c.requires.settled
     (λ blocks told. ap (λ n. block_at blocks (1 + n / 8)) c.from-2.ensures ∙ c.requires.kept blocks told)
     (record {
-      place = ap (λ n. 1 + n / 8) c.from-2.ensures;
+      index = ap (λ n. 1 + n / 8) c.from-2.ensures;
       long = search rules;
       made = c.put_over.ensures ∙ ap (λ n. patched (64 * (n % 8)) c.args.entry.now c.args.kept.now) c.from.ensures;
     })
@@ -22,7 +22,7 @@ returns-in-Ok-clause-puts g c =
     puts_made _ _ _ _ c.args.slot _ c.args.entry.now _ c.args.kept.now _ _ c.requires.settled
     (λ blocks told. ap (λ n. block_at blocks (1 + n / 8)) c.from-2.ensures ∙ c.requires.kept blocks told)
     (record {
-      place = ap (λ n. 1 + n / 8) c.from-2.ensures;
+      index = ap (λ n. 1 + n / 8) c.from-2.ensures;
       long = search rules;
       made = c.put_over.ensures ∙ ap (λ n. patched (64 * (n % 8)) c.args.entry.now c.args.kept.now) c.from.ensures;
     })

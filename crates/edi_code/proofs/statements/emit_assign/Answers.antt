@@ -3,7 +3,7 @@ use Rattle.edi_unit.specs.Types.{size}
 use Rattle.edi_unit.specs.View.{expression_of, place_of}
 use Rattle.edi_target.specs.Op as instruction
 use Rattle.edi_code.specs.Scope.{types_in}
-use Rattle.edi_code.specs.InScope.{expression_code, place_long}
+use Rattle.edi_code.specs.InScope.{expression_code, place_length}
 use Rattle.edi_code.proofs.Emitting.{two}
 use Rattle.edi_code.proofs.statements.emit_assign.Goals as goal
 
@@ -17,6 +17,6 @@ returns c =
       emits =
           two c.put.result _ _ _ _ _ _ _ c.in_ok-emit_place.ensures.emits
           (two c.put.result _ _ _ _ _ _ _ c.in_ok-emit_value.ensures.emits c.put.ensures.emits refl refl)
-          (ap (λ k. expression_code s (c.args.at + k) value ++ instruction.store c.type_words-count.result ∷ []) c.place_long.ensures.exact
-          ∙ ap (λ k. expression_code s (c.args.at + place_long s place) value ++ instruction.store k ∷ []) count) refl;
+          (ap (λ k. expression_code s (c.args.at + k) value ++ instruction.store c.type_words-count.result ∷ []) c.place_length.ensures.exact
+          ∙ ap (λ k. expression_code s (c.args.at + place_length s place) value ++ instruction.store k ∷ []) count) refl;
     }

@@ -8,7 +8,7 @@ use Rattle.edi_target.specs.Decode.{branches_of}
 use Rattle.edi_code.specs.Scope.{blocks_in, entry_in}
 use Rattle.edi_code.specs.InScope.{branches_in}
 use Rattle.edi_code.proofs.Cobegins.{cobegin_whole, frames_true, branches_again}
-use Rattle.edi_code.proofs.Emitting.{told}
+use Rattle.edi_code.proofs.Emitting.{stated}
 use Rattle.edi_code.proofs.statements.emit_cobegin.Goals as goal
 
 pub put-requires : goal.put-requires
@@ -28,5 +28,5 @@ returns c =
     let words : c.deref.result.now ≡ branch_words (branches_in scope numbers) = search rules in
     record {
       emits =
-          told c.put.result _ _ _ _ (ap (λ l. instruction.cobegin c.args.line l ∷ []) (ap branches_of words ∙ branches_again (branches_in scope numbers))) c.put.ensures.emits;
+          stated c.put.result _ _ _ _ (ap (λ l. instruction.cobegin c.args.line l ∷ []) (ap branches_of words ∙ branches_again (branches_in scope numbers))) c.put.ensures.emits;
     }

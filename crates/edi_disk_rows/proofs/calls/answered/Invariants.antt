@@ -2,4 +2,4 @@ use Rattle.edi_disk.specs.Shown.{IsWorking}
 use Rattle.edi_disk_rows.proofs.calls.answered.Given as goal
 
 abbrev pub invariant-loop-i : goal.invariant-loop-i
-invariant-loop-i g l = IsWorking g.D.Drive.held g.D.Drive.count l.disk
+invariant-loop-i g l = IsWorking g.D.Drive.contents g.D.Drive.count l.disk

@@ -1,5 +1,5 @@
-use Rattle.edi_kernel.proofs.Places.{FreedTo}
+use Rattle.edi_kernel.proofs.Slots.{FreedTo}
 use Rattle.edi_kernel.proofs.table.first_lists.Given as goal
 
-abbrev pub invariant-loop-place : goal.invariant-loop-place
-invariant-loop-place l = FreedTo l.place l.lists
+abbrev pub invariant-loop-slot : goal.invariant-loop-slot
+invariant-loop-slot l = FreedTo l.slot l.lists

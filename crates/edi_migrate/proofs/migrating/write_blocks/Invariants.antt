@@ -5,7 +5,7 @@ use Rattle.edi_migrate.proofs.migrating.write_blocks.Given as goal
 
 abbrev pub invariant-loop-n : goal.invariant-loop-n
 invariant-loop-n g l = record {
-  told : WhereTold (g.D.Drive.held l.initial.drive) (g.D.Drive.held l.drive)
+  told : WhereTold (g.D.Drive.contents l.initial.drive) (g.D.Drive.contents l.drive)
       (λ old new. length l.blocks ≤ length old → new ≡ take l.n l.blocks ++ drop l.n old);
   count : g.D.Drive.count l.drive ≡ g.D.Drive.count l.initial.drive;
   later : g.D.Drive.faults l.initial.drive ≤ g.D.Drive.faults l.drive;

@@ -13,19 +13,82 @@ use Rattle.edi_phrases.proofs.Fronts.{apart}
 use Rattle.edi_phrases.proofs.types.parse_set.Goals as goal
 
 pub returns-in_err-behind_set-clause-halts : goal.returns-in_err-behind_set-clause-halts
-returns-in_err-behind_set-clause-halts c = let p = err_from_is_err_and c.from_residual.result c.from_residual.ensures.1 in rw (p.1, p.2) (lacks (into (token kind.Set ∷ token kind.Name ∷ token kind.Open ∷ token kind.Name ∷ token kind.Close ∷ item.level_end ∷ []) (waits g.TypeDecl _ _) (let h1 = apart (front c.args.marks.now) kind.Enum (kind.Record ∷ kind.Array ∷ []) c.requires.chosen in let h2 = apart (front c.args.marks.now) kind.Record (kind.Array ∷ []) h1.1 in let h3 = apart (front c.args.marks.now) kind.Array ([]) h2.1 in rw (h1.0, h2.0, h3.0) refl)) c.in_err-behind_set.ensures.none)
+returns-in_err-behind_set-clause-halts c = let p = err_from_is_err_and c.from_residual.result c.from_residual.ensures.1
+    in rw (p.1, p.2) (lacks (into (token kind.Set ∷ token kind.Name ∷ token kind.Open ∷ token kind.Name
+    ∷ token kind.Close ∷ item.level_end ∷ []) (waits g.TypeDecl _ _)
+    (let h1 = apart (front c.args.marks.now) kind.Enum (kind.Record ∷ kind.Array ∷ []) c.requires.chosen
+    in let h2 = apart (front c.args.marks.now) kind.Record (kind.Array ∷ []) h1.1
+    in let h3 = apart (front c.args.marks.now) kind.Array ([]) h2.1 in rw (h1.0, h2.0, h3.0) refl))
+    c.in_err-behind_set.ensures.none)
 
 pub returns-in_err-name-clause-halts : goal.returns-in_err-name-clause-halts
-returns-in_err-name-clause-halts c = let p = err_from_is_err_and c.from_residual-in_err-name.result c.from_residual-in_err-name.ensures.1 in rw (p.1, p.2) (lacks (over_mark (just is.Set) (at_line is.Set c.in_ok-behind_set.field-0-0) (into (token kind.Set ∷ token kind.Name ∷ token kind.Open ∷ token kind.Name ∷ token kind.Close ∷ item.level_end ∷ []) (waits g.TypeDecl _ _) (let h1 = apart (front c.args.marks.now) kind.Enum (kind.Record ∷ kind.Array ∷ []) c.requires.chosen in let h2 = apart (front c.args.marks.now) kind.Record (kind.Array ∷ []) h1.1 in let h3 = apart (front c.args.marks.now) kind.Array ([]) h2.1 in rw (h1.0, h2.0, h3.0) refl)) c.in_ok-behind_set.ensures.found refl refl (refl, tt)) c.in_err-name.ensures.none)
+returns-in_err-name-clause-halts c = let p = err_from_is_err_and c.from_residual-in_err-name.result
+    c.from_residual-in_err-name.ensures.1 in rw (p.1, p.2)
+    (lacks (over_mark (just is.Set) (at_line is.Set c.in_ok-behind_set.field-0-0)
+    (into (token kind.Set ∷ token kind.Name ∷ token kind.Open ∷ token kind.Name ∷ token kind.Close ∷ item.level_end
+    ∷ []) (waits g.TypeDecl _ _) (let h1 = apart (front c.args.marks.now) kind.Enum
+    (kind.Record ∷ kind.Array ∷ []) c.requires.chosen
+    in let h2 = apart (front c.args.marks.now) kind.Record (kind.Array ∷ []) h1.1
+    in let h3 = apart (front c.args.marks.now) kind.Array ([]) h2.1 in rw (h1.0, h2.0, h3.0) refl))
+    c.in_ok-behind_set.ensures.found refl refl (refl, tt)) c.in_err-name.ensures.none)
 
 pub returns-in_err-behind_open-clause-halts : goal.returns-in_err-behind_open-clause-halts
-returns-in_err-behind_open-clause-halts c = let p = err_from_is_err_and c.from_residual-in_err-behind_open.result c.from_residual-in_err-behind_open.ensures.1 in rw (p.1, p.2) (refused (over_mark (name_mark c.in_ok-name.name) (at_line (is.Name c.in_ok-name.name.text) c.in_ok-name.name.line) (over_mark (just is.Set) (at_line is.Set c.in_ok-behind_set.field-0-0) (into (token kind.Set ∷ token kind.Name ∷ token kind.Open ∷ token kind.Name ∷ token kind.Close ∷ item.level_end ∷ []) (waits g.TypeDecl _ _) (let h1 = apart (front c.args.marks.now) kind.Enum (kind.Record ∷ kind.Array ∷ []) c.requires.chosen in let h2 = apart (front c.args.marks.now) kind.Record (kind.Array ∷ []) h1.1 in let h3 = apart (front c.args.marks.now) kind.Array ([]) h2.1 in rw (h1.0, h2.0, h3.0) refl)) c.in_ok-behind_set.ensures.found refl refl (refl, tt)) c.in_ok-name.ensures.found refl refl (refl, refl)) refl (omega arith) c.in_err-behind_open.ensures.none)
+returns-in_err-behind_open-clause-halts c = let p = err_from_is_err_and c.from_residual-in_err-behind_open.result
+    c.from_residual-in_err-behind_open.ensures.1
+    in rw (p.1, p.2) (refused (over_mark (name_mark c.in_ok-name.name)
+    (at_line (is.Name c.in_ok-name.name.text) c.in_ok-name.name.line)
+    (over_mark (just is.Set) (at_line is.Set c.in_ok-behind_set.field-0-0)
+    (into (token kind.Set ∷ token kind.Name ∷ token kind.Open ∷ token kind.Name ∷ token kind.Close
+    ∷ item.level_end ∷ []) (waits g.TypeDecl _ _)
+    (let h1 = apart (front c.args.marks.now) kind.Enum (kind.Record ∷ kind.Array ∷ []) c.requires.chosen
+    in let h2 = apart (front c.args.marks.now) kind.Record (kind.Array ∷ []) h1.1
+    in let h3 = apart (front c.args.marks.now) kind.Array ([]) h2.1 in rw (h1.0, h2.0, h3.0) refl))
+    c.in_ok-behind_set.ensures.found refl refl (refl, tt)) c.in_ok-name.ensures.found refl refl (refl, refl))
+    refl (omega arith) c.in_err-behind_open.ensures.none)
 
 pub returns-in_err-base-clause-halts : goal.returns-in_err-base-clause-halts
-returns-in_err-base-clause-halts c = let p = err_from_is_err_and c.from_residual-in_err-base.result c.from_residual-in_err-base.ensures.1 in rw (p.1, p.2) (lacks (over_open (just is.Open) (at_line is.Open c.in_ok-behind_open.field-0-0) (over_mark (name_mark c.in_ok-name.name) (at_line (is.Name c.in_ok-name.name.text) c.in_ok-name.name.line) (over_mark (just is.Set) (at_line is.Set c.in_ok-behind_set.field-0-0) (into (token kind.Set ∷ token kind.Name ∷ token kind.Open ∷ token kind.Name ∷ token kind.Close ∷ item.level_end ∷ []) (waits g.TypeDecl _ _) (let h1 = apart (front c.args.marks.now) kind.Enum (kind.Record ∷ kind.Array ∷ []) c.requires.chosen in let h2 = apart (front c.args.marks.now) kind.Record (kind.Array ∷ []) h1.1 in let h3 = apart (front c.args.marks.now) kind.Array ([]) h2.1 in rw (h1.0, h2.0, h3.0) refl)) c.in_ok-behind_set.ensures.found refl refl (refl, tt)) c.in_ok-name.ensures.found refl refl (refl, refl)) c.in_ok-behind_open.ensures.found refl (omega (arith, c.in_ok-behind_open.ensures.room)) (refl, tt)) c.in_err-base.ensures.none)
+returns-in_err-base-clause-halts c = let p = err_from_is_err_and c.from_residual-in_err-base.result
+    c.from_residual-in_err-base.ensures.1 in rw (p.1, p.2)
+    (lacks (over_open (just is.Open) (at_line is.Open c.in_ok-behind_open.field-0-0)
+    (over_mark (name_mark c.in_ok-name.name) (at_line (is.Name c.in_ok-name.name.text) c.in_ok-name.name.line)
+    (over_mark (just is.Set) (at_line is.Set c.in_ok-behind_set.field-0-0)
+    (into (token kind.Set ∷ token kind.Name ∷ token kind.Open ∷ token kind.Name ∷ token kind.Close
+    ∷ item.level_end ∷ []) (waits g.TypeDecl _ _)
+    (let h1 = apart (front c.args.marks.now) kind.Enum (kind.Record ∷ kind.Array ∷ []) c.requires.chosen
+    in let h2 = apart (front c.args.marks.now) kind.Record (kind.Array ∷ []) h1.1
+    in let h3 = apart (front c.args.marks.now) kind.Array ([]) h2.1 in rw (h1.0, h2.0, h3.0) refl))
+    c.in_ok-behind_set.ensures.found refl refl (refl, tt)) c.in_ok-name.ensures.found refl refl (refl, refl))
+    c.in_ok-behind_open.ensures.found refl (omega (arith, c.in_ok-behind_open.ensures.room)) (refl, tt))
+    c.in_err-base.ensures.none)
 
 pub returns-in_err-rest-clause-halts : goal.returns-in_err-rest-clause-halts
-returns-in_err-rest-clause-halts c = let p = err_from_is_err_and c.from_residual-in_err-rest.result c.from_residual-in_err-rest.ensures.1 in rw (p.1, p.2) (lacks (over_mark (name_mark c.in_ok-base.base) (at_line (is.Name c.in_ok-base.base.text) c.in_ok-base.base.line) (over_open (just is.Open) (at_line is.Open c.in_ok-behind_open.field-0-0) (over_mark (name_mark c.in_ok-name.name) (at_line (is.Name c.in_ok-name.name.text) c.in_ok-name.name.line) (over_mark (just is.Set) (at_line is.Set c.in_ok-behind_set.field-0-0) (into (token kind.Set ∷ token kind.Name ∷ token kind.Open ∷ token kind.Name ∷ token kind.Close ∷ item.level_end ∷ []) (waits g.TypeDecl _ _) (let h1 = apart (front c.args.marks.now) kind.Enum (kind.Record ∷ kind.Array ∷ []) c.requires.chosen in let h2 = apart (front c.args.marks.now) kind.Record (kind.Array ∷ []) h1.1 in let h3 = apart (front c.args.marks.now) kind.Array ([]) h2.1 in rw (h1.0, h2.0, h3.0) refl)) c.in_ok-behind_set.ensures.found refl refl (refl, tt)) c.in_ok-name.ensures.found refl refl (refl, refl)) c.in_ok-behind_open.ensures.found refl (omega (arith, c.in_ok-behind_open.ensures.room)) (refl, tt)) c.in_ok-base.ensures.found refl refl (refl, refl)) c.in_err-rest.ensures.none)
+returns-in_err-rest-clause-halts c = let p = err_from_is_err_and c.from_residual-in_err-rest.result
+    c.from_residual-in_err-rest.ensures.1 in rw (p.1, p.2)
+    (lacks (over_mark (name_mark c.in_ok-base.base) (at_line (is.Name c.in_ok-base.base.text) c.in_ok-base.base.line)
+    (over_open (just is.Open) (at_line is.Open c.in_ok-behind_open.field-0-0)
+    (over_mark (name_mark c.in_ok-name.name) (at_line (is.Name c.in_ok-name.name.text) c.in_ok-name.name.line)
+    (over_mark (just is.Set) (at_line is.Set c.in_ok-behind_set.field-0-0)
+    (into (token kind.Set ∷ token kind.Name ∷ token kind.Open ∷ token kind.Name ∷ token kind.Close
+    ∷ item.level_end ∷ []) (waits g.TypeDecl _ _)
+    (let h1 = apart (front c.args.marks.now) kind.Enum (kind.Record ∷ kind.Array ∷ []) c.requires.chosen
+    in let h2 = apart (front c.args.marks.now) kind.Record (kind.Array ∷ []) h1.1
+    in let h3 = apart (front c.args.marks.now) kind.Array ([]) h2.1 in rw (h1.0, h2.0, h3.0) refl))
+    c.in_ok-behind_set.ensures.found refl refl (refl, tt)) c.in_ok-name.ensures.found refl refl (refl, refl))
+    c.in_ok-behind_open.ensures.found refl (omega (arith, c.in_ok-behind_open.ensures.room)) (refl, tt))
+    c.in_ok-base.ensures.found refl refl (refl, refl)) c.in_err-rest.ensures.none)
 
 pub returns-clause-passes : goal.returns-clause-passes
-returns-clause-passes c = over_end (over_mark (just is.Close) (at_line is.Close c.in_ok-rest.field-0-0) (over_mark (name_mark c.in_ok-base.base) (at_line (is.Name c.in_ok-base.base.text) c.in_ok-base.base.line) (over_open (just is.Open) (at_line is.Open c.in_ok-behind_open.field-0-0) (over_mark (name_mark c.in_ok-name.name) (at_line (is.Name c.in_ok-name.name.text) c.in_ok-name.name.line) (over_mark (just is.Set) (at_line is.Set c.in_ok-behind_set.field-0-0) (into (token kind.Set ∷ token kind.Name ∷ token kind.Open ∷ token kind.Name ∷ token kind.Close ∷ item.level_end ∷ []) (waits g.TypeDecl _ _) (let h1 = apart (front c.args.marks.now) kind.Enum (kind.Record ∷ kind.Array ∷ []) c.requires.chosen in let h2 = apart (front c.args.marks.now) kind.Record (kind.Array ∷ []) h1.1 in let h3 = apart (front c.args.marks.now) kind.Array ([]) h2.1 in rw (h1.0, h2.0, h3.0) refl)) c.in_ok-behind_set.ensures.found refl refl (refl, tt)) c.in_ok-name.ensures.found refl refl (refl, refl)) c.in_ok-behind_open.ensures.found refl (omega (arith, c.in_ok-behind_open.ensures.room)) (refl, tt)) c.in_ok-base.ensures.found refl refl (refl, refl)) c.in_ok-rest.ensures.found refl refl (refl, tt))
+returns-clause-passes c = over_end
+    (over_mark (just is.Close) (at_line is.Close c.in_ok-rest.field-0-0)
+    (over_mark (name_mark c.in_ok-base.base) (at_line (is.Name c.in_ok-base.base.text) c.in_ok-base.base.line)
+    (over_open (just is.Open) (at_line is.Open c.in_ok-behind_open.field-0-0)
+    (over_mark (name_mark c.in_ok-name.name) (at_line (is.Name c.in_ok-name.name.text) c.in_ok-name.name.line)
+    (over_mark (just is.Set) (at_line is.Set c.in_ok-behind_set.field-0-0)
+    (into (token kind.Set ∷ token kind.Name ∷ token kind.Open ∷ token kind.Name ∷ token kind.Close
+    ∷ item.level_end ∷ []) (waits g.TypeDecl _ _)
+    (let h1 = apart (front c.args.marks.now) kind.Enum (kind.Record ∷ kind.Array ∷ []) c.requires.chosen
+    in let h2 = apart (front c.args.marks.now) kind.Record (kind.Array ∷ []) h1.1
+    in let h3 = apart (front c.args.marks.now) kind.Array ([]) h2.1 in rw (h1.0, h2.0, h3.0) refl))
+    c.in_ok-behind_set.ensures.found refl refl (refl, tt)) c.in_ok-name.ensures.found refl refl (refl, refl))
+    c.in_ok-behind_open.ensures.found refl (omega (arith, c.in_ok-behind_open.ensures.room)) (refl, tt))
+    c.in_ok-base.ensures.found refl refl (refl, refl)) c.in_ok-rest.ensures.found refl refl (refl, tt))

@@ -17,7 +17,7 @@ overflow_add-ends g c =
 pub invariant_of-self : goal.invariant_of-self
 invariant_of-self g c =
     rw (c.redirect.ensures.links, c.redirect.ensures.end)
-    (calls.push_leaves _ _ _ _ _ _ _ c.self.invariant c.self.view_is c.self.told c.self.told2 c.self.told3 c.self.told4 _ _ c.requires.list_in_range c.requires.node_in_range c.requires.free).held
+    (calls.push_leaves _ _ _ _ _ _ _ c.self.invariant c.self.view_is c.self.told c.self.told2 c.self.told3 c.self.told4 _ _ c.requires.list_in_range c.requires.node_in_range c.requires.free).still_linked
 
 pub returns-clause-exact : goal.returns-clause-exact
 returns-clause-exact g c =

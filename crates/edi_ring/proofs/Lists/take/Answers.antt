@@ -45,7 +45,7 @@ offset_bounds-self-inside-list-2 g c =
 pub invariant_of-self : goal.invariant_of-self
 invariant_of-self g c =
     rw (c.redirect.ensures.links, c.redirect.ensures.end, c.redirect-2.ensures.links, c.redirect-2.ensures.end)
-    (calls.take_leaves _ _ _ _ _ _ _ c.self.invariant c.self.view_is c.self.told c.self.told2 c.self.told3 c.self.told4 _ c.requires.node_in_range c.requires.listed _ c.unwrap-list.ensures).held
+    (calls.take_leaves _ _ _ _ _ _ _ c.self.invariant c.self.view_is c.self.told c.self.told2 c.self.told3 c.self.told4 _ c.requires.node_in_range c.requires.listed _ c.unwrap-list.ensures).still_linked
 
 pub returns-clause-exact : goal.returns-clause-exact
 returns-clause-exact g c =

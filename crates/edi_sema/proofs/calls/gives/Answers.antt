@@ -2,7 +2,7 @@ use Rattle.std.proofs.Common.{sym, ◌∙◌}
 use Rattle.std.specs.Prelude.{None}
 use Rattle.edi_unit.specs.Fits.{heading, no_formal, variable_then}
 use Rattle.edi_static.specs.Views.{variable, asked_of, formal_of, same_one}
-use Rattle.edi_sema.proofs.Shapes.{one_told, not_one, with_result, with_no_result}
+use Rattle.edi_sema.proofs.Shapes.{one_stated, not_one, with_result, with_no_result}
 use Rattle.edi_sema.proofs.calls.gives.Goals as goal
 
 pub returns-then-formals-ne1 : goal.returns-then-formals-ne1
@@ -21,5 +21,5 @@ returns c =
       exact =
           c.is_variable.ensures.exact
           ∙ sym (with_no_result (same_one (formal_of x) (variable c.args.of)) h (sym c.is_procedure.ensures.exact ∙ c.if-not-is_procedure.false))
-          ∙ sym (one_told h c.formals_of-formals.result.now x (variable c.args.of) c.formals_of-formals.ensures.exact c.if-formals-ne1.false c.index-formals-0.is);
+          ∙ sym (one_stated h c.formals_of-formals.result.now x (variable c.args.of) c.formals_of-formals.ensures.exact c.if-formals-ne1.false c.index-formals-0.is);
     }

@@ -1,7 +1,7 @@
 use Rattle.std.proofs.Common.{sym, ◌∙◌}
 use Rattle.edi_static.specs.Environment.{no_heading}
 use Rattle.edi_static.specs.Views.{asked_of}
-use Rattle.edi_sema.proofs.Shapes.{with_result, bare_told}
+use Rattle.edi_sema.proofs.Shapes.{with_result, bare_stated}
 use Rattle.edi_sema.proofs.calls.is_bare.Goals as goal
 
 pub returns-then-not-is_procedure : goal.returns-then-not-is_procedure
@@ -11,5 +11,5 @@ returns-then-not-is_procedure c =
 pub returns : goal.returns
 returns c =
     record {
-      exact = c.is_empty.ensures ∙ sym (bare_told (asked_of c.args.asked.now) c.formals_of.result.now c.formals_of.ensures.exact (sym c.is_procedure.ensures.exact ∙ c.if-not-is_procedure.false));
+      exact = c.is_empty.ensures ∙ sym (bare_stated (asked_of c.args.asked.now) c.formals_of.result.now c.formals_of.ensures.exact (sym c.is_procedure.ensures.exact ∙ c.if-not-is_procedure.false));
     }

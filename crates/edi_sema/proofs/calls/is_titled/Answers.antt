@@ -2,7 +2,7 @@ use Rattle.std.proofs.Common.{sym, ◌∙◌, ap, ◌&&◌}
 use Rattle.edi_unit.specs.Types.{bool_type}
 use Rattle.edi_sema.specs.Calls.{takes_title}
 use Rattle.edi_static.specs.Views.{variable, asked_of, formal_of, same_one}
-use Rattle.edi_sema.proofs.Shapes.{with_no_result, titled_told, not_titled, no_title, not_two}
+use Rattle.edi_sema.proofs.Shapes.{with_no_result, titled_stated, not_titled, no_title, not_two}
 use Rattle.edi_sema.proofs.calls.is_titled.Goals as goal
 
 pub returns-then-formals-ne2 : goal.returns-then-formals-ne2
@@ -30,7 +30,7 @@ returns c =
     record {
       exact =
           c.is_variable.ensures.exact
-          ∙ sym (titled_told types h c.formals_of-formals.result.now x y c.formals_of-formals.ensures.exact c.if-formals-ne2.false c.index-formals-0.is c.index-formals-1.is
+          ∙ sym (titled_stated types h c.formals_of-formals.result.now x y c.formals_of-formals.ensures.exact c.if-formals-ne2.false c.index-formals-0.is c.index-formals-1.is
           ∙ (with_no_result (takes_title types (formal_of x) && same_one (formal_of y) (variable bool_type)) h (sym c.is_procedure.ensures.exact ∙ c.if-not-is_procedure.false)
           ∙ ap (λ b. b && same_one (formal_of y) (variable bool_type)) (sym c.is_title_value.ensures.exact ∙ c.if-not-is_title_value.false)));
     }

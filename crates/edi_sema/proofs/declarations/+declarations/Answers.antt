@@ -19,7 +19,7 @@ use Rattle.edi_sema.specs.Bodies.{whole_procedure}
 use Rattle.edi_sema.specs.Frames.{Comes, Leaves}
 use Rattle.edi_sema.specs.Splits.{with_begun}
 use Rattle.edi_sema.proofs.Answered.{part_faults}
-use Rattle.edi_sema.proofs.Opening.{rest_told, rest_leaves, rest_faults, end_faults, procedure_comes, completed_comes}
+use Rattle.edi_sema.proofs.Opening.{rest_stated, rest_leaves, rest_faults, end_faults, procedure_comes, completed_comes}
 use Rattle.edi_sema.proofs.Seen.{procedure_seen}
 use Rattle.edi_sema.proofs.Staying.{comes_self, given}
 use Rattle.edi_sema.proofs.declarations.+declarations.Goals as goal
@@ -62,12 +62,12 @@ procedure_rest-returns-in_err-finish_block-clause-exact t c =
     let begin : spec.declarations (declarations (map declaration_of (items_of p.declarations))) (enter_block block env) ≡ spec.declarations (declarations (map declaration_of (drop i items))) now =
     ap (λ xs. spec.declarations (declarations (map declaration_of xs)) (enter_block block env)) (sym c.items-declaration-items.ensures.exact)
     ∙ (ap (spec.declarations (declarations (map declaration_of items))) at ∙ sym c.loop-declaration.invariant.left) in
-    let told : spec.declarations (declarations (map declaration_of (items_of p.declarations))) (enter_block block env) ≡ gives now =
+    let stated : spec.declarations (declarations (map declaration_of (items_of p.declarations))) (enter_block block env) ≡ gives now =
     begin ∙ ap (λ xs. spec.declarations (declarations (map declaration_of xs)) now) (drop_of_length-le items c.loop-declaration-test.false) in
     let q = err_from_is_err_and c.from_residual-in_err-finish_block.result c.from_residual-in_err-finish_block.ensures.1 in
     rw (q.1, q.2) (part_faults c.in_err-finish_block.field-0.0 _ _ c.in_err-finish_block.ensures.exact (λ why line e.
     ap (λ p. whole_procedure block p env) (procedure_seen c.args.procedure.now)
-    ∙ end_faults block (heading_of p.heading) ds (list_of p.list) p.end env now why line told e))
+    ∙ end_faults block (heading_of p.heading) ds (list_of p.list) p.end env now why line stated e))
 
 pub procedure_rest-close_scope-requires-clause-proper : goal.procedure_rest-close_scope-requires-clause-proper
 procedure_rest-close_scope-requires-clause-proper t c =
@@ -88,7 +88,7 @@ procedure_rest-returns-clause-exact t c =
     let begin : spec.declarations (declarations (map declaration_of (items_of p.declarations))) (enter_block block env) ≡ spec.declarations (declarations (map declaration_of (drop i items))) now =
     ap (λ xs. spec.declarations (declarations (map declaration_of xs)) (enter_block block env)) (sym c.items-declaration-items.ensures.exact)
     ∙ (ap (spec.declarations (declarations (map declaration_of items))) at ∙ sym c.loop-declaration.invariant.left) in
-    let told : spec.declarations (declarations (map declaration_of (items_of p.declarations))) (enter_block block env) ≡ gives now =
+    let stated : spec.declarations (declarations (map declaration_of (items_of p.declarations))) (enter_block block env) ≡ gives now =
     begin ∙ ap (λ xs. spec.declarations (declarations (map declaration_of xs)) now) (drop_of_length-le items c.loop-declaration-test.false) in
     let after = environment c.finish_block.new.known in
     let begun = map begun_of c.in_ok-begun.begun.items in
@@ -96,7 +96,7 @@ procedure_rest-returns-clause-exact t c =
     let closed : environment c.close_scope.new.known ≡ leave (with_begun begun (outside_block after)) =
     c.close_scope.ensures.exact ∙ ap (λ e. leave (with_begun begun e)) c.leave_around.ensures.exact in
     ap (λ p. whole_procedure block p env) (procedure_seen c.args.procedure.now)
-    ∙ (rest_told block (heading_of p.heading) ds (list_of p.list) p.end env now after begun c.in_ok-begun.ensures.begun body c.in_ok-finish_block.ensures.comes told c.in_ok-finish_block.ensures.exact
+    ∙ (rest_stated block (heading_of p.heading) ds (list_of p.list) p.end env now after begun c.in_ok-begun.ensures.begun body c.in_ok-finish_block.ensures.comes stated c.in_ok-finish_block.ensures.exact
     ∙ ap gives (sym closed))
 
 pub procedure_rest-returns-clause-leaves : goal.procedure_rest-returns-clause-leaves

@@ -5,10 +5,10 @@ use Rattle.edi_tree.specs.declared.headings.Param.TheViews.{out-Heading}
 use Rattle.edi_tree.specs.View.{heading_of}
 use Rattle.edi_static.specs.Headings.{Headed}
 use Rattle.edi_static.specs.Declarations.{begin_post}
-use Rattle.edi_static.specs.Answers.{Answers}
+use Rattle.edi_static.specs.Answers.{JudgedAnswers}
 use Rattle.edi_static.specs.Views.{environment, asked_of, begun_of}
 use Rattle.edi_sema.specs.Splits.{block_named, post_block}
-use Rattle.edi_sema.proofs.Begun.{post_told, post_fits, post_number, headings_kept, inner_answer, name_seen}
+use Rattle.edi_sema.proofs.Begun.{post_stated, post_fits, post_number, headings_kept, inner_answer, name_seen}
 use Rattle.edi_sema.proofs.Opening.{post_inner}
 use Rattle.edi_sema.proofs.Staying.{given}
 use Rattle.edi_sema.proofs.procedures.begin_post.Goals as goal
@@ -34,8 +34,8 @@ returns-clause-exact c =
     let n : c.in_ok-block.block ≡ unwrap_or c.begun_named-found.result (length env.blocks) =
     sym (given (unwrap_or c.begun_named-found.result (length env.blocks)) c.in_ok-block.block c.in_ok-block.ensures.exact) in
     let headed : Headed = record { env = environment c.heading_parts.new.known; asks = asked_of c.in_ok-asked.asked } in
-    (subst (Answers (λ _. environment c.complete.new.known) c.complete.result)
-    (sym (post_told c.args.marked (heading_of c.args.heading.now) name env headed c.begun_named-found.result c.in_ok-block.block
+    (subst (JudgedAnswers (λ _. environment c.complete.new.known) c.complete.result)
+    (sym (post_stated c.args.marked (heading_of c.args.heading.now) name env headed c.begun_named-found.result c.in_ok-block.block
     (sym (name_seen c.args.heading.now)) found n c.in_ok-asked.ensures.exact))
     c.complete.ensures.exact)
 
@@ -61,8 +61,8 @@ returns-clause-begins c =
     sym (given (unwrap_or c.begun_named-found.result (length env.blocks)) c.in_ok-block.block c.in_ok-block.ensures.exact) in
     let headed : Headed = record { env = environment c.heading_parts.new.known; asks = asked_of c.in_ok-asked.asked } in
     inner_answer env (environment c.complete.new.known) c.complete.result (begin_post c.args.marked (heading_of c.args.heading.now) env)
-    (subst (Answers (λ _. environment c.complete.new.known) c.complete.result)
-    (sym (post_told c.args.marked (heading_of c.args.heading.now) name env headed c.begun_named-found.result c.in_ok-block.block
+    (subst (JudgedAnswers (λ _. environment c.complete.new.known) c.complete.result)
+    (sym (post_stated c.args.marked (heading_of c.args.heading.now) name env headed c.begun_named-found.result c.in_ok-block.block
     (sym (name_seen c.args.heading.now)) found n c.in_ok-asked.ensures.exact))
     c.complete.ensures.exact)
     (post_inner c.args.marked (heading_of c.args.heading.now) env) c.complete.ensures.proper

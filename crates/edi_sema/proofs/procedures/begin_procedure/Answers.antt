@@ -5,9 +5,9 @@ use Rattle.edi_tree.specs.View.{heading_of}
 use Rattle.edi_unit.specs.View.{block_of}
 use Rattle.edi_static.specs.Headings.{Headed}
 use Rattle.edi_static.specs.Declarations.{begin_procedure}
-use Rattle.edi_static.specs.Answers.{Answers}
+use Rattle.edi_static.specs.Answers.{JudgedAnswers}
 use Rattle.edi_static.specs.Views.{environment, asked_of}
-use Rattle.edi_sema.proofs.Begun.{begin_told, headings_kept, inner_answer, name_seen}
+use Rattle.edi_sema.proofs.Begun.{begin_stated, headings_kept, inner_answer, name_seen}
 use Rattle.edi_sema.proofs.Opening.{begin_inner}
 use Rattle.edi_sema.proofs.Staying.{given}
 use Rattle.edi_sema.proofs.procedures.begin_procedure.Goals as goal
@@ -29,8 +29,8 @@ returns-clause-exact c =
     let n : c.in_ok-block.block ≡ length env.blocks =
     omega (arith, given c.len.result c.in_ok-block.block c.in_ok-block.ensures.exact, c.len.ensures, blocks.ok.0, length-map blocks.items block_of) in
     let headed : Headed = record { env = environment c.heading_parts.new.known; asks = asked_of c.in_ok-asked.asked } in
-    subst (Answers (λ _. environment c.begin_block_of.new.known) c.begin_block_of.result)
-    (sym (begin_told c.args.marked (heading_of c.args.heading.now) (out-Heading c.args.heading.now).name env headed c.kind_of-kind.result c.in_ok-block.block n
+    subst (JudgedAnswers (λ _. environment c.begin_block_of.new.known) c.begin_block_of.result)
+    (sym (begin_stated c.args.marked (heading_of c.args.heading.now) (out-Heading c.args.heading.now).name env headed c.kind_of-kind.result c.in_ok-block.block n
     (sym (name_seen c.args.heading.now)) c.in_ok-asked.ensures.exact c.kind_of-kind.ensures.exact))
     c.begin_block_of.ensures.exact
 
@@ -42,8 +42,8 @@ returns-clause-begins c =
     omega (arith, given c.len.result c.in_ok-block.block c.in_ok-block.ensures.exact, c.len.ensures, blocks.ok.0, length-map blocks.items block_of) in
     let headed : Headed = record { env = environment c.heading_parts.new.known; asks = asked_of c.in_ok-asked.asked } in
     inner_answer env (environment c.begin_block_of.new.known) c.begin_block_of.result (begin_procedure c.args.marked (heading_of c.args.heading.now) env)
-    (subst (Answers (λ _. environment c.begin_block_of.new.known) c.begin_block_of.result)
-    (sym (begin_told c.args.marked (heading_of c.args.heading.now) (out-Heading c.args.heading.now).name env headed c.kind_of-kind.result c.in_ok-block.block n
+    (subst (JudgedAnswers (λ _. environment c.begin_block_of.new.known) c.begin_block_of.result)
+    (sym (begin_stated c.args.marked (heading_of c.args.heading.now) (out-Heading c.args.heading.now).name env headed c.kind_of-kind.result c.in_ok-block.block n
     (sym (name_seen c.args.heading.now)) c.in_ok-asked.ensures.exact c.kind_of-kind.ensures.exact))
     c.begin_block_of.ensures.exact)
     (begin_inner c.args.marked (heading_of c.args.heading.now) env) c.begin_block_of.ensures.proper

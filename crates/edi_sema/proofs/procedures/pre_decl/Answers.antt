@@ -2,12 +2,12 @@ use Rattle.std.proofs.Common.{◌∷◌, ◌++◌, [], ap, sym, ◌∙◌, subst
 use Rattle.edi_tree.specs.View.{heading_of}
 use Rattle.edi_static.specs.Judged.{gives}
 use Rattle.edi_static.specs.Environment.{Begun}
-use Rattle.edi_static.specs.Answers.{Answers}
+use Rattle.edi_static.specs.Answers.{JudgedAnswers}
 use Rattle.edi_static.specs.Proper.{Proper}
 use Rattle.edi_static.specs.Views.{environment}
 use Rattle.edi_sema.specs.Frames.{Comes}
 use Rattle.edi_sema.specs.Splits.{with_begun}
-use Rattle.edi_sema.proofs.Begun.{pre_told, pre_comes, begun_block, name_seen}
+use Rattle.edi_sema.proofs.Begun.{pre_stated, pre_comes, begun_block, name_seen}
 use Rattle.edi_sema.proofs.Staying.{answered}
 use Rattle.edi_sema.proofs.procedures.pre_decl.Goals as goal
 
@@ -16,9 +16,9 @@ returns-clause-exact c =
     let env = environment c.args.known.now in
     let inside = environment c.begin_procedure.new.known in
     let b : Begun = record { name = c.in_ok-name.name; block = c.in_ok-block.block } in
-    subst (Answers (λ _. environment c.begin_split.new.known) c.begin_split.result)
+    subst (JudgedAnswers (λ _. environment c.begin_split.new.known) c.begin_split.result)
     (ap (λ e. gives (with_begun (e.begun ++ b ∷ []) e)) c.leave.ensures.exact
-    ∙ sym (pre_told c.args.marked (heading_of c.args.heading.now) c.in_ok-name.name env inside c.in_ok-block.block c.in_ok-block.ensures.exact
+    ∙ sym (pre_stated c.args.marked (heading_of c.args.heading.now) c.in_ok-name.name env inside c.in_ok-block.block c.in_ok-block.ensures.exact
     (c.in_ok-name.ensures.ok ∙ sym (name_seen c.args.heading.now)) c.in_ok-block.ensures.number c.in_ok-block.ensures.begins.begun_same))
     c.begin_split.ensures.exact
 

@@ -4,7 +4,7 @@ use Rattle.edi_unit.specs.View.{unit_of}
 use Rattle.edi_static.specs.Judged.{gives}
 use Rattle.edi_static.specs.Programs.{resolve_tree}
 use Rattle.edi_static.proofs.FitnessPrograms.{units_fit}
-use Rattle.edi_sema.proofs.Ranges.{held_in_range}
+use Rattle.edi_sema.proofs.Ranges.{bounded_in_range}
 use Rattle.edi_sema.proofs.programs.judge_tree.Goals as goal
 
 pub returns-clause-fits : goal.returns-clause-fits
@@ -17,4 +17,4 @@ returns-clause-fits c =
       calls = c.in_ok-calls.calls;
     }) in
     let exact : resolve_tree tree ≡ gives unit = search rules in
-    units_fit tree unit c.args.tree.now.shallow (held_in_range tree c.args.tree.now.held) c.in_ok-calls.ensures.table.bounded exact
+    units_fit tree unit c.args.tree.now.shallow (bounded_in_range tree c.args.tree.now.is_bounded) c.in_ok-calls.ensures.table.bounded exact

@@ -16,7 +16,7 @@ use Rattle.edi_sema.specs.Blocks.{outside_block}
 use Rattle.edi_sema.specs.Bodies.{whole_procedure}
 use Rattle.edi_sema.specs.Frames.{Comes}
 use Rattle.edi_sema.specs.Splits.{with_begun}
-use Rattle.edi_sema.proofs.Opening.{rest_told, procedure_comes, completed_comes}
+use Rattle.edi_sema.proofs.Opening.{rest_stated, procedure_comes, completed_comes}
 use Rattle.edi_sema.proofs.Seen.{procedure_seen}
 use Rattle.edi_sema.proofs.Staying.{given}
 use Rattle.edi_sights.specs.Awaits as spec
@@ -42,7 +42,7 @@ procedure_met-returns-clause-exact t c =
     let begin : rule.declarations (declarations (map declaration_of (items_of p.declarations))) (enter_block block env) ≡ rule.declarations (declarations (map declaration_of (drop i items))) now =
     ap (λ xs. rule.declarations (declarations (map declaration_of xs)) (enter_block block env)) (sym c.items-declaration-items.ensures.exact)
     ∙ (ap (rule.declarations (declarations (map declaration_of items))) at ∙ sym c.loop-declaration.invariant.left) in
-    let told : rule.declarations (declarations (map declaration_of (items_of p.declarations))) (enter_block block env) ≡ gives now =
+    let stated : rule.declarations (declarations (map declaration_of (items_of p.declarations))) (enter_block block env) ≡ gives now =
     begin ∙ ap (λ xs. rule.declarations (declarations (map declaration_of xs)) now) (drop_of_length-le items c.loop-declaration-test.false) in
     let after = environment c.finish_block_met.new.known in
     let begun = map begun_of c.in_ok-begun.begun.items in
@@ -50,7 +50,7 @@ procedure_met-returns-clause-exact t c =
     let closed : environment c.close_scope.new.known ≡ leave (with_begun begun (outside_block after)) =
     c.close_scope.ensures.exact ∙ ap (λ e. leave (with_begun begun e)) c.leave_around.ensures.exact in
     ap (λ p. whole_procedure block p env) (procedure_seen c.args.procedure.now)
-    ∙ (rest_told block (heading_of p.heading) ds (list_of p.list) p.end env now after begun c.in_ok-begun.ensures.begun body c.in_ok-finish_block_met.ensures.comes told c.in_ok-finish_block_met.ensures.exact
+    ∙ (rest_stated block (heading_of p.heading) ds (list_of p.list) p.end env now after begun c.in_ok-begun.ensures.begun body c.in_ok-finish_block_met.ensures.comes stated c.in_ok-finish_block_met.ensures.exact
     ∙ ap gives (sym closed))
 
 pub item_met-returns-in_ok-procedure_met-in-Post-clause-comes : goal.item_met-returns-in_ok-procedure_met-in-Post-clause-comes
@@ -74,7 +74,7 @@ procedure_met-returns-clause-awaits t c =
     let opened = environment c.open_block.new.known in
     let start = c.args.awaits.now.items in
     let at : enter_block block env ≡ opened = given (enter_block block env) opened c.in_ok-begun.ensures.exact in
-    let told : rule.declarations ds (enter_block block env) ≡ gives now =
+    let stated : rule.declarations ds (enter_block block env) ≡ gives now =
     ap (λ xs. rule.declarations (declarations (map declaration_of xs)) (enter_block block env)) (sym c.items-declaration-items.ensures.exact)
     ∙ (ap (rule.declarations (declarations (map declaration_of items))) at
     ∙ (sym c.loop-declaration.invariant.left
@@ -85,5 +85,5 @@ procedure_met-returns-clause-awaits t c =
     ∙ (ap (λ e. spec.declarations_met name (declarations (map declaration_of items)) e start) (sym at)
     ∙ ap (λ xs. spec.declarations_met name (declarations (map declaration_of xs)) (enter_block block env) start) c.items-declaration-items.ensures.exact)) in
     procedure_done name block (heading_of p.heading) ds (list_of p.list) p.end env now start c.loop-declaration.awaits.items c.finish_block_met.new.awaits.items
-    told met c.in_ok-finish_block_met.ensures.awaits
+    stated met c.in_ok-finish_block_met.ensures.awaits
     ∙ ap (λ p. spec.procedure_met name block p env start) (sym (procedure_seen c.args.procedure.now))

@@ -2,7 +2,7 @@ use Rattle.std.proofs.Common.{rules, ◌≡◌, [], map, ap, sym, subst, ◌∙�
 use Rattle.edi_tree.specs.Sequences.{items_of}
 use Rattle.edi_tree.specs.Tree as text
 use Rattle.edi_tree.specs.View.{names}
-use Rattle.edi_static.specs.Answers.{Answers}
+use Rattle.edi_static.specs.Answers.{JudgedAnswers}
 use Rattle.edi_static.specs.Judged.{◌>>=◌}
 use Rattle.edi_static.specs.Types.{enum_constants}
 use Rattle.edi_static.specs.Views.{environment}
@@ -14,7 +14,7 @@ pub returns-clause-exact : goal.returns-clause-exact
 returns-clause-exact c =
     let ns : text.Names = text.next_name c.args.declared.now.first (names (items_of c.args.declared.now.more)) in
     let none : map (λ name. name.items) c.new.result.items ≡ [] = search rules in
-    subst (Answers _ c.enum_constants.result)
+    subst (JudgedAnswers _ c.enum_constants.result)
     (sym
     (enum_behind c.args.marked c.args.declared.now.name ns (environment c.args.known.now) (environment c.push_type.new.self) _ c.in_ok-constants.constants c.len-of.result
     (sym (given c.in_ok-constants.ensures.exact) ∙ omega (arith, count (items_of c.args.declared.now.more), c.len.ensures.exact)) c.len-of.ensures.exact none c.in_ok-push_type.ensures.exact

@@ -1,4 +1,5 @@
 use Rattle.std.proofs.Common.{◌≡◌, ◌∙◌, ap, sym, arith}
+use Rattle.std.proofs.lemmas.Bool.{le-ltb, lt-ltb}
 use Rattle.edi_catalog.proofs.Mounts.{told_same_blocks}
 use Rattle.edi_system.specs.Reading.{byte_in}
 use Rattle.edi_system.specs.declared.reading.Reading.{Reading}
@@ -11,7 +12,7 @@ returns-then-reading-clause-byte g c =
     told_same_blocks _ _ _
     (λ blocks told. (
       told,
-      sym (byte_none g.D.Drive.held g.D.Drive.count c.args.catalog.now c.args.page.now c.args.reading.now blocks c.requires.mounted c.requires.reading c.if-reading.true told),
+      sym (byte_none g.D.Drive.contents g.D.Drive.count c.args.catalog.now c.args.page.now c.args.reading.now blocks c.requires.mounted c.requires.reading c.if-reading.true told),
     ))
 
 pub returns-in-Ok-clause-byte : goal.returns-in-Ok-clause-byte
@@ -24,6 +25,13 @@ returns-in-Ok-clause-byte g c =
       told_back _ _ c.load.ensures.blocks blocks told,
       sym (ap (λ t. byte_in blocks t c.args.reading.now.position) (sym title)
           ∙ ap (byte_in blocks c.load.new.reading.title) (sym position)
-          ∙ byte_some g.D.Drive.held g.D.Drive.count g.met.D.Drive.counted g.met.D.Drive.sized c.load.new.catalog c.load.new.page c.load.new.reading blocks c.in-Ok.ensures.mounted c.in-Ok.ensures.reading
+          ∙ byte_some g.D.Drive.contents g.D.Drive.count g.met.D.Drive.counted g.met.D.Drive.sized c.load.new.catalog c.load.new.page c.load.new.reading blocks c.in-Ok.ensures.mounted c.in-Ok.ensures.reading
           (omega (arith, c.if-reading.false, position, length_)) c.in-Ok.ensures.loaded told),
     ))
+
+pub returns-then-reading-clause-there : goal.returns-then-reading-clause-there
+returns-then-reading-clause-there g c = sym (le-ltb c.args.reading.now.position c.args.reading.now.length c.if-reading.true)
+
+pub returns-in-Ok-clause-there : goal.returns-in-Ok-clause-there
+returns-in-Ok-clause-there g c =
+    sym (lt-ltb c.args.reading.now.position c.args.reading.now.length (omega (arith, c.if-reading.false)))

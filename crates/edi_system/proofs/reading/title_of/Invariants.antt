@@ -4,8 +4,8 @@ use Rattle.edi_calls.specs.State.{character}
 use Rattle.edi_system.proofs.reading.title_of.Given as goal
 
 -- the characters so far are those of the words so far
-abbrev pub invariant-loop-place : goal.invariant-loop-place
-invariant-loop-place l = record {
+abbrev pub invariant-loop-index : goal.invariant-loop-index
+invariant-loop-index l = record {
   long : length l.characters ≡ 12;
-  so_far : take l.place l.characters ≡ map character (take l.place l.words);
+  so_far : take l.index l.characters ≡ map character (take l.index l.words);
 }

@@ -5,6 +5,6 @@ use Rattle.edi_system_rows.proofs.requests.answered.Given as goal
 
 abbrev pub invariant-loop-i : goal.invariant-loop-i
 invariant-loop-i g l = record {
-  ready : IsReady g.D.Drive.held g.D.Drive.count l.system;
+  ready : IsReady g.D.Drive.contents g.D.Drive.count l.system;
   room : most_bytes ≤ length l.room;
 }

@@ -9,7 +9,7 @@ pub returns-in-Ok-clause-performs : goal.returns-in-Ok-clause-performs
 returns-in-Ok-clause-performs g c =
     let r = c.run.ensures.runs in
     let file = file_of _ _ c.in-Some.name.now c.fetch.new.into.items c.in-Ok.ensures.gives c.in-Ok.ensures.unchanged in
-    (r.0, performed c.run.result (map string_bytes c.args.words.now) (record { held = g.F.Files.held c.fetch.new.self; before = g.F.Files.faults c.args.files.now; after = g.F.Files.faults c.fetch.new.self }) c.in-Some.name.now c.deref.result.now file.0 r.0 (sym c.in-Some.ensures.exact) file.1 (ap symbols_of c.deref.ensures.value ∙ file.2) r.1, r.2)
+    (r.0, performed c.run.result (map string_bytes c.args.words.now) (record { contents = g.F.Files.contents c.fetch.new.self; before = g.F.Files.faults c.args.files.now; after = g.F.Files.faults c.fetch.new.self }) c.in-Some.name.now c.deref.result.now file.0 r.0 (sym c.in-Some.ensures.exact) file.1 (ap symbols_of c.deref.ensures.value ∙ file.2) r.1, r.2)
 
 pub returns-in-Failed-clause-performs : goal.returns-in-Failed-clause-performs
 returns-in-Failed-clause-performs g c =

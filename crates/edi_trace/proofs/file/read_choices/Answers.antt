@@ -2,7 +2,7 @@ use Rattle.std.proofs.Common.{◌≡◌, ◌∷◌, ◌++◌, [], ap, sym, subst
 use Rattle.std.specs.Prelude.{if◌then◌else◌, not}
 use Rattle.std.specs.List.{slice_split}
 use Rattle.edi_trace.specs.Lines.{is_line_feed}
-use Rattle.edi_trace.proofs.Readings.{Stands, IsLine, stands_bad, stands_more, choice_none, choice_some, answers_bad}
+use Rattle.edi_trace.proofs.Readings.{LinesStand, IsLine, stands_bad, stands_more, choice_none, choice_some, answers_bad}
 use Rattle.edi_trace.proofs.file.read_choices.Goals as goal
 
 pub returns-in_default-choice_of : goal.returns-in_default-choice_of
@@ -25,6 +25,6 @@ loop-rest-preserved c =
     choice_some c.in-Some.digits.now value (sym c.in-Some-choice_of.is ∙ c.choice_of.ensures) in
     let stands = stands_more list _ _ c.in-Some.digits.now c.in-Some.after.now c.loop-rest.invariant.stands cut line.good (omega (arith, c.len-in-loop-rest.ensures)) in
     record {
-      stands = subst (λ xs. Stands xs c.in-Some.after.now c.args.bytes.now) (ap (λ v. list ++ v ∷ []) line.value_is ∙ sym grown) stands;
+      stands = subst (λ xs. LinesStand xs c.in-Some.after.now c.args.bytes.now) (ap (λ v. list ++ v ∷ []) line.value_is ∙ sym grown) stands;
       bound = omega (arith, ap length grown, length-append list (value ∷ []), c.len-in-loop-rest.ensures);
     }

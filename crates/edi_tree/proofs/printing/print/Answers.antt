@@ -18,5 +18,5 @@ returns c =
     let is = c.into_vec.ensures.same ∙ ap (λ p. p.text) procedure ∙ program_text tree start empty in
     record {
       exact = is;
-      scans = subst (λ t. is_too_long t ≡ false → ScansTo tree (symbols_of t)) (sym is) (program_scans tree c.args.tree.now.held);
+      scans = subst (λ t. is_too_long t ≡ false → ScansTo tree (symbols_of t)) (sym is) (program_scans tree c.args.tree.now.is_bounded);
     }

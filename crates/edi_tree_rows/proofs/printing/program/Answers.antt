@@ -1,8 +1,8 @@
-use Rattle.edi_tree_rows.proofs.Held.{held, shallow}
+use Rattle.edi_tree_rows.proofs.Bounded.{is_bounded, shallow}
 use Rattle.edi_tree_rows.proofs.printing.program.Goals as goal
 
 pub invariant_of-result : goal.invariant_of-result
 invariant_of-result c = record {
-  held = held c.new.result c.in_ok-procedure.field-0 c.new.ensures.exact c.in_ok-procedure.ensures;
+  is_bounded = is_bounded c.new.result c.in_ok-procedure.field-0 c.new.ensures.exact c.in_ok-procedure.ensures;
   shallow = shallow c.new.result c.in_ok-procedure.field-0 c.new.ensures.exact c.in_ok-procedure.ensures;
 }

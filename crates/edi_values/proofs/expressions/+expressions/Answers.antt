@@ -226,12 +226,12 @@ parts-returns-in_err-add_element t c =
     let a = c.args.args.now in
     let es = see.exprs_of (out-Args a).more in
     let seen : text.args (expr_of c.deref.result.now) es ≡ see.args_of a = ap (λ x. text.args (expr_of x) es) c.deref.ensures ∙ sym (args_seen a) in
-    let told : Unit {0} → List Typed = λ _. map typed_of c.add_element.new.parts.items in
+    let stated : Unit {0} → List Typed = λ _. map typed_of c.add_element.new.parts.items in
     let given : Vec code_typed.Typed Global → List Typed = λ parts. map typed_of parts.items in
     let p = err_from_is_err_and c.from_residual.result c.from_residual.ensures.1 in
     record {
       exact = rw (p.1, p.2) (loop.elements_first env c.args.strings (expr_of c.deref.result.now) es (see.args_of a) c.new-parts.result.items c.in_err-add_element.field-0.0
-          told given c.new-parts.ensures.items seen c.in_err-add_element.ensures.exact);
+          stated given c.new-parts.ensures.items seen c.in_err-add_element.ensures.exact);
     }
 
 pub parts-returns-in_err-add_element-2 : goal.parts-returns-in_err-add_element-2
@@ -248,12 +248,12 @@ parts-returns-in_err-add_element-2 t c =
     let one = c.expr-item.result in
     let here : drop i items ≡ one ∷ drop (i + 1) items = drop_more items i one (omega arith) ∙ ap (λ x. x ∷ drop (i + 1) items) (sym c.expr-item.is) in
     let whole = loop.elements_all env strings (expr_of c.deref.result.now) (see.exprs (map expr_of items)) c.new-parts.result.items c.add_element.new.parts.items c.new-parts.ensures.items c.in_ok-add_element.ensures.exact in
-    let told : Unit {0} → List Typed = λ _. map typed_of c.add_element-in-loop-expr.new.parts.items in
+    let stated : Unit {0} → List Typed = λ _. map typed_of c.add_element-in-loop-expr.new.parts.items in
     let given : Vec code_typed.Typed Global → List Typed = λ parts. map typed_of parts.items in
     let p = err_from_is_err_and c.from_residual-in_err-add_element-2.result c.from_residual-in_err-add_element-2.ensures.1 in
     record {
       exact = rw (p.1, p.2) (loop.elements_fault env strings c.loop-expr.parts.items (drop i items) (drop (i + 1) items) one
-          (part.elements env strings (see.args_of a)) c.in_err-add_element-2.field-0.0 told given
+          (part.elements env strings (see.args_of a)) c.in_err-add_element-2.field-0.0 stated given
           here c.in_err-add_element-2.ensures.exact
           (c.loop-expr.invariant.left ∙ whole ∙ ap (λ xs. part.elements env strings xs) seen));
     }

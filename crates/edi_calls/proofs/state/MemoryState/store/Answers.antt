@@ -16,4 +16,4 @@ returns c =
     let room : c.room_for.result ≡ room_for (state_of c.args.self.now) c.args.title.items c.written.result =
     c.room_for.ensures.exact ∙ ap (λ t. room_for (state_of c.args.self.now) t c.written.result) c.deref.ensures.value in
     stored_so (λ v. v.items) c.args.self.now.buffer c.args.title.items (state_of c.args.self.now) _ c.written.result
-    c.room_for.result c.in-Some.place c.written.ensures.exact room c.in-Some.is c.store_at.ensures
+    c.room_for.result c.in-Some.index c.written.ensures.exact room c.in-Some.is c.store_at.ensures

@@ -1,27 +1,11 @@
-use Rattle.std.proofs.Common.{◌≡◌, ◌<◌, ◌∙◌, ap, sym, rules, refl, Some, None}
+use Rattle.edi_calls.specs.State.{find_file}
+use Rattle.edi_catalog.specs.InSlots.{no_deletion}
 use Rattle.edi_catalog.specs.Mounted.{files_of}
-use Rattle.edi_catalog.specs.Files.{find_place}
-use Rattle.edi_catalog.specs.Changes.{deleted}
-use Rattle.edi_catalog.proofs.Changing.{changes_as, delete_refusal, has_file, inside, protection_is}
+use Rattle.edi_catalog.proofs.InSlots.{changes_in_slots, deletion_told}
 use Rattle.edi_catalog.proofs.catalog.Catalog.delete.Goals as goal
 
-pub put_slot-requires-clause-fits : goal.put_slot-requires-clause-fits
-put_slot-requires-clause-fits g c =
-    let found = has_file c.args.title.now (files_of c.args.self.now) c.in-Some.place
-    (sym (c.in-Some.ensures.exact ∙ ap (find_place c.args.title.now) c.deref.ensures.value)) in
-    record { file = found.file; there = found.there; fits = tt }
-
-pub returns : goal.returns
-returns g c =
-    let files = files_of c.args.self.now in
-    let finds : find_place c.args.title.now files ≡ Some c.in-Some.place =
-    sym (c.in-Some.ensures.exact ∙ ap (find_place c.args.title.now) c.deref.ensures.value) in
-    let within : c.in-Some.place < 256 = inside files c.in-Some.place c.requires.mounted.many (search rules) in
-    let found = has_file c.args.title.now files c.in-Some.place finds in
-    let free = protection_is files c.in-Some.place _ found.file _ _ c.requires.mounted.many within c.index.ensures found.there c.is_protected.ensures
-    c.if-is_protected.false in
-    record {
-      changes =
-          changes_as _ _ _ c.put_slot.result _ c.args.title.now c.in-Some.place None deleted deleted found.file c.args.self.now _ c.requires.mounted
-          finds found.there (delete_refusal c.args.title.now files c.in-Some.place found free) refl (λ blocks. refl) c.put_slot.ensures.changes;
-    }
+pub returns-clause-exact : goal.returns-clause-exact
+returns-clause-exact g c =
+    changes_in_slots _ _ _ g.met.D.Drive.counted g.met.D.Drive.sized c.delete_kept.result _ (λ slots. no_deletion (find_file slots c.args.title.now)) _ _ c.args.self.now c.delete_kept.new.self c.requires.mounted
+    (λ blocks sized many kept. deletion_told blocks _ (files_of c.args.self.now) sized many c.requires.mounted.stored kept c.args.title.now)
+    c.delete_kept.ensures.changes

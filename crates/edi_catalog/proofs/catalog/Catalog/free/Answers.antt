@@ -1,12 +1,5 @@
-use Rattle.std.proofs.Common.{◌∙◌, ap}
-use Rattle.std.specs.List.{list_all}
-use Rattle.edi_disk.specs.Shown.{drive_of}
-use Rattle.edi_catalog.specs.Mounted.{disk_of, files_of}
-use Rattle.edi_image.specs.Stored.{is_sized}
-use Rattle.edi_catalog.proofs.FilePlaces.{all_sized}
+use Rattle.edi_catalog.proofs.InSlots.{free_in_slots}
 use Rattle.edi_catalog.proofs.catalog.Catalog.free.Goals as goal
 
-pub blocks_taken-requires-clause-sized : goal.blocks_taken-requires-clause-sized
-blocks_taken-requires-clause-sized g c =
-    ap (list_all is_sized) c.deref.ensures.value
-    ∙ all_sized (g.D.Drive.count (drive_of (disk_of c.args.self.now))) (files_of c.args.self.now) c.requires.stored
+pub returns-clause-in_slots : goal.returns-clause-in_slots
+returns-clause-in_slots g c = free_in_slots _ _ g.D.Drive.faults g.met.D.Drive.counted g.met.D.Drive.sized c.args.self.now c.free_kept.result c.free_kept.ensures.exact c.requires

@@ -1,5 +1,5 @@
 use Rattle.std.proofs.Common.{◌≡◌, ◌∙◌, ap, sym, rules, refl, inr, Some}
-use Rattle.edi_catalog.specs.Files.{file_titled, find_place}
+use Rattle.edi_catalog.specs.Files.{file_titled, find_index}
 use Rattle.edi_catalog.specs.Mounted.{files_of}
 use Rattle.edi_catalog.proofs.Mounts.{found_of, same_blocks, still_mounted, told_same_blocks}
 use Rattle.edi_catalog.proofs.WholeFiles.{found_kept, titled_at}
@@ -7,13 +7,13 @@ use Rattle.edi_catalog.proofs.catalog.Catalog.read_into.Goals as goal
 
 pub returns-in-Ok-clause-mounted : goal.returns-in-Ok-clause-mounted
 returns-in-Ok-clause-mounted g c =
-    inr (still_mounted _ _ _ c.args.self.now _ _ refl refl c.requires.mounted c.in-Ok.ensures.checks)
+    inr (still_mounted _ _ _ c.args.self.now (record c.args.self.now { disk = c.read_stored.new.disk }) _ refl refl c.requires.mounted c.in-Ok.ensures.checks)
 
 pub returns-in-Ok-clause-reads : goal.returns-in-Ok-clause-reads
 returns-in-Ok-clause-reads g c =
     let titled : file_titled c.args.title.now (files_of c.args.self.now) ≡ Some c.in-Some-index.file =
-    titled_at c.args.title.now (files_of c.args.self.now) c.in-Some.place c.index.result.now c.in-Some-index.file
-    (sym (c.in-Some.ensures.exact ∙ ap (find_place c.args.title.now) c.deref.ensures.value)) (search rules) c.index.ensures c.in-Some-index.is in
+    titled_at c.args.title.now (files_of c.args.self.now) c.in-Some.index c.index.result.now c.in-Some-index.file
+    (sym (c.in-Some.ensures.exact ∙ ap (find_index c.args.title.now) c.deref.ensures.value)) (search rules) c.index.ensures c.in-Some-index.is in
     told_same_blocks _ _ _
     (λ blocks told.
     (let found = found_of _ _ _ _ _ _ c.requires.mounted.settled c.in-Ok.ensures.checks blocks told in (

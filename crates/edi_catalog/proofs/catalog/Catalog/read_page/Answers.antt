@@ -1,4 +1,4 @@
-use Rattle.std.proofs.Common.{◌≡◌, ◌<◌, ◌∙◌, ap, sym, subst, refl, inr}
+use Rattle.std.proofs.Common.{rules, ◌≡◌, ◌<◌, ◌∙◌, ap, sym, subst, refl, inr}
 use Rattle.std.specs.Prelude.{slice_index}
 use Rattle.std.specs.Option.{option_map}
 use Rattle.edi_disk.specs.Shown.{drive_of}
@@ -7,8 +7,10 @@ use Rattle.edi_image.specs.Stored.{StoredFile}
 use Rattle.edi_catalog.specs.declared.ends.CatEnd.{CatEnd}
 use Rattle.edi_catalog.specs.Files.{file_titled}
 use Rattle.edi_catalog.specs.Mounted.{disk_of, files_of}
+use Rattle.edi_image.proofs.Told.{told_map}
+use Rattle.edi_catalog.proofs.InSlots.{page_in_slots}
 use Rattle.edi_catalog.proofs.Mounts.{found_of, same_blocks, still_mounted, told_same_blocks}
-use Rattle.edi_catalog.proofs.FilePlaces.{page_on_drive, page_inside, page_is}
+use Rattle.edi_catalog.proofs.FileIndices.{page_on_drive, page_inside, page_is}
 use Rattle.edi_catalog.proofs.catalog.Catalog.read_page.Goals as goal
 
 pub block-requires-clause-in_range : goal.block-requires-clause-in_range
@@ -23,7 +25,7 @@ block-requires-clause-in_range g c =
 
 pub returns-in-Ok-clause-mounted : goal.returns-in-Ok-clause-mounted
 returns-in-Ok-clause-mounted g c =
-    inr (still_mounted _ _ _ c.args.self.now _ _ refl refl c.requires.mounted c.in-Ok.ensures.checks)
+    inr (still_mounted _ _ _ c.args.self.now (record c.args.self.now { disk = c.block.new.disk }) _ refl refl c.requires.mounted c.in-Ok.ensures.checks)
 
 pub returns-in-Ok-clause-reads : goal.returns-in-Ok-clause-reads
 returns-in-Ok-clause-reads g c =
@@ -40,3 +42,11 @@ returns-in-Ok-clause-reads g c =
 pub returns-in-Err-clause-reads : goal.returns-in-Err-clause-reads
 returns-in-Err-clause-reads g c =
     told_same_blocks _ _ _ (λ blocks told. (same_blocks _ _ _ _ _ _ _ c.requires.mounted.settled c.block.ensures.checks blocks told, tt))
+
+pub returns-in-Ok-clause-page : goal.returns-in-Ok-clause-page
+returns-in-Ok-clause-page g c =
+    page_in_slots _ _ g.D.Drive.faults g.met.D.Drive.counted g.met.D.Drive.sized {X = Unit {0}} CatEnd tt c.args.self.now (record c.args.self.now { disk = c.block.new.disk })
+    c.args.title.now c.args.i c.in-Ok.bytes c.requires.mounted (search rules) c.requires.page (returns-in-Ok-clause-reads g c)
+
+pub returns-in-Err-clause-page : goal.returns-in-Err-clause-page
+returns-in-Err-clause-page g c = told_map _ _ _ _ (λ old new is. tt) (returns-in-Err-clause-reads g c)

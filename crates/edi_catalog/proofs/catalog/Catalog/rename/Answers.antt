@@ -1,74 +1,11 @@
-use Rattle.std.proofs.Common.{◌≡◌, ◌<◌, ◌∙◌, ap, sym, rules, refl, inr, Some, Err}
+use Rattle.edi_calls.specs.State.{find_file}
+use Rattle.edi_catalog.specs.InSlots.{no_renaming}
 use Rattle.edi_catalog.specs.Mounted.{files_of}
-use Rattle.edi_catalog.specs.Files.{find_place}
-use Rattle.edi_catalog.specs.Changes.{file_renamed, kept_renamed}
-use Rattle.edi_catalog.specs.Writing.{file_as, kept_as, record_renamed}
-use Rattle.std.specs.Prelude.{is_some}
-use Rattle.edi_catalog.specs.declared.ends.CatEnd.TheVariants as cat
-use Rattle.edi_image.proofs.KeptFiles.{file_of}
-use Rattle.edi_catalog.proofs.Changing.{changes_as, entry_is, has_file, inside, none_there, not_changed, protection_is, record_at, rename_refusal, some_title, titled_some, untitled_none}
+use Rattle.edi_catalog.proofs.InSlots.{changes_in_slots, renaming_told}
 use Rattle.edi_catalog.proofs.catalog.Catalog.rename.Goals as goal
 
-pub returns-then-is_some : goal.returns-then-is_some
-returns-then-is_some g c =
-    let files = files_of c.args.self.now in
-    let finds : find_place c.args.old.now files ≡ Some c.in-Some.from =
-    sym (c.in-Some.ensures.exact ∙ ap (find_place c.args.old.now) c.deref.ensures.value) in
-    let within : c.in-Some.from < 256 = inside files c.in-Some.from c.requires.mounted.many (search rules) in
-    let found = has_file c.args.old.now files c.in-Some.from finds in
-    let free = protection_is files c.in-Some.from _ found.file _ _ c.requires.mounted.many within c.index.ensures found.there c.is_protected.ensures
-    c.if-is_protected.false in
-    let other : find_place c.args.new.now files ≡ c.place_of-2.result =
-    sym (c.place_of-2.ensures.exact ∙ ap (find_place c.args.new.now) c.deref-2.ensures.value) in
-    record {
-      changes =
-          not_changed _ _ _ _ _ _ _ c.args.self.now c.requires.mounted (
-            rename_refusal c.args.old.now c.args.new.now files c.in-Some.from found _ free
-                (titled_some c.args.new.now files c.place_of-2.result other (sym c.is_some.ensures ∙ c.if-is_some.true)),
-            refl,
-          )
-          (λ blocks. refl) (λ e. absurd (let never : Err cat.Taken ≡ Err cat.Fault = e in cc));
-    }
-
-pub put_slot-requires-clause-fits : goal.put_slot-requires-clause-fits
-put_slot-requires-clause-fits g c =
-    let files = files_of c.args.self.now in
-    let finds : find_place c.args.old.now files ≡ Some c.in-Some.from =
-    sym (c.in-Some.ensures.exact ∙ ap (find_place c.args.old.now) c.deref.ensures.value) in
-    let within : c.in-Some.from < 256 = inside files c.in-Some.from c.requires.mounted.many (search rules) in
-    let found = has_file c.args.old.now files c.in-Some.from finds in
-    let other : find_place c.args.new.now files ≡ c.place_of-2.result =
-    sym (c.place_of-2.ensures.exact ∙ ap (find_place c.args.new.now) c.deref-2.ensures.value) in
-    let is = entry_is files c.in-Some.from _ found.file c.record_renamed-entry.result (record_renamed c.args.new.now) c.requires.mounted.many within
-    c.index-2.ensures found.there c.record_renamed-entry.ensures.exact in
-    record_at files c.in-Some.from found.file _ c.record_renamed-entry.result found.there
-    (record {
-      title = some_title c.record_renamed-entry.result _ is c.record_renamed-entry.ensures.title;
-      maps = refl;
-      length_ = refl;
-      free = inr (other ∙ none_there c.place_of-2.result (sym c.is_some.ensures ∙ c.if-is_some.false));
-    })
-    is
-
-pub returns : goal.returns
-returns g c =
-    let files = files_of c.args.self.now in
-    let finds : find_place c.args.old.now files ≡ Some c.in-Some.from =
-    sym (c.in-Some.ensures.exact ∙ ap (find_place c.args.old.now) c.deref.ensures.value) in
-    let within : c.in-Some.from < 256 = inside files c.in-Some.from c.requires.mounted.many (search rules) in
-    let found = has_file c.args.old.now files c.in-Some.from finds in
-    let free = protection_is files c.in-Some.from _ found.file _ _ c.requires.mounted.many within c.index.ensures found.there c.is_protected.ensures
-    c.if-is_protected.false in
-    let other : find_place c.args.new.now files ≡ c.place_of-2.result =
-    sym (c.place_of-2.ensures.exact ∙ ap (find_place c.args.new.now) c.deref-2.ensures.value) in
-    let none = other ∙ none_there c.place_of-2.result (sym c.is_some.ensures ∙ c.if-is_some.false) in
-    let is = entry_is files c.in-Some.from _ found.file c.record_renamed-entry.result (record_renamed c.args.new.now) c.requires.mounted.many within
-    c.index-2.ensures found.there c.record_renamed-entry.ensures.exact in
-    record {
-      changes =
-          changes_as _ _ _ c.put_slot.result _ c.args.old.now c.in-Some.from c.record_renamed-entry.result (kept_renamed c.args.new.now)
-          (file_renamed c.args.new.now) found.file c.args.self.now _ c.requires.mounted finds found.there
-          (rename_refusal c.args.old.now c.args.new.now files c.in-Some.from found _ free (ap is_some (untitled_none c.args.new.now files none)))
-          (ap (λ e. kept_as e (Some found.file)) is) (λ blocks. ap (λ e. file_as e (Some (file_of blocks found.file))) is)
-          c.put_slot.ensures.changes;
-    }
+pub returns-clause-exact : goal.returns-clause-exact
+returns-clause-exact g c =
+    changes_in_slots _ _ _ g.met.D.Drive.counted g.met.D.Drive.sized c.rename_kept.result _ (λ slots. no_renaming (find_file slots c.args.old.now) (find_file slots c.args.new.now)) _ _ c.args.self.now c.rename_kept.new.self c.requires.mounted
+    (λ blocks sized many kept. renaming_told blocks _ (files_of c.args.self.now) sized many c.requires.mounted.stored kept c.args.old.now c.args.new.now)
+    c.rename_kept.ensures.changes

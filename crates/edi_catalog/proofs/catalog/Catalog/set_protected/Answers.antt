@@ -1,6 +1,6 @@
 use Rattle.std.proofs.Common.{◌≡◌, ◌<◌, ◌∙◌, ap, sym, rules, refl, inl, Some}
 use Rattle.edi_catalog.specs.Mounted.{files_of}
-use Rattle.edi_catalog.specs.Files.{find_place}
+use Rattle.edi_catalog.specs.Files.{find_index}
 use Rattle.edi_catalog.specs.Changes.{file_protected, kept_protected, not_found}
 use Rattle.edi_catalog.specs.Writing.{file_as, kept_as, record_protected}
 use Rattle.edi_image.proofs.KeptFiles.{file_of}
@@ -10,31 +10,31 @@ use Rattle.edi_catalog.proofs.catalog.Catalog.set_protected.Goals as goal
 pub put_slot-requires-clause-fits : goal.put_slot-requires-clause-fits
 put_slot-requires-clause-fits g c =
     let files = files_of c.args.self.now in
-    let within : c.in-Some.place < 256 = inside files c.in-Some.place c.requires.mounted.many (search rules) in
-    let found = has_file c.args.title.now files c.in-Some.place
-    (sym (c.in-Some.ensures.exact ∙ ap (find_place c.args.title.now) c.deref.ensures.value)) in
-    record_at files c.in-Some.place found.file _ c.record_protected-entry.result found.there
+    let within : c.in-Some.index < 256 = inside files c.in-Some.index c.requires.mounted.many (search rules) in
+    let found = has_file c.args.title.now files c.in-Some.index
+    (sym (c.in-Some.ensures.exact ∙ ap (find_index c.args.title.now) c.deref.ensures.value)) in
+    record_at files c.in-Some.index found.file _ c.record_protected-entry.result found.there
     (record {
-      title = kept_title _ files c.in-Some.place found.file c.requires.mounted.stored found.there;
+      title = kept_title _ files c.in-Some.index found.file c.requires.mounted.stored found.there;
       maps = refl;
       length_ = refl;
       free = inl refl;
     })
-    (entry_is files c.in-Some.place _ found.file c.record_protected-entry.result (record_protected c.args.protected) c.requires.mounted.many within
+    (entry_is files c.in-Some.index _ found.file c.record_protected-entry.result (record_protected c.args.protected) c.requires.mounted.many within
     c.index.ensures found.there c.record_protected-entry.ensures)
 
 pub returns : goal.returns
 returns g c =
     let files = files_of c.args.self.now in
-    let finds : find_place c.args.title.now files ≡ Some c.in-Some.place =
-    sym (c.in-Some.ensures.exact ∙ ap (find_place c.args.title.now) c.deref.ensures.value) in
-    let within : c.in-Some.place < 256 = inside files c.in-Some.place c.requires.mounted.many (search rules) in
-    let found = has_file c.args.title.now files c.in-Some.place finds in
-    let is = entry_is files c.in-Some.place _ found.file c.record_protected-entry.result (record_protected c.args.protected) c.requires.mounted.many within
+    let finds : find_index c.args.title.now files ≡ Some c.in-Some.index =
+    sym (c.in-Some.ensures.exact ∙ ap (find_index c.args.title.now) c.deref.ensures.value) in
+    let within : c.in-Some.index < 256 = inside files c.in-Some.index c.requires.mounted.many (search rules) in
+    let found = has_file c.args.title.now files c.in-Some.index finds in
+    let is = entry_is files c.in-Some.index _ found.file c.record_protected-entry.result (record_protected c.args.protected) c.requires.mounted.many within
     c.index.ensures found.there c.record_protected-entry.ensures in
     record {
       changes =
-          changes_as _ _ _ c.put_slot.result _ c.args.title.now c.in-Some.place c.record_protected-entry.result (kept_protected c.args.protected)
+          changes_as _ _ _ c.put_slot.result _ c.args.title.now c.in-Some.index c.record_protected-entry.result (kept_protected c.args.protected)
           (file_protected c.args.protected) found.file c.args.self.now _ c.requires.mounted finds found.there (ap not_found found.titled)
           (ap (λ e. kept_as e (Some found.file)) is) (λ blocks. ap (λ e. file_as e (Some (file_of blocks found.file))) is)
           c.put_slot.ensures.changes;

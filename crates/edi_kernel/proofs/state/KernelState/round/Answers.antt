@@ -1,6 +1,7 @@
 -- A round of the kernel is one of the machine.
 use Rattle.std.proofs.Common.{◌+◌, ◌-◌, ◌∙◌, sym, refl, arith}
 use Rattle.edi_kernel.proofs.Rounds.{told_round_ends, told_round_goes, holds_same}
+use Rattle.edi_kernel.proofs.Placing.{stands_at_end, stands_unready}
 use Rattle.edi_kernel.proofs.state.KernelState.round.Goals as goal
 
 pub returns-in-Some-clause-exact : goal.returns-in-Some-clause-exact
@@ -19,3 +20,10 @@ returns-clause-exact g c =
     c.proceed.ensures.exact drawn n names
     (holds_same c.go-end.new.self (record c.go-end.new.self { used = c.go-end.new.self.used + c.used_in.result }) n _ names refl refl refl k))
     c.go-end.ensures.exact
+
+pub returns-in-Some-clause-standing : goal.returns-in-Some-clause-standing
+returns-in-Some-clause-standing g c = stands_at_end c.go-end.result c.in-Some.ending _ _ _ _ (sym c.in-Some.ensures) c.go-end.ensures.standing
+
+pub returns-clause-standing : goal.returns-clause-standing
+returns-clause-standing g c =
+    stands_unready c.go-end.result _ _ c.proceed.result (record c.go-end.new.self { used = c.go-end.new.self.used + c.used_in.result }) c.proceed.new.self (sym c.ended_by.ensures ∙ c.in_default.is) c.proceed.ensures.nobody c.go-end.ensures.standing

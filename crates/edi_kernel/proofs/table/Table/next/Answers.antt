@@ -1,13 +1,13 @@
--- The place is in the list of the ready ones.
+-- The slot is in the list of the ready ones.
 use Rattle.std.proofs.Common.{◌∙◌, sym, arith}
-use Rattle.edi_kernel.proofs.Places.{listed, listed_below, some_home}
+use Rattle.edi_kernel.proofs.Slots.{listed, listed_below, some_home}
 use Rattle.edi_kernel.proofs.table.Table.next.Goals as goal
 
-pub withdraw-requires-clause-place : goal.withdraw-requires-clause-place
-withdraw-requires-clause-place c = listed_below _ 0 _ _ c.requires.sound (sym c.nth.ensures.exact ∙ c.unwrap-place.ensures)
+pub withdraw-requires-clause-slot : goal.withdraw-requires-clause-slot
+withdraw-requires-clause-slot c = listed_below _ 0 _ _ c.requires.sound (sym c.nth.ensures.exact ∙ c.unwrap-slot.ensures)
 
 pub withdraw-requires-clause-listed : goal.withdraw-requires-clause-listed
-withdraw-requires-clause-listed c = some_home c.args.self.now.lists c.unwrap-place.result 0 (listed _ 0 _ _ c.requires.sound (omega arith) (sym c.nth.ensures.exact ∙ c.unwrap-place.ensures))
+withdraw-requires-clause-listed c = some_home c.args.self.now.lists c.unwrap-slot.result 0 (listed _ 0 _ _ c.requires.sound (omega arith) (sym c.nth.ensures.exact ∙ c.unwrap-slot.ensures))
 
-pub returns-clause-place : goal.returns-clause-place
-returns-clause-place c = listed_below _ 0 _ _ c.requires.sound (sym c.nth.ensures.exact ∙ c.unwrap-place.ensures)
+pub returns-clause-slot : goal.returns-clause-slot
+returns-clause-slot c = listed_below _ 0 _ _ c.requires.sound (sym c.nth.ensures.exact ∙ c.unwrap-slot.ensures)

@@ -1,6 +1,6 @@
 -- A process that is told waits for one child less, or is ready.
 use Rattle.std.proofs.Common.{refl}
-use Rattle.edi_kernel.proofs.Places.{tells_last, tells_more, tells_other}
+use Rattle.edi_kernel.proofs.Slots.{tells_last, tells_more, tells_other}
 use Rattle.edi_kernel.proofs.table.Table.tell.Goals as goal
 
 pub returns-then-children-le1 : goal.returns-then-children-le1

@@ -1,7 +1,7 @@
 use Rattle.std.proofs.Common.{◌≡◌, ℕ, ◌+◌, ◌-◌, ◌<◌, List, Some, length, remove, ap, sym, subst, ◌∙◌, arith}
 use Rattle.edi_scope.specs.Scope.{Scope}
 use Rattle.edi_scope.specs.Listed.{listed}
-use Rattle.edi_scope.specs.Standing.{scopes_of, kept, IsKept, name_of, newest, innermost_names, without_newest}
+use Rattle.edi_scope.specs.Standing.{scopes_of, kept, ScopesAreKept, name_of, newest, innermost_names, without_newest}
 use Rattle.edi_scope.proofs.Standings.{Changed, some_scope, listed-newest, kept-without_newest}
 use Rattle.edi_scope.proofs.Views.{length-kept, length-scopes_of, innermost-kept, view-without_newest}
 use Rattle.edi_scope.proofs.scopes.Scopes.forget_newest.Goals as goal
@@ -36,7 +36,7 @@ invariant_of-self-2 c =
     let last : length c.of.result.now - 1 + 1 ≡ length (listed c.self.inside.declarations name) = omega (arith, ap length list) in
     let changed : Changed (listed c.self.inside.declarations) (listed c.remove.new.self) name (λ l. remove l (length c.of.result.now - 1)) = subst (λ n. Changed (listed c.self.inside.declarations) (listed c.remove.new.self) n (λ l. remove l (length c.of.result.now - 1))) c.as_slice-name.ensures.value c.remove.ensures.exact in
     let view : scopes_of c.take_name.new.scopes ≡ without_newest old = view-without_newest (kept c.self.inside.scopes) (kept c.take_name.new.scopes) (c.len-innermost.result - 1) c.in-Some.ensures.exact deep in
-    subst (IsKept c.remove.new.self) (sym view)
+    subst (ScopesAreKept c.remove.new.self) (sym view)
     (kept-without_newest c.self.inside.declarations c.remove.new.self old name c.in-Some.named.entity (length c.of.result.now - 1) c.self.invariant changed first last)
 
 pub returns-clause-exact : goal.returns-clause-exact

@@ -3,7 +3,12 @@ use Rattle.std.specs.Option.{option_map}
 use Rattle.edi_system.specs.Catalogue.{is_refused}
 use Rattle.edi_system.specs.State.{found_of, IsReady}
 use Rattle.edi_system.proofs.Catalogue.{refused_system, untouched_if}
-use Rattle.edi_system.proofs.Protecting.{place_stays, protects_ready}
+use Rattle.edi_system.proofs.Protecting.{index_stays, protects_ready}
+use Rattle.edi_calls.specs.State.{find_file}
+use Rattle.edi_catalog.specs.InSlots.{no_such}
+use Rattle.edi_catalog.specs.Changes.{file_protected, slots_changed}
+use Rattle.edi_system.proofs.InState.{keeps_files}
+use Rattle.edi_system.proofs.Lasting.{told_changes}
 use Rattle.edi_system.proofs.system.System.protect.Goals as goal
 
 pub returns-then-is_refused-clause-untouched : goal.returns-then-is_refused-clause-untouched
@@ -14,7 +19,7 @@ returns-then-is_refused-clause-untouched g c =
 pub returns-then-is_refused-clause-ready : goal.returns-then-is_refused-clause-ready
 returns-then-is_refused-clause-ready g c = λ _.
     let refused : is_refused c.protect-answer.result ≡ true = sym c.is_refused.ensures ∙ c.if-is_refused.true in
-    subst (IsReady g.D.Drive.held g.D.Drive.count)
+    subst (IsReady g.D.Drive.contents g.D.Drive.count)
     (sym (refused_system c.args.self.now c.protect-answer.new.self _ _ refused c.protect-answer.ensures.changes.untouched c.failed_at-self.ensures c.requires.ready.nothing_failed)) c.requires.ready
 
 pub returns-clause-untouched : goal.returns-clause-untouched
@@ -22,10 +27,30 @@ returns-clause-untouched g c =
     untouched_if _ c.args.self.now _ (λ refused. absurd (let no : true ≡ false = sym refused ∙ (sym c.is_refused.ensures ∙ c.if-is_refused.false) in cc))
 
 pub returns-clause-stays : goal.returns-clause-stays
-returns-clause-stays g c = (ap (option_map found_of) c.forget_page.ensures ∙ place_stays c.args.self.now.found, refl)
+returns-clause-stays g c = (ap (option_map found_of) c.forget_page.ensures ∙ index_stays c.args.self.now.found, refl)
 
 pub returns-clause-ready : goal.returns-clause-ready
 returns-clause-ready g c =
-    protects_ready g.D.Drive.held g.D.Drive.count g.D.Drive.faults c.args.self.now
+    protects_ready g.D.Drive.contents g.D.Drive.count g.D.Drive.faults c.args.self.now
     (record c.args.self.now { catalog = c.protect-answer.new.self; failed = c.failed_at-self.result; found = c.forget_page.new.found })
     c.protect-answer.result true c.args.title.now _ _ c.requires.ready c.protect-answer.ensures.changes c.failed_at-self.ensures c.forget_page.ensures refl
+
+pub returns-then-is_refused-clause-exact : goal.returns-then-is_refused-clause-exact
+returns-then-is_refused-clause-exact g c =
+    keeps_files g.D.Drive.contents g.S.Source.left g.T.Sink.taken g.P.Sink.taken g.D.Drive.count g.D.Drive.faults g.met.D.Drive.counted g.met.D.Drive.sized
+    c.args.self.now (record c.args.self.now { catalog = c.protect-answer.new.self; failed = c.failed_at-self.result }) c.protect-answer.result
+    (λ n slots. no_such (find_file slots c.args.title.now)) (slots_changed (file_protected true) c.args.title.now) refl refl refl
+    c.protect-answer.ensures.changes.count_stays (refl, refl) c.protect-answer.ensures.exact
+
+pub returns-clause-exact : goal.returns-clause-exact
+returns-clause-exact g c =
+    keeps_files g.D.Drive.contents g.S.Source.left g.T.Sink.taken g.P.Sink.taken g.D.Drive.count g.D.Drive.faults g.met.D.Drive.counted g.met.D.Drive.sized
+    c.args.self.now (record c.args.self.now { catalog = c.protect-answer.new.self; failed = c.failed_at-self.result; found = c.forget_page.new.found }) c.protect-answer.result
+    (λ n slots. no_such (find_file slots c.args.title.now)) (slots_changed (file_protected true) c.args.title.now) refl refl refl
+    c.protect-answer.ensures.changes.count_stays (returns-clause-stays g c) c.protect-answer.ensures.exact
+
+pub returns-then-is_refused-clause-told : goal.returns-then-is_refused-clause-told
+returns-then-is_refused-clause-told g c = told_changes _ _ _ _ _ _ _ _ _ _ _ _ c.requires.ready.mounted c.protect-answer.ensures.changes
+
+pub returns-clause-told : goal.returns-clause-told
+returns-clause-told g c = told_changes _ _ _ _ _ _ _ _ _ _ _ _ c.requires.ready.mounted c.protect-answer.ensures.changes

@@ -1,0 +1,4 @@
+pub mod Fed
+pub mod Asking
+pub mod Answered
+pub mod Asked

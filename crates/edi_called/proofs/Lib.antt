@@ -1,0 +1,14 @@
+pub mod Grown
+pub mod Cells
+pub mod Comes
+pub mod Goes
+pub mod Callees
+pub mod Entering
+pub mod Returning
+pub mod Blocks
+pub mod Called
+pub mod Calls
+pub mod Resting
+pub mod EnteredWork
+pub mod CalledStep
+pub mod ReturnedStep

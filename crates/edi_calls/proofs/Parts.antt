@@ -1,0 +1,113 @@
+-- Each answered call changes one part of the state at most, so a torn state is whole.
+use Rattle.std.proofs.Common.{◌≡◌, ℕ, Bool, true, false, List, [], ◌∷◌, length, Option, Some, None, refl, sym, ◌∙◌, subst, ◌⊎◌, inl, inr}
+use Rattle.std.specs.Prelude.{if◌then◌else◌, ⊤, slice_index, slice_get, nat_lt, ◌==◌}
+use Rattle.std.specs.Option.{option_map_or}
+use Rattle.edi_calls.specs.State.{Found, State, title_of, most_bytes}
+use Rattle.edi_calls.specs.Calls as calls
+use Rattle.edi_calls.specs.Calls.{CallResult, answered, no_file, file_limit, call}
+use Rattle.edi_calls.specs.Ends.{IsTorn}
+use Rattle.edi_calls.specs.Laws.{ChangesOnePart, only_input, only_shown, only_printed, only_slots, EachCallChangesOnePart, IsSameOutside, TornIsBeforeOrBehind}
+use Rattle.edi_calls.proofs.Lasting.{each_call_goes_on_all}
+
+abbrev Changes : State → CallResult → Type 0
+Changes s (answered words after) = ChangesOnePart s after
+Changes s no_file = ⊤
+Changes s file_limit = ⊤
+
+by_test : (s : State) (b : Bool) (x y : CallResult) → Changes s x → Changes s y → Changes s (if b then x else y)
+by_test s true x y p q = p
+by_test s false x y p q = q
+
+by_option : {A : Type 0} (s : State) (f : A → CallResult) (o : Option A) (x : CallResult)
+    → ((a : A) → Changes s (f a)) → Changes s x → Changes s (option_map_or f o x)
+by_option s f None x p q = q
+by_option s f (Some a) x p q = p a
+
+accepts : (input : List ℕ) (s : State) → Changes s (calls.accept_from input s)
+accepts [] s = only_slots refl refl refl
+accepts (b ∷ bs) s = only_input refl refl refl
+
+mores : (found : Option Found) (s : State) → Changes s (calls.more_of found s)
+mores None s = tt
+mores (Some found) s = only_slots refl refl refl
+
+nexts : (byte : Option ℕ) (found : Found) (s : State) → Changes s (calls.read_next byte found s)
+nexts None found s = only_slots refl refl refl
+nexts (Some byte) found s = only_slots refl refl refl
+
+reads : (found : Option Found) (s : State) → Changes s (calls.read_of found s)
+reads None s = tt
+reads (Some found) s = nexts (slice_get (calls.found_bytes s found) found.position) found s
+
+writes : (buffer : Option (List ℕ)) (word : ℕ) (s : State) → Changes s (calls.write_to buffer word s)
+writes None word s = tt
+writes (Some bytes) word s = by_test s (nat_lt (length bytes) most_bytes) _ _ (only_slots refl refl refl) tt
+
+closes_as : (bytes title : List ℕ) (s : State) → Changes s (calls.close_as bytes title s)
+closes_as bytes title s =
+    by_option s _ (calls.room_for s title (length bytes)) _ (λ index. only_slots refl refl refl) (only_slots refl refl refl)
+
+closes : (buffer : Option (List ℕ)) (words : List ℕ) (s : State) → Changes s (calls.close_of buffer words s)
+closes None words s = tt
+closes (Some bytes) words s = by_option s _ (title_of words) _ (λ title. closes_as bytes title s) (only_slots refl refl refl)
+
+removes_as : (title : List ℕ) (s : State) → Changes s (calls.remove_as title s)
+removes_as title s =
+    by_option s _ (calls.open_slot s.slots title) _ (λ index. only_slots refl refl refl) (only_slots refl refl refl)
+
+removes : (words : List ℕ) (s : State) → Changes s (calls.remove words s)
+removes words s = by_option s _ (title_of words) _ (λ title. removes_as title s) (only_slots refl refl refl)
+
+changes : (number : ℕ) (words : List ℕ) (s : State) → Changes s (call number words s)
+changes number words s =
+    by_test s (number == 1) _ _ (accepts s.input s)
+    (by_test s (number == 2) _ _ (only_shown refl refl refl)
+    (by_test s (number == 3) _ _ (only_printed refl refl refl)
+    (by_test s (number == 4) _ _ (only_slots refl refl refl)
+    (by_test s (number == 5) _ _ (mores s.found s)
+    (by_test s (number == 6) _ _ (reads s.found s)
+    (by_test s (number == 7) _ _ (only_slots refl refl refl)
+    (by_test s (number == 8) _ _ (writes s.buffer (slice_index words 0) s)
+    (by_test s (number == 9) _ _ (closes s.buffer words s)
+    (by_test s (number == 10) _ _ (removes words s) (only_slots refl refl refl))))))))))
+
+answered_changes : (s : State) (result : CallResult) (answer : List ℕ) (after : State) → Changes s result
+    → result ≡ answered answer after → ChangesOnePart s after
+answered_changes s (answered words next) answer after one is = let same : next ≡ after = cc in subst (λ t. ChangesOnePart s t) same one
+answered_changes s no_file answer after one is = absurd (cc)
+answered_changes s file_limit answer after one is = absurd (cc)
+
+pub each_call_changes_one_part_all : EachCallChangesOnePart
+each_call_changes_one_part_all number words answer before after is =
+    answered_changes before (call number words before) answer after (changes number words before) is
+
+-- ---- a torn state
+
+unmoved : {A : Type 0} {a before next : A} → (a ≡ before) ⊎ (a ≡ next) → next ≡ before → a ≡ before
+unmoved (inl e) same = e
+unmoved (inr e) same = e ∙ same
+
+-- it has, of a part that stays, what was before; so it has of the one other part what is before or what is behind
+whole : (before next after : State) → ChangesOnePart before next → next.blocks ≡ before.blocks → IsTorn before next after
+    → IsSameOutside before after ⊎ IsSameOutside next after
+whole before next after (only_input shown printed slots) blocks torn = elim torn.input [
+  | inl e ↦ inl (record { input = e; shown = unmoved torn.shown shown; printed = unmoved torn.printed printed; slots = unmoved torn.slots slots; blocks = torn.blocks })
+  | inr e ↦ inr (record { input = e; shown = unmoved torn.shown shown ∙ sym shown; printed = unmoved torn.printed printed ∙ sym printed; slots = unmoved torn.slots slots ∙ sym slots; blocks = torn.blocks ∙ sym blocks })
+]
+whole before next after (only_shown input printed slots) blocks torn = elim torn.shown [
+  | inl e ↦ inl (record { input = unmoved torn.input input; shown = e; printed = unmoved torn.printed printed; slots = unmoved torn.slots slots; blocks = torn.blocks })
+  | inr e ↦ inr (record { input = unmoved torn.input input ∙ sym input; shown = e; printed = unmoved torn.printed printed ∙ sym printed; slots = unmoved torn.slots slots ∙ sym slots; blocks = torn.blocks ∙ sym blocks })
+]
+whole before next after (only_printed input shown slots) blocks torn = elim torn.printed [
+  | inl e ↦ inl (record { input = unmoved torn.input input; shown = unmoved torn.shown shown; printed = e; slots = unmoved torn.slots slots; blocks = torn.blocks })
+  | inr e ↦ inr (record { input = unmoved torn.input input ∙ sym input; shown = unmoved torn.shown shown ∙ sym shown; printed = e; slots = unmoved torn.slots slots ∙ sym slots; blocks = torn.blocks ∙ sym blocks })
+]
+whole before next after (only_slots input shown printed) blocks torn = elim torn.slots [
+  | inl e ↦ inl (record { input = unmoved torn.input input; shown = unmoved torn.shown shown; printed = unmoved torn.printed printed; slots = e; blocks = torn.blocks })
+  | inr e ↦ inr (record { input = unmoved torn.input input ∙ sym input; shown = unmoved torn.shown shown ∙ sym shown; printed = unmoved torn.printed printed ∙ sym printed; slots = e; blocks = torn.blocks ∙ sym blocks })
+]
+
+pub torn_is_before_or_behind_all : TornIsBeforeOrBehind
+torn_is_before_or_behind_all number words answer before next after is torn =
+    whole before next after (each_call_changes_one_part_all number words answer before next is)
+    (each_call_goes_on_all number words answer before next is).blocks torn

@@ -1,7 +1,0 @@
-use Rattle.std.proofs.Common.{◌≡◌, ℕ, ◌<◌, false, None}
-use Rattle.std.specs.Prelude.{slice_index_or}
-use Rattle.edi_image.specs.Stored.{is_titled}
-use Rattle.edi_catalog.proofs.files.place_of.Given as goal
-
-abbrev pub invariant-loop-place : goal.invariant-loop-place
-invariant-loop-place l = (k : ℕ) → k < l.place → is_titled l.title (slice_index_or l.files k None) ≡ false

@@ -1,0 +1,20 @@
+use Rattle.std.proofs.Common.{◌<◌, ◌/◌, length, rules}
+use Rattle.edi_image.specs.Bytes.{bytes_of_record}
+use Rattle.edi_catalog.proofs.EntryBlocks.{kept_block, kept_inside, kept_now}
+use Rattle.edi_catalog.proofs.putting.write_kept.Goals as goal
+
+pub index_mut-requires : goal.index_mut-requires
+index_mut-requires g c =
+    let inside : c.args.index / 8 < length c.args.room.now.entries.items =
+    kept_inside c.args.index c.args.room.now.entries.items c.requires.within c.requires.many in
+    search (rules, inside)
+
+pub write_new-requires-clause-kept : goal.write_new-requires-clause-kept
+write_new-requires-clause-kept g c = λ blocks told.
+    kept_block c.args.index c.args.room.now.entries.items blocks c.index_mut.result.now c.requires.within
+    c.requires.many c.index_mut.ensures.value (c.requires.kept blocks told)
+
+pub returns-clause-kept : goal.returns-clause-kept
+returns-clause-kept g c = λ done.
+    kept_now c.args.index c.args.room.now.entries.items (bytes_of_record c.args.file.now.record_) c.index_mut.result.now c.write_new.new.kept
+    c.requires.within c.requires.many c.index_mut.ensures.value (c.write_new.ensures.kept done)

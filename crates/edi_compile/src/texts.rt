@@ -1,0 +1,33 @@
+//! Texts that are whole.
+
+ghost use Rattle.edi_unit.specs.View.{unit_of};
+ghost use Rattle.edi_texts.specs.Answers.{TextAnswers};
+ghost use Rattle.edi_texts.specs.Run.{IsCodeFor};
+ghost use Rattle.edi_compile.specs.Compiled.{IsFrontOf};
+
+use crate::passes::{code_by, unit_by};
+use edi_lex::scan;
+use edi_target::Code;
+use edi_texts::Refusal;
+use edi_unit::Unit;
+use std::alloc::Global;
+
+/// The code of a text, or the text's first fault.
+///
+/// The faults come in this order: the text is too long, on line 0; its first lexical fault; its syntax fault; the first
+/// construct of its tree that breaks a static rule. The code has no fault, has at most 8 words for each symbol of the text and
+/// 64, a string counting its characters, and does what the program of the text means: on every system, with every bound on the
+/// turns and all choices it has the same outcome, and comes through the same states of the system.
+pub fn compile(alloc: Global, text: &[u8]) -> Result<Code, Refusal>
+    ensures exact { TextAnswers (IsCodeFor text.now) text.now result }
+{
+    code_by(alloc, scan(alloc, text))
+}
+
+/// The resolved unit of a text, or the text's first fault, as `compile` has it. The unit can be coded: it fits, its records
+/// have fields, and its code is as short as `compile` says.
+pub fn front(alloc: Global, text: &[u8]) -> Result<Unit, Refusal>
+    ensures exact { TextAnswers (λ unit. IsFrontOf text.now (unit_of unit)) text.now result }
+{
+    unit_by(alloc, scan(alloc, text))
+}

@@ -1,0 +1,64 @@
+-- A unit that can be coded, with its code.
+use Rattle.std.proofs.Common.{◌≡◌, ℕ, zero, suc, ◌<◌, ◌≤◌, ◌⊎◌, inl, inr, List, length, sym, subst, arith}
+use Rattle.std.proofs.lemmas.Bool.{cases_lt}
+use Rattle.edi_unit.specs.Types.{Shape}
+use Rattle.edi_unit.specs.Tree.{Block, ProgramUnit}
+use Rattle.edi_target.specs.Fetch.{fetch}
+use Rattle.edi_target.specs.Decode.{AreWords}
+use Rattle.edi_target.proofs.Stands.{code_stands_below}
+use Rattle.edi_segments.proofs.Reaching.{allowed_at}
+use Rattle.edi_scheme.specs.Code.{entry, code_of}
+use Rattle.edi_scheme.proofs.Blocks.{code_stands, code_is_long}
+use Rattle.edi_scheme.proofs.WordedBlocks.{code_is_words}
+use Rattle.edi_spots.specs.Coded.{Coded}
+use Rattle.edi_follows.specs.Theorem.{CanBeCoded, SameOutcome, SameMoments, CodeEndsAsMeant, CodeIsPrivate}
+use Rattle.edi_spots.specs.Lands.{StepClaim, StepsCohere, StepsQueue, StartClaim}
+use Rattle.edi_follows.proofs.Private.{private_words}
+use Rattle.edi_follows.proofs.Wholes.{code_ends, to_machine, to_meaning, moments_to_machine, moments_to_meaning}
+
+entry_up : (types : List Shape) (blocks : List Block) (n m : ℕ) → n ≤ m → entry types blocks n ≤ entry types blocks m
+entry_up types blocks n zero le = let e : n ≡ zero = omega arith in subst (λ k. entry types blocks k ≤ 0) (sym e) (omega arith)
+entry_up types blocks n (suc m) le = go (cases_lt n (suc m)) (entry_up types blocks n m)
+  where
+    go : (n < suc m) ⊎ (suc m ≤ n) → (n ≤ m → entry types blocks n ≤ entry types blocks m) → entry types blocks n ≤ entry types blocks (suc m)
+    go (inl h) ih = omega (arith, ih (omega arith))
+    go (inr h) ih = let e : n ≡ suc m = omega arith in subst (λ k. entry types blocks n ≤ entry types blocks k) e (omega arith)
+
+pub coded : (unit : ProgramUnit) → CanBeCoded unit → Coded
+coded unit c =
+    let words : AreWords (code_of unit) = code_is_words unit c.fits c.parts c.lines (omega (arith, c.short)) in
+    record {
+      unit = unit;
+      fetched = fetch (code_of unit);
+      fits = c.fits;
+      parts = c.parts;
+      stands = code_stands unit c.fits c.parts;
+      rises = λ at found e. (code_stands_below (code_of unit) at found e).1;
+      allows = λ first last at. allowed_at (code_of unit) words first last at;
+      low = λ n h. omega (arith, c.short, code_is_long unit, entry_up unit.types unit.blocks n (length unit.blocks) (omega (arith, h)));
+    }
+
+module _ (claim : (g : Coded) → StepClaim g) (start : (g : Coded) → StartClaim g) (cohere : StepsCohere) (queues : StepsQueue) where
+  pub code_ends_as_meant : CodeEndsAsMeant
+  unfolding coded
+  code_ends_as_meant unit c system bound choices ending end turns drawn order e =
+      code_ends (coded unit c) (claim (coded unit c)) (start (coded unit c)) cohere queues system bound choices ending end turns drawn order e
+
+  pub same_outcome : SameOutcome
+  unfolding coded
+  same_outcome unit c system bound choices o = (
+    to_machine (coded unit c) (claim (coded unit c)) (start (coded unit c)) cohere queues system bound choices o,
+    to_meaning (coded unit c) (claim (coded unit c)) (start (coded unit c)) cohere queues system bound choices o,
+  )
+
+  pub same_moments : SameMoments
+  unfolding coded
+  same_moments unit c system bound choices moment = (
+    moments_to_machine (coded unit c) (claim (coded unit c)) (start (coded unit c)) cohere queues system bound choices moment,
+    moments_to_meaning (coded unit c) (claim (coded unit c)) (start (coded unit c)) cohere queues system bound choices moment,
+  )
+
+  pub code_is_private : CodeIsPrivate
+  unfolding coded
+  code_is_private unit c system bound choices m p others drawn i n u o a foreign =
+      private_words (coded unit c) (claim (coded unit c)) (start (coded unit c)) cohere queues system choices bound m p others drawn i n u o a foreign

@@ -1,0 +1,10 @@
+pub mod Cells
+pub mod Ancestors
+pub mod Slots
+pub mod Stores
+pub mod Effects
+pub mod Steps
+pub mod Variables
+pub mod Binding
+pub mod Instructed
+pub mod Formals

@@ -1,0 +1,11 @@
+pub mod Lifting
+pub mod Kernels
+pub mod Meaning
+pub mod Steps
+pub mod Settled
+pub mod Going
+pub mod Leaving
+pub mod Moved
+pub mod Forking
+pub mod Children
+pub mod Forked

@@ -1,0 +1,5 @@
+pub mod Alone
+pub mod Ints
+pub mod Operators
+pub mod Checks
+pub mod Given

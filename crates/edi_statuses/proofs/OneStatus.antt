@@ -1,0 +1,139 @@
+-- Contents that are told decide the status of a command and what it shows before the line of the status.
+use Rattle.std.proofs.Common.{◌≡◌, ◌∙◌, ℕ, List, [], ◌∷◌, Option, Some, None, IsSome, refl, sym, ap, subst}
+use Rattle.std.proofs.lemmas.List.{append_cancel_left}
+use Rattle.edi_told.specs.Told.{WhereTold}
+use Rattle.edi_calls.specs.Choice.{Choices}
+use Rattle.edi_calls.specs.Outcome.{Ending, Outcome}
+use Rattle.edi_calls.specs.State.{State, fresh}
+use Rattle.edi_target.specs.Check.{CodeParts}
+use Rattle.edi_target.specs.Fetch.{fetch}
+use Rattle.edi_target.proofs.Runs.{runs_are_determined}
+use Rattle.edi_texts.proofs.Executions.{one_outcome}
+use Rattle.edi_words.specs.Words as words
+use Rattle.edi_words.specs.Words.{ChoicesFrom, Command}
+use Rattle.edi_statuses.specs.Outside.{Outside, Devices, devices_of, system_on, KernelLeft}
+use Rattle.edi_statuses.specs.Executions.{Program, text, code, HasOutcome, HasRun, status_of}
+use Rattle.edi_statuses.specs.Commands.{Comes, IsDone, OnlyBlocks, OnlyKeeps, KeepsCode, Runs, AreNew, AreMigrated, ArePut}
+use Rattle.edi_statuses.specs.Commands.{RunSteps, ExecSteps, TextSteps, OldSteps, PutSteps, GetSteps}
+use Rattle.edi_statuses.specs.Steps.{Ready}
+use Rattle.edi_statuses.specs.Means.{IsTold, OneStatus}
+use Rattle.edi_statuses.proofs.StepLemmas.{IsOne, TextsAreOne, ready_one, then_one, tests_one, fetches_one, choices_one, accepts_one, mounts_one}
+use Rattle.edi_statuses.proofs.StepLemmas.{loads_one, old_one, has_place_one, reads_one, IsOneEffect, does_one}
+
+-- ---- executions
+
+-- a program has one outcome
+outcome_same : (program : Program) (system : State) (bound : ℕ) (choices : Choices) (one other : Outcome)
+    → HasOutcome program system bound choices one → HasOutcome program system bound choices other → one ≡ other
+outcome_same (text bytes) system bound choices one other h k = one_outcome bytes system bound choices one other h k
+outcome_same (code parts) system bound choices one other h k =
+    runs_are_determined (fetch parts.words) parts.entry parts.calls (fresh system) bound choices one other h k
+
+record Same (s t : Ending) (shown bytes : List ℕ) : Type 0 where
+  ending : s ≡ t
+  shown_ : shown ≡ bytes
+
+ran_same : (program : Program) (bound : ℕ) (choices : Choices) (s t : Ending) (m n : ℕ) (d e f : Devices)
+    (shown bytes : List ℕ) (kernel other : KernelLeft) → HasRun program bound choices s m d e shown kernel
+    → HasRun program bound choices t n d f bytes other → Same s t shown bytes
+ran_same program bound choices s t m n d e f shown bytes kernel other h k =
+    let same = outcome_same program (system_on d) bound choices h.outcome_ k.outcome_ h.outcome_is k.outcome_is in record {
+      ending = sym h.ending_is ∙ ap (λ (o : Outcome). o.ending) same ∙ k.ending_is;
+      shown_ = append_cancel_left d.shown shown bytes (h.leaves.shown_ ∙ ap (λ (o : Outcome). o.shown) same ∙ sym k.leaves.shown_);
+    }
+
+-- ---- what is told
+
+record ToldDevices (o : Outside) : Type 0 where
+  devices : Devices
+  are : devices_of o ≡ Some devices
+
+devices_told : (o : Outside) → IsTold o → ToldDevices o
+devices_told o told = go o.blocks o.input o.shown o.printed told.blocks told.input told.shown told.printed
+  where
+    go : (blocks : Option (List (List ℕ))) (input shown printed : Option (List ℕ)) → IsSome blocks → IsSome input → IsSome shown → IsSome printed
+        → ToldDevices (record o { blocks = blocks; input = input; shown = shown; printed = printed })
+    go None input shown printed a b c d = absurd (cc)
+    go (Some blocks) None shown printed a b c d = absurd (cc)
+    go (Some blocks) (Some input) None printed a b c d = absurd (cc)
+    go (Some blocks) (Some input) (Some shown) None a b c d = absurd (cc)
+    go (Some blocks) (Some input) (Some shown) (Some printed) a b c d = record {
+      devices = record { blocks = blocks; input = input; shown = shown; printed = printed };
+      are = refl;
+    }
+
+there : {A : Type 0} (P : A → A → Type 0) (before after : Option A) (d e : A) → before ≡ Some d → after ≡ Some e → WhereTold before after P → P d e
+there P before after d e b a h = subst (λ x. WhereTold (Some d) x P) a (subst (λ x. WhereTold x after P) b h)
+
+module _ (each : TextsAreOne) (before after behind : Outside) (is_told : IsTold before) (after_told : IsTold after) (behind_told : IsTold behind) where
+  runs_one : (program : Program) (bound : ℕ) (choices : Choices) (record_file : Option (List ℕ))
+      → IsOneEffect before after behind (Runs program bound choices record_file)
+  runs_one program bound choices record_file s t shown bytes kernel other h k =
+      let d = devices_told before is_told in
+      let e = devices_told after after_told in
+      let f = devices_told behind behind_told in
+      let same = ran_same program bound choices h.ending k.ending h.drawn k.drawn d.devices e.devices f.devices shown bytes kernel other
+      (there _ _ _ d.devices e.devices d.are e.are h.ran) (there _ _ _ d.devices f.devices d.are f.are k.ran) in
+      (h.status_is ∙ ap status_of same.ending ∙ sym k.status_is, same.shown_)
+
+  blocks_one : (P : List (List ℕ) → List (List ℕ) → Type 0) → IsOneEffect before after behind (IsDone (OnlyBlocks P))
+  blocks_one P s t shown bytes kernel other h k = (h.0 ∙ sym k.0, h.1.shown_ ∙ sym k.1.shown_)
+
+  keeps_one : (kept : List (List ℕ × List ℕ)) → IsOneEffect before after behind (IsDone (OnlyKeeps kept))
+  keeps_one kept s t shown bytes kernel other h k = (h.0 ∙ sym k.0, h.1.shown_ ∙ sym k.1.shown_)
+
+  code_one : (out bytes_ : List ℕ) → IsOneEffect before after behind (IsDone (KeepsCode out bytes_))
+  code_one out bytes_ s t shown bytes kernel other h k = (h.0 ∙ sym k.0, h.1.keeps.shown_ ∙ sym k.1.keeps.shown_)
+
+  text_steps : (file : List ℕ) (from : ChoicesFrom) → IsOne (RunSteps before file from)
+  text_steps file from =
+      then_one _ _ (fetches_one before is_told.files file) (λ bytes. then_one _ _ (choices_one before is_told.files from)
+      (λ choices. then_one _ _ (accepts_one each bytes) (λ unit. then_one _ _ (mounts_one before is_told.blocks) (λ done. ready_one _))))
+
+  code_steps : (file : List ℕ) (from : ChoicesFrom) → IsOne (ExecSteps before file from)
+  code_steps file from =
+      then_one _ _ (fetches_one before is_told.files file) (λ bytes. then_one _ _ (choices_one before is_told.files from)
+      (λ choices. then_one _ _ (loads_one bytes) (λ parts. then_one _ _ (mounts_one before is_told.blocks) (λ done. ready_one _))))
+
+  compile_steps : (file : List ℕ) → IsOne (TextSteps before file)
+  compile_steps file =
+      then_one _ _ (fetches_one before is_told.files file) (λ bytes. then_one _ _ (accepts_one each bytes) (λ unit. ready_one _))
+
+  old_steps : (blocks : ℕ) (file : List ℕ) → IsOne (OldSteps before blocks file)
+  old_steps blocks file =
+      then_one _ _ (fetches_one before is_told.files file) (λ bytes. then_one _ _ (old_one bytes)
+      (λ old. then_one _ _ (tests_one _ _) (λ done. ready_one _)))
+
+  put_steps : (file title : List ℕ) → IsOne (PutSteps before file title)
+  put_steps file title =
+      then_one _ _ (fetches_one before is_told.files file) (λ bytes. then_one _ _ (tests_one _ _)
+      (λ fits. then_one _ _ (mounts_one before is_told.blocks) (λ done. then_one _ _ (has_place_one before is_told.blocks title _)
+      (λ room. ready_one _))))
+
+  get_steps : (title : List ℕ) → IsOne (GetSteps before title)
+  get_steps title = then_one _ _ (mounts_one before is_told.blocks) (λ done. reads_one before is_told.blocks title)
+
+  -- each command has one status and shows one thing
+  comes_one : (c : Command) → IsOneEffect before after behind (Comes c)
+  comes_one (words.run file o) = does_one before after behind (RunSteps before file o.choices)
+      (λ a. Runs (text a.0) o.turns a.1 o.record_file) (text_steps file o.choices) (λ a. runs_one (text a.0) o.turns a.1 o.record_file)
+  comes_one (words.replay file choices turns) = does_one before after behind (RunSteps before file (words.file choices))
+      (λ a. Runs (text a.0) turns a.1 None) (text_steps file (words.file choices)) (λ a. runs_one (text a.0) turns a.1 None)
+  comes_one (words.exec file o) = does_one before after behind (ExecSteps before file o.choices)
+      (λ a. Runs (code a.0) o.turns a.1 o.record_file) (code_steps file o.choices) (λ a. runs_one (code a.0) o.turns a.1 o.record_file)
+  comes_one (words.compile file out) = does_one before after behind (TextSteps before file)
+      (λ a. IsDone (KeepsCode out a.0)) (compile_steps file) (λ a. code_one out a.0)
+  comes_one (words.newdisk blocks None) = does_one before after behind (Ready blocks)
+      (λ n. IsDone (OnlyBlocks (AreNew n))) (ready_one blocks) (λ n. blocks_one (AreNew n))
+  comes_one (words.newdisk blocks (Some file)) = does_one before after behind (OldSteps before blocks file)
+      (λ old. IsDone (OnlyBlocks (AreMigrated blocks old))) (old_steps blocks file) (λ old. blocks_one (AreMigrated blocks old))
+  comes_one (words.put file title) = does_one before after behind (PutSteps before file title)
+      (λ bytes. IsDone (OnlyBlocks (ArePut title bytes))) (put_steps file title) (λ bytes. blocks_one (ArePut title bytes))
+  comes_one (words.get title file) = does_one before after behind (GetSteps before title)
+      (λ bytes. IsDone (OnlyKeeps ((file, bytes) ∷ []))) (get_steps title) (λ bytes. keeps_one ((file, bytes) ∷ []))
+  comes_one _ = λ s t shown bytes kernel other h k. absurd h
+
+-- THE LAW
+pub one_status : TextsAreOne → OneStatus
+one_status each s t c before after behind shown bytes kernel other is_told after_told behind_told decisive decisive' h k =
+    comes_one each before after behind is_told after_told behind_told c s t shown bytes kernel other h k

@@ -1,0 +1,13 @@
+use Rattle.edi_lex.specs.Symbols.{symbols_of}
+use Rattle.edi_texts.proofs.Once.{one_fault, not_both, one_unit}
+use Rattle.edi_statuses.proofs.OneStatus.{one_status}
+use Rattle.edi_statuses.proofs.laws.one_status.Goals as goal
+
+pub returns : goal.returns
+returns c = record {
+  law = one_status (record {
+    one_fault = λ text p q k l m n a b. one_fault (symbols_of text) p q k l m n a b;
+    not_both = λ text p k m unit a u. not_both (symbols_of text) p k m unit a u;
+    one_unit = λ text one other a b. one_unit (symbols_of text) one other a b;
+  });
+}

@@ -1,0 +1,197 @@
+-- Words of contracts. THE COMMANDS: the steps of each in their order, and its effect.
+use Rattle.std.specs.Prelude.{IfSome, ◌≡◌, ◌⊎◌, ℕ, ◌-◌, ◌==◌, Bool, true, false, not, ◌&&◌, ◌||◌, nat_lt, if◌then◌else◌, is_none}
+use Rattle.std.specs.Prelude.{List, [], ◌∷◌, length, Option, Some, None, option_map}
+use Rattle.edi_told.specs.Told.{WhereTold}
+use Rattle.edi_calls.specs.declared.kinds.FileKind.{FileKind}
+use Rattle.edi_calls.specs.declared.kinds.FileKind.TheVariants as file_kind
+use Rattle.edi_calls.specs.Choice.{Choices}
+use Rattle.edi_calls.specs.Outcome.{Ending}
+use Rattle.edi_calls.specs.State as state
+use Rattle.edi_calls.specs.State.{File, blocks_of, find_file, find_slot, first_free}
+use Rattle.edi_catalog.specs.Changes.{slots_changed, file_protected}
+use Rattle.edi_catalog.specs.Storing.{slots_stored}
+use Rattle.edi_image.specs.Formatted.{no_files}
+use Rattle.edi_image.specs.Image.{Holds, slots_of}
+use Rattle.edi_migrate.specs.OldImage.{old_slots_of}
+use Rattle.edi_migrate.specs.OldFiles.{migrated_slots}
+use Rattle.edi_target.specs.Check.{CodeParts}
+use Rattle.edi_target.specs.File.{code_bytes}
+use Rattle.edi_unit.specs.Tree.{ProgramUnit}
+use Rattle.edi_texts.specs.Run.{IsCodeFor}
+use Rattle.edi_words.specs.Words as words
+use Rattle.edi_words.specs.Words.{ChoicesFrom, Command}
+use Rattle.edi_statuses.specs.declared.status.Status.{Status}
+use Rattle.edi_statuses.specs.declared.status.Status.TheVariants as status
+use Rattle.edi_statuses.specs.Outside.{Outside, Keeps, SameFiles, SameBlocks, SameInput, SamePrinted, IsAsBefore, Kept}
+use Rattle.edi_statuses.specs.Outside.{system_on, Devices, KernelLeft}
+use Rattle.edi_statuses.specs.Steps.{Reached, goes, stops, ◌>>=◌, Ready, Fetches, ReadsChoices, Accepts, Mounts, Loads, ChecksOld}
+use Rattle.edi_statuses.specs.Steps.{Fits, HasRoom, Tests}
+use Rattle.edi_statuses.specs.Executions.{Program, text, code, status_of, Ran, record_of}
+
+-- ---- the commands that are there
+
+-- A command that is not built yet is refused as bad words.
+abbrev pub is_built : Command → Bool
+is_built (words.run file o) = true
+is_built (words.replay file choices turns) = true
+is_built (words.exec file o) = true
+is_built (words.boot o) = false
+is_built (words.compile file out) = true
+is_built (words.newdisk blocks old) = false
+is_built (words.put file title) = false
+is_built (words.get title file) = false
+is_built (words.list file) = false
+is_built (words.demo n o) = false
+is_built (words.check file) = false
+is_built (words.walk file choices turns) = false
+is_built (words.watch file points out o) = false
+
+abbrev pub built : Option Command → Option Command
+built None = None
+built (Some c) = if is_built c then Some c else None
+
+-- ---- the steps of each command
+
+-- `run FILE` and `replay FILE CHOICES`: fetches the text, reads the choices, compiles, mounts
+abbrev pub RunSteps : Outside → (file : List ℕ) → ChoicesFrom → Reached (List ℕ × Choices) → Type 0
+RunSteps o file from =
+    Fetches o file >>= λ bytes. ReadsChoices o from >>= λ choices. Accepts bytes >>= λ unit. Mounts o >>= λ done.
+    Ready (bytes, choices)
+
+-- `exec CODEFILE`: fetches the code file, reads the choices, loads, mounts
+abbrev pub ExecSteps : Outside → (file : List ℕ) → ChoicesFrom → Reached (CodeParts × Choices) → Type 0
+ExecSteps o file from =
+    Fetches o file >>= λ bytes. ReadsChoices o from >>= λ choices. Loads bytes >>= λ parts. Mounts o >>= λ done.
+    Ready (parts, choices)
+
+-- `compile FILE OUT`: fetches the text, compiles
+abbrev pub TextSteps : Outside → (file : List ℕ) → Reached (List ℕ × ProgramUnit) → Type 0
+TextSteps o file = Fetches o file >>= λ bytes. Accepts bytes >>= λ unit. Ready (bytes, unit)
+
+-- `newdisk BLOCKS --from FILE`: fetches the old image, checks it, then the room
+abbrev pub OldSteps : Outside → (blocks : ℕ) → (file : List ℕ) → Reached (List (List ℕ)) → Type 0
+OldSteps o blocks file =
+    Fetches o file >>= λ bytes. ChecksOld bytes >>= λ old. HasRoom (state.blocks_taken (old_slots_of old)) (blocks - 33) >>= λ done.
+    Ready old
+
+-- a file of so many bytes is not put on these blocks: too few of them are free, or the title is new and no slot is
+abbrev pub is_full : (blocks : List (List ℕ)) → (title : List ℕ) → (size : ℕ) → Bool
+is_full blocks title size =
+    let d : Devices = record { blocks = blocks; input = []; shown = []; printed = [] } in
+    nat_lt (state.free (system_on d)) (blocks_of size)
+    || (is_none (find_slot (slots_of blocks) title) && is_none (first_free (slots_of blocks)))
+
+abbrev pub HasPlace : Outside → (title : List ℕ) → (size : ℕ) → Reached (Unit {0}) → Type 0
+HasPlace o title size (goes done) = IfSome o.blocks (λ blocks. is_full blocks title size ≡ false)
+HasPlace o title size (stops s) = (s ≡ status.DiskFull) × IfSome o.blocks (λ blocks. is_full blocks title size ≡ true)
+
+-- `put FILE TITLE`: fetches, checks the length, mounts, stores
+abbrev pub PutSteps : Outside → (file title : List ℕ) → Reached (List ℕ) → Type 0
+PutSteps o file title =
+    Fetches o file >>= λ bytes. Fits bytes >>= λ fits. Mounts o >>= λ done. HasPlace o title (length bytes) >>= λ room. Ready bytes
+
+-- the bytes of the file of a title on the drive
+abbrev pub Reads : Outside → (title : List ℕ) → Reached (List ℕ) → Type 0
+Reads o title (goes bytes) =
+    IfSome o.blocks (λ blocks. option_map (λ (f : File). f.bytes) (find_file (slots_of blocks) title) ≡ Some bytes)
+Reads o title (stops s) = (s ≡ status.Absent) × IfSome o.blocks (λ blocks. find_file (slots_of blocks) title ≡ None)
+
+-- `get TITLE FILE`: mounts, reads
+abbrev pub GetSteps : Outside → (title : List ℕ) → Reached (List ℕ) → Type 0
+GetSteps o title = Mounts o >>= λ done. Reads o title
+
+-- ---- the effects
+
+-- what a command leaves: its status, the outside before and behind it, what was shown before the line of its status, and the kernel
+abbrev pub Effect : Type 1
+Effect = Status → Outside → Outside → (shown : List ℕ) → KernelLeft → Type 0
+
+-- nothing was shown, and all is as before
+pub record IsNothing (before after : Outside) (shown : List ℕ) : Type 0 where
+  pub shown_ : shown ≡ []
+  pub same : IsAsBefore before after
+
+-- a command that has stopped at one of its steps has done nothing; else it has its effect
+abbrev pub Does : {A : Type 0} → (steps : Reached A → Type 0) → (effect : A → Effect) → Effect
+Does steps effect s before after shown kernel =
+    (steps (stops s) × IsNothing before after shown) ⊎ ((a : _) × steps (goes a) × effect a s before after shown kernel)
+
+-- it has done all that it does, and that is this
+abbrev pub IsDone : (Outside → Outside → (shown : List ℕ) → Type 0) → Effect
+IsDone P s before after shown kernel = (s ≡ status.Ok) × P before after shown
+
+-- these files are kept, and nothing else is changed or shown
+pub record OnlyKeeps (kept : List Kept) (before after : Outside) (shown : List ℕ) : Type 0 where
+  pub shown_ : shown ≡ []
+  pub keeps : Keeps before after kept
+  pub blocks : SameBlocks before after
+  pub input : SameInput before after
+  pub printed : SamePrinted before after
+
+-- the drive's blocks are changed, and nothing else
+pub record OnlyBlocks (P : List (List ℕ) → List (List ℕ) → Type 0) (before after : Outside) (shown : List ℕ) : Type 0 where
+  pub shown_ : shown ≡ []
+  pub blocks : WhereTold before.blocks after.blocks P
+  pub files : SameFiles before after
+  pub input : SameInput before after
+  pub printed : SamePrinted before after
+
+-- A program is run to its ending, which the status tells, and the record of its choices is kept.
+pub record Runs (program : Program) (bound : ℕ) (choices : Choices) (record_file : Option (List ℕ)) (s : Status)
+    (before after : Outside) (shown : List ℕ) (kernel : KernelLeft) : Type 0 where
+  pub ending : Ending
+  pub drawn : ℕ
+  pub status_is : s ≡ status_of ending
+  pub ran : Ran program bound choices ending drawn before after shown kernel
+  pub keeps : Keeps before after (record_of record_file choices drawn)
+
+-- any code that may be made of the text is kept
+pub record KeepsCode (out bytes : List ℕ) (before after : Outside) (shown : List ℕ) : Type 0 where
+  pub parts : CodeParts
+  pub code_is : IsCodeFor bytes parts
+  pub keeps : OnlyKeeps ((out, code_bytes parts) ∷ []) before after shown
+
+-- ---- what the drive holds behind `newdisk` and `put`
+
+abbrev pub AreNew : (count : ℕ) → List (List ℕ) → List (List ℕ) → Type 0
+AreNew count old new = (length new ≡ count) × Holds new no_files
+
+abbrev pub AreMigrated : (count : ℕ) → (image : List (List ℕ)) → List (List ℕ) → List (List ℕ) → Type 0
+AreMigrated count image old new = (length new ≡ count) × Holds new (migrated_slots image)
+
+-- a file that begins as a code file does is code
+abbrev pub kind_of : List ℕ → FileKind
+kind_of (a ∷ b ∷ bytes) = if a == 237 && b == 21 then file_kind.Code else file_kind.Text
+kind_of _ = file_kind.Text
+
+-- the file of the title is no longer protected
+abbrev pub released : (title : List ℕ) → List (Option File) → List (Option File)
+released title slots = slots_changed (file_protected false) title slots
+
+-- stored unprotected in place of any file of that title, protected or not
+abbrev pub put_in : (title bytes : List ℕ) → List (Option File) → List (Option File)
+put_in title bytes slots = slots_stored title (kind_of bytes) bytes (released title slots)
+
+abbrev pub ArePut : (title bytes : List ℕ) → List (List ℕ) → List (List ℕ) → Type 0
+ArePut title bytes old new = Holds new (put_in title bytes (slots_of old))
+
+-- ---- THE TABLE OF COMMANDS, by the statuses that the words and the contents decide
+
+abbrev pub Comes : Command → Effect
+Comes (words.run file o) s before after shown kernel =
+    Does (RunSteps before file o.choices) (λ a. Runs (text a.0) o.turns a.1 o.record_file) s before after shown kernel
+Comes (words.replay file choices turns) s before after shown kernel =
+    Does (RunSteps before file (words.file choices)) (λ a. Runs (text a.0) turns a.1 None) s before after shown kernel
+Comes (words.exec file o) s before after shown kernel =
+    Does (ExecSteps before file o.choices) (λ a. Runs (code a.0) o.turns a.1 o.record_file) s before after shown kernel
+Comes (words.compile file out) s before after shown kernel =
+    Does (TextSteps before file) (λ a. IsDone (KeepsCode out a.0)) s before after shown kernel
+Comes (words.newdisk blocks None) s before after shown kernel =
+    Does (Ready blocks) (λ n. IsDone (OnlyBlocks (AreNew n))) s before after shown kernel
+Comes (words.newdisk blocks (Some file)) s before after shown kernel =
+    Does (OldSteps before blocks file) (λ old. IsDone (OnlyBlocks (AreMigrated blocks old))) s before after shown kernel
+Comes (words.put file title) s before after shown kernel =
+    Does (PutSteps before file title) (λ bytes. IsDone (OnlyBlocks (ArePut title bytes))) s before after shown kernel
+Comes (words.get title file) s before after shown kernel =
+    Does (GetSteps before title) (λ bytes. IsDone (OnlyKeeps ((file, bytes) ∷ []))) s before after shown kernel
+Comes _ s before after shown kernel = ⊥

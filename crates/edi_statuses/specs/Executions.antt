@@ -1,0 +1,104 @@
+-- Words of contracts. What a command leaves that has run a program.
+use Rattle.std.specs.Prelude.{◌≡◌, ℕ, min, List, [], ◌∷◌, Option, Some, None, ⊤}
+use Rattle.edi_told.specs.Told.{WhereTold}
+use Rattle.edi_calls.specs.declared.kinds.Cause.TheVariants as cause
+use Rattle.edi_calls.specs.Choice.{Choices, first_choices}
+use Rattle.edi_calls.specs.Outcome as outcome
+use Rattle.edi_calls.specs.Outcome.{Ending, Outcome}
+use Rattle.edi_calls.specs.State.{State, fresh}
+use Rattle.edi_target.specs.Check.{CodeParts}
+use Rattle.edi_target.specs.Fetch.{fetch}
+use Rattle.edi_target.specs.Mach.{Ends, Machine}
+use Rattle.edi_texts.specs.Run.{IsCodeFor, IsMomentOf, IsMomentOfCode, IsRunOf, IsRunOfCode}
+use Rattle.edi_trace.specs.Drawn.{most_kept}
+use Rattle.edi_trace.specs.Lines.{written}
+use Rattle.edi_statuses.specs.declared.status.Status.{Status}
+use Rattle.edi_statuses.specs.declared.status.Status.TheVariants as status
+use Rattle.edi_statuses.specs.Outside.{Outside, Kept, Devices, devices_of, system_on, DevicesAreAt, OutcomeLeaves, KernelLeft}
+
+-- ---- programs
+
+-- what is run: a text, or a code of a code file
+pub data Program : Type 0 where
+  text : List ℕ → Program
+  code : CodeParts → Program
+
+abbrev pub HasOutcome : Program → State → (bound : ℕ) → Choices → Outcome → Type 0
+HasOutcome (text bytes) system bound choices o = IsRunOf bytes system bound choices o
+HasOutcome (code parts) system bound choices o = IsRunOfCode parts system bound choices o
+
+abbrev pub HasMoment : Program → State → (bound : ℕ) → Choices → State → Type 0
+HasMoment (text bytes) system bound choices moment = IsMomentOf bytes system bound choices moment
+HasMoment (code parts) system bound choices moment = IsMomentOfCode parts system bound choices moment
+
+-- the code that the lent kernel has run
+abbrev pub HasCode : Program → CodeParts → Type 0
+HasCode (text bytes) parts = IsCodeFor bytes parts
+HasCode (code own) parts = parts ≡ own
+
+-- ---- how they end
+
+abbrev pub status_of : Ending → Status
+status_of outcome.done = status.Ok
+status_of (outcome.halted line) = status.Stopped cause.Halt line
+status_of (outcome.failed why line) = status.Stopped why line
+status_of outcome.turns = status.Turns
+status_of outcome.standstill = status.Standstill
+status_of (outcome.bad address) = status.BadState address
+
+-- ---- the lent kernel
+
+-- behind the end of a program, a `halt` and a failure the words of the store are those of the machine
+abbrev pub StoreIs : Ending → (memory words : List ℕ) → Type 0
+StoreIs outcome.done memory words = words ≡ memory
+StoreIs (outcome.halted line) memory words = words ≡ memory
+StoreIs (outcome.failed why line) memory words = words ≡ memory
+StoreIs outcome.turns memory words = ⊤
+StoreIs outcome.standstill memory words = ⊤
+StoreIs (outcome.bad address) memory words = ⊤
+
+-- The kernel stands as the machine left it that ran such a code of the program: it used the turns of the outcome.
+pub record KernelRan (program : Program) (system : State) (bound : ℕ) (choices : Choices) (o : Outcome) (kernel : KernelLeft) : Type 0 where
+  pub parts : CodeParts
+  pub parts_are : HasCode program parts
+  pub machine : Machine
+  pub ends : Ends (fetch parts.words) parts.entry parts.calls (fresh system) bound choices o.ending machine o.draws
+  pub turns : kernel.used ≡ o.turns
+  pub store : StoreIs o.ending machine.memory kernel.words
+
+-- ---- what they leave
+
+-- The program was run on the devices `d` and has left `e`. It has shown these bytes, ended so, and drawn so many choices.
+pub record HasRun (program : Program) (bound : ℕ) (choices : Choices) (ending : Ending) (drawn : ℕ) (d e : Devices) (shown : List ℕ)
+    (kernel : KernelLeft) : Type 0 where
+  pub outcome_ : Outcome
+  pub outcome_is : HasOutcome program (system_on d) bound choices outcome_
+  pub ending_is : outcome_.ending ≡ ending
+  pub draws : outcome_.draws ≡ drawn
+  pub leaves : OutcomeLeaves outcome_ d e shown
+  pub kernel_is : KernelRan program (system_on d) bound choices outcome_ kernel
+
+-- so, where the devices tell their contents
+abbrev pub Ran : Program → (bound : ℕ) → Choices → Ending → (drawn : ℕ) → Outside → Outside → (shown : List ℕ) → KernelLeft → Type 0
+Ran program bound choices ending drawn before after shown kernel =
+    WhereTold (devices_of before) (devices_of after) (λ d e. HasRun program bound choices ending drawn d e shown kernel)
+
+-- ---- where an object outside has failed in the midst of them
+
+-- The devices are at one moment of the execution, at which just these bytes were shown and printed. A change of the files in
+-- which the drive failed leaves them at the moment before it or at the one behind it.
+pub record StandsAt (Comes : State → Type 0) (d e : Devices) (shown : List ℕ) : Type 0 where
+  pub moment : State
+  pub comes : Comes moment
+  pub at : DevicesAreAt moment d e shown
+
+abbrev pub BrokeRun : Program → (bound : ℕ) → Choices → Outside → Outside → (shown : List ℕ) → Type 0
+BrokeRun program bound choices before after shown =
+    WhereTold (devices_of before) (devices_of after) (λ d e. StandsAt (HasMoment program (system_on d) bound choices) d e shown)
+
+-- ---- the record
+
+-- the first choices drawn, 65,536 at most, under the name of the record
+abbrev pub record_of : Option (List ℕ) → Choices → (drawn : ℕ) → List Kept
+record_of None choices drawn = []
+record_of (Some name) choices drawn = (name, written (first_choices choices (min drawn most_kept))) ∷ []

@@ -1,0 +1,134 @@
+-- Definition. The number of each status, its line, and where the line begins.
+use Rattle.std.specs.Prelude.{ℕ, ◌==◌, Bool, true, false, List, [], ◌∷◌, ◌++◌, Option, Some, None, if◌then◌else◌, codes}
+use Rattle.std.specs.Fmt.{decimal}
+use Rattle.edi_calls.specs.declared.kinds.Cause.{Cause}
+use Rattle.edi_calls.specs.declared.kinds.Cause.TheVariants as cause
+use Rattle.edi_image.specs.declared.faults.MountFault.{MountFault}
+use Rattle.edi_image.specs.declared.faults.MountFault.TheVariants as mount
+use Rattle.edi_target.specs.declared.code_fault.CodeFault.{CodeFault}
+use Rattle.edi_target.specs.declared.code_fault.CodeFault.TheVariants as code
+use Rattle.edi_texts.specs.Kinds.{kind_text}
+use Rattle.edi_statuses.specs.declared.status.Status.{Status}
+use Rattle.edi_statuses.specs.declared.status.Status.TheVariants as status
+
+-- the number of a status, with which the program ends
+abbrev pub number_of : Status → ℕ
+number_of status.Ok = 0
+number_of status.Words = 1
+number_of (status.Refused kind line) = 2
+number_of (status.Stopped cause line) = 3
+number_of status.Turns = 4
+number_of status.NoMemory = 5
+number_of status.FileFault = 6
+number_of status.DriveFault = 7
+number_of status.InputFault = 8
+number_of status.OutputFault = 9
+number_of (status.BadImage broken) = 10
+number_of (status.BadCode broken) = 11
+number_of (status.BadState address) = 11
+number_of status.Absent = 12
+number_of (status.BadChoices line) = 13
+number_of status.SessionLimit = 14
+number_of status.DiskFull = 15
+number_of status.FileLarge = 16
+number_of status.Standstill = 17
+number_of (status.BadPoints line) = 18
+
+-- ---- texts
+
+abbrev pub cause_text : Cause → List ℕ
+cause_text cause.Range = codes "range"
+cause_text cause.VariableLimit = codes "variable limit"
+cause_text cause.ProcessLimit = codes "process limit"
+cause_text cause.Held = codes "held"
+cause_text cause.NoFile = codes "no file"
+cause_text cause.FileLimit = codes "file limit"
+cause_text cause.Halt = codes "halt"
+
+-- `line N TEXT`
+abbrev pub on_line : ℕ → List ℕ → List ℕ
+on_line n text = codes "line " ++ (decimal n ++ (codes " " ++ text))
+
+-- `TEXT N`
+abbrev pub with_number : List ℕ → ℕ → List ℕ
+with_number text n = text ++ (codes " " ++ decimal n)
+
+-- the first rule of an image that is broken; the last two are told by statuses of their own
+abbrev pub image_text : MountFault → List ℕ
+image_text mount.Short = codes "bad image short"
+image_text mount.Header = codes "bad image header"
+image_text (mount.Entry slot) = with_number (codes "bad image entry") slot
+image_text (mount.Page slot block) = with_number (with_number (codes "bad image page") slot) block
+image_text (mount.Shared block) = with_number (codes "bad image shared") block
+image_text mount.Fault = codes "drive fault"
+image_text mount.NoMemory = codes "no memory"
+
+-- the first fault of a code file; the last one is told by a status of its own
+abbrev pub code_text : CodeFault → List ℕ
+code_text (code.Short at) = with_number (codes "bad code short") at
+code_text (code.Over at) = with_number (codes "bad code over") at
+code_text (code.Header at found) = with_number (codes "bad code header") at
+code_text (code.Operation at found) = with_number (codes "bad code operation") at
+code_text (code.Jump at target) = with_number (codes "bad code jump") at
+code_text code.NoMemory = codes "no memory"
+
+-- the text of a status; none where the command did what it says, and where the terminal or the printer has failed
+abbrev pub text_of : Status → Option (List ℕ)
+text_of status.Ok = None
+text_of status.Words = Some (codes "bad words")
+text_of (status.Refused kind line) = Some (on_line line (kind_text kind))
+text_of (status.Stopped why line) = Some (on_line line (cause_text why))
+text_of status.Turns = Some (codes "turn limit")
+text_of status.NoMemory = Some (codes "no memory")
+text_of status.FileFault = Some (codes "file fault")
+text_of status.DriveFault = Some (codes "drive fault")
+text_of status.InputFault = Some (codes "input fault")
+text_of status.OutputFault = None
+text_of (status.BadImage broken) = Some (image_text broken)
+text_of (status.BadCode broken) = Some (code_text broken)
+text_of (status.BadState address) = Some (with_number (codes "bad code state") address)
+text_of status.Absent = Some (codes "absent")
+text_of (status.BadChoices line) = Some (with_number (codes "choices line") line)
+text_of status.SessionLimit = Some (codes "session limit")
+text_of status.DiskFull = Some (codes "disk full")
+text_of status.FileLarge = Some (codes "file too large")
+text_of status.Standstill = Some (codes "standstill")
+text_of (status.BadPoints line) = Some (with_number (codes "points line") line)
+
+-- ---- where a line begins
+
+-- the last of the bytes, if there is one
+abbrev pub last_of : List ℕ → Option ℕ
+last_of [] = None
+last_of (b ∷ []) = Some b
+last_of (b ∷ c ∷ more) = last_of (c ∷ more)
+
+abbrev pub is_due_behind : Option ℕ → Bool
+is_due_behind None = false
+is_due_behind (Some b) = if b == 10 then false else true
+
+-- A line feed is due behind bytes that do not end with one.
+abbrev pub is_due : List ℕ → Bool
+is_due shown = is_due_behind (last_of shown)
+
+abbrev pub feed : Bool → List ℕ
+feed true = 10 ∷ []
+feed false = []
+
+-- THE FRESH-LINE RULE: what is shown before a line behind these bytes, so that it stands on a line of its own
+abbrev pub line_end : List ℕ → List ℕ
+line_end shown = feed (is_due shown)
+
+-- ---- what is shown for a status
+
+abbrev pub line_behind : (due : Bool) → Option (List ℕ) → List ℕ
+line_behind due None = []
+line_behind due (Some text) = feed due ++ (text ++ codes "\n")
+
+-- where a line feed is due, or not
+abbrev pub closing_line : (due : Bool) → Status → List ℕ
+closing_line due s = line_behind due (text_of s)
+
+-- WHAT IS SHOWN FOR A STATUS behind the bytes that were shown in this call: its line, on a line of its own
+abbrev pub closing : Status → (shown : List ℕ) → List ℕ
+closing s shown = closing_line (is_due shown) s

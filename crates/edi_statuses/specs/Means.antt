@@ -1,0 +1,203 @@
+-- Words of contracts. WHAT A STATUS MEANS: what was shown before its line, and how all that is outside stands behind the call.
+--
+-- A status that the words and contents decide means what `Comes` says. `NoMemory` may come at the places of `Wants`. The four
+-- faults come where the count of an object rose, and mean what `Breaks` says.
+use Rattle.std.specs.Prelude.{◌≡◌, ◌⊎◌, ℕ, Bool, true, false, List, [], ◌∷◌, ◌++◌, Option, Some, None, IsSome, ⊤}
+use Rattle.edi_told.specs.Told.{WhereTold}
+use Rattle.edi_calls.specs.Choice.{Choices}
+use Rattle.edi_calls.specs.Outcome.{Ending}
+use Rattle.edi_image.specs.Image.{Holds, slots_of}
+use Rattle.edi_words.specs.Words as words
+use Rattle.edi_words.specs.Words.{Command}
+use Rattle.edi_statuses.specs.declared.status.Status.{Status}
+use Rattle.edi_statuses.specs.declared.status.Status.TheVariants as status
+use Rattle.edi_statuses.specs.Lines.{closing, is_due, text_of}
+use Rattle.edi_statuses.specs.Showing.{IsFront}
+use Rattle.edi_statuses.specs.Counts.{Counts, HasCause}
+use Rattle.edi_statuses.specs.Outside.{Outside, seen, Shows, SameFiles, SameBut, SameBlocks, SameInput, SamePrinted, KernelLeft}
+use Rattle.edi_statuses.specs.Steps.{Reached, goes}
+use Rattle.edi_statuses.specs.Executions.{Program, text, code, Ran, BrokeRun}
+use Rattle.edi_statuses.specs.Commands.{Comes, IsNothing, RunSteps, ExecSteps, PutSteps, released, put_in}
+
+-- ---- want of memory
+
+-- The program was run to its ending, and no file was kept.
+pub record RanUnkept (program : Program) (bound : ℕ) (choices : Choices) (before after : Outside) (shown : List ℕ)
+    (kernel : KernelLeft) : Type 0 where
+  pub ending : Ending
+  pub drawn : ℕ
+  pub ran : Ran program bound choices ending drawn before after shown kernel
+  pub files : SameFiles before after
+
+-- where a record is asked for, memory may be wanting when it is to be kept
+abbrev pub AtRecord : {A : Type 0} → Option (List ℕ) → (Reached A → Type 0) → (A → Type 0) → Type 0
+AtRecord None steps P = ⊥
+AtRecord (Some name) steps P = (a : _) × steps (goes a) × P a
+
+-- Memory is wanting before the first effect, or when the record is to be kept.
+abbrev pub Wants : Command → Outside → Outside → (shown : List ℕ) → KernelLeft → Type 0
+Wants (words.run file o) before after shown kernel =
+    IsNothing before after shown
+    ⊎ AtRecord o.record_file (RunSteps before file o.choices) (λ a. RanUnkept (text a.0) o.turns a.1 before after shown kernel)
+Wants (words.exec file o) before after shown kernel =
+    IsNothing before after shown
+    ⊎ AtRecord o.record_file (ExecSteps before file o.choices) (λ a. RanUnkept (code a.0) o.turns a.1 before after shown kernel)
+Wants _ before after shown kernel = IsNothing before after shown
+
+-- ---- faults
+
+-- nothing was shown or printed, and the drive and the input are as before
+pub record HasNotBegun (before after : Outside) (shown : List ℕ) : Type 0 where
+  pub shown_ : shown ≡ []
+  pub blocks : SameBlocks before after
+  pub input : SameInput before after
+  pub printed : SamePrinted before after
+
+-- nothing was shown, and of the outside at most the drive has changed, as P says
+pub record ChangesDrive (P : List (List ℕ) → List (List ℕ) → Type 0) (before after : Outside) (shown : List ℕ) : Type 0 where
+  pub shown_ : shown ≡ []
+  pub blocks : WhereTold before.blocks after.blocks P
+  pub input : SameInput before after
+  pub printed : SamePrinted before after
+
+-- The drive behind a `put` that it broke off: the files from before it, these with the file released, or those that it was to leave.
+abbrev pub ArePutInPart : (title bytes : List ℕ) → List (List ℕ) → List (List ℕ) → Type 0
+ArePutInPart title bytes old new =
+    Holds new (slots_of old) ⊎ (Holds new (released title (slots_of old)) ⊎ Holds new (put_in title bytes (slots_of old)))
+
+-- behind a format or a migration that the drive broke off nothing is known of its blocks
+abbrev pub IsOpen : List (List ℕ) → List (List ℕ) → Type 0
+IsOpen old new = ⊤
+
+-- the names under which a command keeps something
+abbrev pub names_in : Option (List ℕ) → List (List ℕ)
+names_in None = []
+names_in (Some name) = name ∷ []
+
+abbrev pub names_kept : Command → List (List ℕ)
+names_kept (words.run file o) = names_in o.record_file
+names_kept (words.exec file o) = names_in o.record_file
+names_kept (words.compile file out) = out ∷ []
+names_kept (words.get title file) = file ∷ []
+names_kept _ = []
+
+-- the steps of a command went on, and it was broken off there
+abbrev pub Begun : {A : Type 0} → (Reached A → Type 0) → (A → Type 0) → Type 0
+Begun steps P = (a : _) × steps (goes a) × P a
+
+-- A run may be broken off by any object; `put` and `newdisk` by the drive alone, and the other commands change nothing before
+-- they keep their file.
+abbrev pub ComesToBreak : Status → Command → Outside → Outside → (shown : List ℕ) → Type 0
+ComesToBreak s (words.run file o) before after shown =
+    Begun (RunSteps before file o.choices) (λ a. BrokeRun (text a.0) o.turns a.1 before after shown)
+ComesToBreak s (words.replay file choices turns) before after shown =
+    Begun (RunSteps before file (words.file choices)) (λ a. BrokeRun (text a.0) turns a.1 before after shown)
+ComesToBreak s (words.exec file o) before after shown =
+    Begun (ExecSteps before file o.choices) (λ a. BrokeRun (code a.0) o.turns a.1 before after shown)
+ComesToBreak status.DriveFault (words.put file title) before after shown =
+    Begun (PutSteps before file title) (λ bytes. ChangesDrive (ArePutInPart title bytes) before after shown)
+ComesToBreak status.DriveFault (words.newdisk blocks old) before after shown = ChangesDrive IsOpen before after shown
+ComesToBreak s c before after shown = ⊥
+
+-- where the fault of an object is answered
+pub record Breaks (s : Status) (c : Command) (before after : Outside) (shown : List ℕ) : Type 0 where
+  pub files : SameBut (names_kept c) before after
+  pub far : HasNotBegun before after shown ⊎ ComesToBreak s c before after shown
+
+-- ---- the meaning of a status
+
+-- of the words of a command
+abbrev pub MeansOf : Status → Command → Outside → Outside → (shown : List ℕ) → KernelLeft → Type 0
+MeansOf status.Words c before after shown kernel = ⊥
+MeansOf status.NoMemory c before after shown kernel = Wants c before after shown kernel
+MeansOf status.FileFault c before after shown kernel = Breaks status.FileFault c before after shown
+MeansOf status.DriveFault c before after shown kernel = Breaks status.DriveFault c before after shown
+MeansOf status.InputFault c before after shown kernel = Breaks status.InputFault c before after shown
+MeansOf status.OutputFault c before after shown kernel = Breaks status.OutputFault c before after shown
+MeansOf s c before after shown kernel = Comes c s before after shown kernel
+
+-- of words that are refused
+abbrev pub MeansRefused : Status → Outside → Outside → (shown : List ℕ) → Type 0
+MeansRefused status.Words before after shown = IsNothing before after shown
+MeansRefused status.NoMemory before after shown = IsNothing before after shown
+MeansRefused _ before after shown = ⊥
+
+-- The steps look at what is told before the call and behind it.
+abbrev pub Means : Status → Option Command → Outside → Outside → (shown : List ℕ) → KernelLeft → Type 0
+Means s None before after shown kernel = MeansRefused s before after shown
+Means s (Some c) before after shown kernel = MeansOf s c (seen before after) after shown kernel
+
+-- A command, or words that are none, came to this status, and the line of the status is still to be shown. A line feed is due before
+-- it, or not.
+pub record Came (s : Status) (due : Bool) (c : Option Command) (before after : Outside) (kernel : KernelLeft) : Type 0 where
+  pub shown : List ℕ
+  pub means : Means s c before after shown kernel
+  pub shows : Shows before after shown
+  pub due_is : due ≡ is_due shown
+
+-- ---- all that a call shows
+
+-- The line of a status that has one could not be shown whole. If that status tells a fault, the count of its object rose too.
+pub record IsCutShort (c : Option Command) (before after : Outside) (had has : Counts) (all : List ℕ) (kernel : KernelLeft) : Type 0 where
+  pub meant : Status
+  pub has_line : IsSome (text_of meant)
+  pub cause : HasCause meant had has
+  pub shown : List ℕ
+  pub line : List ℕ
+  pub means : Means meant c before after shown kernel
+  pub front : IsFront line (closing meant shown)
+  pub all_ : all ≡ shown ++ line
+
+-- THE END OF A CALL: the bytes before the line of the status, and that line. The counts are those of the objects' faults.
+abbrev pub EndsWith : Status → Option Command → Outside → Outside → (had has : Counts) → (all : List ℕ) → KernelLeft → Type 0
+EndsWith status.OutputFault c before after had has all kernel =
+    Means status.OutputFault c before after all kernel ⊎ IsCutShort c before after had has all kernel
+EndsWith s c before after had has all kernel =
+    (shown : List ℕ) × Means s c before after shown kernel × (all ≡ shown ++ closing s shown)
+
+-- ---- a law: the words and the contents decide
+
+-- the statuses that they decide
+abbrev pub IsDecisive : Status → Type 0
+IsDecisive status.NoMemory = ⊥
+IsDecisive status.FileFault = ⊥
+IsDecisive status.DriveFault = ⊥
+IsDecisive status.InputFault = ⊥
+IsDecisive status.OutputFault = ⊥
+IsDecisive _ = ⊤
+
+-- all contents are told
+pub record IsTold (o : Outside) : Type 0 where
+  pub files : IsSome o.files
+  pub blocks : IsSome o.blocks
+  pub input : IsSome o.input
+  pub shown : IsSome o.shown
+  pub printed : IsSome o.printed
+
+-- Contents that are told decide the status and what is shown before its line. So each status comes exactly where its cause is
+-- there, unless an object fails or memory runs out; and where no refusal has its cause, the command has its effect.
+abbrev pub OneStatus : Type 0
+OneStatus =
+    (s t : Status) (c : Command) (before after behind : Outside) (shown bytes : List ℕ) (kernel other : KernelLeft)
+    → IsTold before → IsTold after → IsTold behind → IsDecisive s → IsDecisive t
+    → Comes c s before after shown kernel → Comes c t before behind bytes other → (s ≡ t) × (shown ≡ bytes)
+
+-- ---- which objects a command does not touch
+
+-- a run sees all devices
+abbrev pub uses_devices : Command → Bool
+uses_devices (words.run file o) = true
+uses_devices (words.replay file choices turns) = true
+uses_devices (words.exec file o) = true
+uses_devices _ = false
+
+abbrev pub uses_drive : Command → Bool
+uses_drive (words.newdisk blocks old) = true
+uses_drive (words.put file title) = true
+uses_drive (words.get title file) = true
+uses_drive c = uses_devices c
+
+-- so, where there is a command
+abbrev pub does : (Command → Bool) → Option Command → Bool
+does test None = false
+does test (Some c) = test c

@@ -1,0 +1,83 @@
+//! How a call ends.
+
+ghost use Rattle.std.specs.Prelude.{◌≡◌};
+ghost use Rattle.edi_statuses.specs.Lines.{number_of};
+
+use edi_calls::Cause;
+use edi_image::MountFault;
+use edi_target::CodeFault;
+use edi_texts::RefusalKind;
+
+/// How a call ended.
+#[derive(Clone, Copy, Debug, PartialEq, Eq)]
+pub enum Status {
+    /// The command did what it says; the program that ran came to its end; the session was halted or its input ended.
+    Ok,
+    /// The words are not those of a command.
+    Words,
+    /// The text has this first fault, on this line, counted from 1; the line of a text that is too long is 0.
+    Refused(RefusalKind, u16),
+    /// The program failed for this cause, on this line, or called `halt` there.
+    Stopped(Cause, u16),
+    /// The bound on the turns was used up.
+    Turns,
+    /// Memory ran out.
+    NoMemory,
+    /// The files have failed.
+    FileFault,
+    /// The drive has failed.
+    DriveFault,
+    /// The input has failed.
+    InputFault,
+    /// The terminal or the printer has failed.
+    OutputFault,
+    /// The image of the drive, or the old image, breaks this first rule.
+    BadImage(MountFault),
+    /// The code file has this first fault.
+    BadCode(CodeFault),
+    /// The instruction at this address has no meaning in the state that it met.
+    BadState(u32),
+    /// No file has the name, or no slot the title, that the words have.
+    Absent,
+    /// This line of the choices file, counted from 1, is the first bad one.
+    BadChoices(u32),
+    /// The session took as many bytes as it may and asked for another.
+    SessionLimit,
+    /// The disk has too few free blocks, or no free slot.
+    DiskFull,
+    /// The file is longer than a file of a disk may be.
+    FileLarge,
+    /// No process can go on any more.
+    Standstill,
+    /// This line of the file of points, counted from 1, is the first bad one.
+    BadPoints(u32),
+}
+
+impl Status {
+    /// The exit status of the program, 0 to 18.
+    pub fn number(&self) -> u8
+        ensures exact { result ≡ number_of self.now }
+    {
+        match self {
+            Status::Ok => 0,
+            Status::Words => 1,
+            Status::Refused(_, _) => 2,
+            Status::Stopped(_, _) => 3,
+            Status::Turns => 4,
+            Status::NoMemory => 5,
+            Status::FileFault => 6,
+            Status::DriveFault => 7,
+            Status::InputFault => 8,
+            Status::OutputFault => 9,
+            Status::BadImage(_) => 10,
+            Status::BadCode(_) | Status::BadState(_) => 11,
+            Status::Absent => 12,
+            Status::BadChoices(_) => 13,
+            Status::SessionLimit => 14,
+            Status::DiskFull => 15,
+            Status::FileLarge => 16,
+            Status::Standstill => 17,
+            Status::BadPoints(_) => 18,
+        }
+    }
+}

@@ -1,0 +1,6 @@
+pub mod Local
+pub mod Attempt
+pub mod Chosen
+pub mod Items
+pub mod Choices
+pub mod Stepped

@@ -1,0 +1,35 @@
+//! Keeping the record of the choices that a run drew.
+
+ghost use Rattle.std.specs.Prelude.{◌≡◌, ◌≤◌, None, IfErr, option_map};
+ghost use Rattle.edi_told.specs.Faults.{CountRose};
+ghost use Rattle.edi_steps.specs.OnFiles.{RecordStep};
+
+use edi_host::{Files, KeepEnd};
+use edi_statuses::Status;
+use edi_trace::{Choices, write_choices};
+use std::alloc::Global;
+
+/// Keeps the first choices that were drawn, 65,536 at most, under this name, if there is one.
+pub fn keep_record<F: Files>(
+    alloc: Global,
+    files: &mut F,
+    name: Option<&str>,
+    choices: &Choices,
+) -> Result<(), Status>
+    ensures keeps { RecordStep (option_map (λ text. text.now) name.entry) choices.now result (F.contents files.old) (F.contents files.new) }
+    ensures untouched { name.entry ≡ None → files.new ≡ files.old }
+    ensures later { F.faults files.old ≤ F.faults files.new }
+    ensures cause { IfErr result (λ s. s ≡ Status.FileFault → CountRose (F.faults files.old) (F.faults files.new)) }
+{
+    let Some(name) = name else {
+        return Ok(());
+    };
+    let Ok(bytes) = write_choices(alloc, choices.used()) else {
+        return Err(Status::NoMemory);
+    };
+    match files.keep(alloc, name, &bytes) {
+        KeepEnd::Ok => Ok(()),
+        KeepEnd::Failed => Err(Status::FileFault),
+        KeepEnd::NoMemory => Err(Status::NoMemory),
+    }
+}

@@ -1,0 +1,163 @@
+-- From the steps of `compile` to what its status means.
+use Rattle.std.proofs.Common.{◌≡◌, inl, inr, ℕ, List, [], Option, Some, None, Ok, Err, refl, sym, subst, ap, ◌∙◌}
+use Rattle.std.specs.Prelude.{IfSome}
+use Rattle.std.specs.FinMap as map
+use Rattle.edi_told.specs.Told.{WhereTold}
+use Rattle.edi_host.specs.Files.{Contents, KeepLeaves}
+use Rattle.edi_host.specs.declared.files.KeepEnd.TheVariants as keep
+use Rattle.edi_target.specs.File.{code_bytes}
+use Rattle.edi_words.specs.Words.{compile}
+use Rattle.edi_statuses.specs.declared.status.Status.{Status}
+use Rattle.edi_statuses.specs.declared.status.Status.TheVariants as status
+use Rattle.edi_statuses.specs.Outside.{Outside, still_told, seen, KernelLeft, SameBlocks, SameInput, SamePrinted}
+use Rattle.edi_statuses.specs.Steps.{goes, stops, Fetches}
+use Rattle.edi_statuses.specs.Commands.{IsNothing, TextSteps}
+use Rattle.edi_statuses.specs.Means.{Means, HasNotBegun}
+use Rattle.edi_steps.specs.OnFiles.{files_only}
+use Rattle.edi_text_commands.specs.TextCommands.{RestIsSame, MeansOnFiles, CodesFile}
+
+-- ---- contents that are still told
+
+-- what is so from one moment on was so before, where nothing has changed till then
+pub since : (P : Contents → Contents → Type 0) (old mid new : Option Contents) → WhereTold old mid (λ old mid. mid ≡ old) → WhereTold mid new P
+    → WhereTold (still_told old new) new P
+since P old mid None same holds = tt
+since P old None (Some n) same holds = absurd holds
+since P None (Some m) (Some n) same holds = absurd same
+since P (Some o) (Some m) (Some n) same holds = subst (λ x. P x n) same holds
+
+still : (P : Contents → Contents → Type 0) (old new : Option Contents) → WhereTold old new P → WhereTold (still_told old new) new P
+still P old None holds = tt
+still P old (Some n) holds = holds
+
+-- what is told later too was seen before
+later : (Q : Contents → Type 0) (P : Contents → Contents → Type 0) (old mid new : Option Contents) → WhereTold mid new P → IfSome (still_told old mid) Q
+    → IfSome (still_told old new) Q
+later Q P old mid None holds q = tt
+later Q P old None (Some n) holds q = absurd holds
+later Q P old (Some m) (Some n) holds q = q
+
+itself : {A : Type 0} (a : Option A) → WhereTold (still_told a a) a (λ old new. new ≡ old)
+itself None = tt
+itself (Some x) = refl
+
+same_told : {A : Type 0} (a b : Option A) → b ≡ a → WhereTold (still_told a b) b (λ old new. new ≡ old)
+same_told a b e = subst (λ x. WhereTold (still_told a x) x (λ old new. new ≡ old)) (sym e) (itself a)
+
+removed_too : (out : List ℕ) (old new : Option Contents) → WhereTold old new (λ old new. new ≡ old) →
+    WhereTold old new (λ old new. map.remove new out ≡ map.remove old out)
+removed_too out old None same = tt
+removed_too out None (Some n) same = absurd same
+removed_too out (Some o) (Some n) same = ap (λ f. map.remove f out) same
+
+-- ---- the meaning of a status
+
+module _ (file out : List ℕ) (old new : Option Contents) (before after : Outside) (kernel : KernelLeft) (e : before.files ≡ old) (d : after.files ≡ new)
+    (rest : RestIsSame before after) where
+  files_are : still_told old new ≡ (seen before after).files
+  files_are = λ i. still_told (sym e i) (sym d i)
+
+  -- what holds of the files from before to behind
+  on_files : (P : Contents → Contents → Type 0) → WhereTold (still_told old new) new P → WhereTold (seen before after).files after.files P
+  on_files P holds = subst (λ x. WhereTold x after.files P) files_are (subst (λ y. WhereTold (still_told old new) y P) (sym d) holds)
+
+  blocks_same : SameBlocks (seen before after) after
+  blocks_same = same_told before.blocks after.blocks rest.blocks
+
+  input_same : SameInput (seen before after) after
+  input_same = same_told before.input after.input rest.input
+
+  printed_same : SamePrinted (seen before after) after
+  printed_same = same_told before.printed after.printed rest.printed
+
+  nothing : WhereTold (still_told old new) new (λ old new. new ≡ old) → IsNothing (seen before after) after []
+  nothing same = record {
+    shown_ = refl;
+    same = record {
+      files = on_files (λ old new. new ≡ old) same;
+      blocks = blocks_same;
+      input = input_same;
+      printed = printed_same;
+    };
+  }
+
+  not_begun : HasNotBegun (seen before after) after []
+  not_begun = record { shown_ = refl; blocks = blocks_same; input = input_same; printed = printed_same }
+
+  broken : WhereTold (still_told old new) new (λ old new. map.remove new out ≡ map.remove old out) →
+      Means status.FileFault (Some (compile file out)) before after [] kernel
+  broken same = record { files = on_files (λ old new. map.remove new out ≡ map.remove old out) same; far = inl not_begun }
+
+  wanting : WhereTold (still_told old new) new (λ old new. new ≡ old) → Means status.NoMemory (Some (compile file out)) before after [] kernel
+  wanting same = nothing same
+
+  seen_file : (text : List ℕ) → IfSome (still_told old new) (λ files. map.get files file ≡ Some text) → Fetches (seen before after) file (goes text)
+  seen_file text fetched = subst (λ x. IfSome x (λ files. map.get files file ≡ Some text)) files_are fetched
+
+  -- the command stopped at one of its steps
+  stopped : (s : Status) → TextSteps (files_only (still_told old new)) file (stops s) → WhereTold (still_told old new) new (λ old new. new ≡ old)
+      → Means s (Some (compile file out)) before after [] kernel
+  stopped s (inl absent) same =
+      subst (λ s. Means s (Some (compile file out)) before after [] kernel) (sym absent.0)
+      (inl (inl (refl, subst (λ x. IfSome x (λ files. map.get files file ≡ None)) files_are absent.1), nothing same))
+  stopped s (inr fetched) same = elim fetched.2 [
+    | inl r ↦
+        subst (λ s. Means s (Some (compile file out)) before after [] kernel) (sym r.2)
+        (inl (inr (fetched.0, seen_file fetched.0 fetched.1, inl (r.0, r.1, refl, r.3)), nothing same))
+    | inr r ↦ absurd r.2
+  ]
+
+  stops_so : {V : Type 0} (items : V → List ℕ) (s : Status) → CodesFile items (files_only (still_told old new)) file (Err s)
+      → WhereTold old new (λ old new. new ≡ old) → Means s (Some (compile file out)) before after [] kernel
+  stops_so items s (inl none) same =
+      subst (λ s. Means s (Some (compile file out)) before after [] kernel) (sym none) (wanting (still (λ old new. new ≡ old) old new same))
+  stops_so items s (inr (inl failed)) same =
+      subst (λ s. Means s (Some (compile file out)) before after [] kernel) (sym failed)
+      (broken (still (λ old new. map.remove new out ≡ map.remove old out) old new (removed_too out old new same)))
+  stops_so items s (inr (inr steps)) same = stopped s steps (still (λ old new. new ≡ old) old new same)
+
+-- the command has stopped
+pub stops_means : {V : Type 0} (items : V → List ℕ) (file out : List ℕ) (old new : Option Contents) (s : Status)
+    → CodesFile items (files_only (still_told old new)) file (Err s) → WhereTold old new (λ old new. new ≡ old) → MeansOnFiles (compile file out) s old new
+stops_means items file out old new s codes same = λ before after kernel e d rest. stops_so file out old new before after kernel e d rest items s codes same
+
+-- the code was to be kept
+module _ {V : Type 0} (items : V → List ℕ) (file out : List ℕ) (old mid new : Option Contents) (v : V) (bytes : List ℕ) (are : bytes ≡ items v)
+    (codes : CodesFile items (files_only (still_told old mid)) file (Ok v)) (same : WhereTold old mid (λ old mid. mid ≡ old)) where
+  pub kept_means : WhereTold mid new (KeepLeaves keep.Ok out bytes) → MeansOnFiles (compile file out) status.Ok old new
+  kept_means kept = λ before after kernel e d rest.
+      let text = codes.0 in
+      let made = codes.2 in
+      let leaves = since (λ old new. new ≡ map.insert old out (code_bytes made.2)) old mid new same
+      (subst (λ b. WhereTold mid new (λ old new. new ≡ map.insert old out b)) (are ∙ made.4) kept) in
+      inr (
+        (text, made.0),
+        inr (
+          text,
+          seen_file file out old new before after kernel e d rest text
+              (later (λ files. map.get files file ≡ Some text) (KeepLeaves keep.Ok out bytes) old mid new kept codes.1),
+          inr (made.0, made.1, refl),
+        ),
+        (
+          refl,
+          record {
+            parts = made.2;
+            code_is = made.3;
+            keeps = record {
+              shown_ = refl;
+              keeps = on_files file out old new before after kernel e d rest (λ old new. new ≡ map.insert old out (code_bytes made.2)) leaves;
+              blocks = blocks_same file out old new before after kernel e d rest;
+              input = input_same file out old new before after kernel e d rest;
+              printed = printed_same file out old new before after kernel e d rest;
+            };
+          },
+        ),
+      )
+
+  pub unkept_means : WhereTold mid new (KeepLeaves keep.NoMemory out bytes) → MeansOnFiles (compile file out) status.NoMemory old new
+  unkept_means kept = λ before after kernel e d rest.
+      wanting file out old new before after kernel e d rest (since (λ old new. new ≡ old) old mid new same kept)
+
+  pub failed_means : WhereTold mid new (KeepLeaves keep.Failed out bytes) → MeansOnFiles (compile file out) status.FileFault old new
+  failed_means kept = λ before after kernel e d rest.
+      broken file out old new before after kernel e d rest (since (λ old new. map.remove new out ≡ map.remove old out) old mid new same kept)

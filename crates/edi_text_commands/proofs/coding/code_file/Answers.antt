@@ -1,0 +1,12 @@
+-- The first bytes of the file decide what its text is.
+use Rattle.std.proofs.Common.{◌∙◌, ℕ, Vec, Global}
+use Rattle.edi_statuses.specs.Outside.{Outside, still_told}
+use Rattle.edi_steps.specs.OnFiles.{files_only}
+use Rattle.edi_text_commands.proofs.Coded.{file_coded}
+use Rattle.edi_text_commands.proofs.coding.code_file.Goals as goal
+
+pub returns-in-Ok-clause-codes : goal.returns-in-Ok-clause-codes
+returns-in-Ok-clause-codes g c =
+    let f = c.in-Ok.ensures.fetched in
+    let o : Outside = files_only (still_told (g.F.Files.contents c.args.files.now) (g.F.Files.contents c.fetch.new.files)) in
+    file_coded (λ (v : Vec ℕ Global). v.items) o c.args.file.now c.deref.result.now f.0 c.code_text.result f.1 (c.deref.ensures.value ∙ f.2) c.code_text.ensures.codes

@@ -1,0 +1,44 @@
+-- A text has one outcome; and code that is made of the unit of a text does what the text does, where it does what the unit means.
+use Rattle.std.proofs.Common.{◌≡◌, ◌≤◌, ◌+◌, ◌*◌, ℕ, List, length, sym, subst}
+use Rattle.std.specs.Prelude.{◌↔◌}
+use Rattle.edi_calls.specs.Choice.{Choices}
+use Rattle.edi_calls.specs.Outcome.{Outcome}
+use Rattle.edi_calls.specs.State.{State, fresh}
+use Rattle.edi_lex.specs.Symbols.{symbols_of}
+use Rattle.edi_meaning.specs.Select as source
+use Rattle.edi_meaning.specs.Select.{Select}
+use Rattle.edi_meaning.proofs.Selections.{selections_are_determined}
+use Rattle.edi_target.specs.Check.{CodeParts, IsSound}
+use Rattle.edi_unit.specs.Tree.{ProgramUnit}
+use Rattle.edi_texts.specs.Texts.{IsUnit}
+use Rattle.edi_texts.specs.Length.{symbol_count}
+use Rattle.edi_texts.specs.Run.{IsRunOf, IsMomentOf, IsRunOfCode, IsMomentOfCode, IsCodeFor}
+use Rattle.edi_texts.proofs.Once.{one_unit}
+
+pub one_outcome : (text : List ℕ) (system : State) (bound : ℕ) (choices : Choices) (one other : Outcome) → IsRunOf text system bound choices one
+    → IsRunOf text system bound choices other → one ≡ other
+one_outcome text system bound choices one other h k =
+    let same : h.unit ≡ k.unit = one_unit (symbols_of text) h.unit k.unit h.unit_is k.unit_is in
+    selections_are_determined k.unit (fresh system) bound choices one other (subst (λ u. Select u (fresh system) bound choices one) same h.run) k.run
+
+-- code that has the outcomes and the moments of the unit of a text
+pub code_for : (text : List ℕ) (unit : ProgramUnit) (code : CodeParts) → IsUnit text unit → IsSound code → length code.words ≤ 8 * symbol_count text + 64
+    → ((system : State) (bound : ℕ) (choices : Choices) (outcome : Outcome) → IsRunOfCode code system bound choices outcome ↔ Select unit
+    (fresh system) bound choices outcome)
+    → ((system : State) (bound : ℕ) (choices : Choices) (moment : State) → IsMomentOfCode code system bound choices moment ↔ source.ComesThrough unit
+    (fresh system) bound choices moment)
+    → IsCodeFor text code
+code_for text unit code is sound short outcomes moments = record {
+  sound = sound;
+  short = short;
+  same = λ system bound choices outcome. (
+    λ h. record { unit = unit; unit_is = is; run = (outcomes system bound choices outcome).0 h },
+    λ h. (outcomes system bound choices outcome).1
+        (subst (λ u. Select u (fresh system) bound choices outcome) (one_unit (symbols_of text) h.unit unit h.unit_is is) h.run),
+  );
+  through = λ system bound choices moment. (
+    λ h. record { unit = unit; unit_is = is; moment_is = (moments system bound choices moment).0 h },
+    λ h. (moments system bound choices moment).1
+        (subst (λ u. source.ComesThrough u (fresh system) bound choices moment) (one_unit (symbols_of text) h.unit unit h.unit_is is) h.moment_is),
+  );
+}

@@ -1,0 +1,9 @@
+pub mod Once
+pub mod Joined
+pub mod Same
+pub mod Rules
+pub mod Stops
+pub mod Total
+pub mod Thing
+pub mod Bounded
+pub mod Executions

@@ -1,0 +1,41 @@
+-- Words of contracts. What the command of the code says, in the words of `Words`.
+use Rattle.std.specs.Prelude.{List, map, option_map}
+use Rattle.std.specs.Borrow.{Bor}
+use Rattle.edi_words.specs.Words as words
+use Rattle.edi_words.specs.Words.{Text}
+use Rattle.edi_words.specs.declared.commands.ChoicesFrom.{ChoicesFrom}
+use Rattle.edi_words.specs.declared.commands.ChoicesFrom.TheVariants as source
+use Rattle.edi_words.specs.declared.commands.Options.{Options}
+use Rattle.edi_words.specs.declared.commands.Command.{Command}
+use Rattle.edi_words.specs.declared.commands.Command.TheVariants as command
+
+-- the texts behind references
+abbrev pub texts : List (Bor Text) → List Text
+texts = map (λ text. text.now)
+
+abbrev pub choices_from : ChoicesFrom → words.ChoicesFrom
+choices_from source.Nowhere = words.nowhere
+choices_from (source.File name) = words.file name.now
+choices_from (source.Seed n) = words.seed n
+
+abbrev pub options_of : Options → words.Options
+options_of o = record {
+  turns = o.turns;
+  choices = choices_from o.choices;
+  record_file = option_map (λ name. name.now) o.record_file;
+}
+
+abbrev pub view : Command → words.Command
+view (command.Run file options) = words.run file.now (options_of options)
+view (command.Replay file choices turns) = words.replay file.now choices.now turns
+view (command.Exec file options) = words.exec file.now (options_of options)
+view (command.Boot options) = words.boot (options_of options)
+view (command.Compile file out) = words.compile file.now out.now
+view (command.NewDisk blocks old) = words.newdisk blocks (option_map (λ name. name.now) old)
+view (command.Put file title) = words.put file.now title.now
+view (command.Get title file) = words.get title.now file.now
+view (command.List file) = words.list file.now
+view (command.Demo n options) = words.demo n (options_of options)
+view (command.Check file) = words.check file.now
+view (command.Walk file choices turns) = words.walk file.now choices.now turns
+view (command.Watch file stops out options) = words.watch file.now stops.now out.now (options_of options)

@@ -1,0 +1,94 @@
+//! Commands with their operands and options.
+
+/// Where the choices of a run come from.
+#[derive(Clone, Copy, Debug, PartialEq, Eq)]
+pub enum ChoicesFrom<'a> {
+    /// There are none: the first ready process is always taken.
+    Nowhere,
+    /// From the file of this name.
+    File(&'a str),
+    /// A seed generates them.
+    Seed(u16),
+}
+
+/// How a run is to go.
+#[derive(Clone, Copy, Debug, PartialEq, Eq)]
+pub struct Options<'a> {
+    /// The bound on the turns, 1 to 1,000,000,000.
+    pub turns: u32,
+    /// Where the choices come from.
+    pub choices: ChoicesFrom<'a>,
+    /// The name of the file that is to keep the choices that the run drew.
+    pub record_file: Option<&'a str>,
+}
+
+/// A command. Its names of files and titles are texts of the words.
+#[derive(Clone, Copy, Debug, PartialEq, Eq)]
+pub enum Command<'a> {
+    /// `run FILE`: runs the program of a text.
+    Run {
+        file: &'a str,
+        options: Options<'a>,
+    },
+    /// `replay FILE CHOICES`: runs it with the choices of a file.
+    Replay {
+        file: &'a str,
+        choices: &'a str,
+        turns: u32,
+    },
+    /// `exec CODEFILE`: runs the program of a code file.
+    Exec {
+        file: &'a str,
+        options: Options<'a>,
+    },
+    /// `boot`: holds a session.
+    Boot {
+        options: Options<'a>,
+    },
+    /// `compile FILE OUT`: keeps the code of a text in a code file.
+    Compile {
+        file: &'a str,
+        out: &'a str,
+    },
+    /// `newdisk BLOCKS`: formats the drive, perhaps with the files of an image of version 1.
+    NewDisk {
+        blocks: u16,
+        old: Option<&'a str>,
+    },
+    /// `put FILE TITLE`: stores a file of the host on the disk.
+    Put {
+        file: &'a str,
+        title: &'a str,
+    },
+    /// `get TITLE FILE`: keeps a file of the disk as one of the host.
+    Get {
+        title: &'a str,
+        file: &'a str,
+    },
+    /// `list CODEFILE`: shows the instructions of a code file.
+    List {
+        file: &'a str,
+    },
+    /// `demo N`: runs a text of this size, made for the purpose.
+    Demo {
+        n: u16,
+        options: Options<'a>,
+    },
+    /// `check FILE`: reports which branches of a text are disjoint.
+    Check {
+        file: &'a str,
+    },
+    /// `walk FILE CHOICES`: runs a text step by step by the order of a file.
+    Walk {
+        file: &'a str,
+        choices: &'a str,
+        turns: u32,
+    },
+    /// `watch FILE STOPS OUT`: runs a text and keeps a log of the points of a file.
+    Watch {
+        file: &'a str,
+        stops: &'a str,
+        out: &'a str,
+        options: Options<'a>,
+    },
+}

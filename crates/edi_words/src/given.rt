@@ -1,0 +1,117 @@
+//! The operands and options of a command as they were given.
+
+ghost use Rattle.std.specs.Prelude.{◌≡◌, option_map};
+ghost use Rattle.edi_words.specs.Words as words;
+ghost use Rattle.edi_words.specs.View.{choices_from, options_of, texts};
+ghost use Rattle.edi_words.specs.Inside.{given_view};
+
+use crate::commands::{ChoicesFrom, Options};
+
+/// The operands, and the values of each option, in the order of the words.
+#[derive(Clone, Copy)]
+pub(crate) struct Given<'m, 'a> {
+    pub(crate) operands: &'m [&'a str],
+    pub(crate) turns: &'m [&'a str],
+    pub(crate) choices: &'m [&'a str],
+    pub(crate) seeds: &'m [&'a str],
+    pub(crate) record_files: &'m [&'a str],
+    pub(crate) old_disks: &'m [&'a str],
+}
+
+fn are_digits(word: &[u8]) -> bool
+    ensures { result ≡ words.are_digits word.now }
+{
+    word.iter().all(|c| c.is_ascii_digit())
+}
+
+/// The number that 1 to 10 digits spell.
+fn spelled(word: &str) -> Option<u64>
+    ensures { result ≡ words.spelled word.now }
+{
+    if word.is_empty() || word.len() > 10 || !are_digits(word.as_bytes()) {
+        return None;
+    }
+    word.parse::<u64>().ok()
+}
+
+/// The number of 1 to 10 digits in this range.
+pub(crate) fn number_in(least: u32, most: u32, word: &str) -> Option<u32>
+    ensures { result ≡ words.number_in least most word.now }
+{
+    let number = spelled(word)?;
+    if number < u64::from(least) || number > u64::from(most) {
+        return None;
+    }
+    Some(number as u32)
+}
+
+fn turns_by(values: &[&str]) -> Option<u32>
+    ensures { result ≡ words.turns_by (texts values.now) }
+{
+    match values.first() {
+        Some(value) => number_in(1, 1_000_000_000, value),
+        None => Some(1_000_000),
+    }
+}
+
+fn first_of<'a>(values: &[&'a str]) -> Option<&'a str>
+    ensures { option_map (λ text. text.now) result ≡ words.first_of (texts values.now) }
+{
+    values.first().copied()
+}
+
+fn choices_by<'a>(files: &[&'a str], seeds: &[&'a str]) -> Option<ChoicesFrom<'a>>
+    ensures { option_map choices_from result ≡ words.choices_by (texts files.now) (texts seeds.now) }
+{
+    match (first_of(files), first_of(seeds)) {
+        (None, None) => Some(ChoicesFrom::Nowhere),
+        (Some(name), None) => Some(ChoicesFrom::File(name)),
+        (None, Some(value)) => {
+            let seed = number_in(0, 65_535, value)?;
+            Some(ChoicesFrom::Seed(seed as u16))
+        }
+        (Some(_), Some(_)) => None,
+    }
+}
+
+impl<'m, 'a> Given<'m, 'a> {
+    /// Whether only these options are given, each at most so many times: `--turns`; `--choices`, `--seed` and `--record`;
+    /// and `--from`.
+    pub(crate) fn takes(&self, turns: usize, others: usize, from: usize) -> bool
+        ensures { result ≡ words.takes turns others from (given_view self.now) }
+    {
+        self.turns.len() <= turns
+            && self.choices.len() <= others
+            && self.seeds.len() <= others
+            && self.record_files.len() <= others
+            && self.old_disks.len() <= from
+    }
+
+    /// The bound on the turns, a million where none is given.
+    pub(crate) fn bound(&self) -> Option<u32>
+        ensures { result ≡ words.turns_in (given_view self.now) }
+    {
+        turns_by(self.turns)
+    }
+
+    /// The old image.
+    pub(crate) fn old_disk(&self) -> Option<&'a str>
+        ensures { option_map (λ text. text.now) result ≡ words.first_of (given_view self.now).old_disks }
+    {
+        first_of(self.old_disks)
+    }
+
+    /// The options of a run.
+    pub(crate) fn options(&self) -> Option<Options<'a>>
+        ensures { option_map options_of result ≡ words.options_in (given_view self.now) }
+    {
+        let turns = self.bound()?;
+        let choices = choices_by(self.choices, self.seeds)?;
+        let record_file = first_of(self.record_files);
+        Some(Options {
+            turns,
+            choices,
+            record_file,
+        })
+    }
+}

@@ -1,0 +1,243 @@
+//! The table of commands.
+
+ghost use Rattle.std.specs.Prelude.{◌≡◌, option_map};
+ghost use Rattle.edi_words.specs.Words as words;
+ghost use Rattle.edi_words.specs.View.{options_of, texts, view};
+ghost use Rattle.edi_words.specs.Inside.{given_view};
+
+use crate::commands::{Command, Options};
+use crate::given::{Given, number_in};
+use edi_calls::is_title;
+
+fn one_operand<'a>(operands: &[&'a str]) -> Option<&'a str>
+    ensures { option_map (λ text. text.now) result ≡ words.one_operand (texts operands.now) }
+{
+    match *operands {
+        [one] => Some(one),
+        _ => None,
+    }
+}
+
+fn two_operands<'a>(operands: &[&'a str]) -> Option<(&'a str, &'a str)>
+    ensures { option_map (λ p. (p.0.now, p.1.now)) result ≡ words.two_operands (texts operands.now) }
+{
+    match *operands {
+        [one, two] => Some((one, two)),
+        _ => None,
+    }
+}
+
+fn three_operands<'a>(operands: &[&'a str]) -> Option<(&'a str, &'a str, &'a str)>
+    ensures { option_map (λ p. (p.0.now, p.1.now, p.2.now)) result ≡ words.three_operands (texts operands.now) }
+{
+    match *operands {
+        [one, two, three] => Some((one, two, three)),
+        _ => None,
+    }
+}
+
+/// `run FILE` and `exec CODEFILE`.
+fn file_run<'a>(operands: &[&'a str], given: &Given<'_, 'a>) -> Option<(&'a str, Options<'a>)>
+    ensures { option_map (λ p. (p.0.now, options_of p.1)) result ≡ words.file_run (texts operands.now) (given_view given.now) }
+{
+    if !given.takes(1, 1, 0) {
+        return None;
+    }
+    let file = one_operand(operands)?;
+    let options = given.options()?;
+    Some((file, options))
+}
+
+/// `boot`.
+fn bare_run<'a>(operands: &[&'a str], given: &Given<'_, 'a>) -> Option<Options<'a>>
+    ensures { option_map options_of result ≡ words.bare_run (texts operands.now) (given_view given.now) }
+{
+    if !given.takes(1, 1, 0) || !operands.is_empty() {
+        return None;
+    }
+    given.options()
+}
+
+/// `replay FILE CHOICES` and `walk FILE CHOICES`.
+fn guided_run<'a>(operands: &[&'a str], given: &Given<'_, 'a>) -> Option<(&'a str, &'a str, u32)>
+    ensures { option_map (λ p. ((p.0.now, p.1.now), p.2)) result ≡ words.guided_run (texts operands.now) (given_view given.now) }
+{
+    if !given.takes(1, 0, 0) {
+        return None;
+    }
+    let (file, choices) = two_operands(operands)?;
+    let turns = given.bound()?;
+    Some((file, choices, turns))
+}
+
+/// `list CODEFILE` and `check FILE`.
+fn only_file<'a>(operands: &[&'a str], given: &Given<'_, 'a>) -> Option<&'a str>
+    ensures { option_map (λ text. text.now) result ≡ words.only_file (texts operands.now) (given_view given.now) }
+{
+    if given.takes(0, 0, 0) {
+        one_operand(operands)
+    } else {
+        None
+    }
+}
+
+/// `compile FILE OUT`.
+fn only_files<'a>(operands: &[&'a str], given: &Given<'_, 'a>) -> Option<(&'a str, &'a str)>
+    ensures { option_map (λ p. (p.0.now, p.1.now)) result ≡ words.only_files (texts operands.now) (given_view given.now) }
+{
+    if given.takes(0, 0, 0) {
+        two_operands(operands)
+    } else {
+        None
+    }
+}
+
+/// `newdisk BLOCKS`.
+fn new_disk<'a>(operands: &[&'a str], given: &Given<'_, 'a>) -> Option<(u16, Option<&'a str>)>
+    ensures { option_map (λ p. (p.0, option_map (λ text. text.now) p.1)) result ≡ words.new_disk (texts operands.now) (given_view given.now) }
+{
+    if !given.takes(0, 0, 1) {
+        return None;
+    }
+    let blocks = number_in(64, 4096, one_operand(operands)?)?;
+    Some((blocks as u16, given.old_disk()))
+}
+
+/// `put FILE TITLE`.
+fn put_file<'a>(operands: &[&'a str], given: &Given<'_, 'a>) -> Option<(&'a str, &'a str)>
+    ensures { option_map (λ p. (p.0.now, p.1.now)) result ≡ words.put_file (texts operands.now) (given_view given.now) }
+{
+    let (file, title) = only_files(operands, given)?;
+    if is_title(title.as_bytes()) {
+        Some((file, title))
+    } else {
+        None
+    }
+}
+
+/// `get TITLE FILE`, as the file and the title.
+fn get_file<'a>(operands: &[&'a str], given: &Given<'_, 'a>) -> Option<(&'a str, &'a str)>
+    ensures { option_map (λ p. (p.0.now, p.1.now)) result ≡ words.get_file (texts operands.now) (given_view given.now) }
+{
+    let (title, file) = only_files(operands, given)?;
+    if is_title(title.as_bytes()) {
+        Some((file, title))
+    } else {
+        None
+    }
+}
+
+/// `demo N`.
+fn sized_run<'a>(operands: &[&'a str], given: &Given<'_, 'a>) -> Option<(u16, Options<'a>)>
+    ensures { option_map (λ p. (p.0, options_of p.1)) result ≡ words.sized_run (texts operands.now) (given_view given.now) }
+{
+    if !given.takes(1, 1, 0) {
+        return None;
+    }
+    let n = number_in(1, 1000, one_operand(operands)?)?;
+    let options = given.options()?;
+    Some((n as u16, options))
+}
+
+/// `watch FILE STOPS OUT`.
+fn watched_run<'a>(
+    operands: &[&'a str],
+    given: &Given<'_, 'a>,
+) -> Option<(&'a str, &'a str, &'a str, Options<'a>)>
+    ensures { option_map (λ p. ((p.0.now, p.1.now, p.2.now), options_of p.3)) result
+        ≡ words.watched_run (texts operands.now) (given_view given.now) }
+{
+    if !given.takes(1, 1, 0) {
+        return None;
+    }
+    let (file, stops, out) = three_operands(operands)?;
+    let options = given.options()?;
+    Some((file, stops, out, options))
+}
+
+/// The command of this name, of the disk, the tools and the debugger.
+fn named_more<'a>(name: &str, operands: &[&'a str], given: &Given<'_, 'a>) -> Option<Command<'a>>
+    ensures { option_map view result ≡ words.named_more name.now (texts operands.now) (given_view given.now) }
+{
+    if name == "put" {
+        let (file, title) = put_file(operands, given)?;
+        return Some(Command::Put { file, title });
+    }
+    if name == "get" {
+        let (file, title) = get_file(operands, given)?;
+        return Some(Command::Get { title, file });
+    }
+    if name == "list" {
+        let file = only_file(operands, given)?;
+        return Some(Command::List { file });
+    }
+    if name == "demo" {
+        let (n, options) = sized_run(operands, given)?;
+        return Some(Command::Demo { n, options });
+    }
+    if name == "check" {
+        let file = only_file(operands, given)?;
+        return Some(Command::Check { file });
+    }
+    if name == "walk" {
+        let (file, choices, turns) = guided_run(operands, given)?;
+        return Some(Command::Walk {
+            file,
+            choices,
+            turns,
+        });
+    }
+    if name == "watch" {
+        let (file, stops, out, options) = watched_run(operands, given)?;
+        return Some(Command::Watch {
+            file,
+            stops,
+            out,
+            options,
+        });
+    }
+    None
+}
+
+/// The command of this name.
+fn named<'a>(name: &str, operands: &[&'a str], given: &Given<'_, 'a>) -> Option<Command<'a>>
+    ensures { option_map view result ≡ words.named name.now (texts operands.now) (given_view given.now) }
+{
+    if name == "run" {
+        let (file, options) = file_run(operands, given)?;
+        return Some(Command::Run { file, options });
+    }
+    if name == "replay" {
+        let (file, choices, turns) = guided_run(operands, given)?;
+        return Some(Command::Replay {
+            file,
+            choices,
+            turns,
+        });
+    }
+    if name == "exec" {
+        let (file, options) = file_run(operands, given)?;
+        return Some(Command::Exec { file, options });
+    }
+    if name == "boot" {
+        let options = bare_run(operands, given)?;
+        return Some(Command::Boot { options });
+    }
+    if name == "compile" {
+        let (file, out) = only_files(operands, given)?;
+        return Some(Command::Compile { file, out });
+    }
+    if name == "newdisk" {
+        let (blocks, old) = new_disk(operands, given)?;
+        return Some(Command::NewDisk { blocks, old });
+    }
+    named_more(name, operands, given)
+}
+
+/// The command that the operands and options are: the first operand is its name.
+pub(crate) fn command_in<'a>(given: &Given<'_, 'a>) -> Option<Command<'a>>
+    ensures { option_map view result ≡ words.command_in (given_view given.now) }
+{
+    let (name, operands) = given.operands.split_first()?;
+    named(name, operands, given)
+}

@@ -1,0 +1,66 @@
+//! Words that the code reads.
+
+use edi_words::{ChoicesFrom, Command, Options, command};
+use std::alloc::{AllocError, Global};
+
+/// The words of a line, cut at blanks.
+fn words_of(alloc: Global, line: &str) -> Result<Vec<String>, AllocError> {
+    let mut words = Vec::new(alloc);
+    for word in line.split(' ') {
+        words.push(String::from_str(alloc, word)?)?;
+    }
+    Ok(words)
+}
+
+/// Whether the words of a line are refused; none where memory is wanting.
+fn is_refused(alloc: Global, line: &str) -> Option<bool> {
+    let words = words_of(alloc, line).ok()?;
+    let found = command(alloc, &words).ok()?;
+    Some(found.is_none())
+}
+
+static REFUSED: [&str; 9] = [
+    "run",
+    "--version",
+    "run a --turns=5",
+    "run a --seed 1 --choices b",
+    "run a --seed 1 --seed 2",
+    "put a t-1",
+    "replay a b --record c",
+    "boot a",
+    "demo 1001",
+];
+
+#[test]
+fn bad_words(rt: HostRuntime) {
+    for line in &REFUSED {
+        assert!(rt; is_refused(rt.alloc(), line) == Some(true));
+    }
+}
+
+#[test]
+fn options_anywhere(rt: HostRuntime) {
+    let words = words_of(rt.alloc(), "--seed 7 run --turns 0000000005 a --record r").expect(
+        &rt, "words",
+    );
+    let found = command(rt.alloc(), &words).expect(&rt, "memory");
+    let options = Options {
+        turns: 5,
+        choices: ChoicesFrom::Seed(7),
+        record_file: Some("r"),
+    };
+    assert!(rt; found == Some(Command::Run { file: "a", options }));
+}
+
+#[test]
+fn an_old_disk(rt: HostRuntime) {
+    let words = words_of(rt.alloc(), "newdisk --from old 64").expect(&rt, "words");
+    let found = command(rt.alloc(), &words).expect(&rt, "memory");
+    assert!(rt;
+        found
+            == Some(Command::NewDisk {
+                blocks: 64,
+                old: Some("old")
+            })
+    );
+}
