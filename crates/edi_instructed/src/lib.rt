@@ -1,5 +1,6 @@
-//! What single instructions do on the side of the meaning: the lemmas that the constructs cite.
+//! What single instructions do to variables and operands: `proofs/Instructed.antt` has it all as one record, `instructed`, for the
+//! crates above.
 #![tactic(auto)]
 
-/// Nothing yet.
+/// Nothing: this crate has only lemmas.
 pub fn nothing() {}

@@ -1,5 +1,5 @@
 //! The code of an Edison program for the abstract machine, as a definition: the instructions of each construct, in
-//! `specs/Code.antt`, with their lengths in `specs/Long.antt`. The code generator, `edi_code`, writes this code. The program calls
+//! `specs/Code.antt`, with their lengths in `specs/Lengths.antt`. The code generator, `edi_code`, writes this code. The program calls
 //! nothing of this crate: the functions here only state laws.
 #![tactic(auto)]
 

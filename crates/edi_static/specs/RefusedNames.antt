@@ -102,7 +102,7 @@ pub row_parameter_twice : resolve_tree
     ≡ faults kind.Ambiguous 3
 row_parameter_twice = refl
 
--- a marked name must be new in the scope round the module too:
+-- an exported name must be new in the scope round the module too:
 -- proc main / var a: int / module * const b = 1; / a = 2 begin skip end / begin skip end
 pub row_exported_twice : resolve_tree
     (program no_global (procedure (heading (id "main" 1) no_params None) (next_declaration (item_declaration (var_item
@@ -115,7 +115,7 @@ pub row_exported_twice : resolve_tree
     ≡ faults kind.Ambiguous 4
 row_exported_twice = refl
 
--- a marked name stays in its module too:
+-- an exported name stays in its module too:
 -- proc main module * const b = 1 const / b = 2 begin skip end begin skip end
 pub row_exported_stays : resolve_tree
     (program no_global (procedure (heading (id "main" 1) no_params None) (next_declaration (module_declaration (module_with
@@ -152,7 +152,7 @@ pub row_both_marked : resolve_tree
     ≡ faults kind.Ambiguous 4
 row_both_marked = refl
 
--- the name of a split procedure is exported by an export on its `post` alone:
+-- a split procedure is exported by its `post` alone:
 -- proc main / module pre proc p * post proc p begin skip end begin skip end / begin p; / x end
 pub row_post_marked : resolve_tree
     (program no_global (procedure (heading (id "main" 1) no_params None) (next_declaration (module_declaration (module_with
@@ -171,7 +171,7 @@ pub row_pre_marked : resolve_tree
     ≡ faults kind.Undeclared 4
 row_pre_marked = refl
 
--- an export takes out an enumeration with its constants:
+-- an enumeration is exported with its constants:
 -- proc main / module * enum e (a, b) begin skip end / var x: e / begin x := b; / y end
 pub row_constants_marked : resolve_tree
     (program no_global (procedure (heading (id "main" 1) no_params None) (next_declaration (module_declaration (module_with
