@@ -30,11 +30,11 @@ by_option f (Some a) x p q = p a refl
 -- the same files
 kept : (s : State) (found : Option Found) (buffer : Option (List ℕ)) → IsState s → IsFoundIn s.slots found → is_buffer buffer ≡ true
     → IsState (record s { found = found; buffer = buffer })
-kept s found buffer h f b = record { indices = h.indices; files = h.files; distinct = h.distinct; found = f; buffer = b }
+kept s found buffer h f b = record { slot_count = h.slot_count; files = h.files; distinct = h.distinct; found = f; buffer = b }
 
 accepts : (input : List ℕ) (s : State) → IsState s → SoundIn (calls.accept_from input s)
 accepts [] s h = h
-accepts (b ∷ bs) s h = record { indices = h.indices; files = h.files; distinct = h.distinct; found = h.found; buffer = h.buffer }
+accepts (b ∷ bs) s h = record { slot_count = h.slot_count; files = h.files; distinct = h.distinct; found = h.found; buffer = h.buffer }
 
 text_kind : (k : FileKind) → calls.is_text k ≡ true → k ≡ kind.Text
 text_kind kind.Text h = refl
@@ -111,7 +111,7 @@ changed : (s : State) (title : List ℕ) (index : ℕ) (slot : Option File) (buf
     → IsIndexFor s.slots title index → IsFor title slot → is_slot slot ≡ true → is_buffer buffer ≡ true
     → IsState (record (calls.with_slot s title index slot) { buffer = buffer })
 changed s title index slot buffer h is for good b = record {
-  indices = length-set s.slots index slot ∙ h.indices;
+  slot_count = length-set s.slots index slot ∙ h.slot_count;
   files = list_all-set is_slot s.slots index slot h.files good;
   distinct = distinct_set s.slots title index slot h.distinct is for;
   found = found_after s title index slot s.found is for h.found;
@@ -164,7 +164,7 @@ removes words s h =
 sound_on : (number : ℕ) (words : List ℕ) (s : State) → IsState s → SoundIn (call number words s)
 sound_on number words s h =
     let same : (shown printed : List ℕ) → IsState (record s { shown = shown; printed = printed }) =
-    λ shown printed. record { indices = h.indices; files = h.files; distinct = h.distinct; found = h.found; buffer = h.buffer } in
+    λ shown printed. record { slot_count = h.slot_count; files = h.files; distinct = h.distinct; found = h.found; buffer = h.buffer } in
     either (number == 1) _ _ (λ _. accepts s.input s h) (λ _.
     either (number == 2) _ _ (λ _. same _ s.printed) (λ _.
     either (number == 3) _ _ (λ _. same s.shown _) (λ _.

@@ -137,7 +137,7 @@ room_for state title size = if nat_le (blocks_of size) (free state) then slot_fo
 abbrev pub text_file : List ℕ → List ℕ → File
 text_file title bytes = record { title = title; kind = kind.Text; protected = false; bytes = bytes }
 
--- the state with this in the slot at that place, where the found file is dropped if it has this title
+-- the state with this in the slot of that index, where the found file is dropped if it has this title
 abbrev pub with_slot : State → List ℕ → ℕ → Option File → State
 with_slot state title index slot =
     record state { slots = put_slot state.slots index slot; found = other_than title state.found }

@@ -36,7 +36,7 @@ pub data Taking : Type 0 where
   nobody : Taking
   taking : Name → List Name → (drawn : ℕ) → Taking
 
--- the name at a place, counted from 0, and the list without it
+-- the name at an index, counted from 0, and the list without it
 abbrev pub name_at : List Name → ℕ → Name
 name_at [] index = []
 name_at (p ∷ ps) zero = p
@@ -47,11 +47,11 @@ without_index [] index = []
 without_index (p ∷ ps) zero = ps
 without_index (p ∷ ps) (suc index) = p ∷ without_index ps index
 
--- the process at this place is taken
+-- the process at this index is taken
 abbrev pub taking_at : List Name → ℕ → ℕ → Taking
 taking_at ready index drawn = taking (name_at ready index) (without_index ready index) drawn
 
--- of k ready processes the one at place c mod k from the front is taken, c being the next choice; a single one is
+-- of k ready processes the one at index c mod k from the front is taken, c being the next choice; a single one is
 -- taken without a choice
 abbrev pub take_next : Choices → ℕ → List Name → Taking
 take_next choices drawn [] = nobody

@@ -106,24 +106,24 @@ abbrev pub is_titled : List ℕ → Option File → Bool
 is_titled title None = false
 is_titled title (Some file) = bytes_eq file.title title
 
--- the place of the first slot that passes a test
+-- the index of the first slot that passes a test
 abbrev pub first_index : (Option File → Bool) → List (Option File) → Option ℕ
 first_index test [] = None
 first_index test (slot ∷ slots) = if test slot then Some 0 else option_map suc (first_index test slots)
 
--- the place of the file with this title
+-- the index of the slot of the file with this title
 abbrev pub find_slot : List (Option File) → List ℕ → Option ℕ
 find_slot slots title = first_index (is_titled title) slots
 
--- the place of the first free slot
+-- the index of the first free slot
 abbrev pub first_free : List (Option File) → Option ℕ
 first_free slots = first_index is_none slots
 
--- what is in the slot at this place
+-- what is in the slot of this index
 abbrev pub slot_at : List (Option File) → ℕ → Option File
 slot_at slots index = slice_index_or slots index None
 
--- the slots with this in the slot at that place
+-- the slots with this in the slot of that index
 abbrev pub put_slot : List (Option File) → ℕ → Option File → List (Option File)
 put_slot slots index slot = slice_set slots index slot
 
@@ -166,7 +166,7 @@ is_buffer None = true
 is_buffer (Some bytes) = are_bytes bytes
 
 pub record IsState (state : State) : Type 0 where
-  pub indices : length state.slots ≡ 256
+  pub slot_count : length state.slots ≡ 256
   pub files : list_all is_slot state.slots ≡ true
   pub distinct : AreDistinct state.slots
   pub found : IsFoundIn state.slots state.found

@@ -38,6 +38,6 @@ pub(crate) struct MemoryState {
     pub blocks: u32,
     pub found: Option<Reading>,
     pub buffer: Option<Vec<u8>>,
-    ghost indices: { length slots.items ≡ 256 },
+    ghost slot_count: { length slots.items ≡ 256 },
     ghost limit: { ForSome buffer (λ bytes. length bytes.items ≤ most_bytes) },
 }

@@ -21,16 +21,16 @@ use Rattle.edi_kernel.specs.Moments.{Moment, moment, moment_of}
 
 -- ---- the next process
 
--- a slot in the list of so many: the first of a single one, and else by the next choice
-abbrev pub PicksBy : Bool → (ready : ℕ) → (old : Drawn) → (slot : ℕ) → (new : Drawn) → Type 0
-PicksBy true ready old slot new = (slot ≡ 0) × (new ≡ old)
-PicksBy false ready old slot new =
-    old.drawn < 2 ^ 64 - 1 → (slot ≡ choice old.source (old.drawn + 1) % ready) × (new ≡ record old { drawn = old.drawn + 1 })
+-- an index in the list of so many ready processes: the first of a single one, and else by the next choice
+abbrev pub PicksBy : Bool → (ready : ℕ) → (old : Drawn) → (index : ℕ) → (new : Drawn) → Type 0
+PicksBy true ready old index new = (index ≡ 0) × (new ≡ old)
+PicksBy false ready old index new =
+    old.drawn < 2 ^ 64 - 1 → (index ≡ choice old.source (old.drawn + 1) % ready) × (new ≡ record old { drawn = old.drawn + 1 })
 
-abbrev pub Picks : (ready : ℕ) → (old : Drawn) → (slot : ℕ) → (new : Drawn) → Type 0
-Picks ready old slot new = PicksBy (nat_eq ready 1) ready old slot new
+abbrev pub Picks : (ready : ℕ) → (old : Drawn) → (index : ℕ) → (new : Drawn) → Type 0
+Picks ready old index new = PicksBy (nat_eq ready 1) ready old index new
 
--- The process that stands at the slot of the rule among the ready ones is taken, and is in no list. All else is as before.
+-- The process that stands in the ready list at the index of the rule is taken, and is in no list. All else is as before.
 pub record TakesNext (old new : KernelState) (before after : Drawn) : Type 0 where
   pub index : ℕ
   pub picks : Picks (length (ready_slots old.table)) before index after

@@ -119,7 +119,7 @@ abbrev pub Tells : Standing → (slot : ℕ) → (old new : Table) → Type 0
 Tells (standing.Waiting n) slot old new = TellsOne (nat_le n 1) n slot old new
 Tells standing slot old new = new ≡ old
 
--- the slot of a process that has ended is free, and its parent has been told
+-- the slot of a process that has ended is free, and its parent has been notified
 pub record Removed (slot : ℕ) (old new : Table) : Type 0 where
   pub between : Table
   pub put : PutsProcess 1 slot (process_at old slot) old between

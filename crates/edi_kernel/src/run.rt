@@ -21,7 +21,7 @@ use edi_machine::begin;
 use edi_target::Code;
 use edi_trace::Choices;
 
-/// The slot in the list of so many ready processes of the next one. A single one is taken without a choice.
+/// The index of the next process in the list of so many ready ones. A single one is taken without a choice.
 fn pick(ready: usize, choices: &mut Choices) -> usize
     requires { 0 < ready }
     ensures inside { result < ready }

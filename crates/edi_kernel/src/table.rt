@@ -307,7 +307,7 @@ impl Table {
         self.remove(slot);
     }
 
-    /// Takes the ready process at this slot of the list, counted from the front.
+    /// Takes the ready process at this index of the ready list, counted from 0 at the front.
     pub(crate) fn next(&mut self, at: usize) -> usize
         requires sound { IsSound 32 2 self.old.lists }
         requires at { at < length (ready_slots self.old) }
