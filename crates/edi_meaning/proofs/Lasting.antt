@@ -18,14 +18,14 @@ use Rattle.edi_meaning.specs.Store.{Spot, Location, Closure, system_procedure, b
 use Rattle.edi_meaning.specs.Evaluation.{World, Evaluation, gives, ends, ◌>>=◌, stops, turn_from, turn}
 use Rattle.edi_meaning.specs.Whole.{in_range, Designated, part_of, element_of, words_of_cells, answer_in, answered_by, system_call, meant, instance_of, entered, left, result_of, named, function_body, function_call, expression, expressions, members_of, linked, operated, designated, parts, part, argument, arguments, procedure_body, procedure_call, assigned, act, acts, first, guarded, levels_of, whole_arguments, whole_assignment, whole_condition, whole_first}
 
--- an evaluation never ends as a standstill: that is for the kernel to see
+-- an evaluation never ends as a standstill, which is for the kernel to see, nor as bad, which is an ending of code alone
 abbrev pub IsOwn : Ending → Type 0
 IsOwn outcome.done = ⊤
 IsOwn (outcome.halted line) = ⊤
 IsOwn (outcome.failed c line) = ⊤
 IsOwn outcome.turns = ⊤
 IsOwn outcome.standstill = ⊥
-IsOwn (outcome.bad address) = ⊤
+IsOwn (outcome.bad address) = ⊥
 
 -- with so many turns left: by turns it ends only where none is left
 abbrev pub IsOver : Ending → (turns : ℕ) → Type 0
@@ -34,7 +34,7 @@ IsOver (outcome.halted line) n = ⊤
 IsOver (outcome.failed c line) n = ⊤
 IsOver outcome.turns n = n ≡ 0
 IsOver outcome.standstill n = ⊥
-IsOver (outcome.bad address) n = ⊤
+IsOver (outcome.bad address) n = ⊥
 
 pub own_over : (e : Ending) (n : ℕ) → IsOver e n → IsOwn e
 own_over outcome.done n h = tt
@@ -42,7 +42,7 @@ own_over (outcome.halted line) n h = tt
 own_over (outcome.failed c line) n h = tt
 own_over outcome.turns n h = tt
 own_over outcome.standstill n h = h
-own_over (outcome.bad address) n h = tt
+own_over (outcome.bad address) n h = h
 
 pub spent_over : (e : Ending) (n : ℕ) → IsOver e n → e ≡ outcome.turns → n ≡ 0
 spent_over outcome.done n h e = absurd (cc)
@@ -50,7 +50,7 @@ spent_over (outcome.halted line) n h e = absurd (cc)
 spent_over (outcome.failed c line) n h e = absurd (cc)
 spent_over outcome.turns n h e = h
 spent_over outcome.standstill n h e = absurd h
-spent_over (outcome.bad address) n h e = absurd (cc)
+spent_over (outcome.bad address) n h e = absurd h
 
 -- P of each element
 abbrev pub Every : {A : Type 0} → (A → Type 0) → List A → Type 0

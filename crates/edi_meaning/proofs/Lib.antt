@@ -22,5 +22,6 @@ pub mod Living
 pub mod Due
 pub mod Dangling
 pub mod Spent
+pub mod NeverBad
 pub mod Branching
 pub mod Someone

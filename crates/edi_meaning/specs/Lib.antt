@@ -7,5 +7,6 @@ pub mod Select
 pub mod Laws
 pub mod Attempts
 pub mod Spent
+pub mod Bad
 pub mod Someone
 pub mod Rows

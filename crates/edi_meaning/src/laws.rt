@@ -2,6 +2,7 @@
 //! all units, system states, bounds and choices.
 
 ghost use Rattle.edi_meaning.specs.Attempts.{AttemptsAreOneStep, AttemptsExecute};
+ghost use Rattle.edi_meaning.specs.Bad.{PermittedIsNeverBad, SelectionIsNeverBad};
 ghost use Rattle.edi_meaning.specs.Someone.{FittingForksHaveBranches, SomeoneMayStep, StandstillIsMarked};
 ghost use Rattle.edi_meaning.specs.Spent.{PermittedEndsSpent, SelectionEndsSpent};
 ghost use Rattle.edi_meaning.specs.Laws.{AttemptsAreWhole, CellsArePrivate, EverySelectionEnds, ParentsWait, RecordReplays, ReferencesLive, SelectIsPermitted, SelectionsAreDetermined, StepsGoOn};
@@ -25,6 +26,13 @@ pub fn every_selection_ends()
 pub fn ends_by_turns_spent()
     ensures permitted { PermittedEndsSpent }
     ensures selected { SelectionEndsSpent }
+{}
+
+/// No program ends as bad, whatever permitted steps end it, and so not in the execution that the choices select either: an
+/// instruction without a meaning is met by code alone. This is so of every unit, also of one that breaks the static rules.
+pub fn programs_are_never_bad()
+    ensures permitted { PermittedIsNeverBad }
+    ensures selected { SelectionIsNeverBad }
 {}
 
 /// In every state that permitted steps reach some process may step, and an execution stands still only by a failed attempt that
