@@ -179,7 +179,8 @@ pub fn code_words(alloc: Global, unit: &Unit) -> Result<Vec<u16>, AllocError>
 }
 
 /// The code of a program, which is entered at address 0 and is given the calls that the program's parameters are. It takes a
-/// unit that fits, whose records have fields, and whose code has at most 4,194,304 words. The only error is want of memory.
+/// unit that fits, whose records have fields, and whose code has at most 4,194,304 words. The only error is want of memory. That
+/// this code does what the unit means stands above, in the contract of `edi_compile::translate`.
 pub fn generate(alloc: Global, unit: &Unit) -> Result<Code, AllocError>
     requires fits { Fits (unit_of unit.now) }
     requires parts { HaveParts (unit_of unit.now).types }
