@@ -241,6 +241,24 @@ pub row_forks_at_once : selected program_that_forks (1 ∷ []) ≡ (98 ∷ 97 �
 unfolding zero_value
 row_forks_at_once = refl
 
+-- proc main begin cobegin 1 do skip also 2 do skip end end, with the word `cobegin` on line 2 and branches that need n words: they
+-- share the 65,531 words that main leaves
+abbrev pub program_that_shares : ℕ → ProgramUnit
+program_that_shares n =
+    program_of [] []
+    (block_of kind.Program 0 None [] [] 5 (cobegin (1 ∷ 2 ∷ []) 2 ∷ [])
+    ∷ block_of kind.Branch 0 None [] [] n (skip ∷ [])
+    ∷ block_of kind.Branch 0 None [] [] n (skip ∷ [])
+    ∷ [])
+
+pub row_shares : selected (program_that_shares 32765) [] ≡ ([], outcome.done, 5, 1)
+unfolding zero_value
+row_shares = refl
+
+pub row_does_not_share : selected (program_that_shares 32766) [] ≡ ([], outcome.failed cause.VariableLimit 2, 1, 0)
+unfolding zero_value
+row_does_not_share = refl
+
 -- proc main begin when false do skip end end: the entry, the arrival and one attempt
 abbrev pub program_that_waits : ProgramUnit
 program_that_waits = program_of [] [] (block_of kind.Program 0 None [] [] 6 (when_act (one_clause false_value (skip ∷ [])) 1 ∷ []) ∷ [])
