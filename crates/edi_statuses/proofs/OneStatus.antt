@@ -5,7 +5,6 @@ use Rattle.edi_told.specs.Told.{WhereTold}
 use Rattle.edi_calls.specs.Choice.{Choices}
 use Rattle.edi_calls.specs.Outcome.{Ending, Outcome}
 use Rattle.edi_calls.specs.State.{State, fresh}
-use Rattle.edi_target.specs.Check.{CodeParts}
 use Rattle.edi_target.specs.Fetch.{fetch}
 use Rattle.edi_target.proofs.Runs.{runs_are_determined}
 use Rattle.edi_texts.proofs.Executions.{one_outcome}
@@ -72,7 +71,7 @@ module _ (each : TextsAreOne) (before after behind : Outside) (is_told : IsTold 
       let d = devices_told before is_told in
       let e = devices_told after after_told in
       let f = devices_told behind behind_told in
-      let same = ran_same program bound choices h.ending k.ending h.drawn k.drawn d.devices e.devices f.devices shown bytes kernel other
+      let same = ran_same program bound choices h.ending k.ending h.drawn k.drawn d.devices e.devices f.devices shown bytes kernel.after other.after
       (there _ _ _ d.devices e.devices d.are e.are h.ran) (there _ _ _ d.devices f.devices d.are f.are k.ran) in
       (h.status_is ∙ ap status_of same.ending ∙ sym k.status_is, same.shown_)
 

@@ -12,7 +12,7 @@ use Rattle.edi_texts.specs.declared.refusal.Pass.{Pass}
 use Rattle.edi_texts.specs.Texts.{IsFault, IsUnit}
 use Rattle.edi_statuses.specs.declared.status.Status.{Status}
 use Rattle.edi_statuses.specs.declared.status.Status.TheVariants as status
-use Rattle.edi_statuses.specs.Outside.{Outside, KernelLeft}
+use Rattle.edi_statuses.specs.Outside.{Outside, Lent}
 use Rattle.edi_statuses.specs.Steps.{Reached, goes, stops, ◌>>=◌, Ready, Fetches, GivesChoices, ReadsChoices, Accepts, Mounts}
 use Rattle.edi_statuses.specs.Steps.{Loads, ChecksOld, Tests}
 use Rattle.edi_statuses.specs.Commands.{Effect, Does, HasPlace, Reads}
@@ -166,7 +166,7 @@ module _ (before after behind : Outside) where
   -- an effect that gives one status and shows one thing, whatever stands behind it
   abbrev pub IsOneEffect : Effect → Type 0
   IsOneEffect effect =
-      (s t : Status) (shown bytes : List ℕ) (kernel other : KernelLeft)
+      (s t : Status) (shown bytes : List ℕ) (kernel other : Lent)
       → effect s before after shown kernel → effect t before behind bytes other → (s ≡ t) × (shown ≡ bytes)
 
   pub does_one : {A : Type 0} (steps : Reached A → Type 0) (effect : A → Effect) → IsOne steps → ((a : A) → IsOneEffect (effect a))

@@ -1,5 +1,5 @@
 -- Words of contracts. THE COMMANDS: the steps of each in their order, and its effect.
-use Rattle.std.specs.Prelude.{IfSome, ◌≡◌, ◌⊎◌, ℕ, ◌-◌, ◌==◌, Bool, true, false, not, ◌&&◌, ◌||◌, nat_lt, if◌then◌else◌, is_none}
+use Rattle.std.specs.Prelude.{IfSome, ◌≡◌, ◌≤◌, ◌⊎◌, ℕ, ◌-◌, ◌==◌, Bool, true, false, ◌&&◌, ◌||◌, nat_lt, if◌then◌else◌, is_none}
 use Rattle.std.specs.Prelude.{List, [], ◌∷◌, length, Option, Some, None, option_map}
 use Rattle.edi_told.specs.Told.{WhereTold}
 use Rattle.edi_calls.specs.declared.kinds.FileKind.{FileKind}
@@ -23,9 +23,9 @@ use Rattle.edi_words.specs.Words.{ChoicesFrom, Command}
 use Rattle.edi_statuses.specs.declared.status.Status.{Status}
 use Rattle.edi_statuses.specs.declared.status.Status.TheVariants as status
 use Rattle.edi_statuses.specs.Outside.{Outside, Keeps, SameFiles, SameBlocks, SameInput, SamePrinted, IsAsBefore, Kept}
-use Rattle.edi_statuses.specs.Outside.{system_on, Devices, KernelLeft}
+use Rattle.edi_statuses.specs.Outside.{system_on, Devices, Lent}
 use Rattle.edi_statuses.specs.Steps.{Reached, goes, stops, ◌>>=◌, Ready, Fetches, ReadsChoices, Accepts, Mounts, Loads, ChecksOld}
-use Rattle.edi_statuses.specs.Steps.{Fits, HasRoom, Tests}
+use Rattle.edi_statuses.specs.Steps.{Fits, HasRoom}
 use Rattle.edi_statuses.specs.Executions.{Program, text, code, status_of, Ran, record_of}
 
 -- ---- the commands that are there
@@ -104,52 +104,57 @@ GetSteps o title = Mounts o >>= λ done. Reads o title
 
 -- what a command leaves: its status, the outside before and behind it, what was shown before the line of its status, and the kernel
 abbrev pub Effect : Type 1
-Effect = Status → Outside → Outside → (shown : List ℕ) → KernelLeft → Type 0
+Effect = Status → Outside → Outside → (shown : List ℕ) → Lent → Type 0
 
--- nothing was shown, and all is as before
-pub record IsNothing (before after : Outside) (shown : List ℕ) : Type 0 where
+-- nothing was shown or run, and all is as before
+pub record IsNothing (before after : Outside) (shown : List ℕ) (kernel : Lent) : Type 0 where
   pub shown_ : shown ≡ []
   pub same : IsAsBefore before after
+  pub kernel_same : kernel.after ≡ kernel.before
 
 -- a command that has stopped at one of its steps has done nothing; else it has its effect
 abbrev pub Does : {A : Type 0} → (steps : Reached A → Type 0) → (effect : A → Effect) → Effect
 Does steps effect s before after shown kernel =
-    (steps (stops s) × IsNothing before after shown) ⊎ ((a : _) × steps (goes a) × effect a s before after shown kernel)
+    (steps (stops s) × IsNothing before after shown kernel) ⊎ ((a : _) × steps (goes a) × effect a s before after shown kernel)
 
 -- it has done all that it does, and that is this
-abbrev pub IsDone : (Outside → Outside → (shown : List ℕ) → Type 0) → Effect
-IsDone P s before after shown kernel = (s ≡ status.Ok) × P before after shown
+abbrev pub IsDone : (Outside → Outside → (shown : List ℕ) → Lent → Type 0) → Effect
+IsDone P s before after shown kernel = (s ≡ status.Ok) × P before after shown kernel
 
--- these files are kept, and nothing else is changed or shown
-pub record OnlyKeeps (kept : List Kept) (before after : Outside) (shown : List ℕ) : Type 0 where
+-- these files are kept, and nothing else is changed, shown or run
+pub record OnlyKeeps (kept : List Kept) (before after : Outside) (shown : List ℕ) (kernel : Lent) : Type 0 where
   pub shown_ : shown ≡ []
   pub keeps : Keeps before after kept
   pub blocks : SameBlocks before after
   pub input : SameInput before after
   pub printed : SamePrinted before after
+  pub kernel_same : kernel.after ≡ kernel.before
 
 -- the drive's blocks are changed, and nothing else
-pub record OnlyBlocks (P : List (List ℕ) → List (List ℕ) → Type 0) (before after : Outside) (shown : List ℕ) : Type 0 where
+pub record OnlyBlocks (P : List (List ℕ) → List (List ℕ) → Type 0) (before after : Outside) (shown : List ℕ) (kernel : Lent) : Type 0 where
   pub shown_ : shown ≡ []
   pub blocks : WhereTold before.blocks after.blocks P
   pub files : SameFiles before after
   pub input : SameInput before after
   pub printed : SamePrinted before after
+  pub kernel_same : kernel.after ≡ kernel.before
 
 -- A program is run to its ending, which the status tells, and the record of its choices is kept.
 pub record Runs (program : Program) (bound : ℕ) (choices : Choices) (record_file : Option (List ℕ)) (s : Status)
-    (before after : Outside) (shown : List ℕ) (kernel : KernelLeft) : Type 0 where
+    (before after : Outside) (shown : List ℕ) (kernel : Lent) : Type 0 where
   pub ending : Ending
   pub drawn : ℕ
+  pub within : drawn ≤ bound
+  pub used : kernel.after.used ≤ bound
   pub status_is : s ≡ status_of ending
   pub ran : Ran program bound choices ending drawn before after shown kernel
   pub keeps : Keeps before after (record_of record_file choices drawn)
 
 -- any code that may be made of the text is kept
-pub record KeepsCode (out bytes : List ℕ) (before after : Outside) (shown : List ℕ) : Type 0 where
+pub record KeepsCode (out bytes : List ℕ) (before after : Outside) (shown : List ℕ) (kernel : Lent) : Type 0 where
   pub parts : CodeParts
   pub code_is : IsCodeFor bytes parts
-  pub keeps : OnlyKeeps ((out, code_bytes parts) ∷ []) before after shown
+  pub keeps : OnlyKeeps ((out, code_bytes parts) ∷ []) before after shown kernel
 
 -- ---- what the drive holds behind `newdisk` and `put`
 

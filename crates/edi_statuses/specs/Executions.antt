@@ -6,6 +6,7 @@ use Rattle.edi_calls.specs.Choice.{Choices, first_choices}
 use Rattle.edi_calls.specs.Outcome as outcome
 use Rattle.edi_calls.specs.Outcome.{Ending, Outcome}
 use Rattle.edi_calls.specs.State.{State, fresh}
+use Rattle.edi_meaning.specs.Bad.{IsNoBad}
 use Rattle.edi_target.specs.Check.{CodeParts}
 use Rattle.edi_target.specs.Fetch.{fetch}
 use Rattle.edi_target.specs.Mach.{Ends, Machine}
@@ -14,7 +15,7 @@ use Rattle.edi_trace.specs.Drawn.{most_kept}
 use Rattle.edi_trace.specs.Lines.{written}
 use Rattle.edi_statuses.specs.declared.status.Status.{Status}
 use Rattle.edi_statuses.specs.declared.status.Status.TheVariants as status
-use Rattle.edi_statuses.specs.Outside.{Outside, Kept, Devices, devices_of, system_on, DevicesAreAt, OutcomeLeaves, KernelLeft}
+use Rattle.edi_statuses.specs.Outside.{Outside, Kept, Devices, devices_of, system_on, DevicesAreAt, OutcomeLeaves, KernelLeft, Lent}
 
 -- ---- programs
 
@@ -46,6 +47,11 @@ status_of outcome.turns = status.Turns
 status_of outcome.standstill = status.Standstill
 status_of (outcome.bad address) = status.BadState address
 
+-- No program of a text comes to an instruction without a meaning; code may.
+abbrev pub NeverBad : Program → Ending → Type 0
+NeverBad (text bytes) ending = IsNoBad ending
+NeverBad (code parts) ending = ⊤
+
 -- ---- the lent kernel
 
 -- behind the end of a program, a `halt` and a failure the words of the store are those of the machine
@@ -74,14 +80,15 @@ pub record HasRun (program : Program) (bound : ℕ) (choices : Choices) (ending 
   pub outcome_ : Outcome
   pub outcome_is : HasOutcome program (system_on d) bound choices outcome_
   pub ending_is : outcome_.ending ≡ ending
+  pub never_bad : NeverBad program ending
   pub draws : outcome_.draws ≡ drawn
   pub leaves : OutcomeLeaves outcome_ d e shown
   pub kernel_is : KernelRan program (system_on d) bound choices outcome_ kernel
 
 -- so, where the devices tell their contents
-abbrev pub Ran : Program → (bound : ℕ) → Choices → Ending → (drawn : ℕ) → Outside → Outside → (shown : List ℕ) → KernelLeft → Type 0
+abbrev pub Ran : Program → (bound : ℕ) → Choices → Ending → (drawn : ℕ) → Outside → Outside → (shown : List ℕ) → Lent → Type 0
 Ran program bound choices ending drawn before after shown kernel =
-    WhereTold (devices_of before) (devices_of after) (λ d e. HasRun program bound choices ending drawn d e shown kernel)
+    WhereTold (devices_of before) (devices_of after) (λ d e. HasRun program bound choices ending drawn d e shown kernel.after)
 
 -- ---- where an object outside has failed in the midst of them
 

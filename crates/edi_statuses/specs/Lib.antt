@@ -6,3 +6,5 @@ pub mod Steps
 pub mod Executions
 pub mod Commands
 pub mod Means
+pub mod OnFiles
+pub mod Rows

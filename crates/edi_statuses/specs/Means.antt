@@ -2,7 +2,7 @@
 --
 -- A status that the words and contents decide means what `Comes` says. `NoMemory` may come at the places of `Wants`. The four
 -- faults come where the count of an object rose, and mean what `Breaks` says.
-use Rattle.std.specs.Prelude.{◌≡◌, ◌⊎◌, ℕ, Bool, true, false, List, [], ◌∷◌, ◌++◌, Option, Some, None, IsSome, ⊤}
+use Rattle.std.specs.Prelude.{◌≡◌, ◌≤◌, ◌⊎◌, ℕ, Bool, true, false, List, [], ◌∷◌, ◌++◌, Option, Some, None, IsSome, ⊤}
 use Rattle.edi_told.specs.Told.{WhereTold}
 use Rattle.edi_calls.specs.Choice.{Choices}
 use Rattle.edi_calls.specs.Outcome.{Ending}
@@ -11,54 +11,61 @@ use Rattle.edi_words.specs.Words as words
 use Rattle.edi_words.specs.Words.{Command}
 use Rattle.edi_statuses.specs.declared.status.Status.{Status}
 use Rattle.edi_statuses.specs.declared.status.Status.TheVariants as status
-use Rattle.edi_statuses.specs.Lines.{closing, is_due, text_of}
-use Rattle.edi_statuses.specs.Showing.{IsFront}
+use Rattle.edi_statuses.specs.Lines.{closing, closing_line, is_due, text_of}
+use Rattle.edi_statuses.specs.Showing.{ClosesWith, IsFront}
 use Rattle.edi_statuses.specs.Counts.{Counts, HasCause}
-use Rattle.edi_statuses.specs.Outside.{Outside, seen, Shows, SameFiles, SameBut, SameBlocks, SameInput, SamePrinted, KernelLeft}
+use Rattle.edi_statuses.specs.Outside.{Outside, seen, Shows, SameFiles, SameBut, SameBlocks, SameInput, SamePrinted, Lent}
 use Rattle.edi_statuses.specs.Steps.{Reached, goes}
 use Rattle.edi_statuses.specs.Executions.{Program, text, code, Ran, BrokeRun}
 use Rattle.edi_statuses.specs.Commands.{Comes, IsNothing, RunSteps, ExecSteps, PutSteps, released, put_in}
 
 -- ---- want of memory
 
--- The program was run to its ending, and no file was kept.
-pub record RanUnkept (program : Program) (bound : ℕ) (choices : Choices) (before after : Outside) (shown : List ℕ)
-    (kernel : KernelLeft) : Type 0 where
+-- The program was run to its ending; of the files nothing is said.
+pub record RanWhole (program : Program) (bound : ℕ) (choices : Choices) (before after : Outside) (shown : List ℕ) (kernel : Lent) : Type 0 where
   pub ending : Ending
   pub drawn : ℕ
+  pub within : drawn ≤ bound
+  pub used : kernel.after.used ≤ bound
   pub ran : Ran program bound choices ending drawn before after shown kernel
-  pub files : SameFiles before after
 
--- where a record is asked for, memory may be wanting when it is to be kept
+-- and no file was kept
+abbrev pub RanUnkept : Program → (bound : ℕ) → Choices → Outside → Outside → (shown : List ℕ) → Lent → Type 0
+RanUnkept program bound choices before after shown kernel =
+    RanWhole program bound choices before after shown kernel × SameFiles before after
+
+-- where a record is asked for, and it is to be kept
 abbrev pub AtRecord : {A : Type 0} → Option (List ℕ) → (Reached A → Type 0) → (A → Type 0) → Type 0
 AtRecord None steps P = ⊥
 AtRecord (Some name) steps P = (a : _) × steps (goes a) × P a
 
 -- Memory is wanting before the first effect, or when the record is to be kept.
-abbrev pub Wants : Command → Outside → Outside → (shown : List ℕ) → KernelLeft → Type 0
+abbrev pub Wants : Command → Outside → Outside → (shown : List ℕ) → Lent → Type 0
 Wants (words.run file o) before after shown kernel =
-    IsNothing before after shown
+    IsNothing before after shown kernel
     ⊎ AtRecord o.record_file (RunSteps before file o.choices) (λ a. RanUnkept (text a.0) o.turns a.1 before after shown kernel)
 Wants (words.exec file o) before after shown kernel =
-    IsNothing before after shown
+    IsNothing before after shown kernel
     ⊎ AtRecord o.record_file (ExecSteps before file o.choices) (λ a. RanUnkept (code a.0) o.turns a.1 before after shown kernel)
-Wants _ before after shown kernel = IsNothing before after shown
+Wants _ before after shown kernel = IsNothing before after shown kernel
 
 -- ---- faults
 
--- nothing was shown or printed, and the drive and the input are as before
-pub record HasNotBegun (before after : Outside) (shown : List ℕ) : Type 0 where
+-- nothing was shown, printed or run, and the drive and the input are as before
+pub record HasNotBegun (before after : Outside) (shown : List ℕ) (kernel : Lent) : Type 0 where
   pub shown_ : shown ≡ []
   pub blocks : SameBlocks before after
   pub input : SameInput before after
   pub printed : SamePrinted before after
+  pub kernel_same : kernel.after ≡ kernel.before
 
--- nothing was shown, and of the outside at most the drive has changed, as P says
-pub record ChangesDrive (P : List (List ℕ) → List (List ℕ) → Type 0) (before after : Outside) (shown : List ℕ) : Type 0 where
+-- nothing was shown or run, and of the outside at most the drive has changed, as P says
+pub record ChangesDrive (P : List (List ℕ) → List (List ℕ) → Type 0) (before after : Outside) (shown : List ℕ) (kernel : Lent) : Type 0 where
   pub shown_ : shown ≡ []
   pub blocks : WhereTold before.blocks after.blocks P
   pub input : SameInput before after
   pub printed : SamePrinted before after
+  pub kernel_same : kernel.after ≡ kernel.before
 
 -- The drive behind a `put` that it broke off: the files from before it, these with the file released, or those that it was to leave.
 abbrev pub ArePutInPart : (title bytes : List ℕ) → List (List ℕ) → List (List ℕ) → Type 0
@@ -85,51 +92,67 @@ names_kept _ = []
 abbrev pub Begun : {A : Type 0} → (Reached A → Type 0) → (A → Type 0) → Type 0
 Begun steps P = (a : _) × steps (goes a) × P a
 
--- A run may be broken off by any object; `put` and `newdisk` by the drive alone, and the other commands change nothing before
--- they keep their file.
-abbrev pub ComesToBreak : Status → Command → Outside → Outside → (shown : List ℕ) → Type 0
-ComesToBreak s (words.run file o) before after shown =
+-- A run is broken off by any device, and `put` and `newdisk` by the drive alone. The files break off no run: they may fail when
+-- its record is to be kept. Other commands change nothing before they keep their file.
+abbrev pub ComesToBreak : Status → Command → Outside → Outside → (shown : List ℕ) → Lent → Type 0
+ComesToBreak status.FileFault (words.run file o) before after shown kernel =
+    AtRecord o.record_file (RunSteps before file o.choices) (λ a. RanWhole (text a.0) o.turns a.1 before after shown kernel)
+ComesToBreak status.FileFault (words.exec file o) before after shown kernel =
+    AtRecord o.record_file (ExecSteps before file o.choices) (λ a. RanWhole (code a.0) o.turns a.1 before after shown kernel)
+ComesToBreak status.FileFault c before after shown kernel = ⊥
+ComesToBreak s (words.run file o) before after shown kernel =
     Begun (RunSteps before file o.choices) (λ a. BrokeRun (text a.0) o.turns a.1 before after shown)
-ComesToBreak s (words.replay file choices turns) before after shown =
+ComesToBreak s (words.replay file choices turns) before after shown kernel =
     Begun (RunSteps before file (words.file choices)) (λ a. BrokeRun (text a.0) turns a.1 before after shown)
-ComesToBreak s (words.exec file o) before after shown =
+ComesToBreak s (words.exec file o) before after shown kernel =
     Begun (ExecSteps before file o.choices) (λ a. BrokeRun (code a.0) o.turns a.1 before after shown)
-ComesToBreak status.DriveFault (words.put file title) before after shown =
-    Begun (PutSteps before file title) (λ bytes. ChangesDrive (ArePutInPart title bytes) before after shown)
-ComesToBreak status.DriveFault (words.newdisk blocks old) before after shown = ChangesDrive IsOpen before after shown
-ComesToBreak s c before after shown = ⊥
+ComesToBreak status.DriveFault (words.put file title) before after shown kernel =
+    Begun (PutSteps before file title) (λ bytes. ChangesDrive (ArePutInPart title bytes) before after shown kernel)
+ComesToBreak status.DriveFault (words.newdisk blocks old) before after shown kernel = ChangesDrive IsOpen before after shown kernel
+ComesToBreak s c before after shown kernel = ⊥
+
+-- How far the command was. The input and the output are used by a run alone; the files and the drive may fail before it.
+abbrev pub Far : Status → Command → Outside → Outside → (shown : List ℕ) → Lent → Type 0
+Far status.InputFault c before after shown kernel = ComesToBreak status.InputFault c before after shown kernel
+Far status.OutputFault c before after shown kernel = ComesToBreak status.OutputFault c before after shown kernel
+Far s c before after shown kernel = HasNotBegun before after shown kernel ⊎ ComesToBreak s c before after shown kernel
+
+-- Only where the files have failed may the file that was to be kept be another than before.
+abbrev pub FilesAfter : Status → Command → Outside → Outside → Type 0
+FilesAfter status.FileFault c before after = SameBut (names_kept c) before after
+FilesAfter s c before after = SameFiles before after
 
 -- where the fault of an object is answered
-pub record Breaks (s : Status) (c : Command) (before after : Outside) (shown : List ℕ) : Type 0 where
-  pub files : SameBut (names_kept c) before after
-  pub far : HasNotBegun before after shown ⊎ ComesToBreak s c before after shown
+pub record Breaks (s : Status) (c : Command) (before after : Outside) (shown : List ℕ) (kernel : Lent) : Type 0 where
+  pub files : FilesAfter s c before after
+  pub far : Far s c before after shown kernel
 
 -- ---- the meaning of a status
 
 -- of the words of a command
-abbrev pub MeansOf : Status → Command → Outside → Outside → (shown : List ℕ) → KernelLeft → Type 0
+abbrev pub MeansOf : Status → Command → Outside → Outside → (shown : List ℕ) → Lent → Type 0
 MeansOf status.Words c before after shown kernel = ⊥
 MeansOf status.NoMemory c before after shown kernel = Wants c before after shown kernel
-MeansOf status.FileFault c before after shown kernel = Breaks status.FileFault c before after shown
-MeansOf status.DriveFault c before after shown kernel = Breaks status.DriveFault c before after shown
-MeansOf status.InputFault c before after shown kernel = Breaks status.InputFault c before after shown
-MeansOf status.OutputFault c before after shown kernel = Breaks status.OutputFault c before after shown
+MeansOf status.FileFault c before after shown kernel = Breaks status.FileFault c before after shown kernel
+MeansOf status.DriveFault c before after shown kernel = Breaks status.DriveFault c before after shown kernel
+MeansOf status.InputFault c before after shown kernel = Breaks status.InputFault c before after shown kernel
+MeansOf status.OutputFault c before after shown kernel = Breaks status.OutputFault c before after shown kernel
 MeansOf s c before after shown kernel = Comes c s before after shown kernel
 
 -- of words that are refused
-abbrev pub MeansRefused : Status → Outside → Outside → (shown : List ℕ) → Type 0
-MeansRefused status.Words before after shown = IsNothing before after shown
-MeansRefused status.NoMemory before after shown = IsNothing before after shown
-MeansRefused _ before after shown = ⊥
+abbrev pub MeansRefused : Status → Outside → Outside → (shown : List ℕ) → Lent → Type 0
+MeansRefused status.Words before after shown kernel = IsNothing before after shown kernel
+MeansRefused status.NoMemory before after shown kernel = IsNothing before after shown kernel
+MeansRefused _ before after shown kernel = ⊥
 
 -- The steps look at what is told before the call and behind it.
-abbrev pub Means : Status → Option Command → Outside → Outside → (shown : List ℕ) → KernelLeft → Type 0
-Means s None before after shown kernel = MeansRefused s before after shown
+abbrev pub Means : Status → Option Command → Outside → Outside → (shown : List ℕ) → Lent → Type 0
+Means s None before after shown kernel = MeansRefused s before after shown kernel
 Means s (Some c) before after shown kernel = MeansOf s c (seen before after) after shown kernel
 
 -- A command, or words that are none, came to this status, and the line of the status is still to be shown. A line feed is due before
 -- it, or not.
-pub record Came (s : Status) (due : Bool) (c : Option Command) (before after : Outside) (kernel : KernelLeft) : Type 0 where
+pub record Came (s : Status) (due : Bool) (c : Option Command) (before after : Outside) (kernel : Lent) : Type 0 where
   pub shown : List ℕ
   pub means : Means s c before after shown kernel
   pub shows : Shows before after shown
@@ -138,7 +161,7 @@ pub record Came (s : Status) (due : Bool) (c : Option Command) (before after : O
 -- ---- all that a call shows
 
 -- The line of a status that has one could not be shown whole. If that status tells a fault, the count of its object rose too.
-pub record IsCutShort (c : Option Command) (before after : Outside) (had has : Counts) (all : List ℕ) (kernel : KernelLeft) : Type 0 where
+pub record IsCutShort (c : Option Command) (before after : Outside) (had has : Counts) (all : List ℕ) (kernel : Lent) : Type 0 where
   pub meant : Status
   pub has_line : IsSome (text_of meant)
   pub cause : HasCause meant had has
@@ -149,11 +172,28 @@ pub record IsCutShort (c : Option Command) (before after : Outside) (had has : C
   pub all_ : all ≡ shown ++ line
 
 -- THE END OF A CALL: the bytes before the line of the status, and that line. The counts are those of the objects' faults.
-abbrev pub EndsWith : Status → Option Command → Outside → Outside → (had has : Counts) → (all : List ℕ) → KernelLeft → Type 0
+abbrev pub EndsWith : Status → Option Command → Outside → Outside → (had has : Counts) → (all : List ℕ) → Lent → Type 0
 EndsWith status.OutputFault c before after had has all kernel =
     Means status.OutputFault c before after all kernel ⊎ IsCutShort c before after had has all kernel
 EndsWith s c before after had has all kernel =
     (shown : List ℕ) × Means s c before after shown kernel × (all ≡ shown ++ closing s shown)
+
+-- ---- a law: a line ends a call
+
+-- the same outside where the terminal has taken more
+abbrev pub with_shown : Option (List ℕ) → Outside → Outside
+with_shown shown o = record { files = o.files; blocks = o.blocks; input = o.input; shown = shown; printed = o.printed }
+
+-- some bytes were shown in a call that ended so
+abbrev pub EndsAll : Status → Option Command → Outside → Outside → (had has : Counts) → Lent → Type 0
+EndsAll answer c before after had has kernel = (all : List ℕ) × EndsWith answer c before after had has all kernel × Shows before after all
+
+-- A command came to a status, and then the line of the status was shown, or a first part of it: this is the end of a call.
+abbrev pub LinesEnd : Type 0
+LinesEnd =
+    (meant answer : Status) (due : Bool) (c : Option Command) (before mid : Outside) (had has : Counts) (shown : Option (List ℕ)) (kernel : Lent)
+    → HasCause meant had has → Came meant due c before mid kernel → ClosesWith meant answer (closing_line due meant) mid.shown shown
+    → (text_of meant ≡ None → (answer ≡ meant) × (shown ≡ mid.shown)) → EndsAll answer c before (with_shown shown mid) had has kernel
 
 -- ---- a law: the words and the contents decide
 
@@ -178,7 +218,7 @@ pub record IsTold (o : Outside) : Type 0 where
 -- there, unless an object fails or memory runs out; and where no refusal has its cause, the command has its effect.
 abbrev pub OneStatus : Type 0
 OneStatus =
-    (s t : Status) (c : Command) (before after behind : Outside) (shown bytes : List ℕ) (kernel other : KernelLeft)
+    (s t : Status) (c : Command) (before after behind : Outside) (shown bytes : List ℕ) (kernel other : Lent)
     → IsTold before → IsTold after → IsTold behind → IsDecisive s → IsDecisive t
     → Comes c s before after shown kernel → Comes c t before behind bytes other → (s ≡ t) × (shown ≡ bytes)
 

@@ -149,3 +149,11 @@ pub record KernelLeft : Type 0 where
 
 abbrev pub kernel_of : (words : List ℕ) → (used : ℕ) → KernelLeft
 kernel_of words used = record { words = words; used = used }
+
+-- before the call and behind it
+pub record Lent : Type 0 where
+  pub before : KernelLeft
+  pub after : KernelLeft
+
+abbrev pub lent : (old_words : List ℕ) → (old_used : ℕ) → (words : List ℕ) → (used : ℕ) → Lent
+lent old_words old_used words used = record { before = kernel_of old_words old_used; after = kernel_of words used }

@@ -1,10 +1,16 @@
-//! The law of statuses. The function does nothing, and its contract is the law.
+//! Laws of statuses. Each function does nothing, and its contract is the law.
 
-ghost use Rattle.edi_statuses.specs.Means.{OneStatus};
+ghost use Rattle.edi_statuses.specs.Means.{LinesEnd, OneStatus};
 
 /// Contents that are told decide the status of a command and what it shows before the line of the status. So each status comes
 /// exactly where its cause is there, unless an object fails or memory runs out; and where no refusal has its cause, the command
 /// has its effect.
 pub fn one_status()
     ensures law { OneStatus }
+{}
+
+/// Where a command has come to a status and the line of the status was shown behind it, or a first part of the line, the call ends
+/// as it has to.
+pub fn lines_end()
+    ensures law { LinesEnd }
 {}

@@ -9,5 +9,6 @@ mod status;
 
 pub use edi_texts::RefusalKind;
 pub use ended::Ended;
+pub use lines::Line;
 pub use showing::show_status;
 pub use status::Status;

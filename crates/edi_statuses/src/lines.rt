@@ -12,8 +12,8 @@ use edi_target::CodeFault;
 use edi_texts::RefusalKind;
 use itoa::Buffer;
 
-/// Room for the longest text of a status.
-pub(crate) type Line = ArrayString<64>;
+/// Room for the longest line of a status, with a line feed before it and one behind it.
+pub type Line = ArrayString<64>;
 
 fn plain(text: &str) -> Line
     requires { length text.now ≤ 32 }
@@ -121,7 +121,7 @@ fn code_line(broken: CodeFault) -> Line
 }
 
 /// The text of the status; none where it has none.
-fn text_of(status: Status) -> Option<Line>
+pub(crate) fn text_of(status: Status) -> Option<Line>
     ensures exact { option_map (λ line. line.bytes) result ≡ lines.text_of status }
     ensures short { IfSome result (λ line. length line.bytes ≤ 54) }
 {

@@ -1,19 +1,21 @@
 //! How a call ends.
 
-ghost use Rattle.std.specs.Prelude.{◌≡◌};
-ghost use Rattle.edi_statuses.specs.Lines.{number_of};
+ghost use Rattle.std.specs.Prelude.{◌≡◌, option_map};
+ghost use Rattle.edi_statuses.specs.Lines as lines;
 
+use crate::lines::{Line, text_of};
 use edi_calls::Cause;
 use edi_image::MountFault;
 use edi_target::CodeFault;
 use edi_texts::RefusalKind;
+use std::fmt;
 
 /// How a call ended.
 #[derive(Clone, Copy, Debug, PartialEq, Eq)]
 pub enum Status {
     /// The command did what it says; the program that ran came to its end; the session was halted or its input ended.
     Ok,
-    /// The words are not those of a command.
+    /// The words are not those of a command, or of one that is not built yet.
     Words,
     /// The text has this first fault, on this line, counted from 1; the line of a text that is too long is 0.
     Refused(RefusalKind, u16),
@@ -56,7 +58,7 @@ pub enum Status {
 impl Status {
     /// The exit status of the program, 0 to 18.
     pub fn number(&self) -> u8
-        ensures exact { result ≡ number_of self.now }
+        ensures exact { result ≡ lines.number_of self.now }
     {
         match self {
             Status::Ok => 0,
@@ -78,6 +80,26 @@ impl Status {
             Status::FileLarge => 16,
             Status::Standstill => 17,
             Status::BadPoints(_) => 18,
+        }
+    }
+
+    /// The line of the status without its line feed, as `line 4 range`. `Ok` and `OutputFault` have none. Takes no memory.
+    pub fn line(&self) -> Option<Line>
+        ensures exact { option_map (λ line. line.bytes) result ≡ lines.text_of self.now }
+    {
+        text_of(*self)
+    }
+}
+
+impl fmt::Display for Status {
+    fn fmt<W: fmt::Write>(&self, f: &mut fmt::Formatter<W>) -> fmt::Result {
+        match self {
+            Status::Ok => f.write_str("ok"),
+            Status::OutputFault => f.write_str("output fault"),
+            _ => match text_of(*self) {
+                Some(line) => f.write_str(line.as_str()),
+                None => Ok(()),
+            },
         }
     }
 }

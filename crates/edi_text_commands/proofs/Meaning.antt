@@ -9,12 +9,13 @@ use Rattle.edi_target.specs.File.{code_bytes}
 use Rattle.edi_words.specs.Words.{compile}
 use Rattle.edi_statuses.specs.declared.status.Status.{Status}
 use Rattle.edi_statuses.specs.declared.status.Status.TheVariants as status
-use Rattle.edi_statuses.specs.Outside.{Outside, still_told, seen, KernelLeft, SameBlocks, SameInput, SamePrinted}
+use Rattle.edi_statuses.specs.Outside.{Outside, still_told, seen, Lent, SameBlocks, SameInput, SamePrinted}
 use Rattle.edi_statuses.specs.Steps.{goes, stops, Fetches}
 use Rattle.edi_statuses.specs.Commands.{IsNothing, TextSteps}
 use Rattle.edi_statuses.specs.Means.{Means, HasNotBegun}
 use Rattle.edi_steps.specs.OnFiles.{files_only}
-use Rattle.edi_text_commands.specs.TextCommands.{RestIsSame, MeansOnFiles, CodesFile}
+use Rattle.edi_statuses.specs.OnFiles.{RestIsSame, MeansOnFiles}
+use Rattle.edi_text_commands.specs.TextCommands.{CodesFile}
 
 -- ---- contents that are still told
 
@@ -52,8 +53,8 @@ removed_too out (Some o) (Some n) same = ap (λ f. map.remove f out) same
 
 -- ---- the meaning of a status
 
-module _ (file out : List ℕ) (old new : Option Contents) (before after : Outside) (kernel : KernelLeft) (e : before.files ≡ old) (d : after.files ≡ new)
-    (rest : RestIsSame before after) where
+module _ (file out : List ℕ) (old new : Option Contents) (before after : Outside) (kernel : Lent) (e : before.files ≡ old) (d : after.files ≡ new)
+    (rest : RestIsSame before after kernel) where
   files_are : still_told old new ≡ (seen before after).files
   files_are = λ i. still_told (sym e i) (sym d i)
 
@@ -70,7 +71,7 @@ module _ (file out : List ℕ) (old new : Option Contents) (before after : Outsi
   printed_same : SamePrinted (seen before after) after
   printed_same = same_told before.printed after.printed rest.printed
 
-  nothing : WhereTold (still_told old new) new (λ old new. new ≡ old) → IsNothing (seen before after) after []
+  nothing : WhereTold (still_told old new) new (λ old new. new ≡ old) → IsNothing (seen before after) after [] kernel
   nothing same = record {
     shown_ = refl;
     same = record {
@@ -79,10 +80,11 @@ module _ (file out : List ℕ) (old new : Option Contents) (before after : Outsi
       input = input_same;
       printed = printed_same;
     };
+    kernel_same = rest.kernel_same;
   }
 
-  not_begun : HasNotBegun (seen before after) after []
-  not_begun = record { shown_ = refl; blocks = blocks_same; input = input_same; printed = printed_same }
+  not_begun : HasNotBegun (seen before after) after [] kernel
+  not_begun = record { shown_ = refl; blocks = blocks_same; input = input_same; printed = printed_same; kernel_same = rest.kernel_same }
 
   broken : WhereTold (still_told old new) new (λ old new. map.remove new out ≡ map.remove old out) →
       Means status.FileFault (Some (compile file out)) before after [] kernel
@@ -149,6 +151,7 @@ module _ {V : Type 0} (items : V → List ℕ) (file out : List ℕ) (old mid ne
               blocks = blocks_same file out old new before after kernel e d rest;
               input = input_same file out old new before after kernel e d rest;
               printed = printed_same file out old new before after kernel e d rest;
+              kernel_same = rest.kernel_same;
             };
           },
         ),

@@ -3,7 +3,7 @@
 ghost use Rattle.std.specs.Prelude.{◌≡◌, ◌≤◌};
 ghost use Rattle.edi_told.specs.Faults.{CountRose};
 ghost use Rattle.edi_words.specs.Words.{compile};
-ghost use Rattle.edi_text_commands.specs.TextCommands.{IsOfFiles, MeansOnFiles};
+ghost use Rattle.edi_statuses.specs.OnFiles.{IsOfFiles, MeansOnFiles};
 
 use crate::coding::code_file;
 use edi_host::{Files, KeepEnd};

@@ -1,0 +1,267 @@
+-- What a status means does not change where the terminal takes its line: the steps of commands, and what they leave.
+use Rattle.std.proofs.Common.{ℕ, ◌-◌, List, length, Option, Some, None, inl, inr}
+use Rattle.std.specs.Prelude.{⊤}
+use Rattle.edi_told.specs.Told.{WhereTold}
+use Rattle.edi_host.specs.Files.{Contents}
+use Rattle.edi_calls.specs.Choice.{Choices}
+use Rattle.edi_calls.specs.Outcome.{Ending}
+use Rattle.edi_calls.specs.State as state
+use Rattle.edi_calls.specs.State.{State}
+use Rattle.edi_migrate.specs.OldImage.{old_slots_of}
+use Rattle.edi_target.specs.Check.{CodeParts}
+use Rattle.edi_trace.specs.Lines.{read_of}
+use Rattle.edi_unit.specs.Tree.{ProgramUnit}
+use Rattle.edi_words.specs.Words as words
+use Rattle.edi_words.specs.Words.{ChoicesFrom}
+use Rattle.edi_statuses.specs.declared.status.Status.{Status}
+use Rattle.edi_statuses.specs.Outside.{Outside, seen, Lent, KernelLeft, Kept, Devices, devices_of, devices_with, system_on}
+use Rattle.edi_statuses.specs.Steps.{Reached, goes, stops, ◌>>=◌, Ready, Fetches, GivesChoices, ReadsChoices, Accepts, Mounts, Loads}
+use Rattle.edi_statuses.specs.Steps.{ChecksOld, Fits, HasRoom}
+use Rattle.edi_statuses.specs.Executions.{Program, HasMoment, HasRun, StandsAt, BrokeRun}
+use Rattle.edi_statuses.specs.Commands.{Effect, Does, IsNothing, OnlyKeeps, OnlyBlocks, KeepsCode, Runs, HasPlace, Reads}
+use Rattle.edi_statuses.specs.Commands.{RunSteps, ExecSteps, TextSteps, OldSteps, PutSteps, GetSteps}
+use Rattle.edi_statuses.specs.Means.{AtRecord, HasNotBegun, ChangesDrive, RanWhole, RanUnkept, with_shown}
+
+-- what is told later was told before
+abbrev pub StillTold : {A : Type 0} → (x y : Option A) → Type 0
+StillTold x None = ⊤
+StillTold None (Some y) = ⊥
+StillTold (Some x) (Some y) = ⊤
+
+-- ---- the devices
+
+where_map : {A : Type 0} (P : A → A → Type 0) (before : Option A) (e e' : A) → ((d : A) → P d e → P d e') → WhereTold before (Some e) P
+    → WhereTold before (Some e') P
+where_map P None e e' f told = told
+where_map P (Some d) e e' f told = f d told
+
+-- what is said of four devices and does not speak of the terminal's bytes
+abbrev pub Silent : (Devices → Devices → Type 0) → Type 0
+Silent P = (d e : Devices) (bytes : List ℕ) → P d e → P d (devices_with e.blocks e.input bytes e.printed)
+
+devices_later : (P : Devices → Devices → Type 0) → Silent P → (b : Outside) (files : Option Contents) (blocks : Option (List (List ℕ)))
+    (input x y printed : Option (List ℕ)) → StillTold x y →
+    let m : Outside = record { files = files; blocks = blocks; input = input; shown = x; printed = printed } in
+    WhereTold (devices_of (seen b m)) (devices_of m) P → WhereTold (devices_of (seen b (with_shown y m))) (devices_of (with_shown y m)) P
+devices_later P silent b files None input x y printed still told = tt
+devices_later P silent b files (Some blocks) None x y printed still told = tt
+devices_later P silent b files (Some blocks) (Some input) x None printed still told = tt
+devices_later P silent b files (Some blocks) (Some input) None (Some y) printed still told = absurd still
+devices_later P silent b files (Some blocks) (Some input) (Some x) (Some y) None still told = tt
+devices_later P silent b files (Some blocks) (Some input) (Some x) (Some y) (Some printed) still told =
+    where_map P (devices_of b) (devices_with blocks input x printed) (devices_with blocks input y printed)
+    (λ d p. silent d (devices_with blocks input x printed) y p) told
+
+step_later : {A B : Type 0} (step step' : Reached A → Type 0) (more more' : A → Reached B → Type 0) → ((r : Reached A) → step r → step' r)
+    → ((v : A) (r : Reached B) → more v r → more' v r) → (r : Reached B) → (step >>= more) r → (step' >>= more') r
+step_later step step' more more' f g (goes v) (inl h) = absurd h
+step_later step step' more more' f g (stops s) (inl h) = inl (f (stops s) h)
+step_later step step' more more' f g r (inr h) = inr (h.0, f (goes h.0) h.1, g h.0 r h.2)
+
+-- ---- one call, and the terminal behind it
+
+module _ (b m : Outside) (y : Option (List ℕ)) (still : StillTold m.shown y) where
+  -- what the steps saw, and see where the terminal has taken a line
+  abbrev seen_then : Outside
+  seen_then = seen b m
+
+  abbrev seen_now : Outside
+  seen_now = seen b (with_shown y m)
+
+  abbrev now : Outside
+  now = with_shown y m
+
+  told_later : (P : Devices → Devices → Type 0) → Silent P → WhereTold (devices_of seen_then) (devices_of m) P
+      → WhereTold (devices_of seen_now) (devices_of now) P
+  told_later P silent told = devices_later P silent b m.files m.blocks m.input m.shown y m.printed still told
+
+  -- ---- the steps
+
+  fetches_later : (name : List ℕ) (r : Reached (List ℕ)) → Fetches seen_then name r → Fetches seen_now name r
+  fetches_later name (goes bytes) h = h
+  fetches_later name (stops s) h = h
+
+  mounts_later : (r : Reached (Unit {0})) → Mounts seen_then r → Mounts seen_now r
+  mounts_later (goes done) h = h
+  mounts_later (stops s) h = h
+
+  place_later : (title : List ℕ) (size : ℕ) (r : Reached (Unit {0})) → HasPlace seen_then title size r → HasPlace seen_now title size r
+  place_later title size (goes done) h = h
+  place_later title size (stops s) h = h
+
+  reads_later : (title : List ℕ) (r : Reached (List ℕ)) → Reads seen_then title r → Reads seen_now title r
+  reads_later title (goes bytes) h = h
+  reads_later title (stops s) h = h
+
+  choices_later : (from : ChoicesFrom) (r : Reached Choices) → ReadsChoices seen_then from r → ReadsChoices seen_now from r
+  choices_later words.nowhere r h = h
+  choices_later (words.file name) r h =
+      step_later (Fetches seen_then name) (Fetches seen_now name) (λ bytes. GivesChoices (read_of bytes)) (λ bytes. GivesChoices (read_of bytes))
+      (fetches_later name) (λ v q k. k) r h
+  choices_later (words.seed number) r h = h
+
+  -- steps that end with a mount of the drive
+  mounted_later : {A B : Type 0} (step : Reached B → Type 0) (a : B → A) (r : Reached A) → (step >>= λ v. Mounts seen_then >>= λ done. Ready (a v)) r
+      → (step >>= λ v. Mounts seen_now >>= λ done. Ready (a v)) r
+  mounted_later step a r h =
+      step_later step step (λ v. Mounts seen_then >>= λ done. Ready (a v)) (λ v. Mounts seen_now >>= λ done. Ready (a v)) (λ q k. k)
+      (λ v q k. step_later (Mounts seen_then) (Mounts seen_now) (λ done. Ready (a v)) (λ done. Ready (a v)) mounts_later (λ w t l. l) q k) r h
+
+  pub run_later : (file : List ℕ) (from : ChoicesFrom) (r : Reached (List ℕ × Choices)) → RunSteps seen_then file from r → RunSteps seen_now file from r
+  run_later file from r h =
+      step_later (Fetches seen_then file) (Fetches seen_now file)
+      (λ bytes. ReadsChoices seen_then from >>= λ choices. Accepts bytes >>= λ unit. Mounts seen_then >>= λ done. Ready (bytes, choices))
+      (λ bytes. ReadsChoices seen_now from >>= λ choices. Accepts bytes >>= λ unit. Mounts seen_now >>= λ done. Ready (bytes, choices))
+      (fetches_later file)
+      (λ bytes. step_later (ReadsChoices seen_then from) (ReadsChoices seen_now from)
+      (λ choices. Accepts bytes >>= λ unit. Mounts seen_then >>= λ done. Ready (bytes, choices))
+      (λ choices. Accepts bytes >>= λ unit. Mounts seen_now >>= λ done. Ready (bytes, choices))
+      (choices_later from) (λ choices. mounted_later (Accepts bytes) (λ unit. (bytes, choices)))) r h
+
+  pub exec_later : (file : List ℕ) (from : ChoicesFrom) (r : Reached (CodeParts × Choices)) → ExecSteps seen_then file from r → ExecSteps seen_now file from r
+  exec_later file from r h =
+      step_later (Fetches seen_then file) (Fetches seen_now file)
+      (λ bytes. ReadsChoices seen_then from >>= λ choices. Loads bytes >>= λ parts. Mounts seen_then >>= λ done. Ready (parts, choices))
+      (λ bytes. ReadsChoices seen_now from >>= λ choices. Loads bytes >>= λ parts. Mounts seen_now >>= λ done. Ready (parts, choices))
+      (fetches_later file)
+      (λ bytes. step_later (ReadsChoices seen_then from) (ReadsChoices seen_now from)
+      (λ choices. Loads bytes >>= λ parts. Mounts seen_then >>= λ done. Ready (parts, choices))
+      (λ choices. Loads bytes >>= λ parts. Mounts seen_now >>= λ done. Ready (parts, choices))
+      (choices_later from) (λ choices. mounted_later (Loads bytes) (λ parts. (parts, choices)))) r h
+
+  -- steps that look at a fetched file alone
+  fetched_later : {A : Type 0} (file : List ℕ) (more : List ℕ → Reached A → Type 0) (r : Reached A) → (Fetches seen_then file >>= more) r
+      → (Fetches seen_now file >>= more) r
+  fetched_later file more r h = step_later (Fetches seen_then file) (Fetches seen_now file) more more (fetches_later file) (λ v q k. k) r h
+
+  pub text_later : (file : List ℕ) (r : Reached (List ℕ × ProgramUnit)) → TextSteps seen_then file r → TextSteps seen_now file r
+  text_later file r h = fetched_later file (λ bytes. Accepts bytes >>= λ unit. Ready (bytes, unit)) r h
+
+  pub old_later : (blocks : ℕ) (file : List ℕ) (r : Reached (List (List ℕ))) → OldSteps seen_then blocks file r → OldSteps seen_now blocks file r
+  old_later blocks file r h =
+      fetched_later file (λ bytes. ChecksOld bytes >>= λ old. HasRoom (state.blocks_taken (old_slots_of old)) (blocks - 33) >>= λ done. Ready old) r h
+
+  pub put_later : (file title : List ℕ) (r : Reached (List ℕ)) → PutSteps seen_then file title r → PutSteps seen_now file title r
+  put_later file title r h =
+      step_later (Fetches seen_then file) (Fetches seen_now file)
+      (λ bytes. Fits bytes >>= λ fits. Mounts seen_then >>= λ done. HasPlace seen_then title (length bytes) >>= λ room. Ready bytes)
+      (λ bytes. Fits bytes >>= λ fits. Mounts seen_now >>= λ done. HasPlace seen_now title (length bytes) >>= λ room. Ready bytes)
+      (fetches_later file)
+      (λ bytes. step_later (Fits bytes) (Fits bytes) (λ fits. Mounts seen_then >>= λ done. HasPlace seen_then title (length bytes) >>= λ room. Ready bytes)
+      (λ fits. Mounts seen_now >>= λ done. HasPlace seen_now title (length bytes) >>= λ room. Ready bytes) (λ q k. k)
+      (λ fits. step_later (Mounts seen_then) (Mounts seen_now) (λ done. HasPlace seen_then title (length bytes) >>= λ room. Ready bytes)
+      (λ done. HasPlace seen_now title (length bytes) >>= λ room. Ready bytes) mounts_later
+      (λ done. step_later (HasPlace seen_then title (length bytes)) (HasPlace seen_now title (length bytes)) (λ room. Ready bytes) (λ room. Ready bytes)
+      (place_later title (length bytes)) (λ v q k. k)))) r h
+
+  pub get_later : (title : List ℕ) (r : Reached (List ℕ)) → GetSteps seen_then title r → GetSteps seen_now title r
+  get_later title r h =
+      step_later (Mounts seen_then) (Mounts seen_now) (λ done. Reads seen_then title) (λ done. Reads seen_now title) mounts_later
+      (λ done. reads_later title) r h
+
+  -- ---- the effects
+
+  pub nothing_later : (shown : List ℕ) (kernel : Lent) → IsNothing seen_then m shown kernel → IsNothing seen_now now shown kernel
+  nothing_later shown kernel h = record {
+    shown_ = h.shown_;
+    same = record { files = h.same.files; blocks = h.same.blocks; input = h.same.input; printed = h.same.printed };
+    kernel_same = h.kernel_same;
+  }
+
+  pub begun_later : (shown : List ℕ) (kernel : Lent) → HasNotBegun seen_then m shown kernel → HasNotBegun seen_now now shown kernel
+  begun_later shown kernel h =
+      record { shown_ = h.shown_; blocks = h.blocks; input = h.input; printed = h.printed; kernel_same = h.kernel_same }
+
+  pub drive_later : (P : List (List ℕ) → List (List ℕ) → Type 0) (shown : List ℕ) (kernel : Lent) → ChangesDrive P seen_then m shown kernel
+      → ChangesDrive P seen_now now shown kernel
+  drive_later P shown kernel h =
+      record { shown_ = h.shown_; blocks = h.blocks; input = h.input; printed = h.printed; kernel_same = h.kernel_same }
+
+  pub keeps_later : (kept : List Kept) (shown : List ℕ) (kernel : Lent) → OnlyKeeps kept seen_then m shown kernel → OnlyKeeps kept seen_now now shown kernel
+  keeps_later kept shown kernel h = record {
+    shown_ = h.shown_;
+    keeps = h.keeps;
+    blocks = h.blocks;
+    input = h.input;
+    printed = h.printed;
+    kernel_same = h.kernel_same;
+  }
+
+  pub blocks_later : (P : List (List ℕ) → List (List ℕ) → Type 0) (shown : List ℕ) (kernel : Lent) → OnlyBlocks P seen_then m shown kernel
+      → OnlyBlocks P seen_now now shown kernel
+  blocks_later P shown kernel h = record {
+    shown_ = h.shown_;
+    blocks = h.blocks;
+    files = h.files;
+    input = h.input;
+    printed = h.printed;
+    kernel_same = h.kernel_same;
+  }
+
+  pub code_later : (out bytes shown : List ℕ) (kernel : Lent) → KeepsCode out bytes seen_then m shown kernel → KeepsCode out bytes seen_now now shown kernel
+  code_later out bytes shown kernel h = record { parts = h.parts; code_is = h.code_is; keeps = keeps_later _ shown kernel h.keeps }
+
+  has_run_silent : (program : Program) (bound : ℕ) (choices : Choices) (ending : Ending) (drawn : ℕ) (shown : List ℕ) (kernel : KernelLeft)
+      → Silent (λ d e. HasRun program bound choices ending drawn d e shown kernel)
+  has_run_silent program bound choices ending drawn shown kernel d e bytes h = record {
+    outcome_ = h.outcome_;
+    outcome_is = h.outcome_is;
+    ending_is = h.ending_is;
+    never_bad = h.never_bad;
+    draws = h.draws;
+    leaves = record { input = h.leaves.input; shown_ = h.leaves.shown_; printed = h.leaves.printed; disk = h.leaves.disk };
+    kernel_is = h.kernel_is;
+  }
+
+  stands_silent : (Holds : Devices → State → Type 0) (shown : List ℕ) → Silent (λ d e. StandsAt (Holds d) d e shown)
+  stands_silent Holds shown d e bytes h = record {
+    moment = h.moment;
+    comes = h.comes;
+    at = record { input = h.at.input; shown_ = h.at.shown_; printed = h.at.printed; disk = h.at.disk };
+  }
+
+  pub runs_later : (program : Program) (bound : ℕ) (choices : Choices) (record_file : Option (List ℕ)) (s : Status) (shown : List ℕ) (kernel : Lent)
+      → Runs program bound choices record_file s seen_then m shown kernel → Runs program bound choices record_file s seen_now now shown kernel
+  runs_later program bound choices record_file s shown kernel r = record {
+    ending = r.ending;
+    drawn = r.drawn;
+    within = r.within;
+    used = r.used;
+    status_is = r.status_is;
+    ran = told_later (λ d e. HasRun program bound choices r.ending r.drawn d e shown kernel.after)
+        (has_run_silent program bound choices r.ending r.drawn shown kernel.after) r.ran;
+    keeps = r.keeps;
+  }
+
+  pub whole_later : (program : Program) (bound : ℕ) (choices : Choices) (shown : List ℕ) (kernel : Lent)
+      → RanWhole program bound choices seen_then m shown kernel → RanWhole program bound choices seen_now now shown kernel
+  whole_later program bound choices shown kernel r = record {
+    ending = r.ending;
+    drawn = r.drawn;
+    within = r.within;
+    used = r.used;
+    ran = told_later (λ d e. HasRun program bound choices r.ending r.drawn d e shown kernel.after)
+        (has_run_silent program bound choices r.ending r.drawn shown kernel.after) r.ran;
+  }
+
+  pub unkept_later : (program : Program) (bound : ℕ) (choices : Choices) (shown : List ℕ) (kernel : Lent)
+      → RanUnkept program bound choices seen_then m shown kernel → RanUnkept program bound choices seen_now now shown kernel
+  unkept_later program bound choices shown kernel r = (whole_later program bound choices shown kernel r.0, r.1)
+
+  pub broke_later : (program : Program) (bound : ℕ) (choices : Choices) (shown : List ℕ) → BrokeRun program bound choices seen_then m shown
+      → BrokeRun program bound choices seen_now now shown
+  broke_later program bound choices shown told =
+      told_later (λ d e. StandsAt (HasMoment program (system_on d) bound choices) d e shown)
+      (stands_silent (λ d. HasMoment program (system_on d) bound choices) shown) told
+
+  pub record_later : {A : Type 0} (name : Option (List ℕ)) (steps steps' : Reached A → Type 0) (P P' : A → Type 0)
+      → ((r : Reached A) → steps r → steps' r) → ((v : A) → P v → P' v) → AtRecord name steps P → AtRecord name steps' P'
+  record_later None steps steps' P P' f g h = absurd h
+  record_later (Some name) steps steps' P P' f g h = (h.0, f (goes h.0) h.1, g h.0 h.2)
+
+  -- a command made of steps and an effect
+  pub does_later : {A : Type 0} (steps steps' : Reached A → Type 0) (effect effect' : A → Effect) (s : Status) (shown : List ℕ) (kernel : Lent)
+      → ((r : Reached A) → steps r → steps' r) → ((v : A) → effect v s seen_then m shown kernel → effect' v s seen_now now shown kernel)
+      → Does steps effect s seen_then m shown kernel → Does steps' effect' s seen_now now shown kernel
+  does_later steps steps' effect effect' s shown kernel f g (inl h) = inl (f (stops s) h.0, nothing_later shown kernel h.1)
+  does_later steps steps' effect effect' s shown kernel f g (inr h) = inr (h.0, f (goes h.0) h.1, g h.0 h.2)
