@@ -3,6 +3,8 @@ use Rattle.std.proofs.Common.{◌≡◌, ℕ, zero, suc, ◌<◌, ◌≤◌, ◌
 use Rattle.std.proofs.lemmas.Bool.{cases_lt}
 use Rattle.edi_unit.specs.Types.{Shape}
 use Rattle.edi_unit.specs.Tree.{Block, ProgramUnit}
+use Rattle.edi_meaning.specs.Someone.{ForksHaveBranches}
+use Rattle.edi_meaning.proofs.Branching.{fitting_forks_have_branches}
 use Rattle.edi_target.specs.Fetch.{fetch}
 use Rattle.edi_target.specs.Decode.{AreWords}
 use Rattle.edi_target.proofs.Stands.{code_stands_below}
@@ -11,9 +13,10 @@ use Rattle.edi_scheme.specs.Code.{entry, code_of}
 use Rattle.edi_scheme.proofs.Blocks.{code_stands, code_is_long}
 use Rattle.edi_scheme.proofs.WordedBlocks.{code_is_words}
 use Rattle.edi_spots.specs.Coded.{Coded}
-use Rattle.edi_follows.specs.Theorem.{CanBeCoded, SameOutcome, SameMoments, CodeEndsAsMeant, CodeIsPrivate}
+use Rattle.edi_follows.specs.Theorem.{CanBeCoded, SameOutcome, SameMoments, CodeEndsAsMeant, CodeIsNeverBad, CodeIsPrivate, CodeStandsByMarks}
 use Rattle.edi_spots.specs.Lands.{StepClaim, StepsCohere, StepsQueue, StartClaim}
 use Rattle.edi_follows.proofs.Private.{private_words}
+use Rattle.edi_follows.proofs.Standstills.{never_bad, stands_by_marks}
 use Rattle.edi_follows.proofs.Wholes.{code_ends, to_machine, to_meaning, moments_to_machine, moments_to_meaning}
 
 entry_up : (types : List Shape) (blocks : List Block) (n m : ℕ) → n ≤ m → entry types blocks n ≤ entry types blocks m
@@ -62,3 +65,18 @@ module _ (claim : (g : Coded) → StepClaim g) (start : (g : Coded) → StartCla
   unfolding coded
   code_is_private unit c system bound choices m p others drawn i n u o a foreign =
       private_words (coded unit c) (claim (coded unit c)) (start (coded unit c)) cohere queues system choices bound m p others drawn i n u o a foreign
+
+  -- each `cobegin` of a unit that fits has a branch
+  branches : (unit : ProgramUnit) (c : CanBeCoded unit) → ForksHaveBranches (coded unit c).unit
+  unfolding coded
+  branches unit c = fitting_forks_have_branches unit c.fits
+
+  pub code_is_never_bad : CodeIsNeverBad
+  unfolding coded
+  code_is_never_bad unit c system bound choices ending m drawn e =
+      never_bad (coded unit c) (claim (coded unit c)) (start (coded unit c)) cohere queues (branches unit c) choices system bound ending m drawn e
+
+  pub code_stands_by_marks : CodeStandsByMarks
+  unfolding coded
+  code_stands_by_marks unit c system bound choices m drawn e =
+      stands_by_marks (coded unit c) (claim (coded unit c)) (start (coded unit c)) cohere queues (branches unit c) choices system bound m drawn e

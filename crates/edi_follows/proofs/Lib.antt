@@ -2,6 +2,8 @@ pub mod Assembly
 pub mod Wholes
 pub mod Coding
 pub mod Private
+pub mod Marking
+pub mod Standstills
 pub mod Zeros
 pub mod Start
 pub mod Whole

@@ -20,7 +20,7 @@ use Rattle.edi_kernels.proofs.Going.{goes_claim, arrives_claim, again_claim}
 use Rattle.edi_kernels.proofs.Forked.{fork_claim}
 use Rattle.edi_kernels.proofs.Leaving.{leave_claim}
 use Rattle.edi_kernels.proofs.Meaning.{steps_cohere, steps_queue}
-use Rattle.edi_follows.specs.Theorem.{SameOutcome, SameMoments, CodeEndsAsMeant, CodeIsPrivate}
+use Rattle.edi_follows.specs.Theorem.{SameOutcome, SameMoments, CodeEndsAsMeant, CodeIsNeverBad, CodeIsPrivate, CodeStandsByMarks}
 use Rattle.edi_follows.proofs.Coding as coding
 use Rattle.edi_follows.proofs.Start.{start_claim}
 
@@ -57,3 +57,9 @@ same_moments = coding.same_moments steps starts steps_cohere steps_queue
 
 pub code_private : CodeIsPrivate
 code_private = coding.code_is_private steps starts steps_cohere steps_queue
+
+pub never_bad : CodeIsNeverBad
+never_bad = coding.code_is_never_bad steps starts steps_cohere steps_queue
+
+pub by_marks : CodeStandsByMarks
+by_marks = coding.code_stands_by_marks steps starts steps_cohere steps_queue

@@ -1,12 +1,14 @@
 -- Words of contracts. THE THEOREM: the code of a program does what the program means.
-use Rattle.std.specs.Prelude.{◌≡◌, ℕ, zero, suc, ◌≤◌, List, [], ◌++◌, length, Option}
+use Rattle.std.specs.Prelude.{◌≡◌, ℕ, zero, suc, ◌≤◌, true, List, [], ◌∷◌, ◌++◌, length, Option}
 use Rattle.edi_calls.specs.Choice.{Choices}
 use Rattle.edi_calls.specs.Names.{Name}
+use Rattle.edi_calls.specs.Outcome as outcome
 use Rattle.edi_calls.specs.Outcome.{Ending, Outcome}
-use Rattle.edi_calls.specs.Ready.{stays, joins, taking, take_next}
+use Rattle.edi_calls.specs.Ready.{all_marked, stays, joins, taking, take_next}
 use Rattle.edi_calls.specs.State.{State, Traced}
 use Rattle.edi_unit.specs.Tree.{ProgramUnit}
 use Rattle.edi_unit.specs.Fits.{Fits}
+use Rattle.edi_meaning.specs.Bad.{IsNoBad}
 use Rattle.edi_meaning.specs.Select as source
 use Rattle.edi_target.specs.Op.{Instruction}
 use Rattle.edi_target.specs.Memory.{word}
@@ -49,7 +51,13 @@ SameMoments =
     (source.ComesThrough unit system bound choices moment → ComesThrough (fetch (code_of unit)) 0 unit.calls system bound choices 0 moment)
     × (ComesThrough (fetch (code_of unit)) 0 unit.calls system bound choices 0 moment → source.ComesThrough unit system bound choices moment)
 
--- ---- privacy
+-- no instruction of the code is without a meaning in the state that it meets, so no run of it ends as bad
+abbrev pub CodeIsNeverBad : Type 0
+CodeIsNeverBad =
+    (unit : ProgramUnit) → CanBeCoded unit → (system : State) (bound : ℕ) (choices : Choices) (ending : Ending) (m : Machine) (drawn : ℕ) →
+    target.Ends (fetch (code_of unit)) 0 unit.calls system bound choices ending m drawn → IsNoBad ending
+
+-- ---- taken processes
 
 module _ (fetched : ℕ → Option (Instruction × ℕ)) where
   -- n instructions of p, after each of which it goes on itself
@@ -65,11 +73,35 @@ module _ (fetched : ℕ → Option (Instruction × ℕ)) where
         IsTaken entry calls system bound choices m p others drawn → Onward n m p others u → target.step fetched u p others ≡ target.went t (joins ps) →
         take_next choices drawn (others ++ ps) ≡ taking q rest drawn' → IsTaken entry calls system bound choices t q rest drawn'
 
--- what a taken process does up to its next switch, or the end of the run, changes no word but its own: at no time between
+  -- The run stands still in this machine by the marks: at the end of an attempt of a taken process, which has now marked the
+  -- last of all that are ready.
+  pub record StandsByMarks (entry : ℕ) (calls : List ℕ) (system : State) (bound : ℕ) (choices : Choices) (m : Machine) (drawn : ℕ) : Type 0 where
+    pub taken : Machine
+    pub name : Name
+    pub others : List Name
+    pub is_taken : IsTaken entry calls system bound choices taken name others drawn
+    pub steps : ℕ
+    pub before : Machine
+    pub onward : Onward steps taken name others before
+    pub ends : target.step fetched before name others ≡ target.ended outcome.standstill m
+    pub marked : all_marked m.marks (name ∷ others) ≡ true
+
+  -- What a taken process does up to its next switch, or the end of the run, changes no word but its own: at no time between.
+  abbrev pub ProcessesArePrivate : (entry : ℕ) (calls : List ℕ) → Type 0
+  ProcessesArePrivate entry calls =
+      (system : State) (bound : ℕ) (choices : Choices) (m : Machine) (p : Name) (others : List Name) (drawn : ℕ) →
+      IsTaken entry calls system bound choices m p others drawn →
+      (n : ℕ) (u : Machine) → Onward n m p others u →
+      (a : ℕ) → (OwnWords m p a → ⊥) →
+      (word u.memory a ≡ word m.memory a) × (word (machine_after (target.step fetched u p others)).memory a ≡ word m.memory a)
+
+-- each standstill of the code comes so, and none for want of a ready process
+abbrev pub CodeStandsByMarks : Type 0
+CodeStandsByMarks =
+    (unit : ProgramUnit) → CanBeCoded unit → (system : State) (bound : ℕ) (choices : Choices) (m : Machine) (drawn : ℕ) →
+    target.Ends (fetch (code_of unit)) 0 unit.calls system bound choices outcome.standstill m drawn →
+    StandsByMarks (fetch (code_of unit)) 0 unit.calls system bound choices m drawn
+
+-- and no process changes a word of a stranger
 abbrev pub CodeIsPrivate : Type 0
-CodeIsPrivate =
-    (unit : ProgramUnit) → CanBeCoded unit → (system : State) (bound : ℕ) (choices : Choices) (m : Machine) (p : Name) (others : List Name) (drawn : ℕ) →
-    IsTaken (fetch (code_of unit)) 0 unit.calls system bound choices m p others drawn →
-    (n : ℕ) (u : Machine) → Onward (fetch (code_of unit)) n m p others u →
-    (a : ℕ) → (OwnWords m p a → ⊥) →
-    (word u.memory a ≡ word m.memory a) × (word (machine_after (target.step (fetch (code_of unit)) u p others)).memory a ≡ word m.memory a)
+CodeIsPrivate = (unit : ProgramUnit) → CanBeCoded unit → ProcessesArePrivate (fetch (code_of unit)) 0 unit.calls

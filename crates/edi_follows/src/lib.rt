@@ -4,7 +4,14 @@
 //! scheme (`code_of`), the meaning is `Select`, and the machine that runs the code is `Mach`.
 #![tactic(auto)]
 
-ghost use Rattle.edi_follows.specs.Theorem.{CodeEndsAsMeant, CodeIsPrivate, SameMoments, SameOutcome};
+ghost use Rattle.edi_follows.specs.Theorem.{
+  CodeEndsAsMeant,
+  CodeIsNeverBad,
+  CodeIsPrivate,
+  CodeStandsByMarks,
+  SameMoments,
+  SameOutcome,
+};
 
 /// Where an execution of the program ends so (the ending with its line, the system, the turns that are left, the choices
 /// drawn), the run of its code ends just so, and the states of the system behind each of its answered calls are, one by one,
@@ -21,6 +28,17 @@ pub fn same_outcome()
 /// And both come through the same states of the system, also where no end is looked at.
 pub fn same_moments()
     ensures law { SameMoments }
+{}
+
+/// No run of the code ends as bad.
+pub fn code_is_never_bad()
+    ensures law { CodeIsNeverBad }
+{}
+
+/// Where a run of the code stands still, its last instruction is the end of a failed attempt that marks its process, and with it
+/// every process that is ready is marked: no run stands still for want of a ready process.
+pub fn code_stands_by_marks()
+    ensures law { CodeStandsByMarks }
 {}
 
 /// From the time when the kernel takes a process until it takes the next one, or the run ends, after every single instruction,
