@@ -13,6 +13,7 @@ use Rattle.edi_system.specs.AsCalls.{byte_number, IsDueFrom, IsDueSince, Lasts}
 use Rattle.edi_system.specs.Parts.{due_after, Grows, IsValid, SystemBegins, ToldStays}
 use Rattle.edi_system.proofs.Lasting.{byte_known, due_known, front_is, none_stays, valid_ready}
 use Rattle.edi_image.proofs.Told.{told_map}
+use Rattle.edi_image.specs.Image.{mount_fault_of}
 use Rattle.edi_system.specs.State.{all_told, drive_in, due_in, faults_of, found_of, input_in, printer_in, state_of, state_with, terminal_in, IsReady}
 use Rattle.edi_system.specs.declared.system.System.{System}
 use Rattle.edi_target.specs.Check.{CodeParts}
@@ -50,10 +51,10 @@ same_blocks make o None b c e (Some z) P same told = absurd told
 same_blocks make None (Some x') b c e z P same told = absurd same
 same_blocks make (Some x) (Some x') b c e z P same told = subst (λ y. WhereTold (all_told make (Some y) b c e) z P) same told
 
-pub only_read : {D : Type 0} (held : D → Option (List (List ℕ))) (a b old new : D) (P : List (List ℕ) → Type 0) → WhereTold (held a) (held b) (λ x y. (y ≡ x) × P x)
-    → old ≡ a → new ≡ b → WhereTold (held old) (held new) (λ x y. y ≡ x)
-only_read held a b old new P told first last =
-    subst (λ o. WhereTold (held o) (held new) (λ x y. y ≡ x)) (sym first) (subst (λ n. WhereTold (held a) (held n) (λ x y. y ≡ x)) (sym last) (go (held a) (held b) told)) where
+pub only_read : {D : Type 0} (contents : D → Option (List (List ℕ))) (a b old new : D) (P : List (List ℕ) → Type 0) → WhereTold (contents a) (contents b) (λ x y. (y ≡ x) × P x)
+    → old ≡ a → new ≡ b → WhereTold (contents old) (contents new) (λ x y. y ≡ x)
+only_read contents a b old new P told first last =
+    subst (λ o. WhereTold (contents o) (contents new) (λ x y. y ≡ x)) (sym first) (subst (λ n. WhereTold (contents a) (contents n) (λ x y. y ≡ x)) (sym last) (go (contents a) (contents b) told)) where
       go : (o n : Option (List (List ℕ))) → WhereTold o n (λ x y. (y ≡ x) × P x) → WhereTold o n (λ x y. y ≡ x)
       go o None t = tt
       go None (Some n) t = absurd t
@@ -67,8 +68,8 @@ pub record AreOf {D S T P : Type 0} (system : System D S T P) (o : Objects D S T
   pub printer : o.printer ≡ printer_in system
 
 -- a system was made over these objects, whose drive was only read before
-pub record AreUnder {D S T P : Type 0} (held : D → Option (List (List ℕ))) (system : System D S T P) (o : Objects D S T P) : Type 0 where
-  pub drive : WhereTold (held o.drive) (held (drive_in system)) (λ old new. new ≡ old)
+pub record AreUnder {D S T P : Type 0} (contents : D → Option (List (List ℕ))) (system : System D S T P) (o : Objects D S T P) : Type 0 where
+  pub drive : WhereTold (contents o.drive) (contents (drive_in system)) (λ old new. new ≡ old)
   pub input : o.input ≡ input_in system
   pub terminal : o.terminal ≡ terminal_in system
   pub printer : o.printer ≡ printer_in system
@@ -95,28 +96,28 @@ moment_is code bound old e words used new x y fault h =
       };
     }
 
-module _ {D S T P : Type 0} (held : D → Option (List (List ℕ))) (left : S → Option (List ℕ)) (shown : T → Option (List ℕ)) (printed : P → Option (List ℕ)) where
+module _ {D S T P : Type 0} (contents : D → Option (List (List ℕ))) (left : S → Option (List ℕ)) (shown : T → Option (List ℕ)) (printed : P → Option (List ℕ)) where
   told_of : (system : System D S T P) (o : Objects D S T P) → AreOf system o
-      → contents_of held left shown printed o ≡ all_told contents_with (held (drive_in system)) (left (input_in system)) (shown (terminal_in system)) (printed (printer_in system))
+      → contents_of contents left shown printed o ≡ all_told contents_with (contents (drive_in system)) (left (input_in system)) (shown (terminal_in system)) (printed (printer_in system))
   told_of system o are =
-      ap (λ x. all_told contents_with (held x) (left o.input) (shown o.terminal) (printed o.printer)) are.drive
-      ∙ ap (λ x. all_told contents_with (held (drive_in system)) (left x) (shown o.terminal) (printed o.printer)) are.input
-      ∙ ap (λ x. all_told contents_with (held (drive_in system)) (left (input_in system)) (shown x) (printed o.printer)) are.terminal
-      ∙ ap (λ x. all_told contents_with (held (drive_in system)) (left (input_in system)) (shown (terminal_in system)) (printed x)) are.printer
+      ap (λ x. all_told contents_with (contents x) (left o.input) (shown o.terminal) (printed o.printer)) are.drive
+      ∙ ap (λ x. all_told contents_with (contents (drive_in system)) (left x) (shown o.terminal) (printed o.printer)) are.input
+      ∙ ap (λ x. all_told contents_with (contents (drive_in system)) (left (input_in system)) (shown x) (printed o.printer)) are.terminal
+      ∙ ap (λ x. all_told contents_with (contents (drive_in system)) (left (input_in system)) (shown (terminal_in system)) (printed x)) are.printer
 
   -- the run of the kernel on a system is one on its objects
   has_run : (code : CodeParts) (bound : ℕ) (old : Drawn) (e : Ending) (words : List ℕ) (used : ℕ) (new : Drawn) (before after : System D S T P) (o o' : Objects D S T P)
-      → SystemBegins before → AreUnder held before o → AreOf after o'
-      → WhereTold (state_of held left shown printed before) (state_of held left shown printed after) (λ s t. RunsTo code s bound old e words used t new)
-      → WhereTold (contents_of held left shown printed o) (contents_of held left shown printed o') (HasRun code bound old e words used new)
+      → SystemBegins before → AreUnder contents before o → AreOf after o'
+      → WhereTold (state_of contents left shown printed before) (state_of contents left shown printed after) (λ s t. RunsTo code s bound old e words used t new)
+      → WhereTold (contents_of contents left shown printed o) (contents_of contents left shown printed o') (HasRun code bound old e words used new)
   has_run code bound old e words used new before after o o' begins are are' ran =
-      subst (λ x. WhereTold (all_told contents_with (held o.drive) x (shown o.terminal) (printed o.printer)) (contents_of held left shown printed o') (HasRun code bound old e words used new)) (sym (ap left are.input))
-      (subst (λ x. WhereTold (all_told contents_with (held o.drive) (left (input_in before)) x (printed o.printer)) (contents_of held left shown printed o') (HasRun code bound old e words used new)) (sym (ap shown are.terminal))
-      (subst (λ x. WhereTold (all_told contents_with (held o.drive) (left (input_in before)) (shown (terminal_in before)) x) (contents_of held left shown printed o') (HasRun code bound old e words used new)) (sym (ap printed are.printer))
-      (same_blocks contents_with (held o.drive) (held (drive_in before)) (left (input_in before)) (shown (terminal_in before)) (printed (printer_in before)) (contents_of held left shown printed o') (HasRun code bound old e words used new) are.drive
-      (subst (λ x. WhereTold (all_told contents_with (held (drive_in before)) (left (input_in before)) (shown (terminal_in before)) (printed (printer_in before))) x (HasRun code bound old e words used new))
+      subst (λ x. WhereTold (all_told contents_with (contents o.drive) x (shown o.terminal) (printed o.printer)) (contents_of contents left shown printed o') (HasRun code bound old e words used new)) (sym (ap left are.input))
+      (subst (λ x. WhereTold (all_told contents_with (contents o.drive) (left (input_in before)) x (printed o.printer)) (contents_of contents left shown printed o') (HasRun code bound old e words used new)) (sym (ap shown are.terminal))
+      (subst (λ x. WhereTold (all_told contents_with (contents o.drive) (left (input_in before)) (shown (terminal_in before)) x) (contents_of contents left shown printed o') (HasRun code bound old e words used new)) (sym (ap printed are.printer))
+      (same_blocks contents_with (contents o.drive) (contents (drive_in before)) (left (input_in before)) (shown (terminal_in before)) (printed (printer_in before)) (contents_of contents left shown printed o') (HasRun code bound old e words used new) are.drive
+      (subst (λ x. WhereTold (all_told contents_with (contents (drive_in before)) (left (input_in before)) (shown (terminal_in before)) (printed (printer_in before))) x (HasRun code bound old e words used new))
       (sym (told_of after o' are'))
-      (told_otherwise (state_with before) (state_with after) contents_with (held (drive_in before)) (held (drive_in after)) (left (input_in before)) (left (input_in after))
+      (told_otherwise (state_with before) (state_with after) contents_with (contents (drive_in before)) (contents (drive_in after)) (left (input_in before)) (left (input_in after))
       (shown (terminal_in before)) (shown (terminal_in after)) (printed (printer_in before)) (printed (printer_in after))
       (λ s t. RunsTo code s bound old e words used t new) (HasRun code bound old e words used new)
       (λ x x' y y' z z' w w' runs. record {
@@ -126,8 +127,8 @@ module _ {D S T P : Type 0} (held : D → Option (List (List ℕ))) (left : S �
       }) ran)))))
 
   -- what the terminal had taken is the first part of what it has taken
-  grown_run : (before after : System D S T P) (o o' : Objects D S T P) → AreUnder held before o → AreOf after o'
-      → ((n : ℕ) → Lasts held left shown printed before n → Lasts held left shown printed after n)
+  grown_run : (before after : System D S T P) (o o' : Objects D S T P) → AreUnder contents before o → AreOf after o'
+      → ((n : ℕ) → Lasts contents left shown printed before n → Lasts contents left shown printed after n)
       → WhereTold (shown o.terminal) (shown o'.terminal) Grows
   grown_run before after o o' are are' lasts =
       go (shown o.terminal) (shown o'.terminal) (ap shown (sym are.terminal)) (ap shown (sym are'.terminal))
@@ -140,22 +141,36 @@ module _ {D S T P : Type 0} (held : D → Option (List (List ℕ))) (left : S �
           (λ k c h. subst (λ x. IfSome x (λ bytes. slice_get bytes k ≡ Some c)) e'
           ((lasts (suc (suc (suc (suc (suc (2 * byte_number k c + 1)))))) (byte_known shown before k c (subst (λ x. IfSome x (λ bytes. slice_get bytes k ≡ Some c)) (sym e) h))).byte k c refl))
 
+  -- the drive was a valid image, where it is told before and afterwards
+  pub mounted_run : (count : D → ℕ) (before after : System D S T P) (first last : D) → IsReady contents count before
+      → WhereTold (contents first) (contents (drive_in before)) (λ old new. new ≡ old) → last ≡ drive_in after
+      → ((n : ℕ) → Lasts contents left shown printed before n → Lasts contents left shown printed after n)
+      → WhereTold (contents first) (contents last) (λ old new. mount_fault_of old ≡ None)
+  mounted_run count before after first last ready read is lasts =
+      go (contents first) (contents (drive_in before)) (contents last) read (valid_ready contents count before ready) (λ none. ap contents is ∙ lasts zero none)
+    where
+      go : (a b c : Option (List (List ℕ))) → WhereTold a b (λ old new. new ≡ old) → IsValid b → (b ≡ None → c ≡ None) → WhereTold a c (λ old new. mount_fault_of old ≡ None)
+      go a b None same valid stays = tt
+      go a None (Some c) same valid stays = absurd (let wrong : Some c ≡ None = stays refl in cc)
+      go None (Some b) (Some c) same valid stays = absurd same
+      go (Some a) (Some b) (Some c) same valid stays = subst (λ bs. mount_fault_of bs ≡ None) same valid
+
   -- what is not told stays so, and the drive is a valid image
-  told_run : (count : D → ℕ) (before after : System D S T P) (o o' : Objects D S T P) → IsReady held count before → AreUnder held before o → AreOf after o'
-      → ((n : ℕ) → Lasts held left shown printed before n → Lasts held left shown printed after n)
-      → ToldStays (held o.drive) (held o'.drive) (left o.input) (left o'.input) (shown o.terminal) (shown o'.terminal) (printed o.printer) (printed o'.printer)
+  told_run : (count : D → ℕ) (before after : System D S T P) (o o' : Objects D S T P) → IsReady contents count before → AreUnder contents before o → AreOf after o'
+      → ((n : ℕ) → Lasts contents left shown printed before n → Lasts contents left shown printed after n)
+      → ToldStays (contents o.drive) (contents o'.drive) (left o.input) (left o'.input) (shown o.terminal) (shown o'.terminal) (printed o.printer) (printed o'.printer)
   told_run count before after o o' ready are are' lasts = record {
-    drive = λ none. ap held are'.drive ∙ lasts zero (none_stays (λ old new. new ≡ old) (held o.drive) (held (drive_in before)) are.drive none);
+    drive = λ none. ap contents are'.drive ∙ lasts zero (none_stays (λ old new. new ≡ old) (contents o.drive) (contents (drive_in before)) are.drive none);
     source = λ none. ap left are'.input ∙ lasts (suc zero) (ap left (sym are.input) ∙ none);
     terminal = λ none. ap shown are'.terminal ∙ lasts (suc (suc zero)) (ap shown (sym are.terminal) ∙ none);
     printer = λ none. ap printed are'.printer ∙ lasts (suc (suc (suc zero))) (ap printed (sym are.printer) ∙ none);
-    valid = subst IsValid (sym (ap held are'.drive)) (lasts (suc (suc (suc (suc zero)))) (valid_ready held count before ready));
+    valid = subst IsValid (sym (ap contents are'.drive)) (lasts (suc (suc (suc (suc zero)))) (valid_ready contents count before ready));
     grows = grown_run before after o o' are are' lasts;
   }
 
   -- whether a line is due
-  due_run : (before after : System D S T P) (o o' : Objects D S T P) (due : Bool) → SystemBegins before → AreUnder held before o → AreOf after o' → due ≡ due_in after
-      → ((n : ℕ) → Lasts held left shown printed before n → Lasts held left shown printed after n)
+  due_run : (before after : System D S T P) (o o' : Objects D S T P) (due : Bool) → SystemBegins before → AreUnder contents before o → AreOf after o' → due ≡ due_in after
+      → ((n : ℕ) → Lasts contents left shown printed before n → Lasts contents left shown printed after n)
       → WhereTold (shown o.terminal) (shown o'.terminal) (λ taken now. due ≡ due_after false (drop (length taken) now))
   due_run before after o o' due begins are are' is lasts =
       go (shown o.terminal) (shown o'.terminal) (ap shown (sym are.terminal)) (ap shown (sym are'.terminal))
@@ -173,14 +188,14 @@ module _ {D S T P : Type 0} (held : D → Option (List (List ℕ))) (left : S �
 
   -- all of it
   pub run_leaves : (count : D → ℕ) (code : CodeParts) (bound : ℕ) (old : Drawn) (ran : Ran) (words : List ℕ) (used : ℕ) (new : Drawn) (before after : System D S T P) (o o' : Objects D S T P)
-      → SystemBegins before → IsReady held count before → AreUnder held before o → AreOf after o'
-      → (old.drawn + bound < 2 ^ 64 → WhereTold (state_of held left shown printed before) (state_of held left shown printed after) (λ s t. RunsTo code s bound old ran.ending words used t new))
-      → ran.due ≡ due_in after → ((n : ℕ) → Lasts held left shown printed before n → Lasts held left shown printed after n)
-      → RunLeaves held left shown printed code bound old ran words used new o o'
+      → SystemBegins before → IsReady contents count before → AreUnder contents before o → AreOf after o'
+      → (old.drawn + bound < 2 ^ 64 → WhereTold (state_of contents left shown printed before) (state_of contents left shown printed after) (λ s t. RunsTo code s bound old ran.ending words used t new))
+      → ran.due ≡ due_in after → ((n : ℕ) → Lasts contents left shown printed before n → Lasts contents left shown printed after n)
+      → RunLeaves contents left shown printed code bound old ran words used new o o'
   run_leaves count code bound old ran words used new before after o o' begins ready are are' exact due lasts = record {
     runs = λ few. has_run code bound old ran.ending words used new before after o o' begins are are' (exact few);
     moment = λ fault few.
-        told_map (contents_of held left shown printed o) (contents_of held left shown printed o') (HasRun code bound old ran.ending words used new) (StandsAtMoment code bound old)
+        told_map (contents_of contents left shown printed o) (contents_of contents left shown printed o') (HasRun code bound old ran.ending words used new) (StandsAtMoment code bound old)
         (λ x y h. moment_is code bound old ran.ending words used new x y fault h) (has_run code bound old ran.ending words used new before after o o' begins are are' (exact few));
     told = told_run count before after o o' ready are are' lasts;
     due = due_run before after o o' ran.due begins are are' due lasts;

@@ -38,10 +38,10 @@ pub record Contents : Type 0 where
 abbrev pub contents_with : (disk : List (List ℕ)) → (input shown printed : List ℕ) → Contents
 contents_with disk input shown printed = record { disk = disk; input = input; shown = shown; printed = printed }
 
--- the contents of the four, where all of them tell what they hold
+-- the contents of the four, where all of them are told
 abbrev pub contents_of : {D S T P : Type 0} → (D → Option (List (List ℕ))) → (S → Option (List ℕ)) → (T → Option (List ℕ)) → (P → Option (List ℕ)) → Objects D S T P → Option Contents
-contents_of held left shown printed o =
-    all_told contents_with (held o.drive) (left o.input) (shown o.terminal) (printed o.printer)
+contents_of contents left shown printed o =
+    all_told contents_with (contents o.drive) (left o.input) (shown o.terminal) (printed o.printer)
 
 -- the state of a system over these objects, with no file open
 abbrev pub system_on : Contents → State

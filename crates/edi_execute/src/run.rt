@@ -1,10 +1,11 @@
 //! A run of code on four objects.
 
-ghost use Rattle.std.specs.Prelude.{◌≡◌, ◌≤◌, ◌<◌, ◌+◌, ◌^◌, ◌↔◌, IfErr, IfOk, None, IsSome, ⊤};
+ghost use Rattle.std.specs.Prelude.{◌≡◌, ◌≤◌, ◌<◌, ◌+◌, ◌^◌, ◌↔◌, IfErr, IfOk, None, Some, IsSome, ⊤};
 ghost use Rattle.edi_told.specs.Faults.{CountRose};
 ghost use Rattle.edi_told.specs.Told.{WhereTold};
 ghost use Rattle.edi_image.specs.Image.{mount_fault_of};
 ghost use Rattle.edi_image.specs.Finds.{IsFirst};
+ghost use Rattle.edi_kernel.specs.Kernel.{StandsAtEnd};
 ghost use Rattle.edi_system.specs.Parts.{IsValid};
 ghost use Rattle.edi_execute.specs.Objects.{FailedIs, NoneFalls, RunLeaves, faults_in, objects};
 
@@ -29,7 +30,9 @@ pub struct Ran {
     pub due: bool,
 }
 
-/// Mounts the drive and runs the code on it, on an input, a terminal and a printer, with no file open.
+/// Mounts the drive and runs the code on it, on an input, a terminal and a printer, with no file open. It errs where the drive
+/// cannot be mounted, and with `NoMemory` also where there is none for the buffer of a file that is written; then nothing has
+/// run.
 pub fn run_on<D: Drive, S: Source, T: Sink, P: Sink>(
     alloc: Global,
     kernel: &mut Kernel,
@@ -48,6 +51,10 @@ pub fn run_on<D: Drive, S: Source, T: Sink, P: Sink>(
     ensures leaves { IfOk result (λ ran. RunLeaves D.contents S.left T.taken P.taken code.now bound choices.old ran kernel.new.store kernel.new.used choices.new
         (objects drive.old input.old terminal.old printer.old) (objects drive.new input.new terminal.new printer.new)) }
     ensures valid { IfOk result (λ ran. IsValid (D.contents drive.new)) }
+    // The drive was a valid image before, and the kernel took no more turns than the bound.
+    ensures mounted { IfOk result (λ ran. WhereTold (D.contents drive.old) (D.contents drive.new) (λ old new. mount_fault_of old ≡ None)) }
+    ensures used { IfOk result (λ ran. kernel.new.used ≤ bound) }
+    ensures standing { IfOk result (λ ran. StandsAtEnd (Some ran.ending) kernel.new.table kernel.new.arrived) }
     // An object has failed exactly where the ending says so, and its count rose.
     ensures failed { IfOk result (λ ran. IsSome ran.failed ↔ (ran.ending ≡ Ending.Fault)) }
     ensures blame { IfOk result (λ ran. FailedIs ran.failed

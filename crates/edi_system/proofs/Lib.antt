@@ -12,3 +12,4 @@ pub mod InState
 pub mod Protecting
 pub mod Calling
 pub mod Due
+pub mod Chained

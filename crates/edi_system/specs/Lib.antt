@@ -7,3 +7,4 @@ pub mod Catalogue
 pub mod InState
 pub mod AsCalls
 pub mod Closing
+pub mod Does

@@ -2,6 +2,8 @@
 use Rattle.std.specs.Prelude.{◌≡◌, ℕ, ◌-◌, ◌≤◌, Bool, true, false, not, ◌==◌, List, [], ◌∷◌, ◌++◌, take, length, slice_get, Option, None, IfSome}
 use Rattle.std.specs.Option.{option_map_or}
 use Rattle.edi_told.specs.Told.{WhereTold}
+use Rattle.edi_host.specs.declared.source.Next.{Next}
+use Rattle.edi_host.specs.Streams.{Takes}
 use Rattle.edi_calls.specs.State.{State}
 use Rattle.edi_image.specs.Image.{mount_fault_of}
 use Rattle.edi_system.specs.State.{buffer_in, drive_in, input_in, terminal_in, printer_in, due_in}
@@ -66,6 +68,10 @@ line_end false = []
 pub record IsPart (whole : Bool) (piece : List ℕ) (taken : ℕ) : Type 0 where
   pub within : taken ≤ length piece
   pub all : whole ≡ true → taken ≡ length piece
+
+-- a byte of the input was taken, or there is none left, or the input has failed; nothing else has changed
+abbrev pub TakesByte : Next → State → State → Type 0
+TakesByte answer before after = Takes answer before.input after.input × (after ≡ record before { input = after.input })
 
 -- a first part of a piece was shown, and nothing else
 pub record Shows {D S T P : Type 0} (shown : T → Option (List ℕ)) (whole : Bool) (piece : List ℕ) (before after : System D S T P) : Type 0 where

@@ -5,6 +5,7 @@ ghost use Rattle.edi_told.specs.Told.{WhereTold};
 ghost use Rattle.edi_calls.specs.Calls.{argument_words, call};
 ghost use Rattle.edi_system.specs.State.{state_of, IsReady};
 ghost use Rattle.edi_system.specs.AsCalls.{KeepsDue};
+ghost use Rattle.edi_system.specs.Does.{Does};
 ghost use Rattle.edi_system.specs.Ends.{is_fault, Keeps, Reaches};
 ghost use Rattle.edi_system.specs.Parts.{KeepsTold};
 
@@ -14,14 +15,17 @@ use edi_calls::{CallEnd, Calls};
 use edi_host::{Drive, Sink, Source};
 
 impl<D: Drive, S: Source, T: Sink, P: Sink> System<'_, '_, '_, '_, '_, '_, D, S, T, P> {
-    // Makes the call of this number.
-    fn step(&mut self, number: u8, args: &[u16]) -> Result<Option<u16>, Stop>
+    /// Makes a program's call of this number, 1 to 10, with as many argument words as `edi_calls::words_of` gives for it, and
+    /// gives its answer word, if it has one. The refusals are `NoFile`, `FileLimit` and `Fault`.
+    pub fn program_call(&mut self, number: u8, args: &[u16]) -> Result<Option<u16>, Stop>
         requires ready { IsReady D.contents D.count self.old }
         requires from { 1 ≤ number }
         requires to { number ≤ 10 }
         requires arguments { length args.now ≡ argument_words number }
         ensures exact { WhereTold (state_of D.contents S.left T.taken P.taken self.old) (state_of D.contents S.left T.taken P.taken self.new)
             (λ before after. Reaches (call number args.now before) result before after) }
+        // What it leaves of the open files and of the kept catalogue, and the objects that it uses: also where none is told.
+        ensures does { Does D.count T.taken P.taken number args.now result self.old self.new }
         ensures ready { is_fault result ≡ false → IsReady D.contents D.count self.new }
         ensures due { KeepsDue T.taken self.old self.new }
         ensures told { KeepsTold D.contents S.left T.taken P.taken self.old self.new }
@@ -61,7 +65,7 @@ impl<'d, 'c, 'i, 't, 'p, 'b, D: Drive, S: Source, T: Sink, P: Sink> Calls
     ghost one_failed = { λ system one other p q. sym p.is ∙ q.is };
 
     fn call(&mut self, number: u8, args: &[u16], answer: &mut [u16]) -> CallEnd {
-        match self.step(number, args) {
+        match self.program_call(number, args) {
             Ok(Some(word)) => {
                 answer.fill(word);
                 CallEnd::Ok

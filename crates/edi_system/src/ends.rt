@@ -1,8 +1,8 @@
 //! Why a call is not answered.
 
-/// Why a call is not answered.
+/// Why a program's call is not answered.
 #[derive(Clone, Copy, Debug, PartialEq, Eq, Drop)]
-pub(crate) enum Stop {
+pub enum Stop {
     /// There is no found file, or no file that is being written.
     NoFile,
     /// The file that is written has its greatest length already.

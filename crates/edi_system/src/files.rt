@@ -13,6 +13,7 @@ ghost use Rattle.edi_catalog.specs.Files.{entry_of, file_titled, FileIs, PageIs}
 ghost use Rattle.edi_image.specs.Stored.{blocks_taken};
 ghost use Rattle.edi_catalog.specs.Mounted.{files_of};
 ghost use Rattle.edi_system.specs.State.{catalog_in, drive_in, failed_in, state_of, IsReady};
+ghost use Rattle.edi_system.specs.AsCalls.{KeepsDue};
 ghost use Rattle.edi_system.specs.Ends.{Keeps};
 ghost use Rattle.edi_system.specs.Parts.{KeepsTold};
 ghost use Rattle.edi_system.specs.Catalogue.{failed_at, is_drive_fault, is_refused, IsClosed, OnlyCatalog, OnlyFiles, OpenStays, PositionStays};
@@ -102,6 +103,7 @@ impl<D: Drive, S: Source, T: Sink, P: Sink> System<'_, '_, '_, '_, '_, '_, D, S,
         ensures only { OnlyCatalog self.old self.new }
         ensures failed { failed_in self.new ≡ failed_at result }
         ensures ready { is_drive_fault result ≡ false → IsReady D.contents D.count self.new }
+        ensures due { KeepsDue T.taken self.old self.new }
         ensures told { KeepsTold D.contents S.left T.taken P.taken self.old self.new }
         ensures keeps { Keeps D.faults S.faults T.faults P.faults (is_drive_fault result) self.old self.new }
     {
@@ -128,6 +130,7 @@ impl<D: Drive, S: Source, T: Sink, P: Sink> System<'_, '_, '_, '_, '_, '_, D, S,
         ensures only { OnlyCatalog self.old self.new }
         ensures failed { failed_in self.new ≡ failed_at result }
         ensures ready { is_drive_fault result ≡ false → IsReady D.contents D.count self.new }
+        ensures due { KeepsDue T.taken self.old self.new }
         ensures told { KeepsTold D.contents S.left T.taken P.taken self.old self.new }
         ensures keeps { Keeps D.faults S.faults T.faults P.faults (is_drive_fault result) self.old self.new }
     {
@@ -153,6 +156,7 @@ impl<D: Drive, S: Source, T: Sink, P: Sink> System<'_, '_, '_, '_, '_, '_, D, S,
         ensures only { OnlyFiles self.old self.new }
         ensures failed { failed_in self.new ≡ failed_at result }
         ensures ready { is_drive_fault result ≡ false → IsReady D.contents D.count self.new }
+        ensures due { KeepsDue T.taken self.old self.new }
         ensures told { KeepsTold D.contents S.left T.taken P.taken self.old self.new }
         ensures keeps { Keeps D.faults S.faults T.faults P.faults (is_drive_fault result) self.old self.new }
     {
@@ -179,6 +183,7 @@ impl<D: Drive, S: Source, T: Sink, P: Sink> System<'_, '_, '_, '_, '_, '_, D, S,
         ensures only { OnlyFiles self.old self.new }
         ensures failed { failed_in self.new ≡ failed_at result }
         ensures ready { is_drive_fault result ≡ false → IsReady D.contents D.count self.new }
+        ensures due { KeepsDue T.taken self.old self.new }
         ensures told { KeepsTold D.contents S.left T.taken P.taken self.old self.new }
         ensures keeps { Keeps D.faults S.faults T.faults P.faults (is_drive_fault result) self.old self.new }
     {
@@ -204,6 +209,7 @@ impl<D: Drive, S: Source, T: Sink, P: Sink> System<'_, '_, '_, '_, '_, '_, D, S,
         ensures only { OnlyFiles self.old self.new }
         ensures failed { failed_in self.new ≡ failed_at result }
         ensures ready { is_drive_fault result ≡ false → IsReady D.contents D.count self.new }
+        ensures due { KeepsDue T.taken self.old self.new }
         ensures told { KeepsTold D.contents S.left T.taken P.taken self.old self.new }
         ensures keeps { Keeps D.faults S.faults T.faults P.faults (is_drive_fault result) self.old self.new }
     {
@@ -230,6 +236,7 @@ impl<D: Drive, S: Source, T: Sink, P: Sink> System<'_, '_, '_, '_, '_, '_, D, S,
         ensures only { OnlyFiles self.old self.new }
         ensures failed { failed_in self.new ≡ failed_at result }
         ensures ready { is_drive_fault result ≡ false → IsReady D.contents D.count self.new }
+        ensures due { KeepsDue T.taken self.old self.new }
         ensures told { KeepsTold D.contents S.left T.taken P.taken self.old self.new }
         ensures keeps { Keeps D.faults S.faults T.faults P.faults (is_drive_fault result) self.old self.new }
     {
@@ -257,6 +264,7 @@ impl<D: Drive, S: Source, T: Sink, P: Sink> System<'_, '_, '_, '_, '_, '_, D, S,
         ensures only { OnlyFiles self.old self.new }
         ensures failed { failed_in self.new ≡ failed_at result }
         ensures ready { is_drive_fault result ≡ false → IsReady D.contents D.count self.new }
+        ensures due { KeepsDue T.taken self.old self.new }
         ensures told { KeepsTold D.contents S.left T.taken P.taken self.old self.new }
         ensures keeps { Keeps D.faults S.faults T.faults P.faults (is_drive_fault result) self.old self.new }
     {

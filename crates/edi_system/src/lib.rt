@@ -12,4 +12,5 @@ mod system;
 mod writing;
 
 pub use buffer::Buffer;
+pub use ends::Stop;
 pub use system::System;

@@ -7,7 +7,7 @@ ghost use Rattle.edi_calls.specs.Calls.{accept, display, print, word_of};
 ghost use Rattle.edi_system.specs.State.{due_in, failed_in, input_in, state_of, IsReady};
 ghost use Rattle.edi_system.specs.Ends.{is_fault, Keeps, Reaches};
 ghost use Rattle.edi_system.specs.AsCalls.{KeepsDue};
-ghost use Rattle.edi_system.specs.Parts.{due_after, line_end, KeepsTold, OnlyInput, OnlyPrinter, OnlyTerminal, Prints, PrintsMore, Shows, ShowsMore};
+ghost use Rattle.edi_system.specs.Parts.{due_after, line_end, KeepsTold, OnlyInput, OnlyPrinter, OnlyTerminal, Prints, PrintsMore, Shows, ShowsMore, TakesByte};
 
 use crate::ends::Stop;
 use crate::system::System;
@@ -48,6 +48,8 @@ impl<D: Drive, S: Source, T: Sink, P: Sink> System<'_, '_, '_, '_, '_, '_, D, S,
     pub fn take(&mut self) -> Next
         requires ready { IsReady D.contents D.count self.old }
         ensures takes { WhereTold (S.left (input_in self.old)) (S.left (input_in self.new)) (Takes result) }
+        ensures exact { WhereTold (state_of D.contents S.left T.taken P.taken self.old) (state_of D.contents S.left T.taken P.taken self.new)
+            (TakesByte result) }
         ensures only { OnlyInput self.old self.new }
         ensures failed { failed_in self.new ≡ (if next_fault result then Some Outside.Input else None) }
         ensures ready { next_fault result ≡ false → IsReady D.contents D.count self.new }
@@ -122,6 +124,7 @@ impl<D: Drive, S: Source, T: Sink, P: Sink> System<'_, '_, '_, '_, '_, '_, D, S,
         ensures only { OnlyTerminal self.old self.new }
         ensures failed { failed_in self.new ≡ (if result then None else Some Outside.Terminal) }
         ensures ready { result ≡ true → IsReady D.contents D.count self.new }
+        ensures due { KeepsDue T.taken self.old self.new }
         ensures told { KeepsTold D.contents S.left T.taken P.taken self.old self.new }
         ensures keeps { Keeps D.faults S.faults T.faults P.faults (not result) self.old self.new }
     {

@@ -1,6 +1,6 @@
 use Rattle.std.proofs.Common.{rules}
 use Rattle.edi_disk.specs.Shown.{drive_of}
-use Rattle.edi_execute.proofs.Runs.{none_falls, only_read, run_leaves}
+use Rattle.edi_execute.proofs.Runs.{mounted_run, none_falls, only_read, run_leaves}
 use Rattle.edi_execute.proofs.run.run_on.Goals as goal
 
 pub returns-clause-leaves : goal.returns-clause-leaves
@@ -11,6 +11,12 @@ returns-clause-leaves g c =
     (record { drive = only_read g.D.Drive.contents (drive_of c.attach-disk.result) (drive_of c.check.new.disk) _ _ _ c.in-Ok-check.ensures.leaves (search rules) (search rules); input = search rules; terminal = search rules; printer = search rules })
     (record { drive = search rules; input = search rules; terminal = search rules; printer = search rules })
     c.run-ending.ensures.exact c.due.ensures.exact c.run-ending.ensures.lasting
+
+pub returns-clause-mounted : goal.returns-clause-mounted
+returns-clause-mounted g c =
+    mounted_run g.D.Drive.contents g.S.Source.left g.T.Sink.taken g.P.Sink.taken g.D.Drive.count c.new-system.result c.run-ending.new.calls _ _ c.new-system.ensures.ready
+    (only_read g.D.Drive.contents (drive_of c.attach-disk.result) (drive_of c.check.new.disk) _ _ _ c.in-Ok-check.ensures.leaves (search rules) (search rules)) (search rules)
+    c.run-ending.ensures.lasting
 
 pub returns-clause-valid : goal.returns-clause-valid
 returns-clause-valid g c = (returns-clause-leaves g c).told.valid
