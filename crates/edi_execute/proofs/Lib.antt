@@ -1,1 +1,2 @@
+mod Executing
 mod Runs

@@ -9,6 +9,7 @@ ghost use Rattle.edi_kernel.specs.Kernel.{StandsAtEnd};
 ghost use Rattle.edi_system.specs.Parts.{IsValid};
 ghost use Rattle.edi_execute.specs.Objects.{FailedIs, NoneFalls, RunLeaves, faults_in, objects};
 
+use crate::execution::execute;
 use edi_calls::Outside;
 use edi_catalog::{MountFault, check, mount};
 use edi_disk::Disk;
@@ -79,7 +80,7 @@ pub fn run_on<D: Drive, S: Source, T: Sink, P: Sink>(
     };
     let catalog = mount(disk, &mut room);
     let mut system = System::new(catalog, input, terminal, printer, &mut buffer);
-    let ending = kernel.run(code, &mut system, bound, choices);
+    let ending = execute(kernel, code, &mut system, bound, choices);
     Ok(Ran {
         ending,
         failed: system.failed(),

@@ -1,0 +1,113 @@
+-- A run of code on a system, from a run of the kernel on it.
+use Rattle.std.proofs.Common.{◌≡◌, ℕ, zero, suc, ◌+◌, ◌*◌, ◌≤◌, Bool, true, false, List, [], ◌∷◌, Option, Some, None, refl, sym, ap, subst, ◌∙◌}
+use Rattle.std.specs.Prelude.{slice_get, IfSome, IsSome, ◌↔◌}
+use Rattle.edi_told.specs.Told.{WhereTold}
+use Rattle.edi_calls.specs.declared.ends.Outside.{Outside}
+use Rattle.edi_calls.specs.State.{State}
+use Rattle.edi_kernel.specs.declared.ends.Ending.{Ending}
+use Rattle.edi_kernel.specs.declared.ends.Ending.TheVariants as ending
+use Rattle.edi_kernel.specs.Kernel.{fault_of}
+use Rattle.edi_kernel.specs.Runs.{FailsIn, RunsTo}
+use Rattle.edi_kernel.specs.Stretch.{Blamed}
+use Rattle.edi_kernel.proofs.Passed.{fault_is_moment}
+use Rattle.edi_system.specs.AsCalls.{byte_number, references_in, HasFailed, KeepsDue, Lasts}
+use Rattle.edi_system.specs.Ends.{Blames, Keeps}
+use Rattle.edi_system.specs.Parts.{Grows, IsValid, KeepsTold}
+use Rattle.edi_system.specs.State.{drive_in, failed_in, faults_of, terminal_in, IsReady}
+use Rattle.edi_system.specs.declared.system.System.{System}
+use Rattle.edi_system.proofs.Lasting.{byte_known, due_known, front_is}
+use Rattle.edi_target.specs.Check.{CodeParts}
+use Rattle.edi_trace.specs.Drawn.{Drawn}
+use Rattle.edi_execute.specs.Execution.{is_fault, IsAtMoment}
+
+-- after a fault the system is at a state through which the run comes
+pub at_moment : (code : CodeParts) (system : State) (bound : ℕ) (old : Drawn) (e : Ending) (words : List ℕ) (used : ℕ) (now : State) (new : Drawn) → e ≡ ending.Fault
+    → RunsTo code system bound old e words used now new → IsAtMoment code system bound old now
+at_moment code system bound old e words used now new fault runs =
+    let fails : FailsIn code system bound old used now new = subst (λ k. RunsTo code system bound old k words used now new) fault runs in
+    let at = fault_is_moment code system bound old new used now fails in
+    record { moment = at.0; comes = at.1; same = at.2 }
+
+-- ---- the object that has failed
+
+module _ {D S T P : Type 0} (contents : D → Option (List (List ℕ))) (count : D → ℕ) (system : System D S T P) (old new : Outside → ℕ) where
+  none_named : failed_in system ≡ None → (e : Ending) → (e ≡ ending.Fault → ⊥) → IsSome (failed_in system) ↔ (e ≡ ending.Fault)
+  none_named is e other = (λ some. absurd (let wrong : false ≡ true = subst IsSome is some in cc), λ same. absurd (other same))
+
+  pub named : (e : Ending) → Blamed (fault_of (Some e)) (HasFailed contents count system) old new → IsSome (failed_in system) ↔ (e ≡ ending.Fault)
+  named ending.Fault blame = (λ some. refl, λ e. subst IsSome (sym blame.1.is) refl)
+  named ending.Done blame = none_named blame.is ending.Done (λ e. cc)
+  named (ending.Halted line) blame = none_named blame.is (ending.Halted line) (λ e. cc)
+  named (ending.Failed cause line) blame = none_named blame.is (ending.Failed cause line) (λ e. cc)
+  named ending.Turns blame = none_named blame.is ending.Turns (λ e. cc)
+  named ending.Standstill blame = none_named blame.is ending.Standstill (λ e. cc)
+  named (ending.Bad address) blame = none_named blame.is (ending.Bad address) (λ e. cc)
+
+  pub blamed : (e : Ending) → Blamed (fault_of (Some e)) (HasFailed contents count system) old new → Blames (is_fault e) (failed_in system) old new
+  blamed ending.Fault blame = subst (λ o. Blames true o old new) (sym blame.1.is) blame.2
+  blamed ending.Done blame = subst (λ o. Blames false o old new) (sym blame.is) tt
+  blamed (ending.Halted line) blame = subst (λ o. Blames false o old new) (sym blame.is) tt
+  blamed (ending.Failed cause line) blame = subst (λ o. Blames false o old new) (sym blame.is) tt
+  blamed ending.Turns blame = subst (λ o. Blames false o old new) (sym blame.is) tt
+  blamed ending.Standstill blame = subst (λ o. Blames false o old new) (sym blame.is) tt
+  blamed (ending.Bad address) blame = subst (λ o. Blames false o old new) (sym blame.is) tt
+
+  pub still_ready : (e : Ending) → Blamed (fault_of (Some e)) (HasFailed contents count system) old new → is_fault e ≡ false → IsReady contents count system
+  still_ready ending.Fault blame = λ fault. absurd (let wrong : true ≡ false = fault in cc)
+  still_ready ending.Done blame = λ none. blame.ready refl
+  still_ready (ending.Halted line) blame = λ none. blame.ready refl
+  still_ready (ending.Failed cause line) blame = λ none. blame.ready refl
+  still_ready ending.Turns blame = λ none. blame.ready refl
+  still_ready ending.Standstill blame = λ none. blame.ready refl
+  still_ready (ending.Bad address) blame = λ none. blame.ready refl
+
+-- ---- what the calls of a run keep
+
+-- the references one by one
+six_same : (a b c d e f a' b' c' d' e' f' : ℕ) → a' ∷ b' ∷ c' ∷ d' ∷ e' ∷ f' ∷ [] ≡ a ∷ b ∷ c ∷ d ∷ e ∷ f ∷ []
+    → (a' ≡ a) × (b' ≡ b) × (c' ≡ c) × (d' ≡ d) × (e' ≡ e) × (f' ≡ f)
+six_same a b c d e f a' b' c' d' e' f' same = (cc, cc, cc, cc, cc, cc)
+
+pub run_keeps : {D S T P : Type 0} (drive : D → ℕ) (input : S → ℕ) (terminal : T → ℕ) (printer : P → ℕ) (fault : Bool) (before after : System D S T P)
+    → references_in after ≡ references_in before
+    → ((outside : Outside) → faults_of drive input terminal printer before outside ≤ faults_of drive input terminal printer after outside)
+    → Blames fault (failed_in after) (faults_of drive input terminal printer before) (faults_of drive input terminal printer after)
+    → Keeps drive input terminal printer fault before after
+run_keeps drive input terminal printer fault before after same later blame =
+    let each = six_same _ _ _ _ _ _ _ _ _ _ _ _ same in
+    record {
+      same_drive = each.0;
+      same_room = each.1;
+      same_input = each.2;
+      same_terminal = each.3;
+      same_printer = each.4;
+      same_buffer = each.5;
+      later = later;
+      blame = blame;
+    }
+
+module _ {D S T P : Type 0} (contents : D → Option (List (List ℕ))) (left : S → Option (List ℕ)) (shown : T → Option (List ℕ)) (printed : P → Option (List ℕ))
+    (before after : System D S T P) (lasts : (n : ℕ) → Lasts contents left shown printed before n → Lasts contents left shown printed after n) where
+  -- what the terminal had taken is the first part of what it has taken
+  grown : WhereTold (shown (terminal_in before)) (shown (terminal_in after)) Grows
+  grown = go (shown (terminal_in before)) (shown (terminal_in after)) refl refl where
+    go : (a b : Option (List ℕ)) → shown (terminal_in before) ≡ a → shown (terminal_in after) ≡ b → WhereTold a b Grows
+    go a None e e' = tt
+    go None (Some now) e e' = absurd (let wrong : Some now ≡ None = sym e' ∙ lasts (suc (suc zero)) e in cc)
+    go (Some taken) (Some now) e e' =
+        front_is taken now
+        (λ k c h. subst (λ x. IfSome x (λ bytes. slice_get bytes k ≡ Some c)) e'
+        ((lasts (suc (suc (suc (suc (suc (2 * byte_number k c + 1)))))) (byte_known shown before k c (subst (λ x. IfSome x (λ bytes. slice_get bytes k ≡ Some c)) (sym e) h))).byte k c refl))
+
+  pub told_lasting : IsValid (contents (drive_in before)) → KeepsTold contents left shown printed before after
+  told_lasting valid = record {
+    drive = lasts zero;
+    source = lasts (suc zero);
+    terminal = lasts (suc (suc zero));
+    printer = lasts (suc (suc (suc zero)));
+    valid = lasts (suc (suc (suc (suc zero)))) valid;
+    grows = grown;
+  }
+
+  pub due_lasting : KeepsDue shown before after
+  due_lasting = λ start since. (lasts (suc (suc (suc (suc (suc (2 * start)))))) (due_known shown before start since)).due start refl

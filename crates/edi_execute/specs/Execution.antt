@@ -1,0 +1,21 @@
+-- Words of contracts. A run of code on a system.
+use Rattle.std.specs.Prelude.{ℕ, Bool, true, false}
+use Rattle.edi_calls.specs.Laws.{IsSameOutside}
+use Rattle.edi_calls.specs.State.{State}
+use Rattle.edi_kernel.specs.declared.ends.Ending.{Ending}
+use Rattle.edi_kernel.specs.declared.ends.Ending.TheVariants as ending
+use Rattle.edi_target.specs.Check.{CodeParts}
+use Rattle.edi_target.specs.Fetch.{fetch}
+use Rattle.edi_target.specs.Moments.{ComesThrough}
+use Rattle.edi_trace.specs.Drawn.{Drawn}
+
+-- an object outside has failed in the run
+abbrev pub is_fault : Ending → Bool
+is_fault ending.Fault = true
+is_fault other = false
+
+-- The system is, but for the found file and the buffer, at a state through which the run of the code comes.
+pub record IsAtMoment (code : CodeParts) (system : State) (bound : ℕ) (old : Drawn) (now : State) : Type 0 where
+  pub moment : State
+  pub comes : ComesThrough (fetch code.words) code.entry code.calls system bound old.source old.drawn moment
+  pub same : IsSameOutside moment now
