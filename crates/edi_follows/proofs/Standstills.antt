@@ -38,7 +38,8 @@ and_then zero k = k
 and_then (suc n) k = suc (and_then n k)
 
 module _ (fetched : ℕ → Option (Instruction × ℕ)) where
-  more_onward : (n k : ℕ) (m t u : Machine) (p : Name) (others : List Name) → Onward fetched n m p others t → Onward fetched k t p others u → Onward fetched (and_then n k) m p others u
+  more_onward : (n k : ℕ) (m t u : Machine) (p : Name) (others : List Name) → Onward fetched n m p others t → Onward fetched k t p others u →
+      Onward fetched (and_then n k) m p others u
   more_onward zero k m t u p others h e = subst (λ x. Onward fetched k x p others u) (sym h) e
   more_onward (suc n) k m t u p others h e = (h.0, h.1, more_onward n k h.0 t u p others h.2 e)
 
@@ -50,7 +51,8 @@ module _ (fetched : ℕ → Option (Instruction × ℕ)) where
         ap (target.after_step choices (target.run fetched choices (and_then n j)) p others drawn) h.1 ∙ onward_run n h.0 t p others drawn j r h.2 e
 
     module _ (entry : ℕ) (calls : List ℕ) (system : State) (bound : ℕ) where
-      taken_run : (t : Machine) (p : Name) (others : List Name) (drawn : ℕ) → IsTaken fetched entry calls system bound choices t p others drawn → (j : ℕ) (r : target.MachineRun) →
+      taken_run : (t : Machine) (p : Name) (others : List Name) (drawn : ℕ) → IsTaken fetched entry calls system bound choices t p others drawn →
+          (j : ℕ) (r : target.MachineRun) →
           target.run fetched choices j t p others drawn ≡ r → (i : ℕ) × (target.run_from_start fetched entry calls system bound choices i ≡ r)
       taken_run _ _ _ _ (at_start m e) j r h = (j, ap (target.after_step choices (target.run fetched choices j) [] [] 0) e ∙ h)
       taken_run _ _ _ _ (after_switch m u t p q others rest ps n drawn drawn' is on e next) j r h =
@@ -59,7 +61,8 @@ module _ (fetched : ℕ → Option (Instruction × ℕ)) where
           ∙ ap (λ x. target.go_on x (target.run fetched choices j t) t drawn) next ∙ h in
           taken_run m p others drawn is (and_then n (suc j)) r (onward_run n m u p others drawn (suc j) r on step)
 
-      stands_ends : (m : Machine) (drawn : ℕ) → StandsByMarks fetched entry calls system bound choices m drawn → target.Ends fetched entry calls system bound choices outcome.standstill m drawn
+      stands_ends : (m : Machine) (drawn : ℕ) → StandsByMarks fetched entry calls system bound choices m drawn →
+          target.Ends fetched entry calls system bound choices outcome.standstill m drawn
       stands_ends m drawn h =
           taken_run h.taken h.name h.others drawn h.is_taken (and_then h.steps 1) (target.finished outcome.standstill m drawn)
           (onward_run h.steps h.taken h.before h.name h.others drawn 1 (target.finished outcome.standstill m drawn) h.onward
@@ -76,7 +79,8 @@ same_drawn e = cc
 abbrev none : ℕ → Type 0
 none a = ⊥
 
-module _ (g : Coded) (claim : StepClaim g) (cohere : StepsCohere) (queues : StepsQueue) (have : ForksHaveBranches g.unit) (choices : Choices) (system : State) (bound : ℕ) where
+module _ (g : Coded) (claim : StepClaim g) (cohere : StepsCohere) (queues : StepsQueue) (have : ForksHaveBranches g.unit) (choices : Choices)
+    (system : State) (bound : ℕ) where
   abbrev Is : Machine → Name → List Name → ℕ → Type 0
   Is = IsTaken g.fetched 0 g.unit.calls system bound choices
 
@@ -85,7 +89,8 @@ module _ (g : Coded) (claim : StepClaim g) (cohere : StepsCohere) (queues : Step
     machine : Machine
     by_marks : StandsByMarks g.fetched 0 g.unit.calls system bound choices machine d
 
-  passes_onward : (k : ℕ) (t : Machine) (past : List State) (p : Name) (others : List Name) (u : Machine) (now : List State) → Passes g none k t past p others u now → Onward g.fetched k t p others u
+  passes_onward : (k : ℕ) (t : Machine) (past : List State) (p : Name) (others : List Name) (u : Machine) (now : List State) →
+      Passes g none k t past p others u now → Onward g.fetched k t p others u
   passes_onward zero t past p others u now h = h.0
   passes_onward (suc k) t past p others u now h = (h.0, h.1, passes_onward k h.0 _ p others u now h.3)
 
@@ -96,7 +101,8 @@ module _ (g : Coded) (claim : StepClaim g) (cohere : StepsCohere) (queues : Step
     steps : ℕ
     onward : Onward g.fetched steps taken p others t
 
-  passed : (k : ℕ) (t : Machine) (past : List State) (p : Name) (others : List Name) (u : Machine) (now : List State) (drawn : ℕ) → Passes g none k t past p others u now → Runs t p others drawn → Runs u p others drawn
+  passed : (k : ℕ) (t : Machine) (past : List State) (p : Name) (others : List Name) (u : Machine) (now : List State) (drawn : ℕ) →
+      Passes g none k t past p others u now → Runs t p others drawn → Runs u p others drawn
   passed k t past p others u now drawn h r = record {
     taken = r.taken;
     is_taken = r.is_taken;
@@ -104,7 +110,8 @@ module _ (g : Coded) (claim : StepClaim g) (cohere : StepsCohere) (queues : Step
     onward = more_onward g.fetched r.steps k r.taken t u p others r.onward (passes_onward k t past p others u now h);
   }
 
-  switched : (t m : Machine) (p q : Name) (others rest ps : List Name) (drawn drawn' : ℕ) → Runs t p others drawn → target.step g.fetched t p others ≡ target.went m (joins ps) →
+  switched : (t m : Machine) (p q : Name) (others rest ps : List Name) (drawn drawn' : ℕ) → Runs t p others drawn →
+      target.step g.fetched t p others ≡ target.went m (joins ps) →
       take_next choices drawn (others ++ ps) ≡ taking q rest drawn' → Runs m q rest drawn'
   switched t m p q others rest ps drawn drawn' r e next = record {
     taken = m;
@@ -114,7 +121,8 @@ module _ (g : Coded) (claim : StepClaim g) (cohere : StepsCohere) (queues : Step
   }
 
   -- the run ends here as a standstill
-  stood : (t : Machine) (past : List State) (p : Name) (others : List Name) (drawn d : ℕ) (ending : Ending) (end : Traced) (turns : ℕ) → EndsSo g none t past p others ending end turns →
+  stood : (t : Machine) (past : List State) (p : Name) (others : List Name) (drawn d : ℕ) (ending : Ending) (end : Traced) (turns : ℕ) →
+      EndsSo g none t past p others ending end turns →
       ending ≡ outcome.standstill → drawn ≡ d → Runs t p others drawn → Stands d
   stood t past p others drawn d ending end turns h e i r =
       let last : Runs h.before p others drawn = passed h.steps t past p others h.before h.since drawn h.passes r in
@@ -138,10 +146,13 @@ module _ (g : Coded) (claim : StepClaim g) (cohere : StepsCohere) (queues : Step
   abbrev Main : ℕ → Type 0
   Main n =
       (s : Processes) (t : Machine) (p : Name) (others marks : List Name) (drawn : ℕ) → Taken g s t p others marks → StateGood s → Runs t p others drawn →
-      (end : Traced) (turns d : ℕ) (order : List Name) → select g.unit choices n s marks p others drawn ≡ finished outcome.standstill end turns d order → Stands d
+      (end : Traced) (turns d : ℕ) (order : List Name) → select g.unit choices n s marks p others drawn ≡ finished outcome.standstill end turns d order →
+          Stands d
 
-  module _ (n : ℕ) (main : Main n) (t : Machine) (past : List State) (p : Name) (others marks : List Name) (drawn : ℕ) (end : Traced) (turns d : ℕ) (order : List Name) (r : Runs t p others drawn) where
-    next_stands : (s : Processes) (next : Next) (quiet : Bool) → LandsNext g none t past p others marks s next → QueueAfter p others (source.went s next quiet) → StateGood s →
+  module _ (n : ℕ) (main : Main n) (t : Machine) (past : List State) (p : Name) (others marks : List Name) (drawn : ℕ) (end : Traced) (turns d : ℕ)
+      (order : List Name) (r : Runs t p others drawn) where
+    next_stands : (s : Processes) (next : Next) (quiet : Bool) → LandsNext g none t past p others marks s next →
+        QueueAfter p others (source.went s next quiet) → StateGood s →
         selection.after_next choices (select g.unit choices n s marks) s p others drawn next ≡ finished outcome.standstill end turns d order → Stands d
     next_stands s stays quiet h q good e =
         main s h.machine p others marks drawn (record { related = h.related; kept = h.kept; queue = q; marks_agree = h.marks_agree }) good
@@ -158,19 +169,23 @@ module _ (g : Coded) (claim : StepClaim g) (cohere : StepsCohere) (queues : Step
             main s h.machine z os marks c (record { related = h.related; kept = h.kept; queue = each; marks_agree = inl h.same_marks }) good
             (switched h.before h.machine p z others os ps drawn c before h.is is) end turns d order f
 
-    tested_stands : (b : Bool) (s : Processes) (next : Next) (quiet : Bool) → LandsTested g none b t past p others marks s next → QueueAfter p others (source.went s next quiet) → StateGood s →
-        (if b then finished outcome.standstill s.world.system s.world.turns drawn [] else selection.after_next choices (select g.unit choices n s marks) s p others drawn next)
+    tested_stands : (b : Bool) (s : Processes) (next : Next) (quiet : Bool) → LandsTested g none b t past p others marks s next →
+        QueueAfter p others (source.went s next quiet) → StateGood s →
+        (if b then finished outcome.standstill s.world.system s.world.turns drawn [] else selection.after_next choices
+            (select g.unit choices n s marks) s p others drawn next)
         ≡ finished outcome.standstill end turns d order → Stands d
     tested_stands true s next quiet h q good e = stood t past p others drawn d outcome.standstill s.world.system s.world.turns h refl (same_drawn e) r
     tested_stands false s next quiet h q good e = next_stands s next quiet h q good e
 
-  step_stands : (n : ℕ) → Main n → (t : Machine) (past : List State) (p : Name) (others marks : List Name) (drawn : ℕ) (end : Traced) (turns d : ℕ) (order : List Name) (r : Runs t p others drawn) (x : source.Stepped) →
+  step_stands : (n : ℕ) → Main n → (t : Machine) (past : List State) (p : Name) (others marks : List Name) (drawn : ℕ) (end : Traced) (turns d : ℕ)
+      (order : List Name) (r : Runs t p others drawn) (x : source.Stepped) →
       Lands g none t past p others marks x → QueueAfter p others x → After StateGood x →
       selection.after_step choices (select g.unit choices n) p others marks drawn x ≡ finished outcome.standstill end turns d order → Stands d
   step_stands n main t past p others marks drawn end turns d order r (source.ended e y left) h q good f =
       stood t past p others drawn d e y left h (same_ending f) (same_drawn f) r
   step_stands n main t past p others marks drawn end turns d order r (source.went s next quiet) h q good f =
-      tested_stands n main t past p others (marked quiet p marks) drawn end turns d order r (is_standstill quiet (marked quiet p marks) (p ∷ others)) s next quiet h q good f
+      tested_stands n main t past p others (marked quiet p marks) drawn end turns d order r
+          (is_standstill quiet (marked quiet p marks) (p ∷ others)) s next quiet h q good f
 
   main : (n : ℕ) → Main n
   main zero s t p others marks drawn k good r end turns d order e = absurd (cc)
@@ -178,15 +193,18 @@ module _ (g : Coded) (claim : StepClaim g) (cohere : StepsCohere) (queues : Step
       let before : (rest : List Name) ×
       (selection.after_step choices (select g.unit choices n) p others marks drawn (source.step g.unit s p) ≡ finished outcome.standstill end turns d rest)
       × (p ∷ rest ≡ order) =
-      stepped_before p (selection.after_step choices (select g.unit choices n) p others marks drawn (source.step g.unit s p)) outcome.standstill end turns d order e in
+      stepped_before p (selection.after_step choices (select g.unit choices n) p others marks drawn (source.step g.unit s p)) outcome.standstill end turns d
+          order e in
       step_stands n (main n) t s.world.system.past p others marks drawn end turns d before.0 r (source.step g.unit s p)
       (claim none s t p others marks k (λ a x y. x)) (queues g.unit s p others k.kept.coherent k.queue) (step_good g.unit have s p good) before.1
 
 -- ---- from the start
 
-module _ (g : Coded) (claim : StepClaim g) (start : StartClaim g) (cohere : StepsCohere) (queues : StepsQueue) (have : ForksHaveBranches g.unit) (choices : Choices) (system : State) where
+module _ (g : Coded) (claim : StepClaim g) (start : StartClaim g) (cohere : StepsCohere) (queues : StepsQueue) (have : ForksHaveBranches g.unit)
+    (choices : Choices) (system : State) where
   begun : (n bound : ℕ) (end : Traced) (turns d : ℕ) (order : List Name) →
-      selection.after_step choices (select g.unit choices n) [] [] [] 0 (source.step g.unit (source.start g.unit system bound) []) ≡ finished outcome.standstill end turns d order →
+      selection.after_step choices (select g.unit choices n) [] [] [] 0 (source.step g.unit (source.start g.unit system bound) []) ≡ finished
+          outcome.standstill end turns d order →
       Stands g claim cohere queues have choices system bound d
   begun n zero end turns d order e = absurd (cc)
   begun n (suc k) end turns d order e =
@@ -201,13 +219,16 @@ module _ (g : Coded) (claim : StepClaim g) (start : StartClaim g) (cohere : Step
       Stands g claim cohere queues have choices system bound d
   selected bound end turns d order e = go e.0 e.1
     where
-      go : (n : ℕ) → selection.select_from_start g.unit system bound choices n ≡ finished outcome.standstill end turns d order → Stands g claim cohere queues have choices system bound d
+      go : (n : ℕ) → selection.select_from_start g.unit system bound choices n ≡ finished outcome.standstill end turns d order →
+          Stands g claim cohere queues have choices system bound d
       go zero h = absurd (cc)
       go (suc n) h =
           let before : (rest : List Name) ×
-          (selection.after_step choices (select g.unit choices n) [] [] [] 0 (source.step g.unit (source.start g.unit system bound) []) ≡ finished outcome.standstill end turns d rest)
+          (selection.after_step choices (select g.unit choices n) [] [] [] 0 (source.step g.unit (source.start g.unit system bound) []) ≡ finished
+              outcome.standstill end turns d rest)
           × ([] ∷ rest ≡ order) =
-          stepped_before [] (selection.after_step choices (select g.unit choices n) [] [] [] 0 (source.step g.unit (source.start g.unit system bound) [])) outcome.standstill end turns d order h in
+          stepped_before [] (selection.after_step choices (select g.unit choices n) [] [] [] 0 (source.step g.unit (source.start g.unit system bound) []))
+              outcome.standstill end turns d order h in
           begun n bound end turns d before.0 before.1
 
   module _ (bound : ℕ) where
@@ -225,7 +246,8 @@ module _ (g : Coded) (claim : StepClaim g) (start : StartClaim g) (cohere : Step
         let is : ending ≡ h.0 = ap (λ (o : Outcome). o.ending) h.6 in
         subst IsNoBad (sym is) (selection_is_never_bad g.unit system bound choices h.0 h.1 h.2 h.3 h.4 h.5)
 
-    same_machine : (m t : Machine) (c d : ℕ) → RunEnds outcome.standstill m c → RunEnds outcome.standstill t d → target.finished outcome.standstill m c ≡ target.finished outcome.standstill t d
+    same_machine : (m t : Machine) (c d : ℕ) → RunEnds outcome.standstill m c → RunEnds outcome.standstill t d →
+        target.finished outcome.standstill m c ≡ target.finished outcome.standstill t d
     same_machine m t c d a b = go (cases_lt a.0 b.0)
       where
         go : (a.0 < b.0) ⊎ (b.0 ≤ a.0) → target.finished outcome.standstill m c ≡ target.finished outcome.standstill t d

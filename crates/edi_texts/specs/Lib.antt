@@ -5,3 +5,4 @@ pub mod Answers
 pub mod Length
 pub mod Run
 pub mod Fetched
+pub mod Executions

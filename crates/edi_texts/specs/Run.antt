@@ -1,6 +1,6 @@
 -- Definition. THE EXECUTION OF A TEXT, by what its program means. This file is the one place where it is said which execution is
 -- the text's own, and which code may be made of it; every other file speaks of the execution of a text by these words.
-use Rattle.std.specs.Prelude.{◌≡◌, ◌≤◌, ◌+◌, ◌*◌, ◌↔◌, ℕ, List, length}
+use Rattle.std.specs.Prelude.{◌≤◌, ◌+◌, ◌*◌, ◌↔◌, ℕ, List, length}
 use Rattle.edi_calls.specs.Choice.{Choices}
 use Rattle.edi_calls.specs.Outcome.{Outcome}
 use Rattle.edi_calls.specs.State.{State, fresh}
