@@ -1,6 +1,7 @@
 -- What a status means does not change where the terminal takes its line: the commands, and the statuses.
 use Rattle.std.proofs.Common.{ℕ, List, [], ◌∷◌, Option, Some, None, inl, inr}
 use Rattle.std.specs.Prelude.{◌⊎◌}
+use Rattle.edi_utils.specs.Listing.{listing_of}
 use Rattle.edi_words.specs.Words as words
 use Rattle.edi_words.specs.Words.{Command, Options}
 use Rattle.edi_statuses.specs.declared.status.Status.{Status}
@@ -8,13 +9,13 @@ use Rattle.edi_statuses.specs.declared.status.Status.TheVariants as status
 use Rattle.edi_statuses.specs.Outside.{Outside, seen, Lent}
 use Rattle.edi_statuses.specs.Steps.{goes, Ready}
 use Rattle.edi_statuses.specs.Executions.{text, code}
-use Rattle.edi_statuses.specs.Commands.{Comes, IsDone, OnlyKeeps, OnlyBlocks, KeepsCode, Runs, AreNew, AreMigrated, ArePut}
-use Rattle.edi_statuses.specs.Commands.{RunSteps, ExecSteps, TextSteps, OldSteps, PutSteps, GetSteps}
+use Rattle.edi_statuses.specs.Commands.{Comes, IsDone, OnlyKeeps, OnlyBlocks, OnlyShows, KeepsCode, Runs, AreNew, AreMigrated, ArePut}
+use Rattle.edi_statuses.specs.Commands.{RunSteps, ExecSteps, TextSteps, OldSteps, PutSteps, GetSteps, ListSteps}
 use Rattle.edi_statuses.specs.Means.{ComesToBreak, Means, MeansOf, MeansRefused, RanWhole, RanUnkept, Wants, IsOpen, ArePutInPart}
 use Rattle.edi_statuses.specs.Means.{with_shown, HasNotBegun}
 use Rattle.edi_statuses.proofs.Terminal.{StillTold, run_later, exec_later, text_later, old_later, put_later, get_later, nothing_later, begun_later}
 use Rattle.edi_statuses.proofs.Terminal.{drive_later, keeps_later, blocks_later, code_later, runs_later, whole_later, unkept_later, broke_later}
-use Rattle.edi_statuses.proofs.Terminal.{record_later, does_later}
+use Rattle.edi_statuses.proofs.Terminal.{record_later, does_later, list_later, shows_later, front_later}
 
 module _ (b m : Outside) (y : Option (List ℕ)) (still : StillTold m.shown y) where
   abbrev before_ : Outside
@@ -154,6 +155,19 @@ module _ (b m : Outside) (y : Option (List ℕ)) (still : StillTold m.shown y) w
     output = λ h. absurd h;
   }
 
+  list_is : (file shown : List ℕ) (kernel : Lent) → Later (words.list file) shown kernel
+  list_is file shown kernel = record {
+    comes = λ s. does_later b m y still (ListSteps before_ file) (ListSteps seen_later file) (λ parts. IsDone (OnlyShows (listing_of parts.words)))
+        (λ parts. IsDone (OnlyShows (listing_of parts.words))) s shown kernel (list_later b m y still file)
+        (λ parts h. (h.0, shows_later b m y still (listing_of parts.words) shown kernel h.1));
+    wants = nothing_later b m y still shown kernel;
+    files = λ h. absurd h;
+    drive = λ h. absurd h;
+    input = λ h. absurd h;
+    output = λ h.
+        (h.0, list_later b m y still file (goes h.0) h.1, front_later b m y still (listing_of h.0.words) shown kernel h.2);
+  }
+
   each_is : (c : Command) (shown : List ℕ) (kernel : Lent) → Later c shown kernel
   each_is (words.run file options) shown kernel = run_is file options shown kernel
   each_is (words.replay file choices turns) shown kernel = replay_is file choices turns shown kernel
@@ -170,14 +184,7 @@ module _ (b m : Outside) (y : Option (List ℕ)) (still : StillTold m.shown y) w
     input = λ h. absurd h;
     output = λ h. absurd h;
   }
-  each_is (words.list file) shown kernel = record {
-    comes = λ s h. absurd h;
-    wants = nothing_later b m y still shown kernel;
-    files = λ h. absurd h;
-    drive = λ h. absurd h;
-    input = λ h. absurd h;
-    output = λ h. absurd h;
-  }
+  each_is (words.list file) shown kernel = list_is file shown kernel
   each_is (words.demo count options) shown kernel = record {
     comes = λ s h. absurd h;
     wants = nothing_later b m y still shown kernel;

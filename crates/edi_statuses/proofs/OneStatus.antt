@@ -8,12 +8,13 @@ use Rattle.edi_calls.specs.State.{State, fresh}
 use Rattle.edi_target.specs.Fetch.{fetch}
 use Rattle.edi_target.proofs.Runs.{runs_are_determined}
 use Rattle.edi_texts.proofs.Executions.{one_outcome}
+use Rattle.edi_utils.specs.Listing.{listing_of}
 use Rattle.edi_words.specs.Words as words
 use Rattle.edi_words.specs.Words.{ChoicesFrom, Command}
 use Rattle.edi_statuses.specs.Outside.{Outside, Devices, devices_of, system_on, KernelLeft}
 use Rattle.edi_statuses.specs.Executions.{Program, text, code, HasOutcome, HasRun, status_of}
-use Rattle.edi_statuses.specs.Commands.{Comes, IsDone, OnlyBlocks, OnlyKeeps, KeepsCode, Runs, AreNew, AreMigrated, ArePut}
-use Rattle.edi_statuses.specs.Commands.{RunSteps, ExecSteps, TextSteps, OldSteps, PutSteps, GetSteps}
+use Rattle.edi_statuses.specs.Commands.{Comes, IsDone, OnlyBlocks, OnlyKeeps, OnlyShows, KeepsCode, Runs, AreNew, AreMigrated, ArePut}
+use Rattle.edi_statuses.specs.Commands.{RunSteps, ExecSteps, TextSteps, OldSteps, PutSteps, GetSteps, ListSteps}
 use Rattle.edi_statuses.specs.Steps.{Ready}
 use Rattle.edi_statuses.specs.Means.{IsTold, OneStatus}
 use Rattle.edi_statuses.proofs.StepLemmas.{IsOne, TextsAreOne, ready_one, then_one, tests_one, fetches_one, choices_one, accepts_one, mounts_one}
@@ -81,6 +82,9 @@ module _ (each : TextsAreOne) (before after behind : Outside) (is_told : IsTold 
   keeps_one : (kept : List (List ℕ × List ℕ)) → IsOneEffect before after behind (IsDone (OnlyKeeps kept))
   keeps_one kept s t shown bytes kernel other h k = (h.0 ∙ sym k.0, h.1.shown_ ∙ sym k.1.shown_)
 
+  shows_one : (all : List ℕ) → IsOneEffect before after behind (IsDone (OnlyShows all))
+  shows_one all s t shown bytes kernel other h k = (h.0 ∙ sym k.0, h.1.shown_ ∙ sym k.1.shown_)
+
   code_one : (out bytes_ : List ℕ) → IsOneEffect before after behind (IsDone (KeepsCode out bytes_))
   code_one out bytes_ s t shown bytes kernel other h k = (h.0 ∙ sym k.0, h.1.keeps.shown_ ∙ sym k.1.keeps.shown_)
 
@@ -112,6 +116,9 @@ module _ (each : TextsAreOne) (before after behind : Outside) (is_told : IsTold 
   get_steps : (title : List ℕ) → IsOne (GetSteps before title)
   get_steps title = then_one _ _ (mounts_one before is_told.blocks) (λ done. reads_one before is_told.blocks title)
 
+  list_steps : (file : List ℕ) → IsOne (ListSteps before file)
+  list_steps file = then_one _ _ (fetches_one before is_told.files file) (λ bytes. loads_one bytes)
+
   -- each command has one status and shows one thing
   comes_one : (c : Command) → IsOneEffect before after behind (Comes c)
   comes_one (words.run file o) = does_one before after behind (RunSteps before file o.choices)
@@ -130,6 +137,8 @@ module _ (each : TextsAreOne) (before after behind : Outside) (is_told : IsTold 
       (λ bytes. IsDone (OnlyBlocks (ArePut title bytes))) (put_steps file title) (λ bytes. blocks_one (ArePut title bytes))
   comes_one (words.get title file) = does_one before after behind (GetSteps before title)
       (λ bytes. IsDone (OnlyKeeps ((file, bytes) ∷ []))) (get_steps title) (λ bytes. keeps_one ((file, bytes) ∷ []))
+  comes_one (words.list file) = does_one before after behind (ListSteps before file)
+      (λ parts. IsDone (OnlyShows (listing_of parts.words))) (list_steps file) (λ parts. shows_one (listing_of parts.words))
   comes_one _ = λ s t shown bytes kernel other h k. absurd h
 
 -- THE LAW

@@ -18,9 +18,9 @@ use Rattle.edi_statuses.specs.Outside.{Outside, seen, Lent, KernelLeft, Kept, De
 use Rattle.edi_statuses.specs.Steps.{Reached, goes, stops, ◌>>=◌, Ready, Fetches, GivesChoices, ReadsChoices, Accepts, Mounts, Loads}
 use Rattle.edi_statuses.specs.Steps.{ChecksOld, Fits, HasRoom}
 use Rattle.edi_statuses.specs.Executions.{Program, HasMoment, HasRun, StandsAt, BrokeRun}
-use Rattle.edi_statuses.specs.Commands.{Effect, Does, IsNothing, OnlyKeeps, OnlyBlocks, KeepsCode, Runs, HasPlace, Reads}
-use Rattle.edi_statuses.specs.Commands.{RunSteps, ExecSteps, TextSteps, OldSteps, PutSteps, GetSteps}
-use Rattle.edi_statuses.specs.Means.{AtRecord, HasNotBegun, ChangesDrive, RanWhole, RanUnkept, with_shown}
+use Rattle.edi_statuses.specs.Commands.{Effect, Does, IsNothing, OnlyKeeps, OnlyBlocks, OnlyShows, KeepsCode, Runs, HasPlace, Reads}
+use Rattle.edi_statuses.specs.Commands.{RunSteps, ExecSteps, TextSteps, OldSteps, PutSteps, GetSteps, ListSteps}
+use Rattle.edi_statuses.specs.Means.{AtRecord, HasNotBegun, ChangesDrive, ShowsFront, RanWhole, RanUnkept, with_shown}
 
 -- what is told later was told before
 abbrev pub StillTold : {A : Type 0} → (x y : Option A) → Type 0
@@ -159,6 +159,9 @@ module _ (b m : Outside) (y : Option (List ℕ)) (still : StillTold m.shown y) w
       step_later (Mounts seen_then) (Mounts seen_now) (λ done. Reads seen_then title) (λ done. Reads seen_now title) mounts_later
       (λ done. reads_later title) r h
 
+  pub list_later : (file : List ℕ) (r : Reached CodeParts) → ListSteps seen_then file r → ListSteps seen_now file r
+  list_later file r h = fetched_later file (λ bytes. Loads bytes) r h
+
   -- ---- the effects
 
   pub nothing_later : (shown : List ℕ) (kernel : Lent) → IsNothing seen_then m shown kernel → IsNothing seen_now now shown kernel
@@ -200,6 +203,20 @@ module _ (b m : Outside) (y : Option (List ℕ)) (still : StillTold m.shown y) w
 
   pub code_later : (out bytes shown : List ℕ) (kernel : Lent) → KeepsCode out bytes seen_then m shown kernel → KeepsCode out bytes seen_now now shown kernel
   code_later out bytes shown kernel h = record { parts = h.parts; code_is = h.code_is; keeps = keeps_later _ shown kernel h.keeps }
+
+  pub shows_later : (bytes shown : List ℕ) (kernel : Lent) → OnlyShows bytes seen_then m shown kernel → OnlyShows bytes seen_now now shown kernel
+  shows_later bytes shown kernel h = record {
+    shown_ = h.shown_;
+    same = record { files = h.same.files; blocks = h.same.blocks; input = h.same.input; printed = h.same.printed };
+    kernel_same = h.kernel_same;
+  }
+
+  pub front_later : (bytes shown : List ℕ) (kernel : Lent) → ShowsFront bytes seen_then m shown kernel → ShowsFront bytes seen_now now shown kernel
+  front_later bytes shown kernel h = record {
+    front = h.front;
+    same = record { files = h.same.files; blocks = h.same.blocks; input = h.same.input; printed = h.same.printed };
+    kernel_same = h.kernel_same;
+  }
 
   has_run_silent : (program : Program) (bound : ℕ) (choices : Choices) (ending : Ending) (drawn : ℕ) (shown : List ℕ) (kernel : KernelLeft)
       → Silent (λ d e. HasRun program bound choices ending drawn d e shown kernel)

@@ -17,6 +17,7 @@ use Rattle.edi_migrate.specs.OldFiles.{migrated_slots}
 use Rattle.edi_target.specs.Check.{CodeParts}
 use Rattle.edi_target.specs.File.{code_bytes}
 use Rattle.edi_unit.specs.Tree.{ProgramUnit}
+use Rattle.edi_utils.specs.Listing.{listing_of}
 use Rattle.edi_texts.specs.Run.{IsCodeFor}
 use Rattle.edi_words.specs.Words as words
 use Rattle.edi_words.specs.Words.{ChoicesFrom, Command}
@@ -27,28 +28,6 @@ use Rattle.edi_statuses.specs.Outside.{system_on, Devices, Lent}
 use Rattle.edi_statuses.specs.Steps.{Reached, goes, stops, ◌>>=◌, Ready, Fetches, ReadsChoices, Accepts, Mounts, Loads, ChecksOld}
 use Rattle.edi_statuses.specs.Steps.{Fits, HasRoom}
 use Rattle.edi_statuses.specs.Executions.{Program, text, code, status_of, Ran, record_of}
-
--- ---- the commands that are there
-
--- A command that is not built yet is refused as bad words.
-abbrev pub is_built : Command → Bool
-is_built (words.run file o) = true
-is_built (words.replay file choices turns) = true
-is_built (words.exec file o) = true
-is_built (words.boot o) = false
-is_built (words.compile file out) = true
-is_built (words.newdisk blocks old) = false
-is_built (words.put file title) = false
-is_built (words.get title file) = false
-is_built (words.list file) = false
-is_built (words.demo n o) = false
-is_built (words.check file) = false
-is_built (words.walk file choices turns) = false
-is_built (words.watch file points out o) = false
-
-abbrev pub built : Option Command → Option Command
-built None = None
-built (Some c) = if is_built c then Some c else None
 
 -- ---- the steps of each command
 
@@ -100,6 +79,10 @@ Reads o title (stops s) = (s ≡ status.Absent) × IfSome o.blocks (λ blocks. f
 abbrev pub GetSteps : Outside → (title : List ℕ) → Reached (List ℕ) → Type 0
 GetSteps o title = Mounts o >>= λ done. Reads o title
 
+-- `list CODEFILE`: fetches, loads
+abbrev pub ListSteps : Outside → (file : List ℕ) → Reached CodeParts → Type 0
+ListSteps o file = Fetches o file >>= λ bytes. Loads bytes
+
 -- ---- the effects
 
 -- what a command leaves: its status, the outside before and behind it, what was shown before the line of its status, and the kernel
@@ -137,6 +120,12 @@ pub record OnlyBlocks (P : List (List ℕ) → List (List ℕ) → Type 0) (befo
   pub files : SameFiles before after
   pub input : SameInput before after
   pub printed : SamePrinted before after
+  pub kernel_same : kernel.after ≡ kernel.before
+
+-- these bytes are shown, and nothing else is changed
+pub record OnlyShows (bytes : List ℕ) (before after : Outside) (shown : List ℕ) (kernel : Lent) : Type 0 where
+  pub shown_ : shown ≡ bytes
+  pub same : IsAsBefore before after
   pub kernel_same : kernel.after ≡ kernel.before
 
 -- A program is run to its ending, which the status tells, and the record of its choices is kept.
@@ -199,4 +188,6 @@ Comes (words.put file title) s before after shown kernel =
     Does (PutSteps before file title) (λ bytes. IsDone (OnlyBlocks (ArePut title bytes))) s before after shown kernel
 Comes (words.get title file) s before after shown kernel =
     Does (GetSteps before title) (λ bytes. IsDone (OnlyKeeps ((file, bytes) ∷ []))) s before after shown kernel
+Comes (words.list file) s before after shown kernel =
+    Does (ListSteps before file) (λ parts. IsDone (OnlyShows (listing_of parts.words))) s before after shown kernel
 Comes _ s before after shown kernel = ⊥

@@ -7,6 +7,7 @@ use Rattle.edi_told.specs.Told.{WhereTold}
 use Rattle.edi_calls.specs.Choice.{Choices}
 use Rattle.edi_calls.specs.Outcome.{Ending}
 use Rattle.edi_image.specs.Image.{Holds, slots_of}
+use Rattle.edi_utils.specs.Listing.{listing_of}
 use Rattle.edi_words.specs.Words as words
 use Rattle.edi_words.specs.Words.{Command}
 use Rattle.edi_statuses.specs.declared.status.Status.{Status}
@@ -14,10 +15,10 @@ use Rattle.edi_statuses.specs.declared.status.Status.TheVariants as status
 use Rattle.edi_statuses.specs.Lines.{closing, closing_line, is_due, text_of}
 use Rattle.edi_statuses.specs.Showing.{ClosesWith, IsFront}
 use Rattle.edi_statuses.specs.Counts.{Counts, HasCause}
-use Rattle.edi_statuses.specs.Outside.{Outside, seen, Shows, SameFiles, SameBut, SameBlocks, SameInput, SamePrinted, Lent}
+use Rattle.edi_statuses.specs.Outside.{Outside, seen, Shows, SameFiles, SameBut, SameBlocks, SameInput, SamePrinted, IsAsBefore, Lent}
 use Rattle.edi_statuses.specs.Steps.{Reached, goes}
 use Rattle.edi_statuses.specs.Executions.{Program, text, code, Ran, BrokeRun}
-use Rattle.edi_statuses.specs.Commands.{Comes, IsNothing, RunSteps, ExecSteps, PutSteps, released, put_in}
+use Rattle.edi_statuses.specs.Commands.{Comes, IsNothing, RunSteps, ExecSteps, PutSteps, ListSteps, released, put_in}
 
 -- ---- want of memory
 
@@ -72,6 +73,12 @@ abbrev pub ArePutInPart : (title bytes : List ℕ) → List (List ℕ) → List 
 ArePutInPart title bytes old new =
     Holds new (slots_of old) ⊎ (Holds new (released title (slots_of old)) ⊎ Holds new (put_in title bytes (slots_of old)))
 
+-- a first part of these bytes was shown, and nothing else has changed
+pub record ShowsFront (bytes : List ℕ) (before after : Outside) (shown : List ℕ) (kernel : Lent) : Type 0 where
+  pub front : IsFront shown bytes
+  pub same : IsAsBefore before after
+  pub kernel_same : kernel.after ≡ kernel.before
+
 -- behind a format or a migration that the drive broke off nothing is known of its blocks
 abbrev pub IsOpen : List (List ℕ) → List (List ℕ) → Type 0
 IsOpen old new = ⊤
@@ -92,8 +99,8 @@ names_kept _ = []
 abbrev pub Begun : {A : Type 0} → (Reached A → Type 0) → (A → Type 0) → Type 0
 Begun steps P = (a : _) × steps (goes a) × P a
 
--- A run is broken off by any device, and `put` and `newdisk` by the drive alone. The files break off no run: they may fail when
--- its record is to be kept. Other commands change nothing before they keep their file.
+-- A run is broken off by any device, `put` and `newdisk` by the drive alone, and `list` by the terminal. The files break off no run:
+-- they may fail when its record is to be kept. Other commands change nothing before they keep their file.
 abbrev pub ComesToBreak : Status → Command → Outside → Outside → (shown : List ℕ) → Lent → Type 0
 ComesToBreak status.FileFault (words.run file o) before after shown kernel =
     AtRecord o.record_file (RunSteps before file o.choices) (λ a. RanWhole (text a.0) o.turns a.1 before after shown kernel)
@@ -109,9 +116,11 @@ ComesToBreak s (words.exec file o) before after shown kernel =
 ComesToBreak status.DriveFault (words.put file title) before after shown kernel =
     Begun (PutSteps before file title) (λ bytes. ChangesDrive (ArePutInPart title bytes) before after shown kernel)
 ComesToBreak status.DriveFault (words.newdisk blocks old) before after shown kernel = ChangesDrive IsOpen before after shown kernel
+ComesToBreak status.OutputFault (words.list file) before after shown kernel =
+    Begun (ListSteps before file) (λ parts. ShowsFront (listing_of parts.words) before after shown kernel)
 ComesToBreak s c before after shown kernel = ⊥
 
--- How far the command was. The input and the output are used by a run alone; the files and the drive may fail before it.
+-- How far the command was. The input and the output fail only where a command has begun; the files and the drive may fail before.
 abbrev pub Far : Status → Command → Outside → Outside → (shown : List ℕ) → Lent → Type 0
 Far status.InputFault c before after shown kernel = ComesToBreak status.InputFault c before after shown kernel
 Far status.OutputFault c before after shown kernel = ComesToBreak status.OutputFault c before after shown kernel
