@@ -1,6 +1,7 @@
 -- Words of contracts. What the command of the code says, in the words of `Words`.
-use Rattle.std.specs.Prelude.{List, map, option_map}
+use Rattle.std.specs.Prelude.{◌≡◌, ◌≤◌, true, List, map, option_map, ⊤}
 use Rattle.std.specs.Borrow.{Bor}
+use Rattle.edi_calls.specs.State.{is_title}
 use Rattle.edi_words.specs.Words as words
 use Rattle.edi_words.specs.Words.{Text}
 use Rattle.edi_words.specs.declared.commands.ChoicesFrom.{ChoicesFrom}
@@ -39,3 +40,11 @@ view (command.Demo n options) = words.demo n (options_of options)
 view (command.Check file) = words.check file.now
 view (command.Walk file choices turns) = words.walk file.now choices.now turns
 view (command.Watch file stops out options) = words.watch file.now stops.now out.now (options_of options)
+
+-- Titles are titles, and numbers are in their ranges.
+abbrev pub IsInRange : Command → Type 0
+IsInRange (command.NewDisk blocks old) = (64 ≤ blocks) × (blocks ≤ 4096)
+IsInRange (command.Put file title) = is_title title.now ≡ true
+IsInRange (command.Get title file) = is_title title.now ≡ true
+IsInRange (command.Demo n options) = (1 ≤ n) × (n ≤ 1000)
+IsInRange _ = ⊤

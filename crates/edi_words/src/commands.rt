@@ -50,17 +50,17 @@ pub enum Command<'a> {
         file: &'a str,
         out: &'a str,
     },
-    /// `newdisk BLOCKS`: formats the drive, perhaps with the files of an image of version 1.
+    /// `newdisk BLOCKS`: formats the drive with this number of blocks, 64 to 4096, perhaps with the files of an image of version 1.
     NewDisk {
         blocks: u16,
         old: Option<&'a str>,
     },
-    /// `put FILE TITLE`: stores a file of the host on the disk.
+    /// `put FILE TITLE`: stores a file of the host on the disk, under a title of its files.
     Put {
         file: &'a str,
         title: &'a str,
     },
-    /// `get TITLE FILE`: keeps a file of the disk as one of the host.
+    /// `get TITLE FILE`: keeps the file of this title of the disk as one of the host.
     Get {
         title: &'a str,
         file: &'a str,
@@ -69,7 +69,7 @@ pub enum Command<'a> {
     List {
         file: &'a str,
     },
-    /// `demo N`: runs a text of this size, made for the purpose.
+    /// `demo N`: runs a text of this number of procedures, 1 to 1000, made for the purpose.
     Demo {
         n: u16,
         options: Options<'a>,

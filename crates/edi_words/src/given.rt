@@ -1,6 +1,6 @@
 //! The operands and options of a command as they were given.
 
-ghost use Rattle.std.specs.Prelude.{◌≡◌, option_map};
+ghost use Rattle.std.specs.Prelude.{◌≡◌, ◌≤◌, IfSome, option_map};
 ghost use Rattle.edi_words.specs.Words as words;
 ghost use Rattle.edi_words.specs.View.{choices_from, options_of, texts};
 ghost use Rattle.edi_words.specs.Inside.{given_view};
@@ -36,7 +36,8 @@ fn spelled(word: &str) -> Option<u64>
 
 /// The number of 1 to 10 digits in this range.
 pub(crate) fn number_in(least: u32, most: u32, word: &str) -> Option<u32>
-    ensures { result ≡ words.number_in least most word.now }
+    ensures exact { result ≡ words.number_in least most word.now }
+    ensures range { IfSome result (λ n. (least ≤ n) × (n ≤ most)) }
 {
     let number = spelled(word)?;
     if number < u64::from(least) || number > u64::from(most) {

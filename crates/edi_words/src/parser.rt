@@ -1,13 +1,13 @@
 //! The words as operands and options, read with `clap`.
 
-ghost use Rattle.std.specs.Prelude.{◌≡◌, [], false, map, is_some, IfOk, option_map};
+ghost use Rattle.std.specs.Prelude.{◌≡◌, [], false, map, is_some, IfOk, IfSome, option_map};
 ghost use Rattle.std.specs.String.{string_bytes};
 ghost use Rattle.clap.specs.Walk.{rows_of, rule_of};
 ghost use Rattle.clap.specs.Simple.{app_of};
 ghost use Rattle.clap.specs.Matches.{found_of};
 ghost use Rattle.edi_words.specs.Words.{command_of, parts_of};
 ghost use Rattle.edi_words.specs.Words as spec;
-ghost use Rattle.edi_words.specs.View.{texts, view};
+ghost use Rattle.edi_words.specs.View.{texts, view, IsInRange};
 ghost use Rattle.edi_words.specs.Inside.{app, given_in, given_view, goes, option_rule, values_in};
 
 use crate::commands::Command;
@@ -102,9 +102,10 @@ fn given<'m, 'a>(matches: &'m ArgMatches<'a>, none: &'m [&'a str]) -> Given<'m, 
     }
 }
 
-/// The command that the words after the program's name are; none where they are refused.
+/// The command that the words after the program's name are; none where they are refused. The one error is want of memory.
 pub fn command(alloc: Global, words: &[String]) -> Result<Option<Command<'_>>, AllocError>
     ensures exact { IfOk result (λ c. option_map view c ≡ command_of (map string_bytes words.now)) }
+    ensures range { IfOk result (λ c. IfSome c IsInRange) }
 {
     if !are_parts(words) {
         return Ok(None);

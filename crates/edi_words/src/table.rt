@@ -1,8 +1,9 @@
 //! The table of commands.
 
-ghost use Rattle.std.specs.Prelude.{◌≡◌, option_map};
+ghost use Rattle.std.specs.Prelude.{◌≡◌, ◌≤◌, true, IfSome, option_map};
+ghost use Rattle.edi_calls.specs.State.{is_title as is_a_title};
 ghost use Rattle.edi_words.specs.Words as words;
-ghost use Rattle.edi_words.specs.View.{options_of, texts, view};
+ghost use Rattle.edi_words.specs.View.{options_of, texts, view, IsInRange};
 ghost use Rattle.edi_words.specs.Inside.{given_view};
 
 use crate::commands::{Command, Options};
@@ -94,7 +95,8 @@ fn only_files<'a>(operands: &[&'a str], given: &Given<'_, 'a>) -> Option<(&'a st
 
 /// `newdisk BLOCKS`.
 fn new_disk<'a>(operands: &[&'a str], given: &Given<'_, 'a>) -> Option<(u16, Option<&'a str>)>
-    ensures { option_map (λ p. (p.0, option_map (λ text. text.now) p.1)) result ≡ words.new_disk (texts operands.now) (given_view given.now) }
+    ensures exact { option_map (λ p. (p.0, option_map (λ text. text.now) p.1)) result ≡ words.new_disk (texts operands.now) (given_view given.now) }
+    ensures range { IfSome result (λ p. (64 ≤ p.0) × (p.0 ≤ 4096)) }
 {
     if !given.takes(0, 0, 1) {
         return None;
@@ -105,7 +107,8 @@ fn new_disk<'a>(operands: &[&'a str], given: &Given<'_, 'a>) -> Option<(u16, Opt
 
 /// `put FILE TITLE`.
 fn put_file<'a>(operands: &[&'a str], given: &Given<'_, 'a>) -> Option<(&'a str, &'a str)>
-    ensures { option_map (λ p. (p.0.now, p.1.now)) result ≡ words.put_file (texts operands.now) (given_view given.now) }
+    ensures exact { option_map (λ p. (p.0.now, p.1.now)) result ≡ words.put_file (texts operands.now) (given_view given.now) }
+    ensures range { IfSome result (λ p. is_a_title p.1.now ≡ true) }
 {
     let (file, title) = only_files(operands, given)?;
     if is_title(title.as_bytes()) {
@@ -117,7 +120,8 @@ fn put_file<'a>(operands: &[&'a str], given: &Given<'_, 'a>) -> Option<(&'a str,
 
 /// `get TITLE FILE`, as the file and the title.
 fn get_file<'a>(operands: &[&'a str], given: &Given<'_, 'a>) -> Option<(&'a str, &'a str)>
-    ensures { option_map (λ p. (p.0.now, p.1.now)) result ≡ words.get_file (texts operands.now) (given_view given.now) }
+    ensures exact { option_map (λ p. (p.0.now, p.1.now)) result ≡ words.get_file (texts operands.now) (given_view given.now) }
+    ensures range { IfSome result (λ p. is_a_title p.1.now ≡ true) }
 {
     let (title, file) = only_files(operands, given)?;
     if is_title(title.as_bytes()) {
@@ -129,7 +133,8 @@ fn get_file<'a>(operands: &[&'a str], given: &Given<'_, 'a>) -> Option<(&'a str,
 
 /// `demo N`.
 fn sized_run<'a>(operands: &[&'a str], given: &Given<'_, 'a>) -> Option<(u16, Options<'a>)>
-    ensures { option_map (λ p. (p.0, options_of p.1)) result ≡ words.sized_run (texts operands.now) (given_view given.now) }
+    ensures exact { option_map (λ p. (p.0, options_of p.1)) result ≡ words.sized_run (texts operands.now) (given_view given.now) }
+    ensures range { IfSome result (λ p. (1 ≤ p.0) × (p.0 ≤ 1000)) }
 {
     if !given.takes(1, 1, 0) {
         return None;
@@ -157,7 +162,8 @@ fn watched_run<'a>(
 
 /// The command of this name, of the disk, the tools and the debugger.
 fn named_more<'a>(name: &str, operands: &[&'a str], given: &Given<'_, 'a>) -> Option<Command<'a>>
-    ensures { option_map view result ≡ words.named_more name.now (texts operands.now) (given_view given.now) }
+    ensures exact { option_map view result ≡ words.named_more name.now (texts operands.now) (given_view given.now) }
+    ensures range { IfSome result IsInRange }
 {
     if name == "put" {
         let (file, title) = put_file(operands, given)?;
@@ -201,7 +207,8 @@ fn named_more<'a>(name: &str, operands: &[&'a str], given: &Given<'_, 'a>) -> Op
 
 /// The command of this name.
 fn named<'a>(name: &str, operands: &[&'a str], given: &Given<'_, 'a>) -> Option<Command<'a>>
-    ensures { option_map view result ≡ words.named name.now (texts operands.now) (given_view given.now) }
+    ensures exact { option_map view result ≡ words.named name.now (texts operands.now) (given_view given.now) }
+    ensures range { IfSome result IsInRange }
 {
     if name == "run" {
         let (file, options) = file_run(operands, given)?;
@@ -236,7 +243,8 @@ fn named<'a>(name: &str, operands: &[&'a str], given: &Given<'_, 'a>) -> Option<
 
 /// The command that the operands and options are: the first operand is its name.
 pub(crate) fn command_in<'a>(given: &Given<'_, 'a>) -> Option<Command<'a>>
-    ensures { option_map view result ≡ words.command_in (given_view given.now) }
+    ensures exact { option_map view result ≡ words.command_in (given_view given.now) }
+    ensures range { IfSome result IsInRange }
 {
     let (name, operands) = given.operands.split_first()?;
     named(name, operands, given)

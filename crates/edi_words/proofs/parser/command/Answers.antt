@@ -20,6 +20,7 @@ returns-in-Ok c =
     let passed : is_some (parts_of ws) ≡ true = search rules in
     let found = c.in-Ok.ensures.matches (ap is_simple c.in_ok-parser.ensures ∙ is_simple_app) in
     record {
-      exact = c.command_in.ensures ∙ ap command_in (c.given.ensures ∙ ap given_in (found.0 ∙ ap (λ a. matches_of a ws) c.in_ok-parser.ensures))
+      exact = c.command_in.ensures.exact ∙ ap command_in (c.given.ensures ∙ ap given_in (found.0 ∙ ap (λ a. matches_of a ws) c.in_ok-parser.ensures))
           ∙ command_is ws passed;
+      range = c.command_in.ensures.range;
     }
