@@ -1,6 +1,6 @@
 -- From what is known of the symbols of a text to the text.
 use Rattle.std.proofs.Common.{◌≡◌, ℕ, List, Result, Ok, Err, refl, sym, ap, subst, length}
-use Rattle.edi_calls.specs.State.{fresh}
+use Rattle.std.specs.Prelude.{IfOk}
 use Rattle.edi_lex.specs.declared.symbol.Mark.{Mark}
 use Rattle.edi_lex.specs.declared.symbol.Symbols.{Symbols}
 use Rattle.edi_lex.specs.declared.fault.LexFault.{LexFault}
@@ -11,19 +11,16 @@ use Rattle.edi_unit.specs.View.{unit_of}
 use Rattle.edi_unit.specs.declared.units.Unit.{Unit}
 use Rattle.edi_target.specs.Check.{CodeParts}
 use Rattle.edi_scheme.specs.Code.{code_of}
-use Rattle.edi_scheme.specs.Laws.{parts_of}
-use Rattle.edi_scheme.proofs.Checked.{code_is_sound}
-use Rattle.edi_follows.specs.Theorem.{CanBeCoded}
-use Rattle.edi_follows.proofs.Whole.{same_outcomes, same_moments}
 use Rattle.edi_texts.specs.declared.refusal.Refusal.{Refusal}
 use Rattle.edi_texts.specs.Texts.{AreAccepted, HaveUnit, IsUnit}
 use Rattle.edi_texts.specs.Length.{extent_of, symbol_count}
 use Rattle.edi_texts.specs.Answers.{GivesBy, TextAnswers}
 use Rattle.edi_texts.specs.Run.{IsCodeFor}
-use Rattle.edi_texts.proofs.Executions.{code_for}
 use Rattle.edi_texts.proofs.Once.{exactly}
 use Rattle.edi_texts.proofs.Joined.{by_symbols}
-use Rattle.edi_compile.specs.Compiled.{IsCodable, IsCompiledFrom, IsFront, IsFrontOf, IsShort}
+use Rattle.edi_compile.specs.Compiled.{IsCompiledFrom, IsFront, IsFrontOf, IsShort}
+use Rattle.edi_compile.specs.Meant.{IsPrivateCode}
+use Rattle.edi_compile.proofs.Meant.{made_for, private_is}
 
 -- the symbols that were scanned are those of the text
 pub scanned_symbols : (text : List ℕ) (scanned : Result Symbols LexFault) (found : Symbols) → scanned ≡ Ok found
@@ -46,11 +43,8 @@ short_is text known words same s =
 front_is : (text : List ℕ) (known : List Mark × ℕ) (unit : ProgramUnit) → symbols_of text ≡ Ok known → IsFront known unit → IsFrontOf text unit
 front_is text known unit same f = record {
   unit_is = unit_is text known unit same f.unit_is;
-  codable = record {
-    fits = f.codable.fits;
-    parts = f.codable.parts;
-    short = short_is text known (length (code_of unit)) same f.codable.short;
-  };
+  can = f.can;
+  short = short_is text known (length (code_of unit)) same f.short;
 }
 
 pub front_answers : (text : List ℕ) (known : List Mark × ℕ) (result : Result Unit Refusal) → symbols_of text ≡ Ok known
@@ -60,15 +54,7 @@ front_answers text known result same g =
     exactly Is text result (λ unit f. (unit_of unit, f.unit_is))
     (by_symbols (λ unit. IsFront known (unit_of unit)) Is (Ok known) (symbols_of text) result same (λ unit f. front_is text known (unit_of unit) same f) g)
 
--- a code: it has the outcomes and the moments of the unit, by the theorem
-made_for : (text : List ℕ) (unit : ProgramUnit) → IsUnit text unit → CanBeCoded unit → IsShort (symbol_count text) (length (code_of unit))
-    → IsCodeFor text (parts_of unit)
-made_for text unit is can short =
-    code_for text unit (parts_of unit) is (code_is_sound unit can.fits can.parts can.short) short
-    (λ system bound choices outcome. let both = same_outcomes unit can (fresh system) bound choices outcome in (both.1, both.0))
-    (λ system bound choices moment. let both = same_moments unit can (fresh system) bound choices moment in (both.1, both.0))
-
--- it is of the unit of the text, and what the text does
+-- a code: it is of the unit of the text, and does what the text does
 record IsMade (text : List ℕ) (code : CodeParts) : Type 0 where
   unit : ProgramUnit
   unit_is : IsUnit text unit
@@ -100,3 +86,8 @@ code_answers text known result same g =
       refused = made.refused;
       accepted = made.accepted;
     }
+
+-- and its processes are private
+pub code_private : (known : List Mark × ℕ) (result : Result CodeParts Refusal) → GivesBy (IsCompiledFrom known) (Ok known) result → IfOk result IsPrivateCode
+code_private known (Ok code) g = private_is g.unit code g.can g.code_is
+code_private known (Err refusal) g = tt

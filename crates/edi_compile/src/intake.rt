@@ -1,8 +1,9 @@
 //! Texts that come in pieces.
 
-ghost use Rattle.std.specs.Prelude.{◌≡◌, ◌↔◌, ◌++◌, ℕ, List, [], Err, IsErr, OnOk};
+ghost use Rattle.std.specs.Prelude.{◌≡◌, ◌↔◌, ◌++◌, ℕ, List, [], Err, IfOk, IsErr, OnOk};
 ghost use Rattle.edi_texts.specs.Answers.{TextAnswers};
 ghost use Rattle.edi_texts.specs.Run.{IsCodeFor};
+ghost use Rattle.edi_compile.specs.Meant.{IsPrivateCode};
 
 use crate::passes::code_by;
 use edi_lex::Scanner;
@@ -42,6 +43,7 @@ impl Intake {
     /// What `compile` gives for the text so far, however it was cut into pieces.
     pub fn finish(self, alloc: Global) -> Result<Code, Refusal>
         ensures exact { (text : List ℕ) → HasTaken self text → TextAnswers (IsCodeFor text) text result }
+        ensures is_private { IfOk result IsPrivateCode }
         ensures failed { HasFailed self → result ≡ Err Refusal.NoMemory }
     {
         let scanned = self.scanner.finish(alloc);

@@ -1,11 +1,12 @@
 //! The passes behind the scanner: from the symbols of a text to its unit and its code.
 
-ghost use Rattle.std.specs.Prelude.{◌≡◌, ℕ, List, Ok, Err};
+ghost use Rattle.std.specs.Prelude.{◌≡◌, ℕ, List, Ok, Err, IfOk};
 ghost use Rattle.edi_lex.specs.Symbols.{ScanGives, symbols_of};
 ghost use Rattle.edi_unit.specs.View.{unit_of};
 ghost use Rattle.edi_texts.specs.Answers.{GivesBy, TextAnswers};
 ghost use Rattle.edi_texts.specs.Run.{IsCodeFor};
 ghost use Rattle.edi_compile.specs.Compiled.{IsCompiledFrom, IsFront, IsFrontOf};
+ghost use Rattle.edi_compile.specs.Meant.{IsPrivateCode};
 
 use edi_code::generate;
 use edi_lex::{LexFault, Symbols};
@@ -45,6 +46,7 @@ pub fn unit_by(alloc: Global, scanned: Result<Symbols, LexFault>) -> Result<Unit
 /// The code of a text that was scanned so, or its first fault.
 pub fn code_by(alloc: Global, scanned: Result<Symbols, LexFault>) -> Result<Code, Refusal>
     ensures answers { (text : List ℕ) → ScanGives scanned (symbols_of text) → TextAnswers (IsCodeFor text) text result }
+    ensures is_private { IfOk result IsPrivateCode }
     ensures failed { scanned ≡ Err LexFault.NoMemory → result ≡ Err Refusal.NoMemory }
 {
     let symbols = scanned?;

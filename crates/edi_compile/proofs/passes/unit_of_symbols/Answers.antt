@@ -15,16 +15,12 @@ returns c =
     record {
       gives = record {
         unit_is = record { tree = tree; tree_is = it; resolved = resolved };
-        codable = record {
-          fits = c.in_ok-unit.ensures.fits;
-          parts = records_have_fields tree unit resolved;
-          short = omega (arith, code_is_short_for_text tree unit c.args.symbols.now.marks sound.is_bounded it.spells resolved);
-        };
         can = record {
           fits = c.in_ok-unit.ensures.fits;
           parts = records_have_fields tree unit resolved;
           lines = lines_are_small tree unit sound.is_bounded resolved;
           short = omega (arith, code_is_short tree unit sound.is_bounded resolved);
         };
+        short = omega (arith, code_is_short_for_text tree unit c.args.symbols.now.marks sound.is_bounded it.spells resolved);
       };
     }
