@@ -2,8 +2,11 @@
 
 ghost use Rattle.std.specs.Prelude.{◌≡◌, ◌≤◌, None, IsSome, length};
 ghost use Rattle.edi_calls.specs.Calls.{argument_words, answer_words};
+ghost use Rattle.edi_system.specs.AsCalls.{HasFailed};
 
 use edi_calls::{CallEnd, Calls};
+use edi_host::{Drive, Sink, Source};
+use edi_system::System;
 
 /// A call of a program.
 #[derive(Clone, Copy, Drop)]
@@ -76,9 +79,12 @@ fn tell<C: Calls>(calls: &mut C, number: u8, args: &[u16]) -> Option<Answer>
 }
 
 // Makes a call; `None` where an object has failed.
-fn make<C: Calls>(calls: &mut C, call: Call) -> Option<Answer>
-    requires working { C.failed calls.old None }
-    ensures working { IsSome result → C.failed calls.new None }
+fn make<D: Drive, S: Source, T: Sink, P: Sink>(
+    calls: &mut System<'_, '_, '_, '_, '_, '_, D, S, T, P>,
+    call: Call,
+) -> Option<Answer>
+    requires working { HasFailed D.contents D.count calls.old None }
+    ensures working { IsSome result → HasFailed D.contents D.count calls.new None }
 {
     match call {
         Call::Accept => ask(calls, 1, &[]),
@@ -95,8 +101,11 @@ fn make<C: Calls>(calls: &mut C, call: Call) -> Option<Answer>
 }
 
 /// How many of the calls are answered as the table says, from the first on. No call is made after one that is not.
-pub(crate) fn answered<C: Calls>(calls: &mut C, table: &[(Call, Answer)]) -> usize
-    requires working { C.failed calls.old None }
+pub(crate) fn answered<D: Drive, S: Source, T: Sink, P: Sink>(
+    calls: &mut System<'_, '_, '_, '_, '_, '_, D, S, T, P>,
+    table: &[(Call, Answer)],
+) -> usize
+    requires working { HasFailed D.contents D.count calls.old None }
 {
     for (i, (call, answer)) in table.iter().enumerate() {
         if make(calls, *call) != Some(*answer) {
