@@ -1,0 +1,219 @@
+-- The exits of a run of a code: the drive is not mounted, an object has failed, the record is kept, or it is not.
+use Rattle.std.proofs.Common.{◌≡◌, ◌≤◌, ℕ, Bool, false, List, [], length, drop, Option, Some, None, Err, IfSome, refl, sym, subst, inl, inr}
+use Rattle.edi_told.specs.Told.{WhereTold}
+use Rattle.edi_calls.specs.declared.ends.Outside as failing
+use Rattle.edi_calls.specs.declared.ends.Outside.TheVariants as object
+use Rattle.edi_calls.specs.Choice.{Choices}
+use Rattle.edi_execute.specs.Objects.{HasRun, StandsAtMoment}
+use Rattle.edi_image.specs.declared.faults.MountFault.{MountFault}
+use Rattle.edi_image.specs.declared.faults.MountFault.TheVariants as mount
+use Rattle.edi_image.specs.Finds.{IsFirst}
+use Rattle.edi_image.specs.Image.{mount_fault_of}
+use Rattle.edi_kernel.specs.declared.ends.Ending.{Ending}
+use Rattle.edi_kernel.specs.declared.ends.Ending.TheVariants as ending
+use Rattle.edi_system.specs.Parts.{IsValid, Grows, due_after}
+use Rattle.edi_target.specs.Check.{CodeParts}
+use Rattle.edi_trace.specs.Drawn.{Drawn}
+use Rattle.edi_statuses.specs.declared.status.Status.{Status}
+use Rattle.edi_statuses.specs.declared.status.Status.TheVariants as status
+use Rattle.edi_statuses.specs.Outside.{Outside, seen, still_told, system_on, with_kept, Keeps, SameBlocks, SameFiles, Shows, Lent}
+use Rattle.edi_statuses.specs.Lines.{is_due}
+use Rattle.edi_statuses.specs.Steps.{goes, stops, IsBrokenRule, Mounts}
+use Rattle.edi_statuses.specs.Executions.{Program, HasCode, HasMoment, StandsAt, Ran, BrokeRun, record_of, status_of}
+use Rattle.edi_statuses.specs.Executions as statuses
+use Rattle.edi_statuses.specs.Commands.{IsNothing, Runs}
+use Rattle.edi_statuses.specs.Means.{HasNotBegun, RanWhole, RanUnkept, names_in}
+use Rattle.edi_steps.specs.OnFiles.{RecordStep}
+use Rattle.edi_run_commands.specs.CodeRan.{CodeRan, RanCode, ending_status, mount_status, object_status}
+use Rattle.edi_run_commands.proofs.Left.{devices_told, devices, told_by, ending_of, has_run, stands, IsNoFault}
+use Rattle.edi_run_commands.proofs.Told.{same_told, still, weaker, known_before, shows_nothing}
+use Rattle.edi_run_commands.proofs.Shown.{shown_since, shows_so, due_so}
+
+-- ---- the drive is not mounted
+
+pub record IsUnmounted (before after : Outside) (kernel : Lent) (why : MountFault) : Type 0 where
+  pub files : after.files ≡ before.files
+  pub blocks : WhereTold before.blocks after.blocks (λ old new. (new ≡ old) × IsFirst why (mount_fault_of old))
+  pub input : after.input ≡ before.input
+  pub shown : after.shown ≡ before.shown
+  pub printed : after.printed ≡ before.printed
+  pub kernel_same : kernel.after ≡ kernel.before
+
+module _ (before after : Outside) (kernel : Lent) (why : MountFault) (h : IsUnmounted before after kernel why) where
+  same_blocks : SameBlocks (seen before after) after
+  same_blocks = still _ before.blocks after.blocks (weaker _ _ before.blocks after.blocks (λ old new both. both.0) h.blocks)
+
+  nothing : IsNothing (seen before after) after [] kernel
+  nothing = record {
+    shown_ = refl;
+    same = record {
+      files = same_told before.files after.files h.files;
+      blocks = same_blocks;
+      input = same_told before.input after.input h.input;
+      printed = same_told before.printed after.printed h.printed;
+    };
+    kernel_same = h.kernel_same;
+  }
+
+  not_begun : HasNotBegun (seen before after) after [] kernel
+  not_begun = record {
+    shown_ = refl;
+    blocks = same_blocks;
+    input = same_told before.input after.input h.input;
+    printed = same_told before.printed after.printed h.printed;
+    kernel_same = h.kernel_same;
+  }
+
+  first : IfSome (still_told before.blocks after.blocks) (λ old. IsFirst why (mount_fault_of old))
+  first = known_before _ before.blocks after.blocks (weaker _ _ before.blocks after.blocks (λ old new both. both.1) h.blocks)
+
+unmounted_by : (before after : Outside) (kernel : Lent) (why : MountFault) → IsUnmounted before after kernel why → (program : Program) (bound : ℕ) (choices : Choices)
+    (name : Option (List ℕ)) → CodeRan program bound choices name (mount_status why) (seen before after) after [] kernel
+unmounted_by before after kernel mount.Fault h program bound choices name = (same_told before.files after.files h.files, inl (not_begun before after kernel mount.Fault h))
+unmounted_by before after kernel mount.NoMemory h program bound choices name = inl (nothing before after kernel mount.NoMemory h)
+unmounted_by before after kernel mount.Short h program bound choices name =
+    ((mount.Short, refl, first before after kernel mount.Short h, tt), nothing before after kernel mount.Short h)
+unmounted_by before after kernel mount.Header h program bound choices name =
+    ((mount.Header, refl, first before after kernel mount.Header h, tt), nothing before after kernel mount.Header h)
+unmounted_by before after kernel (mount.Entry slot) h program bound choices name =
+    ((mount.Entry slot, refl, first before after kernel (mount.Entry slot) h, tt), nothing before after kernel (mount.Entry slot) h)
+unmounted_by before after kernel (mount.Page slot block) h program bound choices name =
+    ((mount.Page slot block, refl, first before after kernel (mount.Page slot block) h, tt), nothing before after kernel (mount.Page slot block) h)
+unmounted_by before after kernel (mount.Shared block) h program bound choices name =
+    ((mount.Shared block, refl, first before after kernel (mount.Shared block) h, tt), nothing before after kernel (mount.Shared block) h)
+
+pub unmounted : (parts : CodeParts) (bound : ℕ) (choices : Choices) (name : Option (List ℕ)) (s : Status) (due : Bool) (before after : Outside) (kernel : Lent)
+    (why : MountFault) → s ≡ mount_status why → due ≡ false → IsUnmounted before after kernel why → RanCode parts bound choices name s due before after kernel
+unmounted parts bound choices name s due before after kernel why is silent h = record {
+  shown = [];
+  ran = λ program code. subst (λ x. CodeRan program bound choices name x (seen before after) after [] kernel) (sym is)
+      (unmounted_by before after kernel why h program bound choices name);
+  shows = shows_nothing before.shown after.shown h.shown;
+  due_is = silent;
+}
+
+-- ---- the code was run
+
+pub record IsLeft (due : Bool) (before after : Outside) : Type 0 where
+  pub mounted : WhereTold before.blocks after.blocks (λ old new. mount_fault_of old ≡ None)
+  pub valid : IsValid after.blocks
+  pub grows : WhereTold before.shown after.shown Grows
+  pub due_is : WhereTold before.shown after.shown (λ taken now. due ≡ due_after false (drop (length taken) now))
+
+mounts : (due : Bool) (before after : Outside) → IsLeft due before after → Mounts (seen before after) (goes tt)
+mounts due before after left = known_before (λ blocks. mount_fault_of blocks ≡ None) before.blocks after.blocks left.mounted
+
+status_is : (e : Ending) → ending_status e ≡ status_of (ending_of e)
+status_is ending.Done = refl
+status_is (ending.Halted line) = refl
+status_is (ending.Failed why line) = refl
+status_is ending.Turns = refl
+status_is ending.Standstill = refl
+status_is (ending.Bad address) = refl
+status_is ending.Fault = refl
+
+ended : (e : Ending) (program : Program) (bound : ℕ) (choices : Choices) (name : Option (List ℕ)) (before after : Outside) (shown : List ℕ) (kernel : Lent)
+    → Mounts before (goes tt) → Runs program bound choices name (ending_status e) before after shown kernel
+    → CodeRan program bound choices name (ending_status e) before after shown kernel
+ended ending.Done program bound choices name before after shown kernel m r = (m, r)
+ended (ending.Halted line) program bound choices name before after shown kernel m r = (m, r)
+ended (ending.Failed why line) program bound choices name before after shown kernel m r = (m, r)
+ended ending.Turns program bound choices name before after shown kernel m r = (m, r)
+ended ending.Standstill program bound choices name before after shown kernel m r = (m, r)
+ended (ending.Bad address) program bound choices name before after shown kernel m r = (m, r)
+ended ending.Fault program bound choices name before after shown kernel m r = (m, r)
+
+module _ (parts : CodeParts) (bound : ℕ) (old : Drawn) (none : old.drawn ≡ 0) (due : Bool) (before after : Outside) (left : IsLeft due before after) where
+  abbrev shown_now : List ℕ
+  shown_now = shown_since due before.shown after.shown
+
+  shows_now : Shows before after shown_now
+  shows_now = shows_so due before.shown after.shown left.grows
+
+  due_now : due ≡ is_due shown_now
+  due_now = due_so due before.shown after.shown left.grows left.due_is
+
+  -- an object has failed
+  broke_run : WhereTold (told_by before) (told_by after) (StandsAtMoment parts bound old) → (program : Program) → HasCode program parts
+      → BrokeRun program bound old.source (seen before after) after shown_now
+  broke_run moment program is =
+      devices_told before after shown_now (StandsAtMoment parts bound old) (λ d e. StandsAt (HasMoment program (system_on d) bound old.source) d e shown_now)
+      left.valid shows_now (stands program parts is bound old none shown_now) moment
+
+  broke_by : (failed : failing.Outside) (name : Option (List ℕ)) (kernel : Lent) → SameFiles (seen before after) after → (program : Program)
+      → BrokeRun program bound old.source (seen before after) after shown_now → CodeRan program bound old.source name (object_status failed) (seen before after) after shown_now kernel
+  broke_by object.Drive name kernel files program broke = (files, inr (mounts due before after left, broke))
+  broke_by object.Input name kernel files program broke = (files, mounts due before after left, broke)
+  broke_by object.Terminal name kernel files program broke = (files, mounts due before after left, broke)
+  broke_by object.Printer name kernel files program broke = (files, mounts due before after left, broke)
+
+  pub broke : (name : Option (List ℕ)) (s : Status) (failed : failing.Outside) (kernel : Lent) → s ≡ object_status failed → after.files ≡ before.files
+      → WhereTold (told_by before) (told_by after) (StandsAtMoment parts bound old) → RanCode parts bound old.source name s due before after kernel
+  broke name s failed kernel is files moment = record {
+    shown = shown_now;
+    ran = λ program code. subst (λ x. CodeRan program bound old.source name x (seen before after) after shown_now kernel) (sym is)
+        (broke_by failed name kernel (same_told before.files after.files files) program (broke_run moment program code));
+    shows = shows_now;
+    due_is = due_now;
+  }
+
+  -- the run has come to its ending
+  module _ (e : Ending) (unfailed : IsNoFault e) (new : Drawn) (within : new.drawn ≤ bound) (kernel : Lent) (used : kernel.after.used ≤ bound)
+      (run : WhereTold (told_by before) (told_by after) (HasRun parts bound old e kernel.after.words kernel.after.used new)) where
+    has_ran : (program : Program) → HasCode program parts → Ran program bound old.source (ending_of e) new.drawn (seen before after) after shown_now kernel
+    has_ran program is =
+        devices_told before after shown_now (HasRun parts bound old e kernel.after.words kernel.after.used new)
+        (λ d x. statuses.HasRun program bound old.source (ending_of e) new.drawn d x shown_now kernel.after) left.valid shows_now
+        (λ x y valid shows h. has_run program parts is bound old none shown_now e kernel.after.words kernel.after.used new x y unfailed valid shows h) run
+
+    whole : (program : Program) → HasCode program parts → RanWhole program bound old.source (seen before after) after shown_now kernel
+    whole program is = record { ending = ending_of e; drawn = new.drawn; within = within; used = used; ran = has_ran program is }
+
+    runs : (name : Option (List ℕ)) → Keeps (seen before after) after (record_of name old.source new.drawn) → (program : Program) → HasCode program parts
+        → Runs program bound old.source name (ending_status e) (seen before after) after shown_now kernel
+    runs name kept program is = record {
+      ending = ending_of e;
+      drawn = new.drawn;
+      within = within;
+      used = used;
+      status_is = status_is e;
+      ran = has_ran program is;
+      keeps = kept;
+    }
+
+    -- its record was kept, if there was to be one
+    pub recorded : (name : Option (List ℕ)) (s : Status) → s ≡ ending_status e → new.source ≡ old.source
+        → WhereTold before.files after.files (λ a b. b ≡ with_kept (record_of name new.source new.drawn) a)
+        → RanCode parts bound old.source name s due before after kernel
+    recorded name s is source step = record {
+      shown = shown_now;
+      ran = λ program code. subst (λ x. CodeRan program bound old.source name x (seen before after) after shown_now kernel) (sym is)
+          (ended e program bound old.source name (seen before after) after shown_now kernel (mounts due before after left)
+          (runs name (still _ before.files after.files
+          (subst (λ from. WhereTold before.files after.files (λ a b. b ≡ with_kept (record_of name from new.drawn) a)) source step)) program code));
+      shows = shows_now;
+      due_is = due_now;
+    }
+
+    -- it was not kept
+    unrecorded_by : (A : Type 0) (name : Option (List ℕ)) (s : Status) → RecordStep {A = A} name new (Err s) before.files after.files → (program : Program)
+        → HasCode program parts → CodeRan program bound old.source name s (seen before after) after shown_now kernel
+    unrecorded_by A name status.NoMemory step program is =
+        inr (step.0, mounts due before after left, (whole program is, still _ before.files after.files step.1))
+    unrecorded_by A name status.FileFault step program is =
+        (step.0, still _ before.files after.files step.1, mounts due before after left, whole program is)
+    unrecorded_by A name _ step program is = absurd step
+
+    pub unrecorded : (A : Type 0) (name : Option (List ℕ)) (s : Status) → RecordStep {A = A} name new (Err s) before.files after.files
+        → RanCode parts bound old.source name s due before after kernel
+    unrecorded A name s step = record {
+      shown = shown_now;
+      ran = unrecorded_by A name s step;
+      shows = shows_now;
+      due_is = due_now;
+    }
+
+-- another number that is the same
+pub with_bound : (n m : ℕ) → n ≡ m → (parts : CodeParts) (choices : Choices) (name : Option (List ℕ)) (s : Status) (due : Bool) (before after : Outside) (kernel : Lent)
+    → RanCode parts n choices name s due before after kernel → RanCode parts m choices name s due before after kernel
+with_bound n m same parts choices name s due before after kernel = subst (λ k. RanCode parts k choices name s due before after kernel) same

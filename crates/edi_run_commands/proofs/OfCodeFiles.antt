@@ -1,0 +1,67 @@
+-- A code file that is loaded, and its code that is run.
+use Rattle.std.proofs.Common.{◌≡◌, ◌∙◌, ℕ, Bool, false, List, Option, Some, None, Result, Ok, Err, refl, sym, ap, subst}
+use Rattle.std.specs.Prelude.{⊤, take}
+use Rattle.edi_told.specs.Told.{WhereTold}
+use Rattle.edi_host.specs.Files.{Contents}
+use Rattle.edi_calls.specs.Choice.{Choices}
+use Rattle.edi_words.specs.Words.{ChoicesFrom}
+use Rattle.edi_target.specs.declared.code_fault.CodeFault.{CodeFault}
+use Rattle.edi_target.specs.declared.code_fault.CodeFault.TheVariants as fault
+use Rattle.edi_target.specs.Check.{CodeParts, IsFault}
+use Rattle.edi_target.specs.File.{code_fault_of, code_of}
+use Rattle.edi_target.specs.Limit.{most_fetched}
+use Rattle.edi_target.proofs.Limited.{first_bytes_decide}
+use Rattle.edi_statuses.specs.declared.status.Status.{Status}
+use Rattle.edi_statuses.specs.declared.status.Status.TheVariants as status
+use Rattle.edi_statuses.specs.Outside.{Outside, still_told, Lent}
+use Rattle.edi_statuses.specs.Steps.{goes, stops, Fetches, ReadsChoices, Loads}
+use Rattle.edi_statuses.specs.Executions.{code}
+use Rattle.edi_steps.specs.OnFiles.{files_only}
+use Rattle.edi_run_commands.specs.CodeRan.{RanCode}
+use Rattle.edi_run_commands.specs.Loaded.{LoadStep, load_status}
+use Rattle.edi_run_commands.specs.RunMeans.{CodeFileCame}
+use Rattle.edi_run_commands.proofs.Exits.{IsRefusal, with_files, code_ran, third_stops, third_wants}
+
+-- ---- loading
+
+-- the file is not loaded
+pub load_stops : (bytes : List ℕ) (broken : CodeFault) → IsFault broken (code_fault_of bytes) → LoadStep bytes (Err (load_status broken))
+load_stops bytes fault.NoMemory h = tt
+load_stops bytes (fault.Short at) h = (fault.Short at, refl, h)
+load_stops bytes (fault.Over at) h = (fault.Over at, refl, h)
+load_stops bytes (fault.Header at found) h = (fault.Header at found, refl, h)
+load_stops bytes (fault.Operation at found) h = (fault.Operation at found, refl, h)
+load_stops bytes (fault.Jump at target) h = (fault.Jump at target, refl, h)
+
+-- the first bytes decide
+loads_all : (all bytes : List ℕ) (parts : CodeParts) → bytes ≡ take most_fetched all → Loads bytes (goes parts) → Loads all (goes parts)
+loads_all all bytes parts first h =
+    let decide = first_bytes_decide all in
+    let none = ap code_fault_of (sym first) ∙ h.0 in
+    (sym decide.0 ∙ none, h.1 ∙ ap code_of (first ∙ decide.1 none))
+
+stops_all : (all bytes : List ℕ) (s : Status) → bytes ≡ take most_fetched all → Loads bytes (stops s) → Loads all (stops s)
+stops_all all bytes s first h = (h.0, h.1, sym (first_bytes_decide all).0 ∙ (ap code_fault_of (sym first) ∙ h.2))
+
+is_refusal : (bytes : List ℕ) (s : Status) → Loads bytes (stops s) → IsRefusal s
+is_refusal bytes s h = subst IsRefusal (sym h.1) tt
+
+-- ---- the command
+
+module _ (name : List ℕ) (from : ChoicesFrom) (bound : ℕ) (record_file : Option (List ℕ)) (before : Outside) (kernel : Lent) (all bytes : List ℕ)
+    (first_bytes : bytes ≡ take most_fetched all) (mid new : Option Contents) (choices : Choices)
+    (f : Fetches (files_only (still_told before.files mid)) name (goes all)) (c : ReadsChoices (files_only (still_told mid new)) from (goes choices))
+    (first : WhereTold before.files mid (λ a b. b ≡ a)) (second : WhereTold mid new (λ a b. b ≡ a)) where
+  pub code_stops : (s : Status) → kernel.after ≡ kernel.before → LoadStep bytes (Err s)
+      → CodeFileCame name from bound record_file s false before (with_files before new) kernel
+  code_stops status.NoMemory kept h =
+      third_wants Loads (λ b parts. parts) code name from bound record_file before kernel all mid new choices f c first second kept
+  code_stops s kept h =
+      third_stops Loads (λ b parts. parts) code name from bound record_file before kernel all mid new choices f c first second s kept (is_refusal bytes s h)
+      (stops_all all bytes s first_bytes h)
+
+  pub file_ran : (parts : CodeParts) (s : Status) (due : Bool) (after : Outside) → LoadStep bytes (Ok parts) → WhereTold new after.files (λ a b. ⊤)
+      → RanCode parts bound choices record_file s due (with_files before new) after kernel → CodeFileCame name from bound record_file s due before after kernel
+  file_ran parts s due after h last ran =
+      code_ran Loads (λ b p. p) code name from bound record_file before kernel all mid new choices f c first second parts parts s due after
+      (loads_all all bytes parts first_bytes h) refl last ran

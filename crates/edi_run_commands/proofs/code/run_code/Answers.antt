@@ -1,0 +1,87 @@
+-- The exits of a run of a code.
+use Rattle.std.proofs.Common.{rules, ◌≡◌, ◌∙◌, ◌+◌, ◌<◌, ◌^◌, option_map, IsSome, arith, refl, ap}
+use Rattle.edi_calls.specs.declared.ends.Outside.TheVariants as object
+use Rattle.edi_kernel.specs.declared.ends.Ending.TheVariants as ending
+use Rattle.edi_statuses.specs.Outside.{kernel_of}
+use Rattle.edi_run_commands.proofs.Endings.{unmounted, broke, recorded, unrecorded, with_bound}
+use Rattle.edi_run_commands.proofs.code.run_code.Goals as goal
+
+pub returns-in-Err-clause-ran : goal.returns-in-Err-clause-ran
+returns-in-Err-clause-ran g c =
+    let n = c.in-Err.ensures.nothing_run in
+    unmounted c.args.code.now c.args.turns c.args.choices.now.source (option_map (λ name. name.now) c.args.record_file) c.stopped.result.status
+    c.stopped.result.due _ _ _ c.in-Err.why (c.stopped.ensures.told ∙ c.mount_status.ensures.exact) c.stopped.ensures.due
+    (record {
+      files = refl;
+      blocks = c.in-Err.ensures.not_mounted;
+      input = ap g.S.Source.left n.0;
+      shown = ap g.T.Sink.taken n.1;
+      printed = ap g.P.Sink.taken n.2;
+      kernel_same = ap (λ k. kernel_of k.store k.used) n.3;
+    })
+
+pub returns-in-Err-clause-later : goal.returns-in-Err-clause-later
+returns-in-Err-clause-later g c =
+    let l = c.run_on.ensures.later in
+    record { files = omega arith; drive = l.later object.Drive; input = l.later object.Input; terminal = l.later object.Terminal; printer = l.later object.Printer }
+
+pub returns-in-Some-clause-ran : goal.returns-in-Some-clause-ran
+returns-in-Some-clause-ran g c =
+    let l = c.in-Ok.ensures.leaves in
+    let few : c.args.choices.now.drawn + c.from.result < 2 ^ 64 = search rules in
+    let there : IsSome c.in-Ok.ran.failed = search rules in
+    with_bound c.from.result c.args.turns (search rules) _ _ _ _ _ _ _ _
+    (broke c.args.code.now c.from.result c.args.choices.now c.requires.none_drawn c.in-Ok.ran.due _ _
+    (record { mounted = c.in-Ok.ensures.mounted; valid = c.in-Ok.ensures.valid; grows = l.told.grows; due_is = l.due })
+    (option_map (λ name. name.now) c.args.record_file) c.object_status.result c.in-Some.object _ c.object_status.ensures.exact refl
+    (l.moment (c.in-Ok.ensures.failed.0 there) few))
+
+pub returns-in-Some-clause-later : goal.returns-in-Some-clause-later
+returns-in-Some-clause-later g c =
+    let l = c.run_on.ensures.later in
+    record { files = omega arith; drive = l.later object.Drive; input = l.later object.Input; terminal = l.later object.Terminal; printer = l.later object.Printer }
+
+pub returns-in-Ok-keep_record-clause-ran : goal.returns-in-Ok-keep_record-clause-ran
+returns-in-Ok-keep_record-clause-ran g c =
+    let l = c.in-Ok.ensures.leaves in
+    let few : c.args.choices.now.drawn + c.from.result < 2 ^ 64 = search rules in
+    let unfailed : c.in-Ok.ran.ending ≡ ending.Fault → ⊥ = search rules in
+    with_bound c.from.result c.args.turns (search rules) _ _ _ _ _ _ _ _
+    (recorded c.args.code.now c.from.result c.args.choices.now c.requires.none_drawn c.in-Ok.ran.due _ _
+    (record { mounted = c.in-Ok.ensures.mounted; valid = c.in-Ok.ensures.valid; grows = l.told.grows; due_is = l.due })
+    c.in-Ok.ran.ending unfailed c.run_on.new.choices (omega (arith, c.run_on.ensures.drawn, c.requires.none_drawn)) _ c.in-Ok.ensures.used (l.runs few)
+    (option_map (λ name. name.now) c.args.record_file) c.ending_status.result c.ending_status.ensures.exact c.run_on.ensures.source
+    c.in-Ok-keep_record.ensures.keeps)
+
+pub returns-in-Ok-keep_record-clause-later : goal.returns-in-Ok-keep_record-clause-later
+returns-in-Ok-keep_record-clause-later g c =
+    let l = c.run_on.ensures.later in
+    record {
+      files = c.keep_record.ensures.later;
+      drive = l.later object.Drive;
+      input = l.later object.Input;
+      terminal = l.later object.Terminal;
+      printer = l.later object.Printer;
+    }
+
+pub returns-in-Err-keep_record-clause-ran : goal.returns-in-Err-keep_record-clause-ran
+returns-in-Err-keep_record-clause-ran g c =
+    let l = c.in-Ok.ensures.leaves in
+    let few : c.args.choices.now.drawn + c.from.result < 2 ^ 64 = search rules in
+    let unfailed : c.in-Ok.ran.ending ≡ ending.Fault → ⊥ = search rules in
+    with_bound c.from.result c.args.turns (search rules) _ _ _ _ _ _ _ _
+    (unrecorded c.args.code.now c.from.result c.args.choices.now c.requires.none_drawn c.in-Ok.ran.due _ _
+    (record { mounted = c.in-Ok.ensures.mounted; valid = c.in-Ok.ensures.valid; grows = l.told.grows; due_is = l.due })
+    c.in-Ok.ran.ending unfailed c.run_on.new.choices (omega (arith, c.run_on.ensures.drawn, c.requires.none_drawn)) _ c.in-Ok.ensures.used (l.runs few)
+    (Unit {0}) (option_map (λ name. name.now) c.args.record_file) c.in-Err-keep_record.status c.in-Err-keep_record.ensures.keeps)
+
+pub returns-in-Err-keep_record-clause-later : goal.returns-in-Err-keep_record-clause-later
+returns-in-Err-keep_record-clause-later g c =
+    let l = c.run_on.ensures.later in
+    record {
+      files = c.keep_record.ensures.later;
+      drive = l.later object.Drive;
+      input = l.later object.Input;
+      terminal = l.later object.Terminal;
+      printer = l.later object.Printer;
+    }

@@ -1,0 +1,81 @@
+-- Words of contracts. What is left where a code is run on a drive that is mounted for it and the record of its choices is kept, by
+-- the status to which that comes.
+use Rattle.std.specs.Prelude.{◌≡◌, ◌⊎◌, ℕ, Bool, List, Option, Some, None, IsSome}
+use Rattle.edi_calls.specs.declared.ends.Outside as failing
+use Rattle.edi_calls.specs.declared.ends.Outside.TheVariants as object
+use Rattle.edi_calls.specs.declared.kinds.Cause.TheVariants as cause
+use Rattle.edi_calls.specs.Choice.{Choices}
+use Rattle.edi_image.specs.declared.faults.MountFault.{MountFault}
+use Rattle.edi_image.specs.declared.faults.MountFault.TheVariants as mount
+use Rattle.edi_kernel.specs.declared.ends.Ending.{Ending}
+use Rattle.edi_kernel.specs.declared.ends.Ending.TheVariants as ending
+use Rattle.edi_target.specs.Check.{CodeParts}
+use Rattle.edi_texts.specs.declared.refusal.Refusal.{Refusal}
+use Rattle.edi_texts.specs.declared.refusal.Refusal.TheVariants.{At, NoMemory}
+use Rattle.edi_statuses.specs.declared.status.Status.{Status}
+use Rattle.edi_statuses.specs.declared.status.Status.TheVariants as status
+use Rattle.edi_statuses.specs.Outside.{Outside, seen, Shows, SameBut, SameFiles, Lent}
+use Rattle.edi_statuses.specs.Lines.{is_due}
+use Rattle.edi_statuses.specs.Steps.{goes, stops, Mounts}
+use Rattle.edi_statuses.specs.Executions.{Program, HasCode, BrokeRun}
+use Rattle.edi_statuses.specs.Commands.{IsNothing, Runs}
+use Rattle.edi_statuses.specs.Means.{RanWhole, RanUnkept, HasNotBegun, names_in}
+
+-- ---- statuses
+
+-- of a refused text
+abbrev pub refusal_status : Refusal → Status
+refusal_status (At pass kind line) = status.Refused kind line
+refusal_status NoMemory = status.NoMemory
+
+-- of a drive that was not mounted
+abbrev pub mount_status : MountFault → Status
+mount_status mount.Fault = status.DriveFault
+mount_status mount.NoMemory = status.NoMemory
+mount_status broken = status.BadImage broken
+
+-- of an object that has failed in a run
+abbrev pub object_status : failing.Outside → Status
+object_status object.Drive = status.DriveFault
+object_status object.Input = status.InputFault
+object_status object.Terminal = status.OutputFault
+object_status object.Printer = status.OutputFault
+
+-- of a run that has come to its ending; after a fault it has come to none, and the object that has failed has the status
+abbrev pub ending_status : Ending → Status
+ending_status ending.Done = status.Ok
+ending_status (ending.Halted line) = status.Stopped cause.Halt line
+ending_status (ending.Failed why line) = status.Stopped why line
+ending_status ending.Turns = status.Turns
+ending_status ending.Standstill = status.Standstill
+ending_status (ending.Bad address) = status.BadState address
+ending_status ending.Fault = status.Standstill
+
+-- ---- what is left
+
+-- The drive was not mounted; or the program was broken off at one moment of its execution; or it came to its ending, and then the
+-- record was kept, or wanted memory, or the files failed.
+abbrev pub CodeRan : Program → (bound : ℕ) → Choices → (record_file : Option (List ℕ)) → Status → Outside → Outside → (shown : List ℕ)
+    → Lent → Type 0
+CodeRan program bound choices name status.NoMemory before after shown kernel =
+    IsNothing before after shown kernel ⊎ (IsSome name × Mounts before (goes tt) × RanUnkept program bound choices before after shown kernel)
+CodeRan program bound choices name status.FileFault before after shown kernel =
+    IsSome name × SameBut (names_in name) before after × Mounts before (goes tt) × RanWhole program bound choices before after shown kernel
+CodeRan program bound choices name status.DriveFault before after shown kernel =
+    SameFiles before after × (HasNotBegun before after shown kernel ⊎ (Mounts before (goes tt) × BrokeRun program bound choices before after shown))
+CodeRan program bound choices name status.InputFault before after shown kernel =
+    SameFiles before after × Mounts before (goes tt) × BrokeRun program bound choices before after shown
+CodeRan program bound choices name status.OutputFault before after shown kernel =
+    SameFiles before after × Mounts before (goes tt) × BrokeRun program bound choices before after shown
+CodeRan program bound choices name (status.BadImage broken) before after shown kernel =
+    Mounts before (stops (status.BadImage broken)) × IsNothing before after shown kernel
+CodeRan program bound choices name s before after shown kernel =
+    Mounts before (goes tt) × Runs program bound choices name s before after shown kernel
+
+-- So it is of every program that this code was made of; a line feed is due before the line of the status, or not.
+pub record RanCode (parts : CodeParts) (bound : ℕ) (choices : Choices) (name : Option (List ℕ)) (s : Status) (due : Bool)
+    (before after : Outside) (kernel : Lent) : Type 0 where
+  pub shown : List ℕ
+  pub ran : (program : Program) → HasCode program parts → CodeRan program bound choices name s (seen before after) after shown kernel
+  pub shows : Shows before after shown
+  pub due_is : due ≡ is_due shown

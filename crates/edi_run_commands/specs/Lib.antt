@@ -1,0 +1,3 @@
+pub mod CodeRan
+pub mod Loaded
+pub mod RunMeans

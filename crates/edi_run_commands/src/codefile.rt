@@ -1,0 +1,93 @@
+//! `exec`: the program of a code file.
+
+ghost use Rattle.std.specs.Prelude.{◌≡◌, Some};
+ghost use Rattle.edi_run_commands.specs.Loaded.{load_status, LoadStep};
+ghost use Rattle.edi_words.specs.Words as words;
+ghost use Rattle.edi_words.specs.View.{options_of};
+ghost use Rattle.edi_statuses.specs.Outside.{lent, outside_of};
+ghost use Rattle.edi_statuses.specs.Counts.{counts_of, HasCause, NoneFalls};
+ghost use Rattle.edi_statuses.specs.Means.{Came};
+
+use crate::code::{run_code, stopped};
+use edi_codefile::load;
+use edi_host::{Drive, Files, Sink, Source};
+use edi_kernel::Kernel;
+use edi_statuses::{Ended, Status};
+use edi_steps::{fetch, read_from};
+use edi_target::{Code, CodeFault};
+use edi_words::Options;
+use std::alloc::Global;
+
+/// As many bytes as decide whether a file is a code file.
+const LIMIT: usize = 8_388_641;
+
+/// The status of a command whose code file has this fault.
+fn load_status(fault: CodeFault) -> Status
+    ensures exact { result ≡ load_status fault }
+{
+    match fault {
+        CodeFault::NoMemory => Status::NoMemory,
+        broken => Status::BadCode(broken),
+    }
+}
+
+/// The code of the bytes of a code file, or why the command stops there.
+fn load_code(alloc: Global, bytes: &[u8]) -> Result<Code, Status>
+    ensures loads { LoadStep bytes.now result }
+{
+    match load(alloc, bytes) {
+        Ok(code) => Ok(code),
+        Err(fault) => Err(load_status(fault)),
+    }
+}
+
+/// `exec CODEFILE`: fetches the code file, reads the choices, loads the code, mounts the drive, runs, and keeps the record, in
+/// this order. All else is as for `run`.
+pub fn exec<F: Files, D: Drive, S: Source, T: Sink, P: Sink>(
+    alloc: Global,
+    file: &str,
+    options: Options<'_>,
+    files: &mut F,
+    drive: &mut D,
+    input: &mut S,
+    terminal: &mut T,
+    printer: &mut P,
+    kernel: &mut Kernel,
+) -> Ended
+    ensures came { Came result.status result.due (Some (words.exec file.now (options_of options.entry)))
+        (outside_of F.contents D.contents S.left T.taken P.taken files.old drive.old input.old terminal.old printer.old)
+        (outside_of F.contents D.contents S.left T.taken P.taken files.new drive.new input.new terminal.new printer.new)
+        (lent kernel.old.store kernel.old.used kernel.new.store kernel.new.used) }
+    ensures cause { HasCause result.status
+        (counts_of F.faults D.faults S.faults T.faults P.faults files.old drive.old input.old terminal.old printer.old)
+        (counts_of F.faults D.faults S.faults T.faults P.faults files.new drive.new input.new terminal.new printer.new) }
+    ensures later { NoneFalls
+        (counts_of F.faults D.faults S.faults T.faults P.faults files.old drive.old input.old terminal.old printer.old)
+        (counts_of F.faults D.faults S.faults T.faults P.faults files.new drive.new input.new terminal.new printer.new) }
+{
+    let bytes = match fetch(alloc, files, file, LIMIT) {
+        Ok(bytes) => bytes,
+        Err(status) => return stopped(status),
+    };
+    let mut choices = match read_from(alloc, files, options.choices) {
+        Ok(choices) => choices,
+        Err(status) => return stopped(status),
+    };
+    let code = match load_code(alloc, &bytes) {
+        Ok(code) => code,
+        Err(status) => return stopped(status),
+    };
+    run_code(
+        alloc,
+        &code,
+        options.turns,
+        options.record_file,
+        &mut choices,
+        files,
+        drive,
+        input,
+        terminal,
+        printer,
+        kernel,
+    )
+}

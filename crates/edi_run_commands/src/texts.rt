@@ -1,0 +1,165 @@
+//! `run` and `replay`: the program of a text.
+
+ghost use Rattle.std.specs.Prelude.{◌≡◌, Some, option_map};
+ghost use Rattle.edi_run_commands.specs.CodeRan.{refusal_status};
+ghost use Rattle.edi_run_commands.specs.RunMeans.{TextCame};
+ghost use Rattle.edi_words.specs.Words as words;
+ghost use Rattle.edi_words.specs.View.{choices_from, options_of};
+ghost use Rattle.edi_statuses.specs.Outside.{lent, outside_of};
+ghost use Rattle.edi_statuses.specs.Counts.{counts_of, HasCause, NoneFalls};
+ghost use Rattle.edi_statuses.specs.Means.{Came};
+
+use crate::code::{run_code, stopped};
+use edi_compile::{Refusal, compile};
+use edi_host::{Drive, Files, Sink, Source};
+use edi_kernel::Kernel;
+use edi_statuses::{Ended, Status};
+use edi_steps::{fetch, read_from};
+use edi_words::{ChoicesFrom, Options};
+use std::alloc::Global;
+
+/// As many bytes as decide what a text is.
+const LIMIT: usize = 262_145;
+
+/// The status of a command whose text is refused.
+fn refusal_status(refusal: Refusal) -> Status
+    ensures exact { result ≡ refusal_status refusal }
+{
+    match refusal {
+        Refusal::At { kind, line, .. } => Status::Refused(kind, line),
+        Refusal::NoMemory => Status::NoMemory,
+    }
+}
+
+/// Fetches the text of the file, reads the choices, compiles the text, and runs its code.
+fn run_text<F: Files, D: Drive, S: Source, T: Sink, P: Sink>(
+    alloc: Global,
+    file: &str,
+    from: ChoicesFrom<'_>,
+    turns: u32,
+    record_file: Option<&str>,
+    files: &mut F,
+    drive: &mut D,
+    input: &mut S,
+    terminal: &mut T,
+    printer: &mut P,
+    kernel: &mut Kernel,
+) -> Ended
+    ensures came { TextCame file.now (choices_from from.entry) turns (option_map (λ name. name.now) record_file.entry) result.status result.due
+        (outside_of F.contents D.contents S.left T.taken P.taken files.old drive.old input.old terminal.old printer.old)
+        (outside_of F.contents D.contents S.left T.taken P.taken files.new drive.new input.new terminal.new printer.new)
+        (lent kernel.old.store kernel.old.used kernel.new.store kernel.new.used) }
+    ensures cause { HasCause result.status
+        (counts_of F.faults D.faults S.faults T.faults P.faults files.old drive.old input.old terminal.old printer.old)
+        (counts_of F.faults D.faults S.faults T.faults P.faults files.new drive.new input.new terminal.new printer.new) }
+    ensures later { NoneFalls
+        (counts_of F.faults D.faults S.faults T.faults P.faults files.old drive.old input.old terminal.old printer.old)
+        (counts_of F.faults D.faults S.faults T.faults P.faults files.new drive.new input.new terminal.new printer.new) }
+{
+    let text = match fetch(alloc, files, file, LIMIT) {
+        Ok(text) => text,
+        Err(status) => return stopped(status),
+    };
+    let mut choices = match read_from(alloc, files, from) {
+        Ok(choices) => choices,
+        Err(status) => return stopped(status),
+    };
+    let code = match compile(alloc, &text) {
+        Ok(code) => code,
+        Err(refusal) => return stopped(refusal_status(refusal)),
+    };
+    run_code(
+        alloc,
+        &code,
+        turns,
+        record_file,
+        &mut choices,
+        files,
+        drive,
+        input,
+        terminal,
+        printer,
+        kernel,
+    )
+}
+
+/// `run FILE`: fetches the file, reads the choices, compiles, mounts the drive, runs, and keeps the record, in this order.
+///
+/// The kernel may have run anything before; it is left alone where nothing is run. What the status means, and how all that is
+/// outside stands behind the call, is told by `Came`: the first step that stops decides. Want of memory comes only before the first
+/// effect, or where the record is to be kept; the fault of an object only where its count rose.
+pub fn run<F: Files, D: Drive, S: Source, T: Sink, P: Sink>(
+    alloc: Global,
+    file: &str,
+    options: Options<'_>,
+    files: &mut F,
+    drive: &mut D,
+    input: &mut S,
+    terminal: &mut T,
+    printer: &mut P,
+    kernel: &mut Kernel,
+) -> Ended
+    ensures came { Came result.status result.due (Some (words.run file.now (options_of options.entry)))
+        (outside_of F.contents D.contents S.left T.taken P.taken files.old drive.old input.old terminal.old printer.old)
+        (outside_of F.contents D.contents S.left T.taken P.taken files.new drive.new input.new terminal.new printer.new)
+        (lent kernel.old.store kernel.old.used kernel.new.store kernel.new.used) }
+    ensures cause { HasCause result.status
+        (counts_of F.faults D.faults S.faults T.faults P.faults files.old drive.old input.old terminal.old printer.old)
+        (counts_of F.faults D.faults S.faults T.faults P.faults files.new drive.new input.new terminal.new printer.new) }
+    ensures later { NoneFalls
+        (counts_of F.faults D.faults S.faults T.faults P.faults files.old drive.old input.old terminal.old printer.old)
+        (counts_of F.faults D.faults S.faults T.faults P.faults files.new drive.new input.new terminal.new printer.new) }
+{
+    run_text(
+        alloc,
+        file,
+        options.choices,
+        options.turns,
+        options.record_file,
+        files,
+        drive,
+        input,
+        terminal,
+        printer,
+        kernel,
+    )
+}
+
+/// `replay FILE CHOICES`: as `run` with the choices of that file. No record is kept.
+pub fn replay<F: Files, D: Drive, S: Source, T: Sink, P: Sink>(
+    alloc: Global,
+    file: &str,
+    choices: &str,
+    turns: u32,
+    files: &mut F,
+    drive: &mut D,
+    input: &mut S,
+    terminal: &mut T,
+    printer: &mut P,
+    kernel: &mut Kernel,
+) -> Ended
+    ensures came { Came result.status result.due (Some (words.replay file.now choices.now turns))
+        (outside_of F.contents D.contents S.left T.taken P.taken files.old drive.old input.old terminal.old printer.old)
+        (outside_of F.contents D.contents S.left T.taken P.taken files.new drive.new input.new terminal.new printer.new)
+        (lent kernel.old.store kernel.old.used kernel.new.store kernel.new.used) }
+    ensures cause { HasCause result.status
+        (counts_of F.faults D.faults S.faults T.faults P.faults files.old drive.old input.old terminal.old printer.old)
+        (counts_of F.faults D.faults S.faults T.faults P.faults files.new drive.new input.new terminal.new printer.new) }
+    ensures later { NoneFalls
+        (counts_of F.faults D.faults S.faults T.faults P.faults files.old drive.old input.old terminal.old printer.old)
+        (counts_of F.faults D.faults S.faults T.faults P.faults files.new drive.new input.new terminal.new printer.new) }
+{
+    run_text(
+        alloc,
+        file,
+        ChoicesFrom::File(choices),
+        turns,
+        None,
+        files,
+        drive,
+        input,
+        terminal,
+        printer,
+        kernel,
+    )
+}
