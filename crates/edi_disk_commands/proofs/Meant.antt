@@ -1,0 +1,117 @@
+-- From what files and drive tell of a call to what its status means.
+use Rattle.std.proofs.Common.{◌≡◌, ◌⊎◌, inl, ℕ, List, [], Option, Some, None, refl, sym, subst}
+use Rattle.std.specs.Prelude.{IfSome}
+use Rattle.edi_told.specs.Told.{WhereTold}
+use Rattle.edi_host.specs.Files.{Contents}
+use Rattle.edi_words.specs.Words.{Command}
+use Rattle.edi_statuses.specs.declared.status.Status.{Status}
+use Rattle.edi_statuses.specs.Outside.{Outside, Kept, Keeps, Lent, SameInput, SamePrinted, seen, still_told}
+use Rattle.edi_statuses.specs.Commands.{IsNothing, OnlyBlocks, OnlyKeeps}
+use Rattle.edi_statuses.specs.Means.{ChangesDrive, HasNotBegun, Means}
+use Rattle.edi_disk_commands.specs.OnDisk.{MeansOnDisk, RestStays}
+
+abbrev pub Same : {A : Type 0} → Option A → Option A → Type 0
+Same old new = WhereTold old new (λ old new. new ≡ old)
+
+pub still : {A : Type 0} (P : A → A → Type 0) (old new : Option A) → WhereTold old new P → WhereTold (still_told old new) new P
+still P old None told = tt
+still P old (Some n) told = told
+
+pub itself : {A : Type 0} (a : Option A) → Same a a
+itself None = tt
+itself (Some x) = refl
+
+pub told_equal : {A : Type 0} (a b : Option A) → b ≡ a → Same a b
+told_equal a b e = subst (λ x. Same a x) (sym e) (itself a)
+
+-- what is told of the one before
+pub first_told : {A : Type 0} (P : A → A → Type 0) (Q : A → Type 0) (old new : Option A) → ((x y : A) → P x y → Q x) → WhereTold old new P
+    → IfSome (still_told old new) Q
+first_told P Q old None so told = tt
+first_told P Q None (Some y) so told = absurd told
+first_told P Q (Some x) (Some y) so told = so x y told
+
+pub told_so : {A : Type 0} (P Q : A → A → Type 0) (old new : Option A) → ((x y : A) → P x y → Q x y) → WhereTold old new P → WhereTold old new Q
+told_so P Q old None so told = tt
+told_so P Q None (Some y) so told = absurd told
+told_so P Q (Some x) (Some y) so told = so x y told
+
+-- one of two is so, and so of what is told, or nothing is told
+pub one_told : {A : Type 0} (P Q : A → A → Type 0) (old new : Option A) → WhereTold old new (λ x y. P x y ⊎ Q x y)
+    → WhereTold old new P ⊎ WhereTold old new Q
+one_told P Q old None told = inl tt
+one_told P Q None (Some y) told = absurd told
+one_told P Q (Some x) (Some y) told = told
+
+module _ (before after : Outside) (kernel : Lent) (rest : RestStays before after kernel) where
+  input_same : SameInput (seen before after) after
+  input_same = still (λ old new. new ≡ old) before.input after.input (told_equal before.input after.input rest.input)
+
+  printed_same : SamePrinted (seen before after) after
+  printed_same = still (λ old new. new ≡ old) before.printed after.printed (told_equal before.printed after.printed rest.printed)
+
+  pub nothing : Same before.files after.files → Same before.blocks after.blocks → IsNothing (seen before after) after [] kernel
+  nothing files blocks = record {
+    shown_ = refl;
+    same = record {
+      files = still (λ old new. new ≡ old) before.files after.files files;
+      blocks = still (λ old new. new ≡ old) before.blocks after.blocks blocks;
+      input = input_same;
+      printed = printed_same;
+    };
+    kernel_same = rest.kernel_same;
+  }
+
+  pub not_begun : Same before.blocks after.blocks → HasNotBegun (seen before after) after [] kernel
+  not_begun blocks = record {
+    shown_ = refl;
+    blocks = still (λ old new. new ≡ old) before.blocks after.blocks blocks;
+    input = input_same;
+    printed = printed_same;
+    kernel_same = rest.kernel_same;
+  }
+
+  pub only_blocks : (P : List (List ℕ) → List (List ℕ) → Type 0) → Same before.files after.files → WhereTold before.blocks after.blocks P
+      → OnlyBlocks P (seen before after) after [] kernel
+  only_blocks P files blocks = record {
+    shown_ = refl;
+    blocks = still P before.blocks after.blocks blocks;
+    files = still (λ old new. new ≡ old) before.files after.files files;
+    input = input_same;
+    printed = printed_same;
+    kernel_same = rest.kernel_same;
+  }
+
+  pub changes_drive : (P : List (List ℕ) → List (List ℕ) → Type 0) → WhereTold before.blocks after.blocks P
+      → ChangesDrive P (seen before after) after [] kernel
+  changes_drive P blocks = record {
+    shown_ = refl;
+    blocks = still P before.blocks after.blocks blocks;
+    input = input_same;
+    printed = printed_same;
+    kernel_same = rest.kernel_same;
+  }
+
+  pub only_keeps : (kept : List Kept) → Keeps (seen before after) after kept → Same before.blocks after.blocks
+      → OnlyKeeps kept (seen before after) after [] kernel
+  only_keeps kept keeps blocks = record {
+    shown_ = refl;
+    keeps = keeps;
+    blocks = still (λ old new. new ≡ old) before.blocks after.blocks blocks;
+    input = input_same;
+    printed = printed_same;
+    kernel_same = rest.kernel_same;
+  }
+
+-- what holds of the contents of files and drive holds of the outside that has them
+pub meant : (H : Option Contents → Option Contents → Option (List (List ℕ)) → Option (List (List ℕ)) → Type 0) (c : Command) (s : Status)
+    (old new : Option Contents) (held holds : Option (List (List ℕ))) → H old new held holds
+    → ((before after : Outside) (kernel : Lent) → RestStays before after kernel → H before.files after.files before.blocks after.blocks
+    → Means s (Some c) before after [] kernel)
+    → MeansOnDisk c s old new held holds
+meant H c s old new held holds h so = λ before after kernel e d f g rest.
+    so before after kernel rest
+    (subst (λ x. H x after.files before.blocks after.blocks) (sym e)
+    (subst (λ x. H old x before.blocks after.blocks) (sym d)
+    (subst (λ x. H old new x after.blocks) (sym f)
+    (subst (λ x. H old new held x) (sym g) h))))

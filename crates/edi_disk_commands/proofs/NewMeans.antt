@@ -1,0 +1,62 @@
+-- From a format to what the status of `newdisk` means.
+use Rattle.std.proofs.Common.{◌≡◌, ◌∙◌, inr, ℕ, List, [], length, Option, Some, None, refl}
+use Rattle.std.specs.Prelude.{IfSome}
+use Rattle.edi_told.specs.Told.{WhereTold}
+use Rattle.edi_host.specs.Files.{Contents}
+use Rattle.edi_catalog.specs.Ends.{FormatCounts, FormatLeaves}
+use Rattle.edi_catalog.specs.declared.formatting.FormatEnd.{FormatEnd}
+use Rattle.edi_catalog.specs.declared.formatting.FormatEnd.TheVariants as format
+use Rattle.edi_words.specs.Words.{newdisk}
+use Rattle.edi_statuses.specs.declared.status.Status.{Status}
+use Rattle.edi_statuses.specs.declared.status.Status.TheVariants as status
+use Rattle.edi_statuses.specs.Outside.{Lent, Outside}
+use Rattle.edi_statuses.specs.Commands.{AreNew}
+use Rattle.edi_statuses.specs.Means.{IsOpen, Means}
+use Rattle.edi_disk_commands.specs.OnDisk.{MeansOnDrive, RestStays}
+use Rattle.edi_disk_commands.proofs.Meant.{Same, changes_drive, itself, meant, nothing, only_blocks, still, told_so}
+
+-- the status by the answer of the format
+abbrev pub status_formatted : FormatEnd → Status
+status_formatted format.Ok = status.Ok
+status_formatted format.Fault = status.DriveFault
+status_formatted format.NoMemory = status.NoMemory
+
+-- so many blocks are told as there are
+counted_new : (count n : ℕ) (held holds : Option (List (List ℕ))) → IfSome holds (λ blocks. length blocks ≡ n) → n ≡ count
+    → WhereTold held holds (FormatLeaves format.Ok count) → WhereTold held holds (AreNew count)
+counted_new count n held None many is told = tt
+counted_new count n None (Some y) many is told = absurd told
+counted_new count n (Some x) (Some y) many is told = (many ∙ is, told.1)
+
+pub record Formats (end : FormatEnd) (count : ℕ) (old new : Option Contents) (held holds : Option (List (List ℕ))) : Type 0 where
+  pub files : Same old new
+  pub had : ℕ
+  pub has : ℕ
+  pub counted : IfSome holds (λ blocks. length blocks ≡ has)
+  pub counts : FormatCounts end count had has
+  pub leaves : WhereTold held holds (FormatLeaves end count)
+
+formats_means : (end : FormatEnd) (count : ℕ) (before after : Outside) (kernel : Lent) → RestStays before after kernel
+    → Formats end count before.files after.files before.blocks after.blocks → Means (status_formatted end) (Some (newdisk count None)) before after [] kernel
+formats_means format.Ok count before after kernel rest f =
+    inr (
+      count,
+      refl,
+      (
+        refl,
+        only_blocks before after kernel rest (AreNew count) f.files
+            (counted_new count f.has before.blocks after.blocks f.counted f.counts f.leaves),
+      ),
+    )
+formats_means format.Fault count before after kernel rest f = record {
+  files = still (λ old new. new ≡ old) before.files after.files f.files;
+  far = inr (changes_drive before after kernel rest IsOpen (told_so (FormatLeaves format.Fault count) IsOpen before.blocks after.blocks (λ x y h. tt) f.leaves));
+}
+formats_means format.NoMemory count before after kernel rest f = nothing before after kernel rest f.files f.leaves
+
+pub formatted_means : (end : FormatEnd) (count had has : ℕ) (held holds : Option (List (List ℕ))) → IfSome holds (λ blocks. length blocks ≡ has)
+    → FormatCounts end count had has → WhereTold held holds (FormatLeaves end count) → MeansOnDrive (newdisk count None) (status_formatted end) held holds
+formatted_means end count had has held holds counted counts leaves = λ files.
+    meant (Formats end count) (newdisk count None) (status_formatted end) files files held holds
+    (record { files = itself files; had = had; has = has; counted = counted; counts = counts; leaves = leaves })
+    (λ before after kernel rest f. formats_means end count before after kernel rest f)

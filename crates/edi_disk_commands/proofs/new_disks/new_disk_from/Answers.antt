@@ -1,0 +1,63 @@
+use Rattle.std.proofs.Common.{◌∙◌, Vec, ℕ, Global}
+use Rattle.edi_migrate.proofs.Limited.{first_bytes_decide}
+use Rattle.edi_migrate.specs.declared.migrating.MigrateEnd.TheVariants as end
+use Rattle.edi_statuses.specs.Outside.{still_told}
+use Rattle.edi_steps.specs.OnFiles.{files_only}
+use Rattle.edi_disk_commands.proofs.Meant.{itself}
+use Rattle.edi_disk_commands.proofs.OldMeans.{migrated_means, not_taken}
+use Rattle.edi_disk_commands.proofs.PutMeans.{fetch_stopped}
+use Rattle.edi_disk_commands.proofs.new_disks.new_disk_from.Goals as goal
+
+pub returns-in-Err-clause-means : goal.returns-in-Err-clause-means
+returns-in-Err-clause-means g c =
+    not_taken c.in-Err.status c.args.blocks c.args.file.now (g.F.Files.contents c.args.files.now) (g.F.Files.contents c.fetch.new.files)
+    (g.D.Drive.contents c.args.drive.now) (g.D.Drive.contents c.args.drive.now)
+    (record {
+      why =
+          fetch_stopped (λ (v : Vec ℕ Global). v.items) (files_only (still_told (g.F.Files.contents c.args.files.now) (g.F.Files.contents c.fetch.new.files)))
+          c.args.file.now 2097664 c.in-Err.status c.in-Err.ensures.fetched;
+      files = c.in-Err.ensures.unchanged;
+      blocks = itself (g.D.Drive.contents c.args.drive.now);
+    })
+
+pub returns-in-Ok-migrate-clause-means : goal.returns-in-Ok-migrate-clause-means
+returns-in-Ok-migrate-clause-means g c =
+    let f = c.in-Ok.ensures.fetched in
+    migrated_means first_bytes_decide end.Ok c.args.blocks c.requires.least c.args.file.now c.deref.result.now (g.F.Files.contents c.args.files.now)
+    (g.F.Files.contents c.fetch.new.files) (g.D.Drive.contents c.args.drive.now) (g.D.Drive.contents c.migrate.new.drive)
+    (record {
+      all = f.0;
+      fetched = f.1;
+      front = c.deref.ensures.value ∙ f.2;
+      files = c.in-Ok.ensures.unchanged;
+      answers = c.in-Ok-migrate.ensures.answers;
+      leaves = c.in-Ok-migrate.ensures.leaves;
+    })
+
+pub returns-in-Image-clause-means : goal.returns-in-Image-clause-means
+returns-in-Image-clause-means g c =
+    let f = c.in-Ok.ensures.fetched in
+    migrated_means first_bytes_decide (end.Image c.in-Image.broken) c.args.blocks c.requires.least c.args.file.now c.deref.result.now (g.F.Files.contents c.args.files.now)
+    (g.F.Files.contents c.fetch.new.files) (g.D.Drive.contents c.args.drive.now) (g.D.Drive.contents c.migrate.new.drive)
+    (record {
+      all = f.0;
+      fetched = f.1;
+      front = c.deref.ensures.value ∙ f.2;
+      files = c.in-Ok.ensures.unchanged;
+      answers = c.in-Image.ensures.answers;
+      leaves = c.in-Image.ensures.leaves;
+    })
+
+pub returns-in-Full-clause-means : goal.returns-in-Full-clause-means
+returns-in-Full-clause-means g c =
+    let f = c.in-Ok.ensures.fetched in
+    migrated_means first_bytes_decide (end.Full c.in-Full.wanted c.in-Full.free) c.args.blocks c.requires.least c.args.file.now c.deref.result.now (g.F.Files.contents c.args.files.now)
+    (g.F.Files.contents c.fetch.new.files) (g.D.Drive.contents c.args.drive.now) (g.D.Drive.contents c.migrate.new.drive)
+    (record {
+      all = f.0;
+      fetched = f.1;
+      front = c.deref.ensures.value ∙ f.2;
+      files = c.in-Ok.ensures.unchanged;
+      answers = c.in-Full.ensures.answers;
+      leaves = c.in-Full.ensures.leaves;
+    })

@@ -1,0 +1,44 @@
+use Rattle.std.proofs.Common.{◌∙◌, subst, Vec, ℕ, Global, rules}
+use Rattle.edi_words.specs.Words.{put}
+use Rattle.edi_statuses.specs.Outside.{still_told}
+use Rattle.edi_steps.specs.OnFiles.{files_only}
+use Rattle.edi_disk_commands.specs.OnDisk.{MeansOnDisk}
+use Rattle.edi_disk_commands.proofs.Meant.{itself}
+use Rattle.edi_disk_commands.proofs.PutMeans.{fetch_stopped, has_put, not_fit, not_put}
+use Rattle.edi_disk_commands.proofs.puts.put.Goals as goal
+
+pub returns-in-Err-clause-means : goal.returns-in-Err-clause-means
+returns-in-Err-clause-means g c =
+    not_put c.in-Err.status c.args.file.now c.args.title.now (g.F.Files.contents c.args.files.now) (g.F.Files.contents c.fetch.new.files)
+    (g.D.Drive.contents c.args.drive.now) (g.D.Drive.contents c.args.drive.now)
+    (record {
+      why =
+          fetch_stopped (λ (v : Vec ℕ Global). v.items) (files_only (still_told (g.F.Files.contents c.args.files.now) (g.F.Files.contents c.fetch.new.files)))
+          c.args.file.now 261121 c.in-Err.status c.in-Err.ensures.fetched;
+      files = c.in-Err.ensures.unchanged;
+      blocks = itself (g.D.Drive.contents c.args.drive.now);
+    })
+
+pub returns-then-len-gt-MOST-clause-means : goal.returns-then-len-gt-MOST-clause-means
+returns-then-len-gt-MOST-clause-means g c =
+    let f = c.in-Ok.ensures.fetched in
+    not_fit c.args.file.now c.args.title.now c.in-Ok.bytes.items (g.F.Files.contents c.args.files.now) (g.F.Files.contents c.fetch.new.files)
+    (g.D.Drive.contents c.args.drive.now) (g.D.Drive.contents c.args.drive.now)
+    (record {
+      has = record { all = f.0; fetched = f.1; front = f.2; files = c.in-Ok.ensures.unchanged };
+      long = search rules;
+      blocks = itself (g.D.Drive.contents c.args.drive.now);
+    })
+
+pub returns-clause-means : goal.returns-clause-means
+returns-clause-means g c =
+    let f = c.in-Ok.ensures.fetched in
+    subst (λ title. MeansOnDisk (put c.args.file.now title) c.put_on.result (g.F.Files.contents c.args.files.now) (g.F.Files.contents c.fetch.new.files)
+    (g.D.Drive.contents c.args.drive.now) (g.D.Drive.contents c.put_on.new.drive)) c.title_of.ensures.exact
+    (has_put c.put_on.result c.args.file.now c.title_of.result c.deref.result.now (g.F.Files.contents c.args.files.now) (g.F.Files.contents c.fetch.new.files)
+    (g.D.Drive.contents c.args.drive.now) (g.D.Drive.contents c.put_on.new.drive) c.put_on.ensures.kind
+    (record {
+      has = record { all = f.0; fetched = f.1; front = c.deref.ensures.value ∙ f.2; files = c.in-Ok.ensures.unchanged };
+      short = search rules;
+      blocks = c.put_on.ensures.puts;
+    }))

@@ -1,0 +1,43 @@
+use Rattle.std.proofs.Common.{◌≡◌, ◌∙◌, ◌++◌, ap, drop, length, rules, subst, sym, take}
+use Rattle.std.proofs.Math.Seq.{take-append_seam}
+use Rattle.edi_words.specs.Words.{get}
+use Rattle.edi_disk_commands.specs.OnDisk.{IsOfDisk, MeansOnDisk}
+use Rattle.edi_disk_commands.specs.OnDrive.{status_kept}
+use Rattle.edi_disk_commands.proofs.Meant.{itself}
+use Rattle.edi_disk_commands.proofs.GetMeans.{has_read, kept_drive, kept_failed, kept_of_disk, not_read, read_of_disk}
+use Rattle.edi_disk_commands.proofs.reads.get.Goals as goal
+
+pub returns-in-Err-clause-means : goal.returns-in-Err-clause-means
+returns-in-Err-clause-means g c =
+    let files = g.F.Files.contents c.args.files.now in
+    subst (λ title. MeansOnDisk (get title c.args.file.now) c.in-Err.status files files (g.D.Drive.contents c.args.drive.now) (g.D.Drive.contents c.read_on.new.drive))
+    c.title_of-title.ensures.exact
+    (not_read c.in-Err.status c.title_of-title.result c.args.file.now c.read_on.new.into files files (g.D.Drive.contents c.args.drive.now)
+    (g.D.Drive.contents c.read_on.new.drive) c.in-Err.ensures.kind (record { files = itself files; blocks = c.in-Err.ensures.reads }))
+
+pub returns-in-Err-clause-kind : goal.returns-in-Err-clause-kind
+returns-in-Err-clause-kind g c = read_of_disk c.in-Err.status c.in-Err.ensures.kind
+
+pub returns-clause-means : goal.returns-clause-means
+returns-clause-means g c =
+    let old = g.F.Files.contents c.args.files.now in
+    let new = g.F.Files.contents c.keep.new.self in
+    let held = g.D.Drive.contents c.args.drive.now in
+    let holds = g.D.Drive.contents c.read_on.new.drive in
+    let into = c.read_on.new.into in
+    let rest = drop (length into) c.in-Ok.into.items in
+    let same : length into ≡ c.in-Ok.into.len = search rules in
+    let back : take c.in-Ok.into.len (into ++ rest) ≡ into = ap (λ k. take k (into ++ rest)) (sym same) ∙ take-append_seam into rest in
+    subst (λ s. MeansOnDisk (get c.args.title.now c.args.file.now) s old new held holds) (sym c.kept.ensures.exact)
+    (subst (λ title. MeansOnDisk (get title c.args.file.now) (status_kept c.keep.result) old new held holds) c.title_of-title.ensures.exact
+    (has_read c.keep.result c.in-Ok-read_on.count c.title_of-title.result c.args.file.now c.read_on.new.into c.split_at.result.0.now old new held holds
+    (record { files = c.keep.ensures.leaves; bytes_are = c.split_at.ensures.front ∙ ap (λ x. take c.in-Ok-read_on.count x) (c.deref.ensures.value ∙ back); blocks = c.in-Ok-read_on.ensures.reads })))
+
+pub returns-clause-kind : goal.returns-clause-kind
+returns-clause-kind g c = subst (λ s. IsOfDisk s) (sym c.kept.ensures.exact) (kept_of_disk c.keep.result)
+
+pub returns-clause-cause_files : goal.returns-clause-cause_files
+returns-clause-cause_files g c = λ e. c.keep.ensures.cause (kept_failed c.keep.result (sym c.kept.ensures.exact ∙ e))
+
+pub returns-clause-cause_drive : goal.returns-clause-cause_drive
+returns-clause-cause_drive g c = λ e. absurd (kept_drive c.keep.result (sym c.kept.ensures.exact ∙ e))

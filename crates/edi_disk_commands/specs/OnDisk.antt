@@ -1,0 +1,31 @@
+-- Words of contracts. What a command answers that touches the drive alone, or the files and the drive.
+use Rattle.std.specs.Prelude.{◌≡◌, ℕ, List, [], Option, Some, ⊤}
+use Rattle.edi_host.specs.Files.{Contents}
+use Rattle.edi_words.specs.Words.{Command}
+use Rattle.edi_statuses.specs.declared.status.Status.{Status}
+use Rattle.edi_statuses.specs.declared.status.Status.TheVariants as status
+use Rattle.edi_statuses.specs.Outside.{Outside, Lent}
+use Rattle.edi_statuses.specs.Means.{Means}
+
+-- the input, the printer and the kernel are as before
+pub record RestStays (before after : Outside) (kernel : Lent) : Type 0 where
+  pub input : after.input ≡ before.input
+  pub printed : after.printed ≡ before.printed
+  pub kernel_same : kernel.after ≡ kernel.before
+
+-- The command has come to this status, and has shown nothing before its line, whatever the other objects and the kernel are, which
+-- stay as they are.
+abbrev pub MeansOnDisk : Command → Status → (old new : Option Contents) → (held holds : Option (List (List ℕ))) → Type 0
+MeansOnDisk c s old new held holds =
+    (before after : Outside) (kernel : Lent) → before.files ≡ old → after.files ≡ new → before.blocks ≡ held → after.blocks ≡ holds
+    → RestStays before after kernel → Means s (Some c) before after [] kernel
+
+-- so, where the files are as before too
+abbrev pub MeansOnDrive : Command → Status → (held holds : Option (List (List ℕ))) → Type 0
+MeansOnDrive c s held holds = (files : Option Contents) → MeansOnDisk c s files files held holds
+
+-- no object but the files and the drive has failed
+abbrev pub IsOfDisk : Status → Type 0
+IsOfDisk status.InputFault = ⊥
+IsOfDisk status.OutputFault = ⊥
+IsOfDisk _ = ⊤

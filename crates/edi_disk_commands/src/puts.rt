@@ -1,0 +1,73 @@
+//! `put FILE TITLE`.
+
+ghost use Rattle.std.specs.Prelude.{◌≡◌, ◌≤◌, true, length};
+ghost use Rattle.edi_told.specs.Faults.{CountRose};
+ghost use Rattle.edi_told.specs.Told.{WhereTold};
+ghost use Rattle.edi_calls.specs.State.{is_title, most_bytes};
+ghost use Rattle.edi_words.specs.Words.{put};
+ghost use Rattle.edi_disk_commands.specs.OnDisk.{IsOfDisk, MeansOnDisk};
+ghost use Rattle.edi_disk_commands.specs.OnDrive.{IsOfPut, PutsOn};
+
+use crate::mounting::refused;
+use crate::storing::store_over;
+use crate::titles::title_of;
+use edi_catalog::{CatEnd, Title, check, mount};
+use edi_disk::Disk;
+use edi_host::{Drive, Files};
+use edi_statuses::Status;
+use edi_steps::fetch;
+use std::alloc::Global;
+
+/// As many bytes as decide whether a file is too long for a disk.
+const LIMIT: usize = 261_121;
+
+/// The greatest number of bytes of a file.
+const MOST: usize = 261_120;
+
+/// Mounts the drive, and stores bytes on it as the file of a title.
+fn put_on<D: Drive>(alloc: Global, drive: &mut D, title: &Title, bytes: &[u8]) -> Status
+    requires most { length bytes.now ≤ most_bytes }
+    ensures puts { WhereTold (D.contents drive.old) (D.contents drive.new) (PutsOn result title.now bytes.now) }
+    ensures kind { IsOfPut result }
+    ensures later { D.faults drive.old ≤ D.faults drive.new }
+    ensures cause { result ≡ Status.DriveFault → CountRose (D.faults drive.old) (D.faults drive.new) }
+{
+    let mut disk = Disk::attach(drive);
+    let mut room = match check(alloc, &mut disk) {
+        Ok(room) => room,
+        Err(fault) => return refused(fault),
+    };
+    let mut catalog = mount(disk, &mut room);
+    match store_over(&mut catalog, title, bytes) {
+        Ok(()) => Status::Ok,
+        Err(CatEnd::Fault) => Status::DriveFault,
+        Err(_) => Status::DiskFull,
+    }
+}
+
+/// Fetches the file, checks its length, mounts the drive, and stores the file unprotected in place of any file of the title,
+/// protected or not. It touches the files and the drive alone.
+pub fn put<F: Files, D: Drive>(
+    alloc: Global,
+    files: &mut F,
+    drive: &mut D,
+    file: &str,
+    title: &str,
+) -> Status
+    requires title { is_title title.now ≡ true }
+    ensures means { MeansOnDisk (put file.now title.now) result (F.contents files.old) (F.contents files.new) (D.contents drive.old) (D.contents drive.new) }
+    ensures kind { IsOfDisk result }
+    ensures later_files { F.faults files.old ≤ F.faults files.new }
+    ensures later_drive { D.faults drive.old ≤ D.faults drive.new }
+    ensures cause_files { result ≡ Status.FileFault → CountRose (F.faults files.old) (F.faults files.new) }
+    ensures cause_drive { result ≡ Status.DriveFault → CountRose (D.faults drive.old) (D.faults drive.new) }
+{
+    let bytes = match fetch(alloc, files, file, LIMIT) {
+        Ok(bytes) => bytes,
+        Err(status) => return status,
+    };
+    if bytes.len() > MOST {
+        return Status::FileLarge;
+    }
+    put_on(alloc, drive, &title_of(title), &bytes)
+}
