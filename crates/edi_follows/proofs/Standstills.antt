@@ -147,7 +147,7 @@ module _ (g : Coded) (claim : StepClaim g) (cohere : StepsCohere) (queues : Step
   Main n =
       (s : Processes) (t : Machine) (p : Name) (others marks : List Name) (drawn : ℕ) → Taken g s t p others marks → StateGood s → Runs t p others drawn →
       (end : Traced) (turns d : ℕ) (order : List Name) → select g.unit choices n s marks p others drawn ≡ finished outcome.standstill end turns d order →
-          Stands d
+      Stands d
 
   module _ (n : ℕ) (main : Main n) (t : Machine) (past : List State) (p : Name) (others marks : List Name) (drawn : ℕ) (end : Traced) (turns d : ℕ)
       (order : List Name) (r : Runs t p others drawn) where
@@ -172,7 +172,7 @@ module _ (g : Coded) (claim : StepClaim g) (cohere : StepsCohere) (queues : Step
     tested_stands : (b : Bool) (s : Processes) (next : Next) (quiet : Bool) → LandsTested g none b t past p others marks s next →
         QueueAfter p others (source.went s next quiet) → StateGood s →
         (if b then finished outcome.standstill s.world.system s.world.turns drawn [] else selection.after_next choices
-            (select g.unit choices n s marks) s p others drawn next)
+        (select g.unit choices n s marks) s p others drawn next)
         ≡ finished outcome.standstill end turns d order → Stands d
     tested_stands true s next quiet h q good e = stood t past p others drawn d outcome.standstill s.world.system s.world.turns h refl (same_drawn e) r
     tested_stands false s next quiet h q good e = next_stands s next quiet h q good e
@@ -185,7 +185,7 @@ module _ (g : Coded) (claim : StepClaim g) (cohere : StepsCohere) (queues : Step
       stood t past p others drawn d e y left h (same_ending f) (same_drawn f) r
   step_stands n main t past p others marks drawn end turns d order r (source.went s next quiet) h q good f =
       tested_stands n main t past p others (marked quiet p marks) drawn end turns d order r
-          (is_standstill quiet (marked quiet p marks) (p ∷ others)) s next quiet h q good f
+      (is_standstill quiet (marked quiet p marks) (p ∷ others)) s next quiet h q good f
 
   main : (n : ℕ) → Main n
   main zero s t p others marks drawn k good r end turns d order e = absurd (cc)
@@ -194,7 +194,7 @@ module _ (g : Coded) (claim : StepClaim g) (cohere : StepsCohere) (queues : Step
       (selection.after_step choices (select g.unit choices n) p others marks drawn (source.step g.unit s p) ≡ finished outcome.standstill end turns d rest)
       × (p ∷ rest ≡ order) =
       stepped_before p (selection.after_step choices (select g.unit choices n) p others marks drawn (source.step g.unit s p)) outcome.standstill end turns d
-          order e in
+      order e in
       step_stands n (main n) t s.world.system.past p others marks drawn end turns d before.0 r (source.step g.unit s p)
       (claim none s t p others marks k (λ a x y. x)) (queues g.unit s p others k.kept.coherent k.queue) (step_good g.unit have s p good) before.1
 
@@ -204,7 +204,7 @@ module _ (g : Coded) (claim : StepClaim g) (start : StartClaim g) (cohere : Step
     (choices : Choices) (system : State) where
   begun : (n bound : ℕ) (end : Traced) (turns d : ℕ) (order : List Name) →
       selection.after_step choices (select g.unit choices n) [] [] [] 0 (source.step g.unit (source.start g.unit system bound) []) ≡ finished
-          outcome.standstill end turns d order →
+      outcome.standstill end turns d order →
       Stands g claim cohere queues have choices system bound d
   begun n zero end turns d order e = absurd (cc)
   begun n (suc k) end turns d order e =
@@ -225,10 +225,10 @@ module _ (g : Coded) (claim : StepClaim g) (start : StartClaim g) (cohere : Step
       go (suc n) h =
           let before : (rest : List Name) ×
           (selection.after_step choices (select g.unit choices n) [] [] [] 0 (source.step g.unit (source.start g.unit system bound) []) ≡ finished
-              outcome.standstill end turns d rest)
+          outcome.standstill end turns d rest)
           × ([] ∷ rest ≡ order) =
           stepped_before [] (selection.after_step choices (select g.unit choices n) [] [] [] 0 (source.step g.unit (source.start g.unit system bound) []))
-              outcome.standstill end turns d order h in
+          outcome.standstill end turns d order h in
           begun n bound end turns d before.0 before.1
 
   module _ (bound : ℕ) where

@@ -98,7 +98,7 @@ the_drive_comes_last files code_file store used = (
 
 pub code_is_listed : (files : Contents) → map.get files (codes "c") ≡ Some (code_bytes shows_a)
     → EndsSo status.Ok (codes "list" ∷ codes "c" ∷ []) files []
-      (codes "      0 ENTRY 9 0 3 0 0\n      6 CONST 97\n      8 CALLP 0 5 1\n     12 RETURN 0 0\n")
+    (codes "      0 ENTRY 9 0 3 0 0\n      6 CONST 97\n      8 CALLP 0 5 1\n     12 RETURN 0 0\n")
 unfolding decode code_bytes code_fault_of words_fault digits
 code_is_listed files code_file store used = (
   codes "      0 ENTRY 9 0 3 0 0\n      6 CONST 97\n      8 CALLP 0 5 1\n     12 RETURN 0 0\n",
@@ -108,7 +108,7 @@ code_is_listed files code_file store used = (
     (
       refl,
       record { shown_ = refl; same = record { files = refl; blocks = refl; input = refl; printed = refl }; kernel_same = refl },
-    )
+    ),
   ),
   refl,
 )
