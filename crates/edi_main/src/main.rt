@@ -1,7 +1,8 @@
-//! The program `edison`: the top call over the host's files, its standard input and output.
+//! The program `edison`: the top call over the host's files and drive, its standard input and output, and a kernel.
 #![tactic(auto)]
 
 use edi_host::{HostDrive, HostFiles, HostSink, HostSource};
+use edi_kernel::Kernel;
 use edi_top::{Status, edison};
 use std::env;
 use std::io::{self, ErrorKind, Input};
@@ -21,6 +22,9 @@ fn main(rt: HostRuntime) -> ExitCode {
     let Ok(words) = words_of(&rt) else {
         return ExitCode::from(Status::NoMemory.number());
     };
+    let Ok(mut kernel) = Kernel::new(rt.alloc()) else {
+        return ExitCode::from(Status::NoMemory.number());
+    };
     let mut files = HostFiles::new(&rt);
     let mut drive = HostDrive::new(&rt);
     let mut input = HostSource::new(rt.reader());
@@ -33,6 +37,7 @@ fn main(rt: HostRuntime) -> ExitCode {
         &mut input,
         &mut terminal,
         &mut printer,
+        &mut kernel,
     );
     ExitCode::from(status.number())
 }

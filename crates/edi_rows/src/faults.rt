@@ -1,53 +1,137 @@
-//! Files and a terminal that fail.
+//! Objects that fail.
 
-use crate::call::{SHOWS_ABC, call, files_with};
-use edi_host::MemorySink;
-use edi_top::Status;
+use crate::images::{HEADER, zeros_but};
+use crate::programs;
+use crate::world::{Failing, World};
 use std::test::Fail;
 
 #[test]
-fn a_file_fault_is_told_once(rt: HostRuntime) -> Result<(), Fail> {
+fn a_fault_is_told(rt: HostRuntime) -> Result<(), Fail> {
     let alloc = rt.alloc();
-    let mut files = files_with(&rt, alloc, SHOWS_ABC.as_bytes(), &[1])?;
-    let mut terminal = MemorySink::new(alloc, 64, &[])?;
-    let (first, untouched) = call(alloc, &["run", "f"], &mut files, &mut terminal)?;
-    assert_eq!(rt; first, Status::FileFault);
-    assert_eq!(rt; first.number(), 6);
-    assert!(rt; untouched);
-    assert_eq!(rt; terminal.bytes(), b"file fault\n".as_slice());
-    let (second, _) = call(alloc, &["run", "f"], &mut files, &mut terminal)?;
-    assert_eq!(rt; second, Status::Ok);
-    assert_eq!(rt; terminal.bytes(), b"file fault\nabc".as_slice());
+    // The last column is the file of the record.
+    let rows: [(&str, &str, Failing, u8, &str, &str); 13] = [
+        (
+            "run f",
+            programs::SHOWS_A,
+            Failing::Files(1),
+            6,
+            "file fault\n",
+            "none",
+        ),
+        (
+            "run f --choices f",
+            programs::SHOWS_A,
+            Failing::Files(2),
+            6,
+            "file fault\n",
+            "none",
+        ),
+        (
+            "run f --record r",
+            programs::SHOWS_A,
+            Failing::Files(2),
+            6,
+            "a\nfile fault\n",
+            "none",
+        ),
+        (
+            "compile f r",
+            programs::SHOWS_A,
+            Failing::Files(2),
+            6,
+            "file fault\n",
+            "none",
+        ),
+        (
+            "run f --record r",
+            programs::ACCEPTS,
+            Failing::Input(1),
+            8,
+            "input fault\n",
+            "none",
+        ),
+        (
+            "run f --record r",
+            programs::ACCEPTS,
+            Failing::Input(2),
+            8,
+            "x\ninput fault\n",
+            "none",
+        ),
+        ("run f", programs::ALIASES, Failing::Room(1), 9, "1", "none"),
+        (
+            "run f --record r",
+            programs::ALIASES,
+            Failing::Terminal(2),
+            9,
+            "1",
+            "none",
+        ),
+        ("run a", programs::SHOWS_A, Failing::Room(0), 9, "", "none"),
+        (
+            "run a",
+            programs::SHOWS_A,
+            Failing::Room(3),
+            9,
+            "abs",
+            "none",
+        ),
+        (
+            "run",
+            programs::SHOWS_A,
+            Failing::Terminal(1),
+            9,
+            "",
+            "none",
+        ),
+        (
+            "run f --turns 1 --record r",
+            programs::SHOWS_A,
+            Failing::Terminal(2),
+            9,
+            "a",
+            "",
+        ),
+        (
+            "compile f r",
+            programs::TWICE,
+            Failing::Room(0),
+            9,
+            "",
+            "none",
+        ),
+    ];
+    for (words, text, failing, number, shown, kept) in rows {
+        let mut world = World::new(&rt, alloc, text.as_bytes(), b"", "xy", &failing)?;
+        assert_eq!(rt; world.call(alloc, words)?, number, "{words} {text}");
+        assert_eq!(rt; world.terminal.bytes(), shown.as_bytes(), "{words} {text}");
+        assert_eq!(rt; world.kept(), kept.as_bytes(), "{words} {text}");
+    }
     Ok(())
 }
 
+// A drive that fails at one of its calls: the fault is told where the call is made.
 #[test]
-fn a_terminal_that_fails_has_shown_the_front(rt: HostRuntime) -> Result<(), Fail> {
+fn a_drive_fault_is_told(rt: HostRuntime) -> Result<(), Fail> {
     let alloc = rt.alloc();
-    let good: &[&str] = &["run", "f"];
-    let bad: &[&str] = &["run"];
-    let absent: &[&str] = &["run", "a"];
-    // The words, the room of the terminal, the put that fails (none has the number 0), and what is shown.
-    let cases: [(&[&str], usize, u64, Status, &str); 9] = [
-        (good, 0, 0, Status::OutputFault, ""),
-        (good, 2, 0, Status::OutputFault, "ab"),
-        (good, 3, 0, Status::Ok, "abc"),
-        (good, 64, 1, Status::OutputFault, ""),
-        (good, 64, 3, Status::OutputFault, "ab"),
-        (good, 64, 4, Status::Ok, "abc"),
-        (bad, 3, 0, Status::OutputFault, "bad"),
-        (bad, 64, 1, Status::OutputFault, ""),
-        (absent, 6, 0, Status::OutputFault, "absent"),
-    ];
-    for (words, room, failing, wanted, shown) in cases {
-        let mut files = files_with(&rt, alloc, SHOWS_ABC.as_bytes(), &[])?;
-        let mut terminal = MemorySink::new(alloc, room, &[failing])?;
-        let (status, untouched) = call(alloc, words, &mut files, &mut terminal)?;
-        assert_eq!(rt; status, wanted, "{room} {failing}");
-        assert!(rt; untouched);
-        assert_eq!(rt; terminal.bytes(), shown.as_bytes(), "{room} {failing}");
+    let image = zeros_but(alloc, 32_768, &HEADER)?;
+    for call in 1..50u64 {
+        let mut world = World::new(
+            &rt,
+            alloc,
+            programs::SHOWS_A.as_bytes(),
+            &image,
+            "",
+            &Failing::Drive(call),
+        )?;
+        let number = world.call(alloc, "run f")?;
+        if call == 1 || number != 0 {
+            assert_eq!(rt; number, 7);
+            assert_eq!(rt; world.terminal.bytes(), b"drive fault\n".as_slice());
+        } else {
+            assert_eq!(rt; world.terminal.bytes(), b"a".as_slice());
+        }
+        assert_eq!(rt; world.drive.bytes(), image.as_slice());
     }
-    assert_eq!(rt; Status::OutputFault.number(), 9);
-    assert_eq!(rt; Status::NoMemory.number(), 5);
     Ok(())
 }

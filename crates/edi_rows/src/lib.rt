@@ -2,10 +2,14 @@
 #![tactic(auto)]
 
 #[cfg(test)]
-mod call;
+mod code_files;
 #[cfg(test)]
 mod faults;
 #[cfg(test)]
-mod texts;
+mod images;
 #[cfg(test)]
-mod words;
+mod programs;
+#[cfg(test)]
+mod rows;
+#[cfg(test)]
+mod world;

@@ -1,4 +1,1 @@
-mod ShownLemmas
-mod TextLemmas
-mod MachineLemmas
-mod StatusLemmas
+pub mod Obeyed

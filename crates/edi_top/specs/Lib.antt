@@ -1,9 +1,1 @@
-pub mod Status
-pub mod Command
-pub mod Lines
-pub mod Shown
-pub mod Small
-pub mod Plain
-pub mod Code
-pub mod Verdict
-pub mod Top
+pub mod Built

@@ -1,94 +1,116 @@
 //! The call that does all that the program does.
 
-ghost use Rattle.std.specs.Prelude.{◌≡◌, ◌⊎◌, ◌≤◌, ◌++◌, ℕ, List, [], None, map};
+ghost use Rattle.std.specs.Prelude.{◌≡◌, ◌⊎◌, ◌≤◌, ℕ, List, None, Some, false, map};
 ghost use Rattle.std.specs.String.{string_bytes};
 ghost use Rattle.edi_told.specs.Faults.{CountRose};
-ghost use Rattle.edi_told.specs.Told.{WhereTold};
-ghost use Rattle.edi_top.specs.declared.status.Status.{Status};
-ghost use Rattle.edi_top.specs.Command.{file_to_run};
-ghost use Rattle.edi_top.specs.Lines.{closing};
-ghost use Rattle.edi_top.specs.Shown.{Shows};
-ghost use Rattle.edi_top.specs.Top.{Seen, Means, Performs, Ends, OneStatus};
+ghost use Rattle.edi_words.specs.Words.{command_of};
+ghost use Rattle.edi_words.specs.View.{view};
+ghost use Rattle.edi_top.specs.Built.{built};
+ghost use Rattle.edi_statuses.specs.Outside.{lent, outside_of, Shows};
+ghost use Rattle.edi_statuses.specs.Counts.{counts_of, HasCause, NoneFalls};
+ghost use Rattle.edi_statuses.specs.Means.{does, uses_devices, uses_drive, Came, EndsWith};
 
-use crate::lines::refusal_line;
-use crate::small::run;
-use crate::status::Status;
-use crate::terminal::show_line;
-use crate::words::file_to_run;
-use edi_host::{Drive, FetchEnd, Files, Sink, Source};
+use edi_host::{Drive, Files, Sink, Source};
+use edi_kernel::Kernel;
+use edi_run_commands::{exec, replay, run};
+use edi_statuses::{Ended, Status, show_status};
+use edi_text_commands::compile_file;
+use edi_words::{Command, command};
 use std::alloc::Global;
 
-/// The most bytes of a text that are fetched: one more than a text may have.
-const FETCH_LIMIT: usize = 262145;
+/// Where nothing was shown.
+fn silent(status: Status) -> Ended
+    ensures status { result.status ≡ status }
+    ensures due { result.due ≡ false }
+{
+    Ended { status, due: false }
+}
 
-// Fetches the file, compiles and runs it.
-fn perform<F: Files, T: Sink>(
+// Does what the command says. The line of the status is still to be shown.
+fn perform<F: Files, D: Drive, S: Source, T: Sink, P: Sink>(
+    alloc: Global,
+    command: Command<'_>,
+    files: &mut F,
+    drive: &mut D,
+    input: &mut S,
+    terminal: &mut T,
+    printer: &mut P,
+    kernel: &mut Kernel,
+) -> Ended
+    ensures came { Came result.status result.due (built (Some (view command.entry)))
+        (outside_of F.contents D.contents S.left T.taken P.taken files.old drive.old input.old terminal.old printer.old)
+        (outside_of F.contents D.contents S.left T.taken P.taken files.new drive.new input.new terminal.new printer.new)
+        (lent kernel.old.store kernel.old.used kernel.new.store kernel.new.used) }
+    ensures cause { HasCause result.status
+        (counts_of F.faults D.faults S.faults T.faults P.faults files.old drive.old input.old terminal.old printer.old)
+        (counts_of F.faults D.faults S.faults T.faults P.faults files.new drive.new input.new terminal.new printer.new) }
+    ensures later { NoneFalls
+        (counts_of F.faults D.faults S.faults T.faults P.faults files.old drive.old input.old terminal.old printer.old)
+        (counts_of F.faults D.faults S.faults T.faults P.faults files.new drive.new input.new terminal.new printer.new) }
+    ensures no_files { built (Some (view command.entry)) ≡ None → files.new ≡ files.old }
+    ensures no_drive { does uses_drive (built (Some (view command.entry))) ≡ false → drive.new ≡ drive.old }
+    ensures no_input { does uses_devices (built (Some (view command.entry))) ≡ false → input.new ≡ input.old }
+    ensures no_printer { does uses_devices (built (Some (view command.entry))) ≡ false → printer.new ≡ printer.old }
+    ensures no_kernel { does uses_devices (built (Some (view command.entry))) ≡ false → kernel.new ≡ kernel.old }
+{
+    match command {
+        Command::Run { file, options } => run(
+            alloc, file, options, files, drive, input, terminal, printer, kernel,
+        ),
+        Command::Replay {
+            file,
+            choices,
+            turns,
+        } => replay(
+            alloc, file, choices, turns, files, drive, input, terminal, printer, kernel,
+        ),
+        Command::Exec { file, options } => exec(
+            alloc, file, options, files, drive, input, terminal, printer, kernel,
+        ),
+        Command::Compile { file, out } => silent(compile_file(alloc, files, file, out)),
+        _ => silent(Status::Words),
+    }
+}
+
+// Does what the words say. The line of the status is still to be shown.
+fn obey<F: Files, D: Drive, S: Source, T: Sink, P: Sink>(
     alloc: Global,
     words: &[String],
     files: &mut F,
+    drive: &mut D,
+    input: &mut S,
     terminal: &mut T,
-) -> Status
-    ensures performs { (shown : List ℕ)
-        × Performs result (map string_bytes words.now) (record { contents = F.contents files.new; before = F.faults files.old; after = F.faults files.new }) shown
-        × Shows (T.taken terminal.old) (T.taken terminal.new) shown }
-    ensures unchanged { WhereTold (F.contents files.old) (F.contents files.new) (λ old new. new ≡ old) }
-    ensures untouched { file_to_run (map string_bytes words.now) ≡ None → files.new ≡ files.old }
-    ensures later_files { F.faults files.old ≤ F.faults files.new }
-    ensures later_terminal { T.faults terminal.old ≤ T.faults terminal.new }
-    ensures cause { result ≡ Status.OutputFault → CountRose (T.faults terminal.old) (T.faults terminal.new) }
+    printer: &mut P,
+    kernel: &mut Kernel,
+) -> Ended
+    ensures came { Came result.status result.due (built (command_of (map string_bytes words.now)))
+        (outside_of F.contents D.contents S.left T.taken P.taken files.old drive.old input.old terminal.old printer.old)
+        (outside_of F.contents D.contents S.left T.taken P.taken files.new drive.new input.new terminal.new printer.new)
+        (lent kernel.old.store kernel.old.used kernel.new.store kernel.new.used) }
+    ensures cause { HasCause result.status
+        (counts_of F.faults D.faults S.faults T.faults P.faults files.old drive.old input.old terminal.old printer.old)
+        (counts_of F.faults D.faults S.faults T.faults P.faults files.new drive.new input.new terminal.new printer.new) }
+    ensures later { NoneFalls
+        (counts_of F.faults D.faults S.faults T.faults P.faults files.old drive.old input.old terminal.old printer.old)
+        (counts_of F.faults D.faults S.faults T.faults P.faults files.new drive.new input.new terminal.new printer.new) }
+    ensures no_files { built (command_of (map string_bytes words.now)) ≡ None → files.new ≡ files.old }
+    ensures no_drive { does uses_drive (built (command_of (map string_bytes words.now))) ≡ false → drive.new ≡ drive.old }
+    ensures no_input { does uses_devices (built (command_of (map string_bytes words.now))) ≡ false → input.new ≡ input.old }
+    ensures no_printer { does uses_devices (built (command_of (map string_bytes words.now))) ≡ false → printer.new ≡ printer.old }
+    ensures no_kernel { does uses_devices (built (command_of (map string_bytes words.now))) ≡ false → kernel.new ≡ kernel.old }
 {
-    let Some(name) = file_to_run(words) else {
-        return Status::Words;
-    };
-    let mut text = Vec::new(alloc);
-    match files.fetch(alloc, name, FETCH_LIMIT, &mut text) {
-        FetchEnd::Ok => run(alloc, &text, terminal),
-        FetchEnd::Absent => Status::Absent,
-        FetchEnd::Failed => Status::FileFault,
-        FetchEnd::NoMemory => Status::NoMemory,
-    }
-}
-
-// The status, once its line is shown. Nothing was shown before it.
-fn close<T: Sink>(terminal: &mut T, status: Status, line: &[u8]) -> Status
-    requires { line.now ≡ closing status [] }
-    ensures ends { (words : List (List ℕ)) (seen : Seen) → Means status words seen []
-        → (tail : List ℕ) × Ends result words seen tail × Shows (T.taken terminal.old) (T.taken terminal.new) tail }
-    ensures later { T.faults terminal.old ≤ T.faults terminal.new }
-    ensures cause { result ≡ Status.OutputFault → (status ≡ Status.OutputFault) ⊎ CountRose (T.faults terminal.old) (T.faults terminal.new) }
-{
-    if show_line(terminal, None, line) {
-        status
-    } else {
-        Status::OutputFault
-    }
-}
-
-// Shows the line of a status. Before a line nothing was shown.
-fn show_status<T: Sink>(alloc: Global, terminal: &mut T, status: Status) -> Status
-    ensures ends { (words : List (List ℕ)) (seen : Seen) (shown : List ℕ) → Performs status words seen shown
-        → (tail : List ℕ) × Ends result words seen (shown ++ tail) × Shows (T.taken terminal.old) (T.taken terminal.new) tail }
-    ensures later { T.faults terminal.old ≤ T.faults terminal.new }
-    ensures cause { result ≡ Status.OutputFault → (status ≡ Status.OutputFault) ⊎ CountRose (T.faults terminal.old) (T.faults terminal.new) }
-{
-    match status {
-        Status::Ok => Status::Ok,
-        Status::OutputFault => Status::OutputFault,
-        Status::Refused(kind, line) => match refusal_line(alloc, kind, line) {
-            Ok(text) => close(terminal, Status::Refused(kind, line), text.as_bytes()),
-            Err(_) => close(terminal, Status::NoMemory, b"no memory\n"),
-        },
-        Status::Words => close(terminal, Status::Words, b"bad words\n"),
-        Status::NoMemory => close(terminal, Status::NoMemory, b"no memory\n"),
-        Status::FileFault => close(terminal, Status::FileFault, b"file fault\n"),
-        Status::Absent => close(terminal, Status::Absent, b"absent\n"),
+    match command(alloc, words) {
+        Ok(Some(command)) => perform(
+            alloc, command, files, drive, input, terminal, printer, kernel,
+        ),
+        Ok(None) => silent(Status::Words),
+        Err(_) => silent(Status::NoMemory),
     }
 }
 
 /// Does what the words say, which are those after the program's name, and answers how it ended.
 ///
-/// The one command so far is `run FILE`. The line of the status is shown on the terminal, except for `Ok`, which has
-/// none, and `OutputFault`, where it could not be shown.
+/// The line of the status is shown on the terminal, except for `Ok`, which has none, and `OutputFault`, where it could not be shown.
 pub fn edison<F: Files, D: Drive, S: Source, T: Sink, P: Sink>(
     alloc: Global,
     words: &[String],
@@ -97,34 +119,40 @@ pub fn edison<F: Files, D: Drive, S: Source, T: Sink, P: Sink>(
     input: &mut S,
     terminal: &mut T,
     printer: &mut P,
+    kernel: &mut Kernel,
 ) -> Status
-    // The status is one that the words and files mean, and the terminal has shown what goes with it and no more. Where the
-    // terminal has failed, it has shown the front of that.
-    ensures ends { (all : List ℕ)
-        × Ends result (map string_bytes words.now) (record { contents = F.contents files.new; before = F.faults files.old; after = F.faults files.new }) all
-        × Shows (T.taken terminal.old) (T.taken terminal.new) all }
+    // The status means what it says of the words, of all that is outside before and behind the call and of the lent kernel; and
+    // the terminal has taken what goes with it, and no more.
+    ensures ends { let before = outside_of F.contents D.contents S.left T.taken P.taken files.old drive.old input.old terminal.old printer.old in
+        let after = outside_of F.contents D.contents S.left T.taken P.taken files.new drive.new input.new terminal.new printer.new in
+        let had = counts_of F.faults D.faults S.faults T.faults P.faults files.old drive.old input.old terminal.old printer.old in
+        let has = counts_of F.faults D.faults S.faults T.faults P.faults files.new drive.new input.new terminal.new printer.new in
+        (all : List ℕ)
+        × EndsWith result (built (command_of (map string_bytes words.now))) before after had has all
+        (lent kernel.old.store kernel.old.used kernel.new.store kernel.new.used)
+        × Shows before after all }
 
     // A fault comes only where the count of its object rose.
     ensures file_fault { result ≡ Status.FileFault → CountRose (F.faults files.old) (F.faults files.new) }
-    ensures output_fault { result ≡ Status.OutputFault → CountRose (T.faults terminal.old) (T.faults terminal.new) }
+    ensures drive_fault { result ≡ Status.DriveFault → CountRose (D.faults drive.old) (D.faults drive.new) }
+    ensures input_fault { result ≡ Status.InputFault → CountRose (S.faults input.old) (S.faults input.new) }
+    ensures output_fault { result ≡ Status.OutputFault
+        → CountRose (T.faults terminal.old) (T.faults terminal.new) ⊎ CountRose (P.faults printer.old) (P.faults printer.new) }
+
+    // No count falls.
     ensures later_files { F.faults files.old ≤ F.faults files.new }
+    ensures later_drive { D.faults drive.old ≤ D.faults drive.new }
+    ensures later_input { S.faults input.old ≤ S.faults input.new }
     ensures later_terminal { T.faults terminal.old ≤ T.faults terminal.new }
+    ensures later_printer { P.faults printer.old ≤ P.faults printer.new }
 
-    // No file changes, and words that are refused touch none.
-    ensures unchanged { WhereTold (F.contents files.old) (F.contents files.new) (λ old new. new ≡ old) }
-    ensures untouched { file_to_run (map string_bytes words.now) ≡ None → files.new ≡ files.old }
-
-    // The other objects are not touched.
-    ensures drive { drive.new ≡ drive.old }
-    ensures input { input.new ≡ input.old }
-    ensures printer { printer.new ≡ printer.old }
+    // Objects that a command has no use for are not touched, whatever they tell; words that are refused touch none.
+    ensures no_files { built (command_of (map string_bytes words.now)) ≡ None → files.new ≡ files.old }
+    ensures no_drive { does uses_drive (built (command_of (map string_bytes words.now))) ≡ false → drive.new ≡ drive.old }
+    ensures no_input { does uses_devices (built (command_of (map string_bytes words.now))) ≡ false → input.new ≡ input.old }
+    ensures no_printer { does uses_devices (built (command_of (map string_bytes words.now))) ≡ false → printer.new ≡ printer.old }
+    ensures no_kernel { does uses_devices (built (command_of (map string_bytes words.now))) ≡ false → kernel.new ≡ kernel.old }
 {
-    let status = perform(alloc, words, files, terminal);
-    show_status(alloc, terminal, status)
+    let ended = obey(alloc, words, files, drive, input, terminal, printer, kernel);
+    show_status(terminal, ended.status, ended.due)
 }
-
-/// The same words and files never mean two statuses: each that they decide comes wherever it is meant, unless an object
-/// fails or memory runs out, and what is shown before its line is decided with it.
-pub fn one_status()
-    ensures law { OneStatus }
-{}

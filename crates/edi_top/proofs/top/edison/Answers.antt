@@ -1,16 +1,15 @@
-use Rattle.std.proofs.Common.{◌++◌}
-use Rattle.edi_top.proofs.ShownLemmas.{shown_twice}
-use Rattle.edi_top.proofs.StatusLemmas.{file_rose}
+use Rattle.std.proofs.Common.{ap, map}
+use Rattle.std.specs.String.{string_bytes}
+use Rattle.edi_words.specs.Words.{command_of}
+use Rattle.edi_top.specs.Built.{built}
+use Rattle.edi_statuses.proofs.Causes.{cause_later}
+use Rattle.edi_statuses.proofs.Closing.{lines_end}
 use Rattle.edi_top.proofs.top.edison.Goals as goal
 
 pub returns-clause-ends : goal.returns-clause-ends
 returns-clause-ends g c =
-    let done = c.perform-status.ensures.performs in
-    let closed = c.show_status.ensures.ends _ _ done.0 done.1 in
-    (done.0 ++ closed.0, closed.1, shown_twice _ _ _ done.0 closed.0 done.2 closed.2)
-
-pub returns-clause-file_fault : goal.returns-clause-file_fault
-returns-clause-file_fault g c = λ is.
-    let done = c.perform-status.ensures.performs in
-    let closed = c.show_status.ensures.ends _ _ done.0 done.1 in
-    file_rose c.show_status.result _ _ (done.0 ++ closed.0) closed.1 is
+    lines_end c.obey-ended.result.status c.show_status.result c.obey-ended.result.due (built (command_of (map string_bytes c.args.words.now))) _ _ _ _
+    (g.T.Sink.taken c.show_status.new.terminal) _
+    (cause_later c.obey-ended.result.status _ _ _ _ _ (g.T.Sink.faults c.show_status.new.terminal) _ c.show_status.ensures.later c.obey-ended.ensures.cause)
+    c.obey-ended.ensures.came c.show_status.ensures.exact
+    (λ none. let same = c.show_status.ensures.silent none in (same.0, ap g.T.Sink.taken same.1))

@@ -1,0 +1,12 @@
+use Rattle.edi_statuses.proofs.Silent.{refused, wants}
+use Rattle.edi_top.proofs.Obeyed.{no_words}
+use Rattle.edi_top.proofs.top.obey.Goals as goal
+
+pub returns-in-Ok-None-clause-came : goal.returns-in-Ok-None-clause-came
+returns-in-Ok-None-clause-came g c =
+    refused c.silent.result.status c.silent.result.due _ _ _ c.silent.ensures.status c.silent.ensures.due
+    (no_words c.in-Ok-None.field-0 _ c.in-Ok-None.ensures.exact c.in-Ok-None.field-0-is)
+
+pub returns-in-Err-clause-came : goal.returns-in-Err-clause-came
+returns-in-Err-clause-came g c =
+    wants c.silent-in-Err.result.status c.silent-in-Err.result.due _ _ _ c.silent-in-Err.ensures.status c.silent-in-Err.ensures.due
