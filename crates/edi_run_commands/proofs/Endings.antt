@@ -67,9 +67,10 @@ module _ (before after : Outside) (kernel : Lent) (why : MountFault) (h : IsUnmo
   first : IfSome (still_told before.blocks after.blocks) (λ old. IsFirst why (mount_fault_of old))
   first = known_before _ before.blocks after.blocks (weaker _ _ before.blocks after.blocks (λ old new both. both.1) h.blocks)
 
-unmounted_by : (before after : Outside) (kernel : Lent) (why : MountFault) → IsUnmounted before after kernel why → (program : Program) (bound : ℕ) (choices : Choices)
-    (name : Option (List ℕ)) → CodeRan program bound choices name (mount_status why) (seen before after) after [] kernel
-unmounted_by before after kernel mount.Fault h program bound choices name = (same_told before.files after.files h.files, inl (not_begun before after kernel mount.Fault h))
+unmounted_by : (before after : Outside) (kernel : Lent) (why : MountFault) → IsUnmounted before after kernel why → (program : Program) (bound : ℕ)
+    (choices : Choices) (name : Option (List ℕ)) → CodeRan program bound choices name (mount_status why) (seen before after) after [] kernel
+unmounted_by before after kernel mount.Fault h program bound choices name =
+    (same_told before.files after.files h.files, inl (not_begun before after kernel mount.Fault h))
 unmounted_by before after kernel mount.NoMemory h program bound choices name = inl (nothing before after kernel mount.NoMemory h)
 unmounted_by before after kernel mount.Short h program bound choices name =
     ((mount.Short, refl, first before after kernel mount.Short h, tt), nothing before after kernel mount.Short h)
@@ -141,7 +142,8 @@ module _ (parts : CodeParts) (bound : ℕ) (old : Drawn) (none : old.drawn ≡ 0
       left.valid shows_now (stands program parts is bound old none shown_now) moment
 
   broke_by : (failed : failing.Outside) (name : Option (List ℕ)) (kernel : Lent) → SameFiles (seen before after) after → (program : Program)
-      → BrokeRun program bound old.source (seen before after) after shown_now → CodeRan program bound old.source name (object_status failed) (seen before after) after shown_now kernel
+      → BrokeRun program bound old.source (seen before after) after shown_now
+      → CodeRan program bound old.source name (object_status failed) (seen before after) after shown_now kernel
   broke_by object.Drive name kernel files program broke = (files, inr (mounts due before after left, broke))
   broke_by object.Input name kernel files program broke = (files, mounts due before after left, broke)
   broke_by object.Terminal name kernel files program broke = (files, mounts due before after left, broke)
@@ -214,6 +216,6 @@ module _ (parts : CodeParts) (bound : ℕ) (old : Drawn) (none : old.drawn ≡ 0
     }
 
 -- another number that is the same
-pub with_bound : (n m : ℕ) → n ≡ m → (parts : CodeParts) (choices : Choices) (name : Option (List ℕ)) (s : Status) (due : Bool) (before after : Outside) (kernel : Lent)
-    → RanCode parts n choices name s due before after kernel → RanCode parts m choices name s due before after kernel
+pub with_bound : (n m : ℕ) → n ≡ m → (parts : CodeParts) (choices : Choices) (name : Option (List ℕ)) (s : Status) (due : Bool) (before after : Outside)
+    (kernel : Lent) → RanCode parts n choices name s due before after kernel → RanCode parts m choices name s due before after kernel
 with_bound n m same parts choices name s due before after kernel = subst (λ k. RanCode parts k choices name s due before after kernel) same

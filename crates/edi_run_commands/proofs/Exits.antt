@@ -19,7 +19,8 @@ use Rattle.edi_steps.specs.OnFiles.{FetchStep, ChoicesStep, files_only}
 use Rattle.edi_run_commands.specs.CodeRan.{CodeRan, RanCode}
 use Rattle.edi_run_commands.specs.RunMeans.{RunCame, RunMeans}
 use Rattle.edi_run_commands.proofs.Meaning.{code_means}
-use Rattle.edi_run_commands.proofs.Told.{same_told, still, shows_nothing, same_but, just_told, still_same, till_the_last, in_turn, reads_till_the_last, on_files}
+use Rattle.edi_run_commands.proofs.Told.{same_told, still, shows_nothing, same_but, just_told, still_same, till_the_last, in_turn}
+use Rattle.edi_run_commands.proofs.Told.{reads_till_the_last, on_files}
 
 -- ---- nothing was done
 
@@ -90,8 +91,8 @@ StepsBy third make name from o =
 
 -- another status that is the same
 pub came : {A : Type 0} (steps : Outside → Reached A → Type 0) (program : A → Program) (choices : A → Choices) (bound : ℕ) (name : Option (List ℕ))
-    (s t : Status) (due : Bool) (before after : Outside) (kernel : Lent) → t ≡ s → due ≡ false → RunCame steps program choices bound name s false before after kernel
-    → RunCame steps program choices bound name t due before after kernel
+    (s t : Status) (due : Bool) (before after : Outside) (kernel : Lent) → t ≡ s → due ≡ false
+    → RunCame steps program choices bound name s false before after kernel → RunCame steps program choices bound name t due before after kernel
 came steps program choices bound name s t due before after kernel same none h =
     subst (λ d. RunCame steps program choices bound name t d before after kernel) (sym none)
     (subst (λ x. RunCame steps program choices bound name x false before after kernel) (sym same) h)

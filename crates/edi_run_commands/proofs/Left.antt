@@ -38,8 +38,8 @@ devices_by blocks input shown printed =
     devices_of (record { files = None; blocks = blocks; input = input; shown = shown; printed = printed })
 
 -- What is told of them before and behind is told of the devices; the drive is valid, and these bytes were shown.
-pub devices_told : (before after : Outside) (shown : List ℕ) (P : Contents → Contents → Type 0) (Q : Devices → Devices → Type 0) → IsValid after.blocks → Shows before after shown
-    → ((x y : Contents) → mount_fault_of y.disk ≡ None → y.shown ≡ x.shown ++ shown → P x y → Q (devices x) (devices y))
+pub devices_told : (before after : Outside) (shown : List ℕ) (P : Contents → Contents → Type 0) (Q : Devices → Devices → Type 0) → IsValid after.blocks
+    → Shows before after shown → ((x y : Contents) → mount_fault_of y.disk ≡ None → y.shown ≡ x.shown ++ shown → P x y → Q (devices x) (devices y))
     → WhereTold (told_by before) (told_by after) P → WhereTold (devices_of (seen before after)) (devices_of after) Q
 devices_told before after shown P Q valid shows so told =
     go before.blocks after.blocks before.input after.input before.shown after.shown before.printed after.printed valid shows told
@@ -126,8 +126,8 @@ never_bad (code own) system bound choices o run = tt
 
 module _ (program : Program) (parts : CodeParts) (is : HasCode program parts) (bound : ℕ) (old : Drawn) (none : old.drawn ≡ 0) (shown : List ℕ) where
   -- a run that has come to its ending
-  pub has_run : (e : Ending) (words : List ℕ) (used : ℕ) (new : Drawn) (x y : Contents) → IsNoFault e → mount_fault_of y.disk ≡ None → y.shown ≡ x.shown ++ shown
-      → execute.HasRun parts bound old e words used new x y
+  pub has_run : (e : Ending) (words : List ℕ) (used : ℕ) (new : Drawn) (x y : Contents) → IsNoFault e → mount_fault_of y.disk ≡ None
+      → y.shown ≡ x.shown ++ shown → execute.HasRun parts bound old e words used new x y
       → HasRun program bound old.source (ending_of e) new.drawn (devices x) (devices y) shown (kernel_of words used)
   has_run e words used new x y unfailed valid shows h =
       let r = runs_as parts (execute.system_on x) bound old e words used h.state new unfailed h.runs in

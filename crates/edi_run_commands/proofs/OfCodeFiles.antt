@@ -4,7 +4,8 @@ use Rattle.std.specs.Prelude.{⊤, take}
 use Rattle.edi_told.specs.Told.{WhereTold}
 use Rattle.edi_host.specs.Files.{Contents}
 use Rattle.edi_calls.specs.Choice.{Choices}
-use Rattle.edi_words.specs.Words.{ChoicesFrom}
+use Rattle.edi_words.specs.Words as words
+use Rattle.edi_words.specs.Words.{ChoicesFrom, Options}
 use Rattle.edi_target.specs.declared.code_fault.CodeFault.{CodeFault}
 use Rattle.edi_target.specs.declared.code_fault.CodeFault.TheVariants as fault
 use Rattle.edi_target.specs.Check.{CodeParts, IsFault}
@@ -16,11 +17,14 @@ use Rattle.edi_statuses.specs.declared.status.Status.TheVariants as status
 use Rattle.edi_statuses.specs.Outside.{Outside, still_told, Lent}
 use Rattle.edi_statuses.specs.Steps.{goes, stops, Fetches, ReadsChoices, Loads}
 use Rattle.edi_statuses.specs.Executions.{code}
+use Rattle.edi_statuses.specs.Commands.{ExecSteps}
+use Rattle.edi_statuses.specs.Means.{Came}
 use Rattle.edi_steps.specs.OnFiles.{files_only}
 use Rattle.edi_run_commands.specs.CodeRan.{RanCode}
 use Rattle.edi_run_commands.specs.Loaded.{LoadStep, load_status}
 use Rattle.edi_run_commands.specs.RunMeans.{CodeFileCame}
-use Rattle.edi_run_commands.proofs.Exits.{IsRefusal, with_files, code_ran, third_stops, third_wants}
+use Rattle.edi_run_commands.proofs.Meaning.{exec_came}
+use Rattle.edi_run_commands.proofs.Exits.{came, IsRefusal, with_files, code_ran, third_stops, third_wants}
 
 -- ---- loading
 
@@ -47,6 +51,13 @@ is_refusal : (bytes : List ℕ) (s : Status) → Loads bytes (stops s) → IsRef
 is_refusal bytes s h = subst IsRefusal (sym h.1) tt
 
 -- ---- the command
+
+-- another status that is the same
+pub code_came : (name : List ℕ) (o : Options) (s t : Status) (due : Bool) (before after : Outside) (kernel : Lent) → t ≡ s → due ≡ false
+    → CodeFileCame name o.choices o.turns o.record_file s false before after kernel → Came t due (Some (words.exec name o)) before after kernel
+code_came name o s t due before after kernel same silent h =
+    exec_came name o t due before after kernel
+    (came (λ x. ExecSteps x name o.choices) (λ a. code a.0) (λ a. a.1) o.turns o.record_file s t due before after kernel same silent h)
 
 module _ (name : List ℕ) (from : ChoicesFrom) (bound : ℕ) (record_file : Option (List ℕ)) (before : Outside) (kernel : Lent) (all bytes : List ℕ)
     (first_bytes : bytes ≡ take most_fetched all) (mid new : Option Contents) (choices : Choices)

@@ -20,10 +20,18 @@ use Rattle.edi_statuses.specs.declared.status.Status.TheVariants as status
 use Rattle.edi_statuses.specs.Outside.{Outside, still_told, Lent}
 use Rattle.edi_statuses.specs.Steps.{goes, Fetches, ReadsChoices, Accepts}
 use Rattle.edi_statuses.specs.Executions.{text}
+use Rattle.edi_statuses.specs.Commands.{RunSteps}
 use Rattle.edi_steps.specs.OnFiles.{files_only}
 use Rattle.edi_run_commands.specs.CodeRan.{RanCode, refusal_status}
 use Rattle.edi_run_commands.specs.RunMeans.{TextCame}
-use Rattle.edi_run_commands.proofs.Exits.{with_files, code_ran, third_stops, third_wants}
+use Rattle.edi_run_commands.proofs.Exits.{came, with_files, code_ran, third_stops, third_wants}
+
+-- another status that is the same
+pub text_came : (name : List ℕ) (from : ChoicesFrom) (bound : ℕ) (record_file : Option (List ℕ)) (s t : Status) (due : Bool) (before after : Outside)
+    (kernel : Lent) → t ≡ s → due ≡ false → TextCame name from bound record_file s false before after kernel
+    → TextCame name from bound record_file t due before after kernel
+text_came name from bound record_file s t due before after kernel same silent h =
+    came (λ o. RunSteps o name from) (λ a. text a.0) (λ a. a.1) bound record_file s t due before after kernel same silent h
 
 -- a text that is compiled has a unit
 unit_there : (bytes : List ℕ) (code : CodeParts) → TextAnswers (IsCodeFor bytes) bytes (Ok code) → (unit : ProgramUnit) × IsUnit bytes unit

@@ -23,7 +23,13 @@ returns-in-Err-clause-ran g c =
 pub returns-in-Err-clause-later : goal.returns-in-Err-clause-later
 returns-in-Err-clause-later g c =
     let l = c.run_on.ensures.later in
-    record { files = omega arith; drive = l.later object.Drive; input = l.later object.Input; terminal = l.later object.Terminal; printer = l.later object.Printer }
+    record {
+      files = omega arith;
+      drive = l.later object.Drive;
+      input = l.later object.Input;
+      terminal = l.later object.Terminal;
+      printer = l.later object.Printer;
+    }
 
 pub returns-in-Some-clause-ran : goal.returns-in-Some-clause-ran
 returns-in-Some-clause-ran g c =
@@ -39,7 +45,13 @@ returns-in-Some-clause-ran g c =
 pub returns-in-Some-clause-later : goal.returns-in-Some-clause-later
 returns-in-Some-clause-later g c =
     let l = c.run_on.ensures.later in
-    record { files = omega arith; drive = l.later object.Drive; input = l.later object.Input; terminal = l.later object.Terminal; printer = l.later object.Printer }
+    record {
+      files = omega arith;
+      drive = l.later object.Drive;
+      input = l.later object.Input;
+      terminal = l.later object.Terminal;
+      printer = l.later object.Printer;
+    }
 
 pub returns-in-Ok-keep_record-clause-ran : goal.returns-in-Ok-keep_record-clause-ran
 returns-in-Ok-keep_record-clause-ran g c =

@@ -1,13 +1,13 @@
 -- The exits of `exec`.
-use Rattle.std.proofs.Common.{◌∙◌, ℕ, Vec, Global, option_map, refl, sym}
+use Rattle.std.proofs.Common.{◌∙◌, ℕ, List, Option, Vec, Global, option_map, refl}
+use Rattle.edi_words.specs.Words.{ChoicesFrom, Options}
 use Rattle.edi_words.specs.View.{choices_from, options_of}
 use Rattle.edi_statuses.specs.Outside.{Outside, Lent, outside_of, lent}
 use Rattle.edi_statuses.specs.Steps.{Loads}
 use Rattle.edi_statuses.specs.Executions.{code}
-use Rattle.edi_statuses.specs.Commands.{ExecSteps}
-use Rattle.edi_run_commands.proofs.Exits.{came, fetch_stops, choices_stop}
+use Rattle.edi_run_commands.proofs.Exits.{fetch_stops, choices_stop}
 use Rattle.edi_run_commands.proofs.Meaning.{exec_came}
-use Rattle.edi_run_commands.proofs.OfCodeFiles.{code_stops, file_ran}
+use Rattle.edi_run_commands.proofs.OfCodeFiles.{code_came, code_stops, file_ran}
 use Rattle.edi_run_commands.proofs.codefile.exec.Goals as goal
 
 pub returns-in-Err-clause-came : goal.returns-in-Err-clause-came
@@ -15,36 +15,44 @@ returns-in-Err-clause-came g c =
     let before : Outside = outside_of g.F.Files.contents g.D.Drive.contents g.S.Source.left g.T.Sink.taken g.P.Sink.taken c.args.files.now
     c.args.drive.now c.args.input.now c.args.terminal.now c.args.printer.now in
     let kernel : Lent = lent c.args.kernel.now.store c.args.kernel.now.used c.args.kernel.now.store c.args.kernel.now.used in
-    exec_came c.args.file.now (options_of c.args.options) c.stopped.result.status c.stopped.result.due before _ kernel
-    (came (λ o. ExecSteps o c.args.file.now (choices_from c.args.options.choices)) (λ a. code a.0) (λ a. a.1) c.args.options.turns (option_map (λ name. name.now) c.args.options.record_file) c.in-Err.status c.stopped.result.status c.stopped.result.due before _ kernel
+    let from : ChoicesFrom = choices_from c.args.options.choices in
+    let record_file : Option (List ℕ) = option_map (λ name. name.now) c.args.options.record_file in
+    let o : Options = options_of c.args.options in
+    code_came c.args.file.now o c.in-Err.status c.stopped.result.status c.stopped.result.due before _ kernel
     c.stopped.ensures.told c.stopped.ensures.due
-    (fetch_stops Loads (λ b p. p) code c.args.file.now (choices_from c.args.options.choices) c.args.options.turns (option_map (λ name. name.now) c.args.options.record_file) before kernel {V = Vec ℕ Global} (λ v. v.items) 8388641 (g.F.Files.contents c.fetch.new.files) c.in-Err.status refl
-    c.in-Err.ensures.fetched c.in-Err.ensures.unchanged))
+    (fetch_stops Loads (λ b p. p) code c.args.file.now from c.args.options.turns record_file before kernel {V = Vec ℕ Global} (λ v. v.items) 8388641
+    (g.F.Files.contents c.fetch.new.files) c.in-Err.status refl c.in-Err.ensures.fetched c.in-Err.ensures.unchanged)
 
 pub returns-in-Err-read_from-clause-came : goal.returns-in-Err-read_from-clause-came
 returns-in-Err-read_from-clause-came g c =
     let before : Outside = outside_of g.F.Files.contents g.D.Drive.contents g.S.Source.left g.T.Sink.taken g.P.Sink.taken c.args.files.now
     c.args.drive.now c.args.input.now c.args.terminal.now c.args.printer.now in
     let kernel : Lent = lent c.args.kernel.now.store c.args.kernel.now.used c.args.kernel.now.store c.args.kernel.now.used in
+    let from : ChoicesFrom = choices_from c.args.options.choices in
+    let record_file : Option (List ℕ) = option_map (λ name. name.now) c.args.options.record_file in
+    let o : Options = options_of c.args.options in
     let f = c.in-Ok.ensures.fetched in
-    exec_came c.args.file.now (options_of c.args.options) c.stopped-in-Err-read_from.result.status c.stopped-in-Err-read_from.result.due before _ kernel
-    (came (λ o. ExecSteps o c.args.file.now (choices_from c.args.options.choices)) (λ a. code a.0) (λ a. a.1) c.args.options.turns (option_map (λ name. name.now) c.args.options.record_file) c.in-Err-read_from.status c.stopped-in-Err-read_from.result.status c.stopped-in-Err-read_from.result.due before _ kernel
+    code_came c.args.file.now o c.in-Err-read_from.status c.stopped-in-Err-read_from.result.status c.stopped-in-Err-read_from.result.due before _ kernel
     c.stopped-in-Err-read_from.ensures.told c.stopped-in-Err-read_from.ensures.due
-    (choices_stop Loads (λ b p. p) code c.args.file.now (choices_from c.args.options.choices) c.args.options.turns (option_map (λ name. name.now) c.args.options.record_file) before kernel f.0 (g.F.Files.contents c.fetch.new.files) (g.F.Files.contents c.read_from.new.files) f.1
-    c.in-Ok.ensures.unchanged c.in-Err-read_from.ensures.unchanged c.in-Err-read_from.status refl c.in-Err-read_from.ensures.reads))
+    (choices_stop Loads (λ b p. p) code c.args.file.now from c.args.options.turns record_file before kernel f.0 (g.F.Files.contents c.fetch.new.files)
+    (g.F.Files.contents c.read_from.new.files) f.1 c.in-Ok.ensures.unchanged c.in-Err-read_from.ensures.unchanged
+    c.in-Err-read_from.status refl c.in-Err-read_from.ensures.reads)
 
 pub returns-in-Err-load_code-clause-came : goal.returns-in-Err-load_code-clause-came
 returns-in-Err-load_code-clause-came g c =
     let before : Outside = outside_of g.F.Files.contents g.D.Drive.contents g.S.Source.left g.T.Sink.taken g.P.Sink.taken c.args.files.now
     c.args.drive.now c.args.input.now c.args.terminal.now c.args.printer.now in
     let kernel : Lent = lent c.args.kernel.now.store c.args.kernel.now.used c.args.kernel.now.store c.args.kernel.now.used in
+    let from : ChoicesFrom = choices_from c.args.options.choices in
+    let record_file : Option (List ℕ) = option_map (λ name. name.now) c.args.options.record_file in
+    let o : Options = options_of c.args.options in
     let f = c.in-Ok.ensures.fetched in
-    exec_came c.args.file.now (options_of c.args.options) c.stopped-in-Err-load_code.result.status c.stopped-in-Err-load_code.result.due before _ kernel
-    (came (λ o. ExecSteps o c.args.file.now (choices_from c.args.options.choices)) (λ a. code a.0) (λ a. a.1) c.args.options.turns (option_map (λ name. name.now) c.args.options.record_file) c.in-Err-load_code.status c.stopped-in-Err-load_code.result.status
-    c.stopped-in-Err-load_code.result.due before _ kernel c.stopped-in-Err-load_code.ensures.told c.stopped-in-Err-load_code.ensures.due
-    (code_stops c.args.file.now (choices_from c.args.options.choices) c.args.options.turns (option_map (λ name. name.now) c.args.options.record_file) before kernel f.0 c.deref.result.now (c.deref.ensures.value ∙ f.2) (g.F.Files.contents c.fetch.new.files) (g.F.Files.contents c.read_from.new.files)
-    c.in-Ok-read_from.choices.source f.1 c.in-Ok-read_from.ensures.reads.1 c.in-Ok.ensures.unchanged c.in-Ok-read_from.ensures.unchanged
-    c.in-Err-load_code.status refl c.in-Err-load_code.ensures.loads))
+    code_came c.args.file.now o c.in-Err-load_code.status c.stopped-in-Err-load_code.result.status c.stopped-in-Err-load_code.result.due before _ kernel
+    c.stopped-in-Err-load_code.ensures.told c.stopped-in-Err-load_code.ensures.due
+    (code_stops c.args.file.now from c.args.options.turns record_file before kernel f.0 c.deref.result.now (c.deref.ensures.value ∙ f.2)
+    (g.F.Files.contents c.fetch.new.files) (g.F.Files.contents c.read_from.new.files) c.in-Ok-read_from.choices.source f.1
+    c.in-Ok-read_from.ensures.reads.1 c.in-Ok.ensures.unchanged c.in-Ok-read_from.ensures.unchanged
+    c.in-Err-load_code.status refl c.in-Err-load_code.ensures.loads)
 
 pub returns-clause-came : goal.returns-clause-came
 returns-clause-came g c =
@@ -53,8 +61,13 @@ returns-clause-came g c =
     let after : Outside = outside_of g.F.Files.contents g.D.Drive.contents g.S.Source.left g.T.Sink.taken g.P.Sink.taken c.run_code.new.files
     c.run_code.new.drive c.run_code.new.input c.run_code.new.terminal c.run_code.new.printer in
     let kernel : Lent = lent c.args.kernel.now.store c.args.kernel.now.used c.run_code.new.kernel.store c.run_code.new.kernel.used in
+    let from : ChoicesFrom = choices_from c.args.options.choices in
+    let record_file : Option (List ℕ) = option_map (λ name. name.now) c.args.options.record_file in
+    let o : Options = options_of c.args.options in
     let f = c.in-Ok.ensures.fetched in
-    exec_came c.args.file.now (options_of c.args.options) c.run_code.result.status c.run_code.result.due before after kernel
-    (file_ran c.args.file.now (choices_from c.args.options.choices) c.args.options.turns (option_map (λ name. name.now) c.args.options.record_file) before kernel f.0 c.deref.result.now (c.deref.ensures.value ∙ f.2) (g.F.Files.contents c.fetch.new.files) (g.F.Files.contents c.read_from.new.files)
-    c.in-Ok-read_from.choices.source f.1 c.in-Ok-read_from.ensures.reads.1 c.in-Ok.ensures.unchanged c.in-Ok-read_from.ensures.unchanged
-    c.in-Ok-load_code.code c.run_code.result.status c.run_code.result.due after c.in-Ok-load_code.ensures.loads c.run_code.ensures.tells c.run_code.ensures.ran)
+    exec_came c.args.file.now o c.run_code.result.status c.run_code.result.due before after kernel
+    (file_ran c.args.file.now from c.args.options.turns record_file before kernel f.0 c.deref.result.now (c.deref.ensures.value ∙ f.2)
+    (g.F.Files.contents c.fetch.new.files) (g.F.Files.contents c.read_from.new.files) c.in-Ok-read_from.choices.source f.1
+    c.in-Ok-read_from.ensures.reads.1 c.in-Ok.ensures.unchanged c.in-Ok-read_from.ensures.unchanged
+    c.in-Ok-load_code.code c.run_code.result.status c.run_code.result.due after c.in-Ok-load_code.ensures.loads c.run_code.ensures.tells
+    c.run_code.ensures.ran)

@@ -1,13 +1,13 @@
 -- The exits of a command that runs a text.
-use Rattle.std.proofs.Common.{◌∙◌, ℕ, Vec, Global, option_map, refl, sym}
+use Rattle.std.proofs.Common.{◌∙◌, ℕ, List, Option, Vec, Global, option_map, refl}
+use Rattle.edi_words.specs.Words.{ChoicesFrom}
 use Rattle.edi_words.specs.View.{choices_from}
 use Rattle.edi_statuses.specs.Outside.{Outside, Lent, outside_of, lent}
 use Rattle.edi_statuses.specs.Steps.{Accepts}
 use Rattle.edi_statuses.specs.Executions.{text}
-use Rattle.edi_statuses.specs.Commands.{RunSteps}
 use Rattle.edi_run_commands.specs.CodeRan.{refusal_status}
-use Rattle.edi_run_commands.proofs.Exits.{came, fetch_stops, choices_stop}
-use Rattle.edi_run_commands.proofs.OfTexts.{text_stops, text_ran}
+use Rattle.edi_run_commands.proofs.Exits.{fetch_stops, choices_stop}
+use Rattle.edi_run_commands.proofs.OfTexts.{text_came, text_stops, text_ran}
 use Rattle.edi_run_commands.proofs.texts.run_text.Goals as goal
 
 pub returns-in-Err-clause-came : goal.returns-in-Err-clause-came
@@ -15,32 +15,42 @@ returns-in-Err-clause-came g c =
     let before : Outside = outside_of g.F.Files.contents g.D.Drive.contents g.S.Source.left g.T.Sink.taken g.P.Sink.taken c.args.files.now
     c.args.drive.now c.args.input.now c.args.terminal.now c.args.printer.now in
     let kernel : Lent = lent c.args.kernel.now.store c.args.kernel.now.used c.args.kernel.now.store c.args.kernel.now.used in
-    (came (λ o. RunSteps o c.args.file.now (choices_from c.args.from)) (λ a. text a.0) (λ a. a.1) c.args.turns (option_map (λ name. name.now) c.args.record_file) c.in-Err.status c.stopped.result.status c.stopped.result.due before _ kernel
+    let from : ChoicesFrom = choices_from c.args.from in
+    let record_file : Option (List ℕ) = option_map (λ name. name.now) c.args.record_file in
+    text_came c.args.file.now from c.args.turns record_file c.in-Err.status c.stopped.result.status c.stopped.result.due before _ kernel
     c.stopped.ensures.told c.stopped.ensures.due
-    (fetch_stops Accepts (λ b u. b) text c.args.file.now (choices_from c.args.from) c.args.turns (option_map (λ name. name.now) c.args.record_file) before kernel {V = Vec ℕ Global} (λ v. v.items) 262145 (g.F.Files.contents c.fetch.new.files) c.in-Err.status refl
-    c.in-Err.ensures.fetched c.in-Err.ensures.unchanged))
+    (fetch_stops Accepts (λ b u. b) text c.args.file.now from c.args.turns record_file before kernel {V = Vec ℕ Global} (λ v. v.items) 262145
+    (g.F.Files.contents c.fetch.new.files) c.in-Err.status refl c.in-Err.ensures.fetched c.in-Err.ensures.unchanged)
 
 pub returns-in-Err-read_from-clause-came : goal.returns-in-Err-read_from-clause-came
 returns-in-Err-read_from-clause-came g c =
     let before : Outside = outside_of g.F.Files.contents g.D.Drive.contents g.S.Source.left g.T.Sink.taken g.P.Sink.taken c.args.files.now
     c.args.drive.now c.args.input.now c.args.terminal.now c.args.printer.now in
     let kernel : Lent = lent c.args.kernel.now.store c.args.kernel.now.used c.args.kernel.now.store c.args.kernel.now.used in
+    let from : ChoicesFrom = choices_from c.args.from in
+    let record_file : Option (List ℕ) = option_map (λ name. name.now) c.args.record_file in
     let f = c.in-Ok.ensures.fetched in
-    (came (λ o. RunSteps o c.args.file.now (choices_from c.args.from)) (λ a. text a.0) (λ a. a.1) c.args.turns (option_map (λ name. name.now) c.args.record_file) c.in-Err-read_from.status c.stopped-in-Err-read_from.result.status c.stopped-in-Err-read_from.result.due before _ kernel
+    text_came c.args.file.now from c.args.turns record_file c.in-Err-read_from.status
+    c.stopped-in-Err-read_from.result.status c.stopped-in-Err-read_from.result.due before _ kernel
     c.stopped-in-Err-read_from.ensures.told c.stopped-in-Err-read_from.ensures.due
-    (choices_stop Accepts (λ b u. b) text c.args.file.now (choices_from c.args.from) c.args.turns (option_map (λ name. name.now) c.args.record_file) before kernel f.0 (g.F.Files.contents c.fetch.new.files) (g.F.Files.contents c.read_from.new.files) f.1
-    c.in-Ok.ensures.unchanged c.in-Err-read_from.ensures.unchanged c.in-Err-read_from.status refl c.in-Err-read_from.ensures.reads))
+    (choices_stop Accepts (λ b u. b) text c.args.file.now from c.args.turns record_file before kernel f.0 (g.F.Files.contents c.fetch.new.files)
+    (g.F.Files.contents c.read_from.new.files) f.1 c.in-Ok.ensures.unchanged c.in-Err-read_from.ensures.unchanged
+    c.in-Err-read_from.status refl c.in-Err-read_from.ensures.reads)
 
 pub returns-in-Err-compile-clause-came : goal.returns-in-Err-compile-clause-came
 returns-in-Err-compile-clause-came g c =
     let before : Outside = outside_of g.F.Files.contents g.D.Drive.contents g.S.Source.left g.T.Sink.taken g.P.Sink.taken c.args.files.now
     c.args.drive.now c.args.input.now c.args.terminal.now c.args.printer.now in
     let kernel : Lent = lent c.args.kernel.now.store c.args.kernel.now.used c.args.kernel.now.store c.args.kernel.now.used in
+    let from : ChoicesFrom = choices_from c.args.from in
+    let record_file : Option (List ℕ) = option_map (λ name. name.now) c.args.record_file in
     let f = c.in-Ok.ensures.fetched in
-    came (λ o. RunSteps o c.args.file.now (choices_from c.args.from)) (λ a. text a.0) (λ a. a.1) c.args.turns (option_map (λ name. name.now) c.args.record_file) (refusal_status c.in-Err-compile.refusal) c.stopped-in-Err-compile.result.status
-    c.stopped-in-Err-compile.result.due before _ kernel (c.stopped-in-Err-compile.ensures.told ∙ c.refusal_status.ensures.exact) c.stopped-in-Err-compile.ensures.due
-    (text_stops c.args.file.now (choices_from c.args.from) c.args.turns (option_map (λ name. name.now) c.args.record_file) before kernel f.0 c.deref.result.now (c.deref.ensures.value ∙ f.2) (g.F.Files.contents c.fetch.new.files) (g.F.Files.contents c.read_from.new.files)
-    c.in-Ok-read_from.choices.source f.1 c.in-Ok-read_from.ensures.reads.1 c.in-Ok.ensures.unchanged c.in-Ok-read_from.ensures.unchanged
+    text_came c.args.file.now from c.args.turns record_file (refusal_status c.in-Err-compile.refusal) c.stopped-in-Err-compile.result.status
+    c.stopped-in-Err-compile.result.due before _ kernel (c.stopped-in-Err-compile.ensures.told ∙ c.refusal_status.ensures.exact)
+    c.stopped-in-Err-compile.ensures.due
+    (text_stops c.args.file.now from c.args.turns record_file before kernel f.0 c.deref.result.now (c.deref.ensures.value ∙ f.2)
+    (g.F.Files.contents c.fetch.new.files) (g.F.Files.contents c.read_from.new.files) c.in-Ok-read_from.choices.source f.1
+    c.in-Ok-read_from.ensures.reads.1 c.in-Ok.ensures.unchanged c.in-Ok-read_from.ensures.unchanged
     c.in-Err-compile.refusal refl c.in-Err-compile.ensures.exact)
 
 pub returns-clause-came : goal.returns-clause-came
@@ -50,7 +60,10 @@ returns-clause-came g c =
     let after : Outside = outside_of g.F.Files.contents g.D.Drive.contents g.S.Source.left g.T.Sink.taken g.P.Sink.taken c.run_code.new.files
     c.run_code.new.drive c.run_code.new.input c.run_code.new.terminal c.run_code.new.printer in
     let kernel : Lent = lent c.args.kernel.now.store c.args.kernel.now.used c.run_code.new.kernel.store c.run_code.new.kernel.used in
+    let from : ChoicesFrom = choices_from c.args.from in
+    let record_file : Option (List ℕ) = option_map (λ name. name.now) c.args.record_file in
     let f = c.in-Ok.ensures.fetched in
-    text_ran c.args.file.now (choices_from c.args.from) c.args.turns (option_map (λ name. name.now) c.args.record_file) before kernel f.0 c.deref.result.now (c.deref.ensures.value ∙ f.2) (g.F.Files.contents c.fetch.new.files) (g.F.Files.contents c.read_from.new.files)
-    c.in-Ok-read_from.choices.source f.1 c.in-Ok-read_from.ensures.reads.1 c.in-Ok.ensures.unchanged c.in-Ok-read_from.ensures.unchanged
+    text_ran c.args.file.now from c.args.turns record_file before kernel f.0 c.deref.result.now (c.deref.ensures.value ∙ f.2)
+    (g.F.Files.contents c.fetch.new.files) (g.F.Files.contents c.read_from.new.files) c.in-Ok-read_from.choices.source f.1
+    c.in-Ok-read_from.ensures.reads.1 c.in-Ok.ensures.unchanged c.in-Ok-read_from.ensures.unchanged
     c.in-Ok-compile.code c.run_code.result.status c.run_code.result.due after c.in-Ok-compile.ensures.exact c.run_code.ensures.tells c.run_code.ensures.ran
