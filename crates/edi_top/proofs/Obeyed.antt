@@ -1,14 +1,16 @@
 -- From what the words are to the command that is obeyed.
-use Rattle.std.proofs.Common.{◌≡◌, ℕ, Bool, false, List, Option, Some, None, option_map, refl, sym, subst}
+use Rattle.std.proofs.Common.{◌≡◌, ℕ, Bool, false, List, [], Option, Some, None, option_map, refl, sym, subst}
+use Rattle.edi_host.specs.Files.{Contents}
 use Rattle.std.specs.Borrow.{Bor}
-use Rattle.edi_words.specs.Words as words
 use Rattle.edi_words.specs.Words.{Command, Text}
 use Rattle.edi_words.specs.declared.commands.Command as commands
 use Rattle.edi_words.specs.declared.commands.Command.TheVariants as command
 use Rattle.edi_words.specs.declared.commands.Options.{Options}
 use Rattle.edi_words.specs.View.{view}
 use Rattle.edi_statuses.specs.declared.status.Status.{Status}
-use Rattle.edi_statuses.specs.Outside.{Outside, Lent}
+use Rattle.edi_statuses.specs.Outside.{Outside, KernelLeft, Lent}
+use Rattle.edi_statuses.proofs.Silent.{idle, nothing_shown}
+use Rattle.edi_disk_commands.specs.OnDisk.{MeansOnDisk, RestStays}
 use Rattle.edi_top.specs.Built.{built}
 use Rattle.edi_statuses.specs.Means.{Came}
 
@@ -19,26 +21,43 @@ no_words f x exact none = subst (λ y. built y ≡ None) exact (subst (λ g. bui
 pub not_built : (c : commands.Command) → ((file : Bor Text) (o : Options) → c ≡ command.Run file o → ⊥)
     → ((file choices : Bor Text) (turns : ℕ) → c ≡ command.Replay file choices turns → ⊥)
     → ((file : Bor Text) (o : Options) → c ≡ command.Exec file o → ⊥) → ((file out : Bor Text) → c ≡ command.Compile file out → ⊥)
+    → ((blocks : ℕ) (old : Option (Bor Text)) → c ≡ command.NewDisk blocks old → ⊥)
+    → ((file title : Bor Text) → c ≡ command.Put file title → ⊥) → ((title file : Bor Text) → c ≡ command.Get title file → ⊥)
     → built (Some (view c)) ≡ None
-not_built (command.Run file o) run replay exec compile = absurd (run file o refl)
-not_built (command.Replay file choices turns) run replay exec compile = absurd (replay file choices turns refl)
-not_built (command.Exec file o) run replay exec compile = absurd (exec file o refl)
-not_built (command.Compile file out) run replay exec compile = absurd (compile file out refl)
-not_built (command.Boot o) run replay exec compile = refl
-not_built (command.NewDisk blocks old) run replay exec compile = refl
-not_built (command.Put file title) run replay exec compile = refl
-not_built (command.Get title file) run replay exec compile = refl
-not_built (command.List file) run replay exec compile = refl
-not_built (command.Demo n o) run replay exec compile = refl
-not_built (command.Check file) run replay exec compile = refl
-not_built (command.Walk file choices turns) run replay exec compile = refl
-not_built (command.Watch file stops out o) run replay exec compile = refl
+not_built (command.Run file o) run replay exec compile new put get = absurd (run file o refl)
+not_built (command.Replay file choices turns) run replay exec compile new put get = absurd (replay file choices turns refl)
+not_built (command.Exec file o) run replay exec compile new put get = absurd (exec file o refl)
+not_built (command.Compile file out) run replay exec compile new put get = absurd (compile file out refl)
+not_built (command.NewDisk blocks old) run replay exec compile new put get = absurd (new blocks old refl)
+not_built (command.Put file title) run replay exec compile new put get = absurd (put file title refl)
+not_built (command.Get title file) run replay exec compile new put get = absurd (get title file refl)
+not_built (command.Boot o) run replay exec compile new put get = refl
+not_built (command.List file) run replay exec compile new put get = refl
+not_built (command.Demo n o) run replay exec compile new put get = refl
+not_built (command.Check file) run replay exec compile new put get = refl
+not_built (command.Walk file choices turns) run replay exec compile new put get = refl
+not_built (command.Watch file stops out o) run replay exec compile new put get = refl
 
 -- a command as the code has it
-pub compiled : (c : commands.Command) (file out : Bor Text) (meant s : Status) (due : Bool) (before after : Outside) (kernel : Lent)
-    → c ≡ command.Compile file out → s ≡ meant → due ≡ false → Came meant false (Some (words.compile file.now out.now)) before after kernel
-    → Came s due (built (Some (view c))) before after kernel
-compiled c file out meant s due before after kernel is same silent came =
+pub obeyed : (c d : commands.Command) (meant s : Status) (due : Bool) (before after : Outside) (kernel : Lent) → c ≡ d → s ≡ meant → due ≡ false
+    → Came meant false (built (Some (view d))) before after kernel → Came s due (built (Some (view c))) before after kernel
+obeyed c d meant s due before after kernel is same silent came =
     subst (λ x. Came s due (built (Some (view x))) before after kernel) (sym is)
-    (subst (λ t. Came t due (Some (words.compile file.now out.now)) before after kernel) (sym same)
-    (subst (λ d. Came meant d (Some (words.compile file.now out.now)) before after kernel) (sym silent) came))
+    (subst (λ t. Came t due (built (Some (view d))) before after kernel) (sym same)
+    (subst (λ x. Came meant x (built (Some (view d))) before after kernel) (sym silent) came))
+
+-- ---- commands that touch the files and the drive alone
+
+abbrev pub with_disk : Option Contents → Option (List (List ℕ)) → Outside → Outside
+with_disk files blocks o = record { files = files; blocks = blocks; input = o.input; shown = o.shown; printed = o.printed }
+
+pub on_disk : (c : Command) (s : Status) (before : Outside) (files : Option Contents) (blocks : Option (List (List ℕ))) (kernel : KernelLeft)
+    → MeansOnDisk c s before.files files before.blocks blocks → Came s false (Some c) before (with_disk files blocks before) (idle kernel)
+on_disk c s before files blocks kernel means =
+    let rest : RestStays before (with_disk files blocks before) (idle kernel) = record { input = refl; printed = refl; kernel_same = refl } in
+    record {
+      shown = [];
+      means = means before (with_disk files blocks before) (idle kernel) refl refl refl refl rest;
+      shows = nothing_shown before.shown;
+      due_is = refl;
+    }

@@ -1,15 +1,17 @@
 //! The call that does all that the program does.
 
-ghost use Rattle.std.specs.Prelude.{◌≡◌, ◌⊎◌, ◌≤◌, ℕ, List, None, Some, false, map};
+ghost use Rattle.std.specs.Prelude.{◌≡◌, ◌⊎◌, ◌≤◌, ℕ, List, None, Some, false, map, option_map};
 ghost use Rattle.std.specs.String.{string_bytes};
 ghost use Rattle.edi_told.specs.Faults.{CountRose};
-ghost use Rattle.edi_words.specs.Words.{command_of};
-ghost use Rattle.edi_words.specs.View.{view};
+ghost use Rattle.edi_words.specs.Words.{command_of, newdisk};
+ghost use Rattle.edi_words.specs.View.{view, IsInRange};
+ghost use Rattle.edi_disk_commands.specs.OnDisk.{IsOfDisk, MeansOnDisk};
 ghost use Rattle.edi_top.specs.Built.{built};
 ghost use Rattle.edi_statuses.specs.Outside.{lent, outside_of, Shows};
 ghost use Rattle.edi_statuses.specs.Counts.{counts_of, HasCause, NoneFalls};
 ghost use Rattle.edi_statuses.specs.Means.{does, uses_devices, uses_drive, Came, EndsWith};
 
+use edi_disk_commands::{get, new_disk, new_disk_from, put};
 use edi_host::{Drive, Files, Sink, Source};
 use edi_kernel::Kernel;
 use edi_run_commands::{exec, replay, run};
@@ -26,6 +28,30 @@ fn silent(status: Status) -> Ended
     Ended { status, due: false }
 }
 
+/// A disk without files, or with those of an old image.
+fn new_by<F: Files, D: Drive>(
+    alloc: Global,
+    files: &mut F,
+    drive: &mut D,
+    blocks: u16,
+    old: Option<&str>,
+) -> Status
+    requires least { 64 ≤ blocks }
+    requires most { blocks ≤ 4096 }
+    ensures means { MeansOnDisk (newdisk blocks (option_map (λ name. name.now) old.entry)) result (F.contents files.old) (F.contents files.new)
+        (D.contents drive.old) (D.contents drive.new) }
+    ensures kind { IsOfDisk result }
+    ensures later_files { F.faults files.old ≤ F.faults files.new }
+    ensures later_drive { D.faults drive.old ≤ D.faults drive.new }
+    ensures cause_files { result ≡ Status.FileFault → CountRose (F.faults files.old) (F.faults files.new) }
+    ensures cause_drive { result ≡ Status.DriveFault → CountRose (D.faults drive.old) (D.faults drive.new) }
+{
+    match old {
+        None => new_disk(alloc, drive, u32::from(blocks)),
+        Some(file) => new_disk_from(alloc, files, drive, u32::from(blocks), file),
+    }
+}
+
 // Does what the command says. The line of the status is still to be shown.
 fn perform<F: Files, D: Drive, S: Source, T: Sink, P: Sink>(
     alloc: Global,
@@ -37,6 +63,7 @@ fn perform<F: Files, D: Drive, S: Source, T: Sink, P: Sink>(
     printer: &mut P,
     kernel: &mut Kernel,
 ) -> Ended
+    requires range { IsInRange command }
     ensures came { Came result.status result.due (built (Some (view command.entry)))
         (outside_of F.contents D.contents S.left T.taken P.taken files.old drive.old input.old terminal.old printer.old)
         (outside_of F.contents D.contents S.left T.taken P.taken files.new drive.new input.new terminal.new printer.new)
@@ -68,6 +95,9 @@ fn perform<F: Files, D: Drive, S: Source, T: Sink, P: Sink>(
             alloc, file, options, files, drive, input, terminal, printer, kernel,
         ),
         Command::Compile { file, out } => silent(compile_file(alloc, files, file, out)),
+        Command::NewDisk { blocks, old } => silent(new_by(alloc, files, drive, blocks, old)),
+        Command::Put { file, title } => silent(put(alloc, files, drive, file, title)),
+        Command::Get { title, file } => silent(get(alloc, files, drive, title, file)),
         _ => silent(Status::Words),
     }
 }

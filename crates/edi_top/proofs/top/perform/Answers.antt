@@ -1,19 +1,39 @@
-use Rattle.std.proofs.Common.{false, Some, refl, rules}
+use Rattle.std.proofs.Common.{false, Some, option_map, refl, rules}
 use Rattle.edi_words.specs.Words as words
+use Rattle.edi_words.specs.declared.commands.Command.TheVariants as command
 use Rattle.edi_statuses.proofs.Silent.{on_files, refused}
-use Rattle.edi_top.proofs.Obeyed.{compiled, not_built}
+use Rattle.edi_top.proofs.Obeyed.{not_built, obeyed, on_disk}
 use Rattle.edi_top.proofs.top.perform.Goals as goal
 
 pub returns-in-Compile-clause-came : goal.returns-in-Compile-clause-came
 returns-in-Compile-clause-came g c =
-    compiled c.args.command c.in-Compile.file c.in-Compile.out c.compile_file.result c.silent.result.status c.silent.result.due _ _ _
+    obeyed c.args.command (command.Compile c.in-Compile.file c.in-Compile.out) c.compile_file.result c.silent.result.status c.silent.result.due _ _ _
     c.in-Compile.is c.silent.ensures.status c.silent.ensures.due
     (on_files (words.compile c.in-Compile.file.now c.in-Compile.out.now) c.compile_file.result false _ _ _ refl c.compile_file.ensures.means)
+
+pub returns-in-NewDisk-clause-came : goal.returns-in-NewDisk-clause-came
+returns-in-NewDisk-clause-came g c =
+    obeyed c.args.command (command.NewDisk c.in-NewDisk.blocks c.in-NewDisk.old) c.new_by.result c.silent-in-NewDisk.result.status
+    c.silent-in-NewDisk.result.due _ _ _ c.in-NewDisk.is c.silent-in-NewDisk.ensures.status c.silent-in-NewDisk.ensures.due
+    (on_disk (words.newdisk c.in-NewDisk.blocks (option_map (λ name. name.now) c.in-NewDisk.old)) c.new_by.result _ _ _ _ c.new_by.ensures.means)
+
+pub returns-in-Put-clause-came : goal.returns-in-Put-clause-came
+returns-in-Put-clause-came g c =
+    obeyed c.args.command (command.Put c.in-Put.file c.in-Put.title) c.put.result c.silent-in-Put.result.status c.silent-in-Put.result.due _ _ _
+    c.in-Put.is c.silent-in-Put.ensures.status c.silent-in-Put.ensures.due
+    (on_disk (words.put c.in-Put.file.now c.in-Put.title.now) c.put.result _ _ _ _ c.put.ensures.means)
+
+pub returns-in-Get-clause-came : goal.returns-in-Get-clause-came
+returns-in-Get-clause-came g c =
+    obeyed c.args.command (command.Get c.in-Get.title c.in-Get.file) c.get.result c.silent-in-Get.result.status c.silent-in-Get.result.due _ _ _
+    c.in-Get.is c.silent-in-Get.ensures.status c.silent-in-Get.ensures.due
+    (on_disk (words.get c.in-Get.title.now c.in-Get.file.now) c.get.result _ _ _ _ c.get.ensures.means)
 
 pub returns-in_default : goal.returns-in_default
 returns-in_default g c = record {
   came = refused c.silent-in_default.result.status c.silent-in_default.result.due _ _ _ c.silent-in_default.ensures.status c.silent-in_default.ensures.due
-      (not_built c.args.command c.in_default.not-Run c.in_default.not-Replay c.in_default.not-Exec c.in_default.not-Compile);
+      (not_built c.args.command c.in_default.not-Run c.in_default.not-Replay c.in_default.not-Exec c.in_default.not-Compile c.in_default.not-NewDisk
+      c.in_default.not-Put c.in_default.not-Get);
   cause = search rules;
   later = search rules;
   no_files = λ e. refl;
