@@ -1,0 +1,6 @@
+pub mod Standing
+pub mod Lines
+pub mod Opening
+pub mod Rows
+pub mod Running
+pub mod SlotLines

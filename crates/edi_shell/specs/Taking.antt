@@ -1,0 +1,57 @@
+-- Words of contracts. What is taken of the input, and where the object stands then.
+use Rattle.std.specs.Prelude.{◌≡◌, ℕ, true, false, nat_le, List, [], ◌∷◌, take, Option, Some, None, Result, Ok, Err}
+use Rattle.edi_calls.specs.declared.ends.Outside.{Outside}
+use Rattle.edi_calls.specs.State.{State}
+use Rattle.edi_session.specs.declared.end.SessionEnd.{SessionEnd}
+use Rattle.edi_session.specs.declared.end.SessionEnd.TheVariants as end
+use Rattle.edi_session.specs.Shell.{Shell, Taken, took, ended, limited, shell_of, limit, state_in, took_byte}
+use Rattle.edi_shell_calls.specs.Standing.{At, StandsIn, failed_by}
+
+module _ {C : Type 0} (ready : C → Type 0) (failed : C → Option Outside) where
+  -- a further call may be made, unless an object has failed
+  abbrev pub Stays : SessionEnd → C → Type 0
+  Stays end.Halted c = ready c
+  Stays end.InputEnd c = ready c
+  Stays end.Limit c = ready c
+  Stays end.DriveFault c = failed c ≡ failed_by end.DriveFault
+  Stays end.InputFault c = failed c ≡ failed_by end.InputFault
+  Stays end.TerminalFault c = failed c ≡ failed_by end.TerminalFault
+  Stays end.PrinterFault c = failed c ≡ failed_by end.PrinterFault
+
+  abbrev pub IsLeftSo : {X : Type 0} → Result X SessionEnd → C → Type 0
+  IsLeftSo (Ok x) c = ready c
+  IsLeftSo (Err e) c = Stays e c
+
+module _ {C : Type 0} (at : C → State → ℕ → Type 0) (stands : C → State → Type 0) where
+  -- no byte is taken: the limit was reached, or an object has failed
+  abbrev pub GivesNone : SessionEnd → Shell → C → Type 0
+  GivesNone end.Limit s c = (nat_le limit s.taken ≡ true) × At at c s
+  GivesNone end.Halted s c = ⊥
+  GivesNone end.InputEnd s c = ⊥
+  GivesNone end.DriveFault s c = StandsIn stands s c
+  GivesNone end.InputFault s c = StandsIn stands s c
+  GivesNone end.TerminalFault s c = StandsIn stands s c
+  GivesNone end.PrinterFault s c = StandsIn stands s c
+
+  -- a byte is taken, or the input has ended
+  abbrev pub GivesByte : Result (Option ℕ) SessionEnd → Shell → C → Type 0
+  GivesByte (Ok (Some byte)) s c =
+      (nat_le limit s.taken ≡ false) × (left : List ℕ) × ((state_in s).input ≡ byte ∷ left) × At at c (took_byte left s)
+  GivesByte (Ok None) s c = (nat_le limit s.taken ≡ false) × ((state_in s).input ≡ []) × At at c s
+  GivesByte (Err e) s c = GivesNone e s c
+
+  -- no line is taken
+  abbrev pub Stops : SessionEnd → Taken → C → Type 0
+  Stops end.InputEnd (ended s) c = At at c s
+  Stops end.Limit (limited s) c = At at c s
+  Stops end.DriveFault taken c = StandsIn stands (shell_of taken) c
+  Stops end.InputFault taken c = StandsIn stands (shell_of taken) c
+  Stops end.TerminalFault taken c = StandsIn stands (shell_of taken) c
+  Stops end.PrinterFault taken c = StandsIn stands (shell_of taken) c
+  Stops _ taken c = ⊥
+
+  -- A line is taken, of which the first bytes are kept, `most` of them, and so many bytes have been taken in the session.
+  abbrev pub GivesLine : (most : ℕ) → Result (Unit {0}) SessionEnd → Taken → (kept : List ℕ) → (count : ℕ) → C → Type 0
+  GivesLine most (Ok x) (took bytes s) kept count c = (kept ≡ take most bytes) × (s.taken ≡ count) × At at c s
+  GivesLine most (Ok x) _ kept count c = ⊥
+  GivesLine most (Err e) taken kept count c = Stops e taken c

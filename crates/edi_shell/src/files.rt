@@ -1,0 +1,73 @@
+//! The commands that change files.
+
+ghost use Rattle.std.specs.Prelude.{◌≡◌, ◌<◌, ◌^◌, true, false, length};
+ghost use Rattle.edi_session.specs.Files.{deletes, protects, renames, stores};
+ghost use Rattle.edi_session.specs.Shell.{Shell};
+ghost use Rattle.edi_shell_calls.specs.Standing.{At, IsLeft, Leads};
+
+use crate::saying::answer;
+use edi_calls::FileKind;
+use edi_image::Title;
+use edi_session::SessionEnd;
+use edi_shell_calls::ShellCalls;
+
+/// Stores bytes as a file, or shows why not.
+pub(crate) fn store_file<C: ShellCalls>(
+    calls: &mut C,
+    title: &Title,
+    kind: FileKind,
+    bytes: &[u8],
+) -> Result<(), SessionEnd>
+    requires ready { C.ready calls.old }
+    requires size { length bytes.now < 2 ^ 32 }
+    ensures exact { (s : Shell) → At C.at calls.old s → C.tells calls.new → Leads C.at C.stands result (stores title.now kind bytes.now s) calls.new }
+    ensures left { IsLeft C.ready C.failed result calls.new }
+    ensures lasts { C.lasts calls.old calls.new }
+{
+    let stored = calls.store(title, kind, bytes);
+    answer(calls, title, title, stored)
+}
+
+/// `delete f`
+pub fn delete_file<C: ShellCalls>(calls: &mut C, f: &Title) -> Result<(), SessionEnd>
+    requires ready { C.ready calls.old }
+    ensures exact { (s : Shell) → At C.at calls.old s → C.tells calls.new → Leads C.at C.stands result (deletes f.now s) calls.new }
+    ensures left { IsLeft C.ready C.failed result calls.new }
+    ensures lasts { C.lasts calls.old calls.new }
+{
+    let deleted = calls.delete(f);
+    answer(calls, f, f, deleted)
+}
+
+/// `rename f g`
+pub fn rename_file<C: ShellCalls>(calls: &mut C, f: &Title, g: &Title) -> Result<(), SessionEnd>
+    requires ready { C.ready calls.old }
+    ensures exact { (s : Shell) → At C.at calls.old s → C.tells calls.new → Leads C.at C.stands result (renames f.now g.now s) calls.new }
+    ensures left { IsLeft C.ready C.failed result calls.new }
+    ensures lasts { C.lasts calls.old calls.new }
+{
+    let renamed = calls.rename(f, g);
+    answer(calls, f, g, renamed)
+}
+
+/// `protect f`
+pub fn protect_file<C: ShellCalls>(calls: &mut C, f: &Title) -> Result<(), SessionEnd>
+    requires ready { C.ready calls.old }
+    ensures exact { (s : Shell) → At C.at calls.old s → C.tells calls.new → Leads C.at C.stands result (protects true f.now s) calls.new }
+    ensures left { IsLeft C.ready C.failed result calls.new }
+    ensures lasts { C.lasts calls.old calls.new }
+{
+    let protected = calls.protect(f);
+    answer(calls, f, f, protected)
+}
+
+/// `release f`
+pub fn release_file<C: ShellCalls>(calls: &mut C, f: &Title) -> Result<(), SessionEnd>
+    requires ready { C.ready calls.old }
+    ensures exact { (s : Shell) → At C.at calls.old s → C.tells calls.new → Leads C.at C.stands result (protects false f.now s) calls.new }
+    ensures left { IsLeft C.ready C.failed result calls.new }
+    ensures lasts { C.lasts calls.old calls.new }
+{
+    let released = calls.release(f);
+    answer(calls, f, f, released)
+}

@@ -1,0 +1,76 @@
+//! Taking lines of the input.
+
+ghost use Rattle.std.specs.Prelude.{◌≡◌, ◌≤◌, ◌<◌, ◌+◌, IfOk, IfSome, IfNone, [], true};
+ghost use Rattle.edi_session.specs.Shell.{Shell, next_line};
+ghost use Rattle.edi_shell_calls.specs.Standing.{At};
+ghost use Rattle.edi_shell.specs.Taking.{GivesByte, GivesLine, IsLeftSo};
+
+use arrayvec::ArrayVec;
+use edi_session::SessionEnd;
+use edi_shell_calls::ShellCalls;
+
+/// The most bytes that the shell takes in a session.
+pub const LIMIT: u32 = 4_194_304;
+
+/// The bytes of a command line, and one that tells that it is too long.
+pub type LineBytes = ArrayVec<u8, 81>;
+
+const LINE_FEED: u8 = 10;
+
+/// The next byte of the input, or none where the input has ended. `taken` counts the bytes that the shell has taken.
+pub(crate) fn next_byte<C: ShellCalls>(
+    calls: &mut C,
+    taken: &mut u32,
+) -> Result<Option<u8>, SessionEnd>
+    requires ready { C.ready calls.old }
+    requires limit { taken.old ≤ LIMIT }
+    ensures exact { (s : Shell) → s.taken ≡ taken.old → At C.at calls.old s → C.tells calls.new → GivesByte C.at C.stands result s calls.new }
+    ensures left { IsLeftSo C.ready C.failed result calls.new }
+    ensures limit { taken.new ≤ LIMIT }
+    ensures more { IfOk result (λ byte. IfSome byte (λ b. taken.new ≡ taken.old + 1)) }
+    ensures same { IfOk result (λ byte. IfNone byte (taken.new ≡ taken.old)) }
+    ensures later { taken.old ≤ taken.new }
+    ensures lasts { C.lasts calls.old calls.new }
+{
+    if *taken >= LIMIT {
+        return Err(SessionEnd::Limit);
+    }
+    let byte = calls.take()?;
+    if byte.is_some() {
+        *taken += 1;
+    }
+    Ok(byte)
+}
+
+/// Takes a command line into `line`, of a line that is too long the first 81 bytes, and shows each byte as it comes.
+pub fn take_command<C: ShellCalls>(
+    calls: &mut C,
+    taken: &mut u32,
+    line: &mut LineBytes,
+) -> Result<(), SessionEnd>
+    requires ready { C.ready calls.old }
+    requires limit { taken.old ≤ LIMIT }
+    requires empty { line.old.items ≡ [] }
+    ensures exact { (s : Shell) → s.taken ≡ taken.old → At C.at calls.old s → C.tells calls.new →
+        GivesLine C.at C.stands 81 result (next_line true s) line.new.items taken.new calls.new }
+    ensures left { IsLeftSo C.ready C.failed result calls.new }
+    ensures limit { taken.new ≤ LIMIT }
+    ensures more { IfOk result (λ x. taken.old < taken.new) }
+    ensures lasts { C.lasts calls.old calls.new }
+{
+    'bytes: loop {
+        let Some(byte) = next_byte(calls, taken)? else {
+            if line.is_empty() {
+                return Err(SessionEnd::InputEnd);
+            }
+            return calls.show(&[LINE_FEED]);
+        };
+        calls.show(&[byte])?;
+        if byte == LINE_FEED {
+            return Ok(());
+        }
+        if !line.is_full() {
+            line.push(byte);
+        }
+    }
+}
