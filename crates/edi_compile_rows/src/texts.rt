@@ -1,6 +1,6 @@
 //! Texts, whole and in pieces: their codes and their first faults.
 
-use edi_compile::{Intake, Pass, Refusal, RefusalKind, compile, front};
+use edi_compile::{Intake, Pass, Refusal, RefusalKind, compile, front, translate};
 use edi_target::Code;
 use std::alloc::Global;
 use std::process::Abort;
@@ -70,12 +70,16 @@ fn pieces_are_one_text(rt: HostRuntime) -> Result<(), Fail> {
 }
 
 #[test]
-fn a_text_has_a_unit(rt: HostRuntime) -> Result<(), Fail> {
-    match front(rt.alloc(), BUFFER.as_bytes()) {
-        Ok(unit) => assert_eq!(rt; unit.blocks.items().len(), 7),
+fn a_text_has_a_unit_and_its_code(rt: HostRuntime) -> Result<(), Fail> {
+    let alloc = rt.alloc();
+    match front(alloc, BUFFER.as_bytes()) {
+        Ok(unit) => {
+            assert_eq!(rt; unit.blocks.items().len(), 7);
+            let code = translate(alloc, &unit)?;
+            assert_same(&rt, &Ok(code), &compile(alloc, BUFFER.as_bytes()))
+        }
         Err(refusal) => panic!(rt; "{refusal}"),
     }
-    Ok(())
 }
 
 /// The refusal of a text, which both calls give.
