@@ -113,7 +113,13 @@ module _ (decide : FirstBytesDecide) (count : ℕ) (least : 64 ≤ count) (file 
         inl (inr (m.all, fetched, inr (blocks_of bytes, (whole a.0, a.0), inl (full, refl))), nothing before after kernel rest m.files l)
     go end.Fault a l = record {
       files = still (λ old new. new ≡ old) before.files after.files m.files;
-      far = inr (changes_drive before after kernel rest IsOpen (told_so (MigrateLeaves end.Fault count (blocks_of bytes)) IsOpen before.blocks after.blocks (λ x y h. tt) l));
+      far =
+          inr (
+            blocks_of bytes,
+            steps a.0 a.1,
+            changes_drive before after kernel rest IsOpen
+                (told_so (MigrateLeaves end.Fault count (blocks_of bytes)) IsOpen before.blocks after.blocks (λ x y h. tt) l),
+          );
     }
     go end.NoMemory a l = nothing before after kernel rest m.files l
 

@@ -5,13 +5,13 @@ use Rattle.edi_host.specs.declared.files.KeepEnd.{KeepEnd}
 use Rattle.edi_host.specs.declared.files.KeepEnd.TheVariants as keep
 use Rattle.edi_image.specs.declared.faults.MountFault.{MountFault}
 use Rattle.edi_image.specs.declared.faults.MountFault.TheVariants as mount
-use Rattle.edi_image.specs.Image.{Holds, mount_fault_of, slots_of}
+use Rattle.edi_image.specs.Image.{mount_fault_of, slots_of}
 use Rattle.edi_catalog.specs.declared.ends.CatEnd.{CatEnd}
 use Rattle.edi_catalog.specs.declared.ends.CatEnd.TheVariants as cat
 use Rattle.edi_statuses.specs.declared.status.Status.{Status}
 use Rattle.edi_statuses.specs.declared.status.Status.TheVariants as status
 use Rattle.edi_statuses.specs.Steps.{IsBrokenRule}
-use Rattle.edi_statuses.specs.Commands.{is_full, put_in}
+use Rattle.edi_statuses.specs.Commands.{ArePut, is_full}
 use Rattle.edi_statuses.specs.Means.{ArePutInPart}
 
 -- the status of a disk that is not mounted for this fault
@@ -29,14 +29,14 @@ stands _ = true
 
 -- The bytes are stored unprotected in place of any file of the title; it is refused exactly where the disk is full.
 abbrev pub StoresOver : {X : Type 0} → Result X CatEnd → (title bytes : List ℕ) → (old new : List (List ℕ)) → Type 0
-StoresOver (Ok done) title bytes old new = (is_full old title (length bytes) ≡ false) × Holds new (put_in title bytes (slots_of old))
+StoresOver (Ok done) title bytes old new = (is_full old title (length bytes) ≡ false) × ArePut title bytes old new
 StoresOver (Err cat.Fault) title bytes old new = (is_full old title (length bytes) ≡ false) × ArePutInPart title bytes old new
 StoresOver (Err why) title bytes old new = (is_full old title (length bytes) ≡ true) × (new ≡ old)
 
 -- the same of a drive that is mounted before
 abbrev pub PutsOn : Status → (title bytes : List ℕ) → (old new : List (List ℕ)) → Type 0
 PutsOn status.Ok title bytes old new =
-    (mount_fault_of old ≡ None) × (is_full old title (length bytes) ≡ false) × Holds new (put_in title bytes (slots_of old))
+    (mount_fault_of old ≡ None) × (is_full old title (length bytes) ≡ false) × ArePut title bytes old new
 PutsOn status.DiskFull title bytes old new = (mount_fault_of old ≡ None) × (is_full old title (length bytes) ≡ true) × (new ≡ old)
 PutsOn (status.BadImage broken) title bytes old new = (mount_fault_of old ≡ Some broken) × (new ≡ old)
 PutsOn status.NoMemory title bytes old new = new ≡ old

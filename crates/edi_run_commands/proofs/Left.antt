@@ -22,6 +22,7 @@ use Rattle.edi_texts.specs.Run.{IsMomentOfCode, IsRunOfCode}
 use Rattle.edi_texts.proofs.Executions.{runs_are_never_bad}
 use Rattle.edi_trace.specs.Drawn.{Drawn}
 use Rattle.edi_statuses.specs.Outside.{Outside, Devices, devices_of, devices_with, seen, still_told, system_on, Shows, KernelLeft, kernel_of}
+use Rattle.edi_run_commands.proofs.Blocks.{end_blocks, moment_blocks}
 use Rattle.edi_statuses.specs.Executions.{Program, text, code, HasCode, HasMoment, HasOutcome, HasRun, NeverBad, StandsAt, StoreIs}
 
 -- ---- what the four objects tell
@@ -147,6 +148,8 @@ module _ (program : Program) (parts : CodeParts) (is : HasCode program parts) (b
           shown_ = sym shows ∙ h.shows.shown;
           printed = h.shows.printed;
           disk = record { valid = valid; files = h.shows.slots };
+          count = h.shows.blocks ∙ ap (λ (s : State). s.blocks) (sym r.system_is)
+              ∙ end_blocks (fetch parts.words) parts.entry parts.calls (execute.system_on x) bound old.source old.drawn r.is.0 r.end r.machine new.drawn r.is.1;
         };
         kernel_is = record {
           parts = parts;
@@ -170,5 +173,7 @@ module _ (program : Program) (parts : CodeParts) (is : HasCode program parts) (b
       shown_ = sym shows ∙ h.shows.shown;
       printed = h.shows.printed;
       disk = record { valid = valid; files = h.shows.slots };
+      count = h.shows.blocks
+          ∙ moment_blocks (fetch parts.words) parts.entry parts.calls (execute.system_on x) bound old.source old.drawn h.moment h.comes;
     };
   }

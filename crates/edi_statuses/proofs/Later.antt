@@ -126,7 +126,7 @@ module _ (b m : Outside) (y : Option (List ℕ)) (still : StillTold m.shown y) w
         (old_later b m y still blocks file) (λ old h. (h.0, blocks_later b m y still (AreMigrated blocks old) shown kernel h.1));
     wants = nothing_later b m y still shown kernel;
     files = λ h. absurd h;
-    drive = drive_later b m y still IsOpen shown kernel;
+    drive = λ h. (h.0, old_later b m y still blocks file (goes h.0) h.1, drive_later b m y still IsOpen shown kernel h.2);
     input = λ h. absurd h;
     output = λ h. absurd h;
   }

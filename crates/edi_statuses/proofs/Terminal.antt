@@ -226,7 +226,7 @@ module _ (b m : Outside) (y : Option (List ℕ)) (still : StillTold m.shown y) w
     ending_is = h.ending_is;
     never_bad = h.never_bad;
     draws = h.draws;
-    leaves = record { input = h.leaves.input; shown_ = h.leaves.shown_; printed = h.leaves.printed; disk = h.leaves.disk };
+    leaves = record { input = h.leaves.input; shown_ = h.leaves.shown_; printed = h.leaves.printed; disk = h.leaves.disk; count = h.leaves.count };
     kernel_is = h.kernel_is;
   }
 
@@ -234,7 +234,7 @@ module _ (b m : Outside) (y : Option (List ℕ)) (still : StillTold m.shown y) w
   stands_silent Holds shown d e bytes h = record {
     moment = h.moment;
     comes = h.comes;
-    at = record { input = h.at.input; shown_ = h.at.shown_; printed = h.at.printed; disk = h.at.disk };
+    at = record { input = h.at.input; shown_ = h.at.shown_; printed = h.at.printed; disk = h.at.disk; count = h.at.count };
   }
 
   pub runs_later : (program : Program) (bound : ℕ) (choices : Choices) (record_file : Option (List ℕ)) (s : Status) (shown : List ℕ) (kernel : Lent)

@@ -167,7 +167,7 @@ abbrev pub put_in : (title bytes : List ℕ) → List (Option File) → List (Op
 put_in title bytes slots = slots_stored title (kind_of bytes) bytes (released title slots)
 
 abbrev pub ArePut : (title bytes : List ℕ) → List (List ℕ) → List (List ℕ) → Type 0
-ArePut title bytes old new = Holds new (put_in title bytes (slots_of old))
+ArePut title bytes old new = (length new ≡ length old) × Holds new (put_in title bytes (slots_of old))
 
 -- ---- THE TABLE OF COMMANDS, by the statuses that the words and the contents decide
 

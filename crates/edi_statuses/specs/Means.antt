@@ -2,7 +2,7 @@
 --
 -- A status that the words and contents decide means what `Comes` says. `NoMemory` may come at the places of `Wants`. The four
 -- faults come where the count of an object rose, and mean what `Breaks` says.
-use Rattle.std.specs.Prelude.{◌≡◌, ◌≤◌, ◌⊎◌, ℕ, Bool, true, false, List, [], ◌∷◌, ◌++◌, Option, Some, None, IsSome, ⊤}
+use Rattle.std.specs.Prelude.{◌≡◌, ◌≤◌, ◌⊎◌, ℕ, Bool, true, false, List, [], ◌∷◌, ◌++◌, length, Option, Some, None, IsSome, ⊤}
 use Rattle.edi_told.specs.Told.{WhereTold}
 use Rattle.edi_calls.specs.Choice.{Choices}
 use Rattle.edi_calls.specs.Outcome.{Ending}
@@ -18,7 +18,7 @@ use Rattle.edi_statuses.specs.Counts.{Counts, HasCause}
 use Rattle.edi_statuses.specs.Outside.{Outside, seen, Shows, SameFiles, SameBut, SameBlocks, SameInput, SamePrinted, IsAsBefore, Lent}
 use Rattle.edi_statuses.specs.Steps.{Reached, goes}
 use Rattle.edi_statuses.specs.Executions.{Program, text, code, Ran, BrokeRun}
-use Rattle.edi_statuses.specs.Commands.{Comes, IsNothing, RunSteps, ExecSteps, PutSteps, ListSteps, released, put_in}
+use Rattle.edi_statuses.specs.Commands.{Comes, IsNothing, RunSteps, ExecSteps, OldSteps, PutSteps, ListSteps, released, put_in}
 
 -- ---- want of memory
 
@@ -68,10 +68,12 @@ pub record ChangesDrive (P : List (List ℕ) → List (List ℕ) → Type 0) (be
   pub printed : SamePrinted before after
   pub kernel_same : kernel.after ≡ kernel.before
 
--- The drive behind a `put` that it broke off: the files from before it, these with the file released, or those that it was to leave.
+-- The drive behind a `put` that it broke off: as many blocks as before it, and the files from before it, these with the file
+-- released, or those that it was to leave.
 abbrev pub ArePutInPart : (title bytes : List ℕ) → List (List ℕ) → List (List ℕ) → Type 0
 ArePutInPart title bytes old new =
-    Holds new (slots_of old) ⊎ (Holds new (released title (slots_of old)) ⊎ Holds new (put_in title bytes (slots_of old)))
+    (length new ≡ length old)
+    × (Holds new (slots_of old) ⊎ (Holds new (released title (slots_of old)) ⊎ Holds new (put_in title bytes (slots_of old))))
 
 -- a first part of these bytes was shown, and nothing else has changed
 pub record ShowsFront (bytes : List ℕ) (before after : Outside) (shown : List ℕ) (kernel : Lent) : Type 0 where
@@ -115,7 +117,9 @@ ComesToBreak s (words.exec file o) before after shown kernel =
     Begun (ExecSteps before file o.choices) (λ a. BrokeRun (code a.0) o.turns a.1 before after shown)
 ComesToBreak status.DriveFault (words.put file title) before after shown kernel =
     Begun (PutSteps before file title) (λ bytes. ChangesDrive (ArePutInPart title bytes) before after shown kernel)
-ComesToBreak status.DriveFault (words.newdisk blocks old) before after shown kernel = ChangesDrive IsOpen before after shown kernel
+ComesToBreak status.DriveFault (words.newdisk blocks None) before after shown kernel = ChangesDrive IsOpen before after shown kernel
+ComesToBreak status.DriveFault (words.newdisk blocks (Some file)) before after shown kernel =
+    Begun (OldSteps before blocks file) (λ old. ChangesDrive IsOpen before after shown kernel)
 ComesToBreak status.OutputFault (words.list file) before after shown kernel =
     Begun (ListSteps before file) (λ parts. ShowsFront (listing_of parts.words) before after shown kernel)
 ComesToBreak s c before after shown kernel = ⊥

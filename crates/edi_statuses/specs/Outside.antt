@@ -126,12 +126,14 @@ system_on d = record {
   buffer = None;
 }
 
--- the devices before are those of `d`, and behind the call have just what this state has, where these bytes were shown in it
+-- the devices before are those of `d`, and behind the call have just what this state has, where these bytes were shown in it; the
+-- drive has as many blocks as before
 pub record DevicesAreAt (state : State) (d after : Devices) (shown : List ℕ) : Type 0 where
   pub input : after.input ≡ state.input
   pub shown_ : d.shown ++ shown ≡ state.shown
   pub printed : after.printed ≡ state.printed
   pub disk : Holds after.blocks state.slots
+  pub count : length after.blocks ≡ length d.blocks
 
 -- the same of what an outcome leaves
 pub record OutcomeLeaves (outcome : Outcome) (d after : Devices) (shown : List ℕ) : Type 0 where
@@ -139,6 +141,7 @@ pub record OutcomeLeaves (outcome : Outcome) (d after : Devices) (shown : List �
   pub shown_ : d.shown ++ shown ≡ outcome.shown
   pub printed : after.printed ≡ outcome.printed
   pub disk : Holds after.blocks outcome.slots
+  pub count : length after.blocks ≡ length d.blocks
 
 -- ---- the kernel that was lent
 

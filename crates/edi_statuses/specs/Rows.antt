@@ -151,7 +151,7 @@ code_shows_a files code_file store used = (
         ending_is = refl;
         never_bad = tt;
         draws = refl;
-        leaves = record { input = refl; shown_ = refl; printed = refl; disk = record { valid = refl; files = refl } };
+        leaves = record { input = refl; shown_ = refl; printed = refl; disk = record { valid = refl; files = refl }; count = refl };
         kernel_is = record { parts = shows_a; parts_are = refl; machine = end_of shows_a 1000000; ends = (200, refl); turns = refl; store = refl };
       };
       keeps = refl;
@@ -181,7 +181,7 @@ a_bound_is_used_up files code_file store used = (
         ending_is = refl;
         never_bad = tt;
         draws = refl;
-        leaves = record { input = refl; shown_ = refl; printed = refl; disk = record { valid = refl; files = refl } };
+        leaves = record { input = refl; shown_ = refl; printed = refl; disk = record { valid = refl; files = refl }; count = refl };
         kernel_is = record { parts = shows_a; parts_are = refl; machine = end_of shows_a 1; ends = (200, refl); turns = refl; store = tt };
       };
       keeps = refl;

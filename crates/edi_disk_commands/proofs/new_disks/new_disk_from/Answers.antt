@@ -61,3 +61,17 @@ returns-in-Full-clause-means g c =
       answers = c.in-Full.ensures.answers;
       leaves = c.in-Full.ensures.leaves;
     })
+
+pub returns-in-Fault-clause-means : goal.returns-in-Fault-clause-means
+returns-in-Fault-clause-means g c =
+    let f = c.in-Ok.ensures.fetched in
+    migrated_means first_bytes_decide end.Fault c.args.blocks c.requires.least c.args.file.now c.deref.result.now (g.F.Files.contents c.args.files.now)
+    (g.F.Files.contents c.fetch.new.files) (g.D.Drive.contents c.args.drive.now) (g.D.Drive.contents c.migrate.new.drive)
+    (record {
+      all = f.0;
+      fetched = f.1;
+      front = c.deref.ensures.value ∙ f.2;
+      files = c.in-Ok.ensures.unchanged;
+      answers = c.in-Fault.ensures.answers;
+      leaves = c.in-Fault.ensures.leaves;
+    })
