@@ -1,5 +1,6 @@
 -- A call of a block: it is entered, its body is executed one level deeper, and it is left.
-use Rattle.std.proofs.Common.{◌≡◌, ℕ, suc, ◌+◌, ◌-◌, ◌/◌, ◌%◌, ◌<◌, ◌≤◌, ◌^◌, ◌⊎◌, inl, inr, Bool, false, List, length, get_or, Option, Some, None, refl, sym, subst, ap, ◌∙◌, arith}
+use Rattle.std.proofs.Common.{◌≡◌, ℕ, suc, ◌+◌, ◌-◌, ◌/◌, ◌%◌, ◌<◌, ◌≤◌, ◌^◌, ◌⊎◌, inl, inr, Bool, false, List, length, get_or, Option, Some, None, refl}
+use Rattle.std.proofs.Common.{sym, subst, ap, ◌∙◌, arith}
 use Rattle.std.specs.Prelude.{nat_lt}
 use Rattle.edi_calls.specs.Names.{Name}
 use Rattle.edi_store.specs.Memory.{words_at}

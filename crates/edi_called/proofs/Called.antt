@@ -149,7 +149,8 @@ module _ (g : Coded) (long : ValuesAreLong) (zeros : ZeroIsZeros) (s : Scene) (d
                 mirrors = less.mirrors;
                 typed = less.typed;
                 long = less.long;
-                untouched = λ a b o. untouched_inside g long zeros s F w m h n parent cells c t to line pc held low few stood does free k turns v x.memory x.cleared x.after a b (omega (arith, high)) o;
+                untouched = λ a b o. untouched_inside g long zeros s F w m h n parent cells c t to line pc held low few stood does free k turns v x.memory
+                    x.cleared x.after a b (omega (arith, high)) o;
                 turns = omega (arith, turns, e, x.after.turns);
                 clears = λ q. omega (arith, turns, e, x.after.turns);
               } in

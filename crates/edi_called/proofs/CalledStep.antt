@@ -1,5 +1,6 @@
 -- A call as a step of its process: a block is entered, and its work comes first; a call of the system is executed whole.
-use Rattle.std.proofs.Common.{◌≡◌, ℕ, zero, suc, ◌+◌, ◌-◌, ◌<◌, ◌≤◌, ◌⊎◌, inl, inr, Bool, true, false, ◌||◌, if◌then◌else◌, List, ◌∷◌, length, None, refl, sym, subst, ap, ◌∙◌, arith}
+use Rattle.std.proofs.Common.{◌≡◌, ℕ, zero, suc, ◌+◌, ◌-◌, ◌<◌, ◌≤◌, ◌⊎◌, inl, inr, Bool, true, false, ◌||◌, if◌then◌else◌, List, ◌∷◌, length, None, refl}
+use Rattle.std.proofs.Common.{sym, subst, ap, ◌∙◌, arith}
 use Rattle.std.specs.Prelude.{nat_lt}
 use Rattle.edi_calls.specs.declared.kinds.Cause.TheVariants as cause
 use Rattle.edi_calls.specs.Names.{Name}
@@ -138,7 +139,8 @@ module _ (g : Coded) (long : ValuesAreLong) (zeros : ZeroIsZeros) (s : Scene)
         entering.room g long zeros s F w m h n y.parent cells y.called t to line pc 0 low few passed.words y.does free in
         let words : List ℕ = ws g long zeros s F w m h n y.parent cells y.called t to in
         let as_length : length words ≡ B.need = ws_length g long zeros s F w m h n y.parent cells y.called t to in
-        goes_on_from g s K out now_mem (stands_new g long zeros s F w m h n y.parent cells y.called t to line pc 0 low few passed.words y.does free k) store from
+        goes_on_from g s K out now_mem (stands_new g long zeros s F w m h n y.parent cells y.called t to line pc 0 low few passed.words y.does free k) store
+        from
         (λ q apart. (e g long zeros s F w m h n y.parent cells y.called t to line pc 0 low few passed.words y.does free).theirs q apart ∙ sym (shaped.each q))
         (λ a wi o. elim wi [
           | inl l ↦ word_before g long zeros s F w m h n y.parent cells y.called words as_length fitting a (omega (arith, l))

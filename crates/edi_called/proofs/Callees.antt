@@ -1,5 +1,6 @@
 -- What a callee means where it is called: its block, with the instance round it.
-use Rattle.std.proofs.Common.{◌≡◌, ℕ, zero, suc, ◌+◌, ◌<◌, ◌≤◌, ◌^◌, ◌⊎◌, inl, inr, false, if◌then◌else◌, List, [], ◌∷◌, ◌++◌, map, length, get_or, Option, Some, None, refl, sym, subst, ap, ◌∙◌, arith}
+use Rattle.std.proofs.Common.{◌≡◌, ℕ, zero, suc, ◌+◌, ◌<◌, ◌≤◌, ◌^◌, ◌⊎◌, inl, inr, false, if◌then◌else◌, List, [], ◌∷◌, ◌++◌, map, length, get_or, Option}
+use Rattle.std.proofs.Common.{Some, None, refl, sym, subst, ap, ◌∙◌, arith}
 use Rattle.std.specs.Prelude.{IsTrue, nat_eq, slice_get, option_to_list}
 use Rattle.std.proofs.lemmas.Bool.{le-leb, ne_eqb}
 use Rattle.std.proofs.lemmas.Option.{slice_get_within}
@@ -12,7 +13,8 @@ use Rattle.edi_unit.specs.declared.units.Parameter.{Parameter}
 use Rattle.edi_unit.specs.declared.units.Parameter.TheVariants as slot
 use Rattle.edi_unit.specs.Need.{outer, slots, slot_at, slot_result, callee_result}
 use Rattle.edi_unit.specs.Fits.{Heading, heading_result, heading_formals, callee_heading, CalleeFits, ResultAgrees, ResultsAgree, first_parameter, is_procedure}
-use Rattle.edi_meaning.specs.Store.{Spot, Closure, system_procedure, block_procedure, Cell, value, location, procedure, procedure_in, Shape, shape, frame_at, reached, now, cell, IsLive, Older}
+use Rattle.edi_meaning.specs.Store.{Spot, Closure, system_procedure, block_procedure, Cell, value, location, procedure, procedure_in, Shape, shape, frame_at}
+use Rattle.edi_meaning.specs.Store.{reached, now, cell, IsLive, Older}
 use Rattle.edi_meaning.specs.Evaluation.{World}
 use Rattle.edi_meaning.specs.Whole.{meant}
 use Rattle.edi_meaning.proofs.References.{older_self, older_all}
@@ -156,7 +158,8 @@ module _ (g : Coded) (s : Scene) (F : Shape) (w : World) (m : List ℕ) (h : Sta
     far_level = level_is g s.live s.waits s.first s.size F lay w.store m h.mirrors levels r now_lives
 
     -- a block by its name
-    by_name : (n : ℕ) → code.InstructionStands g.fetched pc (op.call levels (entry g n) line) to → CalleeFits g.unit.blocks (here g s F) (callee.Block levels n) →
+    by_name : (n : ℕ) → code.InstructionStands g.fetched pc (op.call levels (entry g n) line) to → CalleeFits g.unit.blocks (here g s F)
+        (callee.Block levels n) →
         CellsFit g s F r (heading_formals (callee_heading g.fits.headings g.unit.blocks (here g s F) (callee.Block levels n))) cells →
         ByBlock g s F w m h (callee.Block levels n) line pc to top held cells
     by_name n at fits args = record {

@@ -111,10 +111,13 @@ module _ (g : Coded) (long : ValuesAreLong) (zeros : ZeroIsZeros) (s : Scene) (d
           let high : t + pieces.result_words g.unit.types (block g y.number).result ≤ frames_end s.first F p = omega (arith, same, able.high) in
           subst (λ cl. Does g s F pc (t + length (cells_words g s.first F cells)) t held w m (Pushed g s of to t)
           (function_call g.unit p (s.size p) deeper cl cells line w)) (sym y.means)
-          (block_does g long zeros s deeper bound deep F w m able.stands y.number y.parent cells y.called t to line pc held able.low able.few passed.words y.does high turns (omega (arith, flag)) (result_of g.unit p (s.size p)) (Pushed g s of to t) (λ free v mm j stood.
-          result_pushed g s (H g long zeros s F w m able.stands y.number y.parent cells y.called t to line pc held able.low able.few passed.words y.does free) v mm stood y.number of (frames_end s.first F p)
+          (block_does g long zeros s deeper bound deep F w m able.stands y.number y.parent cells y.called t to line pc held able.low able.few passed.words
+          y.does high turns (omega (arith, flag)) (result_of g.unit p (s.size p)) (Pushed g s of to t) (λ free v mm j stood.
+          result_pushed g s (H g long zeros s F w m able.stands y.number y.parent cells y.called t to line pc held able.low able.few passed.words y.does free)
+          v mm stood y.number of (frames_end s.first F p)
           (at_new g long zeros s F w m able.stands y.number y.parent cells y.called t to line pc held able.low able.few passed.words y.does free)
-          (of_new g long zeros s F w m able.stands y.number y.parent cells y.called t to line pc held able.low able.few passed.words y.does free) result t to (pieces.result_words g.unit.types (block g y.number).result) sized high))
+          (of_new g long zeros s F w m able.stands y.number y.parent cells y.called t to line pc held able.low able.few passed.words y.does free) result t to
+          (pieces.result_words g.unit.types (block g y.number).result) sized high))
 
   pub procedure_claim : SystemClaim g s deeper bound → ProcedureClaim g s deeper bound
   procedure_claim system c line cells F pc to t held w m turns phase st fits res able passed =
@@ -132,7 +135,9 @@ module _ (g : Coded) (long : ValuesAreLong) (zeros : ZeroIsZeros) (s : Scene) (d
           let none : pieces.result_words g.unit.types (block g y.number).result ≡ 0 = ap (pieces.result_words g.unit.types) (y.result ∙ res) in
           subst (λ cl. Does g s F pc (t + length (cells_words g s.first F cells)) t held w m (Ran g s to t)
           (procedure_call g.unit p (s.size p) deeper cl cells line w)) (sym y.means)
-          (block_does g long zeros s deeper bound deep F w m able.stands y.number y.parent cells y.called t to line pc held able.low able.few passed.words y.does (omega (arith, none, able.high)) turns (omega (arith, phase)) (λ v. tt) (Ran g s to t) (λ free v mm j stood. record { pc_is = refl; top_is = omega (arith, none) }))
+          (block_does g long zeros s deeper bound deep F w m able.stands y.number y.parent cells y.called t to line pc held able.low able.few passed.words
+          y.does (omega (arith, none, able.high)) turns (omega (arith, phase)) (λ v. tt) (Ran g s to t)
+          (λ free v mm j stood. record { pc_is = refl; top_is = omega (arith, none) }))
 
 -- THE CALLS, from what a call of the system does
 pub calls : (g : Coded) → ValuesAreLong → ZeroIsZeros → (s : Scene) (deeper : Acts → World → Evaluation (Unit {0})) (bound : ℕ) → SystemClaim g s deeper bound →

@@ -1,13 +1,16 @@
 -- A frame comes: a block is entered, and all that holds of memory and variables holds with the new instance.
-use Rattle.std.proofs.Common.{◌≡◌, ℕ, zero, suc, ◌+◌, ◌<◌, ◌≤◌, ◌^◌, ◌⊎◌, inl, inr, false, List, [], ◌∷◌, ◌++◌, take, length, get_or, refl, sym, subst, ap, ◌∙◌, arith}
+use Rattle.std.proofs.Common.{◌≡◌, ℕ, zero, suc, ◌+◌, ◌<◌, ◌≤◌, ◌^◌, ◌⊎◌, inl, inr, false, List, [], ◌∷◌, ◌++◌, take, length, get_or, refl, sym, subst, ap}
+use Rattle.std.proofs.Common.{◌∙◌, arith}
 use Rattle.std.specs.Prelude.{IsTrue, sum_by, slice_index_or}
 use Rattle.edi_calls.specs.Names.{Name, same}
 use Rattle.edi_calls.proofs.Tables.{same-or-other, same-symmetric}
 use Rattle.edi_store.specs.Memory.{words_at, written}
-use Rattle.edi_store.proofs.MemoryLaws.{length-written, get_or-written_before, get_or-written_here, get_or-written_after, words_at-written, words_at-written_apart}
+use Rattle.edi_store.proofs.MemoryLaws.{length-written, get_or-written_before, get_or-written_here, get_or-written_after, words_at-written}
+use Rattle.edi_store.proofs.MemoryLaws.{words_at-written_apart}
 use Rattle.edi_unit.specs.Need.{slots, slot_words, variable_words, acts_height}
 use Rattle.edi_unit.specs.Fits.{heading_formals, block_heading, is_called}
-use Rattle.edi_meaning.specs.Store.{Spot, Cell, no_cell, Frame, Instance, Store, Shape, instances, frames, shape, frame_at, now, used, cells_in, cell, grown, Owns, IsLive, Older, within, above}
+use Rattle.edi_meaning.specs.Store.{Spot, Cell, no_cell, Frame, Instance, Store, Shape, instances, frames, shape, frame_at, now, used, cells_in, cell, grown}
+use Rattle.edi_meaning.specs.Store.{Owns, IsLive, Older, within, above}
 use Rattle.edi_meaning.specs.Evaluation.{World}
 use Rattle.edi_meaning.specs.Whole.{instance_of}
 use Rattle.edi_meaning.proofs.Frames.{HasShape, own_shape, shape-grown, length-frames}
@@ -21,7 +24,8 @@ use Rattle.edi_spots.specs.Claims.{CellsFit}
 use Rattle.edi_spots.proofs.Places.{tail_free, changed, start_within, roomy}
 use Rattle.edi_spots.proofs.Free.{slot_within}
 use Rattle.edi_spots.proofs.Rows.{part_stands, Aligned, aligned_length, aligned_count, row_words}
-use Rattle.edi_called.proofs.Grown.{IsGrown, new, longer, old_lives, which, new_frame, old_frame, new_address, old_address, ends_later, used_other, Stays, words_stay}
+use Rattle.edi_called.proofs.Grown.{IsGrown, new, longer, old_lives, which, new_frame, old_frame, new_address, old_address, ends_later, used_other, Stays}
+use Rattle.edi_called.proofs.Grown.{words_stay}
 use Rattle.edi_called.proofs.Cells.{hold_at, all_aligned, all_hold}
 
 -- ---- one list of instances

@@ -1,10 +1,12 @@
 -- A frame goes: the newest instance of a process ends, and all that holds of memory and variables holds without it.
-use Rattle.std.proofs.Common.{◌≡◌, ℕ, zero, suc, ◌+◌, ◌-◌, ◌<◌, ◌≤◌, ◌⊎◌, inl, inr, false, List, [], ◌∷◌, take, length, length-append, refl, sym, subst, ap, ◌∙◌, arith}
+use Rattle.std.proofs.Common.{◌≡◌, ℕ, zero, suc, ◌+◌, ◌-◌, ◌<◌, ◌≤◌, ◌⊎◌, inl, inr, false, List, [], ◌∷◌, take, length, length-append, refl, sym, subst, ap}
+use Rattle.std.proofs.Common.{◌∙◌, arith}
 use Rattle.std.specs.Prelude.{slice_index_or}
 use Rattle.edi_calls.specs.Names.{Name, same}
 use Rattle.edi_calls.proofs.Tables.{same-or-other}
 use Rattle.edi_store.specs.Memory.{words_at}
-use Rattle.edi_meaning.specs.Store.{Spot, no_cell, Frame, Instance, Store, Shape, instances, frames, shape, frame_at, used, cells_in, cell, shrunk, IsLive, Older}
+use Rattle.edi_meaning.specs.Store.{Spot, no_cell, Frame, Instance, Store, Shape, instances, frames, shape, frame_at, used, cells_in, cell, shrunk, IsLive}
+use Rattle.edi_meaning.specs.Store.{Older}
 use Rattle.edi_meaning.proofs.Frames.{HasShape, shape-shrunk, length-frames}
 use Rattle.edi_meaning.proofs.Own.{instances-same, instances-other}
 use Rattle.edi_target.specs.Memory.{word}

@@ -1,5 +1,6 @@
 -- One more frame of a process, behind its others: where all spots are with it and without it.
-use Rattle.std.proofs.Common.{◌≡◌, ℕ, zero, suc, ◌+◌, ◌-◌, ◌<◌, ◌≤◌, ◌⊎◌, inl, inr, false, List, [], ◌∷◌, ◌++◌, length, length-append, Option, Some, None, refl, sym, subst, ap, ◌∙◌, arith}
+use Rattle.std.proofs.Common.{◌≡◌, ℕ, zero, suc, ◌+◌, ◌-◌, ◌<◌, ◌≤◌, ◌⊎◌, inl, inr, false, List, [], ◌∷◌, ◌++◌, length, length-append, Option, Some, None}
+use Rattle.std.proofs.Common.{refl, sym, subst, ap, ◌∙◌, arith}
 use Rattle.std.proofs.lemmas.List.{take-append-le}
 use Rattle.edi_calls.specs.Names.{Name, same}
 use Rattle.edi_calls.proofs.Tables.{same-or-other, same-symmetric}
@@ -7,7 +8,8 @@ use Rattle.edi_unit.specs.declared.units.Parameter.{Parameter}
 use Rattle.edi_unit.specs.declared.units.Parameter.TheVariants as slot
 use Rattle.edi_unit.specs.Need.{slot_type}
 use Rattle.edi_unit.specs.Fits.{Heading}
-use Rattle.edi_meaning.specs.Store.{Spot, Location, system_procedure, block_procedure, Cell, value, location, procedure, Frame, Shape, frame_at, used, now, Owns, IsLive, Older, within, above}
+use Rattle.edi_meaning.specs.Store.{Spot, Location, system_procedure, block_procedure, Cell, value, location, procedure, Frame, Shape, frame_at, used, now}
+use Rattle.edi_meaning.specs.Store.{Owns, IsLive, Older, within, above}
 use Rattle.edi_target.specs.Op.{high_word, low_word}
 use Rattle.edi_worded.specs.Words.{path_offset}
 use Rattle.edi_spots.specs.Coded.{Coded, entry, slot_in, offset}

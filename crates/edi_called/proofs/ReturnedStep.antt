@@ -1,5 +1,6 @@
 -- The end of a procedure as a step of its process: its frame goes, and the process is behind the call with the work that was left.
-use Rattle.std.proofs.Common.{◌≡◌, ℕ, zero, suc, ◌+◌, ◌-◌, ◌<◌, ◌≤◌, ◌^◌, ◌⊎◌, inl, inr, true, false, ◌||◌, List, [], ◌∷◌, ◌++◌, take, length, refl, sym, subst, ap, ◌∙◌, arith}
+use Rattle.std.proofs.Common.{◌≡◌, ℕ, zero, suc, ◌+◌, ◌-◌, ◌<◌, ◌≤◌, ◌^◌, ◌⊎◌, inl, inr, true, false, ◌||◌, List, [], ◌∷◌, ◌++◌, take, length, refl, sym}
+use Rattle.std.proofs.Common.{subst, ap, ◌∙◌, arith}
 use Rattle.edi_calls.specs.Names.{Name}
 use Rattle.edi_calls.specs.Outcome as outcome
 use Rattle.edi_meaning.specs.Store.{Frame, Shape, frames, shape, now, used, shrunk, IsLive}

@@ -50,7 +50,8 @@ module _ (g : Coded) (s : Scene) (F G : Shape) (f : Frame) (e : IsGrown s.name f
     others = λ q n. sym (e.theirs q n) ∙ h.others q n;
   }
 
-  module _ (pc next top held r flag t back : ℕ) (at : code.InstructionStands g.fetched pc (op.return r flag) next) (k : Keeps s F m back t) (low : base_of g s F ≤ t)
+  module _ (pc next top held r flag t back : ℕ) (at : code.InstructionStands g.fetched pc (op.return r flag) next) (k : Keeps s F m back t)
+      (low : base_of g s F ≤ t)
       (high : t + r ≤ frames_end s.first F p) (result : frames_end s.first F p + 5 + r ≤ 2 ^ 16) where
     abbrev b : ℕ
     b = frames_end s.first F p

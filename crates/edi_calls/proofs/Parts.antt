@@ -91,20 +91,69 @@ unmoved (inr e) same = e ∙ same
 whole : (before next after : State) → ChangesOnePart before next → next.blocks ≡ before.blocks → IsTorn before next after
     → IsSameOutside before after ⊎ IsSameOutside next after
 whole before next after (only_input shown printed slots) blocks torn = elim torn.input [
-  | inl e ↦ inl (record { input = e; shown = unmoved torn.shown shown; printed = unmoved torn.printed printed; slots = unmoved torn.slots slots; blocks = torn.blocks })
-  | inr e ↦ inr (record { input = e; shown = unmoved torn.shown shown ∙ sym shown; printed = unmoved torn.printed printed ∙ sym printed; slots = unmoved torn.slots slots ∙ sym slots; blocks = torn.blocks ∙ sym blocks })
+  | inl e ↦ inl (record {
+    input = e;
+    shown = unmoved torn.shown shown;
+    printed = unmoved torn.printed printed;
+    slots = unmoved torn.slots slots;
+    blocks = torn.blocks;
+  })
+  | inr e ↦ inr (record {
+    input = e;
+    shown = unmoved torn.shown shown ∙ sym shown;
+    printed = unmoved torn.printed printed ∙ sym printed;
+    slots = unmoved torn.slots slots ∙ sym slots;
+    blocks = torn.blocks ∙ sym blocks;
+  })
 ]
 whole before next after (only_shown input printed slots) blocks torn = elim torn.shown [
-  | inl e ↦ inl (record { input = unmoved torn.input input; shown = e; printed = unmoved torn.printed printed; slots = unmoved torn.slots slots; blocks = torn.blocks })
-  | inr e ↦ inr (record { input = unmoved torn.input input ∙ sym input; shown = e; printed = unmoved torn.printed printed ∙ sym printed; slots = unmoved torn.slots slots ∙ sym slots; blocks = torn.blocks ∙ sym blocks })
+  | inl e ↦ inl (record {
+    input = unmoved torn.input input;
+    shown = e;
+    printed = unmoved torn.printed printed;
+    slots = unmoved torn.slots slots;
+    blocks = torn.blocks;
+  })
+  | inr e ↦ inr (record {
+    input = unmoved torn.input input ∙ sym input;
+    shown = e;
+    printed = unmoved torn.printed printed ∙ sym printed;
+    slots = unmoved torn.slots slots ∙ sym slots;
+    blocks = torn.blocks ∙ sym blocks;
+  })
 ]
 whole before next after (only_printed input shown slots) blocks torn = elim torn.printed [
-  | inl e ↦ inl (record { input = unmoved torn.input input; shown = unmoved torn.shown shown; printed = e; slots = unmoved torn.slots slots; blocks = torn.blocks })
-  | inr e ↦ inr (record { input = unmoved torn.input input ∙ sym input; shown = unmoved torn.shown shown ∙ sym shown; printed = e; slots = unmoved torn.slots slots ∙ sym slots; blocks = torn.blocks ∙ sym blocks })
+  | inl e ↦ inl (record {
+    input = unmoved torn.input input;
+    shown = unmoved torn.shown shown;
+    printed = e;
+    slots = unmoved torn.slots slots;
+    blocks = torn.blocks;
+  })
+  | inr e ↦ inr (record {
+    input = unmoved torn.input input ∙ sym input;
+    shown = unmoved torn.shown shown ∙ sym shown;
+    printed = e;
+    slots = unmoved torn.slots slots ∙ sym slots;
+    blocks = torn.blocks ∙ sym blocks;
+  })
 ]
 whole before next after (only_slots input shown printed) blocks torn = elim torn.slots [
-  | inl e ↦ inl (record { input = unmoved torn.input input; shown = unmoved torn.shown shown; printed = unmoved torn.printed printed; slots = e; blocks = torn.blocks })
-  | inr e ↦ inr (record { input = unmoved torn.input input ∙ sym input; shown = unmoved torn.shown shown ∙ sym shown; printed = unmoved torn.printed printed ∙ sym printed; slots = e; blocks = torn.blocks ∙ sym blocks })
+  | inl e ↦ inl (record {
+    input = unmoved torn.input input;
+    shown = unmoved torn.shown shown;
+    printed = unmoved torn.printed printed;
+    slots = e;
+    blocks = torn.blocks;
+  })
+  | inr e ↦ inr (record {
+    input = unmoved torn.input input ∙ sym input;
+    shown = unmoved torn.shown shown ∙ sym shown;
+    printed = unmoved torn.printed printed
+        ∙ sym printed;
+    slots = e;
+    blocks = torn.blocks ∙ sym blocks;
+  })
 ]
 
 pub torn_is_before_or_behind_all : TornIsBeforeOrBehind

@@ -1,5 +1,6 @@
 -- What every state keeps, call by call.
-use Rattle.std.proofs.Common.{◌≡◌, ℕ, zero, suc, ◌+◌, ◌<◌, Bool, true, false, List, [], ◌∷◌, ◌++◌, length, map, Option, Some, None, refl, sym, ap, ◌∙◌, subst, arith, length-append, lt-ltb, le-leb, ltb-true, length-set}
+use Rattle.std.proofs.Common.{◌≡◌, ℕ, zero, suc, ◌+◌, ◌<◌, Bool, true, false, List, [], ◌∷◌, ◌++◌, length, map, Option, Some, None, refl, sym, ap, ◌∙◌}
+use Rattle.std.proofs.Common.{subst, arith, length-append, lt-ltb, le-leb, ltb-true, length-set}
 use Rattle.std.specs.Prelude.{if◌then◌else◌, ⊤, ◌&&◌, slice_index, slice_get, nat_lt, nat_le, ◌==◌}
 use Rattle.std.specs.Option.{option_map_or, option_and_then}
 use Rattle.std.specs.List.{list_all}
@@ -7,7 +8,8 @@ use Rattle.std.specs.Str.{bytes_eq}
 use Rattle.std.proofs.lemmas.List.Folds.{list_all-append}
 use Rattle.edi_calls.specs.declared.kinds.FileKind.{FileKind}
 use Rattle.edi_calls.specs.declared.kinds.FileKind.TheVariants as kind
-use Rattle.edi_calls.specs.State.{File, Found, State, IsState, IsFoundAs, IsFoundIn, is_buffer, are_bytes, is_byte, is_slot, is_title, without_blanks, character, most_bytes, title_of, find_file, free, blocks_of}
+use Rattle.edi_calls.specs.State.{File, Found, State, IsState, IsFoundAs, IsFoundIn, is_buffer, are_bytes, is_byte, is_slot, is_title, without_blanks}
+use Rattle.edi_calls.specs.State.{character, most_bytes, title_of, find_file, free, blocks_of}
 use Rattle.edi_calls.specs.Calls as calls
 use Rattle.edi_calls.specs.Calls.{CallResult, answered, no_file, file_limit, gives, call, text_file, other_than, room_for, slot_for, open_slot}
 use Rattle.edi_calls.specs.Laws.{StatesStaySound, ClosedFilesAreFound}

@@ -54,7 +54,8 @@ module _ {A : Type 0} where
   find-with_at-other [] p q a n = ap (λ b. if b then Some a else None) n
   find-with_at-other (entry ∷ t) p q a n = go (same p entry.0) refl (find-with_at-other t p q a n)
     where
-      go : (b : Bool) → same p entry.0 ≡ b → find (with_at t p a) q ≡ find t q → find (if b then (entry.0, a) ∷ t else entry ∷ with_at t p a) q ≡ find (entry ∷ t) q
+      go : (b : Bool) → same p entry.0 ≡ b → find (with_at t p a) q ≡ find t q → find (if b then (entry.0, a) ∷ t else entry ∷ with_at t p a) q ≡ find
+          (entry ∷ t) q
       go true e h =
           let m : same q entry.0 ≡ false = subst (λ x. same q x ≡ false) (same-equal p entry.0 e) n in
           ap (λ b. if b then Some a else find t q) m ∙ sym (ap (λ b. if b then Some entry.1 else find t q) m)
@@ -85,7 +86,8 @@ module _ {A : Type 0} where
   with_at-found [] p a e = cc
   with_at-found (entry ∷ t) p a e = go (same p entry.0) refl e (with_at-found t p a)
     where
-      go : (b : Bool) → same p entry.0 ≡ b → (if b then Some entry.1 else find t p) ≡ Some a → (find t p ≡ Some a → with_at t p a ≡ t) → (if b then (entry.0, a) ∷ t else entry ∷ with_at t p a) ≡ (entry ∷ t)
+      go : (b : Bool) → same p entry.0 ≡ b → (if b then Some entry.1 else find t p) ≡ Some a → (find t p ≡ Some a → with_at t p a ≡ t)
+          → (if b then (entry.0, a) ∷ t else entry ∷ with_at t p a) ≡ (entry ∷ t)
       go true e f ih = let h : entry.1 ≡ a = some f in ap (λ x. (entry.0, x) ∷ t) (sym h)
         where
           some : Some entry.1 ≡ Some a → entry.1 ≡ a

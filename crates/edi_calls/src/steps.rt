@@ -3,7 +3,8 @@
 ghost use Rattle.std.specs.Prelude.{◌≡◌, ◌≤◌, ◌<◌, length, IfSome, ◌%◌, slice_get};
 ghost use Rattle.std.specs.Option.{option_copied, option_map};
 ghost use Rattle.edi_calls.specs.State.{most_bytes, free, find_file};
-ghost use Rattle.edi_calls.specs.Calls.{found_in, found_bytes, other_than, room_for, accept, display, print, find, more, read, fresh_buffer, write, close, close_as, stored, remove, remove_as, word_of, call, argument_words};
+ghost use Rattle.edi_calls.specs.Calls.{found_in, found_bytes, other_than, room_for, accept, display, print, find, more, read, fresh_buffer, write, close};
+ghost use Rattle.edi_calls.specs.Calls.{close_as, stored, remove, remove_as, word_of, call, argument_words};
 ghost use Rattle.edi_calls.specs.MemoryCalls.{new_index};
 ghost use Rattle.edi_calls.specs.Memory.{found_of, state_of, Reaches};
 

@@ -1,5 +1,6 @@
 -- The files of an image in which the entry of one slot is written.
-use Rattle.std.proofs.Common.{◌≡◌, ℕ, suc, ◌+◌, ◌-◌, ◌/◌, ◌<◌, ◌≤◌, ◌⊎◌, inl, inr, Bool, true, false, List, [], ◌∷◌, ◌++◌, length, take, set, get_or, refl, ap, sym, subst, ◌∙◌, arith, append_assoc, zero}
+use Rattle.std.proofs.Common.{◌≡◌, ℕ, suc, ◌+◌, ◌-◌, ◌/◌, ◌<◌, ◌≤◌, ◌⊎◌, inl, inr, Bool, true, false, List, [], ◌∷◌, ◌++◌, length, take, set, get_or, refl}
+use Rattle.std.proofs.Common.{ap, sym, subst, ◌∙◌, arith, append_assoc, zero}
 use Rattle.std.specs.Prelude.{◌&&◌, ◌||◌, ◌==◌, nat_le, nat_lt, map, flat_map, if◌then◌else◌, Option, Some, None, IfSome}
 use Rattle.std.specs.List.{list_all, list_any}
 use Rattle.std.specs.Str.{bytes_eq}
@@ -15,7 +16,8 @@ use Rattle.edi_image.specs.declared.entries.Said.TheVariants as said
 use Rattle.edi_image.specs.Records.{FileRecord}
 use Rattle.edi_image.specs.Rules.{first_broken, needs}
 use Rattle.edi_image.specs.Entries.{block_at, is_data}
-use Rattle.edi_image.specs.Image.{header_block, header_rules, titles_in, slot_rules, entry_at, said_at, entries_from, entries_of, mount_fault_of, numbers_of, slots_of}
+use Rattle.edi_image.specs.Image.{header_block, header_rules, titles_in, slot_rules, entry_at, said_at, entries_from, entries_of, mount_fault_of, numbers_of}
+use Rattle.edi_image.specs.Image.{slots_of}
 use Rattle.edi_image.specs.Stored.{StoredFile, stored_of, are_data, is_record, is_stored, is_fit, IsKeptOf}
 use Rattle.edi_catalog.specs.Files.{find_index}
 use Rattle.edi_image.specs.Bytes.{bytes_of_slot}
@@ -28,19 +30,22 @@ use Rattle.edi_image.proofs.KeptFiles.{file_of, slots_are}
 use Rattle.edi_image.proofs.EntryBytes.{maps_fit_back, said_of, says_slot}
 use Rattle.edi_catalog.proofs.EntryFrames.{block_kept, entries_around, entries_written, length-entries_from}
 use Rattle.edi_image.proofs.UsedBlocks.{titles_all, neither, none_left, none_right, none_both}
-use Rattle.edi_catalog.proofs.OneEntry.{MapsSame, EntrySame, AllSame, Around, around, IsApart, own_apart, new_apart, freed_holds, record_holds, numbers_same, any_left, any_right}
+use Rattle.edi_catalog.proofs.OneEntry.{MapsSame, EntrySame, AllSame, Around, around, IsApart, own_apart, new_apart, freed_holds, record_holds, numbers_same}
+use Rattle.edi_catalog.proofs.OneEntry.{any_left, any_right}
 
 -- ---- what is known of a record
 
 record_maps : (count : ℕ) (r : FileRecord) → is_record count r ≡ true → are_data count r.maps ≡ true
 record_maps count r h =
-    let maps = both (is_title r.title && nat_le r.length most_bytes && are_data count r.maps) (length r.maps == (if nat_le (pages_of r.length) 255 then 1 else 2)) h in
+    let maps = both (is_title r.title && nat_le r.length most_bytes && are_data count r.maps)
+    (length r.maps == (if nat_le (pages_of r.length) 255 then 1 else 2)) h in
     (both (is_title r.title && nat_le r.length most_bytes) (are_data count r.maps) maps.0).1
 
 -- there is a block behind those of the catalogue
 pub record_room : (count : ℕ) (r : FileRecord) → is_record count r ≡ true → 33 < count
 record_room count r h =
-    let maps = both (is_title r.title && nat_le r.length most_bytes && are_data count r.maps) (length r.maps == (if nat_le (pages_of r.length) 255 then 1 else 2)) h in
+    let maps = both (is_title r.title && nat_le r.length most_bytes && are_data count r.maps)
+    (length r.maps == (if nat_le (pages_of r.length) 255 then 1 else 2)) h in
     let data_ = both (is_title r.title && nat_le r.length most_bytes) (are_data count r.maps) maps.0 in
     let first = both (nat_le 33 (get_or r.maps 0 0)) (nat_lt (get_or r.maps 0 0) count)
     (maps_fit_back (nat_le (pages_of r.length) 255) count r.maps maps.1 data_.1).0 in
@@ -51,12 +56,14 @@ record_room count r h =
 pub record_like : (count : ℕ) (r q : FileRecord) → is_record count r ≡ true → is_title q.title ≡ true → q.maps ≡ r.maps → q.length ≡ r.length
     → is_record count q ≡ true
 record_like count r q h title maps long =
-    let parts = both (is_title r.title && nat_le r.length most_bytes && are_data count r.maps) (length r.maps == (if nat_le (pages_of r.length) 255 then 1 else 2)) h in
+    let parts = both (is_title r.title && nat_le r.length most_bytes && are_data count r.maps)
+    (length r.maps == (if nat_le (pages_of r.length) 255 then 1 else 2)) h in
     let data_ = both (is_title r.title && nat_le r.length most_bytes) (are_data count r.maps) parts.0 in
     let size = both (is_title r.title) (nat_le r.length most_bytes) data_.0 in
     ap (λ ms. is_title q.title && nat_le q.length most_bytes && are_data count ms && length ms == (if nat_le (pages_of q.length) 255 then 1 else 2)) maps
     ∙ ap (λ n. is_title q.title && nat_le n most_bytes && are_data count r.maps && length r.maps == (if nat_le (pages_of n) 255 then 1 else 2)) long
-    ∙ ap (λ b. b && nat_le r.length most_bytes && are_data count r.maps && length r.maps == (if nat_le (pages_of r.length) 255 then 1 else 2)) (title ∙ sym size.0)
+    ∙ ap (λ b. b && nat_le r.length most_bytes && are_data count r.maps && length r.maps == (if nat_le (pages_of r.length) 255 then 1 else 2))
+    (title ∙ sym size.0)
     ∙ h
 
 -- ---- blocks behind the catalogue are as they were
@@ -183,7 +190,8 @@ before_of blocks files slot file h is there =
     is ∙ ap (map (stored_of blocks)) (entries_around blocks slot h) ∙ map-append (stored_of blocks) (front_of blocks slot) (s ∷ back_of blocks slot) in
     let stored : stored_of blocks s ≡ Some file =
     sym (get_or-append_seam (map (stored_of blocks) (front_of blocks slot)) (stored_of blocks s) (map (stored_of blocks) (back_of blocks slot)) None)
-    ∙ ap (λ n. get_or (map (stored_of blocks) (front_of blocks slot) ++ stored_of blocks s ∷ map (stored_of blocks) (back_of blocks slot)) n None) (length-front blocks slot)
+    ∙ ap (λ n. get_or (map (stored_of blocks) (front_of blocks slot) ++ stored_of blocks s ∷ map (stored_of blocks) (back_of blocks slot)) n None)
+    (length-front blocks slot)
     ∙ ap (λ fs. get_or fs slot None) (sym listed) ∙ there in
     let said_is : IsEntryOf blocks s file = kept_said blocks s file stored in
     record {
@@ -317,7 +325,8 @@ written_changes old new files slot count r h kept all at long written =
     let now : put_kept files slot r ≡ map (stored_of new) (entries_of new) =
     ap (λ f. set files slot (kept_as r f)) at.there
     ∙ ap (λ fs. set fs slot (kept_as r (Some file))) was.listed
-    ∙ ap (λ n. set (map (stored_of old) (front_of old slot) ++ Some file ∷ map (stored_of old) (back_of old slot)) n (kept_as r (Some file))) (sym (length-front old slot))
+    ∙ ap (λ n. set (map (stored_of old) (front_of old slot) ++ Some file ∷ map (stored_of old) (back_of old slot)) n (kept_as r (Some file)))
+    (sym (length-front old slot))
     ∙ set-append_seam (map (stored_of old) (front_of old slot)) (Some file) (map (stored_of old) (back_of old slot)) (kept_as r (Some file))
     ∙ ap (λ fs. fs ++ kept_as r (Some file) ∷ map (stored_of old) (back_of old slot))
     (sym (stored_same old new (front_of old slot) (all_kept old new 0 slot keeps)))

@@ -1,5 +1,6 @@
 -- What the calls that change one file leave.
-use Rattle.std.proofs.Common.{◌≡◌, ℕ, suc, ◌<◌, ◌≤◌, inl, inr, Bool, true, false, List, [], ◌∷◌, length, set, get_or, refl, ap, sym, subst, ◌∙◌, arith, ◌*◌, ◌/◌, ◌%◌}
+use Rattle.std.proofs.Common.{◌≡◌, ℕ, suc, ◌<◌, ◌≤◌, inl, inr, Bool, true, false, List, [], ◌∷◌, length, set, get_or, refl, ap, sym, subst, ◌∙◌, arith, ◌*◌}
+use Rattle.std.proofs.Common.{◌/◌, ◌%◌}
 use Rattle.std.specs.Prelude.{◌&&◌, ◌==◌, nat_le, is_some, if◌then◌else◌, map, Option, Some, None, IfSome, Result, Ok, Err}
 use Rattle.std.specs.List.{list_all}
 use Rattle.std.specs.Option.{option_map, option_and_then}
@@ -17,7 +18,8 @@ use Rattle.edi_image.specs.Image.{slots_of}
 use Rattle.edi_image.specs.Stored.{StoredFile, is_record, is_stored, are_data, is_titled, IsKeptOf}
 use Rattle.edi_catalog.specs.Files.{find_index, file_titled}
 use Rattle.edi_catalog.specs.Mounted.{AreEntries, IsMounted, disk_of, entry_blocks_of, files_of, room_reference}
-use Rattle.edi_catalog.specs.Changes.{CatalogAnswers, BeforeOrAfter, Changes, Leaves, Untouched, changed_at, kept_changed, not_deleted, not_renamed, slots_changed}
+use Rattle.edi_catalog.specs.Changes.{CatalogAnswers, BeforeOrAfter, Changes, Leaves, Untouched, changed_at, kept_changed, not_deleted, not_renamed}
+use Rattle.edi_catalog.specs.Changes.{slots_changed}
 use Rattle.edi_image.specs.Bytes.{bytes_of_slot}
 use Rattle.edi_catalog.specs.Writing.{patched, is_protected, IsWritten, EntryLeaves, PutsEntry, kept_as, put_kept, file_as, put_file, IsRecordFor, IsRecordAt}
 use Rattle.edi_image.proofs.Spelled.{both}
@@ -58,7 +60,8 @@ slot_kept files index x y taken there r many h kept took is =
 -- the entry is written
 pub slot_done : {D X : Type 0} (contents : D → Option (List (List ℕ))) (count faults : D → ℕ) (x : X) (index slot : ℕ) (entry : List ℕ) (r : Option FileRecord)
     (a b : Catalog D) → IsMounted contents count a → index < 256 → IsRecordAt (files_of a) index r → length entry ≡ 64 → entry ≡ bytes_of_slot r
-    → slot ≡ index → PutsEntry contents count faults disk.Ok slot entry (disk_of a) (disk_of b) → room_reference b ≡ room_reference a → files_of b ≡ put_kept (files_of a) index r
+    → slot ≡ index → PutsEntry contents count faults disk.Ok slot entry (disk_of a) (disk_of b) → room_reference b ≡ room_reference a
+    → files_of b ≡ put_kept (files_of a) index r
     → entry_blocks_of b ≡ set (entry_blocks_of a) (index / 8) (patched (64 * (index % 8)) entry (get_or (entry_blocks_of a) (index / 8) []))
     → Changes contents count faults (Ok x) None (put_kept (files_of a) index r) (put_file index r) a b
 slot_done {X = X} contents count faults x index slot entry r a b mounted h at long is same puts lent files blocks = record {
@@ -81,7 +84,8 @@ slot_done {X = X} contents count faults x index slot entry r a b mounted h at lo
     image = λ new e. (let was = written new e in subst (IsKeptOf new) (sym files) was.2.kept);
   });
   leaves =
-      where_told (λ old new. Leaves {X = X} (Ok x) (slots_of old) (put_file index r (slots_of old)) old new) (contents (drive_of (disk_of a))) (contents (drive_of (disk_of b)))
+      where_told (λ old new. Leaves {X = X} (Ok x) (slots_of old) (put_file index r (slots_of old)) old new) (contents (drive_of (disk_of a)))
+      (contents (drive_of (disk_of b)))
       (λ new e. (let was = written new e in (was.0, was.1, record { valid = was.2.kept.valid; files = was.2.slots })));
   same_reference = puts.same_reference;
   same_room = lent;
@@ -216,7 +220,8 @@ kept_title count files index file all there =
     let r : FileRecord = file.record_ in
     let pages = both (is_record count r && are_data count file.pages) (length file.pages == pages_of r.length) kept in
     let whole = both (is_record count r) (are_data count file.pages) pages.0 in
-    let maps = both (is_title r.title && nat_le r.length most_bytes && are_data count r.maps) (length r.maps == (if nat_le (pages_of r.length) 255 then 1 else 2)) whole.0 in
+    let maps = both (is_title r.title && nat_le r.length most_bytes && are_data count r.maps)
+    (length r.maps == (if nat_le (pages_of r.length) 255 then 1 else 2)) whole.0 in
     let data_ = both (is_title r.title && nat_le r.length most_bytes) (are_data count r.maps) maps.0 in
     (both (is_title r.title) (nat_le r.length most_bytes) data_.0).0
 

@@ -1,5 +1,6 @@
 -- Numbers of which none stands twice, and rules of which none is broken.
-use Rattle.std.proofs.Common.{◌≡◌, inl, inr, ℕ, Bool, true, false, List, [], ◌∷◌, ◌++◌, Some, None, refl, ap, sym, subst, ◌∙◌, append_assoc, take, drop, take-append-drop}
+use Rattle.std.proofs.Common.{◌≡◌, inl, inr, ℕ, Bool, true, false, List, [], ◌∷◌, ◌++◌, Some, None, refl, ap, sym, subst, ◌∙◌, append_assoc, take, drop}
+use Rattle.std.proofs.Common.{take-append-drop}
 use Rattle.std.specs.Prelude.{not, ◌&&◌, ◌||◌, ◌==◌, if◌then◌else◌}
 use Rattle.std.proofs.lemmas.Bool.{eqb-true, or_from, or_parts, or_cases, not-true, not_from_false, and_from, and_parts, false_from_ne_true, true≢false}
 use Rattle.edi_image.specs.declared.faults.MountFault.TheVariants as fault

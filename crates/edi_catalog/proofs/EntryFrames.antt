@@ -1,5 +1,6 @@
 -- An image in which the entry of one slot is written.
-use Rattle.std.proofs.Common.{◌≡◌, ℕ, zero, suc, ◌+◌, ◌-◌, ◌*◌, ◌/◌, ◌%◌, ◌<◌, ◌≤◌, ◌⊎◌, inl, inr, List, [], ◌∷◌, ◌++◌, length, take, drop, refl, ap, sym, ◌∙◌, arith, length-append, length-drop, append_assoc}
+use Rattle.std.proofs.Common.{◌≡◌, ℕ, zero, suc, ◌+◌, ◌-◌, ◌*◌, ◌/◌, ◌%◌, ◌<◌, ◌≤◌, ◌⊎◌, inl, inr, List, [], ◌∷◌, ◌++◌, length, take, drop, refl, ap, sym}
+use Rattle.std.proofs.Common.{◌∙◌, arith, length-append, length-drop, append_assoc}
 use Rattle.std.proofs.Math.Seq.{take-append_seam, drop-append_seam, drop-append-add}
 use Rattle.std.proofs.lemmas.List.{take-append-drop, take-append-le, drop-append-le, drop-drop, length-take-le, get_or-set_same, get_or-set_other, length-set}
 use Rattle.std.proofs.lemmas.Bool.{cases_order, cases_eq}
@@ -55,7 +56,8 @@ patch_other i j entry block hi hj size long other = go (cases_order j i) where
       length-take-le (64 * i + length entry) block (omega arith) in
       ap (λ b. take 64 (drop (64 * j) b)) (sym (append_assoc (take (64 * i) block) entry (drop (64 * i + length entry) block)))
       ∙ ap (take 64) (back_only (take (64 * i) block ++ entry) (drop (64 * i + length entry) block) (64 * i + length entry) (64 * j) front (omega arith))
-      ∙ ap (take 64) (sym (back_only (take (64 * i + length entry) block) (drop (64 * i + length entry) block) (64 * i + length entry) (64 * j) same (omega arith)))
+      ∙ ap (take 64) (sym (back_only (take (64 * i + length entry) block) (drop (64 * i + length entry) block) (64 * i + length entry) (64 * j) same
+      (omega arith)))
       ∙ ap (λ b. take 64 (drop (64 * j) b)) (take-append-drop (64 * i + length entry) block)
 
 -- ---- in the image
@@ -81,7 +83,8 @@ entry_other blocks slot other entry whole long h apart = go (cases_eq (other / 8
   go (inl e) =
       let index : 1 + other / 8 ≡ 1 + slot / 8 = omega (arith, e) in
       ap (λ n. take 64 (drop (64 * (other % 8)) (block_at (with_entry blocks slot entry) n))) index
-      ∙ ap (λ b. take 64 (drop (64 * (other % 8)) b)) (get_or-set_same blocks (1 + slot / 8) (patched (64 * (slot % 8)) entry (block_at blocks (1 + slot / 8))) [] h)
+      ∙ ap (λ b. take 64 (drop (64 * (other % 8)) b))
+      (get_or-set_same blocks (1 + slot / 8) (patched (64 * (slot % 8)) entry (block_at blocks (1 + slot / 8))) [] h)
       ∙ patch_other (slot % 8) (other % 8) entry (block_at blocks (1 + slot / 8)) (omega arith) (omega arith) whole long
       (λ same. apart (let eq : other ≡ slot = omega (arith, e, same) in eq))
       ∙ ap (λ n. take 64 (drop (64 * (other % 8)) (block_at blocks n))) (sym index)
@@ -145,9 +148,11 @@ entries_written old new slot entry h long inside written =
     ∙ entries_around (with_entry old slot entry) slot h
     ∙ ap (λ es. es ++ said_at (with_entry old slot entry) slot ∷ entries_from (with_entry old slot entry) (slot + 1) (255 - slot))
     (entries_same (with_entry old slot entry) old 0 slot
-    (λ other low high. said_other old slot other entry written.whole long inside (λ e. absurd (let no : suc other ≤ other = omega (arith, e, high) in omega (arith, no)))))
+    (λ other low high. said_other old slot other entry written.whole long inside (λ e. absurd (let no : suc other ≤ other = omega (arith, e, high) in
+    omega (arith, no)))))
     ∙ ap (λ s. entries_from old 0 slot ++ s ∷ entries_from (with_entry old slot entry) (slot + 1) (255 - slot))
     (said_here old slot entry written.whole long inside)
     ∙ ap (λ es. entries_from old 0 slot ++ entry_says (length old) entry ∷ es)
     (entries_same (with_entry old slot entry) old (slot + 1) (255 - slot)
-    (λ other low high. said_other old slot other entry written.whole long inside (λ e. absurd (let no : suc other ≤ other = omega (arith, e, low) in omega (arith, no)))))
+    (λ other low high. said_other old slot other entry written.whole long inside (λ e. absurd (let no : suc other ≤ other = omega (arith, e, low) in
+    omega (arith, no)))))

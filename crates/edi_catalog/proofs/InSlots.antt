@@ -1,5 +1,6 @@
 -- What is kept of the files of an image, told by its slots.
-use Rattle.std.proofs.Common.{◌≡◌, ◌⊎◌, inl, inr, ◌<◌, ℕ, ◌+◌, ◌*◌, ◌-◌, Bool, true, false, List, length, get_or, Option, Some, None, refl, sym, ap, subst, ◌∙◌, arith}
+use Rattle.std.proofs.Common.{◌≡◌, ◌⊎◌, inl, inr, ◌<◌, ℕ, ◌+◌, ◌*◌, ◌-◌, Bool, true, false, List, length, get_or, Option, Some, None, refl, sym, ap, subst}
+use Rattle.std.proofs.Common.{◌∙◌, arith}
 use Rattle.std.specs.Prelude.{min, is_none, nat_lt, if◌then◌else◌, flat_map, slice_get, slice_index, slice_index_or, IfSome, Result, Ok, Err}
 use Rattle.std.specs.List.{list_all}
 use Rattle.std.specs.Option.{option_map}
@@ -57,8 +58,10 @@ module _ (blocks : List (List ℕ)) (count : ℕ) (files : List (Option StoredFi
       ∙ ap (λ n. length blocks - (33 + n)) (sym (taken_same blocks count files sized many stored kept))
 
   -- a page that was read
-  page_bytes : (file : StoredFile) (i : ℕ) (page : List ℕ) → is_stored count (Some file) ≡ true → length page ≡ 512 → block_at blocks (slice_index file.pages i) ≡ page
-      → i < length file.pages → (k : ℕ) → k < 512 → 512 * i + k < length (bytes_in blocks file) → slice_get page k ≡ slice_get (bytes_in blocks file) (512 * i + k)
+  page_bytes : (file : StoredFile) (i : ℕ) (page : List ℕ) → is_stored count (Some file) ≡ true → length page ≡ 512
+      → block_at blocks (slice_index file.pages i) ≡ page
+      → i < length file.pages → (k : ℕ) → k < 512 → 512 * i + k < length (bytes_in blocks file) → slice_get page k ≡ slice_get (bytes_in blocks file)
+      (512 * i + k)
   page_bytes file i page fits long is within k few below =
       let pages = kept_pages count file fits in
       let there = page_at (block_at blocks) file.pages i k (λ j h. page_sized blocks count file.pages j sized many pages.0 h) few within in
@@ -66,16 +69,19 @@ module _ (blocks : List (List ℕ)) (count : ℕ) (files : List (Option StoredFi
       length-take file.record_.length (flat_map (block_at blocks) file.pages) in
       let inside : 512 * i + k < file.record_.length = omega (arith, cut, below) in
       slice_get-get_or page k 0 (omega (arith, long, few))
-      ∙ ap Some (ap (λ xs. get_or xs k 0) (sym is) ∙ sym there.1 ∙ sym (get_or-take file.record_.length (flat_map (block_at blocks) file.pages) (512 * i + k) 0 inside))
+      ∙ ap Some (ap (λ xs. get_or xs k 0) (sym is) ∙ sym there.1
+      ∙ sym (get_or-take file.record_.length (flat_map (block_at blocks) file.pages) (512 * i + k) 0 inside))
       ∙ sym (slice_get-get_or (bytes_in blocks file) (512 * i + k) 0 below)
 
-  pub page_told : {X : Type 0} (E : Type 0) (x : X) (title : List ℕ) (i : ℕ) (page : List ℕ) → length page ≡ 512 → IfSome (file_titled title files) (λ file. i < pages_of file.record_.length)
+  pub page_told : {X : Type 0} (E : Type 0) (x : X) (title : List ℕ) (i : ℕ) (page : List ℕ) → length page ≡ 512 → IfSome (file_titled title files)
+      (λ file. i < pages_of file.record_.length)
       → PageIs {X = X} {E = E} (Ok x) (file_titled title files) i page blocks → PageIn {X = X} {E = E} (Ok x) (find_file (slots_of blocks) title) i page
   page_told {X} E x title i page long within is =
       subst (λ o. PageIn {X = X} {E = E} (Ok x) o i page) (sym (file_in blocks title files kept))
       (go (file_titled title files) (titled_kept count title files stored) within is)
     where
-      go : (file : Option StoredFile) → is_stored count file ≡ true → IfSome file (λ file. i < pages_of file.record_.length) → PageIs {X = X} {E = E} (Ok x) file i page blocks
+      go : (file : Option StoredFile) → is_stored count file ≡ true → IfSome file (λ file. i < pages_of file.record_.length) → PageIs {X = X} {E = E} (Ok x)
+          file i page blocks
           → PageIn {X = X} {E = E} (Ok x) (option_map (file_of blocks) file) i page
       go None fits within is = absurd is
       go (Some file) fits within is =
@@ -95,9 +101,11 @@ module _ (blocks : List (List ℕ)) (count : ℕ) (files : List (Option StoredFi
     go None = refl
     go (Some file) = refl
 
-  pub renaming_told : (old new : List ℕ) → not_renamed (file_titled old files) (file_titled new files) ≡ no_renaming (find_file (slots_of blocks) old) (find_file (slots_of blocks) new)
+  pub renaming_told : (old new : List ℕ) → not_renamed (file_titled old files) (file_titled new files) ≡ no_renaming (find_file (slots_of blocks) old)
+      (find_file (slots_of blocks) new)
   renaming_told old new =
-      go (file_titled old files) (file_titled new files) ∙ ap (λ o. no_renaming o (option_map (file_of blocks) (file_titled new files))) (sym (file_in blocks old files kept))
+      go (file_titled old files) (file_titled new files) ∙ ap (λ o. no_renaming o (option_map (file_of blocks) (file_titled new files)))
+      (sym (file_in blocks old files kept))
       ∙ ap (no_renaming (find_file (slots_of blocks) old)) (sym (file_in blocks new files kept))
     where
       go : (file there : Option StoredFile) → not_renamed file there ≡ no_renaming (option_map (file_of blocks) file) (option_map (file_of blocks) there)
@@ -130,8 +138,10 @@ module _ (blocks : List (List ℕ)) (count : ℕ) (files : List (Option StoredFi
 
 -- ---- what is left of the slots
 
-changes_to : {X : Type 0} (result : Result X CatEnd) (refusal other : Option CatEnd) (wanted : List (Option File)) (files files' kept : List (Option StoredFile)) (old new : List (List ℕ))
-    → refusal ≡ other → CatalogAnswers result refusal files kept files' → Leaves result (slots_of old) wanted old new → SlotsAnswer result other (slots_of old) wanted (slots_of new)
+changes_to : {X : Type 0} (result : Result X CatEnd) (refusal other : Option CatEnd) (wanted : List (Option File))
+    (files files' kept : List (Option StoredFile)) (old new : List (List ℕ))
+    → refusal ≡ other → CatalogAnswers result refusal files kept files' → Leaves result (slots_of old) wanted old new
+    → SlotsAnswer result other (slots_of old) wanted (slots_of new)
 changes_to (Ok x) refusal other wanted files files' kept old new same answers leaves = (sym same ∙ answers.0, leaves.files)
 changes_to (Err cat.Fault) refusal other wanted files files' kept old new same answers leaves = (sym same ∙ answers, go leaves.one) where
   go : Holds new (slots_of old) ⊎ Holds new wanted → (slots_of new ≡ slots_of old) ⊎ (slots_of new ≡ wanted)
@@ -144,8 +154,10 @@ changes_to (Err (cat.TooLarge n)) refusal other wanted files files' kept old new
 changes_to (Err cat.CatalogFull) refusal other wanted files files' kept old new same answers leaves = (sym same ∙ answers.0, ap slots_of leaves)
 changes_to (Err (cat.Full n m)) refusal other wanted files files' kept old new same answers leaves = (sym same ∙ answers.0, ap slots_of leaves)
 
-store_to : {X : Type 0} (result : Result X CatEnd) (refusal other : Option CatEnd) (index : Option ℕ) (entry : Entry) (wanted : List (Option File)) (files files' : List (Option StoredFile)) (old new : List (List ℕ))
-    → refusal ≡ other → StoreAnswers result refusal index entry files files' → Leaves result (slots_of old) wanted old new → SlotsAnswer result other (slots_of old) wanted (slots_of new)
+store_to : {X : Type 0} (result : Result X CatEnd) (refusal other : Option CatEnd) (index : Option ℕ) (entry : Entry) (wanted : List (Option File))
+    (files files' : List (Option StoredFile)) (old new : List (List ℕ))
+    → refusal ≡ other → StoreAnswers result refusal index entry files files' → Leaves result (slots_of old) wanted old new
+    → SlotsAnswer result other (slots_of old) wanted (slots_of new)
 store_to (Ok x) refusal other index entry wanted files files' old new same answers leaves = (sym same ∙ answers.0, leaves.files)
 store_to (Err cat.Fault) refusal other index entry wanted files files' old new same answers leaves = (sym same ∙ answers, go leaves.one) where
   go : Holds new (slots_of old) ⊎ Holds new wanted → (slots_of new ≡ slots_of old) ⊎ (slots_of new ≡ wanted)
@@ -170,64 +182,91 @@ some_told (Some x) P all = all x refl
 -- ---- over a drive
 
 module _ {D : Type 0} (contents : D → Option (List (List ℕ))) (count faults : D → ℕ)
-    (counted : (drive : D) → IfSome (contents drive) (λ blocks. length blocks ≡ count drive)) (sized : (drive : D) → IfSome (contents drive) (λ blocks. list_all is_block blocks ≡ true)) where
+    (counted : (drive : D) → IfSome (contents drive) (λ blocks. length blocks ≡ count drive))
+    (sized : (drive : D) → IfSome (contents drive) (λ blocks. list_all is_block blocks ≡ true)) where
   -- a call that changes a file
-  pub changes_in_slots : {X : Type 0} (result : Result X CatEnd) (refusal : Option CatEnd) (other : List (Option File) → Option CatEnd) (kept : List (Option StoredFile)) (wanted : List (Option File) → List (Option File)) (before after : Catalog D)
+  pub changes_in_slots : {X : Type 0} (result : Result X CatEnd) (refusal : Option CatEnd) (other : List (Option File) → Option CatEnd)
+      (kept : List (Option StoredFile)) (wanted : List (Option File) → List (Option File)) (before after : Catalog D)
       → IsMounted contents count before
-      → ((blocks : List (List ℕ)) → list_all is_block blocks ≡ true → length blocks ≡ count (drive_of (disk_of before)) → IsKeptOf blocks (files_of before) → refusal ≡ other (slots_of blocks))
+      → ((blocks : List (List ℕ)) → list_all is_block blocks ≡ true → length blocks ≡ count (drive_of (disk_of before)) → IsKeptOf blocks (files_of before)
+      → refusal ≡ other (slots_of blocks))
       → Changes contents count faults result refusal kept wanted before after
       → WhereTold (contents (drive_of (disk_of before))) (contents (drive_of (disk_of after)))
       (λ old new. SlotsAnswer result (other (slots_of old)) (slots_of old) (wanted (slots_of old)) (slots_of new))
   changes_in_slots result refusal other kept wanted before after mounted same changes =
-      told_with (λ old new. Leaves result (slots_of old) (wanted (slots_of old)) old new) _ (contents (drive_of (disk_of before))) (contents (drive_of (disk_of after)))
+      told_with (λ old new. Leaves result (slots_of old) (wanted (slots_of old)) old new) _ (contents (drive_of (disk_of before)))
+      (contents (drive_of (disk_of after)))
       (λ old new told leaves. changes_to result refusal (other (slots_of old)) (wanted (slots_of old)) (files_of before) (files_of after) kept old new
-      (same old (some_fact (λ b. list_all is_block b ≡ true) _ old told (sized (drive_of (disk_of before)))) (some_fact (λ b. length b ≡ count (drive_of (disk_of before))) _ old told (counted (drive_of (disk_of before)))) (mounted.image old told))
+      (same old (some_fact (λ b. list_all is_block b ≡ true) _ old told (sized (drive_of (disk_of before))))
+      (some_fact (λ b. length b ≡ count (drive_of (disk_of before))) _ old told (counted (drive_of (disk_of before)))) (mounted.image old told))
       changes.answers leaves)
       changes.leaves
 
-  pub store_in_slots : {X : Type 0} (result : Result X CatEnd) (title : List ℕ) (k : FileKind) (bytes : List ℕ) (before after : Catalog D) → IsMounted contents count before
-      → StoreChanges contents count faults result (not_stored title (length bytes) (blocks_free (count (drive_of (disk_of before))) (files_of before)) (files_of before)) title k bytes before after
+  pub store_in_slots : {X : Type 0} (result : Result X CatEnd) (title : List ℕ) (k : FileKind) (bytes : List ℕ) (before after : Catalog D)
+      → IsMounted contents count before
+      → StoreChanges contents count faults result
+      (not_stored title (length bytes) (blocks_free (count (drive_of (disk_of before))) (files_of before)) (files_of before)) title k bytes before after
       → WhereTold (contents (drive_of (disk_of before))) (contents (drive_of (disk_of after)))
-      (λ old new. SlotsAnswer result (no_room title (length bytes) (free_in old) (slots_of old)) (slots_of old) (slots_stored title k bytes (slots_of old)) (slots_of new))
+      (λ old new. SlotsAnswer result (no_room title (length bytes) (free_in old) (slots_of old)) (slots_of old) (slots_stored title k bytes (slots_of old))
+      (slots_of new))
   store_in_slots result title k bytes before after mounted changes =
-      told_with (λ old new. Leaves result (slots_of old) (slots_stored title k bytes (slots_of old)) old new) _ (contents (drive_of (disk_of before))) (contents (drive_of (disk_of after)))
-      (λ old new told leaves. store_to result _ (no_room title (length bytes) (free_in old) (slots_of old)) (index_for title (files_of before)) (stored_entry title k (length bytes)) (slots_stored title k bytes (slots_of old))
+      told_with (λ old new. Leaves result (slots_of old) (slots_stored title k bytes (slots_of old)) old new) _ (contents (drive_of (disk_of before)))
+      (contents (drive_of (disk_of after)))
+      (λ old new told leaves. store_to result _ (no_room title (length bytes) (free_in old) (slots_of old)) (index_for title (files_of before))
+      (stored_entry title k (length bytes)) (slots_stored title k bytes (slots_of old))
       (files_of before) (files_of after) old new
-      (storing_told old (count (drive_of (disk_of before))) (files_of before) (some_fact (λ b. list_all is_block b ≡ true) _ old told (sized (drive_of (disk_of before))))
-      (some_fact (λ b. length b ≡ count (drive_of (disk_of before))) _ old told (counted (drive_of (disk_of before)))) mounted.stored (mounted.image old told) title (length bytes))
+      (storing_told old (count (drive_of (disk_of before))) (files_of before)
+      (some_fact (λ b. list_all is_block b ≡ true) _ old told (sized (drive_of (disk_of before))))
+      (some_fact (λ b. length b ≡ count (drive_of (disk_of before))) _ old told (counted (drive_of (disk_of before)))) mounted.stored (mounted.image old told)
+      title (length bytes))
       changes.answers leaves)
       changes.leaves
 
   -- a call that only asks
-  pub find_in_slots : (catalog : Catalog D) (title : List ℕ) (result : Option Entry) → result ≡ option_map entry_of (file_titled title (files_of catalog)) → IsMounted contents count catalog
+  pub find_in_slots : (catalog : Catalog D) (title : List ℕ) (result : Option Entry) → result ≡ option_map entry_of (file_titled title (files_of catalog))
+      → IsMounted contents count catalog
       → IfSome (contents (drive_of (disk_of catalog))) (λ blocks. result ≡ option_map entry_told (find_file (slots_of blocks) title))
   find_in_slots catalog title result is mounted = some_told (contents (drive_of (disk_of catalog)))
       (λ blocks. result ≡ option_map entry_told (find_file (slots_of blocks) title))
-      (λ blocks told. is ∙ find_told blocks (count (drive_of (disk_of catalog))) (files_of catalog) (some_fact (λ b. list_all is_block b ≡ true) _ blocks told (sized (drive_of (disk_of catalog))))
-      (some_fact (λ b. length b ≡ count (drive_of (disk_of catalog))) _ blocks told (counted (drive_of (disk_of catalog)))) mounted.stored (mounted.image blocks told) title)
+      (λ blocks told. is ∙ find_told blocks (count (drive_of (disk_of catalog))) (files_of catalog)
+      (some_fact (λ b. list_all is_block b ≡ true) _ blocks told (sized (drive_of (disk_of catalog))))
+      (some_fact (λ b. length b ≡ count (drive_of (disk_of catalog))) _ blocks told (counted (drive_of (disk_of catalog)))) mounted.stored
+      (mounted.image blocks told) title)
 
-  pub slot_in_slots : (catalog : Catalog D) (i : ℕ) (result : Option Entry) → result ≡ option_map entry_of (slice_index_or (files_of catalog) i None) → IsMounted contents count catalog
+  pub slot_in_slots : (catalog : Catalog D) (i : ℕ) (result : Option Entry) → result ≡ option_map entry_of (slice_index_or (files_of catalog) i None)
+      → IsMounted contents count catalog
       → IfSome (contents (drive_of (disk_of catalog))) (λ blocks. result ≡ option_map entry_told (slot_at (slots_of blocks) i))
   slot_in_slots catalog i result is mounted = some_told (contents (drive_of (disk_of catalog)))
       (λ blocks. result ≡ option_map entry_told (slot_at (slots_of blocks) i))
-      (λ blocks told. is ∙ slot_told blocks (count (drive_of (disk_of catalog))) (files_of catalog) (some_fact (λ b. list_all is_block b ≡ true) _ blocks told (sized (drive_of (disk_of catalog))))
-      (some_fact (λ b. length b ≡ count (drive_of (disk_of catalog))) _ blocks told (counted (drive_of (disk_of catalog)))) mounted.stored (mounted.image blocks told) i
+      (λ blocks told. is ∙ slot_told blocks (count (drive_of (disk_of catalog))) (files_of catalog)
+      (some_fact (λ b. list_all is_block b ≡ true) _ blocks told (sized (drive_of (disk_of catalog))))
+      (some_fact (λ b. length b ≡ count (drive_of (disk_of catalog))) _ blocks told (counted (drive_of (disk_of catalog)))) mounted.stored
+      (mounted.image blocks told) i
       (kept_at (count (drive_of (disk_of catalog))) (files_of catalog) i mounted.stored))
 
-  pub free_in_slots : (catalog : Catalog D) (result : ℕ) → result ≡ count (drive_of (disk_of catalog)) - (33 + blocks_taken (files_of catalog)) → IsMounted contents count catalog
+  pub free_in_slots : (catalog : Catalog D) (result : ℕ) → result ≡ count (drive_of (disk_of catalog)) - (33 + blocks_taken (files_of catalog))
+      → IsMounted contents count catalog
       → IfSome (contents (drive_of (disk_of catalog))) (λ blocks. result ≡ free_in blocks)
   free_in_slots catalog result is mounted = some_told (contents (drive_of (disk_of catalog)))
       (λ blocks. result ≡ free_in blocks)
-      (λ blocks told. is ∙ free_told blocks (count (drive_of (disk_of catalog))) (files_of catalog) (some_fact (λ b. list_all is_block b ≡ true) _ blocks told (sized (drive_of (disk_of catalog))))
-      (some_fact (λ b. length b ≡ count (drive_of (disk_of catalog))) _ blocks told (counted (drive_of (disk_of catalog)))) mounted.stored (mounted.image blocks told))
+      (λ blocks told. is ∙ free_told blocks (count (drive_of (disk_of catalog))) (files_of catalog)
+      (some_fact (λ b. list_all is_block b ≡ true) _ blocks told (sized (drive_of (disk_of catalog))))
+      (some_fact (λ b. length b ≡ count (drive_of (disk_of catalog))) _ blocks told (counted (drive_of (disk_of catalog)))) mounted.stored
+      (mounted.image blocks told))
 
   -- a page that was read
-  pub page_in_slots : {X : Type 0} (E : Type 0) (x : X) (before after : Catalog D) (title : List ℕ) (i : ℕ) (page : List ℕ) → IsMounted contents count before → length page ≡ 512
+  pub page_in_slots : {X : Type 0} (E : Type 0) (x : X) (before after : Catalog D) (title : List ℕ) (i : ℕ) (page : List ℕ) → IsMounted contents count before
+      → length page ≡ 512
       → IfSome (file_titled title (files_of before)) (λ file. i < pages_of file.record_.length)
-      → WhereTold (contents (drive_of (disk_of before))) (contents (drive_of (disk_of after))) (λ old new. (new ≡ old) × PageIs {X = X} {E = E} (Ok x) (file_titled title (files_of before)) i page old)
-      → WhereTold (contents (drive_of (disk_of before))) (contents (drive_of (disk_of after))) (λ old new. PageIn {X = X} {E = E} (Ok x) (find_file (slots_of old) title) i page)
+      → WhereTold (contents (drive_of (disk_of before))) (contents (drive_of (disk_of after)))
+      (λ old new. (new ≡ old) × PageIs {X = X} {E = E} (Ok x) (file_titled title (files_of before)) i page old)
+      → WhereTold (contents (drive_of (disk_of before))) (contents (drive_of (disk_of after)))
+      (λ old new. PageIn {X = X} {E = E} (Ok x) (find_file (slots_of old) title) i page)
   page_in_slots {X} E x before after title i page mounted long within reads =
-      told_with (λ old new. (new ≡ old) × PageIs {X = X} {E = E} (Ok x) (file_titled title (files_of before)) i page old) _ (contents (drive_of (disk_of before))) (contents (drive_of (disk_of after)))
-      (λ old new told is. page_told old (count (drive_of (disk_of before))) (files_of before) (some_fact (λ b. list_all is_block b ≡ true) _ old told (sized (drive_of (disk_of before))))
-      (some_fact (λ b. length b ≡ count (drive_of (disk_of before))) _ old told (counted (drive_of (disk_of before)))) mounted.stored (mounted.image old told) E x title i page long within is.1)
+      told_with (λ old new. (new ≡ old) × PageIs {X = X} {E = E} (Ok x) (file_titled title (files_of before)) i page old) _
+      (contents (drive_of (disk_of before))) (contents (drive_of (disk_of after)))
+      (λ old new told is. page_told old (count (drive_of (disk_of before))) (files_of before)
+      (some_fact (λ b. list_all is_block b ≡ true) _ old told (sized (drive_of (disk_of before))))
+      (some_fact (λ b. length b ≡ count (drive_of (disk_of before))) _ old told (counted (drive_of (disk_of before)))) mounted.stored (mounted.image old told)
+      E x title i page long within is.1)
       reads

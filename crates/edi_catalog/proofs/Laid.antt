@@ -1,5 +1,6 @@
 -- The blocks of a file, once its contents are put, are its maps and its pages.
-use Rattle.std.proofs.Common.{◌≡◌, ℕ, suc, ◌+◌, ◌-◌, ◌*◌, ◌/◌, ◌%◌, ◌^◌, ◌≤◌, ◌<◌, true, List, [], ◌∷◌, ◌++◌, length, take, drop, replicate, get_or, Some, None, refl, ap, sym, ◌∙◌, arith, min, length-append, length-drop, append_assoc, append-nil, take-append-drop, drop-drop}
+use Rattle.std.proofs.Common.{◌≡◌, ℕ, suc, ◌+◌, ◌-◌, ◌*◌, ◌/◌, ◌%◌, ◌^◌, ◌≤◌, ◌<◌, true, List, [], ◌∷◌, ◌++◌, length, take, drop, replicate, get_or, Some}
+use Rattle.std.proofs.Common.{None, refl, ap, sym, ◌∙◌, arith, min, length-append, length-drop, append_assoc, append-nil, take-append-drop, drop-drop}
 use Rattle.std.specs.Prelude.{◌==◌, flat_map, if◌then◌else◌}
 use Rattle.std.proofs.lemmas.Bool.{eq-eqb, and_from, and_parts, lt-ltb, le-ltb, cases_lt}
 use Rattle.std.proofs.Common.{inl, inr}

@@ -101,7 +101,8 @@ first_found contents count faults fault.NoMemory a b settled checks blocks told 
 
 -- a catalogue whose disk was only read
 pub still_mounted : {D : Type 0} (contents : D → Option (List (List ℕ))) (count faults : D → ℕ) (one other : Catalog D) (P : List (List ℕ) → Type 0)
-    → files_of other ≡ files_of one → entry_blocks_of other ≡ entry_blocks_of one → IsMounted contents count one → Checks contents count faults false (disk_of one) (disk_of other) P
+    → files_of other ≡ files_of one → entry_blocks_of other ≡ entry_blocks_of one → IsMounted contents count one → Checks contents count faults false
+    (disk_of one) (disk_of other) P
     → IsMounted contents count other
 still_mounted contents count faults one other P same entries_same mounted checks = record {
   works = checks.works refl;

@@ -98,7 +98,8 @@ new_entry contents count faults end slot file bytes a b c settled settles puts e
       writing.where_told _ (contents (drive_of a)) (contents (drive_of c))
       (λ new there.
       let laid = writing.told (EntryLeaves end slot (bytes_of_record file.record_)) (contents (drive_of b)) (contents (drive_of c)) new entry.leaves there in
-      let old = writing.told (ArePut (used_in (Some file)) (content_of file bytes) (length (used_in (Some file)))) (contents (drive_of a)) (contents (drive_of b)) laid.0
+      let old = writing.told (ArePut (used_in (Some file)) (content_of file bytes) (length (used_in (Some file)))) (contents (drive_of a))
+      (contents (drive_of b)) laid.0
       (puts_there contents count faults _ _ _ a b settled settles puts) laid.1 in
       (old.0, old.1, leaves_new end slot file bytes old.0 laid.0 new old.2 laid.2));
 }

@@ -13,7 +13,8 @@ use Rattle.edi_image.specs.Records.{FileRecord}
 use Rattle.edi_image.specs.Rules.{Rule, needs, uses, is_in, first_broken, used_by, page_rules}
 use Rattle.edi_image.specs.Entries.{block_at, short_at}
 use Rattle.edi_image.specs.Image.{numbers_in, numbers_of, map_rules, maps_rules, entry_rules, titles_in, slot_rules}
-use Rattle.edi_image.proofs.UsedBlocks.{or_left, or_right, neither, or_true, or_first, in_left, in_right, in_neither, none_left, none_right, none_both, need_holds, not_used, others_used, uses_of, uses_all, titles_all, used_same, slot_used, slot_cut}
+use Rattle.edi_image.proofs.UsedBlocks.{or_left, or_right, neither, or_true, or_first, in_left, in_right, in_neither, none_left, none_right, none_both}
+use Rattle.edi_image.proofs.UsedBlocks.{need_holds, not_used, others_used, uses_of, uses_all, titles_all, used_same, slot_used, slot_cut}
 
 -- ---- images that have the same map blocks
 
@@ -229,7 +230,8 @@ own_apart blocks front back r old = (
       (need_holds (not (list_any (bytes_eq r.title) (titles_all front))) (fault.Entry (length front))
       (first_broken (uses_all blocks front) (maps_rules 33 blocks (length front) (pages_of r.length) r.maps)) old.own).0,
   (λ other i. any_right other (titles_all front) (r.title ∷ [])
-      (titles_new blocks (uses_all blocks front ++ uses_of blocks (said.File r)) (length front + 1) (titles_all front ++ r.title ∷ []) back other old.behind i)),
+      (titles_new blocks (uses_all blocks front ++ uses_of blocks (said.File r)) (length front + 1) (titles_all front ++ r.title ∷ []) back other old.behind
+      i)),
 )
 
 pub new_apart : (front back : List Said) (title : List ℕ) → list_any (bytes_eq title) (titles_all front) ≡ false

@@ -1,5 +1,6 @@
 -- Putting the blocks of a file one after another.
-use Rattle.std.proofs.Common.{◌≡◌, inl, inr, ℕ, zero, suc, ◌+◌, ◌-◌, ◌^◌, ◌≤◌, ◌<◌, min, Bool, true, false, List, [], ◌∷◌, length, set, get_or, length-set, Option, Some, None, refl, ap, sym, subst, ◌∙◌, arith}
+use Rattle.std.proofs.Common.{◌≡◌, inl, inr, ℕ, zero, suc, ◌+◌, ◌-◌, ◌^◌, ◌≤◌, ◌<◌, min, Bool, true, false, List, [], ◌∷◌, length, set, get_or, length-set}
+use Rattle.std.proofs.Common.{Option, Some, None, refl, ap, sym, subst, ◌∙◌, arith}
 use Rattle.std.specs.Prelude.{IfSome, slice_index, ⊤}
 use Rattle.std.proofs.lemmas.Bool.{cases_eq, true≢false, and_parts, not-true}
 use Rattle.std.proofs.lemmas.List.{get_or-set_same, get_or-set_other}
@@ -80,11 +81,13 @@ puts_none contents count faults numbers content a works = record {
 }
 
 -- what is known of a put
-pub record PutOne {D : Type 0} (contents : D → Option (List (List ℕ))) (count faults : D → ℕ) (end : DiskEnd) (n : ℕ) (from : List ℕ) (before after : Disk D) : Type 0 where
+pub record PutOne {D : Type 0} (contents : D → Option (List (List ℕ))) (count faults : D → ℕ) (end : DiskEnd) (n : ℕ) (from : List ℕ)
+    (before after : Disk D) : Type 0 where
   pub same_reference : reference_of after ≡ reference_of before
   pub works : end ≡ disk.Ok → IsWorking contents count after
   pub shows : WhereTold (shown contents before) (shown contents after) (PutLeaves end n from)
-  pub since : (base : List (List ℕ)) (was_put : ℕ → List ℕ → Bool) → was_put n from ≡ true → Kept contents base was_put before → Kept contents base was_put after
+  pub since : (base : List (List ℕ)) (was_put : ℕ → List ℕ → Bool) → was_put n from ≡ true → Kept contents base was_put before
+      → Kept contents base was_put after
   pub count_stays : count (drive_of after) ≡ count (drive_of before)
   pub later : faults (drive_of before) ≤ faults (drive_of after)
   pub cause : end ≡ disk.Fault → min (faults (drive_of before) + 1) (2 ^ 64 - 1) ≤ faults (drive_of after)

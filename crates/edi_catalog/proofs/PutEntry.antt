@@ -18,14 +18,16 @@ use Rattle.edi_catalog.specs.Writing.{patched, IsWritten, EntryLeaves, PutsEntry
 use Rattle.edi_image.proofs.Told.{told_then}
 
 -- From before to after one block is put, with these bytes, and on Ok it is written.
-pub record PutsBlock {D : Type 0} (contents : D → Option (List (List ℕ))) (count faults : D → ℕ) (end : DiskEnd) (n : ℕ) (bytes : List ℕ) (before after : Disk D) : Type 0 where
+pub record PutsBlock {D : Type 0} (contents : D → Option (List (List ℕ))) (count faults : D → ℕ) (end : DiskEnd) (n : ℕ) (bytes : List ℕ)
+    (before after : Disk D) : Type 0 where
   pub same_reference : reference_of after ≡ reference_of before
   pub count_stays : count (drive_of after) ≡ count (drive_of before)
   pub later : faults (drive_of before) ≤ faults (drive_of after)
   pub cause : end ≡ disk.Fault → CountRose (faults (drive_of before)) (faults (drive_of after))
   pub works : end ≡ disk.Ok → IsWorking contents count after
   pub settled : end ≡ disk.Ok → contents (drive_of after) ≡ shown contents after
-  pub since : (base : List (List ℕ)) (was_put : ℕ → List ℕ → Bool) → was_put n bytes ≡ true → Kept contents base was_put before → Kept contents base was_put after
+  pub since : (base : List (List ℕ)) (was_put : ℕ → List ℕ → Bool) → was_put n bytes ≡ true → Kept contents base was_put before
+      → Kept contents base was_put after
   pub told_too : WhereTold (shown contents before) (shown contents after) (λ old new. ⊤)
   pub shows : end ≡ disk.Ok → WhereTold (shown contents before) (shown contents after) (λ old new. new ≡ slice_set old n bytes)
 
@@ -55,7 +57,8 @@ leaves_ok : {D : Type 0} (contents : D → Option (List (List ℕ))) (count faul
     → WhereTold (contents (drive_of b)) (contents (drive_of d)) (EntryLeaves disk.Ok slot entry)
 leaves_ok contents count faults slot n entry bytes read b d settled kept over_it puts =
     where_told (EntryLeaves disk.Ok slot entry) (contents (drive_of b)) (contents (drive_of d))
-    (λ new e. (let was = told (λ old new. new ≡ slice_set old n bytes) (shown contents b) (shown contents d) new (puts.shows refl) (sym (puts.settled refl) ∙ e) in
+    (λ new e. (let was = told (λ old new. new ≡ slice_set old n bytes) (shown contents b) (shown contents d) new (puts.shows refl)
+    (sym (puts.settled refl) ∙ e) in
     (was.0, settled ∙ was.1, written_from slot n entry bytes read was.0 new over_it.index over_it.long over_it.made (kept was.0 (settled ∙ was.1)) was.2)))
 
 leaves_fault : {D : Type 0} (contents : D → Option (List (List ℕ))) (count faults : D → ℕ) (slot n : ℕ) (entry bytes read : List ℕ) (b d : Disk D)
@@ -71,14 +74,16 @@ leaves_fault contents count faults slot n entry bytes read b d settled kept over
       each : (new : List (List ℕ)) → contents (drive_of d) ≡ Some new
           → (old : List (List ℕ)) × (contents (drive_of b) ≡ Some old) × EntryLeaves disk.Fault slot entry old new
       each new e =
-          let was = told (λ old new. ⊤) (shown contents b) (shown contents d) (over new d.cache) puts.told_too (shown_some contents (drive_of d) d.cache new e) in
+          let was = told (λ old new. ⊤) (shown contents b) (shown contents d) (over new d.cache) puts.told_too
+          (shown_some contents (drive_of d) d.cache new e) in
           let base : contents (drive_of b) ≡ Some was.0 = settled ∙ was.1 in
           let since : Kept contents was.0 (only n bytes) d =
           puts.since was.0 (only n bytes) (only_itself n bytes) (kept_settled contents was.0 (only n bytes) b base was.1) in
           (was.0, base, ends was.0 new (kept was.0 base) (between_only was.0 new n bytes (since.on_drive new e)))
 
 -- the block was put
-pub puts_made : {D : Type 0} (contents : D → Option (List (List ℕ))) (count faults : D → ℕ) (end : DiskEnd) (slot n : ℕ) (entry bytes read : List ℕ) (b d : Disk D)
+pub puts_made : {D : Type 0} (contents : D → Option (List (List ℕ))) (count faults : D → ℕ) (end : DiskEnd) (slot n : ℕ) (entry bytes read : List ℕ)
+    (b d : Disk D)
     → contents (drive_of b) ≡ shown contents b → ((blocks : List (List ℕ)) → contents (drive_of b) ≡ Some blocks → block_at blocks n ≡ read)
     → IsOver slot n entry bytes read → PutsBlock contents count faults end n bytes b d → PutsEntry contents count faults end slot entry b d
 puts_made contents count faults end slot n entry bytes read b d settled kept over_it puts = record {

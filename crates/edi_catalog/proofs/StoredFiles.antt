@@ -1,5 +1,6 @@
 -- A store, from what it writes to what it leaves.
-use Rattle.std.proofs.Common.{◌≡◌, inl, inr, ℕ, ◌+◌, ◌-◌, ◌<◌, ◌≤◌, true, false, List, ◌++◌, length, set, replicate, refl, ap, sym, subst, ◌∙◌, arith, length-set, length-append, ◌*◌, ◌/◌, ◌%◌, [], get_or}
+use Rattle.std.proofs.Common.{◌≡◌, inl, inr, ℕ, ◌+◌, ◌-◌, ◌<◌, ◌≤◌, true, false, List, ◌++◌, length, set, replicate, refl, ap, sym, subst, ◌∙◌, arith}
+use Rattle.std.proofs.Common.{length-set, length-append, ◌*◌, ◌/◌, ◌%◌, [], get_or}
 use Rattle.std.specs.Prelude.{IfSome, Option, Some, None, Ok, Err}
 use Rattle.std.specs.List.{list_all}
 use Rattle.edi_told.specs.Told.{WhereTold}
@@ -35,14 +36,15 @@ use Rattle.edi_catalog.proofs.Changed.{all_set}
 use Rattle.edi_catalog.proofs.EntryBlocks.{entries_over, entries_laid}
 
 -- what is known where a file is stored in a slot
-pub record Stores (count : ℕ) (files : List (Option StoredFile)) (title : List ℕ) (kind : FileKind) (bytes : List ℕ) (slot : ℕ) (file : StoredFile) : Type 0 where
-  pub within : slot < 256
-  pub all : list_all (is_stored count) files ≡ true
-  pub laid : IsLaid count files file
-  pub entry : entry_of file ≡ stored_entry title kind (length bytes)
-  pub whole : length (bytes_of_record file.record_) ≡ 64
-  pub index : index_for title files ≡ Some slot
-  pub open_ : is_protected (file_titled title files) ≡ false
+pub record Stores (count : ℕ) (files : List (Option StoredFile)) (title : List ℕ) (kind : FileKind) (bytes : List ℕ) (slot : ℕ) (file : StoredFile) : Type 0
+  where
+    pub within : slot < 256
+    pub all : list_all (is_stored count) files ≡ true
+    pub laid : IsLaid count files file
+    pub entry : entry_of file ≡ stored_entry title kind (length bytes)
+    pub whole : length (bytes_of_record file.record_) ≡ 64
+    pub index : index_for title files ≡ Some slot
+    pub open_ : is_protected (file_titled title files) ≡ false
 
 title_is : (title : List ℕ) (kind : FileKind) (size : ℕ) (file : StoredFile) → entry_of file ≡ stored_entry title kind size → file.record_.title ≡ title
 title_is title kind size file e = ap (λ (x : Entry). x.title) e
@@ -87,10 +89,12 @@ module _ (count : ℕ) (files : List (Option StoredFile)) (title : List ℕ) (ki
       free_same count files (used_in (Some file)) old new stores.laid.free only.as_many only.others in
       record { valid = (same_kept old new files kept same).valid; files = same_slots old new files kept same }
 
-  pub done_leaves : (new : List (List ℕ)) → NewLeaves disk.Ok slot file bytes old new → Leaves {X = Unit {0}} (Ok tt) (slots_of old) (slots_stored title kind bytes (slots_of old)) old new
+  pub done_leaves : (new : List (List ℕ)) → NewLeaves disk.Ok slot file bytes old new → Leaves {X = Unit {0}} (Ok tt) (slots_of old)
+      (slots_stored title kind bytes (slots_of old)) old new
   done_leaves new made = stored_now new made
 
-  pub fault_leaves : (new : List (List ℕ)) → NewLeaves disk.Fault slot file bytes old new → Leaves {X = Unit {0}} (Err cat.Fault) (slots_of old) (slots_stored title kind bytes (slots_of old)) old new
+  pub fault_leaves : (new : List (List ℕ)) → NewLeaves disk.Fault slot file bytes old new → Leaves {X = Unit {0}} (Err cat.Fault) (slots_of old)
+      (slots_stored title kind bytes (slots_of old)) old new
   fault_leaves new (inl only) = record { one = inl (before_still new only) }
   fault_leaves new (inr made) = record { one = inr (stored_now new made) }
 
@@ -104,7 +108,8 @@ module _ {D : Type 0} (contents : D → Option (List (List ℕ))) (count faults 
   store_done one other title kind bytes slot file mounted stores writes =
       writing.where_told _ (contents (drive_of (disk_of one))) (contents (drive_of (disk_of other)))
       (λ new there.
-      let old = writing.told (NewLeaves disk.Ok slot file bytes) (contents (drive_of (disk_of one))) (contents (drive_of (disk_of other))) new writes.leaves there in (
+      let old = writing.told (NewLeaves disk.Ok slot file bytes) (contents (drive_of (disk_of one))) (contents (drive_of (disk_of other))) new writes.leaves
+      there in (
         old.0,
         old.1,
         done_leaves (count (drive_of (disk_of one))) (files_of one) title kind bytes slot file stores old.0
@@ -119,7 +124,8 @@ module _ {D : Type 0} (contents : D → Option (List (List ℕ))) (count faults 
   store_fails one other title kind bytes slot file mounted stores writes =
       writing.where_told _ (contents (drive_of (disk_of one))) (contents (drive_of (disk_of other)))
       (λ new there.
-      let old = writing.told (NewLeaves disk.Fault slot file bytes) (contents (drive_of (disk_of one))) (contents (drive_of (disk_of other))) new writes.leaves there in (
+      let old = writing.told (NewLeaves disk.Fault slot file bytes) (contents (drive_of (disk_of one))) (contents (drive_of (disk_of other))) new
+      writes.leaves there in (
         old.0,
         old.1,
         fault_leaves (count (drive_of (disk_of one))) (files_of one) title kind bytes slot file stores old.0
@@ -130,7 +136,8 @@ module _ {D : Type 0} (contents : D → Option (List (List ℕ))) (count faults 
       → IsMounted contents count one → Stores (count (drive_of (disk_of one))) (files_of one) title kind bytes slot file
       → WritesNew contents count faults disk.Ok slot file bytes (disk_of one) (disk_of other)
       → files_of other ≡ set (files_of one) slot (Some file) → length (entry_blocks_of one) ≡ 32
-      → entry_blocks_of other ≡ set (entry_blocks_of one) (slot / 8) (patched (64 * (slot % 8)) (bytes_of_record file.record_) (get_or (entry_blocks_of one) (slot / 8) []))
+      → entry_blocks_of other ≡ set (entry_blocks_of one) (slot / 8)
+      (patched (64 * (slot % 8)) (bytes_of_record file.record_) (get_or (entry_blocks_of one) (slot / 8) []))
       → IsMounted contents count other
   store_mounted one other title kind bytes slot file mounted stores writes now many blocks_now = record {
     works = writes.works refl;
@@ -143,13 +150,15 @@ module _ {D : Type 0} (contents : D → Option (List (List ℕ))) (count faults 
         (all_set (is_stored (count (drive_of (disk_of one)))) (files_of one) slot (Some file) stores.all stores.laid.kept);
     room = λ some. ap length blocks_now ∙ length-set (entry_blocks_of one) (slot / 8) _ ∙ many;
     entries = λ blocks told.
-        (let old = writing.told (NewLeaves disk.Ok slot file bytes) (contents (drive_of (disk_of one))) (contents (drive_of (disk_of other))) blocks writes.leaves told in
+        (let old = writing.told (NewLeaves disk.Ok slot file bytes) (contents (drive_of (disk_of one))) (contents (drive_of (disk_of other))) blocks
+        writes.leaves told in
         subst (λ es. AreEntries es blocks) (sym blocks_now)
         (entries_over slot (bytes_of_record file.record_) (entry_blocks_of one) old.2.laid blocks stores.within many
         (entries_laid (count (drive_of (disk_of one))) (used_in (Some file)) (entry_blocks_of one) old.0 old.2.laid stores.laid.free.on_drive
         old.2.put.others (mounted.entries old.0 old.1)) old.2.written));
     image = λ blocks told.
-        (let old = writing.told (NewLeaves disk.Ok slot file bytes) (contents (drive_of (disk_of one))) (contents (drive_of (disk_of other))) blocks writes.leaves told in
+        (let old = writing.told (NewLeaves disk.Ok slot file bytes) (contents (drive_of (disk_of one))) (contents (drive_of (disk_of other))) blocks
+        writes.leaves told in
         subst (IsKeptOf blocks) (sym now)
         (stored_kept (count (drive_of (disk_of one))) (files_of one) title kind bytes slot file stores old.0
         (writing.many contents count faults counted (drive_of (disk_of one)) old.0 old.1) (mounted.image old.0 old.1) blocks old.2));
@@ -159,7 +168,8 @@ module _ {D : Type 0} (contents : D → Option (List (List ℕ))) (count faults 
       → IsMounted contents count one → Stores (count (drive_of (disk_of one))) (files_of one) title kind bytes slot file
       → WritesNew contents count faults disk.Ok slot file bytes (disk_of one) (disk_of other) → room_reference other ≡ room_reference one
       → files_of other ≡ set (files_of one) slot (Some file) → length (entry_blocks_of one) ≡ 32
-      → entry_blocks_of other ≡ set (entry_blocks_of one) (slot / 8) (patched (64 * (slot % 8)) (bytes_of_record file.record_) (get_or (entry_blocks_of one) (slot / 8) []))
+      → entry_blocks_of other ≡ set (entry_blocks_of one) (slot / 8)
+      (patched (64 * (slot % 8)) (bytes_of_record file.record_) (get_or (entry_blocks_of one) (slot / 8) []))
       → StoreChanges {X = Unit {0}} contents count faults (Ok tt) None title kind bytes one other
   changes_done one other title kind bytes slot file mounted stores writes lent now many blocks_now = record {
     answers = (refl, record { file = file; entry_ = stores.entry; at = slot; index_ = stores.index; others = now });

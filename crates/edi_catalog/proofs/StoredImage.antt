@@ -1,5 +1,6 @@
 -- An image in which a new file is laid in free blocks and its entry is written.
-use Rattle.std.proofs.Common.{◌≡◌, ◌⊎◌, inl, inr, ℕ, suc, ◌+◌, ◌-◌, ◌*◌, ◌/◌, ◌<◌, ◌≤◌, Bool, true, false, List, [], ◌∷◌, ◌++◌, length, take, min, set, get_or, refl, ap, sym, subst, ◌∙◌, arith}
+use Rattle.std.proofs.Common.{◌≡◌, ◌⊎◌, inl, inr, ℕ, suc, ◌+◌, ◌-◌, ◌*◌, ◌/◌, ◌<◌, ◌≤◌, Bool, true, false, List, [], ◌∷◌, ◌++◌, length, take, min, set}
+use Rattle.std.proofs.Common.{get_or, refl, ap, sym, subst, ◌∙◌, arith}
 use Rattle.std.specs.Prelude.{◌&&◌, ◌||◌, ◌==◌, nat_le, nat_lt, not, map, flat_map, if◌then◌else◌, Option, Some, None, is_none, slice_index_or}
 use Rattle.std.specs.List.{list_all, list_any}
 use Rattle.std.specs.Str.{bytes_eq}
@@ -30,7 +31,8 @@ use Rattle.edi_image.proofs.EntryBytes.{says_record}
 use Rattle.edi_catalog.proofs.EntryFrames.{entries_around, entries_written}
 use Rattle.edi_image.proofs.UsedBlocks.{uses_of, uses_all, titles_all, others_used, none_right}
 use Rattle.edi_catalog.proofs.OneEntry.{Around, around, one_changed, IsApart, own_apart, new_apart, any_left, any_right}
-use Rattle.edi_catalog.proofs.Changed.{KeepsData, keeps_written, all_kept, stored_same, untitled, titles_all-append, front_of, back_of, length-front, image_holds, files_kept, record_room}
+use Rattle.edi_catalog.proofs.Changed.{KeepsData, keeps_written, all_kept, stored_same, untitled, titles_all-append, front_of, back_of, length-front}
+use Rattle.edi_catalog.proofs.Changed.{image_holds, files_kept, record_room}
 use Rattle.edi_catalog.proofs.Unchanged.{in_append, in_left, in_right, in_later, same_kept, same_slots, free_same, IsSameImage, not_both, all_in}
 use Rattle.edi_catalog.proofs.Different.{in_woven}
 use Rattle.edi_catalog.proofs.Laid.{AreMaps, ArePages, maps_tell, maps_use, maps_keep, pages_hold, put_maps, put_pages}
@@ -124,19 +126,20 @@ pages_later count laid new file bytes shape keeps are j h =
 index_titled : (title : List ℕ) (files : List (Option StoredFile)) (index : ℕ) → find_index title files ≡ Some index
     → is_titled title (slice_index_or files index None) ≡ true
 index_titled title [] index h = absurd (let no : None ≡ Some index = h in cc)
-index_titled title (file ∷ files) index h = here (is_titled title file) refl index h (find_index title files) (λ later e. index_titled title files later e) where
-  here : (b : Bool) → is_titled title file ≡ b → (index : ℕ) → (if b then Some 0 else option_map suc (find_index title files)) ≡ Some index
-      → (rest : Option ℕ) → ((later : ℕ) → find_index title files ≡ Some later → is_titled title (slice_index_or files later None) ≡ true)
-      → is_titled title (slice_index_or (file ∷ files) index None) ≡ true
-  here true e index h rest later =
-      (let same : Some 0 ≡ Some index = h in let zero_index : 0 ≡ index = cc in
-      subst (λ p. is_titled title (slice_index_or (file ∷ files) p None) ≡ true) zero_index e)
-  here false e index h rest later = behind (find_index title files) refl h where
-    behind : (o : Option ℕ) → find_index title files ≡ o → option_map suc o ≡ Some index → is_titled title (slice_index_or (file ∷ files) index None) ≡ true
-    behind None f g = absurd (let no : None ≡ Some index = g in cc)
-    behind (Some k) f g =
-        (let same : Some (suc k) ≡ Some index = g in let next : suc k ≡ index = cc in
-        subst (λ p. is_titled title (slice_index_or (file ∷ files) p None) ≡ true) next (later k f))
+index_titled title (file ∷ files) index h = here (is_titled title file) refl index h (find_index title files) (λ later e. index_titled title files later e)
+  where
+    here : (b : Bool) → is_titled title file ≡ b → (index : ℕ) → (if b then Some 0 else option_map suc (find_index title files)) ≡ Some index
+        → (rest : Option ℕ) → ((later : ℕ) → find_index title files ≡ Some later → is_titled title (slice_index_or files later None) ≡ true)
+        → is_titled title (slice_index_or (file ∷ files) index None) ≡ true
+    here true e index h rest later =
+        (let same : Some 0 ≡ Some index = h in let zero_index : 0 ≡ index = cc in
+        subst (λ p. is_titled title (slice_index_or (file ∷ files) p None) ≡ true) zero_index e)
+    here false e index h rest later = behind (find_index title files) refl h where
+      behind : (o : Option ℕ) → find_index title files ≡ o → option_map suc o ≡ Some index → is_titled title (slice_index_or (file ∷ files) index None) ≡ true
+      behind None f g = absurd (let no : None ≡ Some index = g in cc)
+      behind (Some k) f g =
+          (let same : Some (suc k) ≡ Some index = g in let next : suc k ≡ index = cc in
+          subst (λ p. is_titled title (slice_index_or (file ∷ files) p None) ≡ true) next (later k f))
 
 -- the entry of a slot whose file has the title
 replaced_apart : (blocks : List (List ℕ)) (front back : List Said) (s : Said) (title : List ℕ) → Around blocks front s back

@@ -68,7 +68,8 @@ for_same blocks title files h =
     let slots : List (Option File) = map (option_map (file_of blocks)) files in
     ap (λ o. if is_none o then first_free slots else option_and_then (λ k. if calls.is_protected (slot_at slots k) then None else Some k) o)
     (index_same blocks title files)
-    ∙ ap (λ o. if is_none (find_index title files) then o else option_and_then (λ k. if calls.is_protected (slot_at slots k) then None else Some k) (find_index title files))
+    ∙ ap (λ o. if is_none (find_index title files) then o else option_and_then (λ k. if calls.is_protected (slot_at slots k) then None else Some k)
+    (find_index title files))
     (free_same blocks files)
     ∙ ap (λ o. if is_none (find_index title files) then free_index files else o) (open_same blocks files (find_index title files) h)
 

@@ -93,7 +93,8 @@ Untouched (Err why) before after = after ≡ before
 
 -- A call on a mounted catalogue, by its answer: `refusal` is the first reason against it, `kept` are the slots that are to be
 -- kept in memory, `wanted` gives the files that the image is to have.
-pub record Changes {D X : Type 0} (contents : D → Option (List (List ℕ))) (count faults : D → ℕ) (result : Result X CatEnd) (refusal : Option CatEnd) (kept : List (Option StoredFile)) (wanted : List (Option File) → List (Option File)) (before after : Catalog D) : Type 0 where
+pub record Changes {D X : Type 0} (contents : D → Option (List (List ℕ))) (count faults : D → ℕ) (result : Result X CatEnd) (refusal : Option CatEnd)
+    (kept : List (Option StoredFile)) (wanted : List (Option File) → List (Option File)) (before after : Catalog D) : Type 0 where
   pub answers : CatalogAnswers result refusal (files_of before) kept (files_of after)
   pub untouched : Untouched result before after
   pub mounted : (result ≡ Err cat.Fault) ⊎ IsMounted contents count after

@@ -1,5 +1,6 @@
 -- Words of contracts. The files of a mounted catalogue.
-use Rattle.std.specs.Prelude.{◌≡◌, ℕ, suc, ◌+◌, ◌*◌, if◌then◌else◌, List, [], ◌∷◌, ◌++◌, take, length, flat_map, slice_index, slice_index_or, Option, Some, None, Result, Ok, Err, ⊤}
+use Rattle.std.specs.Prelude.{◌≡◌, ℕ, suc, ◌+◌, ◌*◌, if◌then◌else◌, List, [], ◌∷◌, ◌++◌, take, length, flat_map, slice_index, slice_index_or, Option, Some}
+use Rattle.std.specs.Prelude.{None, Result, Ok, Err, ⊤}
 use Rattle.std.specs.Option.{option_map, option_and_then}
 use Rattle.edi_calls.specs.State.{File, find_file}
 use Rattle.edi_image.specs.Entries.{block_at}

@@ -1,5 +1,6 @@
 -- Words of contracts. The calls of a catalogue, told by the slots of its image, as the state of a system has them.
-use Rattle.std.specs.Prelude.{◌≡◌, ◌⊎◌, ℕ, ◌+◌, ◌-◌, ◌*◌, ◌<◌, is_none, is_some, nat_lt, if◌then◌else◌, List, length, slice_get, Option, Some, None, Result, Ok, Err, ⊤}
+use Rattle.std.specs.Prelude.{◌≡◌, ◌⊎◌, ℕ, ◌+◌, ◌-◌, ◌*◌, ◌<◌, is_none, is_some, nat_lt, if◌then◌else◌, List, length, slice_get, Option, Some, None, Result}
+use Rattle.std.specs.Prelude.{Ok, Err, ⊤}
 use Rattle.edi_calls.specs.State.{File, blocks_of, find_file, most_bytes}
 use Rattle.edi_calls.specs.State as calls
 use Rattle.edi_calls.specs.Calls.{is_protected, slot_for}

@@ -20,9 +20,11 @@ HasAll was_put numbers content = (i : ℕ) → i < length numbers → was_put (s
 
 -- From before to after the contents were put, each in its block: all of them on Ok, and after a fault of the drive some of them.
 -- No other block was put.
-pub record PutsBlocks {D : Type 0} (contents : D → Option (List (List ℕ))) (count faults : D → ℕ) (end : DiskEnd) (numbers : List ℕ) (content : ℕ → List ℕ) (many : ℕ) (before after : Disk D) : Type 0 where
+pub record PutsBlocks {D : Type 0} (contents : D → Option (List (List ℕ))) (count faults : D → ℕ) (end : DiskEnd) (numbers : List ℕ) (content : ℕ → List ℕ)
+    (many : ℕ) (before after : Disk D) : Type 0 where
   pub same_reference : reference_of after ≡ reference_of before
-  pub since : (base : List (List ℕ)) (was_put : ℕ → List ℕ → Bool) → HasAll was_put numbers content → Kept contents base was_put before → Kept contents base was_put after
+  pub since : (base : List (List ℕ)) (was_put : ℕ → List ℕ → Bool) → HasAll was_put numbers content → Kept contents base was_put before
+      → Kept contents base was_put after
   pub count_stays : count (drive_of after) ≡ count (drive_of before)
   pub later : faults (drive_of before) ≤ faults (drive_of after)
   pub told : WhereTold (shown contents before) (shown contents after) (λ old new. ⊤)
@@ -49,7 +51,8 @@ NewLeaves disk.Ok slot file bytes old new = IsNew slot file bytes old new
 NewLeaves disk.Fault slot file bytes old new = OnlyIn (used_in (Some file)) old new ⊎ IsNew slot file bytes old new
 
 -- From before to after, on a disk with nothing that is not written, a new file is written to the drive, and then its entry.
-pub record WritesNew {D : Type 0} (contents : D → Option (List (List ℕ))) (count faults : D → ℕ) (end : DiskEnd) (slot : ℕ) (file : StoredFile) (bytes : List ℕ) (before after : Disk D) : Type 0 where
+pub record WritesNew {D : Type 0} (contents : D → Option (List (List ℕ))) (count faults : D → ℕ) (end : DiskEnd) (slot : ℕ) (file : StoredFile)
+    (bytes : List ℕ) (before after : Disk D) : Type 0 where
   pub same_reference : reference_of after ≡ reference_of before
   pub count_stays : count (drive_of after) ≡ count (drive_of before)
   pub later : faults (drive_of before) ≤ faults (drive_of after)

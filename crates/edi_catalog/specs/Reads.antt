@@ -12,7 +12,8 @@ use Rattle.edi_image.specs.declared.faults.MountFault.{MountFault}
 
 -- From before to after the disk was only read. Where the drive has not failed, the disk shows what it showed, and P is known
 -- of that; what is told in the end was told at the start in any case.
-pub record Checks {D : Type 0} (contents : D → Option (List (List ℕ))) (count faults : D → ℕ) (broke : Bool) (before after : Disk D) (P : List (List ℕ) → Type 0) : Type 0 where
+pub record Checks {D : Type 0} (contents : D → Option (List (List ℕ))) (count faults : D → ℕ) (broke : Bool) (before after : Disk D)
+    (P : List (List ℕ) → Type 0) : Type 0 where
   pub same_reference : reference_of after ≡ reference_of before
   pub since : (base : List (List ℕ)) (was_put : ℕ → List ℕ → Bool) → Kept contents base was_put before → Kept contents base was_put after
   pub count_stays : count (drive_of after) ≡ count (drive_of before)

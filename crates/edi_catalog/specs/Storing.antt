@@ -1,5 +1,6 @@
 -- Words of contracts. Storing a file: why it is refused, and what it leaves.
-use Rattle.std.specs.Prelude.{◌≡◌, ◌⊎◌, ◌≤◌, ℕ, suc, ◌+◌, ◌-◌, false, nat_lt, if◌then◌else◌, List, [], ◌∷◌, length, slice_set, Option, Some, None, is_none, Result, Ok, Err}
+use Rattle.std.specs.Prelude.{◌≡◌, ◌⊎◌, ◌≤◌, ℕ, suc, ◌+◌, ◌-◌, false, nat_lt, if◌then◌else◌, List, [], ◌∷◌, length, slice_set, Option, Some, None, is_none}
+use Rattle.std.specs.Prelude.{Result, Ok, Err}
 use Rattle.std.specs.Option.{option_map}
 use Rattle.edi_told.specs.Faults.{CountRose}
 use Rattle.edi_told.specs.Told.{WhereTold}
@@ -63,7 +64,8 @@ pub record IsStoredAt (index : Option ℕ) (entry : Entry) (old new : List (Opti
   pub others : new ≡ slice_set old at (Some file)
 
 -- A store is refused exactly for the first reason against it, and then all slots are as before; on Ok a slot has the file.
-abbrev pub StoreAnswers : {X : Type 0} → Result X CatEnd → (refusal : Option CatEnd) → (index : Option ℕ) → Entry → (old new : List (Option StoredFile)) → Type 0
+abbrev pub StoreAnswers : {X : Type 0} → Result X CatEnd → (refusal : Option CatEnd) → (index : Option ℕ) → Entry → (old new : List (Option StoredFile))
+    → Type 0
 StoreAnswers (Ok done) refusal index entry old new = (refusal ≡ None) × IsStoredAt index entry old new
 StoreAnswers (Err cat.Fault) refusal index entry old new = refusal ≡ None
 StoreAnswers (Err why) refusal index entry old new = (refusal ≡ Some why) × (new ≡ old)
@@ -78,7 +80,8 @@ abbrev pub slots_stored : (title : List ℕ) → FileKind → (bytes : List ℕ)
 slots_stored title kind bytes slots = put_at (slot_for slots title) (stored_file title kind bytes) slots
 
 -- A store on a mounted catalogue, by its answer: `refusal` is the first reason against it.
-pub record StoreChanges {D X : Type 0} (contents : D → Option (List (List ℕ))) (count faults : D → ℕ) (result : Result X CatEnd) (refusal : Option CatEnd) (title : List ℕ) (kind : FileKind) (bytes : List ℕ) (before after : Catalog D) : Type 0 where
+pub record StoreChanges {D X : Type 0} (contents : D → Option (List (List ℕ))) (count faults : D → ℕ) (result : Result X CatEnd) (refusal : Option CatEnd)
+    (title : List ℕ) (kind : FileKind) (bytes : List ℕ) (before after : Catalog D) : Type 0 where
   pub answers : StoreAnswers result refusal (index_for title (files_of before)) (stored_entry title kind (length bytes)) (files_of before) (files_of after)
   pub untouched : Untouched result before after
   pub mounted : (result ≡ Err cat.Fault) ⊎ IsMounted contents count after

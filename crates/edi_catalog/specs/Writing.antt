@@ -1,5 +1,6 @@
 -- Words of contracts. Writing the entry of a slot.
-use Rattle.std.specs.Prelude.{◌≡◌, ◌⊎◌, ℕ, ◌+◌, ◌*◌, ◌/◌, ◌%◌, ◌≤◌, Bool, true, false, List, [], ◌++◌, take, drop, length, slice_set, slice_index_or, Option, Some, None, IfSome}
+use Rattle.std.specs.Prelude.{◌≡◌, ◌⊎◌, ℕ, ◌+◌, ◌*◌, ◌/◌, ◌%◌, ◌≤◌, Bool, true, false, List, [], ◌++◌, take, drop, length, slice_set, slice_index_or, Option}
+use Rattle.std.specs.Prelude.{Some, None, IfSome}
 use Rattle.std.specs.Option.{option_and_then}
 use Rattle.edi_told.specs.Faults.{CountRose}
 use Rattle.edi_told.specs.Told.{WhereTold}
@@ -40,7 +41,8 @@ EntryLeaves disk.Ok slot entry old new = IsWritten slot entry old new
 EntryLeaves disk.Fault slot entry old new = (new ≡ old) ⊎ IsWritten slot entry old new
 
 -- From before to after, on a disk with nothing that is not written, the entry of a slot is written to the drive.
-pub record PutsEntry {D : Type 0} (contents : D → Option (List (List ℕ))) (count faults : D → ℕ) (end : DiskEnd) (slot : ℕ) (entry : List ℕ) (before after : Disk D) : Type 0 where
+pub record PutsEntry {D : Type 0} (contents : D → Option (List (List ℕ))) (count faults : D → ℕ) (end : DiskEnd) (slot : ℕ) (entry : List ℕ)
+    (before after : Disk D) : Type 0 where
   pub same_reference : reference_of after ≡ reference_of before
   pub count_stays : count (drive_of after) ≡ count (drive_of before)
   pub later : faults (drive_of before) ≤ faults (drive_of after)

@@ -8,7 +8,8 @@ ghost use Rattle.edi_catalog.specs.InSlots.{no_deletion, no_renaming, no_such, S
 ghost use Rattle.edi_calls.specs.State.{find_file, is_title};
 ghost use Rattle.edi_catalog.specs.Mounted.{IsMounted, disk_of, files_of};
 ghost use Rattle.edi_catalog.specs.Files.{file_titled};
-ghost use Rattle.edi_catalog.specs.Changes.{Changes, deleted, file_protected, file_renamed, kept_changed, kept_protected, kept_renamed, not_deleted, not_found, not_renamed, slots_changed};
+ghost use Rattle.edi_catalog.specs.Changes.{Changes, deleted, file_protected, file_renamed, kept_changed, kept_protected, kept_renamed, not_deleted};
+ghost use Rattle.edi_catalog.specs.Changes.{not_found, not_renamed, slots_changed};
 ghost use Rattle.edi_catalog.specs.Writing.{IsRecordAt, is_protected, kept_as, put_file, put_kept, record_protected, record_renamed};
 
 use crate::catalog::Catalog;
@@ -119,7 +120,8 @@ impl<'d, 'c, D: Drive> Catalog<'d, 'c, D> {
         ensures changes { Changes D.contents D.count D.faults result (not_found (file_titled title.now (files_of self.old)))
             (kept_changed (kept_protected true) title.now (files_of self.old)) (slots_changed (file_protected true) title.now) self.old self.new }
         ensures exact { WhereTold (D.contents (drive_of (disk_of self.old))) (D.contents (drive_of (disk_of self.new)))
-            (λ old new. SlotsAnswer result (no_such (find_file (slots_of old) title.now)) (slots_of old) (slots_changed (file_protected true) title.now (slots_of old)) (slots_of new)) }
+            (λ old new. SlotsAnswer result (no_such (find_file (slots_of old) title.now)) (slots_of old)
+            (slots_changed (file_protected true) title.now (slots_of old)) (slots_of new)) }
     {
         self.set_protected(title, true)
     }
@@ -130,7 +132,8 @@ impl<'d, 'c, D: Drive> Catalog<'d, 'c, D> {
         ensures changes { Changes D.contents D.count D.faults result (not_found (file_titled title.now (files_of self.old)))
             (kept_changed (kept_protected false) title.now (files_of self.old)) (slots_changed (file_protected false) title.now) self.old self.new }
         ensures exact { WhereTold (D.contents (drive_of (disk_of self.old))) (D.contents (drive_of (disk_of self.new)))
-            (λ old new. SlotsAnswer result (no_such (find_file (slots_of old) title.now)) (slots_of old) (slots_changed (file_protected false) title.now (slots_of old)) (slots_of new)) }
+            (λ old new. SlotsAnswer result (no_such (find_file (slots_of old) title.now)) (slots_of old)
+            (slots_changed (file_protected false) title.now (slots_of old)) (slots_of new)) }
     {
         self.set_protected(title, false)
     }
@@ -153,7 +156,8 @@ impl<'d, 'c, D: Drive> Catalog<'d, 'c, D> {
     // Gives a file another title.
     fn rename_kept(&mut self, old: &Title, new: &Title) -> Result<(), CatEnd>
         requires mounted { IsMounted D.contents D.count self.old }
-        ensures changes { Changes D.contents D.count D.faults result (not_renamed (file_titled old.now (files_of self.old)) (file_titled new.now (files_of self.old)))
+        ensures changes { Changes D.contents D.count D.faults result
+            (not_renamed (file_titled old.now (files_of self.old)) (file_titled new.now (files_of self.old)))
             (kept_changed (kept_renamed new.now) old.now (files_of self.old)) (slots_changed (file_renamed new.now) old.now) self.old self.new }
     {
         let Some(from) = index_of(&self.room.files, old) else {
@@ -175,7 +179,8 @@ impl<'d, 'c, D: Drive> Catalog<'d, 'c, D> {
         ensures changes { Changes D.contents D.count D.faults result (not_deleted (file_titled title.now (files_of self.old)))
             (kept_changed deleted title.now (files_of self.old)) (slots_changed deleted title.now) self.old self.new }
         ensures exact { WhereTold (D.contents (drive_of (disk_of self.old))) (D.contents (drive_of (disk_of self.new)))
-            (λ old new. SlotsAnswer result (no_deletion (find_file (slots_of old) title.now)) (slots_of old) (slots_changed deleted title.now (slots_of old)) (slots_of new)) }
+            (λ old new. SlotsAnswer result (no_deletion (find_file (slots_of old) title.now)) (slots_of old) (slots_changed deleted title.now (slots_of old))
+            (slots_of new)) }
     {
         self.delete_kept(title)
     }
@@ -184,7 +189,8 @@ impl<'d, 'c, D: Drive> Catalog<'d, 'c, D> {
     /// where both titles are the same.
     pub fn rename(&mut self, old: &Title, new: &Title) -> Result<(), CatEnd>
         requires mounted { IsMounted D.contents D.count self.old }
-        ensures changes { Changes D.contents D.count D.faults result (not_renamed (file_titled old.now (files_of self.old)) (file_titled new.now (files_of self.old)))
+        ensures changes { Changes D.contents D.count D.faults result
+            (not_renamed (file_titled old.now (files_of self.old)) (file_titled new.now (files_of self.old)))
             (kept_changed (kept_renamed new.now) old.now (files_of self.old)) (slots_changed (file_renamed new.now) old.now) self.old self.new }
         ensures exact { WhereTold (D.contents (drive_of (disk_of self.old))) (D.contents (drive_of (disk_of self.new)))
             (λ blocks after. SlotsAnswer result (no_renaming (find_file (slots_of blocks) old.now) (find_file (slots_of blocks) new.now)) (slots_of blocks)

@@ -34,7 +34,8 @@ fn check_map<D: Drive>(
     requires room { array_vec_len into.old + count ≤ PAGES }
     ensures checks { Checks D.contents D.count D.faults (failed result) disk.old disk.new
         (λ blocks. Finds result (first_broken used.old.items (map_rules FIRST blocks slot count map))
-        (λ _. Takes used.old.items used.new.items (map_rules FIRST blocks slot count map) into.old.items into.new.items (numbers_in (block_at blocks map) count))) }
+        (λ _. Takes used.old.items used.new.items (map_rules FIRST blocks slot count map) into.old.items into.new.items
+        (numbers_in (block_at blocks map) count))) }
     ensures pages { OnOk result (length into.new.items ≡ length into.old.items + count) }
     ensures range { OnOk result (are_data (D.count (drive_of disk.old)) into.old.items ≡ true → are_data (D.count (drive_of disk.old)) into.new.items ≡ true) }
 {

@@ -120,7 +120,8 @@ pub fn check<D: Drive>(alloc: Global, disk: &mut Disk<'_, D>) -> Result<Checked,
     requires works { IsWorking D.contents D.count disk.old }
     requires settled { D.contents (drive_of disk.old) ≡ shown D.contents disk.old }
     ensures checked { IfOk result (IsMountedOn D.contents D.count disk.new) }
-    ensures leaves { WhereTold (D.contents (drive_of disk.old)) (D.contents (drive_of disk.new)) (λ old new. (new ≡ old) × Finds result (mount_fault_of old) (λ _. ⊤)) }
+    ensures leaves { WhereTold (D.contents (drive_of disk.old)) (D.contents (drive_of disk.new))
+        (λ old new. (new ≡ old) × Finds result (mount_fault_of old) (λ _. ⊤)) }
     ensures short { 0 < D.count (drive_of disk.old) → D.count (drive_of disk.old) < LEAST → result ≡ Err MountFault.Short }
     ensures long { MOST < D.count (drive_of disk.old) → result ≡ Err MountFault.Header }
     ensures works { failed result ≡ false → IsWorking D.contents D.count disk.new }

@@ -25,7 +25,8 @@ fn put_blocks<D: Drive>(disk: &mut Disk<'_, D>, file: &StoredFile, bytes: &[u8])
     requires stored { is_stored (D.count (drive_of disk.old)) (Some file.now) ≡ true }
     requires different { are_different (used_in (Some file.now)) ≡ true }
     requires size { length bytes.now ≡ file.now.record_.length }
-    ensures puts { PutsBlocks D.contents D.count D.faults result (used_in (Some file.now)) (content_of file.now bytes.now) (length (used_in (Some file.now))) disk.old disk.new }
+    ensures puts { PutsBlocks D.contents D.count D.faults result (used_in (Some file.now)) (content_of file.now bytes.now) (length (used_in (Some file.now)))
+        disk.old disk.new }
 {
     for i in 0..blocks_of(bytes.len()) {
         let number = u32::from(block_of(file, i));
@@ -47,7 +48,8 @@ pub(crate) fn write_file<D: Drive>(
     requires stored { is_stored (D.count (drive_of disk.old)) (Some file.now) ≡ true }
     requires different { are_different (used_in (Some file.now)) ≡ true }
     requires size { length bytes.now ≡ file.now.record_.length }
-    ensures puts { PutsBlocks D.contents D.count D.faults result (used_in (Some file.now)) (content_of file.now bytes.now) (length (used_in (Some file.now))) disk.old disk.new }
+    ensures puts { PutsBlocks D.contents D.count D.faults result (used_in (Some file.now)) (content_of file.now bytes.now) (length (used_in (Some file.now)))
+        disk.old disk.new }
     ensures settles { result ≡ DiskEnd.Ok → D.contents (drive_of disk.new) ≡ shown D.contents disk.new }
 {
     match put_blocks(disk, file, bytes) {

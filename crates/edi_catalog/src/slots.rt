@@ -82,7 +82,8 @@ fn read_slot<D: Drive>(
         (λ _. TakesSlot used.old.items used.new.items (entry_rules FIRST blocks slot (titles_of files.old.items) (said_at blocks slot))
         files.old.items files.new.items (stored_of blocks (said_at blocks slot)))) }
     ensures many { OnOk result (length files.new.items ≡ length files.old.items + 1) }
-    ensures stored { OnOk result (list_all (is_stored (D.count (drive_of disk.old))) files.old.items ≡ true → list_all (is_stored (D.count (drive_of disk.old))) files.new.items ≡ true) }
+    ensures stored { OnOk result (list_all (is_stored (D.count (drive_of disk.old))) files.old.items ≡ true
+        → list_all (is_stored (D.count (drive_of disk.old))) files.new.items ≡ true) }
 {
     match read_entry(disk, slot) {
         Ok(Said::Free) => put_file(files, None),

@@ -21,7 +21,8 @@ use Rattle.edi_static.specs.declared.faults.StaticKind.TheVariants as kind
 use Rattle.edi_static.specs.Judged.{Judged}
 use Rattle.edi_static.specs.Environment.{Environment, look_up, same_heading}
 use Rattle.edi_static.specs.Operators.{Typed, signed, Linked, Chained, operated, takes, chain_of}
-use Rattle.edi_static.specs.Fitting.{Use, constructs, calls, halts, neither, use_of, variable_argument, passed, name_alone, is_variable_alone, string_alone, character, single, function_called, expressions_of, made, takes_parts, constructed, is_record, place_of_name}
+use Rattle.edi_static.specs.Fitting.{Use, constructs, calls, halts, neither, use_of, variable_argument, passed, name_alone, is_variable_alone, string_alone}
+use Rattle.edi_static.specs.Fitting.{character, single, function_called, expressions_of, made, takes_parts, constructed, is_record, place_of_name}
 use Rattle.edi_static.specs.Expressions.{Parted, field_at, field_of, used_alone, alone, taken, element, procedure_argument, argument}
 use Rattle.edi_static.proofs.Judging.{Gives, bind, behind, ruled}
 use Rattle.edi_scheme.specs.Lines.{IsLine, ExpressionLines, ExpressionsLines, LinksLines, PartLines, ArgumentLines}
@@ -61,23 +62,28 @@ within_marks x = record { lined = x.lined.1; lines = x.lines; fewer = omega (ari
 
 -- ---- operators
 
-pub chained : (e : unit.Expression) (ls : unit.Links) (a b c : List Spelled) → Costs (ExpressionLines e) (expression_most e) a b → Costs (LinksLines ls) (links_most ls) b c → Costs (ExpressionLines (chain_of e ls)) (expression_most (chain_of e ls)) a c
+pub chained : (e : unit.Expression) (ls : unit.Links) (a b c : List Spelled) → Costs (ExpressionLines e) (expression_most e) a b
+    → Costs (LinksLines ls) (links_most ls) b c → Costs (ExpressionLines (chain_of e ls)) (expression_most (chain_of e ls)) a c
 chained e unit.no_link a b c x y = record { lined = y.lined; lines = x.lines; fewer = omega (arith, x.fewer, y.fewer) }
 chained e (unit.link_then l ls) a b c x y = record { lined = y.lined; lines = (x.lines, y.lines); fewer = omega (arith, x.fewer, y.fewer) }
 
-pub linked : (l : unit.Link) (ls : unit.Links) (a b c : List Spelled) → Costs (LinkLines l) (link_most l) a b → Costs (LinksLines ls) (links_most ls) b c → Costs (LinksLines (unit.link_then l ls)) (links_most (unit.link_then l ls)) a c
+pub linked : (l : unit.Link) (ls : unit.Links) (a b c : List Spelled) → Costs (LinkLines l) (link_most l) a b → Costs (LinksLines ls) (links_most ls) b c
+    → Costs (LinksLines (unit.link_then l ls)) (links_most (unit.link_then l ls)) a c
 linked (unit.link o e line) ls a b c x y = record { lined = y.lined; lines = (x.lines.0, x.lines.1, y.lines); fewer = omega (arith, x.fewer, y.fewer) }
 
-pub operated_fine : (types : List Shape) (o : Operator) (line left : ℕ) (v : Typed) (s : Symbol) (a b : List Spelled) → size_of s ≡ 1 → IsLine line → Fine a b v → Gives (LinkFine (on s line ∷ a) b) (operated types o line left v)
+pub operated_fine : (types : List Shape) (o : Operator) (line left : ℕ) (v : Typed) (s : Symbol) (a b : List Spelled) → size_of s ≡ 1 → IsLine line
+    → Fine a b v → Gives (LinkFine (on s line ∷ a) b) (operated types o line left v)
 operated_fine types o line left v s a b size small x =
-    ruled (LinkFine (on s line ∷ a) b) (takes types o left v.of) kind.Types line _ (λ e. record { lined = x.lined; lines = (small, x.lines); fewer = omega (arith, x.fewer, size) })
+    ruled (LinkFine (on s line ∷ a) b) (takes types o left v.of) kind.Types line _
+    (λ e. record { lined = x.lined; lines = (small, x.lines); fewer = omega (arith, x.fewer, size) })
 
 pub signed_fine : (s : Option Sign) (v : Typed) (a b : List Spelled) → Lined (sign_then s a) → Fine a b v → Gives (Fine (sign_then s a) b) (signed s v)
 signed_fine None v a b h x = x
 signed_fine (Some (sign.Plus line)) v a b h x =
     ruled (Fine (on is.Plus line ∷ a) b) (v.of == int_type) kind.Types line _ (λ e. record { lined = x.lined; lines = x.lines; fewer = omega (arith, x.fewer) })
 signed_fine (Some (sign.Minus line)) v a b h x =
-    ruled (Fine (on is.Minus line ∷ a) b) (v.of == int_type) kind.Types line _ (λ e. record { lined = x.lined; lines = (h.0, x.lines); fewer = omega (arith, x.fewer) })
+    ruled (Fine (on is.Minus line ∷ a) b) (v.of == int_type) kind.Types line _
+    (λ e. record { lined = x.lined; lines = (h.0, x.lines); fewer = omega (arith, x.fewer) })
 
 -- ---- names and strings alone
 
@@ -88,9 +94,11 @@ single_fine s more h = go s.line s.text h.1 where
   go line (c ∷ []) k = record { lined = k; lines = tt; fewer = omega arith }
   go line (c ∷ d ∷ cs) k = tt
 
-used_fine : (env : Environment) (name : Name) (u : Use) (means : Entity) (more : List Spelled) → Lined (name_mark name ∷ more) → Gives (Fine (name_mark name ∷ more) more) (used_alone env name.line u means)
+used_fine : (env : Environment) (name : Name) (u : Use) (means : Entity) (more : List Spelled) → Lined (name_mark name ∷ more)
+    → Gives (Fine (name_mark name ∷ more) more) (used_alone env name.line u means)
 used_fine env name (constructs of) means more h =
-    ruled (Fine (name_mark name ∷ more) more) (is_set_shape (shape_at env.types of)) kind.Constructor name.line _ (λ e. record { lined = h.1; lines = (h.0, tt); fewer = omega arith })
+    ruled (Fine (name_mark name ∷ more) more) (is_set_shape (shape_at env.types of)) kind.Constructor name.line _
+    (λ e. record { lined = h.1; lines = (h.0, tt); fewer = omega arith })
 used_fine env name (calls c) means more h =
     behind (Fine (name_mark name ∷ more) more) (function_called name.line c 0) _ (λ r. record { lined = h.1; lines = (h.0, tt); fewer = omega arith })
 used_fine env name halts means more h = tt
@@ -101,14 +109,18 @@ used_fine env name neither (entity.Procedure b) more h = tt
 used_fine env name neither (entity.Formal b v shape) more h = tt
 used_fine env name neither entity.Halt more h = tt
 
-pub alone_fine : (env : Environment) (name : Name) (more : List Spelled) → Lined (name_mark name ∷ more) → Gives (Fine (name_mark name ∷ more) more) (alone env name)
+pub alone_fine : (env : Environment) (name : Name) (more : List Spelled) → Lined (name_mark name ∷ more) → Gives (Fine (name_mark name ∷ more) more)
+    (alone env name)
 alone_fine env name more h = behind (Fine (name_mark name ∷ more) more) (look_up env name) _ (λ means. used_fine env name (use_of env means) means more h)
 
 -- what an expression spells that is a name alone, or a string alone
 name_first : (e : text.Expr) (name : Name) (more : List Spelled) → name_alone e ≡ Some name → expr_then e more ≡ name_mark name ∷ more
-name_first (text.expr (text.simple None (text.term (text.variable_factor (text.variable (root.Name n) text.no_selector)) text.no_multiplier) text.no_addend) text.no_comparison) name more e = grind (arith, e)
-name_first (text.expr (text.simple None (text.term (text.variable_factor (text.variable (root.Name n) (text.next_selector s ss))) text.no_multiplier) text.no_addend) text.no_comparison) name more e = absurd (cc)
-name_first (text.expr (text.simple None (text.term (text.variable_factor (text.variable (root.Val n) ss)) text.no_multiplier) text.no_addend) text.no_comparison) name more e = absurd (cc)
+name_first (text.expr (text.simple None (text.term (text.variable_factor (text.variable (root.Name n) text.no_selector)) text.no_multiplier) text.no_addend)
+    text.no_comparison) name more e = grind (arith, e)
+name_first (text.expr (text.simple None (text.term (text.variable_factor (text.variable (root.Name n) (text.next_selector s ss))) text.no_multiplier)
+    text.no_addend) text.no_comparison) name more e = absurd (cc)
+name_first (text.expr (text.simple None (text.term (text.variable_factor (text.variable (root.Val n) ss)) text.no_multiplier) text.no_addend)
+    text.no_comparison) name more e = absurd (cc)
 name_first (text.expr (text.simple None (text.term (text.numeral n) text.no_multiplier) text.no_addend) text.no_comparison) name more e = absurd (cc)
 name_first (text.expr (text.simple None (text.term (text.string s) text.no_multiplier) text.no_addend) text.no_comparison) name more e = absurd (cc)
 name_first (text.expr (text.simple None (text.term (text.not_factor l f) text.no_multiplier) text.no_addend) text.no_comparison) name more e = absurd (cc)
@@ -125,7 +137,8 @@ record IsString (e : text.Expr) (cs : List ℕ) (more : List Spelled) : Type 0 w
   first : expr_then e more ≡ on (is.Chars cs) line ∷ more
 
 string_first : (e : text.Expr) (cs : List ℕ) (more : List Spelled) → string_alone e ≡ Some cs → IsString e cs more
-string_first (text.expr (text.simple None (text.term (text.string s) text.no_multiplier) text.no_addend) text.no_comparison) cs more e = record { line = s.line; first = grind (arith, e) }
+string_first (text.expr (text.simple None (text.term (text.string s) text.no_multiplier) text.no_addend) text.no_comparison) cs more e =
+    record { line = s.line; first = grind (arith, e) }
 string_first (text.expr (text.simple None (text.term (text.variable_factor v) text.no_multiplier) text.no_addend) text.no_comparison) cs more e = absurd (cc)
 string_first (text.expr (text.simple None (text.term (text.numeral n) text.no_multiplier) text.no_addend) text.no_comparison) cs more e = absurd (cc)
 string_first (text.expr (text.simple None (text.term (text.not_factor l f) text.no_multiplier) text.no_addend) text.no_comparison) cs more e = absurd (cc)
@@ -150,7 +163,8 @@ characters_most (c ∷ cs) = omega (arith, characters_most cs)
 module _ (env : Environment) (e : text.Expr) (judged : Judged Typed) (front more : List Spelled)
     (paid : 8 * weight (expr_then e more) + 2 ≤ 8 * weight front) (h : Lined (expr_then e more)) (x : Gives (Fine (expr_then e more) more) judged) where
   value_fine : Gives (ListFine front more) (taken env false None judged)
-  value_fine = bind (Fine (expr_then e more) more) (ListFine front more) judged _ x (λ v k. record { lined = k.lined; lines = (k.lines, tt); fewer = omega (arith, k.fewer, paid) })
+  value_fine = bind (Fine (expr_then e more) more) (ListFine front more) judged _ x
+      (λ v k. record { lined = k.lined; lines = (k.lines, tt); fewer = omega (arith, k.fewer, paid) })
 
   string_fine : (cs : List ℕ) → IsString e cs more → ListFine front more (map character cs)
   string_fine cs s =
@@ -177,20 +191,23 @@ both_most (v ∷ vs) ws = omega (arith, both_most vs ws)
 pub both_fine : (vs ws : List Typed) (a b c : List Spelled) → ListFine a b vs → ListFine b c ws → ListFine a c (vs ++ ws)
 both_fine vs ws a b c x y = record { lined = y.lined; lines = both_lined vs ws x.lines y.lines; fewer = omega (arith, both_most vs ws, x.fewer, y.fewer) }
 
-made_fine : (elementary : Bool) (of : ℕ) (vs : List Typed) (line : ℕ) (s t : Spelled) (a b : List Spelled) → size_of s.symbol ≡ 1 → IsLine line → ListFine a (t ∷ b) vs → Costs (ExpressionLines (made elementary of vs line)) (expression_most (made elementary of vs line)) (s ∷ a) b
+made_fine : (elementary : Bool) (of : ℕ) (vs : List Typed) (line : ℕ) (s t : Spelled) (a b : List Spelled) → size_of s.symbol ≡ 1 → IsLine line
+    → ListFine a (t ∷ b) vs → Costs (ExpressionLines (made elementary of vs line)) (expression_most (made elementary of vs line)) (s ∷ a) b
 made_fine true of [] line s t a b size small x = record { lined = x.lined.1; lines = (small, x.lines); fewer = omega (arith, x.fewer, size) }
 made_fine true of (v ∷ []) line s t a b size small x = record { lined = x.lined.1; lines = (small, x.lines.0); fewer = omega (arith, x.fewer, size) }
 made_fine true of (v ∷ w ∷ vs) line s t a b size small x = record { lined = x.lined.1; lines = (small, x.lines); fewer = omega (arith, x.fewer, size) }
 made_fine false of vs line s t a b size small x = record { lined = x.lined.1; lines = (small, x.lines); fewer = omega (arith, x.fewer, size) }
 
-pub constructed_fine : (env : Environment) (name : Name) (of : ℕ) (vs : List Typed) (t : Spelled) (a b : List Spelled) → IsLine name.line → ListFine a (t ∷ b) vs → Gives (Fine (name_mark name ∷ a) b) (constructed env name.line of vs)
+pub constructed_fine : (env : Environment) (name : Name) (of : ℕ) (vs : List Typed) (t : Spelled) (a b : List Spelled) → IsLine name.line
+    → ListFine a (t ∷ b) vs → Gives (Fine (name_mark name ∷ a) b) (constructed env name.line of vs)
 constructed_fine env name of vs t a b small x =
     ruled (Fine (name_mark name ∷ a) b) (takes_parts env.types (shape_at env.types of) (map (λ v. v.of) vs)) kind.Constructor name.line _ (λ e.
     made_fine (is_elementary env.types of) of vs name.line (name_mark name) t a b refl small x)
 
 -- ---- arguments
 
-variable_fine : (line of : ℕ) (is_alone : Bool) (x : unit.Expression) (has : ℕ) (a b : List Spelled) → Costs (ExpressionLines x) (expression_most x) a b → Gives (ArgumentFine a b) (variable_argument line of is_alone x has)
+variable_fine : (line of : ℕ) (is_alone : Bool) (x : unit.Expression) (has : ℕ) (a b : List Spelled) → Costs (ExpressionLines x) (expression_most x) a b
+    → Gives (ArgumentFine a b) (variable_argument line of is_alone x has)
 variable_fine line of true (unit.load p) has a b h =
     ruled (ArgumentFine a b) (has == of) kind.Call line _ (λ e. record { lined = h.lined; lines = h.lines; fewer = omega (arith, h.fewer) })
 variable_fine line of true (unit.constant u n) has a b h = tt
@@ -202,14 +219,16 @@ variable_fine line of true (unit.convert u x l) has a b h = tt
 variable_fine line of true (unit.apply_of c xs l) has a b h = tt
 variable_fine line of false x has a b h = tt
 
-passed_fine : (line : ℕ) (asked : Heading) (u : Use) (name : Name) (more : List Spelled) → Lined more → Gives (ArgumentFine (name_mark name ∷ more) more) (passed line asked u)
+passed_fine : (line : ℕ) (asked : Heading) (u : Use) (name : Name) (more : List Spelled) → Lined more → Gives (ArgumentFine (name_mark name ∷ more) more)
+    (passed line asked u)
 passed_fine line asked (calls c) name more h =
     ruled (ArgumentFine (name_mark name ∷ more) more) (same_heading c.asks asked) kind.Call line _ (λ e. record { lined = h; lines = tt; fewer = omega arith })
 passed_fine line asked (constructs of) name more h = tt
 passed_fine line asked halts name more h = tt
 passed_fine line asked neither name more h = tt
 
-procedure_fine : (env : Environment) (line : ℕ) (asked : Heading) (e : text.Expr) (o : Option Name) (judged : Judged Typed) (more : List Spelled) → name_alone e ≡ o → Lined (expr_then e more) → Gives (ArgumentFine (expr_then e more) more) (procedure_argument env line asked o judged)
+procedure_fine : (env : Environment) (line : ℕ) (asked : Heading) (e : text.Expr) (o : Option Name) (judged : Judged Typed) (more : List Spelled)
+    → name_alone e ≡ o → Lined (expr_then e more) → Gives (ArgumentFine (expr_then e more) more) (procedure_argument env line asked o judged)
 procedure_fine env line asked e (Some name) judged more q h =
     let first = name_first e name more q in
     let lined : Lined (name_mark name ∷ more) = subst Lined first h in
@@ -217,19 +236,24 @@ procedure_fine env line asked e (Some name) judged more q h =
     subst (λ l. Gives (ArgumentFine l more) (passed line asked (use_of env means))) (sym first) (passed_fine line asked (use_of env means) name more lined.1))
 procedure_fine env line asked e None judged more q h = behind (ArgumentFine (expr_then e more) more) judged _ (λ v. tt)
 
-pub argument_fine : (env : Environment) (line : ℕ) (e : text.Expr) (judged : Judged Typed) (fs : Formals) (more : List Spelled) → Lined (expr_then e more) → Gives (Fine (expr_then e more) more) judged → Gives (ArgumentFine (expr_then e more) more) (argument env line e judged fs)
+pub argument_fine : (env : Environment) (line : ℕ) (e : text.Expr) (judged : Judged Typed) (fs : Formals) (more : List Spelled) → Lined (expr_then e more)
+    → Gives (Fine (expr_then e more) more) judged → Gives (ArgumentFine (expr_then e more) more) (argument env line e judged fs)
 argument_fine env line e judged no_formal more h x = tt
 argument_fine env line e judged (value_then of fs) more h x =
-    bind (Fine (expr_then e more) more) (ArgumentFine (expr_then e more) more) judged _ x (λ v k. ruled (ArgumentFine (expr_then e more) more) (v.of == of) kind.Call line _ (λ r. k))
+    bind (Fine (expr_then e more) more) (ArgumentFine (expr_then e more) more) judged _ x
+    (λ v k. ruled (ArgumentFine (expr_then e more) more) (v.of == of) kind.Call line _ (λ r. k))
 argument_fine env line e judged (variable_then of fs) more h x =
-    bind (Fine (expr_then e more) more) (ArgumentFine (expr_then e more) more) judged _ x (λ v k. variable_fine line of (is_variable_alone e) v.what v.of (expr_then e more) more k)
+    bind (Fine (expr_then e more) more) (ArgumentFine (expr_then e more) more) judged _ x
+    (λ v k. variable_fine line of (is_variable_alone e) v.what v.of (expr_then e more) more k)
 argument_fine env line e judged (procedure_then asked fs) more h x = procedure_fine env line asked e (name_alone e) judged more refl h
 
 -- ---- fields
 
-pub field_fine : (env : Environment) (line of : ℕ) (name : Name) (more : List Spelled) → Lined (on is.Period line ∷ name_mark name ∷ more) → Gives (PartFine (on is.Period line ∷ name_mark name ∷ more) more) (field_of env line of name)
+pub field_fine : (env : Environment) (line of : ℕ) (name : Name) (more : List Spelled) → Lined (on is.Period line ∷ name_mark name ∷ more)
+    → Gives (PartFine (on is.Period line ∷ name_mark name ∷ more) more) (field_of env line of name)
 field_fine env line of name more h =
-    ruled (PartFine (on is.Period line ∷ name_mark name ∷ more) more) (is_record (shape_at env.types of)) kind.Types line _ (λ e. go (place_of_name (slice_index_or env.fields of []) name.text)) where
+    ruled (PartFine (on is.Period line ∷ name_mark name ∷ more) more) (is_record (shape_at env.types of)) kind.Types line _
+    (λ e. go (place_of_name (slice_index_or env.fields of []) name.text)) where
       go : (o : Option ℕ) → Gives (PartFine (on is.Period line ∷ name_mark name ∷ more) more) (field_at env of name o)
       go None = tt
       go (Some n) = record { lined = h.1.1; lines = tt; fewer = omega arith }

@@ -18,8 +18,11 @@ use Rattle.edi_unit.specs.Fits.{heading, Formals}
 use Rattle.edi_static.specs.declared.faults.StaticKind.TheVariants as kind
 use Rattle.edi_static.specs.Judged.{gives, must}
 use Rattle.edi_static.specs.Environment.{Environment, type_named, declare, give_outside, here, with_variable}
-use Rattle.edi_static.specs.Types.{constant, const_decl, const_decls, const_list, most_constants, names_count, enum_constants, enum_decl, Fields, field_named, fields_named, fields_of_group, fields_of_groups, no_fields, declare_type, array_decl, set_decl, type_decl, variable_decl, variables_named, variables_of_groups, var_list}
-use Rattle.edi_static.specs.Headings.{Listed, Headed, leave, round, own_name, params_named, param_group, procedure_named, result_named, with_result, heading_parts, parameters, more_parameters, parameter}
+use Rattle.edi_static.specs.Types.{constant, const_decl, const_decls, const_list, most_constants, names_count, enum_constants, enum_decl, Fields}
+use Rattle.edi_static.specs.Types.{field_named, fields_named, fields_of_group, fields_of_groups, no_fields, declare_type, array_decl, set_decl, type_decl}
+use Rattle.edi_static.specs.Types.{variable_decl, variables_named, variables_of_groups, var_list}
+use Rattle.edi_static.specs.Headings.{Listed, Headed, leave, round, own_name, params_named, param_group, procedure_named, result_named, with_result}
+use Rattle.edi_static.specs.Headings.{heading_parts, parameters, more_parameters, parameter}
 use Rattle.edi_static.proofs.Judging.{Gives, bind, behind, choose, ruled}
 use Rattle.edi_scheme.specs.Laws.{HasPart}
 
@@ -29,7 +32,8 @@ abbrev Filled : ℕ → Fields → Type 0
 Filled n fields = n ≤ length fields.types
 
 field_filled : (of : ℕ) (name : Name) (f : Fields) (n : ℕ) → Filled n f → Gives (Filled (suc n)) (field_named of name f)
-field_filled of name f n h = ruled (Filled (suc n)) (not (list_any (bytes_eq name.text) f.names)) kind.Ambiguous name.line _ (λ e. omega (arith, h, length-append f.types (of ∷ [])))
+field_filled of name f n h = ruled (Filled (suc n)) (not (list_any (bytes_eq name.text) f.names)) kind.Ambiguous name.line _
+    (λ e. omega (arith, h, length-append f.types (of ∷ [])))
 
 named_filled : (of : ℕ) (ns : text.Names) (f : Fields) (n : ℕ) → Filled n f → Gives (Filled n) (fields_named of ns f)
 named_filled of text.no_name f n h = h
@@ -55,7 +59,8 @@ record_filled env first more =
 module _
     (P Q : List Shape → List Block → Type 0)
     (typed : (types : List Shape) (blocks : List Block) (shape : Shape) → HasPart shape → P types blocks → Q (types ++ shape ∷ []) blocks)
-    (varied : (types : List Shape) (blocks : List Block) (n : ℕ) (block : Block) → block.body ≡ (block_at blocks n).body → P types blocks → P types (slice_set blocks n block)) where
+    (varied : (types : List Shape) (blocks : List Block) (n : ℕ) (block : Block) → block.body ≡ (block_at blocks n).body → P types blocks
+    → P types (slice_set blocks n block)) where
   abbrev pub Kept : Environment → Type 0
   Kept env = P env.types env.blocks
 
@@ -98,7 +103,8 @@ module _
       behind Kept (must (nat_lt n most_constants) kind.Range name.line) (λ _. gives e) (λ _. k)))
       (λ e k. enum_kept m of (suc n) ns e k)
 
-  type_kept : (m : Bool) (name : Name) (shape : Shape) (fields : List (List ℕ)) (env : Environment) → HasPart shape → Kept env → Gives Grown (declare_type m name shape fields env)
+  type_kept : (m : Bool) (name : Name) (shape : Shape) (fields : List (List ℕ)) (env : Environment) → HasPart shape → Kept env
+      → Gives Grown (declare_type m name shape fields env)
   type_kept m name shape fields env part h =
       ruled Grown (nat_le (shape_size (size env.types) shape) greatest_size) kind.Range name.line _ (λ _.
       bind Kept Grown _ _ (declare_kept m name _ env h) (λ e k. typed e.types e.blocks shape part k))
@@ -109,7 +115,8 @@ module _
       (bind Kept Kept _ _ (declare_kept m name _ env h) (λ e k. enum_kept m _ 0 ns e k))
       (λ e k. typed e.types e.blocks (enumeration (names_count ns)) tt k)
 
-  array_kept : (m : Bool) (name : Name) (lower upper : Constant) (element : Name) (env : Environment) → Kept env → Gives Grown (array_decl m name lower upper element env)
+  array_kept : (m : Bool) (name : Name) (lower upper : Constant) (element : Name) (env : Environment) → Kept env
+      → Gives Grown (array_decl m name lower upper element env)
   array_kept m name lower upper element env h =
       behind Grown (constant env lower) _ (λ lo.
       behind Grown (constant env upper) _ (λ hi.
@@ -124,7 +131,8 @@ module _
   pub type_decl_kept : (m : Bool) (t : text.TypeDecl) (env : Environment) → Kept env → Gives Grown (type_decl m t env)
   type_decl_kept m (text.enum_decl name first more) env h = enum_decl_kept m name (text.next_name first more) env h
   type_decl_kept m (text.record_decl name first more) env h =
-      bind (Filled 1) Grown (fields_of_groups env (text.next_group first more) no_fields) _ (record_filled env first more) (λ fields k. type_kept m name (record_of fields.types) fields.names env k h)
+      bind (Filled 1) Grown (fields_of_groups env (text.next_group first more) no_fields) _ (record_filled env first more)
+      (λ fields k. type_kept m name (record_of fields.types) fields.names env k h)
   type_decl_kept m (text.array_decl name line lower upper element) env h = array_kept m name lower upper element env h
   type_decl_kept m (text.set_decl name base) env h = set_decl_kept m name base env h
 
@@ -156,9 +164,11 @@ module _
       (λ m k. params_kept block before of one ns m k)
 
   group_kept : (block before : ℕ) (v : Bool) (g : text.Group) (l : Listed) → KeptListed l → Gives KeptListed (param_group block before v g l)
-  group_kept block before v (text.group first names of) l h = behind KeptListed (type_named l.env of) _ (λ t. params_kept block before t _ (text.next_name first names) l h)
+  group_kept block before v (text.group first names of) l h = behind KeptListed (type_named l.env of) _
+      (λ t. params_kept block before t _ (text.next_name first names) l h)
 
-  procedure_named_kept : (block before : ℕ) (name : Name) (fs : Formals) (inner : Headed) → KeptHeaded inner → Gives KeptListed (procedure_named block before name fs inner)
+  procedure_named_kept : (block before : ℕ) (name : Name) (fs : Formals) (inner : Headed) → KeptHeaded inner
+      → Gives KeptListed (procedure_named block before name fs inner)
   procedure_named_kept block before name fs inner h = bind Kept KeptListed _ _ (declare_kept false name _ (leave inner.env) h) (λ e k. k)
 
   result_kept : (r : Option Name) (l : Listed) → KeptListed l → Gives KeptHeaded (with_result r l)

@@ -17,8 +17,11 @@ use Rattle.edi_static.specs.Types.{constant}
 use Rattle.edi_static.specs.Headings.{Headed, round, own_name, heading_parts}
 use Rattle.edi_static.specs.Fitting.{use_of}
 use Rattle.edi_static.specs.Expressions.{expression}
-use Rattle.edi_static.specs.Statements.{After, assigned, called, add_statements, with_need, close_block, enter_branch, leave_branch, statement_list, statements, statement, conditions, elses, condition, branch, branches}
-use Rattle.edi_static.specs.Declarations.{kind_of, with_heading, block_of, procedure_name, heading_of, begun_named, completes, post_marked, all_completed, begin_procedure, begin_post, pre_decl, procedure_rest, item, module_decl, members, member, declarations, declaration}
+use Rattle.edi_static.specs.Statements.{After, assigned, called, add_statements, with_need, close_block, enter_branch, leave_branch, statement_list}
+use Rattle.edi_static.specs.Statements.{statements, statement, conditions, elses, condition, branch, branches}
+use Rattle.edi_static.specs.Declarations.{kind_of, with_heading, block_of, procedure_name, heading_of, begun_named, completes, post_marked, all_completed}
+use Rattle.edi_static.specs.Declarations.{begin_procedure, begin_post, pre_decl, procedure_rest, item, module_decl, members, member, declarations}
+use Rattle.edi_static.specs.Declarations.{declaration}
 use Rattle.edi_static.specs.Programs.{program_heading, global_decl, global_decls, program_procedure, resolve_tree}
 use Rattle.edi_static.proofs.Judging.{Gives, bind, behind, ruled}
 use Rattle.edi_scheme.specs.Laws.{HasPart, HaveParts}
@@ -30,7 +33,8 @@ use Rattle.edi_codable.proofs.Declared.{const_list_kept, type_decl_kept, var_kep
 abbrev Have : List Shape → List Block → Type 0
 Have types blocks = HaveParts types
 
-at_added : (types : List Shape) (shape : Shape) (t : ℕ) (inside : Bool) → nat_lt t (length types) ≡ inside → t < length types + 1 → HasPart shape → HaveParts types → HasPart (shape_at (types ++ shape ∷ []) t)
+at_added : (types : List Shape) (shape : Shape) (t : ℕ) (inside : Bool) → nat_lt t (length types) ≡ inside → t < length types + 1 → HasPart shape
+    → HaveParts types → HasPart (shape_at (types ++ shape ∷ []) t)
 at_added types shape t true e less part h =
     let here : t < length types = grind (arith, e) in
     subst HasPart (sym (get_or_append_left types (shape ∷ []) int t here)) (h t here)
@@ -41,7 +45,8 @@ at_added types shape t false e less part h =
 typed : (types : List Shape) (blocks : List Block) (shape : Shape) → HasPart shape → Have types blocks → Have (types ++ shape ∷ []) blocks
 typed types blocks shape part h t less = at_added types shape t (nat_lt t (length types)) refl (omega (arith, less, length-append types (shape ∷ []))) part h
 
-varied : (types : List Shape) (blocks : List Block) (n : ℕ) (block : Block) → block.body ≡ (block_at blocks n).body → Have types blocks → Have types (slice_set blocks n block)
+varied : (types : List Shape) (blocks : List Block) (n : ℕ) (block : Block) → block.body ≡ (block_at blocks n).body → Have types blocks
+    → Have types (slice_set blocks n block)
 varied types blocks n block e h = h
 
 abbrev Good : Environment → Type 0

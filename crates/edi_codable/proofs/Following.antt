@@ -48,4 +48,5 @@ code_is_sound tree unit sound e =
 
 pub code_is_words : CodeIsWords
 code_is_words tree unit sound e =
-    worded.code_is_words unit (units_fit tree unit sound e) (records_have_fields tree unit e) (lines_are_small tree unit sound.is_bounded e) (omega (arith, code_is_short tree unit sound.is_bounded e))
+    worded.code_is_words unit (units_fit tree unit sound e) (records_have_fields tree unit e) (lines_are_small tree unit sound.is_bounded e)
+    (omega (arith, code_is_short tree unit sound.is_bounded e))

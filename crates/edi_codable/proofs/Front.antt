@@ -16,8 +16,12 @@ use Rattle.edi_tree.specs.declared.constants.Constant.TheVariants as constant
 use Rattle.edi_tree.specs.declared.constants.ConstDecl.{ConstDecl}
 use Rattle.edi_tree.specs.declared.expressions.Sign.{Sign}
 use Rattle.edi_tree.specs.declared.expressions.Sign.TheVariants as sign
-use Rattle.edi_tree.specs.Tree.{Names, no_name, next_name, ConstDecls, no_const_decl, next_const_decl, ConstList, const_list, Group, group, Groups, no_group, next_group, TypeDecl, enum_decl, record_decl, array_decl, set_decl, VarList, var_list, Heading, heading, Params, no_params, params, MoreParams, no_param, next_param, Param, value_param, var_param, procedure_param, Program}
-use Rattle.edi_tree.specs.Spelled.{Spelled, just, name_mark, names_then, constant_then, const_decl_then, const_decls_then, const_list_then, group_then, groups_then, type_decl_then, var_list_then, result_then, heading_then, params_then, more_params_then, param_then, sign_then, spelled}
+use Rattle.edi_tree.specs.Tree.{Names, no_name, next_name, ConstDecls, no_const_decl, next_const_decl, ConstList, const_list, Group, group, Groups, no_group}
+use Rattle.edi_tree.specs.Tree.{next_group, TypeDecl, enum_decl, record_decl, array_decl, set_decl, VarList, var_list, Heading, heading, Params, no_params}
+use Rattle.edi_tree.specs.Tree.{params, MoreParams, no_param, next_param, Param, value_param, var_param, procedure_param, Program}
+use Rattle.edi_tree.specs.Spelled.{Spelled, just, name_mark, names_then, constant_then, const_decl_then, const_decls_then, const_list_then, group_then}
+use Rattle.edi_tree.specs.Spelled.{groups_then, type_decl_then, var_list_then, result_then, heading_then, params_then, more_params_then, param_then}
+use Rattle.edi_tree.specs.Spelled.{sign_then, spelled}
 use Rattle.edi_tree.specs.Spells.{IsOn, StandAsMarks, IsBounded}
 use Rattle.edi_scheme.specs.Lines.{IsLine}
 
@@ -54,7 +58,8 @@ kept_small : (kept : Option ℕ) (line : ℕ) → IsOn kept line → line < 2 ^ 
 kept_small None line h less = refl
 kept_small (Some kept) line h less = grind (arith, nat_tests, h, less)
 
-standing_small : (ss : List Spelled) (marks : List Mark) (line last : ℕ) → StandAsMarks ss marks → is_orderly line marks last ≡ true → last < 2 ^ 16 → are_small ss ≡ true
+standing_small : (ss : List Spelled) (marks : List Mark) (line last : ℕ) → StandAsMarks ss marks → is_orderly line marks last ≡ true → last < 2 ^ 16
+    → are_small ss ≡ true
 standing_small [] marks line last h e less = refl
 standing_small (s ∷ ss) [] line last h e less = absurd h
 standing_small (s ∷ ss) (m ∷ marks) line last h e less =

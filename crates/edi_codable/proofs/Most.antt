@@ -8,12 +8,18 @@ use Rattle.edi_unit.specs.declared.expressions.Callee.TheVariants as callee
 use Rattle.edi_unit.specs.declared.units.Parameter.{Parameter}
 use Rattle.edi_unit.specs.declared.units.Parameter.TheVariants as slot
 use Rattle.edi_unit.specs.Types.{Shape, int, char, bool, enumeration, record_of, array_of, set_of, shape_at, is_set_shape}
-use Rattle.edi_unit.specs.Tree.{Expression, constant, load, not_of, sign_of, chain, make, convert, apply_of, Expressions, no_expression, expression_then, Link, link, Links, no_link, link_then, Place, place, Part, field, index, Parts, no_part, part_then, Argument, by_value, by_variable, by_procedure, Arguments, no_argument, argument_then, Act, skip, assign, call, halt, if_act, while_act, when_act, cobegin, Acts, no_act, act_then, Clause, clause, Clauses, no_clause, clause_then, Block}
+use Rattle.edi_unit.specs.Tree.{Expression, constant, load, not_of, sign_of, chain, make, convert, apply_of, Expressions, no_expression, expression_then}
+use Rattle.edi_unit.specs.Tree.{Link, link, Links, no_link, link_then, Place, place, Part, field, index, Parts, no_part, part_then, Argument, by_value}
+use Rattle.edi_unit.specs.Tree.{by_variable, by_procedure, Arguments, no_argument, argument_then, Act, skip, assign, call, halt, if_act, while_act, when_act}
+use Rattle.edi_unit.specs.Tree.{cobegin, Acts, no_act, act_then, Clause, clause, Clauses, no_clause, clause_then, Block}
 use Rattle.edi_unit.specs.Need.{block_at, slot_at, slot_type, part_type, operator_type, expression_type}
 use Rattle.edi_target.specs.Op as instruction
 use Rattle.edi_target.specs.Op.{Instruction, word_of_integer}
-use Rattle.edi_scheme.specs.Pieces.{code_length, is_branch, variable_code, element_code, operation, decision, check_code, constant_words, row_length, ClauseKind, once, repeated, released, close_code}
-use Rattle.edi_scheme.specs.Lengths.{call_length, procedure_length, expression_length, expressions_length, members_length, links_length, place_length, parts_length, part_length, argument_length, arguments_length, act_length, acts_length, clause_length, clauses_length, block_length}
+use Rattle.edi_scheme.specs.Pieces.{code_length, is_branch, variable_code, element_code, operation, decision, check_code, constant_words, row_length}
+use Rattle.edi_scheme.specs.Pieces.{ClauseKind, once, repeated, released, close_code}
+use Rattle.edi_scheme.specs.Lengths.{call_length, procedure_length, expression_length, expressions_length, members_length, links_length, place_length}
+use Rattle.edi_scheme.specs.Lengths.{parts_length, part_length, argument_length, arguments_length, act_length, acts_length, clause_length, clauses_length}
+use Rattle.edi_scheme.specs.Lengths.{block_length}
 use Rattle.edi_scheme.specs.Code.{entry}
 
 abbrev mutual
@@ -191,7 +197,8 @@ module _ (types : List Shape) (blocks : List Block) (b : ℕ) where
     expression_fits (sign_of e line) = omega (arith, expression_fits e)
     expression_fits (chain e ls) = omega (arith, expression_fits e, links_fit (expression_type types blocks b e) ls)
     expression_fits (make t es line) =
-        made_most (is_set_shape (shape_at types t)) (2 + members_length types blocks b es) (row_length (constant_words es) (expressions_length types blocks b es)) (2 + elements_most es)
+        made_most (is_set_shape (shape_at types t)) (2 + members_length types blocks b es)
+        (row_length (constant_words es) (expressions_length types blocks b es)) (2 + elements_most es)
         (omega (arith, members_fit es))
         (row_most (constant_words es) (expressions_length types blocks b es) (elements_most es) (words_counted es) (expressions_fit es))
     expression_fits (convert t e line) = omega (arith, expression_fits e, check_most (shape_at types t) line)

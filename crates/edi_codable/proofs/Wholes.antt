@@ -6,7 +6,8 @@ use Rattle.edi_lex.specs.declared.symbol.Symbol.TheVariants as is
 use Rattle.edi_scope.specs.declared.entity.Entity.TheVariants as entity
 use Rattle.edi_tree.specs.declared.names.Name.{Name}
 use Rattle.edi_tree.specs.Tree as text
-use Rattle.edi_tree.specs.Spelled.{Spelled, on, just, const_list_then, type_decl_then, var_list_then, heading_then, list_then, procedure_then, item_then, module_then, member_then, members_then, declaration_then, declarations_then, global_then, globals_then, spelled}
+use Rattle.edi_tree.specs.Spelled.{Spelled, on, just, const_list_then, type_decl_then, var_list_then, heading_then, list_then, procedure_then, item_then}
+use Rattle.edi_tree.specs.Spelled.{module_then, member_then, members_then, declaration_then, declarations_then, global_then, globals_then, spelled}
 use Rattle.edi_tree.specs.Spells.{IsBounded}
 use Rattle.edi_unit.specs.declared.units.BlockKind.{BlockKind}
 use Rattle.edi_unit.specs.declared.units.BlockKind.TheVariants as block_kind
@@ -18,7 +19,8 @@ use Rattle.edi_static.specs.Environment.{Environment, at_first, declare, enter, 
 use Rattle.edi_static.specs.Types.{const_list, type_decl, var_list}
 use Rattle.edi_static.specs.Headings.{Headed, round, own_name, heading_parts}
 use Rattle.edi_static.specs.Statements.{add_statements}
-use Rattle.edi_static.specs.Declarations.{kind_of, with_heading, block_of, procedure_name, heading_of, begun_named, completes, post_marked, all_completed, begin_procedure, begin_post, procedure_rest, item, module_decl, members, member, declarations, declaration}
+use Rattle.edi_static.specs.Declarations.{kind_of, with_heading, block_of, procedure_name, heading_of, begun_named, completes, post_marked, all_completed}
+use Rattle.edi_static.specs.Declarations.{begin_procedure, begin_post, procedure_rest, item, module_decl, members, member, declarations, declaration}
 use Rattle.edi_static.specs.Programs.{program_heading, global_decl, global_decls, program_procedure, resolve_tree, Resolved}
 use Rattle.edi_static.proofs.Judging.{Gives, bind, behind, weaker}
 use Rattle.edi_scheme.specs.Laws.{HasPart}
@@ -34,7 +36,8 @@ rest_then (text.procedure h ds s end) more = declarations_then ds (just is.Begin
 headed_first : (p : text.Procedure) (more : List Spelled) → procedure_then p more ≡ heading_then (heading_of p) (rest_then p more)
 headed_first (text.procedure h ds s end) more = refl
 
-longer : (n : ℕ) (types : List Shape) (blocks : List Block) (shape : Shape) → HasPart shape → Counted (n + 9) types blocks → Counted (n + 17) (types ++ shape ∷ []) blocks
+longer : (n : ℕ) (types : List Shape) (blocks : List Block) (shape : Shape) → HasPart shape → Counted (n + 9) types blocks
+    → Counted (n + 17) (types ++ shape ∷ []) blocks
 longer n types blocks shape part h =
     let more = typed (n + 9) types blocks shape part h in
     record { bodies = more.bodies; standard = more.standard; within = omega (arith, more.within) }
@@ -50,7 +53,8 @@ module _ (budget : ℕ) where
   CountedHeaded n headed = CountedAt n headed.env
 
   -- behind a construct that leaves the blocks as they are, but for their variables
-  kept : (n : ℕ) (env e : Environment) (a b : List Spelled) → There a env → Front n a b → CountedAt (total env.blocks + 8 * length env.types + 8 * n) e → There b e
+  kept : (n : ℕ) (env e : Environment) (a b : List Spelled) → There a env → Front n a b → CountedAt (total env.blocks + 8 * length env.types + 8 * n) e
+      → There b e
   kept n env e a b g f k = record { bodies = k.bodies; standard = k.standard; within = omega (arith, g.within, k.within, f.fewer); lined = f.lined g.lined }
 
   counted : (env : Environment) (a : List Spelled) → There a env → CountedAt (total env.blocks + 8 * length env.types) env
@@ -63,18 +67,25 @@ module _ (budget : ℕ) where
   with_heading_good : (n : ℕ) (k : BlockKind) (headed : Headed) → CountedHeaded n headed → CountedAt (n + 9) (with_heading k headed)
   with_heading_good n k headed h =
       let block : Block = begun_block k (here headed.env) (heading_result headed.asks) (parameters_of (heading_formals headed.asks)) in
-      record { bodies = All-push BodyLines headed.env.blocks block h.bodies tt; standard = h.standard; within = omega (arith, h.within, push_total headed.env.blocks block) }
+      record {
+        bodies = All-push BodyLines headed.env.blocks block h.bodies tt;
+        standard = h.standard;
+        within = omega (arith, h.within, push_total headed.env.blocks block);
+      }
 
-  began : (env e : Environment) (h : text.Heading) (more : List Spelled) → There (heading_then h more) env → CountedAt (total env.blocks + 8 * length env.types + 9) e → There more e
+  began : (env e : Environment) (h : text.Heading) (more : List Spelled) → There (heading_then h more) env
+      → CountedAt (total env.blocks + 8 * length env.types + 9) e → There more e
   began env e h more g k =
       let front = heading_front h more in
       record { bodies = k.bodies; standard = k.standard; within = omega (arith, g.within, k.within, front.fewer); lined = front.lined g.lined }
 
-  begin_good : (m : Bool) (h : text.Heading) (more : List Spelled) (env : Environment) → There (heading_then h more) env → Gives (There more) (begin_procedure m h env)
+  begin_good : (m : Bool) (h : text.Heading) (more : List Spelled) (env : Environment) → There (heading_then h more) env
+      → Gives (There more) (begin_procedure m h env)
   begin_good m h more env g =
       let n : ℕ = total env.blocks + 8 * length env.types in
       weaker (CountedAt (n + 9)) (There more) (begin_procedure m h env) (λ e k. began env e h more g k)
-      (bind (CountedHeaded n) (CountedAt (n + 9)) (heading_parts (length env.blocks) h env) _ (heading_kept (Counted n) (Counted (n + 8)) (typed n) (varied n) (length env.blocks) h env (counted env _ g)) (λ headed k.
+      (bind (CountedHeaded n) (CountedAt (n + 9)) (heading_parts (length env.blocks) h env) _
+      (heading_kept (Counted n) (Counted (n + 8)) (typed n) (varied n) (length env.blocks) h env (counted env _ g)) (λ headed k.
       round_kept (Counted (n + 9)) (Counted (n + 17)) (longer n) (varied (n + 9)) m (own_name h) (entity.Procedure (length env.blocks))
       (with_heading (kind_of (heading_result headed.asks)) headed) (with_heading_good n (kind_of (heading_result headed.asks)) headed k)))
 
@@ -82,12 +93,14 @@ module _ (budget : ℕ) where
   marked_good n true name block env h = outside_round_kept (Counted n) (Counted (n + 8)) (typed n) (varied n) name (entity.Procedure block) env h
   marked_good n false name block env h = h
 
-  post_good : (m : Bool) (h : text.Heading) (more : List Spelled) (env : Environment) → There (heading_then h more) env → Gives (There more) (begin_post m h env)
+  post_good : (m : Bool) (h : text.Heading) (more : List Spelled) (env : Environment) → There (heading_then h more) env
+      → Gives (There more) (begin_post m h env)
   post_good m h more env g =
       let n : ℕ = total env.blocks + 8 * length env.types in
       let block : ℕ = block_of env (begun_named env.begun (own_name h).text) in
       weaker (CountedAt n) (There more) (begin_post m h env) (λ e k. began env e h more g (more_words n (n + 9) e (omega arith) k))
-      (bind (CountedHeaded n) (CountedAt n) (heading_parts block h env) _ (heading_kept (Counted n) (Counted (n + 8)) (typed n) (varied n) block h env (counted env _ g)) (λ headed k.
+      (bind (CountedHeaded n) (CountedAt n) (heading_parts block h env) _
+      (heading_kept (Counted n) (Counted (n + 8)) (typed n) (varied n) block h env (counted env _ g)) (λ headed k.
       behind (CountedAt n) (completes (begun_named env.begun (own_name h).text) (own_name h) headed) _ (λ _. marked_good n m (own_name h) block headed.env k)))
 
   -- the same blocks, with other scopes
@@ -95,30 +108,36 @@ module _ (budget : ℕ) where
   same_blocks env e a q r g = record {
     bodies = subst (All BodyLines) (sym q) g.bodies;
     standard = subst (λ types. 3 ≤ length types) (sym r) g.standard;
-    within = subst (λ bs. total bs + 8 * length e.types + 0 + 8 * weight a ≤ budget) (sym q) (subst (λ types. total env.blocks + 8 * length types + 0 + 8 * weight a ≤ budget) (sym r) g.within);
+    within = subst (λ bs. total bs + 8 * length e.types + 0 + 8 * weight a ≤ budget) (sym q)
+        (subst (λ types. total env.blocks + 8 * length types + 0 + 8 * weight a ≤ budget) (sym r) g.within);
     lined = g.lined;
   }
 
-  const_good : (m : Bool) (cs : text.ConstList) (more : List Spelled) (env : Environment) → There (const_list_then cs more) env → Gives (There more) (const_list m cs env)
+  const_good : (m : Bool) (cs : text.ConstList) (more : List Spelled) (env : Environment) → There (const_list_then cs more) env
+      → Gives (There more) (const_list m cs env)
   const_good m cs more env g =
       let n : ℕ = total env.blocks + 8 * length env.types in
       weaker (CountedAt n) (There more) (const_list m cs env) (λ e k. kept 0 env e _ more g (const_list_front cs more) (more_words n (n + 0) e (omega arith) k))
       (const_list_kept (Counted n) (Counted (n + 8)) (typed n) (varied n) m cs env (counted env _ g))
 
-  type_good : (m : Bool) (t : text.TypeDecl) (more : List Spelled) (env : Environment) → There (type_decl_then t more) env → Gives (There more) (type_decl m t env)
+  type_good : (m : Bool) (t : text.TypeDecl) (more : List Spelled) (env : Environment) → There (type_decl_then t more) env
+      → Gives (There more) (type_decl m t env)
   type_good m t more env g =
       let n : ℕ = total env.blocks + 8 * length env.types in
-      weaker (CountedAt (n + 8)) (There more) (type_decl m t env) (λ e k. kept 1 env e _ more g (type_decl_front t more) (more_words (n + 8) (n + 8 * 1) e (omega arith) k))
+      weaker (CountedAt (n + 8)) (There more) (type_decl m t env)
+      (λ e k. kept 1 env e _ more g (type_decl_front t more) (more_words (n + 8) (n + 8 * 1) e (omega arith) k))
       (type_decl_kept (Counted n) (Counted (n + 8)) (typed n) (varied n) m t env (counted env _ g))
 
-  var_good : (m : Bool) (vs : text.VarList) (more : List Spelled) (env : Environment) → There (var_list_then vs more) env → Gives (There more) (var_list m vs env)
+  var_good : (m : Bool) (vs : text.VarList) (more : List Spelled) (env : Environment) → There (var_list_then vs more) env
+      → Gives (There more) (var_list m vs env)
   var_good m vs more env g =
       let n : ℕ = total env.blocks + 8 * length env.types in
       weaker (CountedAt n) (There more) (var_list m vs env) (λ e k. kept 0 env e _ more g (var_list_front vs more) (more_words n (n + 0) e (omega arith) k))
       (var_kept (Counted n) (Counted (n + 8)) (typed n) (varied n) m vs env (counted env _ g))
 
   mutual
-    rest_good : (block : ℕ) (p : text.Procedure) (more : List Spelled) (env : Environment) → There (rest_then p more) env → Gives (There more) (procedure_rest block p env)
+    rest_good : (block : ℕ) (p : text.Procedure) (more : List Spelled) (env : Environment) → There (rest_then p more) env
+        → Gives (There more) (procedure_rest block p env)
     rest_good block (text.procedure h ds s end) more env g =
         let last : List Spelled = on is.End end ∷ more in
         let inner : List Spelled = just is.Begin ∷ list_then s last in
@@ -134,15 +153,18 @@ module _ (budget : ℕ) where
     item_good m (text.procedure_item p) more env g =
         bind (There more) (There more) (begin_procedure m (heading_of p) env >>= procedure_rest (length env.blocks) p) _
         (bind (There (rest_then p more)) (There more) (begin_procedure m (heading_of p) env) _
-        (begin_good m (heading_of p) (rest_then p more) env (subst (λ l. There l env) (headed_first p more) g)) (λ e k. rest_good (length env.blocks) p more e k))
+        (begin_good m (heading_of p) (rest_then p more) env (subst (λ l. There l env) (headed_first p more) g))
+        (λ e k. rest_good (length env.blocks) p more e k))
         (λ e k. same_blocks e _ more refl refl k)
     item_good m (text.pre_item h) more env g =
-        bind (There more) (There more) (begin_procedure m h env) _ (begin_good m h more env (moved budget g g.lined.1 (omega arith))) (λ e k. same_blocks e _ more refl refl k)
+        bind (There more) (There more) (begin_procedure m h env) _ (begin_good m h more env (moved budget g g.lined.1 (omega arith)))
+        (λ e k. same_blocks e _ more refl refl k)
     item_good m (text.post_item p) more env g =
         let block : ℕ = block_of env (begun_named env.begun (procedure_name p).text) in
         bind (There more) (There more) (begin_post m (heading_of p) env >>= procedure_rest block p) _
         (bind (There (rest_then p more)) (There more) (begin_post m (heading_of p) env) _
-        (post_good m (heading_of p) (rest_then p more) env (subst (λ l. There l env) (headed_first p more) (moved budget g g.lined.1 (omega arith)))) (λ e k. rest_good block p more e k))
+        (post_good m (heading_of p) (rest_then p more) env (subst (λ l. There l env) (headed_first p more) (moved budget g g.lined.1 (omega arith))))
+        (λ e k. rest_good block p more e k))
         (λ e k. same_blocks e _ more refl refl k)
 
     module_good : (m : text.Module) (more : List Spelled) (env : Environment) → There (module_then m more) env → Gives (There more) (module_decl m env)
@@ -165,12 +187,14 @@ module _ (budget : ℕ) where
     member_good (text.exported_member i) more env g = item_good true i more env (moved budget g g.lined.1 (omega arith))
     member_good (text.module_member m) more env g = module_good m more env g
 
-    declarations_good : (ds : text.Declarations) (more : List Spelled) (env : Environment) → There (declarations_then ds more) env → Gives (There more) (declarations ds env)
+    declarations_good : (ds : text.Declarations) (more : List Spelled) (env : Environment) → There (declarations_then ds more) env
+        → Gives (There more) (declarations ds env)
     declarations_good text.no_declaration more env g = g
     declarations_good (text.next_declaration d ds) more env g =
         bind (There (declarations_then ds more)) (There more) _ _ (declaration_good d (declarations_then ds more) env g) (λ e k. declarations_good ds more e k)
 
-    declaration_good : (d : text.Declaration) (more : List Spelled) (env : Environment) → There (declaration_then d more) env → Gives (There more) (declaration d env)
+    declaration_good : (d : text.Declaration) (more : List Spelled) (env : Environment) → There (declaration_then d more) env
+        → Gives (There more) (declaration d env)
     declaration_good (text.item_declaration i) more env g = item_good false i more env g
     declaration_good (text.module_declaration m) more env g = module_good m more env g
 
@@ -193,9 +217,11 @@ module _ (budget : ℕ) where
       let n : ℕ = total env.blocks + 8 * length env.types in
       let h : text.Heading = heading_of p in
       let first : There (heading_then h (rest_then p [])) env = subst (λ l. There l env) (headed_first p []) g in
-      bind (CountedHeaded n) GoodUnit (heading_parts 0 h env) _ (heading_kept (Counted n) (Counted (n + 8)) (typed n) (varied n) 0 h env (counted env _ g)) (λ headed k.
+      bind (CountedHeaded n) GoodUnit (heading_parts 0 h env) _ (heading_kept (Counted n) (Counted (n + 8)) (typed n) (varied n) 0 h env (counted env _ g))
+      (λ headed k.
       bind (CountedAt (n + 9)) GoodUnit (round (declare false (own_name h) (entity.Procedure 0)) (with_heading block_kind.Program headed)) _
-      (round_kept (Counted (n + 9)) (Counted (n + 17)) (longer n) (varied (n + 9)) false (own_name h) (entity.Procedure 0) (with_heading block_kind.Program headed)
+      (round_kept (Counted (n + 9)) (Counted (n + 17)) (longer n) (varied (n + 9)) false (own_name h) (entity.Procedure 0)
+      (with_heading block_kind.Program headed)
       (with_heading_good n block_kind.Program headed k)) (λ begun j.
       behind GoodUnit (program_heading begun.types h headed.asks) _ (λ calls.
       bind (There []) GoodUnit (procedure_rest 0 p begun) _ (rest_good 0 p [] begun (began env begun h (rest_then p []) first j)) (λ after i.

@@ -28,7 +28,8 @@ eq_zero : (n : ℕ) → n ≡ 0 → (n == 0) ≡ true
 eq_zero n e = ap (λ (k : ℕ). k == 0) e
 
 -- a `cobegin` of such branches can be written
-pub cobegin_whole : (bs : List Branch) (ws : List ℕ) → ws ≡ branch_words bs → 1 ≤ length bs → length bs < 2 ^ 16 → list_all has_frame bs ≡ true → ((length ws % 3 == 0) && (is_count (length (branches_of ws)) && list_all has_frame (branches_of ws))) ≡ true
+pub cobegin_whole : (bs : List Branch) (ws : List ℕ) → ws ≡ branch_words bs → 1 ≤ length bs → length bs < 2 ^ 16 → list_all has_frame bs ≡ true
+    → ((length ws % 3 == 0) && (is_count (length (branches_of ws)) && list_all has_frame (branches_of ws))) ≡ true
 cobegin_whole bs ws e some few frames =
     let read : branches_of ws ≡ bs = ap branches_of e ∙ branches_again bs in
     let long : length ws ≡ 3 * length bs = ap length e ∙ words_length bs in

@@ -29,6 +29,8 @@ row_is None m n h e = absurd (cc)
 row_is (Some ws) m n h e = ap (λ (k : ℕ). 2 + k) h
 
 -- the words of constants that are no set
-pub constants_length : (items : List Expression) (test any : Bool) {set : Bool} (a n : ℕ) → test ≡ false → any ≡ true → test ≡ set → any ≡ is_some (constant_words (expressions items)) → (if set then a else row_length (constant_words (expressions items)) n) ≡ 2 + length items
+pub constants_length : (items : List Expression) (test any : Bool) {set : Bool} (a n : ℕ) → test ≡ false → any ≡ true → test ≡ set
+    → any ≡ is_some (constant_words (expressions items)) → (if set then a else row_length (constant_words (expressions items)) n) ≡ 2 + length items
 constants_length items test any {set = true} a n s e is some = absurd (cc)
-constants_length items test any {set = false} a n s e is some = row_is (constant_words (expressions items)) (length items) n (row_has_length items) (sym some ∙ e)
+constants_length items test any {set = false} a n s e is some = row_is (constant_words (expressions items)) (length items) n (row_has_length items)
+    (sym some ∙ e)

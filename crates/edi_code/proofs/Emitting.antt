@@ -32,19 +32,22 @@ stated (Err e) old new a b s p = tt
 stated (Ok x) old new a b s p = subst (Emits old new) s p
 
 -- two codes, the second of which is told by its result
-pub two : {T E : Type 0} (r : Result T E) (old middle new : List ℕ) (a b c all : Code) → Emits old middle a → OnOk r (Emits middle new b) → b ≡ c → all ≡ a ++ c → OnOk r (Emits old new all)
+pub two : {T E : Type 0} (r : Result T E) (old middle new : List ℕ) (a b c all : Code) → Emits old middle a → OnOk r (Emits middle new b) → b ≡ c → all ≡ a
+    ++ c → OnOk r (Emits old new all)
 two (Err e) old middle new a b c all p q s t = tt
 two (Ok x) old middle new a b c all p q s t =
     subst (Emits old new) (ap (λ (l : Code). a ++ l) s ∙ sym t) (emits_then old middle new a b p q)
 
 -- a code of three parts
-pub three : (old one two new : List ℕ) (a b c x y z all : Code) → Emits old one a → Emits one two b → Emits two new c → a ≡ x → b ≡ y → c ≡ z → all ≡ x ++ (y ++ z) → Emits old new all
+pub three : (old one two new : List ℕ) (a b c x y z all : Code) → Emits old one a → Emits one two b → Emits two new c → a ≡ x → b ≡ y → c ≡ z → all ≡ x
+    ++ (y ++ z) → Emits old new all
 three old one two new a b c x y z all p q r s t u v =
     subst (Emits old new) (ap (λ (l : Code). l ++ (b ++ c)) s ∙ ap (λ (l : Code). x ++ (l ++ c)) t ∙ ap (λ (l : Code). x ++ (y ++ l)) u ∙ sym v)
     (emits_then old one new a (b ++ c) p (emits_then one two new b c q r))
 
 -- one step of a loop that appends: what was appended so far, and then the rest, is all
-pub rest_words : (out next whole : List ℕ) (x : Code) (f : ℕ → ℕ → Code) (here long took s u : ℕ) → took ≡ long → u ≡ s → Emits out next x → out ++ words_of_code (x ++ f (here + long) s) ≡ whole → next ++ words_of_code (f (here + took) u) ≡ whole
+pub rest_words : (out next whole : List ℕ) (x : Code) (f : ℕ → ℕ → Code) (here long took s u : ℕ) → took ≡ long → u ≡ s → Emits out next x → out
+    ++ words_of_code (x ++ f (here + long) s) ≡ whole → next ++ words_of_code (f (here + took) u) ≡ whole
 rest_words out next whole x f here long took s u e g p h =
     ap (λ (l : List ℕ). l ++ words_of_code (f (here + took) u)) p.appended
     ∙ append_assoc out (words_of_code x) (words_of_code (f (here + took) u))

@@ -26,4 +26,5 @@ module _ (unit : ProgramUnit) (fits : Fits unit) (parts : HaveParts unit.types) 
   -- where the check of these words gives no code there is not enough memory
   pub no_fault : (f : CodeFault) (words calls : List ℕ) → words ≡ code_of unit → calls ≡ unit.calls → IsFault f (parts_fault words 0 calls) → f ≡ fault.NoMemory
   no_fault f words calls w k h =
-      only_memory f (subst (IsFault f) (ap (λ (ws : List ℕ). parts_fault ws 0 calls) w ∙ ap (parts_fault (code_of unit) 0) k ∙ code_is_sound unit fits parts short) h)
+      only_memory f (subst (IsFault f) (ap (λ (ws : List ℕ). parts_fault ws 0 calls) w ∙ ap (parts_fault (code_of unit) 0) k ∙ code_is_sound unit fits parts
+      short) h)

@@ -6,15 +6,21 @@ use Rattle.edi_unit.specs.declared.expressions.Operator.TheVariants as op
 use Rattle.edi_unit.specs.declared.expressions.Callee.{Callee}
 use Rattle.edi_unit.specs.declared.expressions.Callee.TheVariants as callee
 use Rattle.edi_unit.specs.Types.{Shape, size, greatest_size, IsTypeTable}
-use Rattle.edi_unit.specs.Tree.{Expression, constant, load, not_of, sign_of, chain, make, convert, apply_of, Expressions, no_expression, expression_then, link, Links, no_link, link_then, Place, place, Part, field, index, Parts, no_part, part_then, by_value, by_variable, by_procedure, Arguments, no_argument, argument_then, Act, skip, assign, call, halt, if_act, while_act, when_act, cobegin, Acts, no_act, act_then, Clause, clause, Clauses, no_clause, clause_then, Block, ProgramUnit}
+use Rattle.edi_unit.specs.Tree.{Expression, constant, load, not_of, sign_of, chain, make, convert, apply_of, Expressions, no_expression, expression_then}
+use Rattle.edi_unit.specs.Tree.{link, Links, no_link, link_then, Place, place, Part, field, index, Parts, no_part, part_then, by_value, by_variable}
+use Rattle.edi_unit.specs.Tree.{by_procedure, Arguments, no_argument, argument_then, Act, skip, assign, call, halt, if_act, while_act, when_act, cobegin}
+use Rattle.edi_unit.specs.Tree.{Acts, no_act, act_then, Clause, clause, Clauses, no_clause, clause_then, Block, ProgramUnit}
 use Rattle.edi_unit.specs.Need.{block_at, slot_at, slot_type, part_type, operator_type, place_type, expression_type}
-use Rattle.edi_unit.specs.Fits.{Heading, Formals, no_formal, value_then, variable_then, procedure_then, CalleeFits, ExpressionFits, ExpressionsFit, LinksFit, PlaceFits, PartFits, PartsFit, ArgumentsFit, BranchFits, ActFits, ActsFit, ClauseFits, ClausesFit, BlockFits, Fits}
+use Rattle.edi_unit.specs.Fits.{Heading, Formals, no_formal, value_then, variable_then, procedure_then, CalleeFits, ExpressionFits, ExpressionsFit, LinksFit}
+use Rattle.edi_unit.specs.Fits.{PlaceFits, PartFits, PartsFit, ArgumentsFit, BranchFits, ActFits, ActsFit, ClauseFits, ClausesFit, BlockFits, Fits}
 use Rattle.edi_scheme.specs.Pieces.{constant_words}
 use Rattle.edi_scheme.specs.Code.{code_of}
 use Rattle.edi_scheme.specs.Laws.{HaveParts}
 use Rattle.edi_scheme.proofs.Lengths.{blocks_are_long}
 use Rattle.edi_scheme.proofs.Known as known
-use Rattle.edi_code.specs.Writable.{RowIsWritable, OperatorIsWritable, CalleeIsWritable, ExpressionIsWritable, ExpressionsAreWritable, LinksAreWritable, PlaceIsWritable, PartIsWritable, PartsAreWritable, ArgumentsAreWritable, ActIsWritable, ActsAreWritable, ClauseIsWritable, ClausesAreWritable, IsWritable}
+use Rattle.edi_code.specs.Writable.{RowIsWritable, OperatorIsWritable, CalleeIsWritable, ExpressionIsWritable, ExpressionsAreWritable, LinksAreWritable}
+use Rattle.edi_code.specs.Writable.{PlaceIsWritable, PartIsWritable, PartsAreWritable, ArgumentsAreWritable, ActIsWritable, ActsAreWritable}
+use Rattle.edi_code.specs.Writable.{ClauseIsWritable, ClausesAreWritable, IsWritable}
 
 operator_writable : (types : List Shape) (o : Operator) (t : ℕ) → 1 ≤ size types t → OperatorIsWritable types o t
 operator_writable types op.Equal t h = h
@@ -32,7 +38,8 @@ operator_writable types op.Mod t h = tt
 operator_writable types op.And t h = tt
 operator_writable types op.Or t h = tt
 
-module _ (types : List Shape) (table : IsTypeTable types) (parts : HaveParts types) (blocks : List Block) (headings : ℕ → ℕ → Heading) (each : (n : ℕ) → n < length blocks → BlockFits types blocks headings n) (b : ℕ) (inside : b < length blocks) where
+module _ (types : List Shape) (table : IsTypeTable types) (parts : HaveParts types) (blocks : List Block) (headings : ℕ → ℕ → Heading)
+    (each : (n : ℕ) → n < length blocks → BlockFits types blocks headings n) (b : ℕ) (inside : b < length blocks) where
   positive : (t : ℕ) → t < length types → 1 ≤ size types t
   positive = known.size_positive types table parts
 
@@ -71,8 +78,11 @@ module _ (types : List Shape) (table : IsTypeTable types) (parts : HaveParts typ
     expression_writable (load p) h = (place_writable p h, positive _ (place_known p h))
     expression_writable (not_of e) h = expression_writable e h.1
     expression_writable (sign_of e line) h = expression_writable e h.1
-    expression_writable (chain e ls) h =
-        (expression_writable e h.1, links_writable (expression_type types blocks b e) ls (known.expression_known types table parts blocks headings each b inside e h.1) h.2)
+    expression_writable (chain e ls) h = (
+      expression_writable e h.1,
+      links_writable (expression_type types blocks b e) ls
+          (known.expression_known types table parts blocks headings each b inside e h.1) h.2,
+    )
     expression_writable (make t es line) h = (
       λ q.
           let n = known.parts_count types table parts blocks headings each b inside t es h.0 q h.1 in
@@ -88,8 +98,11 @@ module _ (types : List Shape) (table : IsTypeTable types) (parts : HaveParts typ
 
     links_writable : (t : ℕ) (ls : Links) → t < length types → LinksFit types blocks headings b t ls → LinksAreWritable types blocks b t ls
     links_writable t no_link k h = tt
-    links_writable t (link_then (link o e line) ls) k h =
-        (operator_writable types o t (positive t k), expression_writable e h.1, links_writable (operator_type o t) ls (known.operator_known types table parts o t k) h.2)
+    links_writable t (link_then (link o e line) ls) k h = (
+      operator_writable types o t (positive t k),
+      expression_writable e h.1,
+      links_writable (operator_type o t) ls (known.operator_known types table parts o t k) h.2,
+    )
 
     place_writable : (p : Place) → PlaceFits types blocks headings b p → PlaceIsWritable types blocks b p
     place_writable (place levels v ps) h = (h.0, parts_writable (slot_type (slot_at blocks b levels v)) ps h.2)
@@ -149,6 +162,7 @@ is_writable unit fits parts small = record {
   frames = λ n h.
       let is = (fits.fits_blocks n h).needs in
       record { roomy = omega (arith, is); small = (fits.fits_blocks n h).small };
-  statements = λ n h. acts_writable unit.types fits.table parts unit.blocks fits.headings fits.fits_blocks n h (block_at unit.blocks n).body (fits.fits_blocks n h).statements;
+  statements = λ n h. acts_writable unit.types fits.table parts unit.blocks fits.headings fits.fits_blocks n h (block_at unit.blocks n).body
+      (fits.fits_blocks n h).statements;
   room = let long = (blocks_are_long unit.types unit.blocks (length unit.blocks)).is in omega (arith, small, long);
 }

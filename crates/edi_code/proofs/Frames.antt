@@ -8,7 +8,8 @@ use Rattle.std.proofs.lemmas.List.Sums.{sum_by-append, sum_by-cons, sum_by-take-
 use Rattle.std.specs.Prelude.{sum_by, map, slice_get, Option, Some, None, option_to_list, ◌++◌}
 use Rattle.std.specs.Option.{option_map_or}
 use Rattle.edi_unit.specs.declared.units.Parameter.TheVariants as slot
-use Rattle.edi_unit.specs.Types.{Shape, int, char, bool, enumeration, record_of, array_of, set_of, shape_at, fields_of, size, shape_size, greatest_size, IsTypeTable}
+use Rattle.edi_unit.specs.Types.{Shape, int, char, bool, enumeration, record_of, array_of, set_of, shape_at, fields_of, size, shape_size, greatest_size}
+use Rattle.edi_unit.specs.Types.{IsTypeTable}
 use Rattle.edi_unit.specs.Tree.{Block}
 use Rattle.edi_unit.specs.Need.{block_at, no_block, slots, slot_words, link_words, variable_words}
 use Rattle.edi_unit.proofs.Tables.{size-is, size-small}
@@ -28,14 +29,16 @@ sum_next f (x ∷ xs) (suc i) =
 module _ (types : List Shape) where
   sum_values : (ts : List ℕ) → sum_by (slot_words types) (map slot.Value ts) ≡ sum_by (size types) ts
   sum_values [] = refl
-  sum_values (t ∷ ts) = sum_by-cons (slot_words types) (slot.Value t) (map slot.Value ts) ∙ ap (λ n. size types t + n) (sum_values ts) ∙ sym (sum_by-cons (size types) t ts)
+  sum_values (t ∷ ts) = sum_by-cons (slot_words types) (slot.Value t) (map slot.Value ts) ∙ ap (λ n. size types t + n) (sum_values ts)
+      ∙ sym (sum_by-cons (size types) t ts)
 
   sum_result : (r : Option ℕ) → sum_by (slot_words types) (map slot.Value (option_to_list r)) ≡ result_words types r
   sum_result None = refl
   sum_result (Some t) = omega (arith, sum_by-cons (slot_words types) (slot.Value t) [])
 
   -- the words of the variables are those of the result, of the parameters and of the declared ones
-  pub words_sum : (block : Block) → variable_words types block ≡ result_words types block.result + sum_by (slot_words types) block.parameters + sum_by (size types) block.variables
+  pub words_sum : (block : Block) → variable_words types block ≡ result_words types block.result + sum_by (slot_words types) block.parameters + sum_by
+      (size types) block.variables
   words_sum block =
       omega (
         arith,
@@ -49,7 +52,8 @@ module _ (types : List Shape) where
   pub fields_small : (t : ℕ) → IsTypeTable types → t < length types → sum_by (size types) (fields_of (shape_at types t)) ≤ greatest_size
   fields_small t table known = by_shape (shape_at types t) (size-is types t table known) (size-small types t table known)
     where
-      by_shape : (shape : Shape) → size types t ≡ shape_size (size types) shape → size types t ≤ greatest_size → sum_by (size types) (fields_of shape) ≤ greatest_size
+      by_shape : (shape : Shape) → size types t ≡ shape_size (size types) shape → size types t ≤ greatest_size → sum_by (size types) (fields_of shape) ≤
+          greatest_size
       by_shape int is small = omega arith
       by_shape char is small = omega arith
       by_shape bool is small = omega arith
@@ -63,7 +67,8 @@ module _ (types : List Shape) where
       omega (arith, fields_small t table known, sum_by-take-le (size types) (fields_of (shape_at types t)) n)
 
 -- the frame of every block is small, also of one that is not there
-pub frame_small : (types : List Shape) (blocks : List Block) (n : ℕ) → ((k : ℕ) → k < length blocks → FrameFits types blocks k) → link_words + variable_words types (block_at blocks n) ≤ greatest_size
+pub frame_small : (types : List Shape) (blocks : List Block) (n : ℕ) → ((k : ℕ) → k < length blocks → FrameFits types blocks k)
+    → link_words + variable_words types (block_at blocks n) ≤ greatest_size
 frame_small types blocks n fits = go (cases_lt n (length blocks))
   where
     go : (n < length blocks) ⊎ (length blocks ≤ n) → link_words + variable_words types (block_at blocks n) ≤ greatest_size
@@ -73,17 +78,21 @@ frame_small types blocks n fits = go (cases_lt n (length blocks))
         omega (arith, none)
 
 -- so is the place of each variable
-pub offset_small : (types : List Shape) (blocks : List Block) (n v : ℕ) → ((k : ℕ) → k < length blocks → FrameFits types blocks k) → link_words + sum_by (slot_words types) (take v (slots (block_at blocks n))) ≤ greatest_size
+pub offset_small : (types : List Shape) (blocks : List Block) (n v : ℕ) → ((k : ℕ) → k < length blocks → FrameFits types blocks k)
+    → link_words + sum_by (slot_words types) (take v (slots (block_at blocks n))) ≤ greatest_size
 offset_small types blocks n v fits =
     omega (arith, frame_small types blocks n fits, sum_by-take-le (slot_words types) (slots (block_at blocks n)) v)
 
 -- the words of the variables up to the next one
-pub offset_next : (types : List Shape) (block : Block) (before words here : ℕ) → words ≡ link_words + sum_by (slot_words types) (take before (slots block)) → here ≡ option_map_or (slot_words types) (slice_get (slots block) before) 0 → words + here ≡ link_words + sum_by (slot_words types) (take (before + 1) (slots block))
+pub offset_next : (types : List Shape) (block : Block) (before words here : ℕ) → words ≡ link_words + sum_by (slot_words types) (take before (slots block))
+    → here ≡ option_map_or (slot_words types) (slice_get (slots block) before) 0 → words + here ≡ link_words + sum_by (slot_words types)
+    (take (before + 1) (slots block))
 offset_next types block before words here w h =
     let e : before + 1 ≡ suc before = omega arith in
     omega (arith, w, h, sum_next (slot_words types) (slots block) before, ap (λ n. sum_by (slot_words types) (take n (slots block))) e)
 
-pub fields_next : (types : List Shape) (fields : List ℕ) (before words here : ℕ) → words ≡ sum_by (size types) (take before fields) → here ≡ option_map_or (size types) (slice_get fields before) 0 → words + here ≡ sum_by (size types) (take (before + 1) fields)
+pub fields_next : (types : List Shape) (fields : List ℕ) (before words here : ℕ) → words ≡ sum_by (size types) (take before fields)
+    → here ≡ option_map_or (size types) (slice_get fields before) 0 → words + here ≡ sum_by (size types) (take (before + 1) fields)
 fields_next types fields before words here w h =
     let e : before + 1 ≡ suc before = omega arith in
     omega (arith, w, h, sum_next (size types) fields before, ap (λ n. sum_by (size types) (take n fields)) e)

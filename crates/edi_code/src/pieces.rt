@@ -144,7 +144,8 @@ pub(crate) fn operation_length(types: &TypeTable, left: u32, operator: Operator)
 
 // The words that close the list of a clause; `last` tells whether no clause follows.
 pub(crate) fn close_length(closing: Closing, last: bool) -> u32
-    ensures exact { (target : ℕ) (clauses : Clauses) → last ≡ is_end clauses → result ≡ code_length (pieces.close_code (clause_kind_of closing) target clauses) }
+    ensures exact { (target : ℕ) (clauses : Clauses) → last ≡ is_end clauses
+        → result ≡ code_length (pieces.close_code (clause_kind_of closing) target clauses) }
     ensures small { result ≤ 4 }
 {
     match closing {
@@ -170,7 +171,8 @@ fn slot_words(types: &TypeTable, variable: Parameter) -> u32
 
 // The words of a variable of a block, and 0 where it is not there.
 fn words_at(scope: &Scope<'_>, block: u32, variable: u32) -> u32
-    ensures exact { result ≡ option_map_or (need.slot_words (types_in scope.now)) (slice_get (need.slots (need.block_at (blocks_in scope.now) block)) variable) 0 }
+    ensures exact { result ≡ option_map_or (need.slot_words (types_in scope.now))
+        (slice_get (need.slots (need.block_at (blocks_in scope.now) block)) variable) 0 }
     ensures small { result ≤ greatest_size }
 {
     match slot(scope.blocks, block, 0, variable) {

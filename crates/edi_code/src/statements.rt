@@ -245,7 +245,8 @@ fn emit_clauses(
     requires scope { IsScope scope.now }
     requires writable { ClausesAreWritable scope.now (clauses_of clauses.now) }
     requires room { at + in_scope.clauses_length scope.now (clause_kind_of closing) (clauses_of clauses.now) < 2 ^ 32 }
-    ensures emits { OnOk result (Emits out.old.items out.new.items (in_scope.clauses_code scope.now (clause_kind_of closing) target at (clauses_of clauses.now))) }
+    ensures emits { OnOk result (Emits out.old.items out.new.items
+        (in_scope.clauses_code scope.now (clause_kind_of closing) target at (clauses_of clauses.now))) }
 {
     let mut behind = clauses.len();
     let mut here = at;

@@ -1,5 +1,6 @@
 -- Words and numbers as bytes.
-use Rattle.std.proofs.Common.{◌≡◌, ℕ, ◌+◌, ◌*◌, ◌/◌, ◌%◌, ◌^◌, ◌<◌, ◌≤◌, zero, suc, List, [], ◌∷◌, None, length, take, drop, get_or, replicate, refl, ap, ◌∙◌, arith}
+use Rattle.std.proofs.Common.{◌≡◌, ℕ, ◌+◌, ◌*◌, ◌/◌, ◌%◌, ◌^◌, ◌<◌, ◌≤◌, zero, suc, List, [], ◌∷◌, None, length, take, drop, get_or, replicate, refl, ap}
+use Rattle.std.proofs.Common.{◌∙◌, arith}
 use Rattle.std.proofs.lemmas.List.{drop_more}
 use Rattle.std.proofs.Common.{Result, Ok, Err, cond}
 use Rattle.std.specs.Prelude.{is_ok, OnOk}
@@ -7,7 +8,8 @@ use Rattle.byteorder.specs.Endian.{big_number}
 use Rattle.edi_target.specs.File.{bytes_of_words, words_of_bytes, zeros_fault}
 
 -- the bytes of the words from one on
-pub bytes_more : (words : List ℕ) (i : ℕ) → i < length words → bytes_of_words (drop i words) ≡ get_or words i 0 / 2 ^ 8 ∷ get_or words i 0 % 2 ^ 8 ∷ bytes_of_words (drop (i + 1) words)
+pub bytes_more : (words : List ℕ) (i : ℕ) → i < length words → bytes_of_words (drop i words) ≡ get_or words i 0 / 2 ^ 8 ∷ get_or words i 0 % 2 ^ 8
+    ∷ bytes_of_words (drop (i + 1) words)
 bytes_more words i l = ap bytes_of_words (drop_more words i 0 l)
 
 -- the words of at least two bytes

@@ -1,10 +1,12 @@
 -- The file of a code, and the parts of a file.
-use Rattle.std.proofs.Common.{◌≡◌, ℕ, ◌+◌, ◌-◌, ◌*◌, ◌^◌, ◌<◌, ◌≤◌, Bool, true, false, List, ◌++◌, Option, Some, None, Result, Ok, Err, length, take, drop, replicate, refl, sym, ap, ◌∙◌, arith}
+use Rattle.std.proofs.Common.{◌≡◌, ℕ, ◌+◌, ◌-◌, ◌*◌, ◌^◌, ◌<◌, ◌≤◌, Bool, true, false, List, ◌++◌, Option, Some, None, Result, Ok, Err, length, take, drop}
+use Rattle.std.proofs.Common.{replicate, refl, sym, ap, ◌∙◌, arith}
 use Rattle.std.specs.Prelude.{◌==◌, ◌||◌, nat_le, slice_index, IfOk, IfSome, IfNone, OnOk}
 use Rattle.std.proofs.lemmas.Bool.{leb-true}
 use Rattle.std.proofs.lemmas.List.{append_assoc, drop-drop, drop_at, length-append, length-drop, length-replicate, length-take-le, take_at}
 use Rattle.edi_target.specs.Check.{CodeParts, IsSound, fields_fault, first_fault, operation_fault, or_else, parts_fault, starts_of, unless, words_fault}
-use Rattle.edi_target.specs.File.{bytes_of_words, code_bytes, code_fault_of, code_of, header_fault, number_at, short_at, size_fault, words_of_bytes, zeros_fault}
+use Rattle.edi_target.specs.File.{bytes_of_words, code_bytes, code_fault_of, code_of, header_fault, number_at, short_at, size_fault, words_of_bytes}
+use Rattle.edi_target.specs.File.{zeros_fault}
 use Rattle.edi_target.specs.declared.code_fault.CodeFault.{CodeFault}
 use Rattle.edi_target.specs.declared.code_fault.CodeFault.TheVariants as fault
 use Rattle.edi_target.proofs.Sound.{AreFields, fields_hold, sound_fields}
@@ -49,7 +51,8 @@ size_holds bytes e =
 
 pub count_words : (bytes : List ℕ) → size_fault bytes ≡ None → length (words_of_bytes (drop 32 bytes)) ≡ number_at bytes 4
 count_words bytes e =
-    length-words_of_bytes (number_at bytes 4) (drop 32 bytes) (let size : length bytes ≡ 32 + 2 * number_at bytes 4 = size_holds bytes e in omega (arith, length-drop 32 bytes))
+    length-words_of_bytes (number_at bytes 4) (drop 32 bytes) (let size : length bytes ≡ 32 + 2 * number_at bytes 4 = size_holds bytes e in
+    omega (arith, length-drop 32 bytes))
 
 pub count_calls : (bytes : List ℕ) → 32 ≤ length bytes → header_fault bytes ≡ None → length (take (slice_index bytes 12) (drop 13 bytes)) ≡ slice_index bytes 12
 count_calls bytes l e =
@@ -57,7 +60,9 @@ count_calls bytes l e =
     length-take-le (slice_index bytes 12) (drop 13 bytes) (let most : slice_index bytes 12 ≤ 10 = f.number in omega (arith, length-drop 13 bytes))
 
 -- the check of the code begins where that of the header ends
-pub checked : (bytes words calls : List ℕ) → 32 ≤ length bytes → header_fault bytes ≡ None → size_fault bytes ≡ None → words ≡ words_of_bytes (drop 32 bytes) → calls ≡ take (slice_index bytes 12) (drop 13 bytes) → parts_fault words (number_at bytes 8) calls ≡ words_fault true (words_of_bytes (drop 32 bytes)) (number_at bytes 8) (slice_index bytes 12)
+pub checked : (bytes words calls : List ℕ) → 32 ≤ length bytes → header_fault bytes ≡ None → size_fault bytes ≡ None → words ≡ words_of_bytes (drop 32 bytes)
+    → calls ≡ take (slice_index bytes 12) (drop 13 bytes) → parts_fault words (number_at bytes 8) calls ≡ words_fault true (words_of_bytes (drop 32 bytes))
+    (number_at bytes 8) (slice_index bytes 12)
 unfolding parts_fault
 checked bytes words calls l h s w k =
     let all : List ℕ = words_of_bytes (drop 32 bytes) in
@@ -77,14 +82,17 @@ checked bytes words calls l h s w k =
 two_of : (n : ℕ) → (n == 1 || n == 2) ≡ true → (n ≡ 1 → ⊥) → (n == 2) ≡ true
 two_of n e f = grind arith
 
-pub older_fault : (bytes words : List ℕ) (f : CodeFault) → short_at bytes 2 ≡ 1 → Some f ≡ first_fault (operation_fault false) (starts_of words) → (start count : ℕ) → words_fault (short_at bytes 2 == 2) words start count ≡ Some f
+pub older_fault : (bytes words : List ℕ) (f : CodeFault) → short_at bytes 2 ≡ 1 → Some f ≡ first_fault (operation_fault false) (starts_of words)
+    → (start count : ℕ) → words_fault (short_at bytes 2 == 2) words start count ≡ Some f
 older_fault bytes words f v e = λ start count. ap (λ (n : ℕ). words_fault (n == 2) words start count) v ∙ first_words_fault words start count f e
 
-pub older_same : (bytes words : List ℕ) → short_at bytes 2 ≡ 1 → None ≡ first_fault (operation_fault false) (starts_of words) → (start count : ℕ) → words_fault (short_at bytes 2 == 2) words start count ≡ words_fault true words start count
+pub older_same : (bytes words : List ℕ) → short_at bytes 2 ≡ 1 → None ≡ first_fault (operation_fault false) (starts_of words) → (start count : ℕ)
+    → words_fault (short_at bytes 2 == 2) words start count ≡ words_fault true words start count
 older_same bytes words v e = λ start count.
     ap (λ (n : ℕ). words_fault (n == 2) words start count) v ∙ sym (same_words_fault words start count e)
 
-pub newer_same : (bytes words : List ℕ) → header_fault bytes ≡ None → (short_at bytes 2 ≡ 1 → ⊥) → (start count : ℕ) → words_fault (short_at bytes 2 == 2) words start count ≡ words_fault true words start count
+pub newer_same : (bytes words : List ℕ) → header_fault bytes ≡ None → (short_at bytes 2 ≡ 1 → ⊥) → (start count : ℕ) → words_fault (short_at bytes 2 == 2)
+    words start count ≡ words_fault true words start count
 newer_same bytes words h v = λ start count.
     ap (λ (b : Bool). words_fault b words start count) (two_of (short_at bytes 2) (header_holds bytes h).version v)
 
@@ -120,14 +128,16 @@ file_of c w s l =
     let nine : length (calls ++ zeros) ≡ 19 = nineteen c l in
     let joined : calls ++ (zeros ++ words) ≡ (calls ++ zeros) ++ words = sym (append_assoc calls zeros words) in
     record {
-      long = let behind : length (calls ++ (zeros ++ words)) ≡ 19 + 2 * length c.words = ap length joined ∙ length-append (calls ++ zeros) words ∙ omega (arith, nine, length-bytes_of_words c.words) in omega (arith, behind);
+      long = let behind : length (calls ++ (zeros ++ words)) ≡ 19 + 2 * length c.words = ap length joined ∙ length-append (calls ++ zeros) words
+          ∙ omega (arith, nine, length-bytes_of_words c.words) in omega (arith, behind);
       mark = refl;
       version = refl;
       count = number-number_bytes (length c.words) w;
       start = number-number_bytes c.entry s;
       parameters = refl;
       calls = take_at calls (zeros ++ words) (length calls) refl;
-      zeros = sym (drop-drop (length calls) 13 (take 32 (code_bytes c))) ∙ ap (λ (x : List ℕ). drop (length calls) (take 19 x)) joined ∙ ap (drop (length calls)) (take_at (calls ++ zeros) words 19 nine) ∙ drop_at calls zeros (length calls) refl;
+      zeros = sym (drop-drop (length calls) 13 (take 32 (code_bytes c))) ∙ ap (λ (x : List ℕ). drop (length calls) (take 19 x)) joined
+          ∙ ap (drop (length calls)) (take_at (calls ++ zeros) words 19 nine) ∙ drop_at calls zeros (length calls) refl;
       words = ap (drop 19) joined ∙ drop_at (calls ++ zeros) words 19 nine;
     }
 
@@ -140,7 +150,8 @@ kept b f e = ap (λ (x : Bool). unless x f) e
 within : (m n : ℕ) → m ≤ n → nat_le m n ≡ true
 within m n l = grind arith
 
-header_of : (bytes : List ℕ) (c : CodeParts) → IsFileOf bytes c → fields_fault (length c.words) c.entry (length c.calls) c.calls ≡ None → header_fault bytes ≡ None
+header_of : (bytes : List ℕ) (c : CodeParts) → IsFileOf bytes c → fields_fault (length c.words) c.entry (length c.calls) c.calls ≡ None
+    → header_fault bytes ≡ None
 header_of bytes c f fields =
     let parameters : ℕ = slice_index bytes 12 in
     let calls : take parameters (drop 13 bytes) ≡ c.calls = ap (λ (n : ℕ). take n (drop 13 bytes)) f.parameters ∙ f.calls in
@@ -178,7 +189,9 @@ no_fault_of bytes c f e =
     ∙ ap (λ (n : ℕ). words_fault true c.words n (slice_index bytes 12)) f.start
     ∙ ap (λ (n : ℕ). words_fault true c.words c.entry n) f.parameters
     ∙ parts.1 in
-    or_none (unless (nat_le 32 (length bytes)) (fault.Short (length bytes))) _ (kept (nat_le 32 (length bytes)) (fault.Short (length bytes)) (within 32 (length bytes) (let long : length bytes ≡ 32 + 2 * length c.words = f.long in omega arith)))
+    or_none (unless (nat_le 32 (length bytes)) (fault.Short (length bytes))) _
+    (kept (nat_le 32 (length bytes)) (fault.Short (length bytes)) (within 32 (length bytes) (let long : length bytes ≡ 32 + 2 * length c.words = f.long in
+    omega arith)))
     (or_none (header_fault bytes) _ (header_of bytes c f parts.0) (or_none (size_fault bytes) _ (size_of bytes c f) rest))
 
 parts_of : List ℕ → ℕ → List ℕ → CodeParts
@@ -188,7 +201,8 @@ parts_of words entry calls = record { words = words; entry = entry; calls = call
 pub same_code_of : (bytes : List ℕ) (c : CodeParts) → IsFileOf bytes c → code_of bytes ≡ c
 unfolding parts_of
 same_code_of bytes c f =
-    ap (λ (x : List ℕ). parts_of x (number_at bytes 8) (take (slice_index bytes 12) (drop 13 bytes))) (ap words_of_bytes f.words ∙ words_of_bytes-bytes_of_words c.words)
+    ap (λ (x : List ℕ). parts_of x (number_at bytes 8) (take (slice_index bytes 12) (drop 13 bytes)))
+    (ap words_of_bytes f.words ∙ words_of_bytes-bytes_of_words c.words)
     ∙ ap (λ (n : ℕ). parts_of c.words n (take (slice_index bytes 12) (drop 13 bytes))) f.start
     ∙ ap (parts_of c.words c.entry) (ap (λ (n : ℕ). take n (drop 13 bytes)) f.parameters ∙ f.calls)
 
@@ -201,15 +215,19 @@ file_of_sound c e =
 
 -- ---- the answers of a check
 
-pub older_some : (bytes words : List ℕ) (o : Option CodeFault) → short_at bytes 2 ≡ 1 → o ≡ first_fault (operation_fault false) (starts_of words) → IfSome o (λ f. (start count : ℕ) → words_fault (short_at bytes 2 == 2) words start count ≡ Some f)
+pub older_some : (bytes words : List ℕ) (o : Option CodeFault) → short_at bytes 2 ≡ 1 → o ≡ first_fault (operation_fault false) (starts_of words)
+    → IfSome o (λ f. (start count : ℕ) → words_fault (short_at bytes 2 == 2) words start count ≡ Some f)
 older_some bytes words None v e = tt
 older_some bytes words (Some f) v e = older_fault bytes words f v e
 
-pub older_none : (bytes words : List ℕ) (o : Option CodeFault) → short_at bytes 2 ≡ 1 → o ≡ first_fault (operation_fault false) (starts_of words) → IfNone o ((start count : ℕ) → words_fault (short_at bytes 2 == 2) words start count ≡ words_fault true words start count)
+pub older_none : (bytes words : List ℕ) (o : Option CodeFault) → short_at bytes 2 ≡ 1 → o ≡ first_fault (operation_fault false) (starts_of words)
+    → IfNone o ((start count : ℕ) → words_fault (short_at bytes 2 == 2) words start count ≡ words_fault true words start count)
 older_none bytes words None v e = older_same bytes words v e
 older_none bytes words (Some f) v e = tt
 
-pub sound_answer : (r : Result CodeParts CodeFault) (words : List ℕ) (start : ℕ) (calls : List ℕ) (expected : Option CodeFault) → parts_fault words start calls ≡ expected → IfOk r (λ c. c ≡ record { words = words; entry = start; calls = calls }) → IfOk r IsSound → OnOk r (expected ≡ None)
+pub sound_answer : (r : Result CodeParts CodeFault) (words : List ℕ) (start : ℕ) (calls : List ℕ) (expected : Option CodeFault)
+    → parts_fault words start calls ≡ expected → IfOk r (λ c. c ≡ record { words = words; entry = start; calls = calls }) → IfOk r IsSound
+    → OnOk r (expected ≡ None)
 sound_answer (Ok c) words start calls expected e is sound =
     sym e ∙ sym (ap (λ (x : CodeParts). parts_fault x.words x.entry x.calls) is) ∙ sound
 sound_answer (Err f) words start calls expected e is sound = tt

@@ -17,22 +17,28 @@ pub record IsReadTo (words : List ℕ) (at : ℕ) : Type 0 where
 pub read_first : (words : List ℕ) → IsReadTo words 0
 read_first words = record { within = omega arith; faults = refl }
 
-one_version : (at word : ℕ) (op : Instruction) (q : Bool) → is_quiet op ≡ q → operation_fault false (record { at = at; word = word; op = Some op }) ≡ unless (not q) (fault.Operation at word)
+one_version : (at word : ℕ) (op : Instruction) (q : Bool) → is_quiet op ≡ q → operation_fault false (record { at = at; word = word; op = Some op }) ≡ unless
+    (not q) (fault.Operation at word)
 one_version at word op q e = ap (λ (b : Bool). unless (not b) (fault.Operation at word)) e
 
-pub read_next : (words : List ℕ) (at next : ℕ) (op : Instruction) → Found words at op next → at < next → next ≤ length words → is_quiet op ≡ false → IsReadTo words at → IsReadTo words next
+pub read_next : (words : List ℕ) (at next : ℕ) (op : Instruction) → Found words at op next → at < next → next ≤ length words → is_quiet op ≡ false
+    → IsReadTo words at → IsReadTo words next
 read_next words at next op f l m q k = record {
   within = m;
   faults = k.faults ∙ operation_step false words at next op f.decoded l m
-      ∙ ap (λ (x : Option CodeFault). or_else x (first_fault (operation_fault false) (starts_from (drop next words) next 0))) (one_version at (get_or words at 0) op false q);
+      ∙ ap (λ (x : Option CodeFault). or_else x (first_fault (operation_fault false) (starts_from (drop next words) next 0)))
+      (one_version at (get_or words at 0) op false q);
 }
 
-pub read_quiet : (words : List ℕ) (at next : ℕ) (op : Instruction) → Found words at op next → at < next → next ≤ length words → is_quiet op ≡ true → IsReadTo words at → Some (fault.Operation at (get_or words at 0)) ≡ first_fault (operation_fault false) (starts_of words)
+pub read_quiet : (words : List ℕ) (at next : ℕ) (op : Instruction) → Found words at op next → at < next → next ≤ length words → is_quiet op ≡ true
+    → IsReadTo words at → Some (fault.Operation at (get_or words at 0)) ≡ first_fault (operation_fault false) (starts_of words)
 read_quiet words at next op f l m q k =
     sym (k.faults ∙ operation_step false words at next op f.decoded l m
-    ∙ ap (λ (x : Option CodeFault). or_else x (first_fault (operation_fault false) (starts_from (drop next words) next 0))) (one_version at (get_or words at 0) op true q))
+    ∙ ap (λ (x : Option CodeFault). or_else x (first_fault (operation_fault false) (starts_from (drop next words) next 0)))
+    (one_version at (get_or words at 0) op true q))
 
-pub read_broken : (words : List ℕ) (at : ℕ) → decode (drop at words) ≡ None → at < length words → IsReadTo words at → Some (fault.Operation at (get_or words at 0)) ≡ first_fault (operation_fault false) (starts_of words)
+pub read_broken : (words : List ℕ) (at : ℕ) → decode (drop at words) ≡ None → at < length words → IsReadTo words at
+    → Some (fault.Operation at (get_or words at 0)) ≡ first_fault (operation_fault false) (starts_of words)
 read_broken words at e l k = sym (k.faults ∙ operation_broken false words at e l)
 
 pub read_all : (words : List ℕ) (at : ℕ) → length words ≤ at → IsReadTo words at → None ≡ first_fault (operation_fault false) (starts_of words)
@@ -47,7 +53,8 @@ none_of (Some f) b e = (e, cc)
 newer_unless : (b : Bool) (f : CodeFault) → unless (false || b) f ≡ None → unless (true || b) f ≡ None
 newer_unless b f e = refl
 
-newer_start : (at word : ℕ) (op : Option Instruction) → operation_fault false (record { at = at; word = word; op = op }) ≡ None → operation_fault true (record { at = at; word = word; op = op }) ≡ None
+newer_start : (at word : ℕ) (op : Option Instruction) → operation_fault false (record { at = at; word = word; op = op }) ≡ None
+    → operation_fault true (record { at = at; word = word; op = op }) ≡ None
 newer_start at word None e = e
 newer_start at word (Some op) e = refl
 
@@ -58,15 +65,19 @@ newer (s ∷ starts) e =
     ap (λ (x : Option CodeFault). or_else x (first_fault (operation_fault true) starts)) (newer_start s.at s.word s.op parts.0) ∙ newer starts parts.1
 
 -- where nothing is wrong by version 1, both versions find the same
-pub same_words_fault : (words : List ℕ) (start count : ℕ) → None ≡ first_fault (operation_fault false) (starts_of words) → words_fault true words start count ≡ words_fault false words start count
+pub same_words_fault : (words : List ℕ) (start count : ℕ) → None ≡ first_fault (operation_fault false) (starts_of words) → words_fault true words start count
+    ≡ words_fault false words start count
 unfolding words_fault
 same_words_fault words start count e =
-    let rest : Option CodeFault = or_else (first_fault (jump_fault words (starts_of words)) (starts_of words)) (entry_fault words (starts_of words) start count) in
+    let rest : Option CodeFault = or_else (first_fault (jump_fault words (starts_of words)) (starts_of words))
+    (entry_fault words (starts_of words) start count) in
     ap (λ (x : Option CodeFault). or_else x rest) (newer (starts_of words) (sym e) ∙ e)
 
 -- and what is wrong by version 1 is the first fault
-pub first_words_fault : (words : List ℕ) (start count : ℕ) (f : CodeFault) → Some f ≡ first_fault (operation_fault false) (starts_of words) → words_fault false words start count ≡ Some f
+pub first_words_fault : (words : List ℕ) (start count : ℕ) (f : CodeFault) → Some f ≡ first_fault (operation_fault false) (starts_of words)
+    → words_fault false words start count ≡ Some f
 unfolding words_fault
 first_words_fault words start count f e =
-    let rest : Option CodeFault = or_else (first_fault (jump_fault words (starts_of words)) (starts_of words)) (entry_fault words (starts_of words) start count) in
+    let rest : Option CodeFault = or_else (first_fault (jump_fault words (starts_of words)) (starts_of words))
+    (entry_fault words (starts_of words) start count) in
     ap (λ (x : Option CodeFault). or_else x rest) (sym e)

@@ -90,7 +90,8 @@ fn header_at(bytes: &[u8], at: usize) -> CodeFault
 // The number of words, the address of the entry, and the parameters with their calls.
 fn field_fault(bytes: &[u8]) -> Option<CodeFault>
     requires { HEADER ≤ length bytes.now }
-    ensures { result ≡ fields_fault (number_at bytes.now 4) (number_at bytes.now 8) (slice_index bytes.now 12) (take (slice_index bytes.now 12) (drop 13 bytes.now)) }
+    ensures { result ≡ fields_fault (number_at bytes.now 4) (number_at bytes.now 8) (slice_index bytes.now 12)
+        (take (slice_index bytes.now 12) (drop 13 bytes.now)) }
 {
     let count = number_at(bytes, 4);
     if count == 0 || count > WORDS {

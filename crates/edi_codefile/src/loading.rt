@@ -42,8 +42,10 @@ fn code_in(alloc: Global, bytes: &[u8]) -> Result<Code, CodeFault>
     requires header { header_fault bytes.now ≡ None }
     requires size { size_fault bytes.now ≡ None }
     ensures code { IfOk result (λ code. code ≡ code_of bytes.now) }
-    ensures sound { OnOk result (words_fault (short_at bytes.now 2 == 2) (words_of_bytes (drop 32 bytes.now)) (number_at bytes.now 8) (slice_index bytes.now 12) ≡ None) }
-    ensures first { IfErr result (λ fault. IsFault fault (words_fault (short_at bytes.now 2 == 2) (words_of_bytes (drop 32 bytes.now)) (number_at bytes.now 8) (slice_index bytes.now 12))) }
+    ensures sound { OnOk result (words_fault (short_at bytes.now 2 == 2) (words_of_bytes (drop 32 bytes.now)) (number_at bytes.now 8)
+        (slice_index bytes.now 12) ≡ None) }
+    ensures first { IfErr result (λ fault. IsFault fault
+        (words_fault (short_at bytes.now 2 == 2) (words_of_bytes (drop 32 bytes.now)) (number_at bytes.now 8) (slice_index bytes.now 12))) }
 {
     let (_, body) = bytes.split_at(HEADER);
     let Ok(words) = words_of(alloc, body) else {

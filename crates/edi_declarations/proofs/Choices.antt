@@ -24,7 +24,8 @@ among P a (x ∷ xs) all h = by (among P a xs all.1) (nat_eq a x) refl h where
 pub item_type : (a : ℕ) → has a (first g.TypeDecl) ≡ true → rule_at edison g.Item a ≡ Some (part g.TypeDecl ∷ [])
 item_type a h = among (λ a. rule_at edison g.Item a ≡ Some (part g.TypeDecl ∷ [])) a (first g.TypeDecl) (refl, (refl, (refl, (refl, tt)))) h
 
-pub item_procedure : (a : ℕ) → has a (kind.Const ∷ kind.Array ∷ kind.Enum ∷ kind.Record ∷ kind.Set ∷ kind.Var ∷ kind.Pre ∷ kind.Post ∷ []) ≡ false → rule_at edison g.Item a ≡ Some (part g.Procedure ∷ [])
+pub item_procedure : (a : ℕ) → has a (kind.Const ∷ kind.Array ∷ kind.Enum ∷ kind.Record ∷ kind.Set ∷ kind.Var ∷ kind.Pre ∷ kind.Post ∷ []) ≡ false
+    → rule_at edison g.Item a ≡ Some (part g.Procedure ∷ [])
 item_procedure a h =
     let h1 = apart a kind.Const (kind.Array ∷ kind.Enum ∷ kind.Record ∷ kind.Set ∷ kind.Var ∷ kind.Pre ∷ kind.Post ∷ []) h in
     let h2 = apart a kind.Array (kind.Enum ∷ kind.Record ∷ kind.Set ∷ kind.Var ∷ kind.Pre ∷ kind.Post ∷ []) h1.1 in

@@ -13,23 +13,29 @@ use Rattle.edi_tree.specs.Levels.{Element, member_elements, members_elements, de
 pub no_memory : (k : Sort) (n : ℕ) (p : List Mark) → HaltsAt k n p stop.NoMemory
 no_memory k n p = moves.no_memory k n p
 
-members_more : {A : Type 0} (f : A → tree.Member) (items : List A) (x : A) (es : List Element) → members_elements (members (map f items)) (member_elements (f x) es) ≡ members_elements (members (map f (items ++ x ∷ []))) es
+members_more : {A : Type 0} (f : A → tree.Member) (items : List A) (x : A) (es : List Element) → members_elements (members (map f items))
+    (member_elements (f x) es) ≡ members_elements (members (map f (items ++ x ∷ []))) es
 members_more f [] x es = refl
 members_more f (y ∷ items) x es = ap (λ l. member_elements (f y) l) (members_more f items x es)
 
-pub members_push : {A : Type 0} (f : A → tree.Member) (items more : List A) (x : A) → more ≡ items ++ x ∷ [] → (es : List Element) → members_elements (members (map f items)) (member_elements (f x) es) ≡ members_elements (members (map f more)) es
+pub members_push : {A : Type 0} (f : A → tree.Member) (items more : List A) (x : A) → more ≡ items ++ x ∷ [] → (es : List Element)
+    → members_elements (members (map f items)) (member_elements (f x) es) ≡ members_elements (members (map f more)) es
 members_push f items more x e es = members_more f items x es ∙ ap (λ l. members_elements (members (map f l)) es) (sym e)
 
-declarations_more : {A : Type 0} (f : A → tree.Declaration) (items : List A) (x : A) (es : List Element) → declarations_elements (declarations (map f items)) (declaration_elements (f x) es) ≡ declarations_elements (declarations (map f (items ++ x ∷ []))) es
+declarations_more : {A : Type 0} (f : A → tree.Declaration) (items : List A) (x : A) (es : List Element) → declarations_elements (declarations (map f items))
+    (declaration_elements (f x) es) ≡ declarations_elements (declarations (map f (items ++ x ∷ []))) es
 declarations_more f [] x es = refl
 declarations_more f (y ∷ items) x es = ap (λ l. declaration_elements (f y) l) (declarations_more f items x es)
 
-pub declarations_push : {A : Type 0} (f : A → tree.Declaration) (items more : List A) (x : A) → more ≡ items ++ x ∷ [] → (es : List Element) → declarations_elements (declarations (map f items)) (declaration_elements (f x) es) ≡ declarations_elements (declarations (map f more)) es
+pub declarations_push : {A : Type 0} (f : A → tree.Declaration) (items more : List A) (x : A) → more ≡ items ++ x ∷ [] → (es : List Element)
+    → declarations_elements (declarations (map f items)) (declaration_elements (f x) es) ≡ declarations_elements (declarations (map f more)) es
 declarations_push f items more x e es = declarations_more f items x es ∙ ap (λ l. declarations_elements (declarations (map f l)) es) (sym e)
 
-globals_more : {A : Type 0} (f : A → tree.Global) (items : List A) (x : A) (es : List Element) → globals_elements (globals (map f items)) (global_elements (f x) es) ≡ globals_elements (globals (map f (items ++ x ∷ []))) es
+globals_more : {A : Type 0} (f : A → tree.Global) (items : List A) (x : A) (es : List Element) → globals_elements (globals (map f items))
+    (global_elements (f x) es) ≡ globals_elements (globals (map f (items ++ x ∷ []))) es
 globals_more f [] x es = refl
 globals_more f (y ∷ items) x es = ap (λ l. global_elements (f y) l) (globals_more f items x es)
 
-pub globals_push : {A : Type 0} (f : A → tree.Global) (items more : List A) (x : A) → more ≡ items ++ x ∷ [] → (es : List Element) → globals_elements (globals (map f items)) (global_elements (f x) es) ≡ globals_elements (globals (map f more)) es
+pub globals_push : {A : Type 0} (f : A → tree.Global) (items more : List A) (x : A) → more ≡ items ++ x ∷ [] → (es : List Element)
+    → globals_elements (globals (map f items)) (global_elements (f x) es) ≡ globals_elements (globals (map f more)) es
 globals_push f items more x e es = globals_more f items x es ∙ ap (λ l. globals_elements (globals (map f l)) es) (sym e)

@@ -3,7 +3,8 @@
 
 ghost use Rattle.std.specs.Prelude.{◌≡◌, [], ◌∷◌, ◌<◌, ◌≤◌, false, length, IfOk, IfErr};
 ghost use Rattle.edi_tree.specs.View.{procedure_of, item_of, module_of, member_of, members_of, declaration_of, declarations_of};
-ghost use Rattle.edi_tree.specs.Levels.{procedure_elements, item_elements, module_elements, member_elements, members_elements, declaration_elements, declarations_elements};
+ghost use Rattle.edi_tree.specs.Levels.{procedure_elements, item_elements, module_elements, member_elements, members_elements, declaration_elements};
+ghost use Rattle.edi_tree.specs.Levels.{declarations_elements};
 ghost use Rattle.edi_grammar.specs.Kinds as kind;
 ghost use Rattle.edi_grammar.specs.Kind.{front};
 ghost use Rattle.edi_grammar.specs.Parser.{has};

@@ -3,7 +3,12 @@ use Rattle.std.proofs.Common.{◌≡◌, ℕ, zero, suc, List, [], ◌∷◌, �
 use Rattle.edi_lex.specs.declared.symbol.Symbol.TheVariants as is
 use Rattle.edi_lex.specs.declared.symbol.Mark.{Mark}
 use Rattle.edi_tree.specs.Spelled.{on, just, name_mark, chars_mark, char_mark}
-use Rattle.edi_tree.specs.Levels.{Element, level_end, word, kept, named, addends_elements, branch_elements, comparison_elements, condition_elements, conditions_elements, const_decl_elements, const_decls_elements, constant_elements, declarations_elements, else_elements, expr_elements, exprs_elements, factor_elements, globals_elements, group_elements, groups_elements, item_elements, list_elements, members_elements, more_params_elements, multipliers_elements, names_elements, param_elements, params_elements, procedure_elements, result_elements, selectors_elements, simple_elements, statement_elements, statements_elements, term_elements}
+use Rattle.edi_tree.specs.Levels.{Element, level_end, word, kept, named, addends_elements, branch_elements, comparison_elements, condition_elements}
+use Rattle.edi_tree.specs.Levels.{conditions_elements, const_decl_elements, const_decls_elements, constant_elements, declarations_elements, else_elements}
+use Rattle.edi_tree.specs.Levels.{expr_elements, exprs_elements, factor_elements, globals_elements, group_elements, groups_elements, item_elements}
+use Rattle.edi_tree.specs.Levels.{list_elements, members_elements, more_params_elements, multipliers_elements, names_elements, param_elements}
+use Rattle.edi_tree.specs.Levels.{params_elements, procedure_elements, result_elements, selectors_elements, simple_elements, statement_elements}
+use Rattle.edi_tree.specs.Levels.{statements_elements, term_elements}
 use Rattle.edi_grammar.specs.Grammar as item
 use Rattle.edi_grammar.specs.Grammar.{Part, token, part, closing, plain, rule_no}
 use Rattle.edi_grammar.specs.Trees.{join, Builders, Built, Reads}

@@ -10,9 +10,14 @@ use Rattle.edi_tree.specs.declared.expressions.Addition.TheVariants as addition
 use Rattle.edi_tree.specs.declared.expressions.Multiplication.{Multiplication}
 use Rattle.edi_tree.specs.declared.expressions.Multiplication.TheVariants as multiplication
 use Rattle.edi_tree.specs.declared.expressions.Root.TheVariants as root
-use Rattle.edi_tree.specs.Tree.{Expr, expr, Comparison, no_comparison, compared, Exprs, no_expr, next_expr, Simple, simple, Addend, addend, Addends, no_addend, next_addend, Term, term, Multiplier, multiplier, Multipliers, no_multiplier, next_multiplier, Factor, numeral, string, not_factor, parenthesized, call_factor, variable_factor, Args, args, variable, Selector, field, index, Selectors, no_selector, next_selector}
+use Rattle.edi_tree.specs.Tree.{Expr, expr, Comparison, no_comparison, compared, Exprs, no_expr, next_expr, Simple, simple, Addend, addend, Addends}
+use Rattle.edi_tree.specs.Tree.{no_addend, next_addend, Term, term, Multiplier, multiplier, Multipliers, no_multiplier, next_multiplier, Factor, numeral}
+use Rattle.edi_tree.specs.Tree.{string, not_factor, parenthesized, call_factor, variable_factor, Args, args, variable, Selector, field, index, Selectors}
+use Rattle.edi_tree.specs.Tree.{no_selector, next_selector}
 use Rattle.edi_tree.specs.Spelled.{on}
-use Rattle.edi_tree.specs.Levels.{Element, mark, level_end, word, addend_elements, addends_elements, args_elements, comparison_elements, expr_elements, exprs_elements, factor_elements, multiplier_elements, multipliers_elements, selector_elements, selectors_elements, sign_elements, simple_elements, term_elements}
+use Rattle.edi_tree.specs.Levels.{Element, mark, level_end, word, addend_elements, addends_elements, args_elements, comparison_elements, expr_elements}
+use Rattle.edi_tree.specs.Levels.{exprs_elements, factor_elements, multiplier_elements, multipliers_elements, selector_elements, selectors_elements}
+use Rattle.edi_tree.specs.Levels.{sign_elements, simple_elements, term_elements}
 use Rattle.edi_grammar.specs.Grammar as item
 use Rattle.edi_grammar.specs.Grammar.{Part, token, part, closing, plain, rule_no}
 use Rattle.edi_grammar.specs.Kinds as kind
@@ -26,83 +31,326 @@ use Rattle.edi_derivation.proofs.Stands.{name_is, chars_is, chars_on}
 use Rattle.edi_derivation.proofs.Reading.{read_token, read_end, by_rule, Takes}
 
 pub relation_takes : (t : Relation × ℕ) (es : List Element) (items : Items) → Fit (relation_elements t es) items → Takes g.Relation t es items
-relation_takes (relation.Equal, line) es items h = record { rest = h.1; fits = h.4; go = λ later. by_rule g.Relation 0 (token kind.Equal ∷ []) (Some h.0, tt) (λ P made. ((Some h.0, tt), ap (λ z. couple relation.Equal z) (sym h.3.1), made)) (read_token h.2 (ap kind_of h.3.0) (later)) }
-relation_takes (relation.NotEqual, line) es items h = record { rest = h.1; fits = h.4; go = λ later. by_rule g.Relation 1 (token kind.NotEqual ∷ []) (Some h.0, tt) (λ P made. ((Some h.0, tt), ap (λ z. couple relation.NotEqual z) (sym h.3.1), made)) (read_token h.2 (ap kind_of h.3.0) (later)) }
-relation_takes (relation.Less, line) es items h = record { rest = h.1; fits = h.4; go = λ later. by_rule g.Relation 2 (token kind.Less ∷ []) (Some h.0, tt) (λ P made. ((Some h.0, tt), ap (λ z. couple relation.Less z) (sym h.3.1), made)) (read_token h.2 (ap kind_of h.3.0) (later)) }
-relation_takes (relation.AtMost, line) es items h = record { rest = h.1; fits = h.4; go = λ later. by_rule g.Relation 3 (token kind.AtMost ∷ []) (Some h.0, tt) (λ P made. ((Some h.0, tt), ap (λ z. couple relation.AtMost z) (sym h.3.1), made)) (read_token h.2 (ap kind_of h.3.0) (later)) }
-relation_takes (relation.Greater, line) es items h = record { rest = h.1; fits = h.4; go = λ later. by_rule g.Relation 4 (token kind.Greater ∷ []) (Some h.0, tt) (λ P made. ((Some h.0, tt), ap (λ z. couple relation.Greater z) (sym h.3.1), made)) (read_token h.2 (ap kind_of h.3.0) (later)) }
-relation_takes (relation.AtLeast, line) es items h = record { rest = h.1; fits = h.4; go = λ later. by_rule g.Relation 5 (token kind.AtLeast ∷ []) (Some h.0, tt) (λ P made. ((Some h.0, tt), ap (λ z. couple relation.AtLeast z) (sym h.3.1), made)) (read_token h.2 (ap kind_of h.3.0) (later)) }
-relation_takes (relation.In, line) es items h = record { rest = h.1; fits = h.4; go = λ later. by_rule g.Relation 6 (token kind.In ∷ []) (Some h.0, tt) (λ P made. ((Some h.0, tt), ap (λ z. couple relation.In z) (sym h.3.1), made)) (read_token h.2 (ap kind_of h.3.0) (later)) }
+relation_takes (relation.Equal, line) es items h =
+    record {
+      rest = h.1;
+      fits = h.4;
+      go = λ later. by_rule g.Relation 0 (token kind.Equal ∷ []) (Some h.0, tt)
+          (λ P made. ((Some h.0, tt), ap (λ z. couple relation.Equal z) (sym h.3.1), made)) (read_token h.2 (ap kind_of h.3.0) (later));
+    }
+relation_takes (relation.NotEqual, line) es items h =
+    record {
+      rest = h.1;
+      fits = h.4;
+      go = λ later. by_rule g.Relation 1 (token kind.NotEqual ∷ []) (Some h.0, tt)
+          (λ P made. ((Some h.0, tt), ap (λ z. couple relation.NotEqual z) (sym h.3.1), made)) (read_token h.2 (ap kind_of h.3.0) (later));
+    }
+relation_takes (relation.Less, line) es items h =
+    record {
+      rest = h.1;
+      fits = h.4;
+      go = λ later. by_rule g.Relation 2 (token kind.Less ∷ []) (Some h.0, tt)
+          (λ P made. ((Some h.0, tt), ap (λ z. couple relation.Less z) (sym h.3.1), made)) (read_token h.2 (ap kind_of h.3.0) (later));
+    }
+relation_takes (relation.AtMost, line) es items h =
+    record {
+      rest = h.1;
+      fits = h.4;
+      go = λ later. by_rule g.Relation 3 (token kind.AtMost ∷ []) (Some h.0, tt)
+          (λ P made. ((Some h.0, tt), ap (λ z. couple relation.AtMost z) (sym h.3.1), made)) (read_token h.2 (ap kind_of h.3.0) (later));
+    }
+relation_takes (relation.Greater, line) es items h =
+    record {
+      rest = h.1;
+      fits = h.4;
+      go = λ later. by_rule g.Relation 4 (token kind.Greater ∷ []) (Some h.0, tt)
+          (λ P made. ((Some h.0, tt), ap (λ z. couple relation.Greater z) (sym h.3.1), made)) (read_token h.2 (ap kind_of h.3.0) (later));
+    }
+relation_takes (relation.AtLeast, line) es items h =
+    record {
+      rest = h.1;
+      fits = h.4;
+      go = λ later. by_rule g.Relation 5 (token kind.AtLeast ∷ []) (Some h.0, tt)
+          (λ P made. ((Some h.0, tt), ap (λ z. couple relation.AtLeast z) (sym h.3.1), made)) (read_token h.2 (ap kind_of h.3.0) (later));
+    }
+relation_takes (relation.In, line) es items h =
+    record {
+      rest = h.1;
+      fits = h.4;
+      go = λ later. by_rule g.Relation 6 (token kind.In ∷ []) (Some h.0, tt)
+          (λ P made. ((Some h.0, tt), ap (λ z. couple relation.In z) (sym h.3.1), made)) (read_token h.2 (ap kind_of h.3.0) (later));
+    }
 
 pub addition_takes : (t : Addition × ℕ) (es : List Element) (items : Items) → Fit (addition_elements t es) items → Takes g.Addition t es items
-addition_takes (addition.Plus, line) es items h = record { rest = h.1; fits = h.4; go = λ later. by_rule g.Addition 0 (token kind.Plus ∷ []) (Some h.0, tt) (λ P made. ((Some h.0, tt), ap (λ z. couple addition.Plus z) (sym h.3.1), made)) (read_token h.2 (ap kind_of h.3.0) (later)) }
-addition_takes (addition.Minus, line) es items h = record { rest = h.1; fits = h.4; go = λ later. by_rule g.Addition 1 (token kind.Minus ∷ []) (Some h.0, tt) (λ P made. ((Some h.0, tt), ap (λ z. couple addition.Minus z) (sym h.3.1), made)) (read_token h.2 (ap kind_of h.3.0) (later)) }
-addition_takes (addition.Or, line) es items h = record { rest = h.1; fits = h.4; go = λ later. by_rule g.Addition 2 (token kind.Or ∷ []) (Some h.0, tt) (λ P made. ((Some h.0, tt), ap (λ z. couple addition.Or z) (sym h.3.1), made)) (read_token h.2 (ap kind_of h.3.0) (later)) }
+addition_takes (addition.Plus, line) es items h =
+    record {
+      rest = h.1;
+      fits = h.4;
+      go = λ later. by_rule g.Addition 0 (token kind.Plus ∷ []) (Some h.0, tt)
+          (λ P made. ((Some h.0, tt), ap (λ z. couple addition.Plus z) (sym h.3.1), made)) (read_token h.2 (ap kind_of h.3.0) (later));
+    }
+addition_takes (addition.Minus, line) es items h =
+    record {
+      rest = h.1;
+      fits = h.4;
+      go = λ later. by_rule g.Addition 1 (token kind.Minus ∷ []) (Some h.0, tt)
+          (λ P made. ((Some h.0, tt), ap (λ z. couple addition.Minus z) (sym h.3.1), made)) (read_token h.2 (ap kind_of h.3.0) (later));
+    }
+addition_takes (addition.Or, line) es items h =
+    record {
+      rest = h.1;
+      fits = h.4;
+      go = λ later. by_rule g.Addition 2 (token kind.Or ∷ []) (Some h.0, tt)
+          (λ P made. ((Some h.0, tt), ap (λ z. couple addition.Or z) (sym h.3.1), made)) (read_token h.2 (ap kind_of h.3.0) (later));
+    }
 
-pub multiplication_takes : (t : Multiplication × ℕ) (es : List Element) (items : Items) → Fit (multiplication_elements t es) items → Takes g.Multiplication t es items
-multiplication_takes (multiplication.Star, line) es items h = record { rest = h.1; fits = h.4; go = λ later. by_rule g.Multiplication 0 (token kind.Star ∷ []) (Some h.0, tt) (λ P made. ((Some h.0, tt), ap (λ z. couple multiplication.Star z) (sym h.3.1), made)) (read_token h.2 (ap kind_of h.3.0) (later)) }
-multiplication_takes (multiplication.Div, line) es items h = record { rest = h.1; fits = h.4; go = λ later. by_rule g.Multiplication 1 (token kind.Div ∷ []) (Some h.0, tt) (λ P made. ((Some h.0, tt), ap (λ z. couple multiplication.Div z) (sym h.3.1), made)) (read_token h.2 (ap kind_of h.3.0) (later)) }
-multiplication_takes (multiplication.Mod, line) es items h = record { rest = h.1; fits = h.4; go = λ later. by_rule g.Multiplication 2 (token kind.Mod ∷ []) (Some h.0, tt) (λ P made. ((Some h.0, tt), ap (λ z. couple multiplication.Mod z) (sym h.3.1), made)) (read_token h.2 (ap kind_of h.3.0) (later)) }
-multiplication_takes (multiplication.And, line) es items h = record { rest = h.1; fits = h.4; go = λ later. by_rule g.Multiplication 3 (token kind.And ∷ []) (Some h.0, tt) (λ P made. ((Some h.0, tt), ap (λ z. couple multiplication.And z) (sym h.3.1), made)) (read_token h.2 (ap kind_of h.3.0) (later)) }
+pub multiplication_takes : (t : Multiplication × ℕ) (es : List Element) (items : Items) → Fit (multiplication_elements t es) items
+    → Takes g.Multiplication t es items
+multiplication_takes (multiplication.Star, line) es items h =
+    record {
+      rest = h.1;
+      fits = h.4;
+      go = λ later. by_rule g.Multiplication 0 (token kind.Star ∷ []) (Some h.0, tt)
+          (λ P made. ((Some h.0, tt), ap (λ z. couple multiplication.Star z) (sym h.3.1), made)) (read_token h.2 (ap kind_of h.3.0) (later));
+    }
+multiplication_takes (multiplication.Div, line) es items h =
+    record {
+      rest = h.1;
+      fits = h.4;
+      go = λ later. by_rule g.Multiplication 1 (token kind.Div ∷ []) (Some h.0, tt)
+          (λ P made. ((Some h.0, tt), ap (λ z. couple multiplication.Div z) (sym h.3.1), made)) (read_token h.2 (ap kind_of h.3.0) (later));
+    }
+multiplication_takes (multiplication.Mod, line) es items h =
+    record {
+      rest = h.1;
+      fits = h.4;
+      go = λ later. by_rule g.Multiplication 2 (token kind.Mod ∷ []) (Some h.0, tt)
+          (λ P made. ((Some h.0, tt), ap (λ z. couple multiplication.Mod z) (sym h.3.1), made)) (read_token h.2 (ap kind_of h.3.0) (later));
+    }
+multiplication_takes (multiplication.And, line) es items h =
+    record {
+      rest = h.1;
+      fits = h.4;
+      go = λ later. by_rule g.Multiplication 3 (token kind.And ∷ []) (Some h.0, tt)
+          (λ P made. ((Some h.0, tt), ap (λ z. couple multiplication.And z) (sym h.3.1), made)) (read_token h.2 (ap kind_of h.3.0) (later));
+    }
 
 pub sign_takes : (t : Option Sign) (es : List Element) (items : Items) → Fit (sign_elements t es) items → Takes g.Sign t es items
-sign_takes (Some (sign.Plus line)) es items h = record { rest = h.1; fits = h.4; go = λ later. by_rule g.Sign 0 (token kind.Plus ∷ []) (Some h.0, tt) (λ P made. ((Some h.0, tt), ap (λ z. Some (sign.Plus z)) (sym h.3.1), made)) (read_token h.2 (ap kind_of h.3.0) (later)) }
-sign_takes (Some (sign.Minus line)) es items h = record { rest = h.1; fits = h.4; go = λ later. by_rule g.Sign 1 (token kind.Minus ∷ []) (Some h.0, tt) (λ P made. ((Some h.0, tt), ap (λ z. Some (sign.Minus z)) (sym h.3.1), made)) (read_token h.2 (ap kind_of h.3.0) (later)) }
+sign_takes (Some (sign.Plus line)) es items h =
+    record {
+      rest = h.1;
+      fits = h.4;
+      go = λ later. by_rule g.Sign 0 (token kind.Plus ∷ []) (Some h.0, tt)
+          (λ P made. ((Some h.0, tt), ap (λ z. Some (sign.Plus z)) (sym h.3.1), made)) (read_token h.2 (ap kind_of h.3.0) (later));
+    }
+sign_takes (Some (sign.Minus line)) es items h =
+    record {
+      rest = h.1;
+      fits = h.4;
+      go = λ later. by_rule g.Sign 1 (token kind.Minus ∷ []) (Some h.0, tt)
+          (λ P made. ((Some h.0, tt), ap (λ z. Some (sign.Minus z)) (sym h.3.1), made)) (read_token h.2 (ap kind_of h.3.0) (later));
+    }
 sign_takes None es items h = record { rest = items; fits = h; go = λ later. by_rule g.Sign 2 ([]) tt (λ P made. (tt, refl, made)) (later) }
 
-pub string_takes : (text : List ℕ) (line : ℕ) (es : List Element) (items : Items) → Fit (mark (on (is.Chars text) line) ∷ es) items → Takes g.Factor (string (chars_on text line)) es items
-string_takes [] line es items h = record { rest = h.1; fits = h.4; go = λ later. by_rule g.Factor 2 (token kind.Text ∷ []) (Some h.0, tt) (λ P made. ((Some h.0, tt), ap (λ z. string z) (chars_is (chars_on [] line) h.0 h.3), made)) (read_token h.2 (ap kind_of h.3.0) later) }
-string_takes (c ∷ []) line es items h = record { rest = h.1; fits = h.4; go = λ later. by_rule g.Factor 1 (token kind.Char ∷ []) (Some h.0, tt) (λ P made. ((Some h.0, tt), ap (λ z. string z) (chars_is (chars_on (c ∷ []) line) h.0 h.3), made)) (read_token h.2 (ap kind_of h.3.0) later) }
-string_takes (c ∷ d ∷ more) line es items h = record { rest = h.1; fits = h.4; go = λ later. by_rule g.Factor 2 (token kind.Text ∷ []) (Some h.0, tt) (λ P made. ((Some h.0, tt), ap (λ z. string z) (chars_is (chars_on (c ∷ d ∷ more) line) h.0 h.3), made)) (read_token h.2 (ap kind_of h.3.0) later) }
+pub string_takes : (text : List ℕ) (line : ℕ) (es : List Element) (items : Items) → Fit (mark (on (is.Chars text) line) ∷ es) items
+    → Takes g.Factor (string (chars_on text line)) es items
+string_takes [] line es items h = record {
+  rest = h.1;
+  fits = h.4;
+  go = λ later. by_rule g.Factor 2 (token kind.Text ∷ []) (Some h.0, tt)
+      (λ P made. ((Some h.0, tt), ap (λ z. string z) (chars_is (chars_on [] line) h.0 h.3), made)) (read_token h.2 (ap kind_of h.3.0) later);
+}
+string_takes (c ∷ []) line es items h = record {
+  rest = h.1;
+  fits = h.4;
+  go = λ later. by_rule g.Factor 1 (token kind.Char ∷ []) (Some h.0, tt)
+      (λ P made. ((Some h.0, tt), ap (λ z. string z) (chars_is (chars_on (c ∷ []) line) h.0 h.3), made)) (read_token h.2 (ap kind_of h.3.0) later);
+}
+string_takes (c ∷ d ∷ more) line es items h =
+    record {
+      rest = h.1;
+      fits = h.4;
+      go = λ later. by_rule g.Factor 2 (token kind.Text ∷ []) (Some h.0, tt)
+          (λ P made. ((Some h.0, tt), ap (λ z. string z) (chars_is (chars_on (c ∷ d ∷ more) line) h.0 h.3), made)) (read_token h.2 (ap kind_of h.3.0) later);
+    }
 
 mutual
   pub expr_takes : (t : Expr) (es : List Element) (items : Items) → Fit (expr_elements t es) items → Takes g.Expr t es items
-  expr_takes (expr s c) es items h = let p1 = simple_takes s (comparison_elements c es) items h in let p2 = comparison_takes c es p1.rest p1.fits in record { rest = p2.rest; fits = p2.fits; go = λ later. by_rule g.Expr 0 (part g.Simple ∷ part g.Comparison ∷ []) (s, (c, tt)) (λ P made. ((s, (c, tt)), refl, made)) (p1.go (p2.go (later))) }
+  expr_takes (expr s c) es items h = let p1 = simple_takes s (comparison_elements c es) items h in let p2 = comparison_takes c es p1.rest p1.fits in
+      record {
+        rest = p2.rest;
+        fits = p2.fits;
+        go = λ later. by_rule g.Expr 0 (part g.Simple ∷ part g.Comparison ∷ []) (s, (c, tt))
+            (λ P made. ((s, (c, tt)), refl, made)) (p1.go (p2.go (later)));
+      }
 
   pub comparison_takes : (t : Comparison) (es : List Element) (items : Items) → Fit (comparison_elements t es) items → Takes g.Comparison t es items
-  comparison_takes (compared r line s) es items h = let p1 = relation_takes (r, line) (simple_elements s es) items h in let p2 = simple_takes s es p1.rest p1.fits in record { rest = p2.rest; fits = p2.fits; go = λ later. by_rule g.Comparison 0 (part g.Relation ∷ part g.Simple ∷ []) ((r, line), (s, tt)) (λ P made. (((r, line), (s, tt)), refl, made)) (p1.go (p2.go (later))) }
-  comparison_takes no_comparison es items h = record { rest = items; fits = h; go = λ later. by_rule g.Comparison 1 ([]) tt (λ P made. (tt, refl, made)) (later) }
+  comparison_takes (compared r line s) es items h = let p1 = relation_takes (r, line) (simple_elements s es) items h in
+      let p2 = simple_takes s es p1.rest p1.fits in
+      record {
+        rest = p2.rest;
+        fits = p2.fits;
+        go = λ later. by_rule g.Comparison 0 (part g.Relation ∷ part g.Simple ∷ []) ((r, line), (s, tt))
+            (λ P made. (((r, line), (s, tt)), refl, made)) (p1.go (p2.go (later)));
+      }
+  comparison_takes no_comparison es items h =
+      record { rest = items; fits = h; go = λ later. by_rule g.Comparison 1 ([]) tt (λ P made. (tt, refl, made)) (later) }
 
   pub exprs_takes : (t : Exprs) (es : List Element) (items : Items) → Fit (exprs_elements t es) items → Takes g.Exprs t es items
-  exprs_takes (next_expr e more) es items h = let p1 = expr_takes e (exprs_elements more es) h.1 h.4 in let p2 = exprs_takes more es p1.rest p1.fits in record { rest = p2.rest; fits = p2.fits; go = λ later. by_rule g.Exprs 0 (token kind.Comma ∷ part g.Expr ∷ part g.Exprs ∷ []) (Some h.0, (e, (more, tt))) (λ P made. ((Some h.0, (e, (more, tt))), refl, made)) (read_token h.2 (ap kind_of h.3.0) (p1.go (p2.go (later)))) }
+  exprs_takes (next_expr e more) es items h = let p1 = expr_takes e (exprs_elements more es) h.1 h.4 in let p2 = exprs_takes more es p1.rest p1.fits in
+      record {
+        rest = p2.rest;
+        fits = p2.fits;
+        go = λ later. by_rule g.Exprs 0 (token kind.Comma ∷ part g.Expr ∷ part g.Exprs ∷ []) (Some h.0, (e, (more, tt)))
+            (λ P made. ((Some h.0, (e, (more, tt))), refl, made)) (read_token h.2 (ap kind_of h.3.0) (p1.go (p2.go (later))));
+      }
   exprs_takes no_expr es items h = record { rest = items; fits = h; go = λ later. by_rule g.Exprs 1 ([]) tt (λ P made. (tt, refl, made)) (later) }
 
   pub simple_takes : (t : Simple) (es : List Element) (items : Items) → Fit (simple_elements t es) items → Takes g.Simple t es items
-  simple_takes (simple s t ts) es items h = let p1 = sign_takes s (term_elements t (addends_elements ts es)) items h in let p2 = term_takes t (addends_elements ts es) p1.rest p1.fits in let p3 = addends_takes ts es p2.rest p2.fits in record { rest = p3.rest; fits = p3.fits; go = λ later. by_rule g.Simple 0 (part g.Sign ∷ part g.Term ∷ part g.Addends ∷ []) (s, (t, (ts, tt))) (λ P made. ((s, (t, (ts, tt))), refl, made)) (p1.go (p2.go (p3.go (later)))) }
+  simple_takes (simple s t ts) es items h = let p1 = sign_takes s (term_elements t (addends_elements ts es)) items h in
+      let p2 = term_takes t (addends_elements ts es) p1.rest p1.fits in let p3 = addends_takes ts es p2.rest p2.fits in
+      record {
+        rest = p3.rest;
+        fits = p3.fits;
+        go = λ later. by_rule g.Simple 0 (part g.Sign ∷ part g.Term ∷ part g.Addends ∷ []) (s, (t, (ts, tt)))
+            (λ P made. ((s, (t, (ts, tt))), refl, made)) (p1.go (p2.go (p3.go (later))));
+      }
 
   pub addend_takes : (t : Addend) (es : List Element) (items : Items) → Fit (addend_elements t es) items → Takes g.Addend t es items
-  addend_takes (addend o line t) es items h = let p1 = addition_takes (o, line) (term_elements t es) items h in let p2 = term_takes t es p1.rest p1.fits in record { rest = p2.rest; fits = p2.fits; go = λ later. by_rule g.Addend 0 (part g.Addition ∷ part g.Term ∷ []) ((o, line), (t, tt)) (λ P made. (((o, line), (t, tt)), refl, made)) (p1.go (p2.go (later))) }
+  addend_takes (addend o line t) es items h = let p1 = addition_takes (o, line) (term_elements t es) items h in let p2 = term_takes t es p1.rest p1.fits in
+      record {
+        rest = p2.rest;
+        fits = p2.fits;
+        go = λ later. by_rule g.Addend 0 (part g.Addition ∷ part g.Term ∷ []) ((o, line), (t, tt))
+            (λ P made. (((o, line), (t, tt)), refl, made)) (p1.go (p2.go (later)));
+      }
 
   pub addends_takes : (t : Addends) (es : List Element) (items : Items) → Fit (addends_elements t es) items → Takes g.Addends t es items
-  addends_takes (next_addend t ts) es items h = let p1 = addend_takes t (addends_elements ts es) items h in let p2 = addends_takes ts es p1.rest p1.fits in record { rest = p2.rest; fits = p2.fits; go = λ later. by_rule g.Addends 0 (part g.Addend ∷ part g.Addends ∷ []) (t, (ts, tt)) (λ P made. ((t, (ts, tt)), refl, made)) (p1.go (p2.go (later))) }
+  addends_takes (next_addend t ts) es items h = let p1 = addend_takes t (addends_elements ts es) items h in let p2 = addends_takes ts es p1.rest p1.fits in
+      record {
+        rest = p2.rest;
+        fits = p2.fits;
+        go = λ later. by_rule g.Addends 0 (part g.Addend ∷ part g.Addends ∷ []) (t, (ts, tt))
+            (λ P made. ((t, (ts, tt)), refl, made)) (p1.go (p2.go (later)));
+      }
   addends_takes no_addend es items h = record { rest = items; fits = h; go = λ later. by_rule g.Addends 1 ([]) tt (λ P made. (tt, refl, made)) (later) }
 
   pub term_takes : (t : Term) (es : List Element) (items : Items) → Fit (term_elements t es) items → Takes g.Term t es items
-  term_takes (term f fs) es items h = let p1 = factor_takes f (multipliers_elements fs es) items h in let p2 = multipliers_takes fs es p1.rest p1.fits in record { rest = p2.rest; fits = p2.fits; go = λ later. by_rule g.Term 0 (part g.Factor ∷ part g.Multipliers ∷ []) (f, (fs, tt)) (λ P made. ((f, (fs, tt)), refl, made)) (p1.go (p2.go (later))) }
+  term_takes (term f fs) es items h = let p1 = factor_takes f (multipliers_elements fs es) items h in let p2 = multipliers_takes fs es p1.rest p1.fits in
+      record {
+        rest = p2.rest;
+        fits = p2.fits;
+        go = λ later. by_rule g.Term 0 (part g.Factor ∷ part g.Multipliers ∷ []) (f, (fs, tt))
+            (λ P made. ((f, (fs, tt)), refl, made)) (p1.go (p2.go (later)));
+      }
 
   pub multiplier_takes : (t : Multiplier) (es : List Element) (items : Items) → Fit (multiplier_elements t es) items → Takes g.Multiplier t es items
-  multiplier_takes (multiplier o line f) es items h = let p1 = multiplication_takes (o, line) (factor_elements f es) items h in let p2 = factor_takes f es p1.rest p1.fits in record { rest = p2.rest; fits = p2.fits; go = λ later. by_rule g.Multiplier 0 (part g.Multiplication ∷ part g.Factor ∷ []) ((o, line), (f, tt)) (λ P made. (((o, line), (f, tt)), refl, made)) (p1.go (p2.go (later))) }
+  multiplier_takes (multiplier o line f) es items h = let p1 = multiplication_takes (o, line) (factor_elements f es) items h in
+      let p2 = factor_takes f es p1.rest p1.fits in
+      record {
+        rest = p2.rest;
+        fits = p2.fits;
+        go = λ later. by_rule g.Multiplier 0 (part g.Multiplication ∷ part g.Factor ∷ []) ((o, line), (f, tt))
+            (λ P made. (((o, line), (f, tt)), refl, made)) (p1.go (p2.go (later)));
+      }
 
   pub multipliers_takes : (t : Multipliers) (es : List Element) (items : Items) → Fit (multipliers_elements t es) items → Takes g.Multipliers t es items
-  multipliers_takes (next_multiplier f fs) es items h = let p1 = multiplier_takes f (multipliers_elements fs es) items h in let p2 = multipliers_takes fs es p1.rest p1.fits in record { rest = p2.rest; fits = p2.fits; go = λ later. by_rule g.Multipliers 0 (part g.Multiplier ∷ part g.Multipliers ∷ []) (f, (fs, tt)) (λ P made. ((f, (fs, tt)), refl, made)) (p1.go (p2.go (later))) }
-  multipliers_takes no_multiplier es items h = record { rest = items; fits = h; go = λ later. by_rule g.Multipliers 1 ([]) tt (λ P made. (tt, refl, made)) (later) }
+  multipliers_takes (next_multiplier f fs) es items h = let p1 = multiplier_takes f (multipliers_elements fs es) items h in
+      let p2 = multipliers_takes fs es p1.rest p1.fits in
+      record {
+        rest = p2.rest;
+        fits = p2.fits;
+        go = λ later. by_rule g.Multipliers 0 (part g.Multiplier ∷ part g.Multipliers ∷ []) (f, (fs, tt))
+            (λ P made. ((f, (fs, tt)), refl, made)) (p1.go (p2.go (later)));
+      }
+  multipliers_takes no_multiplier es items h =
+      record { rest = items; fits = h; go = λ later. by_rule g.Multipliers 1 ([]) tt (λ P made. (tt, refl, made)) (later) }
 
   pub factor_takes : (t : Factor) (es : List Element) (items : Items) → Fit (factor_elements t es) items → Takes g.Factor t es items
-  factor_takes (numeral v) es items h = record { rest = h.1; fits = h.4; go = λ later. by_rule g.Factor 0 (token kind.Numeral ∷ []) (Some h.0, tt) (λ P made. ((Some h.0, tt), ap (λ z. numeral z) (sym (ap value_of h.3.0)), made)) (read_token h.2 (ap kind_of h.3.0) (later)) }
+  factor_takes (numeral v) es items h = record {
+    rest = h.1;
+    fits = h.4;
+    go = λ later. by_rule g.Factor 0 (token kind.Numeral ∷ []) (Some h.0, tt)
+        (λ P made. ((Some h.0, tt), ap (λ z. numeral z) (sym (ap value_of h.3.0)), made)) (read_token h.2 (ap kind_of h.3.0) (later));
+  }
   factor_takes (string s) es items h = string_takes s.text s.line es items h
-  factor_takes (not_factor line f) es items h = let p1 = factor_takes f (level_end ∷ es) h.1 h.4 in record { rest = p1.fits.0; fits = p1.fits.2; go = λ later. by_rule g.Factor 3 (token kind.Not ∷ part g.Factor ∷ item.level_end ∷ []) (Some h.0, (f, tt)) (λ P made. ((Some h.0, (f, tt)), ap (λ z. not_factor z f) (sym h.3.1), made)) (read_token h.2 (ap kind_of h.3.0) (p1.go (read_end p1.fits.1 (later)))) }
-  factor_takes (parenthesized e) es items h = let p1 = expr_takes e (word is.Close ∷ level_end ∷ es) h.1 h.4 in record { rest = p1.fits.4.0; fits = p1.fits.4.2; go = λ later. by_rule g.Factor 4 (token kind.Open ∷ part g.Expr ∷ token kind.Close ∷ item.level_end ∷ []) (Some h.0, (e, (Some p1.fits.0, tt))) (λ P made. ((Some h.0, (e, (Some p1.fits.0, tt))), refl, made)) (read_token h.2 (ap kind_of h.3.0) (p1.go (read_token p1.fits.2 (ap kind_of p1.fits.3.0) (read_end p1.fits.4.1 (later))))) }
-  factor_takes (call_factor n a) es items h = let p1 = args_takes a es h.1 h.4 in record { rest = p1.rest; fits = p1.fits; go = λ later. by_rule g.Factor 5 (token kind.Name ∷ part g.Behind ∷ []) (Some h.0, (with_args a, tt)) (λ P made. ((Some h.0, (with_args a, tt)), ap (λ z. factor_with z (with_args a)) (name_is n h.0 h.3), made)) (read_token h.2 (ap kind_of h.3.0) (by_rule g.Behind 0 (part g.Args ∷ []) (a, tt) (λ P made. ((a, tt), refl, made)) (p1.go later))) }
-  factor_takes (variable_factor (variable (root.Name n) ss)) es items h = let p1 = selectors_takes ss es h.1 h.4 in record { rest = p1.rest; fits = p1.fits; go = λ later. by_rule g.Factor 5 (token kind.Name ∷ part g.Behind ∷ []) (Some h.0, (selected ss, tt)) (λ P made. ((Some h.0, (selected ss, tt)), ap (λ z. factor_with z (selected ss)) (name_is n h.0 h.3), made)) (read_token h.2 (ap kind_of h.3.0) (by_rule g.Behind 1 (part g.Selectors ∷ []) (ss, tt) (λ P made. ((ss, tt), refl, made)) (p1.go later))) }
-  factor_takes (variable_factor (variable (root.Val n) ss)) es items h = let p1 = selectors_takes ss es h.4.1 h.4.4 in record { rest = p1.rest; fits = p1.fits; go = λ later. by_rule g.Factor 6 (token kind.Val ∷ token kind.Name ∷ part g.Selectors ∷ []) (Some h.0, (Some h.4.0, (ss, tt))) (λ P made. ((Some h.0, (Some h.4.0, (ss, tt))), ap (λ z. variable_factor (variable (root.Val z) ss)) (name_is n h.4.0 h.4.3), made)) (read_token h.2 (ap kind_of h.3.0) (read_token h.4.2 (ap kind_of h.4.3.0) (p1.go (later)))) }
+  factor_takes (not_factor line f) es items h = let p1 = factor_takes f (level_end ∷ es) h.1 h.4 in
+      record {
+        rest = p1.fits.0;
+        fits = p1.fits.2;
+        go = λ later. by_rule g.Factor 3 (token kind.Not ∷ part g.Factor ∷ item.level_end ∷ []) (Some h.0, (f, tt))
+            (λ P made. ((Some h.0, (f, tt)), ap (λ z. not_factor z f) (sym h.3.1), made)) (read_token h.2 (ap kind_of h.3.0) (p1.go (read_end p1.fits.1 (later))));
+      }
+  factor_takes (parenthesized e) es items h = let p1 = expr_takes e (word is.Close ∷ level_end ∷ es) h.1 h.4 in
+      record {
+        rest = p1.fits.4.0;
+        fits = p1.fits.4.2;
+        go = λ later. by_rule g.Factor 4 (token kind.Open ∷ part g.Expr ∷ token kind.Close ∷ item.level_end ∷ [])
+            (Some h.0, (e, (Some p1.fits.0, tt))) (λ P made. ((Some h.0, (e, (Some p1.fits.0, tt))), refl, made))
+            (read_token h.2 (ap kind_of h.3.0) (p1.go (read_token p1.fits.2 (ap kind_of p1.fits.3.0) (read_end p1.fits.4.1 (later)))));
+      }
+  factor_takes (call_factor n a) es items h = let p1 = args_takes a es h.1 h.4 in
+      record {
+        rest = p1.rest;
+        fits = p1.fits;
+        go = λ later. by_rule g.Factor 5 (token kind.Name ∷ part g.Behind ∷ []) (Some h.0, (with_args a, tt))
+            (λ P made. ((Some h.0, (with_args a, tt)), ap (λ z. factor_with z (with_args a)) (name_is n h.0 h.3), made))
+            (read_token h.2 (ap kind_of h.3.0) (by_rule g.Behind 0 (part g.Args ∷ []) (a, tt) (λ P made. ((a, tt), refl, made)) (p1.go later)));
+      }
+  factor_takes (variable_factor (variable (root.Name n) ss)) es items h = let p1 = selectors_takes ss es h.1 h.4 in
+      record {
+        rest = p1.rest;
+        fits = p1.fits;
+        go = λ later. by_rule g.Factor 5 (token kind.Name ∷ part g.Behind ∷ []) (Some h.0, (selected ss, tt))
+            (λ P made. ((Some h.0, (selected ss, tt)), ap (λ z. factor_with z (selected ss)) (name_is n h.0 h.3), made))
+            (read_token h.2 (ap kind_of h.3.0) (by_rule g.Behind 1 (part g.Selectors ∷ []) (ss, tt) (λ P made. ((ss, tt), refl, made)) (p1.go later)));
+      }
+  factor_takes (variable_factor (variable (root.Val n) ss)) es items h = let p1 = selectors_takes ss es h.4.1 h.4.4 in
+      record {
+        rest = p1.rest;
+        fits = p1.fits;
+        go = λ later. by_rule g.Factor 6 (token kind.Val ∷ token kind.Name ∷ part g.Selectors ∷ [])
+            (Some h.0, (Some h.4.0, (ss, tt))) (λ P made.
+            ((Some h.0, (Some h.4.0, (ss, tt))), ap (λ z. variable_factor (variable (root.Val z) ss)) (name_is n h.4.0 h.4.3), made))
+            (read_token h.2 (ap kind_of h.3.0) (read_token h.4.2 (ap kind_of h.4.3.0) (p1.go (later))));
+      }
 
   pub args_takes : (t : Args) (es : List Element) (items : Items) → Fit (args_elements t es) items → Takes g.Args t es items
-  args_takes (args e more) es items h = let p1 = expr_takes e (exprs_elements more (word is.Close ∷ level_end ∷ es)) h.1 h.4 in let p2 = exprs_takes more (word is.Close ∷ level_end ∷ es) p1.rest p1.fits in record { rest = p2.fits.4.0; fits = p2.fits.4.2; go = λ later. by_rule g.Args 0 (token kind.Open ∷ part g.Expr ∷ part g.Exprs ∷ token kind.Close ∷ item.level_end ∷ []) (Some h.0, (e, (more, (Some p2.fits.0, tt)))) (λ P made. ((Some h.0, (e, (more, (Some p2.fits.0, tt)))), refl, made)) (read_token h.2 (ap kind_of h.3.0) (p1.go (p2.go (read_token p2.fits.2 (ap kind_of p2.fits.3.0) (read_end p2.fits.4.1 (later)))))) }
+  args_takes (args e more) es items h = let p1 = expr_takes e (exprs_elements more (word is.Close ∷ level_end ∷ es)) h.1 h.4 in
+      let p2 = exprs_takes more (word is.Close ∷ level_end ∷ es) p1.rest p1.fits in
+      record {
+        rest = p2.fits.4.0;
+        fits = p2.fits.4.2;
+        go = λ later. by_rule g.Args 0 (token kind.Open ∷ part g.Expr ∷ part g.Exprs ∷ token kind.Close ∷ item.level_end ∷ [])
+            (Some h.0, (e, (more, (Some p2.fits.0, tt)))) (λ P made. ((Some h.0, (e, (more, (Some p2.fits.0, tt)))), refl, made))
+            (read_token h.2 (ap kind_of h.3.0) (p1.go (p2.go (read_token p2.fits.2 (ap kind_of p2.fits.3.0) (read_end p2.fits.4.1 (later))))));
+      }
 
   pub selector_takes : (t : Selector) (es : List Element) (items : Items) → Fit (selector_elements t es) items → Takes g.Selector t es items
-  selector_takes (field line n) es items h = record { rest = h.4.1; fits = h.4.4; go = λ later. by_rule g.Selector 0 (token kind.Period ∷ token kind.Name ∷ []) (Some h.0, (Some h.4.0, tt)) (λ P made. ((Some h.0, (Some h.4.0, tt)), ap (λ z. field z n) (sym h.3.1) ∙ ap (λ z. field (line_in (Some h.0)) z) (name_is n h.4.0 h.4.3), made)) (read_token h.2 (ap kind_of h.3.0) (read_token h.4.2 (ap kind_of h.4.3.0) (later))) }
-  selector_takes (index line e) es items h = let p1 = expr_takes e (word is.CloseBracket ∷ level_end ∷ es) h.1 h.4 in record { rest = p1.fits.4.0; fits = p1.fits.4.2; go = λ later. by_rule g.Selector 1 (token kind.OpenBracket ∷ part g.Expr ∷ token kind.CloseBracket ∷ item.level_end ∷ []) (Some h.0, (e, (Some p1.fits.0, tt))) (λ P made. ((Some h.0, (e, (Some p1.fits.0, tt))), ap (λ z. index z e) (sym h.3.1), made)) (read_token h.2 (ap kind_of h.3.0) (p1.go (read_token p1.fits.2 (ap kind_of p1.fits.3.0) (read_end p1.fits.4.1 (later))))) }
+  selector_takes (field line n) es items h =
+      record {
+        rest = h.4.1;
+        fits = h.4.4;
+        go = λ later. by_rule g.Selector 0 (token kind.Period ∷ token kind.Name ∷ []) (Some h.0, (Some h.4.0, tt))
+            (λ P made. ((Some h.0, (Some h.4.0, tt)), ap (λ z. field z n) (sym h.3.1) ∙ ap (λ z. field (line_in (Some h.0)) z) (name_is n h.4.0 h.4.3), made))
+            (read_token h.2 (ap kind_of h.3.0) (read_token h.4.2 (ap kind_of h.4.3.0) (later)));
+      }
+  selector_takes (index line e) es items h = let p1 = expr_takes e (word is.CloseBracket ∷ level_end ∷ es) h.1 h.4 in
+      record {
+        rest = p1.fits.4.0;
+        fits = p1.fits.4.2;
+        go = λ later. by_rule g.Selector 1 (token kind.OpenBracket ∷ part g.Expr ∷ token kind.CloseBracket ∷ item.level_end ∷ [])
+            (Some h.0, (e, (Some p1.fits.0, tt))) (λ P made. ((Some h.0, (e, (Some p1.fits.0, tt))), ap (λ z. index z e) (sym h.3.1), made))
+            (read_token h.2 (ap kind_of h.3.0) (p1.go (read_token p1.fits.2 (ap kind_of p1.fits.3.0) (read_end p1.fits.4.1 (later)))));
+      }
 
   pub selectors_takes : (t : Selectors) (es : List Element) (items : Items) → Fit (selectors_elements t es) items → Takes g.Selectors t es items
-  selectors_takes (next_selector s ss) es items h = let p1 = selector_takes s (selectors_elements ss es) items h in let p2 = selectors_takes ss es p1.rest p1.fits in record { rest = p2.rest; fits = p2.fits; go = λ later. by_rule g.Selectors 0 (part g.Selector ∷ part g.Selectors ∷ []) (s, (ss, tt)) (λ P made. ((s, (ss, tt)), refl, made)) (p1.go (p2.go (later))) }
+  selectors_takes (next_selector s ss) es items h = let p1 = selector_takes s (selectors_elements ss es) items h in
+      let p2 = selectors_takes ss es p1.rest p1.fits in
+      record {
+        rest = p2.rest;
+        fits = p2.fits;
+        go = λ later. by_rule g.Selectors 0 (part g.Selector ∷ part g.Selectors ∷ []) (s, (ss, tt))
+            (λ P made. ((s, (ss, tt)), refl, made)) (p1.go (p2.go (later)));
+      }
   selectors_takes no_selector es items h = record { rest = items; fits = h; go = λ later. by_rule g.Selectors 1 ([]) tt (λ P made. (tt, refl, made)) (later) }

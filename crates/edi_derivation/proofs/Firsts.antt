@@ -1,5 +1,6 @@
 -- Where the predictive parser stops is the first fault, in the words of syntax trees.
-use Rattle.std.proofs.Common.{◌≡◌, ℕ, zero, suc, ◌+◌, ◌<◌, ◌≤◌, max, List, [], ◌∷◌, ◌++◌, Option, Some, Bool, true, false, refl, sym, ap, ◌∙◌, subst, arith, if◌then◌else◌, append_assoc}
+use Rattle.std.proofs.Common.{◌≡◌, ℕ, zero, suc, ◌+◌, ◌<◌, ◌≤◌, max, List, [], ◌∷◌, ◌++◌, Option, Some, Bool, true, false, refl, sym, ap, ◌∙◌, subst, arith}
+use Rattle.std.proofs.Common.{if◌then◌else◌, append_assoc}
 use Rattle.std.specs.Prelude.{nat_lt}
 use Rattle.std.proofs.lemmas.Bool.{ltb-true, ltb-false}
 use Rattle.edi_lex.specs.declared.symbol.Mark.{Mark}
@@ -21,14 +22,16 @@ use Rattle.edi_grammar.proofs.Open.{open_is_ending}
 use Rattle.edi_grammar.proofs.Start.{first_fault}
 use Rattle.edi_derivation.specs.Fits.{Items, Fit}
 use Rattle.edi_derivation.specs.Faults.{somes, AreShallow, IsMisplaced, IsTooDeepAt, IsTheTree}
-use Rattle.edi_derivation.proofs.Programs.{items_for, marks_of, spelled_elements, elements_spelled, program_derived, program_of_text, same_program, opens_in, counted, cut_at, parted, level_with, open_with}
+use Rattle.edi_derivation.proofs.Programs.{items_for, marks_of, spelled_elements, elements_spelled, program_derived, program_of_text, same_program, opens_in}
+use Rattle.edi_derivation.proofs.Programs.{counted, cut_at, parted, level_with, open_with}
 
 cons_not_nil : {A : Type 0} (u : List A) (a : A) (v : List A) → u ++ a ∷ v ≡ [] → ⊥
 cons_not_nil [] a v e = cc
 cons_not_nil (b ∷ u) a v e = cc
 
 -- what stands before another one is no end of the text
-pub before_place : (u : List (Option Mark)) (marks : List Mark) (here : Option Mark) (behind : List (Option Mark)) → to_end marks ≡ u ++ here ∷ behind → (before : List Mark) × (u ≡ somes before)
+pub before_place : (u : List (Option Mark)) (marks : List Mark) (here : Option Mark) (behind : List (Option Mark)) → to_end marks ≡ u ++ here ∷ behind
+    → (before : List Mark) × (u ≡ somes before)
 before_place [] marks here behind e = ([], refl)
 before_place (o ∷ u) [] here behind e = let none : [] ≡ u ++ here ∷ behind = cc in absurd (cons_not_nil u here behind (sym none))
 before_place (o ∷ u) (m ∷ marks) here behind e =
@@ -46,10 +49,13 @@ begins_of u more n items e d =
     (p.0, marks.0, more, elements_spelled p.0 marks.0 marks.1, sym marks.2 ∙ e)
 
 -- the levels that are open with a symbol are those that end behind it
-level_is_ending : (tree : Program) (before after : List Element) (s : Spelled) (m : Mark) (n : ℕ) (first last : Items) → StandsAsMark s m → ((k : ℕ) → level_behind k before ≡ open_behind edison k first) → Derives edison n start (first ++ item.mark (Some m) ∷ last) → level_behind 0 (before ++ mark s ∷ []) ≡ ends_in edison last
+level_is_ending : (tree : Program) (before after : List Element) (s : Spelled) (m : Mark) (n : ℕ) (first last : Items) → StandsAsMark s m
+    → ((k : ℕ) → level_behind k before ≡ open_behind edison k first) → Derives edison n start (first ++ item.mark (Some m) ∷ last)
+    → level_behind 0 (before ++ mark s ∷ []) ≡ ends_in edison last
 level_is_ending tree before after s m n first last st levels d =
     level_with before 0 s ∙ counted (level_behind 0 before) s m st ∙ ap (λ k. k + opened edison (kind_at (Some m))) (levels 0) ∙ sym (open_with first 0 m)
-    ∙ open_is_ending edison fair n start (first ++ item.mark (Some m) ∷ last) (first ++ item.mark (Some m) ∷ []) last (omega arith, tt) (sym (append_assoc first (item.mark (Some m) ∷ []) last)) d
+    ∙ open_is_ending edison fair n start (first ++ item.mark (Some m) ∷ last) (first ++ item.mark (Some m) ∷ []) last (omega arith, tt)
+    (sym (append_assoc first (item.mark (Some m) ∷ []) last)) d
 
 at_most : (k level : ℕ) → (k < level → ⊥) → level ≤ k
 at_most k level h = by (nat_lt k level) refl where
@@ -70,7 +76,15 @@ placed : (front : List Mark) (m : Mark) (level : ℕ) → Level front m level �
 placed front m level l =
     let c = cut_at l.1 l.2 l.3 front m l.5 l.6 in
     let d = program_derived l.0 (c.first ++ item.mark (Some m) ∷ c.last) (subst (λ es. Fit es (c.first ++ item.mark (Some m) ∷ c.last)) (sym l.4) c.fits) in
-    record { n = d.0; first = c.first; last = c.last; derived = d.1; spelled = c.spelled; ends = l.7 ∙ level_is_ending l.0 l.1 l.3 l.2 m d.0 c.first c.last l.6 c.levels d.1 }
+    record {
+      n = d.0;
+      first = c.first;
+      last = c.last;
+      derived = d.1;
+      spelled = c.spelled;
+      ends = l.7 ∙ level_is_ending l.0 l.1 l.3 l.2 m d.0 c.first c.last
+          l.6 c.levels d.1;
+    }
 
 plain_front : (first last : Items) (o : Option Mark) → plain (first ++ item.mark o ∷ last) ≡ plain first ++ o ∷ plain last
 plain_front [] last o = refl
@@ -86,7 +100,8 @@ shallow_of before h front behind m level cut opens_m l = at_most 64 level (λ de
       somes_both [] v = refl
       somes_both (a ∷ u) v = ap (λ l. Some a ∷ l) (somes_both u v)
 
-pub misplaced : (marks : List Mark) (here : Option Mark) (behind : List (Option Mark)) → Stops edison 64 start (to_end marks) wrong (here ∷ behind) → (before : List Mark) × (to_end marks ≡ somes before ++ here ∷ behind) × IsMisplaced marks before here
+pub misplaced : (marks : List Mark) (here : Option Mark) (behind : List (Option Mark)) → Stops edison 64 start (to_end marks) wrong (here ∷ behind)
+    → (before : List Mark) × (to_end marks ≡ somes before ++ here ∷ behind) × IsMisplaced marks before here
 misplaced marks here behind stops =
     let v = first_fault 64 (to_end marks) wrong (here ∷ behind) stops in
     let b = before_place v.before marks here behind v.cut in
@@ -124,7 +139,8 @@ same_cut (closing ∷ u) (closing ∷ v) a b x y e p =
     let rest : u ++ item.mark a ∷ x ≡ v ++ item.mark b ∷ y = cc in
     same_cut u v a b x y rest p
 
-pub too_deep_at : (marks : List Mark) (m : Mark) (behind : List (Option Mark)) → Stops edison 64 start (to_end marks) too_deep (Some m ∷ behind) → (before : List Mark) × (to_end marks ≡ somes before ++ Some m ∷ behind) × IsTooDeepAt marks before m
+pub too_deep_at : (marks : List Mark) (m : Mark) (behind : List (Option Mark)) → Stops edison 64 start (to_end marks) too_deep (Some m ∷ behind)
+    → (before : List Mark) × (to_end marks ≡ somes before ++ Some m ∷ behind) × IsTooDeepAt marks before m
 too_deep_at marks m behind stops =
     let v = first_fault 64 (to_end marks) too_deep (Some m ∷ behind) stops in
     let b = before_place v.before marks (Some m) behind v.cut in
@@ -138,13 +154,15 @@ too_deep_at marks m behind stops =
       cut,
       record {
         place = (behind, cut);
-        begins = begins_of (somes b.0 ++ Some m ∷ []) goes.2 v.lives.0 v.lives.2 (text ∙ ap (λ u. u ++ Some m ∷ goes.2) b.1 ∙ sym (append_assoc (somes b.0) (Some m ∷ []) goes.2)) v.lives.5;
+        begins = begins_of (somes b.0 ++ Some m ∷ []) goes.2 v.lives.0 v.lives.2
+            (text ∙ ap (λ u. u ++ Some m ∷ goes.2) b.1 ∙ sym (append_assoc (somes b.0) (Some m ∷ []) goes.2)) v.lives.5;
         shallow = shallow_of b.0 (subst (λ u. Shallow edison 64 start u) b.1 v.shallow);
         opens_level = opens_in m ∙ deep.4;
         deep = λ level l.
             let p = placed b.0 m level l in
             let all = p.first ++ item.mark (Some m) ∷ p.last in
-            let t = v.blocks (Some m) behind (plain p.last) p.n all refl (plain_front p.first p.last (Some m) ∙ ap (λ u. u ++ Some m ∷ plain p.last) (p.spelled ∙ sym b.1)) p.derived in
+            let t = v.blocks (Some m) behind (plain p.last) p.n all refl
+            (plain_front p.first p.last (Some m) ∙ ap (λ u. u ++ Some m ∷ plain p.last) (p.spelled ∙ sym b.1)) p.derived in
             let same : p.last ≡ t.1 = same_cut p.first t.0 (Some m) (Some m) p.last t.1 t.2 (p.spelled ∙ sym b.1 ∙ sym t.3) in
             subst (λ k. 64 < k) (sym (p.ends ∙ ap (ends_in edison) same)) t.5;
       },
@@ -162,18 +180,22 @@ less_small zero h = h
 less_small (suc k) h = omega (arith, h)
 
 -- where no symbol opens more than 64 levels, no more are open at once
-greatest_small : (es : List Element) (k : ℕ) → k ≤ 64 → ((before : List Element) (s : Spelled) (after : List Element) → es ≡ before ++ mark s ∷ after → opens s.symbol ≡ true → with_symbol (level_behind k before) s.symbol ≤ 64) → greatest_level k es ≤ 64
+greatest_small : (es : List Element) (k : ℕ) → k ≤ 64
+    → ((before : List Element) (s : Spelled) (after : List Element) → es ≡ before ++ mark s ∷ after → opens s.symbol ≡ true
+    → with_symbol (level_behind k before) s.symbol ≤ 64) → greatest_level k es ≤ 64
 greatest_small [] k small all = small
 greatest_small (mark s ∷ es) k small all =
     greatest_small es (with_symbol k s.symbol) (small_with k (opens s.symbol) small (λ o. subst (λ b. (if b then suc k else k) ≤ 64) o (all [] s es refl o)))
     (λ before c after e o. all (mark s ∷ before) c after (ap (λ l. mark s ∷ l) e) o)
 greatest_small (level_end ∷ es) k small all =
-    small_end k (greatest_level (one_less k) es) small (greatest_small es (one_less k) (less_small k small) (λ before c after e o. all (level_end ∷ before) c after (ap (λ l. level_end ∷ l) e) o))
+    small_end k (greatest_level (one_less k) es) small
+    (greatest_small es (one_less k) (less_small k small) (λ before c after e o. all (level_end ∷ before) c after (ap (λ l. level_end ∷ l) e) o))
 
 shallow_program : (tree : Program) (marks : List Mark) → Spells tree marks → AreShallow marks → depth tree ≤ 64
 shallow_program tree marks spells h = subst (λ k. k ≤ 64) (greatest_is_depth tree) (greatest_small (elements tree) 0 (omega arith) (λ before s after e o.
     let p = parted before s after marks (subst (λ es. StandAsMarks (marks_among es) marks) e (spelled_elements tree marks spells)) in
-    subst (λ k. k ≤ 64) (level_with before 0 s) (h p.front p.behind p.m (level_behind 0 (before ++ mark s ∷ [])) p.cut (ap opens p.stands.0 ∙ o) (tree, before, s, after, e, p.stand, p.stands, refl))))
+    subst (λ k. k ≤ 64) (level_with before 0 s)
+    (h p.front p.behind p.m (level_behind 0 (before ++ mark s ∷ [])) p.cut (ap opens p.stands.0 ∙ o) (tree, before, s, after, e, p.stand, p.stands, refl))))
 
 pub whole_tree : (marks : List Mark) (tree : Program) → Spells tree marks → Stops edison 64 start (to_end marks) complete [] → IsTheTree marks tree
 whole_tree marks tree spells stops =
@@ -183,7 +205,8 @@ whole_tree marks tree spells stops =
       shallow = shallow_program tree marks spells (shallow_all marks v.before (sym v.cut) v.shallow);
       one = λ other h. same_program other tree marks h spells;
     } where
-      split_somes : (marks front behind : List Mark) (m : Mark) → marks ≡ front ++ m ∷ behind → (rest : List (Option Mark)) × (to_end marks ≡ somes front ++ Some m ∷ rest)
+      split_somes : (marks front behind : List Mark) (m : Mark) → marks ≡ front ++ m ∷ behind → (rest : List (Option Mark))
+          × (to_end marks ≡ somes front ++ Some m ∷ rest)
       split_somes marks [] behind m e = (to_end behind, ap to_end e)
       split_somes [] (a ∷ front) behind m e = cc
       split_somes (c ∷ marks) (a ∷ front) behind m e =

@@ -1,5 +1,6 @@
 -- Programs and the texts of the grammar.
-use Rattle.std.proofs.Common.{◌≡◌, ℕ, zero, suc, ◌+◌, ◌-◌, List, [], ◌∷◌, ◌++◌, Option, Some, None, Bool, true, false, refl, sym, ap, ◌∙◌, subst, arith, if◌then◌else◌}
+use Rattle.std.proofs.Common.{◌≡◌, ℕ, zero, suc, ◌+◌, ◌-◌, List, [], ◌∷◌, ◌++◌, Option, Some, None, Bool, true, false, refl, sym, ap, ◌∙◌, subst, arith}
+use Rattle.std.proofs.Common.{if◌then◌else◌}
 use Rattle.edi_lex.specs.declared.symbol.Symbol.{Symbol}
 use Rattle.edi_lex.specs.declared.symbol.Symbol.TheVariants as is
 use Rattle.edi_lex.specs.declared.symbol.Mark.{Mark}
@@ -33,7 +34,8 @@ pub items_for : (es : List Element) (marks : List Mark) → StandAsMarks (marks_
 items_for [] [] h = (item.mark None ∷ [], refl, refl)
 items_for [] (m ∷ marks) h = absurd h
 items_for (mark s ∷ es) [] h = absurd h
-items_for (mark s ∷ es) (m ∷ marks) h = let more = items_for es marks h.1 in (item.mark (Some m) ∷ more.0, (m, more.0, refl, h.0, more.1), ap (λ l. Some m ∷ l) more.2)
+items_for (mark s ∷ es) (m ∷ marks) h = let more = items_for es marks h.1 in
+    (item.mark (Some m) ∷ more.0, (m, more.0, refl, h.0, more.1), ap (λ l. Some m ∷ l) more.2)
 items_for (level_end ∷ es) marks h = let more = items_for es marks h in (closing ∷ more.0, (more.0, refl, more.1), more.2)
 
 pub marks_of : (es : List Element) (items : Items) → Fit es items → (marks : List Mark) × StandAsMarks (marks_among es) marks × (plain items ≡ to_end marks)
@@ -179,7 +181,8 @@ marks_for [] = ([], tt)
 marks_for (mark s ∷ es) = let more = marks_for es in (mark_for s ∷ more.0, (mark_stands s, more.1))
 marks_for (level_end ∷ es) = marks_for es
 
-pub cut_at : (before : List Element) (s : Spelled) (after : List Element) (front : List Mark) (m : Mark) → StandAsMarks (marks_among before) front → StandsAsMark s m → Cut before s after front m
+pub cut_at : (before : List Element) (s : Spelled) (after : List Element) (front : List Mark) (m : Mark) → StandAsMarks (marks_among before) front
+    → StandsAsMark s m → Cut before s after front m
 cut_at [] s after [] m h st =
     let marks = marks_for after in
     let rest = items_for after marks.0 marks.1 in
@@ -210,19 +213,23 @@ pub record Parted (before : List Element) (s : Spelled) (marks : List Mark) : Ty
   pub stand : StandAsMarks (marks_among before) front
   pub stands : StandsAsMark s m
 
-pub parted : (before : List Element) (s : Spelled) (after : List Element) (marks : List Mark) → StandAsMarks (marks_among (before ++ mark s ∷ after)) marks → Parted before s marks
+pub parted : (before : List Element) (s : Spelled) (after : List Element) (marks : List Mark) → StandAsMarks (marks_among (before ++ mark s ∷ after)) marks
+    → Parted before s marks
 parted [] s after [] h = absurd h
 parted [] s after (m ∷ marks) h = record { front = []; m = m; behind = marks; cut = refl; stand = tt; stands = h.0 }
 parted (mark c ∷ before) s after [] h = absurd h
-parted (mark c ∷ before) s after (b ∷ marks) h = let more = parted before s after marks h.1 in record { front = b ∷ more.front; m = more.m; behind = more.behind; cut = ap (λ l. b ∷ l) more.cut; stand = (h.0, more.stand); stands = more.stands }
-parted (level_end ∷ before) s after marks h = let more = parted before s after marks h in record { front = more.front; m = more.m; behind = more.behind; cut = more.cut; stand = more.stand; stands = more.stands }
+parted (mark c ∷ before) s after (b ∷ marks) h = let more = parted before s after marks h.1 in
+    record { front = b ∷ more.front; m = more.m; behind = more.behind; cut = ap (λ l. b ∷ l) more.cut; stand = (h.0, more.stand); stands = more.stands }
+parted (level_end ∷ before) s after marks h = let more = parted before s after marks h in
+    record { front = more.front; m = more.m; behind = more.behind; cut = more.cut; stand = more.stand; stands = more.stands }
 
 pub level_with : (before : List Element) (k : ℕ) (s : Spelled) → level_behind k (before ++ mark s ∷ []) ≡ with_symbol (level_behind k before) s.symbol
 level_with [] k s = refl
 level_with (mark c ∷ before) k s = level_with before (with_symbol k c.symbol) s
 level_with (level_end ∷ before) k s = level_with before (one_less k) s
 
-pub open_with : (first : Items) (k : ℕ) (m : Mark) → open_behind edison k (first ++ item.mark (Some m) ∷ []) ≡ open_behind edison k first + opened edison (kind_at (Some m))
+pub open_with : (first : Items) (k : ℕ) (m : Mark) → open_behind edison k (first ++ item.mark (Some m) ∷ []) ≡ open_behind edison k first + opened edison
+    (kind_at (Some m))
 open_with [] k m = refl
 open_with (item.mark o ∷ first) k m = open_with first (k + opened edison (kind_at o)) m
 open_with (closing ∷ first) k m = open_with first (k - 1) m

@@ -5,8 +5,12 @@ use Rattle.edi_tree.specs.declared.names.Name.{Name}
 use Rattle.edi_tree.specs.declared.constants.Constant.{Constant}
 use Rattle.edi_tree.specs.declared.constants.Constant.TheVariants as constant
 use Rattle.edi_tree.specs.declared.constants.ConstDecl.{ConstDecl}
-use Rattle.edi_tree.specs.Tree.{Names, no_name, next_name, ConstDecls, no_const_decl, next_const_decl, ConstList, const_list, Group, group, Groups, no_group, next_group, TypeDecl, enum_decl, record_decl, array_decl, set_decl, VarList, var_list, Heading, heading, Params, no_params, params, MoreParams, no_param, next_param, Param, value_param, var_param, procedure_param}
-use Rattle.edi_tree.specs.Levels.{Element, level_end, word, named, const_decl_elements, const_decls_elements, const_list_elements, constant_elements, group_elements, groups_elements, more_params_elements, names_elements, param_elements, params_elements, result_elements, type_decl_elements, var_list_elements}
+use Rattle.edi_tree.specs.Tree.{Names, no_name, next_name, ConstDecls, no_const_decl, next_const_decl, ConstList, const_list, Group, group, Groups, no_group}
+use Rattle.edi_tree.specs.Tree.{next_group, TypeDecl, enum_decl, record_decl, array_decl, set_decl, VarList, var_list, Heading, heading, Params, no_params}
+use Rattle.edi_tree.specs.Tree.{params, MoreParams, no_param, next_param, Param, value_param, var_param, procedure_param}
+use Rattle.edi_tree.specs.Levels.{Element, level_end, word, named, const_decl_elements, const_decls_elements, const_list_elements, constant_elements}
+use Rattle.edi_tree.specs.Levels.{group_elements, groups_elements, more_params_elements, names_elements, param_elements, params_elements, result_elements}
+use Rattle.edi_tree.specs.Levels.{type_decl_elements, var_list_elements}
 use Rattle.edi_grammar.specs.Grammar as item
 use Rattle.edi_grammar.specs.Grammar.{Part, token, part, closing, plain, rule_no}
 use Rattle.edi_grammar.specs.Kinds as kind

@@ -86,13 +86,31 @@ none_is_end a s e = absurd (by a e) where
   by a e = cc
 
 -- a symbol that is the only one of its kind
-pub word_at : (w : Symbol) (a : ℕ) → ((text : List ℕ) (c : ℕ) (v : ℤ) → symbol_no (symbols_with text c v) (suc a) ≡ Some w) → (o : Option Mark) → kind_at o ≡ suc a → StandsAt (just w) o
+pub word_at : (w : Symbol) (a : ℕ) → ((text : List ℕ) (c : ℕ) (v : ℤ) → symbol_no (symbols_with text c v) (suc a) ≡ Some w) → (o : Option Mark)
+    → kind_at o ≡ suc a → StandsAt (just w) o
 word_at w a only None e = none_is_end a (just w) e
-word_at w a only (Some m) e = (m, refl, (some_same m.symbol w (of_kind m.symbol (suc a) e ∙ only (text_of m.symbol) (first_of (text_of m.symbol)) (value_of m.symbol)), tt))
+word_at w a only (Some m) e = (
+  m,
+  refl,
+  (
+    some_same m.symbol w
+        (of_kind m.symbol (suc a) e ∙ only (text_of m.symbol) (first_of (text_of m.symbol)) (value_of m.symbol)),
+    tt,
+  ),
+)
 
-pub kept_at : (w : Symbol) (a : ℕ) → ((text : List ℕ) (c : ℕ) (v : ℤ) → symbol_no (symbols_with text c v) (suc a) ≡ Some w) → (o : Option Mark) → kind_at o ≡ suc a → StandsAt (on w (line_in o)) o
+pub kept_at : (w : Symbol) (a : ℕ) → ((text : List ℕ) (c : ℕ) (v : ℤ) → symbol_no (symbols_with text c v) (suc a) ≡ Some w) → (o : Option Mark)
+    → kind_at o ≡ suc a → StandsAt (on w (line_in o)) o
 kept_at w a only None e = none_is_end a (on w 0) e
-kept_at w a only (Some m) e = (m, refl, (some_same m.symbol w (of_kind m.symbol (suc a) e ∙ only (text_of m.symbol) (first_of (text_of m.symbol)) (value_of m.symbol)), refl))
+kept_at w a only (Some m) e = (
+  m,
+  refl,
+  (
+    some_same m.symbol w
+        (of_kind m.symbol (suc a) e ∙ only (text_of m.symbol) (first_of (text_of m.symbol)) (value_of m.symbol)),
+    refl,
+  ),
+)
 
 pub name_at : (o : Option Mark) → kind_at o ≡ kind.Name → StandsAt (name_mark (name_in o)) o
 name_at None e = none_is_end 0 (name_mark (name_in None)) e
@@ -138,5 +156,6 @@ chars_is c m s = sym (ap (λ text. chars_on text m.line) (ap text_of s.0) ∙ ap
 pub char_is : (c : Char) (m : Mark) → StandsAsMark (char_mark c) m → c ≡ char_in (Some m)
 char_is c m s = sym (ap (λ text. char_on text m.line) (ap (λ s. first_of (text_of s)) s.0) ∙ ap (λ line. char_on c.character line) s.1)
 
-pub put : (s : Spelled) (es : List Element) {o : Option Mark} {items mid : Items} → items ≡ item.mark o ∷ mid → StandsAt s o → Fit es mid → Fit (mark s ∷ es) items
+pub put : (s : Spelled) (es : List Element) {o : Option Mark} {items mid : Items} → items ≡ item.mark o ∷ mid → StandsAt s o → Fit es mid
+    → Fit (mark s ∷ es) items
 put s es {mid = mid} e st fit = (st.0, mid, e ∙ ap (λ o. item.mark o ∷ mid) st.1, st.2, fit)

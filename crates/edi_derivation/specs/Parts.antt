@@ -9,9 +9,19 @@ use Rattle.edi_tree.specs.declared.expressions.Relation.{Relation}
 use Rattle.edi_tree.specs.declared.expressions.Sign.{Sign}
 use Rattle.edi_tree.specs.declared.expressions.Addition.{Addition}
 use Rattle.edi_tree.specs.declared.expressions.Multiplication.{Multiplication}
-use Rattle.edi_tree.specs.Tree.{Names, ConstDecls, ConstList, Group, Groups, TypeDecl, VarList, Heading, heading, Params, MoreParams, Param, Expr, Comparison, Exprs, Simple, Addend, Addends, Term, Multiplier, Multipliers, Factor, Args, Selector, Selectors, StatementList, Statements, Statement, Conditions, Condition, Else, Branch, Branches, no_branch, next_branch, Procedure, Item, Module, Member, Members, Declaration, Declarations, Global, Globals, Program}
+use Rattle.edi_tree.specs.Tree.{Names, ConstDecls, ConstList, Group, Groups, TypeDecl, VarList, Heading, heading, Params, MoreParams, Param, Expr}
+use Rattle.edi_tree.specs.Tree.{Comparison, Exprs, Simple, Addend, Addends, Term, Multiplier, Multipliers, Factor, Args, Selector, Selectors, StatementList}
+use Rattle.edi_tree.specs.Tree.{Statements, Statement, Conditions, Condition, Else, Branch, Branches, no_branch, next_branch, Procedure, Item, Module}
+use Rattle.edi_tree.specs.Tree.{Member, Members, Declaration, Declarations, Global, Globals, Program}
 use Rattle.edi_tree.specs.Spelled.{relation_symbol, addition_symbol, multiplication_symbol}
-use Rattle.edi_tree.specs.Levels.{Element, level_end, word, kept, named, addend_elements, addends_elements, args_elements, branch_elements, comparison_elements, condition_elements, conditions_elements, const_decl_elements, const_decls_elements, const_list_elements, constant_elements, declaration_elements, declarations_elements, else_elements, expr_elements, exprs_elements, factor_elements, global_elements, globals_elements, group_elements, groups_elements, item_elements, list_elements, member_elements, members_elements, module_elements, more_params_elements, multiplier_elements, multipliers_elements, names_elements, param_elements, params_elements, procedure_elements, program_elements, result_elements, selector_elements, selectors_elements, sign_elements, simple_elements, statement_elements, statements_elements, term_elements, type_decl_elements, var_list_elements}
+use Rattle.edi_tree.specs.Levels.{Element, level_end, word, kept, named, addend_elements, addends_elements, args_elements, branch_elements}
+use Rattle.edi_tree.specs.Levels.{comparison_elements, condition_elements, conditions_elements, const_decl_elements, const_decls_elements}
+use Rattle.edi_tree.specs.Levels.{const_list_elements, constant_elements, declaration_elements, declarations_elements, else_elements, expr_elements}
+use Rattle.edi_tree.specs.Levels.{exprs_elements, factor_elements, global_elements, globals_elements, group_elements, groups_elements, item_elements}
+use Rattle.edi_tree.specs.Levels.{list_elements, member_elements, members_elements, module_elements, more_params_elements, multiplier_elements}
+use Rattle.edi_tree.specs.Levels.{multipliers_elements, names_elements, param_elements, params_elements, procedure_elements, program_elements}
+use Rattle.edi_tree.specs.Levels.{result_elements, selector_elements, selectors_elements, sign_elements, simple_elements, statement_elements}
+use Rattle.edi_tree.specs.Levels.{statements_elements, term_elements, type_decl_elements, var_list_elements}
 use Rattle.edi_grammar.specs.Rules as g
 use Rattle.edi_grammar.specs.Rules.{Sort}
 

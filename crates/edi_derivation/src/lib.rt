@@ -18,7 +18,8 @@ pub fn programs_are_spelled_once()
 
 /// Where the predictive parser stops that waits for a program and then the end of the text, with 64 levels as its limit, is
 /// the first fault: the marks before begin a program and with the one in hand they begin none, or it is the first that opens
-/// a level too many. The marks before, and what the parser has left, are all of the marks. Where it reads all of the marks, a tree that spells them is the only one, and not too deep.
+/// a level too many. The marks before, and what the parser has left, are all of the marks. Where it reads all of the marks, a tree that spells them
+/// is the only one, and not too deep.
 pub fn the_stop_is_the_first_fault()
     ensures misplaced { (marks : List Mark) (here : Option Mark) (behind : List (Option Mark)) →
         Stops edison 64 start (to_end marks) wrong (here ∷ behind) →

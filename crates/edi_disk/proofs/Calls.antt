@@ -1,5 +1,6 @@
 -- What a page, a put and a flush leave.
-use Rattle.std.proofs.Common.{◌≡◌, ℕ, ◌<◌, ◌≤◌, inl, inr, Bool, true, false, List, [], ◌∷◌, ◌++◌, length, map, take, refl, sym, ◌∙◌, ap, subst, arith, set, eq-eqb}
+use Rattle.std.proofs.Common.{◌≡◌, ℕ, ◌<◌, ◌≤◌, inl, inr, Bool, true, false, List, [], ◌∷◌, ◌++◌, length, map, take, refl, sym, ◌∙◌, ap, subst, arith, set}
+use Rattle.std.proofs.Common.{eq-eqb}
 use Rattle.std.specs.Prelude.{Option, Some, None, IfSome, slice_get, drop}
 use Rattle.std.specs.Option.{option_map}
 use Rattle.std.proofs.lemmas.Bool.{cases_eq, cases_lt, ne_eqb, lt-ltb, le-ltb}
@@ -15,7 +16,8 @@ use Rattle.edi_disk.specs.Since.{KeptBy, PageGives, PutLeaves, ChangesOnly, AllO
 use Rattle.edi_disk.proofs.Gets.{set_again}
 use Rattle.edi_disk.proofs.Lookup.{slot_of_number, slot_of_after, slot_of_rest, absent_rest, without_absent, absent_listed, slot_of_settled, numbers_settled}
 use Rattle.edi_disk.proofs.Numbers.{numbers_after, numbers_room, order_cached, order_absent, different_after, different_rest}
-use Rattle.edi_disk.proofs.Over.{AreBelow, length-over, get-over_cached, get-over_absent, below_after, below_room, over_after, over_room, over_all, over_settled}
+use Rattle.edi_disk.proofs.Over.{AreBelow, length-over, get-over_cached, get-over_absent, below_after, below_room, over_after, over_room, over_all}
+use Rattle.edi_disk.proofs.Over.{over_settled}
 use Rattle.edi_disk.proofs.Since.{between_set, kept_by_settled}
 use Rattle.edi_disk.proofs.Writing.{told, where_told, shown_some, shown_from, many, below_told}
 
@@ -56,13 +58,15 @@ first_only (p ∷ ps) q e =
     let same : p ≡ q = cc in
     rw (eq-eqb q.number p.number (ap (λ (x : Slot). x.number) (sym same))) h
 
-module _ {D : Type 0} (contents : D → Option (List (List ℕ))) (count faults : D → ℕ) (counted : (drive : D) → IfSome (contents drive) (λ blocks. length blocks ≡ count drive)) where
+module _ {D : Type 0} (contents : D → Option (List (List ℕ))) (count faults : D → ℕ)
+    (counted : (drive : D) → IfSome (contents drive) (λ blocks. length blocks ≡ count drive)) where
   below : (a : D) (ps : List Slot) (b : List (List ℕ)) → IsBacked contents count a ps → contents a ≡ Some b → AreBelow (length b) ps
   below a ps b h e = below_told contents count faults counted a ps b h e
 
   -- block n stands last, with these bytes
   used_backed : (a : D) (ps : List Slot) (n : ℕ) (q : Slot) → IsBacked contents count a ps → q.number ≡ n → n < count a
-      → ((b : List (List ℕ)) → contents a ≡ Some b → q.unwritten ≡ false → slice_get b n ≡ Some q.bytes) → IsBacked contents count a (without_block n ps ++ q ∷ [])
+      → ((b : List (List ℕ)) → contents a ≡ Some b → q.unwritten ≡ false → slice_get b n ≡ Some q.bytes)
+      → IsBacked contents count a (without_block n ps ++ q ∷ [])
   used_backed a ps n q h number lt clean = record {
     different = rw (numbers_after n ps q number) (different_after n (numbers_of ps) h.different);
     in_range = below_after (count a) n ps q number lt h.in_range;
@@ -84,7 +88,8 @@ module _ {D : Type 0} (contents : D → Option (List (List ℕ))) (count faults 
   }
 
   -- what is shown when it is the same in each told state
-  shows_same : (a : D) (ps new : List Slot) → ((b : List (List ℕ)) → contents a ≡ Some b → over b new ≡ over b ps) → (base : List (List ℕ)) (was_put : ℕ → List ℕ → Bool)
+  shows_same : (a : D) (ps new : List Slot) → ((b : List (List ℕ)) → contents a ≡ Some b → over b new ≡ over b ps)
+      → (base : List (List ℕ)) (was_put : ℕ → List ℕ → Bool)
       → KeptBy contents base was_put a ps → KeptBy contents base was_put a new
   shows_same a ps new same base was_put k = record {
     on_drive = k.on_drive;
@@ -95,7 +100,8 @@ module _ {D : Type 0} (contents : D → Option (List (List ℕ))) (count faults 
   }
 
   -- and when a block is put
-  shows_put : (a : D) (ps new : List Slot) (n : ℕ) (bytes : List ℕ) → n < count a → ((b : List (List ℕ)) → contents a ≡ Some b → over b new ≡ set (over b ps) n bytes)
+  shows_put : (a : D) (ps new : List Slot) (n : ℕ) (bytes : List ℕ) → n < count a
+      → ((b : List (List ℕ)) → contents a ≡ Some b → over b new ≡ set (over b ps) n bytes)
       → (base : List (List ℕ)) (was_put : ℕ → List ℕ → Bool) → was_put n bytes ≡ true → KeptBy contents base was_put a ps → KeptBy contents base was_put a new
   shows_put a ps new n bytes lt put base was_put is_put k = record {
     on_drive = k.on_drive;
@@ -123,12 +129,17 @@ module _ {D : Type 0} (contents : D → Option (List (List ℕ))) (count faults 
     pub page_hit_works : new ≡ without_block n ps ++ p ∷ [] → IsBacked contents count a new
     page_hit_works is = rw is (used_backed a ps n p backed (slot_of_number n ps p there) is_below (λ b e clean. backed.written b e n p there clean))
 
-    pub page_hit_gives : (into : List ℕ) → into ≡ p.bytes → new ≡ without_block n ps ++ p ∷ [] → WhereTold (shown_by contents a ps) (shown_by contents a new) (PageGives disk.Ok n into)
+    pub page_hit_gives : (into : List ℕ) → into ≡ p.bytes → new ≡ without_block n ps ++ p ∷ [] → WhereTold (shown_by contents a ps) (shown_by contents a new)
+        (PageGives disk.Ok n into)
     page_hit_gives into is_into is = where_told (PageGives disk.Ok n into) (shown_by contents a ps) (shown_by contents a new) (λ s e.
-        let t = shown_from contents a new s e in
-        (over t.0 ps, shown_some contents a ps t.0 t.1, (sym t.2 ∙ page_hit_over is t.0 t.1, rw is_into (get-over_cached t.0 ps n p (below a ps t.0 backed t.1) there))))
+        let t = shown_from contents a new s e in (
+          over t.0 ps,
+          shown_some contents a ps t.0 t.1,
+          (sym t.2 ∙ page_hit_over is t.0 t.1, rw is_into (get-over_cached t.0 ps n p (below a ps t.0 backed t.1) there)),
+        ))
 
-    pub page_hit_since : new ≡ without_block n ps ++ p ∷ [] → (base : List (List ℕ)) (was_put : ℕ → List ℕ → Bool) → KeptBy contents base was_put a ps → KeptBy contents base was_put a new
+    pub page_hit_since : new ≡ without_block n ps ++ p ∷ [] → (base : List (List ℕ)) (was_put : ℕ → List ℕ → Bool) → KeptBy contents base was_put a ps
+        → KeptBy contents base was_put a new
     page_hit_since is = shows_same a ps new (page_hit_over is)
 
     pub page_hit_order : new ≡ without_block n ps ++ p ∷ [] → numbers_of new ≡ after_use n (numbers_of ps)
@@ -148,7 +159,8 @@ module _ {D : Type 0} (contents : D → Option (List (List ℕ))) (count faults 
       put_hit_shows = where_told (PutLeaves disk.Ok n from) (shown_by contents a ps) (shown_by contents a new) (λ s e.
           let t = shown_from contents a new s e in (over t.0 ps, shown_some contents a ps t.0 t.1, sym t.2 ∙ put_hit_over t.0 t.1))
 
-      pub put_hit_since : (base : List (List ℕ)) (was_put : ℕ → List ℕ → Bool) → was_put n from ≡ true → KeptBy contents base was_put a ps → KeptBy contents base was_put a new
+      pub put_hit_since : (base : List (List ℕ)) (was_put : ℕ → List ℕ → Bool) → was_put n from ≡ true → KeptBy contents base was_put a ps
+          → KeptBy contents base was_put a new
       put_hit_since = shows_put a ps new n from is_below put_hit_over
 
       pub put_hit_order : numbers_of new ≡ after_use n (numbers_of ps)
@@ -164,14 +176,17 @@ module _ {D : Type 0} (contents : D → Option (List (List ℕ))) (count faults 
   still_kept a b ps mid same written base was_put k = written.since base was_put (subst (λ (v : List Slot). KeptBy contents base was_put a v) (sym same) k)
 
   -- no block changes on the drive but the one that is driven out
-  pub taken_only : (a b c : D) (ps mid : List Slot) (n : ℕ) → mid ≡ ps → slot_of n ps ≡ None → WhereTold (contents a) (contents b) (ChangesOnly (first_of_full (numbers_of mid)))
-      → ((blocks : List (List ℕ)) → contents c ≡ Some blocks → contents b ≡ Some blocks) → WhereTold (contents a) (contents c) (ChangesOnly (driven_out n (numbers_of ps)))
+  pub taken_only : (a b c : D) (ps mid : List Slot) (n : ℕ) → mid ≡ ps → slot_of n ps ≡ None → WhereTold (contents a) (contents b)
+      (ChangesOnly (first_of_full (numbers_of mid)))
+      → ((blocks : List (List ℕ)) → contents c ≡ Some blocks → contents b ≡ Some blocks) → WhereTold (contents a) (contents c)
+      (ChangesOnly (driven_out n (numbers_of ps)))
   taken_only a b c ps mid n same none only was = where_told (ChangesOnly (driven_out n (numbers_of ps))) (contents a) (contents c) (λ new e.
       let t = told (ChangesOnly (first_of_full (numbers_of mid))) (contents a) (contents b) new only (was new e) in
       (t.0, t.1, λ m other. t.2 m (λ h. other (rw (absent_listed n ps none) (subst (λ (v : List Slot). first_of_full (numbers_of v) ≡ Some m) same h)))))
 
   -- block n is taken in
-  module _ (a b : D) (ps mid new : List Slot) (n : ℕ) (q : Slot) (same : mid ≡ ps) (lt : n < count a) (none : slot_of n ps ≡ None) (written : Writes contents count faults mid a b)
+  module _ (a b : D) (ps mid new : List Slot) (n : ℕ) (q : Slot) (same : mid ≡ ps) (lt : n < count a) (none : slot_of n ps ≡ None)
+      (written : Writes contents count faults mid a b)
       (first : 16 ≤ length mid → AllOn contents b (take 1 mid)) (number : q.number ≡ n) (is : new ≡ with_room mid ++ q ∷ []) where
     wrote : Writes contents count faults ps a b
     wrote = subst (λ (v : List Slot). Writes contents count faults v a b) same written
@@ -185,7 +200,8 @@ module _ {D : Type 0} (contents : D → Option (List (List ℕ))) (count faults 
     lt_now : n < count b
     lt_now = let stays = wrote.count_stays in omega arith
 
-    first_on : (blocks : List (List ℕ)) → contents b ≡ Some blocks → 16 ≤ length ps → (p : Slot) → slice_get ps 0 ≡ Some p → slice_get blocks p.number ≡ Some p.bytes
+    first_on : (blocks : List (List ℕ)) → contents b ≡ Some blocks → 16 ≤ length ps → (p : Slot) → slice_get ps 0 ≡ Some p → slice_get blocks p.number ≡ Some
+        p.bytes
     first_on blocks e full p at =
         subst (λ (v : List Slot). 16 ≤ length v → AllOn contents b (take 1 v)) same first full blocks e p.number p (first_only ps p at)
 
@@ -197,7 +213,8 @@ module _ {D : Type 0} (contents : D → Option (List (List ℕ))) (count faults 
         rw united (over_after blocks n (with_room ps) q number (omega arith) (below_room (length blocks) ps wrote.backed.different low)
         ∙ ap (λ (v : List (List ℕ)). set v n q.bytes) (over_room blocks ps wrote.backed.different low (first_on blocks e)))
 
-    taken_backed : ((blocks : List (List ℕ)) → contents b ≡ Some blocks → q.unwritten ≡ false → slice_get blocks n ≡ Some q.bytes) → IsBacked contents count b new
+    taken_backed : ((blocks : List (List ℕ)) → contents b ≡ Some blocks → q.unwritten ≡ false → slice_get blocks n ≡ Some q.bytes)
+        → IsBacked contents count b new
     taken_backed clean = rw united (used_backed b (with_room ps) n q (room_backed b ps wrote.backed) number lt_now clean)
 
     pub taken_order : numbers_of new ≡ after_use n (numbers_of ps)
@@ -239,11 +256,13 @@ module _ {D : Type 0} (contents : D → Option (List (List ℕ))) (count faults 
           let f = before t.0 t.1 in
           (over f.0 ps, shown_some contents a ps f.0 f.1, sym t.2 ∙ put_over t.0 t.1 ∙ ap (λ (v : List (List ℕ)). set v n from) f.2))
 
-      pub put_since : (base : List (List ℕ)) (was_put : ℕ → List ℕ → Bool) → was_put n from ≡ true → KeptBy contents base was_put a ps → KeptBy contents base was_put b new
+      pub put_since : (base : List (List ℕ)) (was_put : ℕ → List ℕ → Bool) → was_put n from ≡ true → KeptBy contents base was_put a ps
+          → KeptBy contents base was_put b new
       put_since base was_put is_put k = shows_put b ps new n from lt_now put_over base was_put is_put (wrote.since base was_put k)
 
   -- a read, whatever it answers
-  module _ (b c : D) (ps : List Slot) (n : ℕ) (into : List ℕ) (end : DriveEnd) (leaves : WhereTold (contents b) (contents c) (ReadLeaves end n into)) (stays : count c ≡ count b) (later : faults b ≤ faults c) where
+  module _ (b c : D) (ps : List Slot) (n : ℕ) (into : List ℕ) (end : DriveEnd) (leaves : WhereTold (contents b) (contents c) (ReadLeaves end n into))
+      (stays : count c ≡ count b) (later : faults b ≤ faults c) where
     unchanged : (end : DriveEnd) (old new : List (List ℕ)) → ReadLeaves end n into old new → new ≡ old
     unchanged drive.Ok old new h = h.0
     unchanged drive.Failed old new h = h
@@ -263,7 +282,8 @@ module _ {D : Type 0} (contents : D → Option (List (List ℕ))) (count faults 
       shows = where_told (λ old new. over new ps ≡ over old ps) (contents b) (contents c) (λ blocks e. (blocks, old_is blocks e, refl));
       since = λ base was_put k. record {
         on_drive = λ blocks e. k.on_drive blocks (old_is blocks e);
-        on_disk = λ s e. let t = shown_from contents c ps s e in k.on_disk s (shown_some contents b ps t.0 (old_is t.0 t.1) ∙ ap (λ (v : List (List ℕ)). Some v) t.2);
+        on_disk = λ s e. let t = shown_from contents c ps s e in
+            k.on_disk s (shown_some contents b ps t.0 (old_is t.0 t.1) ∙ ap (λ (v : List (List ℕ)). Some v) t.2);
       };
       count_stays = stays;
       later = later;
@@ -322,12 +342,15 @@ module _ {D : Type 0} (contents : D → Option (List (List ℕ))) (count faults 
     flush_order = rw is (numbers_settled ps)
 
   -- no block is cached
-  pub attach_begins : (a : D) (ps : List Slot) → ps ≡ [] → (was_put : ℕ → List ℕ → Bool) (base : List (List ℕ)) → contents a ≡ Some base → KeptBy contents base was_put a ps
-  attach_begins a ps none was_put base e = kept_by_settled contents base was_put a ps e (shown_some contents a ps base e ∙ ap (λ (v : List Slot). Some (over base v)) none)
+  pub attach_begins : (a : D) (ps : List Slot) → ps ≡ [] → (was_put : ℕ → List ℕ → Bool) (base : List (List ℕ)) → contents a ≡ Some base
+      → KeptBy contents base was_put a ps
+  attach_begins a ps none was_put base e = kept_by_settled contents base was_put a ps e
+      (shown_some contents a ps base e ∙ ap (λ (v : List Slot). Some (over base v)) none)
 
   pub shown_counted : (a : D) (ps : List Slot) → IfSome (shown_by contents a ps) (λ blocks. length blocks ≡ count a)
   shown_counted a ps = at (contents a) (counted a)
     where
-      at : (o : Option (List (List ℕ))) → IfSome o (λ blocks. length blocks ≡ count a) → IfSome (option_map (λ blocks. over blocks ps) o) (λ blocks. length blocks ≡ count a)
+      at : (o : Option (List (List ℕ))) → IfSome o (λ blocks. length blocks ≡ count a) → IfSome (option_map (λ blocks. over blocks ps) o)
+          (λ blocks. length blocks ≡ count a)
       at None h = tt
       at (Some b) h = length-over b ps ∙ h

@@ -70,7 +70,8 @@ absent_listed n (q ∷ ps) e =
 -- the block at a slot stands under its number, where no number stands twice
 pub slot_of_at : (ps : List Slot) (i : ℕ) (p : Slot) → AreDifferent (numbers_of ps) → slice_get ps i ≡ Some p → slot_of p.number ps ≡ Some p
 slot_of_at [] i p d e = let h : None ≡ Some p = e in absurd (cc)
-slot_of_at (q ∷ ps) zero p d e = let h : Some q ≡ Some p = e in let same : q ≡ p = cc in rw (eq-eqb p.number q.number (ap (λ (x : Slot). x.number) (sym same))) h
+slot_of_at (q ∷ ps) zero p d e = let h : Some q ≡ Some p = e in let same : q ≡ p = cc in
+    rw (eq-eqb p.number q.number (ap (λ (x : Slot). x.number) (sym same))) h
 slot_of_at (q ∷ ps) (suc i) p d e =
     let rest = slot_of_at ps i p d.1 e in
     elim (cases_eq p.number q.number) [
@@ -92,7 +93,8 @@ slot_of_take n (suc i) (q ∷ ps) p e =
     ]
 
 -- without the first
-pub slot_of_rest : (n : ℕ) (q : Slot) (ps : List Slot) (p : Slot) → is_listed q.number (numbers_of ps) ≡ false → slot_of n ps ≡ Some p → slot_of n (q ∷ ps) ≡ Some p
+pub slot_of_rest : (n : ℕ) (q : Slot) (ps : List Slot) (p : Slot) → is_listed q.number (numbers_of ps) ≡ false → slot_of n ps ≡ Some p
+    → slot_of n (q ∷ ps) ≡ Some p
 slot_of_rest n q ps p d e =
     elim (cases_eq n q.number) [
       | inl same ↦

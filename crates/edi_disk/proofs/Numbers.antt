@@ -55,7 +55,8 @@ numbers_room ps =
     rest (q ∷ ps) = refl
 
 -- a use of a block that is cached
-pub order_cached : (n : ℕ) (ps : List Slot) (p q : Slot) → length ps ≤ 16 → slot_of n ps ≡ Some p → q.number ≡ n → numbers_of (without_block n ps ++ q ∷ []) ≡ after_use n (numbers_of ps)
+pub order_cached : (n : ℕ) (ps : List Slot) (p q : Slot) → length ps ≤ 16 → slot_of n ps ≡ Some p → q.number ≡ n → numbers_of (without_block n ps ++ q ∷ [])
+    ≡ after_use n (numbers_of ps)
 order_cached n ps p q few e is =
     let fewer = others_cached n ps p e in
     numbers_after n ps q is ∙ rw (lt-ltb (length (others n (numbers_of ps))) 16 (omega arith)) refl

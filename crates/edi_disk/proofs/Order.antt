@@ -142,7 +142,8 @@ minus_first (x ∷ xs) first d e =
     let same : first ≡ x = cc in
     rw (eq-eqb first x same) (minus_absent first xs (rw same (head_apart x xs d)))
 
-pub vacates_first : (order new : List (List ℕ)) (first : ℕ) → IsPacked order → IsSound 16 1 new → 16 ≤ length (list_at order 0) → slice_get (list_at order 0) 0 ≡ Some first
+pub vacates_first : (order new : List (List ℕ)) (first : ℕ) → IsPacked order → IsSound 16 1 new → 16 ≤ length (list_at order 0)
+    → slice_get (list_at order 0) 0 ≡ Some first
     → IfSome (home_of order first) (λ list. new ≡ appended (without order first) list first) → Vacates order new first
 vacates_first order new first packed sound full e exact =
     let in_use = first_in (list_at order 0) first e in

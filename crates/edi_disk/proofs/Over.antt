@@ -42,7 +42,8 @@ get-over b (p ∷ ps) k h =
           rw (ne_eqb k p.number ne) (get-set_other (over b ps) p.number k p.bytes (λ e. ne (sym e)) ∙ get-over b ps k (below_tail (length b) p ps h))
     ]
 
-pub get-over_cached : (b : List (List ℕ)) (ps : List Slot) (k : ℕ) (p : Slot) → AreBelow (length b) ps → slot_of k ps ≡ Some p → slice_get (over b ps) k ≡ Some p.bytes
+pub get-over_cached : (b : List (List ℕ)) (ps : List Slot) (k : ℕ) (p : Slot) → AreBelow (length b) ps → slot_of k ps ≡ Some p
+    → slice_get (over b ps) k ≡ Some p.bytes
 get-over_cached b ps k p h e = get-over b ps k h ∙ ap (λ (o : Option Slot). hiding o (slice_get b k)) e
 
 pub get-over_absent : (b : List (List ℕ)) (ps : List Slot) (k : ℕ) → AreBelow (length b) ps → slot_of k ps ≡ None → slice_get (over b ps) k ≡ slice_get b k
@@ -63,7 +64,8 @@ over_after b n ps p is lt h = same_gets _ _ (λ k.
     elim (cases_eq k n) [
       | inl same ↦
           let lt : n < length (over b ps) = rw (length-over b ps) lt in
-          here ∙ rw (slot_of_after n k ps p is, eq-eqb k n same) (sym (ap (λ (m : ℕ). slice_get (set (over b ps) n p.bytes) m) same ∙ get-set_same (over b ps) n p.bytes lt))
+          here ∙ rw (slot_of_after n k ps p is, eq-eqb k n same)
+          (sym (ap (λ (m : ℕ). slice_get (set (over b ps) n p.bytes) m) same ∙ get-set_same (over b ps) n p.bytes lt))
       | inr ne ↦
           here ∙ rw (slot_of_after n k ps p is, ne_eqb k n ne) (sym (get-set_other (over b ps) n k p.bytes (λ e. ne (sym e)) ∙ get-over b ps k h))
     ])
@@ -96,7 +98,8 @@ over_room b ps d h on =
     ]
 
 -- a cached block that is written changes nothing that is shown
-pub over_written : (b : List (List ℕ)) (ps : List Slot) (k : ℕ) (p : Slot) (v : List ℕ) → AreBelow (length b) ps → slot_of k ps ≡ Some p → over (set b k v) ps ≡ over b ps
+pub over_written : (b : List (List ℕ)) (ps : List Slot) (k : ℕ) (p : Slot) (v : List ℕ) → AreBelow (length b) ps → slot_of k ps ≡ Some p
+    → over (set b k v) ps ≡ over b ps
 over_written b ps k p v h e = same_gets _ _ (λ j.
     let long = length-set b k v in
     let there = get-over (set b k v) ps j (subst (λ (m : ℕ). AreBelow m ps) (sym long) h) in
@@ -108,7 +111,8 @@ over_written b ps k p v h e = same_gets _ _ (λ j.
     ])
 
 -- where the drive has all as they are cached, it is as it is shown
-pub over_all : (b : List (List ℕ)) (ps : List Slot) → AreBelow (length b) ps → ((n : ℕ) (p : Slot) → slot_of n ps ≡ Some p → slice_get b n ≡ Some p.bytes) → over b ps ≡ b
+pub over_all : (b : List (List ℕ)) (ps : List Slot) → AreBelow (length b) ps → ((n : ℕ) (p : Slot) → slot_of n ps ≡ Some p → slice_get b n ≡ Some p.bytes)
+    → over b ps ≡ b
 over_all b ps h on = same_gets _ _ (λ k. get-over b ps k h ∙ shows k (slot_of k ps) refl)
   where
     shows : (k : ℕ) (o : Option Slot) → slot_of k ps ≡ o → hiding o (slice_get b k) ≡ slice_get b k

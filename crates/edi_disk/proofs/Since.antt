@@ -15,14 +15,16 @@ pub between_itself : (base : List (List ℕ)) (was_put : ℕ → List ℕ → Bo
 between_itself base was_put = record { as_many = refl; each = λ n block e. inl e }
 
 -- a block more is put, or one that may stand there is written
-pub between_set : (base : List (List ℕ)) (was_put : ℕ → List ℕ → Bool) (blocks : List (List ℕ)) (n : ℕ) (bytes : List ℕ) → Between base was_put blocks → n < length blocks
+pub between_set : (base : List (List ℕ)) (was_put : ℕ → List ℕ → Bool) (blocks : List (List ℕ)) (n : ℕ) (bytes : List ℕ) → Between base was_put blocks
+    → n < length blocks
     → (slice_get base n ≡ Some bytes) ⊎ (was_put n bytes ≡ true) → Between base was_put (slice_set blocks n bytes)
 between_set base was_put blocks n bytes h lt may = record {
   as_many = length-set blocks n bytes ∙ h.as_many;
   each = λ k block e.
       elim (cases_eq k n) [
         | inl same ↦
-            let here : Some bytes ≡ Some block = sym (get-set_same blocks n bytes lt) ∙ subst (λ (m : ℕ). slice_get (set blocks n bytes) m ≡ Some block) same e in
+            let here : Some bytes ≡ Some block = sym (get-set_same blocks n bytes lt) ∙ subst (λ (m : ℕ). slice_get (set blocks n bytes) m ≡ Some block) same
+            e in
             let is : bytes ≡ block = cc in
             subst (λ (m : ℕ). (slice_get base m ≡ Some block) ⊎ (was_put m block ≡ true)) (sym same)
             (subst (λ (v : List ℕ). (slice_get base n ≡ Some v) ⊎ (was_put n v ≡ true)) is may)
@@ -31,7 +33,8 @@ between_set base was_put blocks n bytes h lt may = record {
 }
 
 -- no slot is past the other list's end
-as_far : (base : List (List ℕ)) (was_put : ℕ → List ℕ → Bool) (blocks : List (List ℕ)) (n : ℕ) → Between base was_put blocks → slice_get blocks n ≡ None → slice_get base n ≡ None
+as_far : (base : List (List ℕ)) (was_put : ℕ → List ℕ → Bool) (blocks : List (List ℕ)) (n : ℕ) → Between base was_put blocks → slice_get blocks n ≡ None
+    → slice_get base n ≡ None
 as_far base was_put blocks n h none =
     elim (cases_lt n (length blocks)) [
       | inl lt ↦
@@ -57,7 +60,8 @@ pub between_nothing : (base blocks : List (List ℕ)) → Between base nothing b
 between_nothing base blocks h = same_gets blocks base (λ k. between_unput base nothing blocks k h (λ block. refl))
 
 -- one block was put: the blocks are as in base, or with it
-pub between_only : (base blocks : List (List ℕ)) (n : ℕ) (bytes : List ℕ) → Between base (only n bytes) blocks → (blocks ≡ base) ⊎ (blocks ≡ slice_set base n bytes)
+pub between_only : (base blocks : List (List ℕ)) (n : ℕ) (bytes : List ℕ) → Between base (only n bytes) blocks → (blocks ≡ base)
+    ⊎ (blocks ≡ slice_set base n bytes)
 between_only base blocks n bytes h = at (slice_get blocks n) refl
   where
     elsewhere : (k : ℕ) → (k ≡ n → ⊥) → slice_get blocks k ≡ slice_get base k

@@ -1,5 +1,6 @@
 -- The cached blocks as callers see them, and the slots that keep them.
-use Rattle.std.proofs.Common.{◌≡◌, ◌⊎◌, ℕ, zero, suc, ◌+◌, ◌<◌, ◌≤◌, inl, inr, true, false, List, [], ◌∷◌, ◌++◌, length, map, take, drop, refl, sym, ◌∙◌, ap, subst, arith, eq-eqb, get_or, set, length-set, get_or-set_same, get_or-set_other}
+use Rattle.std.proofs.Common.{◌≡◌, ◌⊎◌, ℕ, zero, suc, ◌+◌, ◌<◌, ◌≤◌, inl, inr, true, false, List, [], ◌∷◌, ◌++◌, length, map, take, drop, refl, sym, ◌∙◌, ap}
+use Rattle.std.proofs.Common.{subst, arith, eq-eqb, get_or, set, length-set, get_or-set_same, get_or-set_other}
 use Rattle.std.specs.Prelude.{Some, None, IsSome, IfSome, slice_get, nat_eq}
 use Rattle.std.proofs.lemmas.Bool.{ne_eqb, cases_eq, or_right}
 use Rattle.std.proofs.lemmas.List.{get_or_default, length-map, length-append, length-take, length-drop}
@@ -28,7 +29,8 @@ absent_view slots n (x ∷ nodes) none =
       | inr ne ↦ rw (ne_eqb n (slot_at slots x).number ne) (absent_view slots n nodes (λ node h. none node (or_right (nat_eq node x) _ h)))
     ]
 
-pub view_absent : (slots : List Slot) (n : ℕ) (nodes : List ℕ) (node : ℕ) → slot_of n (map (slot_at slots) nodes) ≡ None → has nodes node ≡ true → (slot_at slots node).number ≡ n → ⊥
+pub view_absent : (slots : List Slot) (n : ℕ) (nodes : List ℕ) (node : ℕ) → slot_of n (map (slot_at slots) nodes) ≡ None → has nodes node ≡ true
+    → (slot_at slots node).number ≡ n → ⊥
 view_absent slots n [] node none h is = let no' : false ≡ true = h in absurd (cc)
 view_absent slots n (x ∷ nodes) node none h is =
     elim (cases_eq n (slot_at slots x).number) [
@@ -43,7 +45,8 @@ view_absent slots n (x ∷ nodes) node none h is =
 
 -- one slot in use has it, and no other
 pub found_view : (slots : List Slot) (n : ℕ) (nodes : List ℕ) (node : ℕ) → has nodes node ≡ true → (slot_at slots node).number ≡ n
-    → ((other : ℕ) → has nodes other ≡ true → (slot_at slots other).number ≡ n → other ≡ node) → slot_of n (map (slot_at slots) nodes) ≡ Some (slot_at slots node)
+    → ((other : ℕ) → has nodes other ≡ true → (slot_at slots other).number ≡ n → other ≡ node) → slot_of n (map (slot_at slots) nodes) ≡ Some
+    (slot_at slots node)
 found_view slots n [] node h is only = let no' : false ≡ true = h in absurd (cc)
 found_view slots n (x ∷ nodes) node h is only =
     elim (cases_eq n (slot_at slots x).number) [
@@ -77,7 +80,8 @@ view_push : (slots : List Slot) (nodes : List ℕ) (node : ℕ) → map (slot_at
 view_push slots [] node = refl
 view_push slots (x ∷ nodes) node = ap (λ ps. slot_at slots x ∷ ps) (view_push slots nodes node)
 
-view_other : (slots : List Slot) (nodes : List ℕ) (node : ℕ) (v : Slot) → has nodes node ≡ false → map (slot_at (set slots node v)) nodes ≡ map (slot_at slots) nodes
+view_other : (slots : List Slot) (nodes : List ℕ) (node : ℕ) (v : Slot) → has nodes node ≡ false → map (slot_at (set slots node v)) nodes ≡ map
+    (slot_at slots) nodes
 view_other slots [] node v h = refl
 view_other slots (x ∷ nodes) node v h =
     elim (cases_eq node x) [
@@ -163,7 +167,8 @@ module _ (slots : List Slot) (order : List (List ℕ)) (kept : OrderIsKept slots
           ∙ ap (λ ps. ps ++ v ∷ []) (view_minus slots n (list_at order 0) node is only)
 
   -- a slot is vacated for a block that is not cached
-  module _ (n node : ℕ) (new : List (List ℕ)) (vacates : Vacates order new node) (none : slot_of n (slots_in slots order) ≡ None) (v : Slot) (number : v.number ≡ n) where
+  module _ (n node : ℕ) (new : List (List ℕ)) (vacates : Vacates order new node) (none : slot_of n (slots_in slots order) ≡ None) (v : Slot)
+      (number : v.number ≡ n) where
     within_16 : node < length slots
     within_16 = let lt = vacates.in_range in let long = kept.as_many in omega arith
 

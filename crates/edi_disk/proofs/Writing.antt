@@ -25,19 +25,22 @@ told P before None y h e = absurd (cc)
 told P None (Some z) y h e = absurd h
 told P (Some x) (Some z) y h e = let same : z ≡ y = cc in (x, refl, subst (λ v. P x v) same h)
 
-pub where_told : {A : Type 0} (P : A → A → Type 0) (before now : Option A) → ((y : A) → now ≡ Some y → (x : A) × (before ≡ Some x) × P x y) → WhereTold before now P
+pub where_told : {A : Type 0} (P : A → A → Type 0) (before now : Option A) → ((y : A) → now ≡ Some y → (x : A) × (before ≡ Some x) × P x y)
+    → WhereTold before now P
 where_told P before None h = tt
 where_told P None (Some y) h = let t = h y refl in let e : None ≡ Some t.0 = t.1 in absurd (cc)
 where_told P (Some x) (Some y) h = let t = h y refl in let same : t.0 ≡ x = cc in subst (λ v. P v y) same t.2
 
-pub shown_some : {D : Type 0} (contents : D → Option (List (List ℕ))) (drive : D) (ps : List Slot) (b : List (List ℕ)) → contents drive ≡ Some b → shown_by contents drive ps ≡ Some (over b ps)
+pub shown_some : {D : Type 0} (contents : D → Option (List (List ℕ))) (drive : D) (ps : List Slot) (b : List (List ℕ)) → contents drive ≡ Some b
+    → shown_by contents drive ps ≡ Some (over b ps)
 shown_some contents drive ps b e = ap (λ (o : Option (List (List ℕ))). option_map (λ blocks. over blocks ps) o) e
 
 pub shown_from : {D : Type 0} (contents : D → Option (List (List ℕ))) (drive : D) (ps : List Slot) (s : List (List ℕ)) → shown_by contents drive ps ≡ Some s
     → (b : List (List ℕ)) × (contents drive ≡ Some b) × (over b ps ≡ s)
 shown_from contents drive ps s e = at (contents drive) refl e
   where
-    at : (o : Option (List (List ℕ))) → contents drive ≡ o → option_map (λ blocks. over blocks ps) o ≡ Some s → (b : List (List ℕ)) × (contents drive ≡ Some b) × (over b ps ≡ s)
+    at : (o : Option (List (List ℕ))) → contents drive ≡ o → option_map (λ blocks. over blocks ps) o ≡ Some s → (b : List (List ℕ))
+        × (contents drive ≡ Some b) × (over b ps ≡ s)
     at None is e = let h : None ≡ Some s = e in absurd (cc)
     at (Some b) is e = let h : Some (over b ps) ≡ Some s = e in (b, is, cc)
 
@@ -51,7 +54,8 @@ one_changed out k v old new is (inl same) = λ n other. ap (λ (b : List (List �
 one_changed out k v old new is (inr wrote) = λ n other.
     ap (λ (b : List (List ℕ)). slice_get b n) wrote ∙ get-set_other old k n v (λ h. other (is ∙ ap (λ (m : ℕ). Some m) h))
 
-module _ {D : Type 0} (contents : D → Option (List (List ℕ))) (count faults : D → ℕ) (counted : (drive : D) → IfSome (contents drive) (λ blocks. length blocks ≡ count drive)) where
+module _ {D : Type 0} (contents : D → Option (List (List ℕ))) (count faults : D → ℕ)
+    (counted : (drive : D) → IfSome (contents drive) (λ blocks. length blocks ≡ count drive)) where
   pub many : (drive : D) (b : List (List ℕ)) → contents drive ≡ Some b → length b ≡ count drive
   many drive b e = at (contents drive) e (counted drive)
     where
@@ -72,10 +76,12 @@ module _ {D : Type 0} (contents : D → Option (List (List ℕ))) (count faults 
     later = omega arith;
   }
 
-  pub writes_then : (ps : List Slot) (a b c : D) → Writes contents count faults ps a b → Writes contents count faults ps b c → Writes contents count faults ps a c
+  pub writes_then : (ps : List Slot) (a b c : D) → Writes contents count faults ps a b → Writes contents count faults ps b c → Writes contents count faults ps
+      a c
   writes_then ps a b c f s = record {
     backed = s.backed;
-    shows = WhereTold-then (λ old new. over new ps ≡ over old ps) (λ old new. over new ps ≡ over old ps) (λ old new. over new ps ≡ over old ps) (contents a) (contents b) (contents c) (λ x y z p q. q ∙ p) f.shows s.shows;
+    shows = WhereTold-then (λ old new. over new ps ≡ over old ps) (λ old new. over new ps ≡ over old ps) (λ old new. over new ps ≡ over old ps) (contents a)
+        (contents b) (contents c) (λ x y z p q. q ∙ p) f.shows s.shows;
     since = λ base was_put k. s.since base was_put (f.since base was_put k);
     count_stays = s.count_stays ∙ f.count_stays;
     later = let one = f.later in let two = s.later in omega arith;
@@ -138,7 +144,8 @@ module _ {D : Type 0} (contents : D → Option (List (List ℕ))) (count faults 
               | inl same ↦ rw same before
               | inr wrote ↦
                   rw wrote (between_set base was_put t.0 p.number p.bytes before (omega arith)
-                  ((k.on_disk (over t.0 ps) (shown_some contents a ps t.0 t.1)).each p.number p.bytes (get-over_cached t.0 ps p.number p (below_told a ps t.0 backed t.1) stands)))
+                  ((k.on_disk (over t.0 ps) (shown_some contents a ps t.0 t.1)).each p.number p.bytes
+                  (get-over_cached t.0 ps p.number p (below_told a ps t.0 backed t.1) stands)))
             ];
         on_disk = λ shown e.
             let s = shown_from contents b ps shown e in
@@ -195,8 +202,10 @@ module _ {D : Type 0} (contents : D → Option (List (List ℕ))) (count faults 
       → WhereTold (contents a) (contents b) (WriteLeaves end p.number p.bytes) → WhereTold (contents a) (contents b) (ChangesOnly (slice_get (numbers_of ps) i))
   only_one ps a b end i p at leaves = where_told (ChangesOnly (slice_get (numbers_of ps) i)) (contents a) (contents b) (λ new e.
       let t = told (WriteLeaves end p.number p.bytes) (contents a) (contents b) new leaves e in
-      let is : slice_get (numbers_of ps) i ≡ Some p.number = slice_get-map (λ (q : Slot). q.number) ps i ∙ ap (λ (o : Option Slot). option_map (λ (q : Slot). q.number) o) at in
+      let is : slice_get (numbers_of ps) i ≡ Some p.number = slice_get-map (λ (q : Slot). q.number) ps i
+      ∙ ap (λ (o : Option Slot). option_map (λ (q : Slot). q.number) o) at in
       (t.0, t.1, one_changed (slice_get (numbers_of ps) i) p.number p.bytes t.0 new is (leaves_cases end p.number p.bytes t.0 new t.2)))
 
-  pub only_first : (ps : List Slot) (a b : D) → 16 ≤ length ps → WhereTold (contents a) (contents b) (ChangesOnly (slice_get (numbers_of ps) 0)) → WhereTold (contents a) (contents b) (ChangesOnly (first_of_full (numbers_of ps)))
+  pub only_first : (ps : List Slot) (a b : D) → 16 ≤ length ps → WhereTold (contents a) (contents b) (ChangesOnly (slice_get (numbers_of ps) 0))
+      → WhereTold (contents a) (contents b) (ChangesOnly (first_of_full (numbers_of ps)))
   only_first ps a b full h = rw (le-ltb (length (numbers_of ps)) 16 (omega (arith, length-map ps (λ (q : Slot). q.number)))) h

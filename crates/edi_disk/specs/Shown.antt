@@ -18,7 +18,8 @@ numbers_of slots = map (λ (slot : Slot). slot.number) slots
 pub record IsBacked {D : Type 0} (contents : D → Option (List (List ℕ))) (count : D → ℕ) (drive : D) (slots : List Slot) : Type 0 where
   pub different : AreDifferent (numbers_of slots)
   pub in_range : (n : ℕ) (slot : Slot) → slot_of n slots ≡ Some slot → n < count drive
-  pub written : ForSome (contents drive) (λ blocks. (n : ℕ) (slot : Slot) → slot_of n slots ≡ Some slot → slot.unwritten ≡ false → slice_get blocks n ≡ Some slot.bytes)
+  pub written : ForSome (contents drive) (λ blocks. (n : ℕ) (slot : Slot) → slot_of n slots ≡ Some slot → slot.unwritten ≡ false
+      → slice_get blocks n ≡ Some slot.bytes)
 
 -- the drive's blocks with the cached ones over them, where they are told
 abbrev pub shown_by : {D : Type 0} → (D → Option (List (List ℕ))) → D → List Slot → Option (List (List ℕ))

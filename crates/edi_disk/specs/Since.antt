@@ -25,7 +25,8 @@ abbrev pub only : ℕ → List ℕ → ℕ → List ℕ → Bool
 only number bytes n block = nat_eq number n && bytes_eq bytes block
 
 -- so is each block that the drive has, and each that is shown
-pub record KeptBy {D : Type 0} (contents : D → Option (List (List ℕ))) (base : List (List ℕ)) (was_put : ℕ → List ℕ → Bool) (drive : D) (slots : List Slot) : Type 0 where
+pub record KeptBy {D : Type 0} (contents : D → Option (List (List ℕ))) (base : List (List ℕ)) (was_put : ℕ → List ℕ → Bool) (drive : D) (slots : List Slot) :
+    Type 0 where
   pub on_drive : ForSome (contents drive) (Between base was_put)
   pub on_disk : ForSome (shown_by contents drive slots) (Between base was_put)
 

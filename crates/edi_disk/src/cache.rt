@@ -119,7 +119,8 @@ impl Cache {
 
     /// Gives block `n` where it is cached, which is then the one used last. The answer says whether it is cached.
     pub fn recall(&mut self, n: u32, into: &mut [u8; 512]) -> bool
-        ensures found { result ≡ true → (slot : Slot) × (slot_of n self.old ≡ Some slot) × (into.new ≡ slot.bytes) × (self.new ≡ without_block n self.old ++ slot ∷ []) }
+        ensures found { result ≡ true → (slot : Slot) × (slot_of n self.old ≡ Some slot) × (into.new ≡ slot.bytes)
+            × (self.new ≡ without_block n self.old ++ slot ∷ []) }
         ensures absent { result ≡ false → (slot_of n self.old ≡ None) × (self.new ≡ self.old) }
         ensures bound { length self.old ≤ 16 }
     {
@@ -134,7 +135,8 @@ impl Cache {
     /// Puts other bytes into block `n` where it is cached, which is then the one used last. The answer says
     /// whether it is cached.
     pub fn replace(&mut self, n: u32, from: &[u8; 512]) -> bool
-        ensures found { result ≡ true → (slot : Slot) × (slot_of n self.old ≡ Some slot) × (self.new ≡ without_block n self.old ++ cached_slot n from.now true ∷ []) }
+        ensures found { result ≡ true → (slot : Slot) × (slot_of n self.old ≡ Some slot)
+            × (self.new ≡ without_block n self.old ++ cached_slot n from.now true ∷ []) }
         ensures absent { result ≡ false → (slot_of n self.old ≡ None) × (self.new ≡ self.old) }
         ensures bound { length self.old ≤ 16 }
     {

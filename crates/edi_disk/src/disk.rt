@@ -127,7 +127,8 @@ impl<'a, D: Drive> Disk<'a, D> {
         // `attach`), or was put since.
         ensures since { (base : List (List ℕ)) (was_put : ℕ → List ℕ → Bool) → Kept D.contents base was_put self.old → Kept D.contents base was_put self.new }
         // No block changes on the drive but the one that is driven out.
-        ensures drives_out { WhereTold (D.contents (drive_of self.old)) (D.contents (drive_of self.new)) (ChangesOnly (driven_out n (numbers_cached self.old))) }
+        ensures drives_out { WhereTold (D.contents (drive_of self.old)) (D.contents (drive_of self.new))
+            (ChangesOnly (driven_out n (numbers_cached self.old))) }
         ensures order { result ≡ DiskEnd.Ok → numbers_cached self.new ≡ after_use n (numbers_cached self.old) }
         ensures without_drive { is_listed n (numbers_cached self.old) ≡ true → (result ≡ DiskEnd.Ok) × (drive_of self.new ≡ drive_of self.old) }
         ensures count { D.count (drive_of self.new) ≡ D.count (drive_of self.old) }
@@ -158,9 +159,11 @@ impl<'a, D: Drive> Disk<'a, D> {
         // On Ok the disk shows these bytes in block n, and every other block as before.
         ensures shows { WhereTold (shown D.contents self.old) (shown D.contents self.new) (PutLeaves result n from.now) }
         // Whatever the answer: the same, where what is put now is among what was put.
-        ensures since { (base : List (List ℕ)) (was_put : ℕ → List ℕ → Bool) → was_put n from.now ≡ true → Kept D.contents base was_put self.old → Kept D.contents base was_put self.new }
+        ensures since { (base : List (List ℕ)) (was_put : ℕ → List ℕ → Bool) → was_put n from.now ≡ true → Kept D.contents base was_put self.old
+            → Kept D.contents base was_put self.new }
         // No block changes on the drive but the one that is driven out.
-        ensures drives_out { WhereTold (D.contents (drive_of self.old)) (D.contents (drive_of self.new)) (ChangesOnly (driven_out n (numbers_cached self.old))) }
+        ensures drives_out { WhereTold (D.contents (drive_of self.old)) (D.contents (drive_of self.new))
+            (ChangesOnly (driven_out n (numbers_cached self.old))) }
         ensures order { result ≡ DiskEnd.Ok → numbers_cached self.new ≡ after_use n (numbers_cached self.old) }
         ensures without_drive { is_listed n (numbers_cached self.old) ≡ true → (result ≡ DiskEnd.Ok) × (drive_of self.new ≡ drive_of self.old) }
         // Where fewer than 16 are cached, no call is made on the drive.
@@ -189,7 +192,8 @@ impl<'a, D: Drive> Disk<'a, D> {
         ensures shows { WhereTold (shown D.contents self.old) (shown D.contents self.new) (λ old new. result ≡ DiskEnd.Ok → new ≡ old) }
         ensures settles { result ≡ DiskEnd.Ok → D.contents (drive_of self.new) ≡ shown D.contents self.new }
         // From an Ok on each block is as it is now, or is one that is put.
-        ensures begins { result ≡ DiskEnd.Ok → (was_put : ℕ → List ℕ → Bool) → ForSome (D.contents (drive_of self.new)) (λ base. Kept D.contents base was_put self.new) }
+        ensures begins { result ≡ DiskEnd.Ok → (was_put : ℕ → List ℕ → Bool) → ForSome (D.contents (drive_of self.new))
+            (λ base. Kept D.contents base was_put self.new) }
         // Whatever the answer: each block that the drive has is as it was at an earlier flush, or was put since.
         ensures since { (base : List (List ℕ)) (was_put : ℕ → List ℕ → Bool) → Kept D.contents base was_put self.old → Kept D.contents base was_put self.new }
         ensures order { numbers_cached self.new ≡ numbers_cached self.old }

@@ -140,7 +140,8 @@ module _ (title : List ℕ) (size : ℕ) (blocks : List (List ℕ)) where
       let own = release_has_slot title (slots_of blocks) protected in
       let taken : blocks_taken (slots_of mid) ≡ blocks_taken (slots_of blocks) = ap blocks_taken is ∙ released_taken title (slots_of blocks) in
       let same : free_in mid ≡ free_in blocks = omega (arith, many, taken) in
-      chain_all (is_protected (find_file (slots_of mid) title)) (nat_lt most_bytes size) (is_none (slot_for (slots_of mid) title)) (nat_lt (free_in mid) (blocks_of size))
+      chain_all (is_protected (find_file (slots_of mid) title)) (nat_lt most_bytes size) (is_none (slot_for (slots_of mid) title))
+      (nat_lt (free_in mid) (blocks_of size))
       size (blocks_of size) (free_in mid)
       (ap (λ s. is_protected (find_file s title)) is ∙ release_opens title (slots_of blocks))
       (not_less most_bytes size short)

@@ -42,7 +42,8 @@ module _ (title file into : List ℕ) (before after : Outside) (kernel : Lent) (
                 (λ x y p. p.1.0) told,
             (
               refl,
-              first_told (λ old new. (new ≡ old) × ReadsOn (Err status.Absent) title into old) (λ blocks. find_file (slots_of blocks) title ≡ None) before.blocks after.blocks
+              first_told (λ old new. (new ≡ old) × ReadsOn (Err status.Absent) title into old) (λ blocks. find_file (slots_of blocks) title ≡ None)
+                  before.blocks after.blocks
                   (λ x y p. p.1.1) told,
             ),
           ),
@@ -98,9 +99,18 @@ module _ (n : ℕ) (title file into bytes : List ℕ) (before after : Outside) (
               (λ x y p. p.1.1 ∙ ap Some (sym h.bytes_are)) h.blocks,
         )
 
-    go : (end : KeepEnd) → WhereTold before.files after.files (KeepLeaves end file bytes) → Means (status_kept end) (Some (get title file)) before after [] kernel
+    go : (end : KeepEnd) → WhereTold before.files after.files (KeepLeaves end file bytes) → Means (status_kept end) (Some (get title file)) before after []
+        kernel
     go keep.Ok told =
-        inr (bytes, steps, (refl, only_keeps before after kernel rest ((file, bytes) ∷ []) (still (λ old new. new ≡ map.insert old file bytes) before.files after.files told) same))
+        inr (
+          bytes,
+          steps,
+          (
+            refl,
+            only_keeps before after kernel rest ((file, bytes) ∷ [])
+                (still (λ old new. new ≡ map.insert old file bytes) before.files after.files told) same,
+          ),
+        )
     go keep.Failed told = record {
       files = still (λ old new. map.remove new file ≡ map.remove old file) before.files after.files told;
       far = inl (not_begun before after kernel rest same);

@@ -50,7 +50,8 @@ formats_means format.Ok count before after kernel rest f =
     )
 formats_means format.Fault count before after kernel rest f = record {
   files = still (λ old new. new ≡ old) before.files after.files f.files;
-  far = inr (changes_drive before after kernel rest IsOpen (told_so (FormatLeaves format.Fault count) IsOpen before.blocks after.blocks (λ x y h. tt) f.leaves));
+  far = inr (changes_drive before after kernel rest IsOpen
+      (told_so (FormatLeaves format.Fault count) IsOpen before.blocks after.blocks (λ x y h. tt) f.leaves));
 }
 formats_means format.NoMemory count before after kernel rest f = nothing before after kernel rest f.files f.leaves
 

@@ -75,7 +75,8 @@ pub record Migrates (e : MigrateEnd) (count : ℕ) (file bytes : List ℕ) (old 
   pub answers : MigrateAnswers e count (calls.blocks_taken (old_slots_of (blocks_of bytes))) (blocks_of bytes)
   pub leaves : WhereTold held holds (MigrateLeaves e count (blocks_of bytes))
 
-module _ (decide : FirstBytesDecide) (count : ℕ) (least : 64 ≤ count) (file bytes : List ℕ) (before after : Outside) (kernel : Lent) (rest : RestStays before after kernel) where
+module _ (decide : FirstBytesDecide) (count : ℕ) (least : 64 ≤ count) (file bytes : List ℕ) (before after : Outside) (kernel : Lent)
+    (rest : RestStays before after kernel) where
   migrates_means : (e : MigrateEnd) → Migrates e count file bytes before.files after.files before.blocks after.blocks
       → Means (status_migrated e) (Some (newdisk count (Some file))) before after [] kernel
   migrates_means e m = go e m.answers m.leaves where
@@ -123,7 +124,8 @@ module _ (decide : FirstBytesDecide) (count : ℕ) (least : 64 ≤ count) (file 
     }
     go end.NoMemory a l = nothing before after kernel rest m.files l
 
-pub migrated_means : (decide : FirstBytesDecide) (e : MigrateEnd) (count : ℕ) → 64 ≤ count → (file bytes : List ℕ) (old new : Option Contents) (held holds : Option (List (List ℕ)))
+pub migrated_means : (decide : FirstBytesDecide) (e : MigrateEnd) (count : ℕ) → 64 ≤ count → (file bytes : List ℕ) (old new : Option Contents)
+    (held holds : Option (List (List ℕ)))
     → Migrates e count file bytes old new held holds → MeansOnDisk (newdisk count (Some file)) (status_migrated e) old new held holds
 migrated_means decide e count least file bytes old new held holds h =
     meant (Migrates e count file bytes) (newdisk count (Some file)) (status_migrated e) old new held holds h

@@ -54,7 +54,8 @@ protection (Err (cat.Full wanted free)) h = absurd (cc)
 
 -- what a store answers, and what it leaves
 pub record Stores {X : Type 0} (r : Result X CatEnd) (title : List ℕ) (kind : FileKind) (bytes : List ℕ) (old new : List (List ℕ)) : Type 0 where
-  pub answers : SlotsAnswer r (no_room title (length bytes) (free_in old) (slots_of old)) (slots_of old) (slots_stored title kind bytes (slots_of old)) (slots_of new)
+  pub answers : SlotsAnswer r (no_room title (length bytes) (free_in old) (slots_of old)) (slots_of old) (slots_stored title kind bytes (slots_of old))
+      (slots_of new)
   pub leaves : Leaves r (slots_of old) (slots_stored title kind bytes (slots_of old)) old new
 
 module _ (title : List ℕ) (kind : FileKind) (bytes : List ℕ) (short : length bytes ≤ most_bytes) (kind_is : kind ≡ kind_of bytes) where
@@ -94,7 +95,8 @@ module _ (title : List ℕ) (kind : FileKind) (bytes : List ℕ) (short : length
   -- ---- behind a release
 
   -- a store behind the release of the file, where nothing is against it
-  behind : {X : Type 0} (r : Result X CatEnd) (old mid new : List (List ℕ)) → length new ≡ length old → is_full old title (length bytes) ≡ false → slots_of mid ≡ released title (slots_of old)
+  behind : {X : Type 0} (r : Result X CatEnd) (old mid new : List (List ℕ)) → length new ≡ length old → is_full old title (length bytes) ≡ false
+      → slots_of mid ≡ released title (slots_of old)
       → no_room title (length bytes) (free_in mid) (slots_of mid) ≡ None → Stores r title kind bytes mid new → StoresOver r title bytes old new
   behind {X} r old mid new many room is none s = go r s where
     wanted_is : slots_stored title kind bytes (slots_of mid) ≡ put_in title bytes (slots_of old)
@@ -128,7 +130,8 @@ module _ (title : List ℕ) (kind : FileKind) (bytes : List ℕ) (short : length
       → count' ≡ count → count'' ≡ count'
       → WhereTold a a (λ old new. no_room title (length bytes) (free_in old) (slots_of old) ≡ Some cat.Protected)
       → IfSome a (λ blocks. blocks_of (length bytes) ≤ free_in blocks)
-      → WhereTold a b (λ old new. Holds new (released title (slots_of old))) → WhereTold b c (Stores r title kind bytes) → WhereTold a c (StoresOver r title bytes)
+      → WhereTold a b (λ old new. Holds new (released title (slots_of old))) → WhereTold b c (Stores r title kind bytes)
+      → WhereTold a c (StoresOver r title bytes)
   released_then r a b None count count' count'' n n' n'' same same' protected enough first second = tt
   released_then r a None (Some z) count count' count'' n n' n'' same same' protected enough first second = absurd second
   released_then r None (Some y) (Some z) count count' count'' n n' n'' same same' protected enough first second = absurd first

@@ -164,7 +164,11 @@ module _ (file title bytes : List ℕ) (before after : Outside) (kernel : Lent) 
             inr (
               tt,
               mounted (PutsOn status.DiskFull title bytes) (λ x y p. p.0) told,
-              inl (refl, first_told (PutsOn status.DiskFull title bytes) (λ blocks. is_full blocks title (length bytes) ≡ true) before.blocks after.blocks (λ x y p. p.1) told),
+              inl (
+                refl,
+                first_told (PutsOn status.DiskFull title bytes) (λ blocks. is_full blocks title (length bytes) ≡ true) before.blocks after.blocks
+                    (λ x y p. p.1) told,
+              ),
             ),
           ),
         ),
@@ -178,7 +182,13 @@ module _ (file title bytes : List ℕ) (before after : Outside) (kernel : Lent) 
           inr (
             tt,
             fits_whole bytes short,
-            inl (broken, refl, first_told (PutsOn (status.BadImage broken) title bytes) (λ blocks. mount_fault_of blocks ≡ Some broken) before.blocks after.blocks (λ x y p. p.0) told, of_),
+            inl (
+              broken,
+              refl,
+              first_told (PutsOn (status.BadImage broken) title bytes) (λ blocks. mount_fault_of blocks ≡ Some broken) before.blocks
+                  after.blocks (λ x y p. p.0) told,
+              of_,
+            ),
           ),
         ),
         nothing before after kernel rest has.files (no_change (PutsOn (status.BadImage broken) title bytes) (λ x y p. p.1) told),
@@ -193,7 +203,8 @@ module _ (file title bytes : List ℕ) (before after : Outside) (kernel : Lent) 
               inr (
                 bytes,
                 steps Broke (λ x y p. p.0) (λ x y p. p.1) broke,
-                changes_drive before after kernel rest (ArePutInPart title bytes) (told_so Broke (ArePutInPart title bytes) before.blocks after.blocks (λ x y p. p.2) broke),
+                changes_drive before after kernel rest (ArePutInPart title bytes)
+                    (told_so Broke (ArePutInPart title bytes) before.blocks after.blocks (λ x y p. p.2) broke),
               )
         ];
   } where

@@ -81,7 +81,8 @@ module _ (title : List ℕ) (slots : List (Option File)) where
         ∙ open_here (slot_at slots i)
 
   -- a protected file has a slot, where it is stored behind its release
-  pub release_has_slot : is_protected (find_file slots title) ≡ true → (i : ℕ) × (find_slot slots title ≡ Some i) × (slot_for (release title slots) title ≡ Some i)
+  pub release_has_slot : is_protected (find_file slots title) ≡ true → (i : ℕ) × (find_slot slots title ≡ Some i)
+      × (slot_for (release title slots) title ≡ Some i)
   release_has_slot protected = go (find_slot slots title) refl where
     go : (o : Option ℕ) → find_slot slots title ≡ o → (i : ℕ) × (find_slot slots title ≡ Some i) × (slot_for (release title slots) title ≡ Some i)
     go None none = absurd (true≢false (sym protected ∙ ap (λ o. is_protected (option_and_then (slot_at slots) o)) none))

@@ -44,7 +44,8 @@ pub fn new_disk_from<F: Files, D: Drive>(
 ) -> Status
     requires least { 64 ≤ blocks }
     requires most { blocks ≤ 4096 }
-    ensures means { MeansOnDisk (newdisk blocks (Some file.now)) result (F.contents files.old) (F.contents files.new) (D.contents drive.old) (D.contents drive.new) }
+    ensures means { MeansOnDisk (newdisk blocks (Some file.now)) result (F.contents files.old) (F.contents files.new) (D.contents drive.old)
+        (D.contents drive.new) }
     ensures kind { IsOfDisk result }
     ensures later_files { F.faults files.old ≤ F.faults files.new }
     ensures later_drive { D.faults drive.old ≤ D.faults drive.new }

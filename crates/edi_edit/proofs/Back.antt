@@ -1,5 +1,6 @@
 -- Steps back: one more after a change, one less after an undo.
-use Rattle.std.proofs.Common.{◌≡◌, ℕ, suc, zero, ◌+◌, ◌-◌, ◌<◌, ◌≤◌, List, [], ◌∷◌, ◌++◌, length, refl, sym, ◌∙◌, ap, arith, subst, take, drop, length-append, length-drop, length-take}
+use Rattle.std.proofs.Common.{◌≡◌, ℕ, suc, zero, ◌+◌, ◌-◌, ◌<◌, ◌≤◌, List, [], ◌∷◌, ◌++◌, length, refl, sym, ◌∙◌, ap, arith, subst, take, drop}
+use Rattle.std.proofs.Common.{length-append, length-drop, length-take}
 use Rattle.std.proofs.lemmas.List.{length_push, get_or_push, take_at}
 use Rattle.std.proofs.Common.{Vec, Global, get_or, set, false}
 use Rattle.std.specs.Prelude.{Some, None, slice_get, insert, remove}
@@ -78,7 +79,8 @@ can_last (x ∷ steps) step lines can =
 -- what a change leaves, with the step that takes it back
 pub record Pushed (steps : List Step) (capacity : ℕ) (old new : List (List ℕ)) (step : Step) : Type 0 where
   pub kept_is : StepsAreKept (keep_last capacity (steps ++ step ∷ [])) capacity new
-  pub view : record { lines = new; earlier = earlier (keep_last capacity (steps ++ step ∷ [])) new } ≡ changed (record { lines = old; earlier = earlier steps old }) new
+  pub view : record { lines = new; earlier = earlier (keep_last capacity (steps ++ step ∷ [])) new } ≡ changed
+      (record { lines = old; earlier = earlier steps old }) new
   pub few : length (earlier (keep_last capacity (steps ++ step ∷ [])) new) ≤ UNDOS
 
 pushed : (steps : List Step) (capacity : ℕ) (old new : List (List ℕ)) (step : Step) → StepsAreKept steps capacity old → step_back step new ≡ old
@@ -115,7 +117,8 @@ insert_pushed steps capacity old at line one_line h free =
     (remove-insert old (at - 1) line (omega arith)) (omega (arith, length-insert old (at - 1) line)) (omega arith)
     (no_feed-insert old (at - 1) line one_line h.whole)
 
-pub replace_pushed : (steps : List Step) (capacity : ℕ) (old : List (List ℕ)) (at : ℕ) (line : List ℕ) (was : Vec ℕ Global) → has_feed line ≡ false → StepsAreKept steps capacity old
+pub replace_pushed : (steps : List Step) (capacity : ℕ) (old : List (List ℕ)) (at : ℕ) (line : List ℕ) (was : Vec ℕ Global) → has_feed line ≡ false
+    → StepsAreKept steps capacity old
     → refusal (is_index at (length old)) (set old (at - 1) line) ≡ None → was.items ≡ get_or old (at - 1) []
     → Pushed steps capacity old (set old (at - 1) line) (Put (at - 1) was)
 replace_pushed steps capacity old at line was one_line h free was_is =
@@ -146,7 +149,8 @@ split_last (x ∷ steps) (suc n) step long last = ap (λ ss. x ∷ ss) (split_la
 pub record Popped (steps left : List Step) (step : Step) (capacity : ℕ) (lines : List (List ℕ)) : Type 0 where
   pub can : CanStep step lines
   pub kept : StepsAreKept left capacity (step_back step lines)
-  pub undoes : record { lines = step_back step lines; earlier = earlier left (step_back step lines) } ≡ undone (record { lines = lines; earlier = earlier steps lines })
+  pub undoes : record { lines = step_back step lines; earlier = earlier left (step_back step lines) } ≡ undone
+      (record { lines = lines; earlier = earlier steps lines })
   pub some : 0 < length (earlier steps lines)
   pub again : left ++ step ∷ [] ≡ steps
 
@@ -166,14 +170,27 @@ popped steps step capacity lines h last_is =
     let count : length (earlier steps lines) - 1 ≡ length (earlier left text) = omega (arith, ap length texts, length_push (earlier left text) text) in
     record {
       can = last.one;
-      kept = record { room = h.room; few = let few = h.few in omega (arith, length-take (length steps - 1) steps); can = last.rest; small = last.small; whole = last.whole };
+      kept = record {
+        room = h.room;
+        few = let few = h.few in
+            omega (arith, length-take (length steps - 1) steps);
+        can = last.rest;
+        small = last.small;
+        whole = last.whole;
+      };
       undoes =
-          rw (count, texts, get_or_push (earlier left text) text lines (length (earlier left text)) refl, take_at (earlier left text) (text ∷ []) (length (earlier left text)) refl) refl;
+          rw (
+            count,
+            texts,
+            get_or_push (earlier left text) text lines (length (earlier left text)) refl,
+            take_at (earlier left text) (text ∷ []) (length (earlier left text)) refl,
+          ) refl;
       some = rw (length-earlier steps lines) some;
       again = sym split;
     }
 
 -- putting back the last step after all
-pub kept_again : (steps left : List Step) (step : Step) (capacity : ℕ) → left ++ step ∷ [] ≡ steps → length steps ≤ capacity → keep_last capacity (left ++ step ∷ []) ≡ steps
+pub kept_again : (steps left : List Step) (step : Step) (capacity : ℕ) → left ++ step ∷ [] ≡ steps → length steps ≤ capacity
+    → keep_last capacity (left ++ step ∷ []) ≡ steps
 kept_again steps left step capacity again few =
     let none : length (left ++ step ∷ []) - capacity ≡ 0 = omega (arith, ap length again) in rw none again

@@ -1,5 +1,6 @@
 -- Lines with no line feed: those of a text, those of a changed list, and that they are read again as they were.
-use Rattle.std.proofs.Common.{◌≡◌, ℕ, zero, suc, inl, inr, List, [], ◌∷◌, ◌++◌, refl, ◌∙◌, ap, true, false, eqb, eq-eqb, set, Vec, Global, Result, Ok, Err, IfOk}
+use Rattle.std.proofs.Common.{◌≡◌, ℕ, zero, suc, inl, inr, List, [], ◌∷◌, ◌++◌, refl, ◌∙◌, ap, true, false, eqb, eq-eqb, set, Vec, Global, Result, Ok, Err}
+use Rattle.std.proofs.Common.{IfOk}
 use Rattle.std.specs.Prelude.{insert, remove}
 use Rattle.std.proofs.lemmas.Bool.{ne_eqb, cases_eq}
 use Rattle.edi_edit.specs.Lines.{lines_of, bytes_of, with_byte, has_feed, HaveNoFeed}

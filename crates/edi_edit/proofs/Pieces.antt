@@ -1,5 +1,6 @@
 -- The pieces of a text between its line feeds.
-use Rattle.std.proofs.Common.{◌≡◌, ℕ, suc, ◌+◌, ◌<◌, ◌≤◌, inl, inr, List, [], ◌∷◌, ◌++◌, length, refl, sym, ◌∙◌, ap, arith, take, drop, not, eqb, eq-eqb, Vec, append_assoc}
+use Rattle.std.proofs.Common.{◌≡◌, ℕ, suc, ◌+◌, ◌<◌, ◌≤◌, inl, inr, List, [], ◌∷◌, ◌++◌, length, refl, sym, ◌∙◌, ap, arith, take, drop, not, eqb, eq-eqb}
+use Rattle.std.proofs.Common.{Vec, append_assoc}
 use Rattle.std.specs.List.{prefix_len}
 use Rattle.std.proofs.lemmas.Bool.{ne_eqb, cases_eq}
 use Rattle.std.proofs.lemmas.List.{map-append}
@@ -20,7 +21,8 @@ piece (b ∷ bytes) n some is =
     ]
   where
     after : (b : ℕ) (bytes : List ℕ) (n : ℕ) → n ≡ 1 + prefix_len (λ byte. not (eqb byte 10)) bytes
-        → (0 < length bytes → lines_of bytes ≡ take (prefix_len (λ byte. not (eqb byte 10)) bytes) bytes ∷ lines_of (drop 1 (drop (prefix_len (λ byte. not (eqb byte 10)) bytes) bytes)))
+        → (0 < length bytes → lines_of bytes ≡ take (prefix_len (λ byte. not (eqb byte 10)) bytes) bytes
+        ∷ lines_of (drop 1 (drop (prefix_len (λ byte. not (eqb byte 10)) bytes) bytes)))
         → with_byte b (lines_of bytes) ≡ take n (b ∷ bytes) ∷ lines_of (drop 1 (drop n (b ∷ bytes)))
     after b [] n more rest = let one : n ≡ suc 0 = omega arith in rw one refl
     after b (x ∷ bytes) n more rest =

@@ -1,5 +1,6 @@
 //! The list of lines, and its single changes.
-ghost use Rattle.std.specs.Prelude.{◌≡◌, ℕ, ◌+◌, ◌-◌, ◌^◌, ◌<◌, ◌≤◌, true, false, [], ◌∷◌, ◌++◌, drop, length, insert, remove, slice_set, slice_index_or, IfOk, OnOk, IfErr, ◌==◌, not};
+ghost use Rattle.std.specs.Prelude.{◌≡◌, ℕ, ◌+◌, ◌-◌, ◌^◌, ◌<◌, ◌≤◌, true, false, [], ◌∷◌, ◌++◌, drop, length, insert, remove, slice_set, slice_index_or};
+ghost use Rattle.std.specs.Prelude.{IfOk, OnOk, IfErr, ◌==◌, not};
 ghost use Rattle.std.specs.List.{prefix_len};
 ghost use Rattle.circular_buffer.specs.Buffer.{buffer, keep_last};
 ghost use Rattle.edi_edit.specs.Lines.{lines_of, bytes_of, size_of};

@@ -21,7 +21,8 @@ use Rattle.edi_trace.specs.Drawn.{Drawn}
 use Rattle.edi_execute.specs.Execution.{is_fault, IsAtMoment}
 
 -- after a fault the system is at a state through which the run comes
-pub at_moment : (code : CodeParts) (system : State) (bound : ℕ) (old : Drawn) (e : Ending) (words : List ℕ) (used : ℕ) (now : State) (new : Drawn) → e ≡ ending.Fault
+pub at_moment : (code : CodeParts) (system : State) (bound : ℕ) (old : Drawn) (e : Ending) (words : List ℕ) (used : ℕ) (now : State) (new : Drawn)
+    → e ≡ ending.Fault
     → RunsTo code system bound old e words used now new → IsAtMoment code system bound old now
 at_moment code system bound old e words used now new fault runs =
     let fails : FailsIn code system bound old used now new = subst (λ k. RunsTo code system bound old k words used now new) fault runs in
@@ -97,7 +98,8 @@ module _ {D S T P : Type 0} (contents : D → Option (List (List ℕ))) (left : 
     go (Some taken) (Some now) e e' =
         front_is taken now
         (λ k c h. subst (λ x. IfSome x (λ bytes. slice_get bytes k ≡ Some c)) e'
-        ((lasts (suc (suc (suc (suc (suc (2 * byte_number k c + 1)))))) (byte_known shown before k c (subst (λ x. IfSome x (λ bytes. slice_get bytes k ≡ Some c)) (sym e) h))).byte k c refl))
+        ((lasts (suc (suc (suc (suc (suc (2 * byte_number k c + 1))))))
+        (byte_known shown before k c (subst (λ x. IfSome x (λ bytes. slice_get bytes k ≡ Some c)) (sym e) h))).byte k c refl))
 
   pub told_lasting : IsValid (contents (drive_in before)) → KeepsTold contents left shown printed before after
   told_lasting valid = record {

@@ -20,8 +20,10 @@ use Rattle.edi_execute.specs.Execution.{IsAtMoment}
 use Rattle.edi_execute.specs.Objects.{Contents, HasRun, NoneFalls, Objects, RunLeaves, StandsAtMoment, contents_of, contents_with, faults_in, system_on}
 
 -- what is told of four objects together, seen otherwise
-pub told_otherwise : {A B C E X Y : Type 0} (make make' : A → B → C → E → X) (other : A → B → C → E → Y) (a a' : Option A) (b b' : Option B) (c c' : Option C) (e e' : Option E)
-    (W : X → X → Type 0) (V : Y → Y → Type 0) → ((x x' : A) (y y' : B) (z z' : C) (w w' : E) → W (make x y z w) (make' x' y' z' w') → V (other x y z w) (other x' y' z' w'))
+pub told_otherwise : {A B C E X Y : Type 0} (make make' : A → B → C → E → X) (other : A → B → C → E → Y) (a a' : Option A) (b b' : Option B) (c c' : Option C)
+    (e e' : Option E)
+    (W : X → X → Type 0) (V : Y → Y → Type 0)
+    → ((x x' : A) (y y' : B) (z z' : C) (w w' : E) → W (make x y z w) (make' x' y' z' w') → V (other x y z w) (other x' y' z' w'))
     → WhereTold (all_told make a b c e) (all_told make' a' b' c' e') W → WhereTold (all_told other a b c e) (all_told other a' b' c' e') V
 told_otherwise make make' other a None b b' c c' e e' W V so told = tt
 told_otherwise make make' other a (Some x') b None c c' e e' W V so told = tt
@@ -42,10 +44,12 @@ same_blocks make o None b c e (Some z) P same told = absurd told
 same_blocks make None (Some x') b c e z P same told = absurd same
 same_blocks make (Some x) (Some x') b c e z P same told = subst (λ y. WhereTold (all_told make (Some y) b c e) z P) same told
 
-pub only_read : {D : Type 0} (contents : D → Option (List (List ℕ))) (a b old new : D) (P : List (List ℕ) → Type 0) → WhereTold (contents a) (contents b) (λ x y. (y ≡ x) × P x)
+pub only_read : {D : Type 0} (contents : D → Option (List (List ℕ))) (a b old new : D) (P : List (List ℕ) → Type 0) → WhereTold (contents a) (contents b)
+    (λ x y. (y ≡ x) × P x)
     → old ≡ a → new ≡ b → WhereTold (contents old) (contents new) (λ x y. y ≡ x)
 only_read contents a b old new P told first last =
-    subst (λ o. WhereTold (contents o) (contents new) (λ x y. y ≡ x)) (sym first) (subst (λ n. WhereTold (contents a) (contents n) (λ x y. y ≡ x)) (sym last) (go (contents a) (contents b) told)) where
+    subst (λ o. WhereTold (contents o) (contents new) (λ x y. y ≡ x)) (sym first)
+    (subst (λ n. WhereTold (contents a) (contents n) (λ x y. y ≡ x)) (sym last) (go (contents a) (contents b) told)) where
       go : (o n : Option (List (List ℕ))) → WhereTold o n (λ x y. (y ≡ x) × P x) → WhereTold o n (λ x y. y ≡ x)
       go o None t = tt
       go None (Some n) t = absurd t
@@ -87,12 +91,15 @@ moment_is code bound old x now y at input shown printed rest = record {
 module _ {D S T P : Type 0} (contents : D → Option (List (List ℕ))) (left : S → Option (List ℕ)) (shown : T → Option (List ℕ)) (printed : P → Option (List ℕ))
     (before after : System D S T P) where
   -- the drive was a valid image, where it is told before and afterwards
-  pub mounted_run : (count : D → ℕ) (first last : D) → IsReady contents count before → WhereTold (contents first) (contents (drive_in before)) (λ old new. new ≡ old)
-      → last ≡ drive_in after → KeepsTold contents left shown printed before after → WhereTold (contents first) (contents last) (λ old new. mount_fault_of old ≡ None)
+  pub mounted_run : (count : D → ℕ) (first last : D) → IsReady contents count before → WhereTold (contents first) (contents (drive_in before))
+      (λ old new. new ≡ old)
+      → last ≡ drive_in after → KeepsTold contents left shown printed before after → WhereTold (contents first) (contents last)
+      (λ old new. mount_fault_of old ≡ None)
   mounted_run count first last ready read is told =
       go (contents first) (contents (drive_in before)) (contents last) read (valid_ready contents count before ready) (λ none. ap contents is ∙ told.drive none)
     where
-      go : (a b c : Option (List (List ℕ))) → WhereTold a b (λ old new. new ≡ old) → IsValid b → (b ≡ None → c ≡ None) → WhereTold a c (λ old new. mount_fault_of old ≡ None)
+      go : (a b c : Option (List (List ℕ))) → WhereTold a b (λ old new. new ≡ old) → IsValid b → (b ≡ None → c ≡ None)
+          → WhereTold a c (λ old new. mount_fault_of old ≡ None)
       go a b None same valid stays = tt
       go a None (Some c) same valid stays = absurd (let wrong : Some c ≡ None = stays refl in cc)
       go None (Some b) (Some c) same valid stays = absurd same
@@ -110,30 +117,39 @@ module _ {D S T P : Type 0} (contents : D → Option (List (List ℕ))) (left : 
 
   -- what is told of the states of the system is told of its objects
   on_objects : (W : State → State → Type 0) (V : Contents → Contents → Type 0)
-      → ((x x' : List (List ℕ)) (y y' z z' w w' : List ℕ) → W (state_with before x y z w) (state_with after x' y' z' w') → V (contents_with x y z w) (contents_with x' y' z' w'))
+      → ((x x' : List (List ℕ)) (y y' z z' w w' : List ℕ) → W (state_with before x y z w) (state_with after x' y' z' w')
+      → V (contents_with x y z w) (contents_with x' y' z' w'))
       → WhereTold (state_of contents left shown printed before) (state_of contents left shown printed after) W
       → WhereTold (contents_of contents left shown printed o) (contents_of contents left shown printed o') V
   on_objects W V so told =
-      subst (λ x. WhereTold (all_told contents_with (contents o.drive) x (shown o.terminal) (printed o.printer)) (contents_of contents left shown printed o') V) (sym (ap left are.input))
-      (subst (λ x. WhereTold (all_told contents_with (contents o.drive) (left (input_in before)) x (printed o.printer)) (contents_of contents left shown printed o') V) (sym (ap shown are.terminal))
-      (subst (λ x. WhereTold (all_told contents_with (contents o.drive) (left (input_in before)) (shown (terminal_in before)) x) (contents_of contents left shown printed o') V) (sym (ap printed are.printer))
-      (same_blocks contents_with (contents o.drive) (contents (drive_in before)) (left (input_in before)) (shown (terminal_in before)) (printed (printer_in before)) (contents_of contents left shown printed o') V are.drive
-      (subst (λ x. WhereTold (all_told contents_with (contents (drive_in before)) (left (input_in before)) (shown (terminal_in before)) (printed (printer_in before))) x V)
+      subst (λ x. WhereTold (all_told contents_with (contents o.drive) x (shown o.terminal) (printed o.printer)) (contents_of contents left shown printed o')
+      V) (sym (ap left are.input))
+      (subst (λ x. WhereTold (all_told contents_with (contents o.drive) (left (input_in before)) x (printed o.printer))
+      (contents_of contents left shown printed o') V) (sym (ap shown are.terminal))
+      (subst (λ x. WhereTold (all_told contents_with (contents o.drive) (left (input_in before)) (shown (terminal_in before)) x)
+      (contents_of contents left shown printed o') V) (sym (ap printed are.printer))
+      (same_blocks contents_with (contents o.drive) (contents (drive_in before)) (left (input_in before)) (shown (terminal_in before))
+      (printed (printer_in before)) (contents_of contents left shown printed o') V are.drive
+      (subst (λ x. WhereTold (all_told contents_with (contents (drive_in before)) (left (input_in before)) (shown (terminal_in before))
+      (printed (printer_in before))) x V)
       (sym told_of)
-      (told_otherwise (state_with before) (state_with after) contents_with (contents (drive_in before)) (contents (drive_in after)) (left (input_in before)) (left (input_in after))
+      (told_otherwise (state_with before) (state_with after) contents_with (contents (drive_in before)) (contents (drive_in after)) (left (input_in before))
+      (left (input_in after))
       (shown (terminal_in before)) (shown (terminal_in after)) (printed (printer_in before)) (printed (printer_in after)) W V
       (λ x x' y y' z z' w w' is. so x x' y y' z z' w w' is) told)))))
 
   -- what is not told stays so, and the drive is a valid image
   told_run : KeepsTold contents left shown printed before after
-      → ToldStays (contents o.drive) (contents o'.drive) (left o.input) (left o'.input) (shown o.terminal) (shown o'.terminal) (printed o.printer) (printed o'.printer)
+      → ToldStays (contents o.drive) (contents o'.drive) (left o.input) (left o'.input) (shown o.terminal) (shown o'.terminal) (printed o.printer)
+      (printed o'.printer)
   told_run told = record {
     drive = λ none. ap contents are'.drive ∙ told.drive (none_stays (λ old new. new ≡ old) (contents o.drive) (contents (drive_in before)) are.drive none);
     source = λ none. ap left are'.input ∙ told.source (ap left (sym are.input) ∙ none);
     terminal = λ none. ap shown are'.terminal ∙ told.terminal (ap shown (sym are.terminal) ∙ none);
     printer = λ none. ap printed are'.printer ∙ told.printer (ap printed (sym are.printer) ∙ none);
     valid = subst IsValid (sym (ap contents are'.drive)) told.valid;
-    grows = subst (λ x. WhereTold (shown x) (shown o'.terminal) Grows) (sym are.terminal) (subst (λ x. WhereTold (shown (terminal_in before)) (shown x) Grows) (sym are'.terminal) told.grows);
+    grows = subst (λ x. WhereTold (shown x) (shown o'.terminal) Grows) (sym are.terminal)
+        (subst (λ x. WhereTold (shown (terminal_in before)) (shown x) Grows) (sym are'.terminal) told.grows);
   }
 
   -- whether a line is due
@@ -142,7 +158,8 @@ module _ {D S T P : Type 0} (contents : D → Option (List (List ℕ))) (left : 
   due_run due begins is told keeps =
       go (shown o.terminal) (shown o'.terminal) (ap shown (sym are.terminal)) (ap shown (sym are'.terminal))
     where
-      go : (a b : Option (List ℕ)) → shown (terminal_in before) ≡ a → shown (terminal_in after) ≡ b → WhereTold a b (λ taken now. due ≡ due_after false (drop (length taken) now))
+      go : (a b : Option (List ℕ)) → shown (terminal_in before) ≡ a → shown (terminal_in after) ≡ b
+          → WhereTold a b (λ taken now. due ≡ due_after false (drop (length taken) now))
       go a None e e' = tt
       go None (Some now) e e' = absurd (let wrong : Some now ≡ None = sym e' ∙ told.terminal e in cc)
       go (Some taken) (Some now) e e' =
@@ -155,8 +172,10 @@ module _ {D S T P : Type 0} (contents : D → Option (List (List ℕ))) (left : 
 
   -- all of it
   pub run_leaves : (code : CodeParts) (bound : ℕ) (old : Drawn) (ran : Ran) (words : List ℕ) (used : ℕ) (new : Drawn) → SystemBegins before
-      → (old.drawn + bound < 2 ^ 64 → WhereTold (state_of contents left shown printed before) (state_of contents left shown printed after) (λ s t. RunsTo code (fresh s) bound old ran.ending words used t new))
-      → (ran.ending ≡ ending.Fault → old.drawn + bound < 2 ^ 64 → WhereTold (state_of contents left shown printed before) (state_of contents left shown printed after) (λ s t. IsAtMoment code (fresh s) bound old t))
+      → (old.drawn + bound < 2 ^ 64 → WhereTold (state_of contents left shown printed before) (state_of contents left shown printed after)
+      (λ s t. RunsTo code (fresh s) bound old ran.ending words used t new))
+      → (ran.ending ≡ ending.Fault → old.drawn + bound < 2 ^ 64 → WhereTold (state_of contents left shown printed before)
+      (state_of contents left shown printed after) (λ s t. IsAtMoment code (fresh s) bound old t))
       → ran.due ≡ due_in after → KeepsTold contents left shown printed before after → KeepsDue shown before after
       → RunLeaves contents left shown printed code bound old ran words used new o o'
   run_leaves code bound old ran words used new begins exact moment due told keeps = record {
@@ -169,14 +188,16 @@ module _ {D S T P : Type 0} (contents : D → Option (List (List ℕ))) (left : 
         }) (exact few);
     moment = λ fault few.
         on_objects (λ s t. IsAtMoment code (fresh s) bound old t) (StandsAtMoment code bound old)
-        (λ x x' y y' z z' w w' is. moment_is code bound old (contents_with x y z w) (state_with after x' y' z' w') (contents_with x' y' z' w') is refl refl refl refl)
+        (λ x x' y y' z z' w w' is. moment_is code bound old (contents_with x y z w) (state_with after x' y' z' w') (contents_with x' y' z' w') is refl refl
+        refl refl)
         (moment fault few);
     told = told_run told;
     due = due_run ran.due begins due told keeps;
   }
 
 -- no count of a system's objects has fallen, and none of its drive before
-pub none_falls : {D S T P : Type 0} (drive : D → ℕ) (input : S → ℕ) (terminal : T → ℕ) (printer : P → ℕ) (before after : System D S T P) (o o' : Objects D S T P)
+pub none_falls : {D S T P : Type 0} (drive : D → ℕ) (input : S → ℕ) (terminal : T → ℕ) (printer : P → ℕ) (before after : System D S T P)
+    (o o' : Objects D S T P)
     → drive o.drive ≤ drive (drive_in before) → o.input ≡ input_in before → o.terminal ≡ terminal_in before → o.printer ≡ printer_in before → AreOf after o'
     → ((outside : Outside) → faults_of drive input terminal printer before outside ≤ faults_of drive input terminal printer after outside)
     → NoneFalls drive input terminal printer o o'
@@ -186,5 +207,7 @@ none_falls drive input terminal printer before after o o' first i t p are' later
       subst (λ x. drive o.drive ≤ drive x) (sym are'.drive)
       (let then_ : drive (drive_in before) ≤ drive (drive_in after) = later outside.Drive in omega (arith, first, then_))
   each outside.Input = subst (λ x. input x ≤ input o'.input) (sym i) (subst (λ x. input (input_in before) ≤ input x) (sym are'.input) (later outside.Input))
-  each outside.Terminal = subst (λ x. terminal x ≤ terminal o'.terminal) (sym t) (subst (λ x. terminal (terminal_in before) ≤ terminal x) (sym are'.terminal) (later outside.Terminal))
-  each outside.Printer = subst (λ x. printer x ≤ printer o'.printer) (sym p) (subst (λ x. printer (printer_in before) ≤ printer x) (sym are'.printer) (later outside.Printer))
+  each outside.Terminal = subst (λ x. terminal x ≤ terminal o'.terminal) (sym t)
+      (subst (λ x. terminal (terminal_in before) ≤ terminal x) (sym are'.terminal) (later outside.Terminal))
+  each outside.Printer = subst (λ x. printer x ≤ printer o'.printer) (sym p)
+      (subst (λ x. printer (printer_in before) ≤ printer x) (sym are'.printer) (later outside.Printer))

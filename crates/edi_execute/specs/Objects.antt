@@ -39,7 +39,8 @@ abbrev pub contents_with : (disk : List (List ℕ)) → (input shown printed : L
 contents_with disk input shown printed = record { disk = disk; input = input; shown = shown; printed = printed }
 
 -- the contents of the four, where all of them are told
-abbrev pub contents_of : {D S T P : Type 0} → (D → Option (List (List ℕ))) → (S → Option (List ℕ)) → (T → Option (List ℕ)) → (P → Option (List ℕ)) → Objects D S T P → Option Contents
+abbrev pub contents_of : {D S T P : Type 0} → (D → Option (List (List ℕ))) → (S → Option (List ℕ)) → (T → Option (List ℕ)) → (P → Option (List ℕ))
+    → Objects D S T P → Option Contents
 contents_of contents left shown printed o =
     all_told contents_with (contents o.drive) (left o.input) (shown o.terminal) (printed o.printer)
 
@@ -78,12 +79,16 @@ pub record StandsAtMoment (code : CodeParts) (bound : ℕ) (old : Drawn) (before
 -- What a run leaves: where the four objects tell what they hold, what the kernel's run leaves; after a fault, what a state has
 -- through which it comes; what is told in the end was told at the start, what the terminal has taken only grows, and the drive is
 -- a valid image; and whether a line is due is told by the bytes that the terminal has taken in between.
-pub record RunLeaves {D S T P : Type 0} (contents : D → Option (List (List ℕ))) (left : S → Option (List ℕ)) (shown : T → Option (List ℕ)) (printed : P → Option (List ℕ)) (code : CodeParts) (bound : ℕ) (old : Drawn) (ran : Ran) (words : List ℕ) (used : ℕ) (new : Drawn) (before after : Objects D S T P) : Type 0 where
+pub record RunLeaves {D S T P : Type 0} (contents : D → Option (List (List ℕ))) (left : S → Option (List ℕ)) (shown : T → Option (List ℕ))
+    (printed : P → Option (List ℕ)) (code : CodeParts) (bound : ℕ) (old : Drawn) (ran : Ran) (words : List ℕ) (used : ℕ) (new : Drawn)
+    (before after : Objects D S T P) : Type 0 where
   pub runs : old.drawn + bound < 2 ^ 64 →
-      WhereTold (contents_of contents left shown printed before) (contents_of contents left shown printed after) (HasRun code bound old ran.ending words used new)
+      WhereTold (contents_of contents left shown printed before) (contents_of contents left shown printed after)
+      (HasRun code bound old ran.ending words used new)
   pub moment : ran.ending ≡ ending.Fault → old.drawn + bound < 2 ^ 64 →
       WhereTold (contents_of contents left shown printed before) (contents_of contents left shown printed after) (StandsAtMoment code bound old)
-  pub told : ToldStays (contents before.drive) (contents after.drive) (left before.input) (left after.input) (shown before.terminal) (shown after.terminal) (printed before.printer) (printed after.printer)
+  pub told : ToldStays (contents before.drive) (contents after.drive) (left before.input) (left after.input) (shown before.terminal) (shown after.terminal)
+      (printed before.printer) (printed after.printer)
   pub due : WhereTold (shown before.terminal) (shown after.terminal) (λ taken now. ran.due ≡ due_after false (drop (length taken) now))
 
 -- ---- their faults

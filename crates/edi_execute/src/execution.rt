@@ -30,9 +30,11 @@ pub fn execute<D: Drive, S: Source, T: Sink, P: Sink>(
     requires ready { IsReady D.contents D.count system.old }
     // Where the objects tell what they hold, the run is that of the machine's definition, and they hold afterwards what it leaves
     // (`exact`), after `Fault` what a state has through which it comes (`moment`).
-    ensures exact { choices.old.drawn + bound < 2 ^ 64 → WhereTold (state_of D.contents S.left T.taken P.taken system.old) (state_of D.contents S.left T.taken P.taken system.new)
+    ensures exact { choices.old.drawn + bound < 2 ^ 64 → WhereTold (state_of D.contents S.left T.taken P.taken system.old)
+        (state_of D.contents S.left T.taken P.taken system.new)
         (λ before after. RunsTo code.now (fresh before) bound choices.old result kernel.new.store kernel.new.used after choices.new) }
-    ensures moment { result ≡ Ending.Fault → choices.old.drawn + bound < 2 ^ 64 → WhereTold (state_of D.contents S.left T.taken P.taken system.old) (state_of D.contents S.left T.taken P.taken system.new)
+    ensures moment { result ≡ Ending.Fault → choices.old.drawn + bound < 2 ^ 64 → WhereTold (state_of D.contents S.left T.taken P.taken system.old)
+        (state_of D.contents S.left T.taken P.taken system.new)
         (λ before after. IsAtMoment code.now (fresh before) bound choices.old after) }
     // An object has failed exactly where the ending says so, and its count rose.
     ensures failed { IsSome (failed_in system.new) ↔ (result ≡ Ending.Fault) }

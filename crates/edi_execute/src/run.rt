@@ -64,8 +64,10 @@ pub fn run_on<D: Drive, S: Source, T: Sink, P: Sink>(
     ensures later { NoneFalls D.faults S.faults T.faults P.faults
         (objects drive.old input.old terminal.old printer.old) (objects drive.new input.new terminal.new printer.new) }
     // A drive that is not mounted keeps its blocks; then nothing else has changed.
-    ensures not_mounted { IfErr result (λ why. WhereTold (D.contents drive.old) (D.contents drive.new) (λ old new. (new ≡ old) × IsFirst why (mount_fault_of old))) }
-    ensures nothing_run { IfErr result (λ why. (input.new ≡ input.old) × (terminal.new ≡ terminal.old) × (printer.new ≡ printer.old) × (kernel.new ≡ kernel.old) × (choices.new ≡ choices.old)) }
+    ensures not_mounted { IfErr result (λ why. WhereTold (D.contents drive.old) (D.contents drive.new)
+        (λ old new. (new ≡ old) × IsFirst why (mount_fault_of old))) }
+    ensures nothing_run { IfErr result (λ why. (input.new ≡ input.old) × (terminal.new ≡ terminal.old) × (printer.new ≡ printer.old)
+        × (kernel.new ≡ kernel.old) × (choices.new ≡ choices.old)) }
     ensures cause { IfErr result (λ why. why ≡ MountFault.Fault → CountRose (D.faults drive.old) (D.faults drive.new)) }
     ensures source { choices.new.source ≡ choices.old.source }
     ensures drawn { choices.new.drawn ≤ choices.old.drawn + bound }

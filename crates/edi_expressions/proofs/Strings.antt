@@ -28,10 +28,15 @@ string_kind [] = refl
 string_kind (c ∷ []) = refl
 string_kind (c ∷ d ∷ more) = refl
 
-pub over_string : {k : Sort} {n : ℕ} {f : List Element → List Element} {x : List (Part Sort)} {p q rest : List Mark} → Goes k n f (part g.Factor ∷ x) p q → (text : List ℕ) (line : ℕ) → q ≡ at_line (is.Chars text) line ∷ rest → Goes k n (λ es. f (mark (chars_mark (record { text = text; line = line })) ∷ es)) x p rest
-over_string go [] line e = over_mark (chars_mark (record { text = []; line = line })) (at_line (is.Chars []) line) (into (token kind.Text ∷ []) go (ap (λ q. rule_at edison g.Factor (front q)) e)) e refl refl (refl, refl)
-over_string go (c ∷ []) line e = over_mark (chars_mark (record { text = c ∷ []; line = line })) (at_line (is.Chars (c ∷ [])) line) (into (token kind.Char ∷ []) go (ap (λ q. rule_at edison g.Factor (front q)) e)) e refl refl (refl, refl)
-over_string go (c ∷ d ∷ more) line e = over_mark (chars_mark (record { text = c ∷ d ∷ more; line = line })) (at_line (is.Chars (c ∷ d ∷ more)) line) (into (token kind.Text ∷ []) go (ap (λ q. rule_at edison g.Factor (front q)) e)) e refl refl (refl, refl)
+pub over_string : {k : Sort} {n : ℕ} {f : List Element → List Element} {x : List (Part Sort)} {p q rest : List Mark} → Goes k n f (part g.Factor ∷ x) p q
+    → (text : List ℕ) (line : ℕ) → q ≡ at_line (is.Chars text) line ∷ rest → Goes k n (λ es. f (mark (chars_mark (record { text = text; line = line })) ∷ es)) x
+    p rest
+over_string go [] line e = over_mark (chars_mark (record { text = []; line = line })) (at_line (is.Chars []) line)
+    (into (token kind.Text ∷ []) go (ap (λ q. rule_at edison g.Factor (front q)) e)) e refl refl (refl, refl)
+over_string go (c ∷ []) line e = over_mark (chars_mark (record { text = c ∷ []; line = line })) (at_line (is.Chars (c ∷ [])) line)
+    (into (token kind.Char ∷ []) go (ap (λ q. rule_at edison g.Factor (front q)) e)) e refl refl (refl, refl)
+over_string go (c ∷ d ∷ more) line e = over_mark (chars_mark (record { text = c ∷ d ∷ more; line = line })) (at_line (is.Chars (c ∷ d ∷ more)) line)
+    (into (token kind.Text ∷ []) go (ap (λ q. rule_at edison g.Factor (front q)) e)) e refl refl (refl, refl)
 
 pub no_string : (k : Sort) (n : ℕ) (p : List Mark) (e : Stop) → has (front p) (kind.Char ∷ kind.Text ∷ []) ≡ true → NoString p e → HaltsAt k n p e
 no_string k n p (stop.Fault rest) h s = let no : true ≡ false = sym h ∙ s.at in absurd (cc)

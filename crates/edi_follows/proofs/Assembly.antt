@@ -47,7 +47,8 @@ module _ (g : Coded) (choices : Choices) where
       × (Past j t past p others drawn ≡ end.past)
 
   module _ (outer : ℕ → Type 0) where
-    passes_run : (k : ℕ) (t : Machine) (past : List State) (p : Name) (others : List Name) (u : Machine) (now : List State) (drawn j : ℕ) (r : target.MachineRun)
+    passes_run : (k : ℕ) (t : Machine) (past : List State) (p : Name) (others : List Name) (u : Machine) (now : List State) (drawn j : ℕ)
+        (r : target.MachineRun)
         (end : List State) →
         Passes g outer k t past p others u now → Run j u p others drawn ≡ r → Past j u now p others drawn ≡ end →
         (i : ℕ) × (Run i t p others drawn ≡ r) × (Past i t past p others drawn ≡ end)

@@ -1,5 +1,6 @@
 -- A taken process changes no words but its own until the kernel takes the next, at no time between.
-use Rattle.std.proofs.Common.{◌≡◌, ℕ, zero, suc, ◌+◌, ◌<◌, ◌≤◌, ◌⊎◌, inl, inr, Bool, true, false, ◌||◌, List, [], ◌∷◌, ◌++◌, Option, Some, None, refl, sym, subst, ap, ◌∙◌, arith}
+use Rattle.std.proofs.Common.{◌≡◌, ℕ, zero, suc, ◌+◌, ◌<◌, ◌≤◌, ◌⊎◌, inl, inr, Bool, true, false, ◌||◌, List, [], ◌∷◌, ◌++◌, Option, Some, None, refl, sym}
+use Rattle.std.proofs.Common.{subst, ap, ◌∙◌, arith}
 use Rattle.edi_calls.specs.Choice.{Choices}
 use Rattle.edi_calls.specs.Names.{Name, find}
 use Rattle.edi_calls.specs.Outcome as outcome
@@ -19,7 +20,8 @@ use Rattle.edi_target.specs.Moments.{news_at}
 use Rattle.edi_segments.specs.Nested.{machine_after}
 use Rattle.edi_spots.specs.Coded.{Coded}
 use Rattle.edi_spots.specs.Related.{Related, Kept, MayStep, Queue}
-use Rattle.edi_spots.specs.Lands.{step, Keeps, Passes, EndsSo, LandsNext, LandsTested, Lands, Taken, Outside, StepClaim, StepsCohere, QueueAfter, StepsQueue, StartClaim, Begins, BeginsNot}
+use Rattle.edi_spots.specs.Lands.{step, Keeps, Passes, EndsSo, LandsNext, LandsTested, Lands, Taken, Outside, StepClaim, StepsCohere, QueueAfter, StepsQueue}
+use Rattle.edi_spots.specs.Lands.{StartClaim, Begins, BeginsNot}
 use Rattle.edi_follows.specs.Theorem.{Onward, IsTaken, at_start, after_switch}
 
 went_machine : {m t : Machine} {a b : Next} → target.went m a ≡ target.went t b → m ≡ t

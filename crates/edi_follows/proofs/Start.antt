@@ -1,5 +1,6 @@
 -- The program's entry: from there on both sides are related.
-use Rattle.std.proofs.Common.{◌≡◌, ℕ, zero, suc, ◌+◌, ◌<◌, ◌≤◌, ◌^◌, inl, true, false, List, [], ◌∷◌, ◌++◌, map, take, length, length-append, Option, Some, None, refl, sym, subst, ap, ◌∙◌, arith}
+use Rattle.std.proofs.Common.{◌≡◌, ℕ, zero, suc, ◌+◌, ◌<◌, ◌≤◌, ◌^◌, inl, true, false, List, [], ◌∷◌, ◌++◌, map, take, length, length-append, Option, Some}
+use Rattle.std.proofs.Common.{None, refl, sym, subst, ap, ◌∙◌, arith}
 use Rattle.std.specs.Prelude.{sum_by, slice_get, slice_index, slice_index_or, option_to_list, All}
 use Rattle.edi_calls.specs.Names.{Name, same, find}
 use Rattle.edi_calls.specs.Ready.{has, stays}
@@ -16,7 +17,8 @@ use Rattle.edi_unit.specs.Tree.{Block}
 use Rattle.edi_unit.specs.Need.{slots, slot_words, variable_words, acts_height}
 use Rattle.edi_unit.specs.Fits as fits
 use Rattle.edi_unit.specs.Fits.{KindFits, BlockFits, SlotIsKnown}
-use Rattle.edi_meaning.specs.Store.{Spot, system_procedure, Cell, value, procedure, Instance, Store, Shape, instances, cells_in, shape, frame_at, used, cell, no_cell, IsLive, within}
+use Rattle.edi_meaning.specs.Store.{Spot, system_procedure, Cell, value, procedure, Instance, Store, Shape, instances, cells_in, shape, frame_at, used, cell}
+use Rattle.edi_meaning.specs.Store.{no_cell, IsLive, within}
 use Rattle.edi_meaning.specs.Whole.{result_cells, instance_of}
 use Rattle.edi_meaning.specs.Step as source
 use Rattle.edi_meaning.specs.Step.{Process, Processes, program_end, body_of}

@@ -1,12 +1,14 @@
 -- Zeros in memory, and the program's block: what its start rests on.
-use Rattle.std.proofs.Common.{◌≡◌, ℕ, zero, suc, ◌+◌, ◌-◌, ◌<◌, ◌≤◌, ◌^◌, inl, inr, false, List, [], ◌∷◌, ◌++◌, length, get_or, append_assoc, length-append, None, refl, sym, ap, ◌∙◌, arith}
+use Rattle.std.proofs.Common.{◌≡◌, ℕ, zero, suc, ◌+◌, ◌-◌, ◌<◌, ◌≤◌, ◌^◌, inl, inr, false, List, [], ◌∷◌, ◌++◌, length, get_or, append_assoc, length-append}
+use Rattle.std.proofs.Common.{None, refl, sym, ap, ◌∙◌, arith}
 use Rattle.std.specs.Prelude.{replicate, All}
 use Rattle.std.proofs.lemmas.Bool.{cases_lt}
 use Rattle.std.proofs.lemmas.Grind.{same_number_lists}
 use Rattle.std.proofs.lemmas.List.{get_or_append_left, get_or-append_right}
 use Rattle.edi_calls.specs.Names.{Name}
 use Rattle.edi_store.specs.Memory.{words_at, written, zero_memory}
-use Rattle.edi_store.proofs.MemoryLaws.{length-zero_words, get_or-zero_words, length-words_at, get_or-words_at, length-written, get_or-written_here, get_or-written_after}
+use Rattle.edi_store.proofs.MemoryLaws.{length-zero_words, get_or-zero_words, length-words_at, get_or-words_at, length-written, get_or-written_here}
+use Rattle.edi_store.proofs.MemoryLaws.{get_or-written_after}
 use Rattle.edi_unit.specs.declared.units.Parameter.{Parameter}
 use Rattle.edi_unit.specs.declared.units.BlockKind.{BlockKind}
 use Rattle.edi_unit.specs.declared.units.BlockKind.TheVariants as kind
@@ -39,7 +41,8 @@ zeros_at (x ∷ xs) zero h = h.0
 zeros_at (x ∷ xs) (suc i) h = zeros_at xs i h.1
 
 -- what is written into zeros, with zeros behind it
-pub zeros_behind : (ws zs : List ℕ) (at : ℕ) → Zeros zs → at + length (ws ++ zs) ≤ 2 ^ 16 → words_at (written zero_memory at ws) at (length (ws ++ zs)) ≡ ws ++ zs
+pub zeros_behind : (ws zs : List ℕ) (at : ℕ) → Zeros zs → at + length (ws ++ zs) ≤ 2 ^ 16 → words_at (written zero_memory at ws) at (length (ws ++ zs)) ≡ ws
+    ++ zs
 zeros_behind ws zs at z room =
     let both : length (ws ++ zs) ≡ length ws + length zs = length-append ws zs in
     let fit : at + length ws ≤ length zero_memory = omega (arith, both, room, length-zero_words (2 ^ 16)) in

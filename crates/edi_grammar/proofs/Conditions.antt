@@ -1,5 +1,6 @@
 -- What the conditions on the parts of a grammar give.
-use Rattle.std.proofs.Common.{◌≡◌, ℕ, zero, suc, ◌+◌, ◌-◌, ◌<◌, List, [], ◌∷◌, ◌++◌, Bool, true, false, Option, Some, None, refl, sym, subst, arith, if◌then◌else◌, ap, ◌≤◌}
+use Rattle.std.proofs.Common.{◌≡◌, ℕ, zero, suc, ◌+◌, ◌-◌, ◌<◌, List, [], ◌∷◌, ◌++◌, Bool, true, false, Option, Some, None, refl, sym, subst, arith}
+use Rattle.std.proofs.Common.{if◌then◌else◌, ap, ◌≤◌}
 use Rattle.std.proofs.lemmas.Bool.{eqb-true, ltb-true}
 use Rattle.std.specs.Prelude.{nat_eq}
 use Rattle.edi_grammar.specs.Grammar.{Part, token, level_end, part, Grammar, rule_no, level, opened}
@@ -52,7 +53,8 @@ module _ {N S : Type 0} (g : Grammar N S) where
   Links k [] = Unit {0}
   Links k (token a ∷ x) = (g.kind (g.sample a) ≡ a) × Links k x
   Links k (level_end ∷ x) = Links k x
-  Links k (part j ∷ x) = ((a : ℕ) → has a (firsts g x) ≡ true → has a (g.follow j) ≡ true) × (null_of g x ≡ true → (a : ℕ) → has a (g.follow k) ≡ true → has a (g.follow j) ≡ true) × Links k x
+  Links k (part j ∷ x) = ((a : ℕ) → has a (firsts g x) ≡ true → has a (g.follow j) ≡ true)
+      × (null_of g x ≡ true → (a : ℕ) → has a (g.follow k) ≡ true → has a (g.follow j) ≡ true) × Links k x
 
   abbrev pub Below : ℕ → List (Part N) → Type 0
   Below r [] = Unit {0}
@@ -64,7 +66,11 @@ module _ {N S : Type 0} (g : Grammar N S) where
   links_of k [] e = tt
   links_of k (token a ∷ x) e = (eqb-true _ _ (left _ _ e), links_of k x (right _ _ e))
   links_of k (level_end ∷ x) e = links_of k x e
-  links_of k (part j ∷ x) e = (each_at _ (firsts g x) (left _ _ e), λ h. each_at _ (g.follow k) (when _ _ (left _ _ (right _ _ e)) h), links_of k x (right _ _ (right _ _ e)))
+  links_of k (part j ∷ x) e = (
+    each_at _ (firsts g x) (left _ _ e),
+    λ h. each_at _ (g.follow k) (when _ _ (left _ _ (right _ _ e)) h),
+    links_of k x (right _ _ (right _ _ e)),
+  )
 
   below_of : (r : ℕ) (x : List (Part N)) → below g r x ≡ true → Below r x
   below_of r [] e = tt
@@ -93,10 +99,13 @@ module _ {N S : Type 0} (g : Grammar N S) where
   even_of x n None e h = cc
   even_of x n (Some c) e h = let none : c ≡ 0 = eqb-true c 0 h in let l : level g x n ≡ c + n = balanced x c n e in omega (arith, none, l)
 
-  at_rule : (k : N) (j : ℕ) (xs : List (List (Part N))) → rules_are_fair g k j xs ≡ true → (i : ℕ) (x : List (Part N)) → rule_no xs i ≡ Some x → rule_is_fair g k (i + j) x ≡ true
+  at_rule : (k : N) (j : ℕ) (xs : List (List (Part N))) → rules_are_fair g k j xs ≡ true → (i : ℕ) (x : List (Part N)) → rule_no xs i ≡ Some x
+      → rule_is_fair g k (i + j) x ≡ true
   at_rule k j [] e i x h = cc
-  at_rule k j (y ∷ xs) e zero x h = let same : y ≡ x = some_same y x h in let none : 0 + j ≡ j = omega arith in rw none (subst (λ x. rule_is_fair g k j x ≡ true) same (left _ _ e))
-  at_rule k j (y ∷ xs) e (suc i) x h = let same : i + suc j ≡ suc i + j = omega arith in subst (λ n. rule_is_fair g k n x ≡ true) same (at_rule k (suc j) xs (right _ _ e) i x h)
+  at_rule k j (y ∷ xs) e zero x h = let same : y ≡ x = some_same y x h in let none : 0 + j ≡ j = omega arith in
+      rw none (subst (λ x. rule_is_fair g k j x ≡ true) same (left _ _ e))
+  at_rule k j (y ∷ xs) e (suc i) x h = let same : i + suc j ≡ suc i + j = omega arith in
+      subst (λ n. rule_is_fair g k n x ≡ true) same (at_rule k (suc j) xs (right _ _ e) i x h)
 
   -- each level that opens in these parts ends in them or behind them
   abbrev pub Sane : List (Part N) → Type 0
@@ -130,8 +139,10 @@ module _ {N S : Type 0} (g : Grammar N S) where
   sane_both : (y x : List (Part N)) (c : ℕ) → balance g y ≡ Some c → Sane x → Sane (y ++ x)
   sane_both [] x c e h = h
   sane_both (token a ∷ y) x c e h =
-      let tail = balanced_tail (g.opens a) (balance g y) c e in
-      (rw (level_both y x 0) (opens_before a c (level g x 0) (level g y (level g x 0)) (g.opens a) (balance g y) e (λ d f. balanced y d (level g x 0) f)), sane_both y x tail.0 tail.1 h)
+      let tail = balanced_tail (g.opens a) (balance g y) c e in (
+        rw (level_both y x 0) (opens_before a c (level g x 0) (level g y (level g x 0)) (g.opens a) (balance g y) e (λ d f. balanced y d (level g x 0) f)),
+        sane_both y x tail.0 tail.1 h,
+      )
   sane_both (level_end ∷ y) x c e h = let tail = balanced_rest (balance g y) c e in sane_both y x tail.0 tail.1 h
   sane_both (part k ∷ y) x c e h = sane_both y x c e h
 
@@ -153,11 +164,13 @@ module _ {N S : Type 0} (g : Grammar N S) where
     rule_of : (k : N) (i : ℕ) (x : List (Part N)) → rule_no (g.rules k) i ≡ Some x → rule_is_fair g k i x ≡ true
     rule_of k i x h = let same : i + 0 ≡ i = omega arith in subst (λ n. rule_is_fair g k n x ≡ true) same (at_rule k 0 (g.rules k) (left _ _ (fair k)) i x h)
 
-    short_of : (k : N) (o : Option (List (Part N))) → rule_no (g.rules k) (g.short k) ≡ o → is_short g k o ≡ true → (x : List (Part N)) × (rule_no (g.rules k) (g.short k) ≡ Some x) × Below (g.rank k) x
+    short_of : (k : N) (o : Option (List (Part N))) → rule_no (g.rules k) (g.short k) ≡ o → is_short g k o ≡ true → (x : List (Part N))
+        × (rule_no (g.rules k) (g.short k) ≡ Some x) × Below (g.rank k) x
     short_of k None e h = cc
     short_of k (Some x) e h = (x, e, below_of (g.rank k) x h)
 
-    conditions : (k : N) (i : ℕ) (x : List (Part N)) → rule_no (g.rules k) i ≡ Some x → Five (if null_of g x then g.null k else true) (subset (firsts g x) (g.first k)) (links g k x) (is_even (balance g x)) (each (λ a. nat_eq (pick g k a (g.rules k)) i) (selects g k x))
+    conditions : (k : N) (i : ℕ) (x : List (Part N)) → rule_no (g.rules k) i ≡ Some x → Five (if null_of g x then g.null k else true)
+        (subset (firsts g x) (g.first k)) (links g k x) (is_even (balance g x)) (each (λ a. nat_eq (pick g k a (g.rules k)) i) (selects g k x))
     conditions k i x h = five _ _ _ _ _ (rule_of k i x h)
 
     pub fair_of : Fair

@@ -1,7 +1,11 @@
 -- One symbol in hand decides, in each part of the grammar of Edison.
 use Rattle.std.proofs.Common.{◌≡◌, true, refl}
 use Rattle.edi_grammar.specs.Fair.{part_is_fair}
-use Rattle.edi_grammar.specs.Rules.{Sort, Program, Globals, Global, ConstList, ConstDecls, ConstDecl, Constant, Code, TypeDecl, Names, Group, Groups, VarList, Head, Params, MoreParams, Result, Param, Procedure, Item, Module, Member, Members, Declaration, Declarations, StatementList, Statements, Statement, After, Args, Exprs, Selectors, Selector, Conditions, Condition, Else, Branch, Branches, Expr, Comparison, Relation, Simple, Sign, Addends, Addend, Addition, Term, Multipliers, Multiplier, Multiplication, Factor, Behind}
+use Rattle.edi_grammar.specs.Rules.{Sort, Program, Globals, Global, ConstList, ConstDecls, ConstDecl, Constant, Code, TypeDecl, Names, Group, Groups}
+use Rattle.edi_grammar.specs.Rules.{VarList, Head, Params, MoreParams, Result, Param, Procedure, Item, Module, Member, Members, Declaration, Declarations}
+use Rattle.edi_grammar.specs.Rules.{StatementList, Statements, Statement, After, Args, Exprs, Selectors, Selector, Conditions, Condition, Else, Branch}
+use Rattle.edi_grammar.specs.Rules.{Branches, Expr, Comparison, Relation, Simple, Sign, Addends, Addend, Addition, Term, Multipliers, Multiplier}
+use Rattle.edi_grammar.specs.Rules.{Multiplication, Factor, Behind}
 use Rattle.edi_grammar.specs.Edison.{edison}
 use Rattle.edi_grammar.proofs.Conditions.{Fair, fair_of}
 

@@ -9,7 +9,8 @@ module _ {N S : Type 0} (g : Grammar N S) (fair : Fair g) where
   at_front : (n : ℕ) (x : List (Part N)) (items rest : List (Item S)) → items ≡ rest → Derives g n x items → level g x 0 ≡ ends_in g rest
   at_front n x items rest e d = sym (ends_level g fair n x items d) ∙ ap (ends_in g) e
 
-  pub open_is_ending : (n : ℕ) (x : List (Part N)) (items before rest : List (Item S)) → Sane g x → items ≡ before ++ rest → Derives g n x items → open_behind g (level g x 0) before ≡ ends_in g rest
+  pub open_is_ending : (n : ℕ) (x : List (Part N)) (items before rest : List (Item S)) → Sane g x → items ≡ before ++ rest → Derives g n x items
+      → open_behind g (level g x 0) before ≡ ends_in g rest
   open_is_ending n x items [] rest s e d = at_front n x items rest e d
   open_is_ending zero x items (b ∷ before) rest s e d = absurd d
   open_is_ending (suc n) [] items (b ∷ before) rest s e d = let none : b ∷ (before ++ rest) ≡ [] = sym e ∙ d in cc
@@ -17,7 +18,8 @@ module _ {N S : Type 0} (g : Grammar N S) (fair : Fair g) where
       let heads : mark d.0 ∷ d.1 ≡ b ∷ (before ++ rest) = sym d.2 ∙ e in
       let one : mark d.0 ≡ b = cc in
       let more : d.1 ≡ before ++ rest = cc in
-      let same : level g (token a ∷ x) 0 + opened g (g.kind d.0) ≡ level g x 0 = counted (level g x 0) (opened g a) (opened g (g.kind d.0)) s.0 (ap (opened g) d.3) in
+      let same : level g (token a ∷ x) 0 + opened g (g.kind d.0) ≡ level g x 0 = counted (level g x 0) (opened g a) (opened g (g.kind d.0)) s.0
+      (ap (opened g) d.3) in
       subst (λ b. open_behind g (level g (token a ∷ x) 0) (b ∷ before) ≡ ends_in g rest) one
       (subst (λ k. open_behind g k before ≡ ends_in g rest) (sym same) (open_is_ending n x d.1 before rest s.1 more d.4)) where
         counted : (l o p : ℕ) → o ≤ l → p ≡ o → (l - o) + p ≡ l

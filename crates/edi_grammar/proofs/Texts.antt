@@ -30,25 +30,30 @@ module _ {N S : Type 0} (g : Grammar N S) where
   Good [] = Unit {0}
   Good (token a ∷ x) = (g.kind (g.sample a) ≡ a) × Good x
   Good (level_end ∷ x) = Good x
-  Good (part k ∷ x) = ((n : ℕ) (s : S) (words : List S) (items : List (Item S)) → plain items ≡ s ∷ words → Derives g n x items → has (g.kind s) (g.follow k) ≡ true) × Good x
+  Good (part k ∷ x) = ((n : ℕ) (s : S) (words : List S) (items : List (Item S)) → plain items ≡ s ∷ words → Derives g n x items
+      → has (g.kind s) (g.follow k) ≡ true) × Good x
 
   module _ (fair : Fair g) where
     -- a text ends the levels that its parts say
     pub ends_level : (n : ℕ) (x : List (Part N)) (items : List (Item S)) → Derives g n x items → ends_in g items ≡ level g x 0
     ends_level zero x items d = absurd d
     ends_level (suc n) [] items d = ap (ends_in g) d
-    ends_level (suc n) (token a ∷ x) items d = ap (ends_in g) d.2 ∙ ap (λ m. m - opened g (g.kind d.0)) (ends_level n x d.1 d.4) ∙ ap (λ a. level g x 0 - opened g a) d.3
+    ends_level (suc n) (token a ∷ x) items d = ap (ends_in g) d.2 ∙ ap (λ m. m - opened g (g.kind d.0)) (ends_level n x d.1 d.4)
+        ∙ ap (λ a. level g x 0 - opened g a) d.3
     ends_level (suc n) (level_end ∷ x) items d = ap (ends_in g) d.1 ∙ ap (λ m. suc m) (ends_level n x d.0 d.2)
     ends_level (suc n) (part k ∷ x) items d = ends_level n (d.1 ++ x) items d.3 ∙ level_both g d.1 x 0 ∙ fair.even k d.0 d.1 (level g x 0) d.2
 
     -- a text of x and y begins as x may, or x is empty and y has it
     abbrev pub PartsBegin : ℕ → List (Part N) → List (Part N) → S → List S → Type 0
-    PartsBegin n x y s words = (has (g.kind s) (firsts g x) ≡ true) ⊎ ((null_of g x ≡ true) × (items : List (Item S)) × (plain items ≡ s ∷ words) × Derives g n y items)
+    PartsBegin n x y s words = (has (g.kind s) (firsts g x) ≡ true)
+        ⊎ ((null_of g x ≡ true) × (items : List (Item S)) × (plain items ≡ s ∷ words) × Derives g n y items)
 
-    pub begins : (n : ℕ) (x y : List (Part N)) (s : S) (words : List S) (items : List (Item S)) → plain items ≡ s ∷ words → Derives g n (x ++ y) items → PartsBegin n x y s words
+    pub begins : (n : ℕ) (x y : List (Part N)) (s : S) (words : List S) (items : List (Item S)) → plain items ≡ s ∷ words → Derives g n (x ++ y) items
+        → PartsBegin n x y s words
     begins zero x y s words items e d = absurd d
     begins (suc n) [] y s words items e d = inr (refl, items, e, d)
-    begins (suc n) (token b ∷ x) y s words items e d = let same : s ∷ words ≡ d.0 ∷ plain d.1 = sym e ∙ ap plain d.2 in let one : s ≡ d.0 = cc in inl (has_here (g.kind s) b [] (ap g.kind one ∙ d.3))
+    begins (suc n) (token b ∷ x) y s words items e d = let same : s ∷ words ≡ d.0 ∷ plain d.1 = sym e ∙ ap plain d.2 in let one : s ≡ d.0 = cc in
+        inl (has_here (g.kind s) b [] (ap g.kind one ∙ d.3))
     begins (suc n) (level_end ∷ x) y s words items e d = more (begins n x y s words d.0 (sym (ap plain d.1) ∙ e) d.2) where
       more : PartsBegin n x y s words → PartsBegin (suc n) (level_end ∷ x) y s words
       more (inl h) = inl h
@@ -58,7 +63,8 @@ module _ {N S : Type 0} (g : Grammar N S) where
       inner e (inl h) = inl (has_right (g.kind s) (g.first k) _ (rw e h))
       inner e (inr h) = inr (rw e h.0, h.1, h.2, one_more_step n y h.1 h.3)
 
-      outer : ((items : List (Item S)) → plain items ≡ s ∷ words → Derives g n (x ++ y) items → PartsBegin n x y s words) → PartsBegin n d.1 (x ++ y) s words → PartsBegin (suc n) (part k ∷ x) y s words
+      outer : ((items : List (Item S)) → plain items ≡ s ∷ words → Derives g n (x ++ y) items → PartsBegin n x y s words) → PartsBegin n d.1 (x ++ y) s words
+          → PartsBegin (suc n) (part k ∷ x) y s words
       outer again (inl h) = inl (has_left (g.kind s) (g.first k) _ (fair.first k d.0 d.1 (g.kind s) d.2 h))
       outer again (inr h) = inner (fair.null k d.0 d.1 d.2 h.0) (again h.1 h.2 h.3)
 
@@ -72,7 +78,8 @@ module _ {N S : Type 0} (g : Grammar N S) where
       by n s words (inr e) = l.1 e.0 (g.kind s) (h.0 n s words e.1 e.2 e.3)
 
     -- the rule of a part is the one that the symbol in hand selects
-    pub picked : (n i : ℕ) (k : N) (rule x : List (Part N)) (s : S) (words : List S) (items : List (Item S)) → Good (part k ∷ x) → rule_no (g.rules k) i ≡ Some rule → plain items ≡ s ∷ words → Derives g n (rule ++ x) items → pick g k (g.kind s) (g.rules k) ≡ i
+    pub picked : (n i : ℕ) (k : N) (rule x : List (Part N)) (s : S) (words : List S) (items : List (Item S)) → Good (part k ∷ x)
+        → rule_no (g.rules k) i ≡ Some rule → plain items ≡ s ∷ words → Derives g n (rule ++ x) items → pick g k (g.kind s) (g.rules k) ≡ i
     picked n i k rule x s words items good at e d = by (begins n rule x s words items e d) where
       by : PartsBegin n rule x s words → pick g k (g.kind s) (g.rules k) ≡ i
       by (inl h) = fair.picked k i rule (g.kind s) at (has_left (g.kind s) (firsts g rule) _ h)

@@ -40,7 +40,8 @@ module _ {N : Type 0} (S : Type 0) (Tree : N → Type 0) where
       (ap (λ cut. cut.0) both, ap (λ cut. cut.1) both)
 
   -- a rule makes a tree
-  make : (k : N) (rules : List (List (Part N))) (b : Builders S Tree k rules) (i : ℕ) (rule : List (Part N)) (P : (x : List (Part N)) → Ts x → Type 0) → rule_no rules i ≡ Some rule → (us : Ts rule) → P rule us → (t : Tree k) × Built S Tree k rules b i t P
+  make : (k : N) (rules : List (List (Part N))) (b : Builders S Tree k rules) (i : ℕ) (rule : List (Part N)) (P : (x : List (Part N)) → Ts x → Type 0)
+      → rule_no rules i ≡ Some rule → (us : Ts rule) → P rule us → (t : Tree k) × Built S Tree k rules b i t P
   make k [] b i rule P at us p = cc
   make k (first ∷ more) b zero rule P at us p =
       let same : first ≡ rule = some_same first rule at in
@@ -49,13 +50,16 @@ module _ {N : Type 0} (S : Type 0) (Tree : N → Type 0) where
   make k (first ∷ more) b (suc i) rule P at us p = make k more b.1 i rule P at us p
 
   -- a tree that is made is made by a rule
-  rule_of : (k : N) (rules : List (List (Part N))) (b : Builders S Tree k rules) (i : ℕ) (t : Tree k) (P : (x : List (Part N)) → Ts x → Type 0) → Built S Tree k rules b i t P → (rule : List (Part N)) × (us : Ts rule) × (rule_no rules i ≡ Some rule) × P rule us
+  rule_of : (k : N) (rules : List (List (Part N))) (b : Builders S Tree k rules) (i : ℕ) (t : Tree k) (P : (x : List (Part N)) → Ts x → Type 0)
+      → Built S Tree k rules b i t P → (rule : List (Part N)) × (us : Ts rule) × (rule_no rules i ≡ Some rule) × P rule us
   rule_of k [] b i t P h = absurd h
   rule_of k (first ∷ more) b zero t P h = (first, h.0, refl, h.2)
   rule_of k (first ∷ more) b (suc i) t P h = rule_of k more b.1 i t P h
 
   -- what one rule makes of the same is the same
-  same_made : (k : N) (rules : List (List (Part N))) (b : Builders S Tree k rules) (i : ℕ) (t u : Tree k) (P Q : (x : List (Part N)) → Ts x → Type 0) (R : Type 0) → ((rule : List (Part N)) (us vs : Ts rule) → rule_no rules i ≡ Some rule → P rule us → Q rule vs → (us ≡ vs) × R) → Built S Tree k rules b i t P → Built S Tree k rules b i u Q → (t ≡ u) × R
+  same_made : (k : N) (rules : List (List (Part N))) (b : Builders S Tree k rules) (i : ℕ) (t u : Tree k) (P Q : (x : List (Part N)) → Ts x → Type 0)
+      (R : Type 0) → ((rule : List (Part N)) (us vs : Ts rule) → rule_no rules i ≡ Some rule → P rule us → Q rule vs → (us ≡ vs) × R)
+      → Built S Tree k rules b i t P → Built S Tree k rules b i u Q → (t ≡ u) × R
   same_made k [] b i t u P Q R all h f = absurd h
   same_made k (first ∷ more) b zero t u P Q R all h f = let one = all first h.0 f.0 refl h.2 f.2 in (h.1 ∙ ap b.0 one.0 ∙ sym f.1, one.1)
   same_made k (first ∷ more) b (suc i) t u P Q R all h f = same_made k more b.1 i t u P Q R all h f
@@ -79,7 +83,8 @@ module _ {N S : Type 0} (g : Grammar N S) (Tree : N → Type 0) (build : (k : N)
   trees_of (suc n) (part k ∷ x) items d =
       let all = trees_of n (d.1 ++ x) items d.3 in
       let cut = split S Tree d.1 x all.0 in
-      let whole : Reads g Tree build n (d.1 ++ x) items (join S Tree d.1 x cut.0 cut.1) = subst (λ ts. Reads g Tree build n (d.1 ++ x) items ts) (sym (join_split S Tree d.1 x all.0)) all.1 in
+      let whole : Reads g Tree build n (d.1 ++ x) items (join S Tree d.1 x cut.0 cut.1) = subst (λ ts. Reads g Tree build n (d.1 ++ x) items ts)
+      (sym (join_split S Tree d.1 x all.0)) all.1 in
       let one = make S Tree k (g.rules k) (build k) d.0 d.1 (λ rule us. Reads g Tree build n (rule ++ x) items (join S Tree rule x us cut.1)) d.2 cut.0 whole in
       ((one.0, cut.1), (d.0, one.1))
 
@@ -117,7 +122,8 @@ module _ {N S : Type 0} (g : Grammar N S) (Tree : N → Type 0) (build : (k : N)
 
   module _ (fair : Fair g) where
     abbrev Same : ℕ → List (Part N) → Type 0
-    Same n x = (m : ℕ) (items others : List (Item S)) (ts us : Trees S Tree x) → Good g x → Ended x → plain items ≡ plain others → Reads g Tree build n x items ts → Reads g Tree build m x others us → ts ≡ us
+    Same n x = (m : ℕ) (items others : List (Item S)) (ts us : Trees S Tree x) → Good g x → Ended x → plain items ≡ plain others
+        → Reads g Tree build n x items ts → Reads g Tree build m x others us → ts ≡ us
 
     same_part : (n : ℕ) (k : N) (x : List (Part N)) → ((rule : List (Part N)) → Same n (rule ++ x)) → Same (suc n) (part k ∷ x)
     same_part n k x again zero items others ts us good end e d f = absurd f
@@ -132,7 +138,9 @@ module _ {N S : Type 0} (g : Grammar N S) (Tree : N → Type 0) (build : (k : N)
         let i : pick g k (g.kind word.0) (g.rules k) ≡ d.0 = picked g fair n d.0 k one.0 x word.0 word.1 items good one.2 word.2 left in
         let j : pick g k (g.kind word.0) (g.rules k) ≡ f.0 = picked g fair m f.0 k two.0 x word.0 word.1 others good two.2 (sym e ∙ word.2) right in
         let made = same_made S Tree k (g.rules k) (build k) d.0 ts.0 us.0 P Q (ts.1 ≡ us.1)
-        (λ rule vs ws at p q. join_same S Tree rule x vs ws ts.1 us.1 (again rule m items others (join S Tree rule x vs ts.1) (join S Tree rule x ws us.1) (good_more g fair k x good rule (fair.links k d.0 rule at)) (ended rule x end.0 end.1) e p q))
+        (λ rule vs ws at p q. join_same S Tree rule x vs ws ts.1 us.1
+        (again rule m items others (join S Tree rule x vs ts.1) (join S Tree rule x ws us.1) (good_more g fair k x good rule (fair.links k d.0 rule at))
+        (ended rule x end.0 end.1) e p q))
         d.1 (subst (λ i. Built S Tree k (g.rules k) (build k) i us.0 Q) (sym j ∙ i) f.1) in
         pair_same ts us made.0 made.1
 
@@ -146,5 +154,6 @@ module _ {N S : Type 0} (g : Grammar N S) (Tree : N → Type 0) (build : (k : N)
         let one : ts.0 ≡ us.0 = cc in
         let rest : plain d.0 ≡ plain f.0 = cc in
         pair_same ts us one (same_trees n x m d.0 f.0 ts.1 us.1 good.1 end rest d.3 f.3)
-    same_trees (suc n) (level_end ∷ x) (suc m) items others ts us good end e d f = same_trees n x m d.0 f.0 ts us good end (sym (ap plain d.1) ∙ e ∙ ap plain f.1) d.2 f.2
+    same_trees (suc n) (level_end ∷ x) (suc m) items others ts us good end e d f = same_trees n x m d.0 f.0 ts us good end
+        (sym (ap plain d.1) ∙ e ∙ ap plain f.1) d.2 f.2
     same_trees (suc n) (part k ∷ x) m items others ts us good end e d f = same_part n k x (λ rule. same_trees n (rule ++ x)) m items others ts us good end e d f

@@ -4,7 +4,11 @@ use Rattle.edi_lex.specs.declared.symbol.Mark.{Mark}
 use Rattle.edi_grammar.specs.Grammar.{Part, token, part, Grammar}
 use Rattle.edi_grammar.specs.Kinds as kind
 use Rattle.edi_grammar.specs.Kind.{kind_at, sample}
-use Rattle.edi_grammar.specs.Rules.{Sort, Program, Globals, Global, ConstList, ConstDecls, ConstDecl, Constant, Code, TypeDecl, Names, Group, Groups, VarList, Head, Params, MoreParams, Result, Param, Procedure, Item, Module, Member, Members, Declaration, Declarations, StatementList, Statements, Statement, After, Args, Exprs, Selectors, Selector, Conditions, Condition, Else, Branch, Branches, Expr, Comparison, Relation, Simple, Sign, Addends, Addend, Addition, Term, Multipliers, Multiplier, Multiplication, Factor, Behind, opens, rules}
+use Rattle.edi_grammar.specs.Rules.{Sort, Program, Globals, Global, ConstList, ConstDecls, ConstDecl, Constant, Code, TypeDecl, Names, Group, Groups}
+use Rattle.edi_grammar.specs.Rules.{VarList, Head, Params, MoreParams, Result, Param, Procedure, Item, Module, Member, Members, Declaration, Declarations}
+use Rattle.edi_grammar.specs.Rules.{StatementList, Statements, Statement, After, Args, Exprs, Selectors, Selector, Conditions, Condition, Else, Branch}
+use Rattle.edi_grammar.specs.Rules.{Branches, Expr, Comparison, Relation, Simple, Sign, Addends, Addend, Addition, Term, Multipliers, Multiplier}
+use Rattle.edi_grammar.specs.Rules.{Multiplication, Factor, Behind, opens, rules}
 
 abbrev pub null : Sort → Bool
 null Program = false
@@ -118,25 +122,41 @@ abbrev pub follow : Sort → List ℕ
 follow Program = kind.End_of_text ∷ []
 follow Globals = kind.Proc ∷ []
 follow Global = kind.Array ∷ kind.Const ∷ kind.Enum ∷ kind.Proc ∷ kind.Record ∷ kind.Set ∷ []
-follow ConstList = kind.Array ∷ kind.Begin ∷ kind.Const ∷ kind.Enum ∷ kind.Module ∷ kind.Post ∷ kind.Pre ∷ kind.Proc ∷ kind.Record ∷ kind.Set ∷ kind.Var ∷ kind.Star ∷ []
-follow ConstDecls = kind.Array ∷ kind.Begin ∷ kind.Const ∷ kind.Enum ∷ kind.Module ∷ kind.Post ∷ kind.Pre ∷ kind.Proc ∷ kind.Record ∷ kind.Set ∷ kind.Var ∷ kind.Star ∷ []
-follow ConstDecl = kind.Array ∷ kind.Begin ∷ kind.Const ∷ kind.Enum ∷ kind.Module ∷ kind.Post ∷ kind.Pre ∷ kind.Proc ∷ kind.Record ∷ kind.Set ∷ kind.Var ∷ kind.Star ∷ kind.Semicolon ∷ []
-follow Constant = kind.Array ∷ kind.Begin ∷ kind.Const ∷ kind.Do ∷ kind.Enum ∷ kind.Module ∷ kind.Post ∷ kind.Pre ∷ kind.Proc ∷ kind.Record ∷ kind.Set ∷ kind.Var ∷ kind.Star ∷ kind.Colon ∷ kind.Semicolon ∷ kind.CloseBracket ∷ []
-follow Code = kind.Array ∷ kind.Begin ∷ kind.Const ∷ kind.Do ∷ kind.Enum ∷ kind.Module ∷ kind.Post ∷ kind.Pre ∷ kind.Proc ∷ kind.Record ∷ kind.Set ∷ kind.Var ∷ kind.Star ∷ kind.Colon ∷ kind.Semicolon ∷ kind.CloseBracket ∷ []
-follow TypeDecl = kind.Array ∷ kind.Begin ∷ kind.Const ∷ kind.Enum ∷ kind.Module ∷ kind.Post ∷ kind.Pre ∷ kind.Proc ∷ kind.Record ∷ kind.Set ∷ kind.Var ∷ kind.Star ∷ []
+follow ConstList = kind.Array ∷ kind.Begin ∷ kind.Const ∷ kind.Enum ∷ kind.Module ∷ kind.Post ∷ kind.Pre ∷ kind.Proc ∷ kind.Record ∷ kind.Set ∷ kind.Var
+    ∷ kind.Star ∷ []
+follow ConstDecls = kind.Array ∷ kind.Begin ∷ kind.Const ∷ kind.Enum ∷ kind.Module ∷ kind.Post ∷ kind.Pre ∷ kind.Proc ∷ kind.Record ∷ kind.Set ∷ kind.Var
+    ∷ kind.Star ∷ []
+follow ConstDecl = kind.Array ∷ kind.Begin ∷ kind.Const ∷ kind.Enum ∷ kind.Module ∷ kind.Post ∷ kind.Pre ∷ kind.Proc ∷ kind.Record ∷ kind.Set ∷ kind.Var
+    ∷ kind.Star ∷ kind.Semicolon ∷ []
+follow Constant = kind.Array ∷ kind.Begin ∷ kind.Const ∷ kind.Do ∷ kind.Enum ∷ kind.Module ∷ kind.Post ∷ kind.Pre ∷ kind.Proc ∷ kind.Record ∷ kind.Set
+    ∷ kind.Var ∷ kind.Star ∷ kind.Colon ∷ kind.Semicolon ∷ kind.CloseBracket ∷ []
+follow Code = kind.Array ∷ kind.Begin ∷ kind.Const ∷ kind.Do ∷ kind.Enum ∷ kind.Module ∷ kind.Post ∷ kind.Pre ∷ kind.Proc ∷ kind.Record ∷ kind.Set ∷ kind.Var
+    ∷ kind.Star ∷ kind.Colon ∷ kind.Semicolon ∷ kind.CloseBracket ∷ []
+follow TypeDecl = kind.Array ∷ kind.Begin ∷ kind.Const ∷ kind.Enum ∷ kind.Module ∷ kind.Post ∷ kind.Pre ∷ kind.Proc ∷ kind.Record ∷ kind.Set ∷ kind.Var
+    ∷ kind.Star ∷ []
 follow Names = kind.Colon ∷ kind.Close ∷ []
-follow Group = kind.Array ∷ kind.Begin ∷ kind.Const ∷ kind.Enum ∷ kind.Module ∷ kind.Post ∷ kind.Pre ∷ kind.Proc ∷ kind.Record ∷ kind.Set ∷ kind.Var ∷ kind.Star ∷ kind.Semicolon ∷ kind.Close ∷ []
-follow Groups = kind.Array ∷ kind.Begin ∷ kind.Const ∷ kind.Enum ∷ kind.Module ∷ kind.Post ∷ kind.Pre ∷ kind.Proc ∷ kind.Record ∷ kind.Set ∷ kind.Var ∷ kind.Star ∷ kind.Close ∷ []
-follow VarList = kind.Array ∷ kind.Begin ∷ kind.Const ∷ kind.Enum ∷ kind.Module ∷ kind.Post ∷ kind.Pre ∷ kind.Proc ∷ kind.Record ∷ kind.Set ∷ kind.Var ∷ kind.Star ∷ []
-follow Head = kind.Array ∷ kind.Begin ∷ kind.Const ∷ kind.Enum ∷ kind.Module ∷ kind.Post ∷ kind.Pre ∷ kind.Proc ∷ kind.Record ∷ kind.Set ∷ kind.Var ∷ kind.Star ∷ kind.Semicolon ∷ kind.Close ∷ []
-follow Params = kind.Array ∷ kind.Begin ∷ kind.Const ∷ kind.Enum ∷ kind.Module ∷ kind.Post ∷ kind.Pre ∷ kind.Proc ∷ kind.Record ∷ kind.Set ∷ kind.Var ∷ kind.Star ∷ kind.Colon ∷ kind.Semicolon ∷ kind.Close ∷ []
+follow Group = kind.Array ∷ kind.Begin ∷ kind.Const ∷ kind.Enum ∷ kind.Module ∷ kind.Post ∷ kind.Pre ∷ kind.Proc ∷ kind.Record ∷ kind.Set ∷ kind.Var
+    ∷ kind.Star ∷ kind.Semicolon ∷ kind.Close ∷ []
+follow Groups = kind.Array ∷ kind.Begin ∷ kind.Const ∷ kind.Enum ∷ kind.Module ∷ kind.Post ∷ kind.Pre ∷ kind.Proc ∷ kind.Record ∷ kind.Set ∷ kind.Var
+    ∷ kind.Star ∷ kind.Close ∷ []
+follow VarList = kind.Array ∷ kind.Begin ∷ kind.Const ∷ kind.Enum ∷ kind.Module ∷ kind.Post ∷ kind.Pre ∷ kind.Proc ∷ kind.Record ∷ kind.Set ∷ kind.Var
+    ∷ kind.Star ∷ []
+follow Head = kind.Array ∷ kind.Begin ∷ kind.Const ∷ kind.Enum ∷ kind.Module ∷ kind.Post ∷ kind.Pre ∷ kind.Proc ∷ kind.Record ∷ kind.Set ∷ kind.Var
+    ∷ kind.Star ∷ kind.Semicolon ∷ kind.Close ∷ []
+follow Params = kind.Array ∷ kind.Begin ∷ kind.Const ∷ kind.Enum ∷ kind.Module ∷ kind.Post ∷ kind.Pre ∷ kind.Proc ∷ kind.Record ∷ kind.Set ∷ kind.Var
+    ∷ kind.Star ∷ kind.Colon ∷ kind.Semicolon ∷ kind.Close ∷ []
 follow MoreParams = kind.Close ∷ []
-follow Result = kind.Array ∷ kind.Begin ∷ kind.Const ∷ kind.Enum ∷ kind.Module ∷ kind.Post ∷ kind.Pre ∷ kind.Proc ∷ kind.Record ∷ kind.Set ∷ kind.Var ∷ kind.Star ∷ kind.Semicolon ∷ kind.Close ∷ []
+follow Result = kind.Array ∷ kind.Begin ∷ kind.Const ∷ kind.Enum ∷ kind.Module ∷ kind.Post ∷ kind.Pre ∷ kind.Proc ∷ kind.Record ∷ kind.Set ∷ kind.Var
+    ∷ kind.Star ∷ kind.Semicolon ∷ kind.Close ∷ []
 follow Param = kind.Semicolon ∷ kind.Close ∷ []
-follow Procedure = kind.End_of_text ∷ kind.Array ∷ kind.Begin ∷ kind.Const ∷ kind.Enum ∷ kind.Module ∷ kind.Post ∷ kind.Pre ∷ kind.Proc ∷ kind.Record ∷ kind.Set ∷ kind.Var ∷ kind.Star ∷ []
-follow Item = kind.Array ∷ kind.Begin ∷ kind.Const ∷ kind.Enum ∷ kind.Module ∷ kind.Post ∷ kind.Pre ∷ kind.Proc ∷ kind.Record ∷ kind.Set ∷ kind.Var ∷ kind.Star ∷ []
-follow Module = kind.Array ∷ kind.Begin ∷ kind.Const ∷ kind.Enum ∷ kind.Module ∷ kind.Post ∷ kind.Pre ∷ kind.Proc ∷ kind.Record ∷ kind.Set ∷ kind.Var ∷ kind.Star ∷ []
-follow Member = kind.Array ∷ kind.Begin ∷ kind.Const ∷ kind.Enum ∷ kind.Module ∷ kind.Post ∷ kind.Pre ∷ kind.Proc ∷ kind.Record ∷ kind.Set ∷ kind.Var ∷ kind.Star ∷ []
+follow Procedure = kind.End_of_text ∷ kind.Array ∷ kind.Begin ∷ kind.Const ∷ kind.Enum ∷ kind.Module ∷ kind.Post ∷ kind.Pre ∷ kind.Proc ∷ kind.Record
+    ∷ kind.Set ∷ kind.Var ∷ kind.Star ∷ []
+follow Item = kind.Array ∷ kind.Begin ∷ kind.Const ∷ kind.Enum ∷ kind.Module ∷ kind.Post ∷ kind.Pre ∷ kind.Proc ∷ kind.Record ∷ kind.Set ∷ kind.Var
+    ∷ kind.Star ∷ []
+follow Module = kind.Array ∷ kind.Begin ∷ kind.Const ∷ kind.Enum ∷ kind.Module ∷ kind.Post ∷ kind.Pre ∷ kind.Proc ∷ kind.Record ∷ kind.Set ∷ kind.Var
+    ∷ kind.Star ∷ []
+follow Member = kind.Array ∷ kind.Begin ∷ kind.Const ∷ kind.Enum ∷ kind.Module ∷ kind.Post ∷ kind.Pre ∷ kind.Proc ∷ kind.Record ∷ kind.Set ∷ kind.Var
+    ∷ kind.Star ∷ []
 follow Members = kind.Begin ∷ []
 follow Declaration = kind.Array ∷ kind.Begin ∷ kind.Const ∷ kind.Enum ∷ kind.Module ∷ kind.Post ∷ kind.Pre ∷ kind.Proc ∷ kind.Record ∷ kind.Set ∷ kind.Var ∷ []
 follow Declarations = kind.Begin ∷ []
@@ -144,10 +164,15 @@ follow StatementList = kind.Also ∷ kind.Else ∷ kind.End ∷ []
 follow Statements = kind.Also ∷ kind.Else ∷ kind.End ∷ []
 follow Statement = kind.Also ∷ kind.Else ∷ kind.End ∷ kind.Semicolon ∷ []
 follow After = kind.Also ∷ kind.Else ∷ kind.End ∷ kind.Semicolon ∷ []
-follow Args = kind.Also ∷ kind.And ∷ kind.Div ∷ kind.Do ∷ kind.Else ∷ kind.End ∷ kind.In ∷ kind.Mod ∷ kind.Or ∷ kind.Equal ∷ kind.NotEqual ∷ kind.Less ∷ kind.AtMost ∷ kind.Greater ∷ kind.AtLeast ∷ kind.Plus ∷ kind.Minus ∷ kind.Star ∷ kind.Comma ∷ kind.Semicolon ∷ kind.Close ∷ kind.CloseBracket ∷ []
+follow Args = kind.Also ∷ kind.And ∷ kind.Div ∷ kind.Do ∷ kind.Else ∷ kind.End ∷ kind.In ∷ kind.Mod ∷ kind.Or ∷ kind.Equal ∷ kind.NotEqual ∷ kind.Less
+    ∷ kind.AtMost ∷ kind.Greater ∷ kind.AtLeast ∷ kind.Plus ∷ kind.Minus ∷ kind.Star ∷ kind.Comma ∷ kind.Semicolon ∷ kind.Close ∷ kind.CloseBracket ∷ []
 follow Exprs = kind.Close ∷ []
-follow Selectors = kind.Also ∷ kind.And ∷ kind.Div ∷ kind.Do ∷ kind.Else ∷ kind.End ∷ kind.In ∷ kind.Mod ∷ kind.Or ∷ kind.Equal ∷ kind.NotEqual ∷ kind.Less ∷ kind.AtMost ∷ kind.Greater ∷ kind.AtLeast ∷ kind.Plus ∷ kind.Minus ∷ kind.Star ∷ kind.Becomes ∷ kind.Comma ∷ kind.Semicolon ∷ kind.Close ∷ kind.CloseBracket ∷ []
-follow Selector = kind.Also ∷ kind.And ∷ kind.Div ∷ kind.Do ∷ kind.Else ∷ kind.End ∷ kind.In ∷ kind.Mod ∷ kind.Or ∷ kind.Equal ∷ kind.NotEqual ∷ kind.Less ∷ kind.AtMost ∷ kind.Greater ∷ kind.AtLeast ∷ kind.Plus ∷ kind.Minus ∷ kind.Star ∷ kind.Becomes ∷ kind.Comma ∷ kind.Semicolon ∷ kind.Period ∷ kind.Close ∷ kind.OpenBracket ∷ kind.CloseBracket ∷ []
+follow Selectors = kind.Also ∷ kind.And ∷ kind.Div ∷ kind.Do ∷ kind.Else ∷ kind.End ∷ kind.In ∷ kind.Mod ∷ kind.Or ∷ kind.Equal ∷ kind.NotEqual ∷ kind.Less
+    ∷ kind.AtMost ∷ kind.Greater ∷ kind.AtLeast ∷ kind.Plus ∷ kind.Minus ∷ kind.Star ∷ kind.Becomes ∷ kind.Comma ∷ kind.Semicolon ∷ kind.Close
+    ∷ kind.CloseBracket ∷ []
+follow Selector = kind.Also ∷ kind.And ∷ kind.Div ∷ kind.Do ∷ kind.Else ∷ kind.End ∷ kind.In ∷ kind.Mod ∷ kind.Or ∷ kind.Equal ∷ kind.NotEqual ∷ kind.Less
+    ∷ kind.AtMost ∷ kind.Greater ∷ kind.AtLeast ∷ kind.Plus ∷ kind.Minus ∷ kind.Star ∷ kind.Becomes ∷ kind.Comma ∷ kind.Semicolon ∷ kind.Period ∷ kind.Close
+    ∷ kind.OpenBracket ∷ kind.CloseBracket ∷ []
 follow Conditions = kind.End ∷ []
 follow Condition = kind.Else ∷ kind.End ∷ []
 follow Else = kind.End ∷ []
@@ -156,17 +181,25 @@ follow Branches = kind.Also ∷ kind.Else ∷ kind.End ∷ kind.Semicolon ∷ []
 follow Expr = kind.Also ∷ kind.Do ∷ kind.Else ∷ kind.End ∷ kind.Comma ∷ kind.Semicolon ∷ kind.Close ∷ kind.CloseBracket ∷ []
 follow Comparison = kind.Also ∷ kind.Do ∷ kind.Else ∷ kind.End ∷ kind.Comma ∷ kind.Semicolon ∷ kind.Close ∷ kind.CloseBracket ∷ []
 follow Relation = kind.Name ∷ kind.Numeral ∷ kind.Char ∷ kind.Text ∷ kind.Not ∷ kind.Val ∷ kind.Plus ∷ kind.Minus ∷ kind.Open ∷ []
-follow Simple = kind.Also ∷ kind.Do ∷ kind.Else ∷ kind.End ∷ kind.In ∷ kind.Equal ∷ kind.NotEqual ∷ kind.Less ∷ kind.AtMost ∷ kind.Greater ∷ kind.AtLeast ∷ kind.Comma ∷ kind.Semicolon ∷ kind.Close ∷ kind.CloseBracket ∷ []
+follow Simple = kind.Also ∷ kind.Do ∷ kind.Else ∷ kind.End ∷ kind.In ∷ kind.Equal ∷ kind.NotEqual ∷ kind.Less ∷ kind.AtMost ∷ kind.Greater ∷ kind.AtLeast
+    ∷ kind.Comma ∷ kind.Semicolon ∷ kind.Close ∷ kind.CloseBracket ∷ []
 follow Sign = kind.Name ∷ kind.Numeral ∷ kind.Char ∷ kind.Text ∷ kind.Not ∷ kind.Val ∷ kind.Open ∷ []
-follow Addends = kind.Also ∷ kind.Do ∷ kind.Else ∷ kind.End ∷ kind.In ∷ kind.Equal ∷ kind.NotEqual ∷ kind.Less ∷ kind.AtMost ∷ kind.Greater ∷ kind.AtLeast ∷ kind.Comma ∷ kind.Semicolon ∷ kind.Close ∷ kind.CloseBracket ∷ []
-follow Addend = kind.Also ∷ kind.Do ∷ kind.Else ∷ kind.End ∷ kind.In ∷ kind.Or ∷ kind.Equal ∷ kind.NotEqual ∷ kind.Less ∷ kind.AtMost ∷ kind.Greater ∷ kind.AtLeast ∷ kind.Plus ∷ kind.Minus ∷ kind.Comma ∷ kind.Semicolon ∷ kind.Close ∷ kind.CloseBracket ∷ []
+follow Addends = kind.Also ∷ kind.Do ∷ kind.Else ∷ kind.End ∷ kind.In ∷ kind.Equal ∷ kind.NotEqual ∷ kind.Less ∷ kind.AtMost ∷ kind.Greater ∷ kind.AtLeast
+    ∷ kind.Comma ∷ kind.Semicolon ∷ kind.Close ∷ kind.CloseBracket ∷ []
+follow Addend = kind.Also ∷ kind.Do ∷ kind.Else ∷ kind.End ∷ kind.In ∷ kind.Or ∷ kind.Equal ∷ kind.NotEqual ∷ kind.Less ∷ kind.AtMost ∷ kind.Greater
+    ∷ kind.AtLeast ∷ kind.Plus ∷ kind.Minus ∷ kind.Comma ∷ kind.Semicolon ∷ kind.Close ∷ kind.CloseBracket ∷ []
 follow Addition = kind.Name ∷ kind.Numeral ∷ kind.Char ∷ kind.Text ∷ kind.Not ∷ kind.Val ∷ kind.Open ∷ []
-follow Term = kind.Also ∷ kind.Do ∷ kind.Else ∷ kind.End ∷ kind.In ∷ kind.Or ∷ kind.Equal ∷ kind.NotEqual ∷ kind.Less ∷ kind.AtMost ∷ kind.Greater ∷ kind.AtLeast ∷ kind.Plus ∷ kind.Minus ∷ kind.Comma ∷ kind.Semicolon ∷ kind.Close ∷ kind.CloseBracket ∷ []
-follow Multipliers = kind.Also ∷ kind.Do ∷ kind.Else ∷ kind.End ∷ kind.In ∷ kind.Or ∷ kind.Equal ∷ kind.NotEqual ∷ kind.Less ∷ kind.AtMost ∷ kind.Greater ∷ kind.AtLeast ∷ kind.Plus ∷ kind.Minus ∷ kind.Comma ∷ kind.Semicolon ∷ kind.Close ∷ kind.CloseBracket ∷ []
-follow Multiplier = kind.Also ∷ kind.And ∷ kind.Div ∷ kind.Do ∷ kind.Else ∷ kind.End ∷ kind.In ∷ kind.Mod ∷ kind.Or ∷ kind.Equal ∷ kind.NotEqual ∷ kind.Less ∷ kind.AtMost ∷ kind.Greater ∷ kind.AtLeast ∷ kind.Plus ∷ kind.Minus ∷ kind.Star ∷ kind.Comma ∷ kind.Semicolon ∷ kind.Close ∷ kind.CloseBracket ∷ []
+follow Term = kind.Also ∷ kind.Do ∷ kind.Else ∷ kind.End ∷ kind.In ∷ kind.Or ∷ kind.Equal ∷ kind.NotEqual ∷ kind.Less ∷ kind.AtMost ∷ kind.Greater
+    ∷ kind.AtLeast ∷ kind.Plus ∷ kind.Minus ∷ kind.Comma ∷ kind.Semicolon ∷ kind.Close ∷ kind.CloseBracket ∷ []
+follow Multipliers = kind.Also ∷ kind.Do ∷ kind.Else ∷ kind.End ∷ kind.In ∷ kind.Or ∷ kind.Equal ∷ kind.NotEqual ∷ kind.Less ∷ kind.AtMost ∷ kind.Greater
+    ∷ kind.AtLeast ∷ kind.Plus ∷ kind.Minus ∷ kind.Comma ∷ kind.Semicolon ∷ kind.Close ∷ kind.CloseBracket ∷ []
+follow Multiplier = kind.Also ∷ kind.And ∷ kind.Div ∷ kind.Do ∷ kind.Else ∷ kind.End ∷ kind.In ∷ kind.Mod ∷ kind.Or ∷ kind.Equal ∷ kind.NotEqual ∷ kind.Less
+    ∷ kind.AtMost ∷ kind.Greater ∷ kind.AtLeast ∷ kind.Plus ∷ kind.Minus ∷ kind.Star ∷ kind.Comma ∷ kind.Semicolon ∷ kind.Close ∷ kind.CloseBracket ∷ []
 follow Multiplication = kind.Name ∷ kind.Numeral ∷ kind.Char ∷ kind.Text ∷ kind.Not ∷ kind.Val ∷ kind.Open ∷ []
-follow Factor = kind.Also ∷ kind.And ∷ kind.Div ∷ kind.Do ∷ kind.Else ∷ kind.End ∷ kind.In ∷ kind.Mod ∷ kind.Or ∷ kind.Equal ∷ kind.NotEqual ∷ kind.Less ∷ kind.AtMost ∷ kind.Greater ∷ kind.AtLeast ∷ kind.Plus ∷ kind.Minus ∷ kind.Star ∷ kind.Comma ∷ kind.Semicolon ∷ kind.Close ∷ kind.CloseBracket ∷ []
-follow Behind = kind.Also ∷ kind.And ∷ kind.Div ∷ kind.Do ∷ kind.Else ∷ kind.End ∷ kind.In ∷ kind.Mod ∷ kind.Or ∷ kind.Equal ∷ kind.NotEqual ∷ kind.Less ∷ kind.AtMost ∷ kind.Greater ∷ kind.AtLeast ∷ kind.Plus ∷ kind.Minus ∷ kind.Star ∷ kind.Comma ∷ kind.Semicolon ∷ kind.Close ∷ kind.CloseBracket ∷ []
+follow Factor = kind.Also ∷ kind.And ∷ kind.Div ∷ kind.Do ∷ kind.Else ∷ kind.End ∷ kind.In ∷ kind.Mod ∷ kind.Or ∷ kind.Equal ∷ kind.NotEqual ∷ kind.Less
+    ∷ kind.AtMost ∷ kind.Greater ∷ kind.AtLeast ∷ kind.Plus ∷ kind.Minus ∷ kind.Star ∷ kind.Comma ∷ kind.Semicolon ∷ kind.Close ∷ kind.CloseBracket ∷ []
+follow Behind = kind.Also ∷ kind.And ∷ kind.Div ∷ kind.Do ∷ kind.Else ∷ kind.End ∷ kind.In ∷ kind.Mod ∷ kind.Or ∷ kind.Equal ∷ kind.NotEqual ∷ kind.Less
+    ∷ kind.AtMost ∷ kind.Greater ∷ kind.AtLeast ∷ kind.Plus ∷ kind.Minus ∷ kind.Star ∷ kind.Comma ∷ kind.Semicolon ∷ kind.Close ∷ kind.CloseBracket ∷ []
 
 abbrev pub short : Sort → ℕ
 short Program = 0

@@ -69,7 +69,12 @@ front (m ∷ marks) = kind_of m.symbol
 
 -- some symbol of each kind, with these values
 abbrev pub symbols_with : List ℕ → ℕ → ℤ → List (Option Symbol)
-symbols_with text c value = None ∷ Some (is.Name text) ∷ Some (is.Numeral value) ∷ Some (is.Chars (c ∷ [])) ∷ Some (is.Chars text) ∷ Some is.Also ∷ Some is.And ∷ Some is.Array ∷ Some is.Begin ∷ Some is.Cobegin ∷ Some is.Const ∷ Some is.Div ∷ Some is.Do ∷ Some is.Else ∷ Some is.End ∷ Some is.Enum ∷ Some is.If ∷ Some is.In ∷ Some is.Lib ∷ Some is.Mod ∷ Some is.Module ∷ Some is.Not ∷ Some is.Or ∷ Some is.Post ∷ Some is.Pre ∷ Some is.Proc ∷ Some is.Record ∷ Some is.Set ∷ Some is.Skip ∷ Some is.Val ∷ Some is.Var ∷ Some is.When ∷ Some is.While ∷ Some is.Equal ∷ Some is.NotEqual ∷ Some is.Less ∷ Some is.AtMost ∷ Some is.Greater ∷ Some is.AtLeast ∷ Some is.Plus ∷ Some is.Minus ∷ Some is.Star ∷ Some is.Colon ∷ Some is.Becomes ∷ Some is.Comma ∷ Some is.Semicolon ∷ Some is.Period ∷ Some is.Open ∷ Some is.Close ∷ Some is.OpenBracket ∷ Some is.CloseBracket ∷ []
+symbols_with text c value = None ∷ Some (is.Name text) ∷ Some (is.Numeral value) ∷ Some (is.Chars (c ∷ [])) ∷ Some (is.Chars text) ∷ Some is.Also
+    ∷ Some is.And ∷ Some is.Array ∷ Some is.Begin ∷ Some is.Cobegin ∷ Some is.Const ∷ Some is.Div ∷ Some is.Do ∷ Some is.Else ∷ Some is.End ∷ Some is.Enum
+    ∷ Some is.If ∷ Some is.In ∷ Some is.Lib ∷ Some is.Mod ∷ Some is.Module ∷ Some is.Not ∷ Some is.Or ∷ Some is.Post ∷ Some is.Pre ∷ Some is.Proc
+    ∷ Some is.Record ∷ Some is.Set ∷ Some is.Skip ∷ Some is.Val ∷ Some is.Var ∷ Some is.When ∷ Some is.While ∷ Some is.Equal ∷ Some is.NotEqual ∷ Some is.Less
+    ∷ Some is.AtMost ∷ Some is.Greater ∷ Some is.AtLeast ∷ Some is.Plus ∷ Some is.Minus ∷ Some is.Star ∷ Some is.Colon ∷ Some is.Becomes ∷ Some is.Comma
+    ∷ Some is.Semicolon ∷ Some is.Period ∷ Some is.Open ∷ Some is.Close ∷ Some is.OpenBracket ∷ Some is.CloseBracket ∷ []
 
 abbrev pub symbol_no : List (Option Symbol) → ℕ → Option Symbol
 symbol_no [] i = None

@@ -46,12 +46,15 @@ pub data Stops {N S : Type 0} (g : Grammar N S) (limit : ℕ) : List (Part N) �
   -- it waits for nothing
   done : (words : List S) → Stops g limit [] words complete words
   -- it takes the symbol that it waits for
-  taken : (a : ℕ) (s : S) (x : List (Part N)) (words r : List S) (y : Why) → g.kind s ≡ a → (g.opens a ≡ true → level g x 0 ≤ limit) → Stops g limit x words y r → Stops g limit (token a ∷ x) (s ∷ words) y r
+  taken : (a : ℕ) (s : S) (x : List (Part N)) (words r : List S) (y : Why) → g.kind s ≡ a → (g.opens a ≡ true → level g x 0 ≤ limit)
+      → Stops g limit x words y r → Stops g limit (token a ∷ x) (s ∷ words) y r
   -- it notes the end of a level
   closed : (x : List (Part N)) (words r : List S) (y : Why) → Stops g limit x words y r → Stops g limit (level_end ∷ x) words y r
   -- it takes a rule by the symbol in hand
-  chosen : (k : N) (rule x : List (Part N)) (s : S) (words r : List S) (y : Why) → rule_at g k (g.kind s) ≡ Some rule → Stops g limit (rule ++ x) (s ∷ words) y r → Stops g limit (part k ∷ x) (s ∷ words) y r
+  chosen : (k : N) (rule x : List (Part N)) (s : S) (words r : List S) (y : Why) → rule_at g k (g.kind s) ≡ Some rule → Stops g limit (rule ++ x) (s ∷ words)
+      y r → Stops g limit (part k ∷ x) (s ∷ words) y r
   -- another symbol stands here
   other : (a : ℕ) (s : S) (x : List (Part N)) (words : List S) → (g.kind s ≡ a → ⊥) → Stops g limit (token a ∷ x) (s ∷ words) wrong (s ∷ words)
   -- the symbol that it waits for opens a level beyond the limit
-  over : (a : ℕ) (s : S) (x : List (Part N)) (words : List S) → g.kind s ≡ a → g.opens a ≡ true → limit < level g x 0 → Stops g limit (token a ∷ x) (s ∷ words) too_deep (s ∷ words)
+  over : (a : ℕ) (s : S) (x : List (Part N)) (words : List S) → g.kind s ≡ a → g.opens a ≡ true → limit < level g x 0
+      → Stops g limit (token a ∷ x) (s ∷ words) too_deep (s ∷ words)

@@ -61,7 +61,8 @@ pub data Sort : Type 0 where
 
 -- the symbols that open a level
 abbrev pub opens : ℕ → Bool
-opens a = a == kind.Proc || a == kind.Module || a == kind.If || a == kind.While || a == kind.When || a == kind.Cobegin || a == kind.Open || a == kind.OpenBracket || a == kind.Not
+opens a = a == kind.Proc || a == kind.Module || a == kind.If || a == kind.While || a == kind.When || a == kind.Cobegin || a == kind.Open || a ==
+    kind.OpenBracket || a == kind.Not
 
 abbrev pub rules : Sort → List (List (Part Sort))
 rules Program = (part Globals ∷ part Procedure ∷ []) ∷ []
@@ -72,7 +73,11 @@ rules ConstDecls = (token kind.Semicolon ∷ part ConstDecl ∷ part ConstDecls 
 rules ConstDecl = (token kind.Name ∷ token kind.Equal ∷ part Constant ∷ []) ∷ []
 rules Constant = (token kind.Numeral ∷ []) ∷ (token kind.Char ∷ []) ∷ (token kind.Name ∷ part Code ∷ []) ∷ []
 rules Code = (token kind.Open ∷ token kind.Numeral ∷ token kind.Close ∷ level_end ∷ []) ∷ ([]) ∷ []
-rules TypeDecl = (token kind.Enum ∷ token kind.Name ∷ token kind.Open ∷ token kind.Name ∷ part Names ∷ token kind.Close ∷ level_end ∷ []) ∷ (token kind.Record ∷ token kind.Name ∷ token kind.Open ∷ part Group ∷ part Groups ∷ token kind.Close ∷ level_end ∷ []) ∷ (token kind.Array ∷ token kind.Name ∷ token kind.OpenBracket ∷ part Constant ∷ token kind.Colon ∷ part Constant ∷ token kind.CloseBracket ∷ level_end ∷ token kind.Open ∷ token kind.Name ∷ token kind.Close ∷ level_end ∷ []) ∷ (token kind.Set ∷ token kind.Name ∷ token kind.Open ∷ token kind.Name ∷ token kind.Close ∷ level_end ∷ []) ∷ []
+rules TypeDecl = (token kind.Enum ∷ token kind.Name ∷ token kind.Open ∷ token kind.Name ∷ part Names ∷ token kind.Close ∷ level_end ∷ [])
+    ∷ (token kind.Record ∷ token kind.Name ∷ token kind.Open ∷ part Group ∷ part Groups ∷ token kind.Close ∷ level_end ∷ [])
+    ∷ (token kind.Array ∷ token kind.Name ∷ token kind.OpenBracket ∷ part Constant ∷ token kind.Colon ∷ part Constant ∷ token kind.CloseBracket ∷ level_end
+    ∷ token kind.Open ∷ token kind.Name ∷ token kind.Close ∷ level_end ∷ [])
+    ∷ (token kind.Set ∷ token kind.Name ∷ token kind.Open ∷ token kind.Name ∷ token kind.Close ∷ level_end ∷ []) ∷ []
 rules Names = (token kind.Comma ∷ token kind.Name ∷ part Names ∷ []) ∷ ([]) ∷ []
 rules Group = (token kind.Name ∷ part Names ∷ token kind.Colon ∷ token kind.Name ∷ []) ∷ []
 rules Groups = (token kind.Semicolon ∷ part Group ∷ part Groups ∷ []) ∷ ([]) ∷ []
@@ -83,7 +88,8 @@ rules MoreParams = (token kind.Semicolon ∷ part Param ∷ part MoreParams ∷ 
 rules Result = (token kind.Colon ∷ token kind.Name ∷ []) ∷ ([]) ∷ []
 rules Param = (token kind.Var ∷ part Group ∷ []) ∷ (token kind.Proc ∷ part Head ∷ level_end ∷ []) ∷ (part Group ∷ []) ∷ []
 rules Procedure = (token kind.Proc ∷ part Head ∷ part Declarations ∷ token kind.Begin ∷ part StatementList ∷ token kind.End ∷ level_end ∷ []) ∷ []
-rules Item = (part ConstList ∷ []) ∷ (part TypeDecl ∷ []) ∷ (part VarList ∷ []) ∷ (token kind.Pre ∷ token kind.Proc ∷ part Head ∷ level_end ∷ []) ∷ (token kind.Post ∷ part Procedure ∷ []) ∷ (part Procedure ∷ []) ∷ []
+rules Item = (part ConstList ∷ []) ∷ (part TypeDecl ∷ []) ∷ (part VarList ∷ []) ∷ (token kind.Pre ∷ token kind.Proc ∷ part Head ∷ level_end ∷ [])
+    ∷ (token kind.Post ∷ part Procedure ∷ []) ∷ (part Procedure ∷ []) ∷ []
 rules Module = (token kind.Module ∷ part Members ∷ token kind.Begin ∷ part StatementList ∷ token kind.End ∷ level_end ∷ []) ∷ []
 rules Member = (token kind.Star ∷ part Item ∷ []) ∷ (part Module ∷ []) ∷ (part Item ∷ []) ∷ []
 rules Members = (part Member ∷ part Members ∷ []) ∷ ([]) ∷ []
@@ -91,7 +97,10 @@ rules Declaration = (part Module ∷ []) ∷ (part Item ∷ []) ∷ []
 rules Declarations = (part Declaration ∷ part Declarations ∷ []) ∷ ([]) ∷ []
 rules StatementList = (part Statement ∷ part Statements ∷ []) ∷ []
 rules Statements = (token kind.Semicolon ∷ part Statement ∷ part Statements ∷ []) ∷ ([]) ∷ []
-rules Statement = (token kind.Skip ∷ []) ∷ (token kind.Name ∷ part After ∷ []) ∷ (token kind.Val ∷ token kind.Name ∷ part Selectors ∷ token kind.Becomes ∷ part Expr ∷ []) ∷ (token kind.If ∷ part Conditions ∷ token kind.End ∷ level_end ∷ []) ∷ (token kind.While ∷ part Conditions ∷ token kind.End ∷ level_end ∷ []) ∷ (token kind.When ∷ part Conditions ∷ token kind.End ∷ level_end ∷ []) ∷ (token kind.Cobegin ∷ part Branch ∷ part Branches ∷ level_end ∷ []) ∷ []
+rules Statement = (token kind.Skip ∷ []) ∷ (token kind.Name ∷ part After ∷ [])
+    ∷ (token kind.Val ∷ token kind.Name ∷ part Selectors ∷ token kind.Becomes ∷ part Expr ∷ [])
+    ∷ (token kind.If ∷ part Conditions ∷ token kind.End ∷ level_end ∷ []) ∷ (token kind.While ∷ part Conditions ∷ token kind.End ∷ level_end ∷ [])
+    ∷ (token kind.When ∷ part Conditions ∷ token kind.End ∷ level_end ∷ []) ∷ (token kind.Cobegin ∷ part Branch ∷ part Branches ∷ level_end ∷ []) ∷ []
 rules After = (part Args ∷ []) ∷ (part Selectors ∷ token kind.Becomes ∷ part Expr ∷ []) ∷ ([]) ∷ []
 rules Args = (token kind.Open ∷ part Expr ∷ part Exprs ∷ token kind.Close ∷ level_end ∷ []) ∷ []
 rules Exprs = (token kind.Comma ∷ part Expr ∷ part Exprs ∷ []) ∷ ([]) ∷ []
@@ -104,7 +113,8 @@ rules Branch = (part Constant ∷ token kind.Do ∷ part StatementList ∷ []) �
 rules Branches = (token kind.Also ∷ part Branch ∷ part Branches ∷ []) ∷ (token kind.End ∷ []) ∷ []
 rules Expr = (part Simple ∷ part Comparison ∷ []) ∷ []
 rules Comparison = (part Relation ∷ part Simple ∷ []) ∷ ([]) ∷ []
-rules Relation = (token kind.Equal ∷ []) ∷ (token kind.NotEqual ∷ []) ∷ (token kind.Less ∷ []) ∷ (token kind.AtMost ∷ []) ∷ (token kind.Greater ∷ []) ∷ (token kind.AtLeast ∷ []) ∷ (token kind.In ∷ []) ∷ []
+rules Relation = (token kind.Equal ∷ []) ∷ (token kind.NotEqual ∷ []) ∷ (token kind.Less ∷ []) ∷ (token kind.AtMost ∷ []) ∷ (token kind.Greater ∷ [])
+    ∷ (token kind.AtLeast ∷ []) ∷ (token kind.In ∷ []) ∷ []
 rules Simple = (part Sign ∷ part Term ∷ part Addends ∷ []) ∷ []
 rules Sign = (token kind.Plus ∷ []) ∷ (token kind.Minus ∷ []) ∷ ([]) ∷ []
 rules Addends = (part Addend ∷ part Addends ∷ []) ∷ ([]) ∷ []
@@ -114,5 +124,7 @@ rules Term = (part Factor ∷ part Multipliers ∷ []) ∷ []
 rules Multipliers = (part Multiplier ∷ part Multipliers ∷ []) ∷ ([]) ∷ []
 rules Multiplier = (part Multiplication ∷ part Factor ∷ []) ∷ []
 rules Multiplication = (token kind.Star ∷ []) ∷ (token kind.Div ∷ []) ∷ (token kind.Mod ∷ []) ∷ (token kind.And ∷ []) ∷ []
-rules Factor = (token kind.Numeral ∷ []) ∷ (token kind.Char ∷ []) ∷ (token kind.Text ∷ []) ∷ (token kind.Not ∷ part Factor ∷ level_end ∷ []) ∷ (token kind.Open ∷ part Expr ∷ token kind.Close ∷ level_end ∷ []) ∷ (token kind.Name ∷ part Behind ∷ []) ∷ (token kind.Val ∷ token kind.Name ∷ part Selectors ∷ []) ∷ []
+rules Factor = (token kind.Numeral ∷ []) ∷ (token kind.Char ∷ []) ∷ (token kind.Text ∷ []) ∷ (token kind.Not ∷ part Factor ∷ level_end ∷ [])
+    ∷ (token kind.Open ∷ part Expr ∷ token kind.Close ∷ level_end ∷ []) ∷ (token kind.Name ∷ part Behind ∷ [])
+    ∷ (token kind.Val ∷ token kind.Name ∷ part Selectors ∷ []) ∷ []
 rules Behind = (part Args ∷ []) ∷ (part Selectors ∷ []) ∷ []

@@ -29,9 +29,12 @@ module _ {N : Type 0} (S : Type 0) (Tree : N → Type 0) where
   Built k (rule ∷ more) b (suc i) t P = Built k more b.1 i t P
 
 -- these parts may be the items, with these symbols and trees
-abbrev pub Reads : {N S : Type 0} (g : Grammar N S) (Tree : N → Type 0) (build : (k : N) → Builders S Tree k (g.rules k)) → ℕ → (x : List (Part N)) → List (Item S) → Trees S Tree x → Type 0
+abbrev pub Reads : {N S : Type 0} (g : Grammar N S) (Tree : N → Type 0) (build : (k : N) → Builders S Tree k (g.rules k)) → ℕ → (x : List (Part N))
+    → List (Item S) → Trees S Tree x → Type 0
 Reads g Tree build zero x items ts = ⊥
 Reads g Tree build (suc n) [] items ts = items ≡ []
-Reads {N} {S} g Tree build (suc n) (token a ∷ x) items ts = (rest : List (Item S)) × (items ≡ mark ts.0 ∷ rest) × (g.kind ts.0 ≡ a) × Reads g Tree build n x rest ts.1
+Reads {N} {S} g Tree build (suc n) (token a ∷ x) items ts = (rest : List (Item S)) × (items ≡ mark ts.0 ∷ rest) × (g.kind ts.0 ≡ a)
+    × Reads g Tree build n x rest ts.1
 Reads {N} {S} g Tree build (suc n) (level_end ∷ x) items ts = (rest : List (Item S)) × (items ≡ closing ∷ rest) × Reads g Tree build n x rest ts
-Reads {N} {S} g Tree build (suc n) (part k ∷ x) items ts = (i : ℕ) × Built S Tree k (g.rules k) (build k) i ts.0 (λ rule us. Reads g Tree build n (rule ++ x) items (join S Tree rule x us ts.1))
+Reads {N} {S} g Tree build (suc n) (part k ∷ x) items ts = (i : ℕ) × Built S Tree k (g.rules k) (build k) i ts.0
+    (λ rule us. Reads g Tree build n (rule ++ x) items (join S Tree rule x us ts.1))

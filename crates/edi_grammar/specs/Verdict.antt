@@ -6,7 +6,8 @@ use Rattle.edi_grammar.specs.Parser.{Why, complete, wrong, too_deep}
 module _ {N S : Type 0} (g : Grammar N S) where
   -- in these items the symbol s stands right behind the symbols u, and opens a level beyond the limit
   abbrev pub IsTooDeep : ℕ → List S → S → List (Item S) → Type 0
-  IsTooDeep limit u s items = (before after : List (Item S)) × (items ≡ before ++ mark s ∷ after) × (plain before ≡ u) × (g.opens (g.kind s) ≡ true) × (limit < ends_in g after)
+  IsTooDeep limit u s items = (before after : List (Item S)) × (items ≡ before ++ mark s ∷ after) × (plain before ≡ u) × (g.opens (g.kind s) ≡ true)
+      × (limit < ends_in g after)
 
   -- how the symbols go on behind those before the stop: in no way in particular, with the symbol in hand, or not at all
   abbrev pub GoesOn : Why → List S → List S → Type 0
@@ -26,7 +27,8 @@ module _ {N S : Type 0} (g : Grammar N S) where
 
   -- that holds of each text that begins with the symbols u and the symbol in hand
   abbrev pub Blocks : Why → ℕ → List (Part N) → List S → List S → Type 0
-  Blocks y limit x u r = (s : S) (more later : List S) (n : ℕ) (items : List (Item S)) → r ≡ s ∷ more → plain items ≡ u ++ s ∷ later → Derives g n x items → Blocked y limit u s items
+  Blocks y limit x u r = (s : S) (more later : List S) (n : ℕ) (items : List (Item S)) → r ≡ s ∷ more → plain items ≡ u ++ s ∷ later → Derives g n x items
+      → Blocked y limit u s items
 
   -- in no text is one of these first symbols too deep
   abbrev pub Shallow : ℕ → List (Part N) → List S → Type 0

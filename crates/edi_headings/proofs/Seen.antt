@@ -24,9 +24,12 @@ pub var_seen : (g : code_group.Group) (es : List Element) → word is.Var ∷ gr
 var_seen g es = ap (λ t. param_elements t es) (sym (fold-roll-Param Param Heading param_step heading_step (Param-F.Var g)) ∙ ap param_of (rolls-Var g))
 
 -- a procedure, to the end of its level
-pub procedure_seen : (h : code_heading.Heading) (es : List Element) → word is.Proc ∷ head_elements (heading_of h) (level_end ∷ es) ≡ param_elements (param_of (code_param.Heading h)) es
-procedure_seen h es = sym (heading_split (heading_of h) (level_end ∷ es)) ∙ ap (λ t. param_elements t es) (sym (fold-roll-Param Param Heading param_step heading_step (Param-F.Heading h)) ∙ ap param_of (rolls-Heading h))
+pub procedure_seen : (h : code_heading.Heading) (es : List Element) → word is.Proc ∷ head_elements (heading_of h) (level_end ∷ es) ≡ param_elements
+    (param_of (code_param.Heading h)) es
+procedure_seen h es = sym (heading_split (heading_of h) (level_end ∷ es)) ∙ ap (λ t. param_elements t es)
+    (sym (fold-roll-Param Param Heading param_step heading_step (Param-F.Heading h)) ∙ ap param_of (rolls-Heading h))
 
 -- a heading behind its `proc`
-pub head_seen : (n : Name) (ps : code_sequence.Sequence code_param.Param) (r : Option Name) (es : List Element) → named n ∷ params_elements (params_of ps) (result_elements r es) ≡ head_elements (heading_of (code_heading.roll-Heading record { name = n; params = ps; result = r })) es
+pub head_seen : (n : Name) (ps : code_sequence.Sequence code_param.Param) (r : Option Name) (es : List Element) → named n ∷ params_elements (params_of ps)
+    (result_elements r es) ≡ head_elements (heading_of (code_heading.roll-Heading record { name = n; params = ps; result = r })) es
 head_seen n ps r es = ap (λ t. head_elements t es) (sym (fold-roll-Heading Param Heading param_step heading_step record { name = n; params = ps; result = r }))

@@ -1,5 +1,6 @@
 -- The blocks that a form in memory tells, over its calls.
-use Rattle.std.proofs.Common.{◌≡◌, ◌≤◌, ◌⊎◌, inl, inr, ℕ, zero, suc, ◌-◌, ◌*◌, Bool, true, false, ◌&&◌, List, [], ◌∷◌, ◌++◌, length, map, take, drop, replicate, Some, refl, sym, ap, ◌∙◌, arith}
+use Rattle.std.proofs.Common.{◌≡◌, ◌≤◌, ◌⊎◌, inl, inr, ℕ, zero, suc, ◌-◌, ◌*◌, Bool, true, false, ◌&&◌, List, [], ◌∷◌, ◌++◌, length, map, take, drop}
+use Rattle.std.proofs.Common.{replicate, Some, refl, sym, ap, ◌∙◌, arith}
 use Rattle.std.specs.Prelude.{slice_set}
 use Rattle.std.specs.Option.{option_map}
 use Rattle.std.specs.List.{list_all}
@@ -81,7 +82,8 @@ chunks_are_blocks (suc n) bytes within =
 pub blocks_set : (blocks : List (List ℕ)) (n : ℕ) (block : List ℕ) → list_all is_block blocks ≡ true → length block ≡ 512
     → list_all is_block (slice_set blocks n block) ≡ true
 blocks_set [] n block all long = refl
-blocks_set (first ∷ blocks) zero block all long = one_more block blocks (eq-eqb (length block) 512 long) (both (is_block first) (list_all is_block blocks) all).1
+blocks_set (first ∷ blocks) zero block all long = one_more block blocks (eq-eqb (length block) 512 long)
+    (both (is_block first) (list_all is_block blocks) all).1
 blocks_set (first ∷ blocks) (suc n) block all long =
     let parts = both (is_block first) (list_all is_block blocks) all in
     one_more first (slice_set blocks n block) parts.0 (blocks_set blocks n block parts.1 long)

@@ -56,7 +56,8 @@ contents_code = files.code (coded_list coded_ℕ) (coded_list coded_ℕ)
 
 abbrev pub plan_code : Coded Plan
 plan_code =
-    code_by (List ℕ × (ℕ × ℕ)) (coded× (coded_list coded_ℕ) (coded× coded_ℕ coded_ℕ)) (λ p. (p.failing, (p.calls, p.faults))) (λ t. record { failing = t.0; calls = t.1.0; faults = t.1.1 }) (λ _. refl)
+    code_by (List ℕ × (ℕ × ℕ)) (coded× (coded_list coded_ℕ) (coded× coded_ℕ coded_ℕ)) (λ p. (p.failing, (p.calls, p.faults)))
+    (λ t. record { failing = t.0; calls = t.1.0; faults = t.1.1 }) (λ _. refl)
 
 abbrev pub failing_files_code : Coded FailingFiles
 failing_files_code =

@@ -22,4 +22,5 @@ length-block_of bytes =
 -- whatever the bytes are, each is a block
 pub all_are_blocks : (blocks : List (List ℕ)) → list_all is_block (map block_of blocks) ≡ true
 all_are_blocks [] = refl
-all_are_blocks (block ∷ blocks) = ap (λ b. b && list_all is_block (map block_of blocks)) (eq-eqb (length (block_of block)) 512 (length-block_of block)) ∙ all_are_blocks blocks
+all_are_blocks (block ∷ blocks) = ap (λ b. b && list_all is_block (map block_of blocks)) (eq-eqb (length (block_of block)) 512 (length-block_of block))
+    ∙ all_are_blocks blocks

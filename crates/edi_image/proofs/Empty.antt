@@ -1,5 +1,6 @@
 -- A formatted drive is a valid image with no files.
-use Rattle.std.proofs.Common.{◌≡◌, ℕ, zero, suc, ◌+◌, ◌-◌, ◌*◌, ◌/◌, ◌%◌, ◌≤◌, ◌<◌, Bool, true, List, [], ◌∷◌, ◌++◌, length, take, drop, set, get_or, refl, ap, sym, ◌∙◌, subst, ne_eqb, arith, length-append, length-drop}
+use Rattle.std.proofs.Common.{◌≡◌, ℕ, zero, suc, ◌+◌, ◌-◌, ◌*◌, ◌/◌, ◌%◌, ◌≤◌, ◌<◌, Bool, true, List, [], ◌∷◌, ◌++◌, length, take, drop, set, get_or, refl}
+use Rattle.std.proofs.Common.{ap, sym, ◌∙◌, subst, ne_eqb, arith, length-append, length-drop}
 use Rattle.std.specs.Prelude.{◌&&◌, nat_le, map, replicate, if◌then◌else◌, None}
 use Rattle.std.specs.Str.{bytes_eq}
 use Rattle.std.proofs.lemmas.List.{drop-replicate, take-replicate, length-take, get_or-replicate, length-replicate}
@@ -104,7 +105,8 @@ catalogue_holds count rest size least most =
     ap (λ es. header_rules 2 blocks ++ slot_rules 33 blocks 0 [] es) entries
     ∙ ap (λ rs. header_rules 2 blocks ++ rs) (free_rules 33 blocks 0 [] 256) in
     record {
-      valid = ap (first_broken []) rules ∙ kept_rules _ _ (le-leb 64 (length blocks) (omega arith)) (header_true (length blocks) _ _ (omega arith) (ap (header_block 2) (sym long)));
+      valid = ap (first_broken []) rules ∙ kept_rules _ _ (le-leb 64 (length blocks) (omega arith))
+          (header_true (length blocks) _ _ (omega arith) (ap (header_block 2) (sym long)));
       files = ap (map (slot_in blocks)) entries ∙ free_slots blocks 256;
     }
 

@@ -1,5 +1,6 @@
 -- The entry of a file says its record.
-use Rattle.std.proofs.Common.{◌≡◌, ℕ, suc, ◌+◌, ◌-◌, ◌*◌, ◌/◌, ◌%◌, ◌^◌, ◌<◌, ◌≤◌, Bool, true, false, List, [], ◌∷◌, ◌++◌, length, take, drop, get_or, refl, ap, sym, ◌∙◌, arith, length-append}
+use Rattle.std.proofs.Common.{◌≡◌, ℕ, suc, ◌+◌, ◌-◌, ◌*◌, ◌/◌, ◌%◌, ◌^◌, ◌<◌, ◌≤◌, Bool, true, false, List, [], ◌∷◌, ◌++◌, length, take, drop, get_or, refl}
+use Rattle.std.proofs.Common.{ap, sym, ◌∙◌, arith, length-append}
 use Rattle.std.specs.Prelude.{◌&&◌, ◌||◌, ◌==◌, nat_le, replicate, if◌then◌else◌, Option, Some, None, map, IfSome}
 use Rattle.std.proofs.Math.Seq.{take-append_seam, drop-append-add}
 use Rattle.std.proofs.lemmas.List.{get_or-append-add, length-replicate}
@@ -171,7 +172,8 @@ entry_has r h =
 
 has_says : (count : ℕ) (bytes : List ℕ) (r : FileRecord) → is_record count r ≡ true → EntryHas bytes r → entry_says count bytes ≡ said.File r
 has_says count bytes r h has =
-    let maps = both (is_title r.title && nat_le r.length most_bytes && are_data count r.maps) (length r.maps == (if nat_le (pages_of r.length) 255 then 1 else 2)) h in
+    let maps = both (is_title r.title && nat_le r.length most_bytes && are_data count r.maps)
+    (length r.maps == (if nat_le (pages_of r.length) 255 then 1 else 2)) h in
     let data_ = both (is_title r.title && nat_le r.length most_bytes) (are_data count r.maps) maps.0 in
     let size = both (is_title r.title) (nat_le r.length most_bytes) data_.0 in
     let fit = maps_fit_back (nat_le (pages_of r.length) 255) count r.maps maps.1 data_.1 in
@@ -200,7 +202,8 @@ has_says count bytes r h has =
 
 pub says_record : (count : ℕ) (r : FileRecord) → is_record count r ≡ true → entry_says count (bytes_of_record r) ≡ said.File r
 says_record count r h =
-    let maps = both (is_title r.title && nat_le r.length most_bytes && are_data count r.maps) (length r.maps == (if nat_le (pages_of r.length) 255 then 1 else 2)) h in
+    let maps = both (is_title r.title && nat_le r.length most_bytes && are_data count r.maps)
+    (length r.maps == (if nat_le (pages_of r.length) 255 then 1 else 2)) h in
     let data_ = both (is_title r.title && nat_le r.length most_bytes) (are_data count r.maps) maps.0 in
     let size = both (is_title r.title) (nat_le r.length most_bytes) data_.0 in
     has_says count (bytes_of_record r) r h (entry_has r size.0)

@@ -1,5 +1,6 @@
 -- The rules on a map.
-use Rattle.std.proofs.Common.{◌≡◌, ℕ, zero, suc, ◌+◌, ◌*◌, ◌≤◌, true, false, List, [], ◌∷◌, ◌++◌, length, drop, length-drop, length-append, arith, refl, ap, sym, ◌∙◌, append_assoc}
+use Rattle.std.proofs.Common.{◌≡◌, ℕ, zero, suc, ◌+◌, ◌*◌, ◌≤◌, true, false, List, [], ◌∷◌, ◌++◌, length, drop, length-drop, length-append, arith, refl, ap}
+use Rattle.std.proofs.Common.{sym, ◌∙◌, append_assoc}
 use Rattle.std.specs.Prelude.{◌==◌, Some, Result, Ok, Err, OnOk}
 use Rattle.std.proofs.Math.Seq.{drop-append_seam}
 use Rattle.edi_image.specs.declared.faults.MountFault.{MountFault}

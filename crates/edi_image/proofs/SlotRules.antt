@@ -1,5 +1,6 @@
 -- The rules on the entry of a slot, and on the entries behind it.
-use Rattle.std.proofs.Common.{◌≡◌, ℕ, zero, suc, ◌+◌, ◌-◌, ◌*◌, ◌/◌, ◌%◌, ◌<◌, Bool, true, false, List, [], ◌∷◌, ◌++◌, length, take, drop, refl, ap, sym, ◌∙◌, subst, arith}
+use Rattle.std.proofs.Common.{◌≡◌, ℕ, zero, suc, ◌+◌, ◌-◌, ◌*◌, ◌/◌, ◌%◌, ◌<◌, Bool, true, false, List, [], ◌∷◌, ◌++◌, length, take, drop, refl, ap, sym}
+use Rattle.std.proofs.Common.{◌∙◌, subst, arith}
 use Rattle.std.specs.Prelude.{◌&&◌, ◌==◌, nat_le, map, if◌then◌else◌, Option, Some, None, Result, Ok, Err, MatchResult}
 use Rattle.edi_calls.specs.State.{is_title, without_blanks, pages_of}
 use Rattle.edi_image.specs.declared.faults.MountFault.{MountFault}
@@ -128,7 +129,8 @@ entries_more blocks first (suc n) =
     (entries_more blocks (first + 1) n
     ∙ ap (λ m. entries_from blocks (first + 1) n ++ said_at blocks m ∷ []) (let index : first + 1 + n ≡ first + suc n = omega arith in index))
 
-pub map_more : (blocks : List (List ℕ)) (es : List Said) (e : Said) → map (stored_of blocks) (es ++ e ∷ []) ≡ map (stored_of blocks) es ++ stored_of blocks e ∷ []
+pub map_more : (blocks : List (List ℕ)) (es : List Said) (e : Said) → map (stored_of blocks) (es ++ e ∷ []) ≡ map (stored_of blocks) es ++ stored_of blocks e
+    ∷ []
 map_more blocks [] e = refl
 map_more blocks (x ∷ es) e = ap (λ fs. stored_of blocks x ∷ fs) (map_more blocks es e)
 
@@ -182,6 +184,7 @@ pub progress_ends : (blocks : List (List ℕ)) (slot : ℕ) (used : List ℕ) (f
 unfolding entries_of
 progress_ends blocks slot used files e so_far = (
   so_far.rules
-      ∙ ap (λ n. first_broken used (slot_rules 33 blocks slot (titles_of files) (entries_from blocks slot n))) (let none : 256 - slot ≡ 0 = omega arith in none),
+      ∙ ap (λ n. first_broken used (slot_rules 33 blocks slot (titles_of files) (entries_from blocks slot n))) (let none : 256 - slot ≡ 0 = omega arith in
+      none),
   so_far.files_ ∙ ap (λ n. map (stored_of blocks) (entries_from blocks 0 n)) e,
 )

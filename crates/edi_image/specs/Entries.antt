@@ -1,5 +1,6 @@
 -- Definition. The numbers in a block, and what the bytes of an entry say. Numbers stand with their high byte first.
-use Rattle.std.specs.Prelude.{ℕ, suc, ◌+◌, ◌*◌, ◌^◌, Bool, ◌&&◌, ◌||◌, ◌==◌, nat_lt, nat_le, if◌then◌else◌, List, [], ◌∷◌, take, drop, slice_index, slice_index_or, Option, Some, None}
+use Rattle.std.specs.Prelude.{ℕ, suc, ◌+◌, ◌*◌, ◌^◌, Bool, ◌&&◌, ◌||◌, ◌==◌, nat_lt, nat_le, if◌then◌else◌, List, [], ◌∷◌, take, drop, slice_index}
+use Rattle.std.specs.Prelude.{slice_index_or, Option, Some, None}
 use Rattle.std.specs.List.{list_all}
 use Rattle.edi_calls.specs.State.{is_title, without_blanks, most_bytes, pages_of}
 use Rattle.edi_calls.specs.declared.kinds.FileKind.{FileKind}

@@ -7,7 +7,8 @@
 -- A map block has the number of its pages (two bytes), then their block numbers. The first map of a file has its first
 -- 255 pages, or all where there are fewer, and the second map the others. The rest of a map block, and the bytes of the
 -- last page behind the file's length, are not looked at.
-use Rattle.std.specs.Prelude.{◌≡◌, ℕ, zero, suc, ◌+◌, ◌-◌, ◌*◌, ◌/◌, ◌%◌, false, not, ◌&&◌, ◌==◌, nat_le, min, List, [], ◌∷◌, ◌++◌, map, take, drop, length, flat_map, replicate, Option, Some, None}
+use Rattle.std.specs.Prelude.{◌≡◌, ℕ, zero, suc, ◌+◌, ◌-◌, ◌*◌, ◌/◌, ◌%◌, false, not, ◌&&◌, ◌==◌, nat_le, min, List, [], ◌∷◌, ◌++◌, map, take, drop, length}
+use Rattle.std.specs.Prelude.{flat_map, replicate, Option, Some, None}
 use Rattle.std.specs.List.{list_any}
 use Rattle.std.specs.Str.{bytes_eq}
 use Rattle.edi_calls.specs.State.{File, pages_of}

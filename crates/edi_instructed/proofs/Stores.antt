@@ -1,5 +1,6 @@
 -- A value is put at a location that the newest instance may mean: the memory with its words there mirrors the new store.
-use Rattle.std.proofs.Common.{◌≡◌, ◌≢◌, ℕ, ◌+◌, ◌-◌, ◌<◌, ◌≤◌, ◌⊎◌, inl, inr, List, ◌++◌, take, length, get_or, length-append, Some, refl, sym, subst, ap, ◌∙◌, arith}
+use Rattle.std.proofs.Common.{◌≡◌, ◌≢◌, ℕ, ◌+◌, ◌-◌, ◌<◌, ◌≤◌, ◌⊎◌, inl, inr, List, ◌++◌, take, length, get_or, length-append, Some, refl, sym, subst, ap}
+use Rattle.std.proofs.Common.{◌∙◌, arith}
 use Rattle.std.specs.Prelude.{IfSome, slice_index_or}
 use Rattle.std.proofs.Math.Seq.{take-append_seam, drop-append_seam}
 use Rattle.std.proofs.lemmas.Bool.{cases_lt, cases_eq}
@@ -8,14 +9,16 @@ use Rattle.std.proofs.lemmas.List.{get_or_append_left, get_or-append_right}
 use Rattle.edi_calls.specs.Names.{same}
 use Rattle.edi_calls.specs.State.{Traced}
 use Rattle.edi_store.specs.Memory.{words_at, written}
-use Rattle.edi_store.proofs.MemoryLaws.{length-words_at, get_or-words_at, length-written, get_or-written_before, get_or-written_here, get_or-written_after, words_at-written_apart}
+use Rattle.edi_store.proofs.MemoryLaws.{length-words_at, get_or-words_at, length-written, get_or-written_before, get_or-written_here, get_or-written_after}
+use Rattle.edi_store.proofs.MemoryLaws.{words_at-written_apart}
 use Rattle.edi_unit.specs.declared.units.Parameter.TheVariants as slot
 use Rattle.edi_unit.specs.Types.{size}
 use Rattle.edi_unit.specs.Values.{Value, IsOf}
 use Rattle.edi_unit.specs.Need.{slots, slot_type}
 use Rattle.edi_unit.specs.Fits.{SlotIsKnown}
 use Rattle.edi_meaning.specs.Parts.{part_at, with_part}
-use Rattle.edi_meaning.specs.Store.{Spot, Location, value, Store, Shape, instances, now, cells_in, cell, put, get, value_in, no_cell, used, IsLive, Older, within, above}
+use Rattle.edi_meaning.specs.Store.{Spot, Location, value, Store, Shape, instances, now, cells_in, cell, put, get, value_in, no_cell, used, IsLive, Older}
+use Rattle.edi_meaning.specs.Store.{within, above}
 use Rattle.edi_meaning.specs.Evaluation.{World}
 use Rattle.edi_meaning.proofs.Frames.{shape-put}
 use Rattle.edi_meaning.proofs.References.{older_self}

@@ -1,5 +1,6 @@
 -- Addresses, variables and calls: what ADDRESS, LOAD, STORE, PROC and the calls find.
-use Rattle.std.proofs.Common.{◌≡◌, ℕ, zero, suc, ◌+◌, ◌^◌, ◌<◌, ◌≤◌, false, if◌then◌else◌, List, [], ◌∷◌, length, Option, Some, None, refl, sym, subst, ap, ◌∙◌, arith}
+use Rattle.std.proofs.Common.{◌≡◌, ℕ, zero, suc, ◌+◌, ◌^◌, ◌<◌, ◌≤◌, false, if◌then◌else◌, List, [], ◌∷◌, length, Option, Some, None, refl, sym, subst, ap}
+use Rattle.std.proofs.Common.{◌∙◌, arith}
 use Rattle.std.specs.Prelude.{IfSome, nat_eq}
 use Rattle.std.proofs.lemmas.Bool.{le-leb, ne_eqb}
 use Rattle.std.proofs.lemmas.Option.{slice_get-get_or}
@@ -23,7 +24,8 @@ use Rattle.edi_worded.specs.Words.{value_words, ValuesAreLong, PartsStand}
 use Rattle.edi_spots.specs.Coded.{Coded, block, entry, slot_in, slots_of, words_in, heading_of}
 use Rattle.edi_spots.specs.Spots.{address, block_at, slot_address, location_address, cell_words, closure_words, Layout, Holds, Answers}
 use Rattle.edi_spots.specs.Scene.{Scene, Stands}
-use Rattle.edi_spots.specs.Instructions.{local_at, effect, Reaches, LevelsReach, DoesAddress, LoadsCell, IsPart, LoadsPart, Stored, Stores, called_closure, CallsBlock, CallsFormal, DoesProc}
+use Rattle.edi_spots.specs.Instructions.{local_at, effect, Reaches, LevelsReach, DoesAddress, LoadsCell, IsPart, LoadsPart, Stored, Stores, called_closure}
+use Rattle.edi_spots.specs.Instructions.{CallsBlock, CallsFormal, DoesProc}
 use Rattle.edi_spots.proofs.Places.{reached_live, level_is}
 use Rattle.edi_spots.proofs.Free.{slot_within, in_memory}
 use Rattle.edi_instructed.proofs.Slots.{slot_is_in}

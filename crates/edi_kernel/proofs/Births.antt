@@ -1,5 +1,6 @@
 -- A child that begins.
-use Rattle.std.proofs.Common.{◌≡◌, ℕ, zero, suc, ◌+◌, ◌<◌, ◌≤◌, ◌⊎◌, inl, inr, Bool, true, false, ◌&&◌, ◌||◌, nat_eq, nat_lt, if◌then◌else◌, [], ◌∷◌, length, Some, refl, sym, ◌∙◌, ap, arith, subst, eq-eqb}
+use Rattle.std.proofs.Common.{◌≡◌, ℕ, zero, suc, ◌+◌, ◌<◌, ◌≤◌, ◌⊎◌, inl, inr, Bool, true, false, ◌&&◌, ◌||◌, nat_eq, nat_lt, if◌then◌else◌, [], ◌∷◌, length}
+use Rattle.std.proofs.Common.{Some, refl, sym, ◌∙◌, ap, arith, subst, eq-eqb}
 use Rattle.std.proofs.lemmas.Bool.{cases_eq, ne_eqb}
 use Rattle.edi_calls.specs.Names.{Name, same, find, with_at, without, names}
 use Rattle.edi_calls.specs.Names as tables
@@ -29,7 +30,8 @@ has-with_at (e ∷ es) p a q = go (same p e.0) refl (has-with_at es p a q)
     twice true c = refl
     twice false c = refl
 
-    go : (b : Bool) → same p e.0 ≡ b → has (names (with_at es p a)) q ≡ (same q p || has (names es) q) → has (names (if b then (e.0, a) ∷ es else e ∷ with_at es p a)) q ≡ (same q p || (same q e.0 || has (names es) q))
+    go : (b : Bool) → same p e.0 ≡ b → has (names (with_at es p a)) q ≡ (same q p || has (names es) q)
+        → has (names (if b then (e.0, a) ∷ es else e ∷ with_at es p a)) q ≡ (same q p || (same q e.0 || has (names es) q))
     go true s ih =
         let h : p ≡ e.0 = same-equal p e.0 s in
         twice (same q e.0) (has (names es) q) ∙ ap (λ x. same q x || (same q e.0 || has (names es) q)) (sym h)
@@ -39,19 +41,22 @@ once-with_at : {A : Type 0} (es : tables.Table A) (p : Name) (a : A) → Once (n
 once-with_at [] p a o h = (refl, tt)
 once-with_at (e ∷ es) p a o h = go (same p e.0) h (once-with_at es p a o.1)
   where
-    go : (b : Bool) → (b || has (names es) p) ≡ false → (has (names es) p ≡ false → Once (names (with_at es p a))) → Once (names (if b then (e.0, a) ∷ es else e ∷ with_at es p a))
+    go : (b : Bool) → (b || has (names es) p) ≡ false → (has (names es) p ≡ false → Once (names (with_at es p a)))
+        → Once (names (if b then (e.0, a) ∷ es else e ∷ with_at es p a))
     go true f ih = absurd (cc)
     go false f ih = (has-with_at es p a e.0 ∙ ap (λ b. b || has (names es) e.0) (other (same-or-other e.0 p)) ∙ o.0, ih f)
       where
         other : (e.0 ≡ p) ⊎ (same e.0 p ≡ false) → same e.0 p ≡ false
-        other (inl x) = let y : has (names (e ∷ es)) p ≡ true = ap (λ z. same p z || has (names es) p) x ∙ ap (λ b. b || has (names es) p) (same-refl p) in let z : false ≡ true = sym h ∙ y in absurd (cc)
+        other (inl x) = let y : has (names (e ∷ es)) p ≡ true = ap (λ z. same p z || has (names es) p) x ∙ ap (λ b. b || has (names es) p) (same-refl p) in
+            let z : false ≡ true = sym h ∙ y in absurd (cc)
         other (inr x) = x
 
 length-with_at : {A : Type 0} (es : tables.Table A) (p : Name) (a : A) → has (names es) p ≡ false → length (with_at es p a) ≡ suc (length es)
 length-with_at [] p a h = refl
 length-with_at (e ∷ es) p a h = go (same p e.0) h (length-with_at es p a)
   where
-    go : (b : Bool) → (b || has (names es) p) ≡ false → (has (names es) p ≡ false → length (with_at es p a) ≡ suc (length es)) → length (if b then (e.0, a) ∷ es else e ∷ with_at es p a) ≡ suc (suc (length es))
+    go : (b : Bool) → (b || has (names es) p) ≡ false → (has (names es) p ≡ false → length (with_at es p a) ≡ suc (length es))
+        → length (if b then (e.0, a) ∷ es else e ∷ with_at es p a) ≡ suc (suc (length es))
     go true f ih = absurd (cc)
     go false f ih = ap suc (ih f)
 
@@ -140,7 +145,8 @@ module _ (t u : Table) (n : Naming) (m k : Machine) (p c f j : ℕ) (x : Process
     all : (q : Name) → has (names k.activities) q ≡ true → (i : ℕ) × (is_live u i ≡ true) × (q ≡ now_named.name i)
     all q h = go (same-or-other q the_name) (sym (ap (λ es. has (names es) q) b.activities ∙ has-with_at m.activities the_name (entry_of x 0) q) ∙ h)
       where
-        go : (q ≡ the_name) ⊎ (same q the_name ≡ false) → (same q the_name || has (names m.activities) q) ≡ true → (i : ℕ) × (is_live u i ≡ true) × (q ≡ now_named.name i)
+        go : (q ≡ the_name) ⊎ (same q the_name ≡ false) → (same q the_name || has (names m.activities) q) ≡ true → (i : ℕ) × (is_live u i ≡ true)
+            × (q ≡ now_named.name i)
         go (inl e) h = (c, b.lives c ∙ ap (λ d. d || is_live t c) (eq-eqb c c refl), e ∙ sym (at_c c refl))
         go (inr ne) h =
             let a : (i : ℕ) × (is_live t i ≡ true) × (q ≡ n.name i) = b.stands.all q (sym (ap (λ d. d || has (names m.activities) q) ne) ∙ h) in
@@ -167,7 +173,8 @@ module _ (t u : Table) (n : Naming) (m k : Machine) (p c f j : ℕ) (x : Process
             fork = f;
             number = j;
             named = at_c i e ∙ sym (ap (λ d. child (now_named.name d) f j) pa ∙ ap (λ d. child d f j) (not_c p (other p b.live)));
-            earlier = let a : now_named.forks (process_at u i).parent ≡ n.forks p = ap now_named.forks pa ∙ forks_not_c p (other p b.live) in omega (arith, a, b.fork);
+            earlier = let a : now_named.forks (process_at u i).parent ≡ n.forks p = ap now_named.forks pa ∙ forks_not_c p (other p b.live) in
+                omega (arith, a, b.fork);
           }
       | inr ne ↦
           let o : Born t n i = b.stands.born i (was i ne l) pos in
@@ -176,8 +183,10 @@ module _ (t u : Table) (n : Naming) (m k : Machine) (p c f j : ℕ) (x : Process
             lives = ap (is_live u) pa ∙ still (process_at t i).parent o.lives;
             fork = o.fork;
             number = o.number;
-            named = not_c i ne ∙ o.named ∙ sym (ap (λ d. child (now_named.name d) o.fork o.number) pa ∙ ap (λ d. child d o.fork o.number) (not_c (process_at t i).parent (other (process_at t i).parent o.lives)));
-            earlier = let a : now_named.forks (process_at u i).parent ≡ n.forks (process_at t i).parent = ap now_named.forks pa ∙ forks_not_c (process_at t i).parent (other (process_at t i).parent o.lives) in omega (arith, a, o.earlier);
+            named = not_c i ne ∙ o.named ∙ sym (ap (λ d. child (now_named.name d) o.fork o.number) pa ∙ ap (λ d. child d o.fork o.number)
+                (not_c (process_at t i).parent (other (process_at t i).parent o.lives)));
+            earlier = let a : now_named.forks (process_at u i).parent ≡ n.forks (process_at t i).parent = ap now_named.forks pa
+                ∙ forks_not_c (process_at t i).parent (other (process_at t i).parent o.lives) in omega (arith, a, o.earlier);
           }
     ]
 
@@ -191,7 +200,8 @@ module _ (t u : Table) (n : Naming) (m k : Machine) (p c f j : ℕ) (x : Process
     child_now i =
         let a : is_live u c ≡ true = b.lives c ∙ ap (λ d. d || is_live t c) (eq-eqb c c refl) in
         let z : nat_lt 0 c ≡ true = positive c b.later in
-        ap (λ d. d && is_live u c && nat_eq (process_at u c).parent i) z ∙ ap (λ d. d && nat_eq (process_at u c).parent i) a ∙ ap (λ y. nat_eq y i) (ap (λ y. y.parent) b.here ∙ b.parent)
+        ap (λ d. d && is_live u c && nat_eq (process_at u c).parent i) z ∙ ap (λ d. d && nat_eq (process_at u c).parent i) a
+        ∙ ap (λ y. nat_eq y i) (ap (λ y. y.parent) b.here ∙ b.parent)
 
     child_before : (i : ℕ) → is_child_of t i c ≡ false
     child_before i = ap (λ d. nat_lt 0 c && d && nat_eq (process_at t c).parent i) b.dead ∙ neither (nat_lt 0 c) (nat_eq (process_at t c).parent i)
@@ -204,7 +214,8 @@ module _ (t u : Table) (n : Naming) (m k : Machine) (p c f j : ℕ) (x : Process
     not_eq l e h = let a : true ≡ false = sym (eq-eqb l c h) ∙ e in absurd (cc)
 
     pub children_p : children_of u p ≡ suc (children_of t p)
-    children_p = where_less (is_child_of u p) (is_child_of t p) 32 c b.slot (child_now p ∙ eq-eqb p p refl) (child_before p) (λ l e. child_there p l (not_eq l e))
+    children_p = where_less (is_child_of u p) (is_child_of t p) 32 c b.slot (child_now p ∙ eq-eqb p p refl) (child_before p)
+        (λ l e. child_there p l (not_eq l e))
 
     children_other : (i : ℕ) → (i ≡ p → ⊥) → children_of u i ≡ children_of t i
     children_other i ne = where_same (is_child_of u i) (is_child_of t i) 32 (λ l _. elim (cases_eq l c) [

@@ -1,5 +1,6 @@
 -- Changes of the table and of the machine that keep them together.
-use Rattle.std.proofs.Common.{◌≡◌, ℕ, suc, ◌<◌, ◌≤◌, inl, inr, Bool, true, false, ◌&&◌, nat_eq, nat_lt, List, [], ◌∷◌, length, Some, refl, sym, ◌∙◌, ap, arith, subst, slice_set, slice_index_or, get_or-set_same, get_or-set_other, eq-eqb}
+use Rattle.std.proofs.Common.{◌≡◌, ℕ, suc, ◌<◌, ◌≤◌, inl, inr, Bool, true, false, ◌&&◌, nat_eq, nat_lt, List, [], ◌∷◌, length, Some, refl, sym, ◌∙◌, ap}
+use Rattle.std.proofs.Common.{arith, subst, slice_set, slice_index_or, get_or-set_same, get_or-set_other, eq-eqb}
 use Rattle.std.proofs.lemmas.Bool.{cases_eq, eqb-true}
 use Rattle.std.proofs.lemmas.Bool.Decides.{nat_tests}
 use Rattle.edi_calls.specs.Names.{Name, same, find, with_at, without, names}
@@ -52,7 +53,8 @@ pub at_set_other : (xs : List Process) (p i : ℕ) (x : Process) → (i ≡ p �
 at_set_other xs p i x h = get_or-set_other xs p i x no_process h
 
 -- names of different live slots are told apart
-pub names_apart : (t : Table) (n : Naming) (m : Machine) → TableIsMachine t n m → (i j : ℕ) → is_live t i ≡ true → is_live t j ≡ true → (i ≡ j → ⊥) → same (n.name i) (n.name j) ≡ false
+pub names_apart : (t : Table) (n : Naming) (m : Machine) → TableIsMachine t n m → (i j : ℕ) → is_live t i ≡ true → is_live t j ≡ true → (i ≡ j → ⊥)
+    → same (n.name i) (n.name j) ≡ false
 names_apart t n m s i j l k ne = elim (same-or-other (n.name i) (n.name j)) [
   | inl e ↦ absurd (ne (s.apart i j l k e))
   | inr e ↦ e
@@ -98,7 +100,8 @@ module _ (t u : Table) (n : Naming) (forks : ℕ → ℕ) (m k : Machine) (p : �
     ]
 
     children : (i : ℕ) → children_of u i ≡ children_of t i
-    children i = where_same (is_child_of u i) (is_child_of t i) 32 (λ j _. ap (λ b. nat_lt 0 j && b && nat_eq (process_at u j).parent i) (c.lives j) ∙ ap (λ y. nat_lt 0 j && is_live t j && nat_eq y i) (parents j))
+    children i = where_same (is_child_of u i) (is_child_of t i) 32
+        (λ j _. ap (λ b. nat_lt 0 j && b && nat_eq (process_at u j).parent i) (c.lives j) ∙ ap (λ y. nat_lt 0 j && is_live t j && nat_eq y i) (parents j))
 
     more_forks : (i : ℕ) → n.forks i ≤ forks i
     more_forks i = elim (cases_eq i p) [
@@ -130,7 +133,8 @@ module _ (t u : Table) (n : Naming) (forks : ℕ → ℕ) (m k : Machine) (p : �
           fork = b.fork;
           number = b.number;
           named = b.named ∙ sym (ap (λ j. child (n.name j) b.fork b.number) (parents i));
-          earlier = let e : forks (process_at u i).parent ≡ forks (process_at t i).parent = ap forks (parents i) in omega (arith, e, b.earlier, more_forks (process_at t i).parent);
+          earlier = let e : forks (process_at u i).parent ≡ forks (process_at t i).parent = ap forks (parents i) in
+              omega (arith, e, b.earlier, more_forks (process_at t i).parent);
         }
 
     awaits_at : (i : ℕ) → is_live u i ≡ true → Awaits (process_at u i).standing (children_of u i)

@@ -1,5 +1,6 @@
 -- The next process is taken.
-use Rattle.std.proofs.Common.{◌≡◌, ℕ, suc, ◌+◌, ◌-◌, ◌<◌, inl, inr, Bool, true, false, ◌&&◌, not, nat_eq, nat_lt, if◌then◌else◌, List, [], ◌∷◌, length, map, Option, Some, None, refl, sym, ◌∙◌, ap, arith, subst, slice_index_or, eq-eqb, ◌^◌}
+use Rattle.std.proofs.Common.{◌≡◌, ℕ, suc, ◌+◌, ◌-◌, ◌<◌, inl, inr, Bool, true, false, ◌&&◌, not, nat_eq, nat_lt, if◌then◌else◌, List, [], ◌∷◌, length, map}
+use Rattle.std.proofs.Common.{Option, Some, None, refl, sym, ◌∙◌, ap, arith, subst, slice_index_or, eq-eqb, ◌^◌}
 use Rattle.std.specs.Prelude.{◌%◌, slice_get}
 use Rattle.std.specs.Option.{option_map}
 use Rattle.std.proofs.lemmas.Bool.{cases_eq, ne_eqb}
@@ -32,7 +33,8 @@ marked_minus t x (y ∷ xs) n (inr h) =
     ∙ swap (marked_at t x) (marked_at t y) (marked_among t (minus x xs))
     ∙ ap (λ k. if marked_at t y then suc k else k) (marked_minus t x xs n.1 h)
   where
-    swap : (a b : Bool) (k : ℕ) → (if a then suc (if b then suc k else k) else (if b then suc k else k)) ≡ (if b then suc (if a then suc k else k) else (if a then suc k else k))
+    swap : (a b : Bool) (k : ℕ) → (if a then suc (if b then suc k else k) else (if b then suc k else k))
+        ≡ (if b then suc (if a then suc k else k) else (if a then suc k else k))
     swap true true k = refl
     swap true false k = refl
     swap false true k = refl
@@ -71,7 +73,8 @@ module _ (t u : Table) (at x : ℕ) (s : IsTable t) (lt : x < 32) (was : slice_g
 
   same_live : (i : ℕ) → is_live u i ≡ is_live t i
   same_live i = ap (λ b. nat_lt i 32 && not b) (elim (cases_eq i x) [
-    | inl e ↦ ap (λ j. is_free_home (home_of u.lists j)) e ∙ ap is_free_home (w.homes x ∙ ap (λ b. if b then None else home_of t.lists x) (eq-eqb x x refl)) ∙ sym (ap (λ j. is_free_home (home_of t.lists j)) e ∙ ap is_free_home home_was)
+    | inl e ↦ ap (λ j. is_free_home (home_of u.lists j)) e ∙ ap is_free_home (w.homes x ∙ ap (λ b. if b then None else home_of t.lists x) (eq-eqb x x refl))
+        ∙ sym (ap (λ j. is_free_home (home_of t.lists j)) e ∙ ap is_free_home home_was)
     | inr ne ↦ ap is_free_home (w.homes i ∙ ap (λ b. if b then None else home_of t.lists i) (ne_eqb i x ne))
   ])
 
@@ -108,11 +111,15 @@ module _ (t u : Table) (at x : ℕ) (s : IsTable t) (lt : x < 32) (was : slice_g
         };
     awaits = λ i l.
         subst (λ y. Awaits y.standing (children_of u i)) (sym (same_process i))
-        (subst (λ c. Awaits (process_at t i).standing c) (sym (where_same (is_child_of u i) (is_child_of t i) 32 (λ j _. ap (λ b. nat_lt 0 j && b && nat_eq (process_at u j).parent i) (same_live j) ∙ ap (λ y. nat_lt 0 j && is_live t j && nat_eq y.parent i) (same_process j))))
+        (subst (λ c. Awaits (process_at t i).standing c)
+        (sym (where_same (is_child_of u i) (is_child_of t i) 32
+        (λ j _. ap (λ b. nat_lt 0 j && b && nat_eq (process_at u j).parent i) (same_live j) ∙ ap (λ y. nat_lt 0 j && is_live t j && nat_eq y.parent i)
+        (same_process j))))
         (h.awaits i (sym (same_live i) ∙ l)));
   }
 
-  pub chosen_named : (name : ℕ → Name) → (name_at (map name (ready_slots t)) at ≡ name x) × (map name (ready_slots u) ≡ without_index (map name (ready_slots t)) at)
+  pub chosen_named : (name : ℕ → Name) → (name_at (map name (ready_slots t)) at ≡ name x)
+      × (map name (ready_slots u) ≡ without_index (map name (ready_slots t)) at)
   chosen_named name =
       let r : (name_at (map name (ready_slots t)) at ≡ name x) × (map name (minus x (ready_slots t)) ≡ without_index (map name (ready_slots t)) at) =
       others_named name (ready_slots t) at x (none_twice (ready_slots t) (s.sound.once 0)) was in
@@ -123,7 +130,8 @@ picked : (old new : Drawn) (ready : List Name) (at : ℕ) → at < length ready 
     take_next old.source old.drawn ready ≡ taking (name_at ready at) (without_index ready at) new.drawn
 picked old new [] at lt less h = absurd (omega arith)
 picked old new (p ∷ []) at lt less h =
-    let e : at ≡ 0 = h.0 in ap (λ d. taking p [] d) (sym (ap (λ x. x.drawn) h.1)) ∙ sym (ap (λ i. taking (name_at (p ∷ []) i) (without_index (p ∷ []) i) new.drawn) e)
+    let e : at ≡ 0 = h.0 in ap (λ d. taking p [] d) (sym (ap (λ x. x.drawn) h.1))
+    ∙ sym (ap (λ i. taking (name_at (p ∷ []) i) (without_index (p ∷ []) i) new.drawn) e)
 picked old new (p ∷ q ∷ ready) at lt less h =
     let more : nat_eq (length (p ∷ q ∷ ready)) 1 ≡ false = ne_eqb (length (p ∷ q ∷ ready)) 1 (λ e. omega (arith, e)) in
     let k : (at ≡ choice old.source (old.drawn + 1) % length (p ∷ q ∷ ready)) × (new ≡ record old { drawn = old.drawn + 1 }) =
@@ -135,26 +143,30 @@ length-map : {X : Type 0} (f : ℕ → X) (xs : List ℕ) → length (map f xs) 
 length-map f [] = refl
 length-map f (x ∷ xs) = ap suc (length-map f xs)
 
-module _ (old new : KernelState) (at x : ℕ) (before after : Drawn) (kernel : IsKernel old) (free : old.taken ≡ None) (lt : x < 32) (was : slice_get (ready_slots old.table) at ≡ Some x)
+module _ (old new : KernelState) (at x : ℕ) (before after : Drawn) (kernel : IsKernel old) (free : old.taken ≡ None) (lt : x < 32)
+    (was : slice_get (ready_slots old.table) at ≡ Some x)
     (w : Withdraws x old.table new.table) (taken : new.taken ≡ Some x) (same : new.store ≡ old.store) where
   pub chosen_kernel : IsKernel new
   chosen_kernel = record {
     table = withdrawn_table old.table new.table x kernel.table w;
-    taken = subst (IsTakenIn new.table) (sym taken) (chosen_taken old.table new.table at x kernel.table lt was w (subst (IsTakenIn old.table) free kernel.taken));
+    taken = subst (IsTakenIn new.table) (sym taken)
+        (chosen_taken old.table new.table at x kernel.table lt was w (subst (IsTakenIn old.table) free kernel.taken));
   }
 
   pub chooses : (ready : ℕ) → ready ≡ length (ready_slots old.table) → at < ready → Picks ready before at after → before.drawn < 2 ^ 64 - 1 →
       (m : Machine) (names : List Name) → Holds old m None names → Chooses new m before after names
   chooses ready e less pick drawn m names h =
       let many : ready ≡ length (map h.naming.name (ready_slots old.table)) = e ∙ sym (length-map h.naming.name (ready_slots old.table)) in
-      let r : (name_at (map h.naming.name (ready_slots old.table)) at ≡ h.naming.name x) × (map h.naming.name (ready_slots new.table) ≡ without_index (map h.naming.name (ready_slots old.table)) at) =
+      let r : (name_at (map h.naming.name (ready_slots old.table)) at ≡ h.naming.name x)
+      × (map h.naming.name (ready_slots new.table) ≡ without_index (map h.naming.name (ready_slots old.table)) at) =
       chosen_named old.table new.table at x kernel.table lt was w h.naming.name in
       record {
         name = h.naming.name x;
         others = map h.naming.name (ready_slots new.table);
         is =
             ap (take_next before.source before.drawn) h.is_ready
-            ∙ picked before after (map h.naming.name (ready_slots old.table)) at (omega (arith, less, many)) drawn (subst (λ k. Picks k before at after) many pick)
+            ∙ picked before after (map h.naming.name (ready_slots old.table)) at (omega (arith, less, many)) drawn
+            (subst (λ k. Picks k before at after) many pick)
             ∙ ap (λ p. taking p (without_index (map h.naming.name (ready_slots old.table)) at) after.drawn) r.0
             ∙ ap (λ ps. taking (h.naming.name x) ps after.drawn) (sym r.1);
         holds = record {

@@ -1,5 +1,6 @@
 -- Numbers of slots.
-use Rattle.std.proofs.Common.{◌≡◌, ℕ, zero, suc, ◌+◌, ◌<◌, ◌≤◌, inl, inr, Bool, true, false, ◌&&◌, nat_eq, if◌then◌else◌, List, [], ◌∷◌, ◌++◌, length, map, refl, sym, ◌∙◌, ap, arith}
+use Rattle.std.proofs.Common.{◌≡◌, ℕ, zero, suc, ◌+◌, ◌<◌, ◌≤◌, inl, inr, Bool, true, false, ◌&&◌, nat_eq, if◌then◌else◌, List, [], ◌∷◌, ◌++◌, length, map}
+use Rattle.std.proofs.Common.{refl, sym, ◌∙◌, ap, arith}
 use Rattle.std.proofs.lemmas.Bool.{cases_eq, ne_eqb}
 use Rattle.std.proofs.lemmas.Bool.Decides.{nat_tests}
 use Rattle.edi_calls.specs.Names.{Name}
@@ -30,7 +31,8 @@ where_some f (suc n) j l e = elim (cases_eq j n) [
     more false h = h
 
 -- a slot that passes one test and not the other, where they differ nowhere else
-pub where_less : (f g : ℕ → Bool) (n j : ℕ) → j < n → f j ≡ true → g j ≡ false → ((i : ℕ) → nat_eq i j ≡ false → f i ≡ g i) → slots_where f n ≡ suc (slots_where g n)
+pub where_less : (f g : ℕ → Bool) (n j : ℕ) → j < n → f j ≡ true → g j ≡ false → ((i : ℕ) → nat_eq i j ≡ false → f i ≡ g i)
+    → slots_where f n ≡ suc (slots_where g n)
 where_less f g zero j l t u h = absurd (omega arith)
 where_less f g (suc n) j l t u h = elim (cases_eq j n) [
   | inl here ↦
@@ -42,7 +44,8 @@ where_less f g (suc n) j l t u h = elim (cases_eq j n) [
       ∙ more (g n) (where_less f g n j (omega arith) t u h)
 ]
   where
-    more : (b : Bool) → slots_where f n ≡ suc (slots_where g n) → (if b then suc (slots_where f n) else slots_where f n) ≡ suc (if b then suc (slots_where g n) else slots_where g n)
+    more : (b : Bool) → slots_where f n ≡ suc (slots_where g n) → (if b then suc (slots_where f n) else slots_where f n) ≡ suc
+        (if b then suc (slots_where g n) else slots_where g n)
     more true e = ap suc e
     more false e = e
 
@@ -52,7 +55,9 @@ pub marked-append : (t : Table) (xs ys : List ℕ) → marked_among t (xs ++ ys)
 marked-append t [] ys = omega arith
 marked-append t (x ∷ xs) ys = go (marked_at t x) (marked-append t xs ys)
   where
-    go : (b : Bool) → marked_among t (xs ++ ys) ≡ marked_among t xs + marked_among t ys → (if b then suc (marked_among t (xs ++ ys)) else marked_among t (xs ++ ys)) ≡ (if b then suc (marked_among t xs) else marked_among t xs) + marked_among t ys
+    go : (b : Bool) → marked_among t (xs ++ ys) ≡ marked_among t xs + marked_among t ys
+        → (if b then suc (marked_among t (xs ++ ys)) else marked_among t (xs ++ ys)) ≡ (if b then suc (marked_among t xs) else marked_among t xs) + marked_among
+        t ys
     go true e = omega (arith, e)
     go false e = e
 
@@ -74,13 +79,15 @@ suc_eq : (a b : ℕ) → nat_eq a b ≡ nat_eq (suc a) (suc b)
 suc_eq a b = grind (arith, nat_tests)
 
 -- all are marked exactly where as many are
-pub all_marked-among : (t : Table) (marks : List Name) (name : ℕ → Name) (xs : List ℕ) → ((i : ℕ) → IsAmong i xs → has marks (name i) ≡ marked_at t i) → all_marked marks (map name xs) ≡ nat_eq (marked_among t xs) (length xs)
+pub all_marked-among : (t : Table) (marks : List Name) (name : ℕ → Name) (xs : List ℕ) → ((i : ℕ) → IsAmong i xs → has marks (name i) ≡ marked_at t i)
+    → all_marked marks (map name xs) ≡ nat_eq (marked_among t xs) (length xs)
 all_marked-among t marks name [] h = refl
 all_marked-among t marks name (x ∷ xs) h =
     ap (λ b. b && all_marked marks (map name xs)) (h x (inl refl))
     ∙ go (marked_at t x) (all_marked-among t marks name xs (λ i k. h i (inr k))) (marked_few t xs)
   where
-    go : (b : Bool) → all_marked marks (map name xs) ≡ nat_eq (marked_among t xs) (length xs) → marked_among t xs ≤ length xs → (b && all_marked marks (map name xs)) ≡ nat_eq (if b then suc (marked_among t xs) else marked_among t xs) (suc (length xs))
+    go : (b : Bool) → all_marked marks (map name xs) ≡ nat_eq (marked_among t xs) (length xs) → marked_among t xs ≤ length xs
+        → (b && all_marked marks (map name xs)) ≡ nat_eq (if b then suc (marked_among t xs) else marked_among t xs) (suc (length xs))
     go true e le = e ∙ suc_eq (marked_among t xs) (length xs)
     go false e le = sym (ne_eqb (marked_among t xs) (suc (length xs)) (λ e. omega (arith, e)))
 

@@ -1,5 +1,6 @@
 -- A child that ends.
-use Rattle.std.proofs.Common.{◌≡◌, ℕ, suc, ◌+◌, ◌<◌, ◌⊎◌, inl, inr, Bool, true, false, ◌&&◌, ◌||◌, not, nat_eq, nat_lt, if◌then◌else◌, [], ◌∷◌, length, Some, refl, sym, ◌∙◌, ap, arith, subst, eq-eqb}
+use Rattle.std.proofs.Common.{◌≡◌, ℕ, suc, ◌+◌, ◌<◌, ◌⊎◌, inl, inr, Bool, true, false, ◌&&◌, ◌||◌, not, nat_eq, nat_lt, if◌then◌else◌, [], ◌∷◌, length, Some}
+use Rattle.std.proofs.Common.{refl, sym, ◌∙◌, ap, arith, subst, eq-eqb}
 use Rattle.std.proofs.lemmas.Bool.{cases_eq, ne_eqb}
 use Rattle.edi_calls.specs.Names.{Name, same, find, without, names}
 use Rattle.edi_calls.specs.Names as tables
@@ -24,7 +25,8 @@ has-without {A} (e ∷ es) p q h = go (same p e.0) refl h (has-without es p q)
     right true = refl
     right false = refl
 
-    here : (b : Bool) → same q e.0 ≡ b → same p e.0 ≡ false → (b || has (names (without es p)) q) ≡ true → (has (names (without es p)) q ≡ true → (has (names es) q ≡ true) × (same q p ≡ false)) → ((same q e.0 || has (names es) q) ≡ true) × (same q p ≡ false)
+    here : (b : Bool) → same q e.0 ≡ b → same p e.0 ≡ false → (b || has (names (without es p)) q) ≡ true
+        → (has (names (without es p)) q ≡ true → (has (names es) q ≡ true) × (same q p ≡ false)) → ((same q e.0 || has (names es) q) ≡ true) × (same q p ≡ false)
     here true f s h ih = (ap (λ b. b || has (names es) q) f, unlike (same-or-other q p))
       where
         unlike : (q ≡ p) ⊎ (same q p ≡ false) → same q p ≡ false
@@ -32,7 +34,8 @@ has-without {A} (e ∷ es) p q h = go (same p e.0) refl h (has-without es p q)
         unlike (inr g) = g
     here false f s h ih = let a : (has (names es) q ≡ true) × (same q p ≡ false) = ih h in (ap (λ b. same q e.0 || b) a.0 ∙ right (same q e.0), a.1)
 
-    go : (b : Bool) → same p e.0 ≡ b → has (names (if b then without es p else e ∷ without es p)) q ≡ true → (has (names (without es p)) q ≡ true → (has (names es) q ≡ true) × (same q p ≡ false)) → (has (names (e ∷ es)) q ≡ true) × (same q p ≡ false)
+    go : (b : Bool) → same p e.0 ≡ b → has (names (if b then without es p else e ∷ without es p)) q ≡ true
+        → (has (names (without es p)) q ≡ true → (has (names es) q ≡ true) × (same q p ≡ false)) → (has (names (e ∷ es)) q ≡ true) × (same q p ≡ false)
     go true s h ih = let a : (has (names es) q ≡ true) × (same q p ≡ false) = ih h in (ap (λ b. same q e.0 || b) a.0 ∙ right (same q e.0), a.1)
     go false s h ih = here (same q e.0) refl s h ih
 
@@ -52,7 +55,8 @@ without_unknown : {A : Type 0} (es : tables.Table A) (p : Name) → has (names e
 without_unknown [] p h = refl
 without_unknown (e ∷ es) p h = go (same p e.0) h (without_unknown es p)
   where
-    go : (b : Bool) → (b || has (names es) p) ≡ false → (has (names es) p ≡ false → length (without es p) ≡ length es) → length (if b then without es p else e ∷ without es p) ≡ suc (length es)
+    go : (b : Bool) → (b || has (names es) p) ≡ false → (has (names es) p ≡ false → length (without es p) ≡ length es)
+        → length (if b then without es p else e ∷ without es p) ≡ suc (length es)
     go true f ih = absurd (cc)
     go false f ih = ap suc (ih f)
 
@@ -60,7 +64,8 @@ pub length-without : {A : Type 0} (es : tables.Table A) (p : Name) (a : A) → O
 length-without [] p a o f = absurd (cc)
 length-without {A} (e ∷ es) p a o f = go (same p e.0) refl f (length-without es p a o.1)
   where
-    go : (b : Bool) → same p e.0 ≡ b → (if b then Some e.1 else find es p) ≡ Some a → (find es p ≡ Some a → suc (length (without es p)) ≡ length es) → suc (length (if b then without es p else e ∷ without es p)) ≡ suc (length es)
+    go : (b : Bool) → same p e.0 ≡ b → (if b then Some e.1 else find es p) ≡ Some a → (find es p ≡ Some a → suc (length (without es p)) ≡ length es)
+        → suc (length (if b then without es p else e ∷ without es p)) ≡ suc (length es)
     go true s g ih = ap suc (without_unknown es p (ap (has (names es)) (same-equal p e.0 s) ∙ o.0))
     go false s g ih = ap suc (ih g)
 
@@ -106,10 +111,12 @@ module _ (t u : Table) (n : Naming) (m k : Machine) (p : ℕ) where
         omega (arith, some, e.childless)
 
     child_there : (i l : ℕ) → (l ≡ p → ⊥) → is_child_of u i l ≡ is_child_of t i l
-    child_there i l ne = ap (λ b. nat_lt 0 l && b && nat_eq (process_at u l).parent i) (still l ne) ∙ ap (λ y. nat_lt 0 l && is_live t l && nat_eq y.parent i) (e.there l)
+    child_there i l ne = ap (λ b. nat_lt 0 l && b && nat_eq (process_at u l).parent i) (still l ne) ∙ ap (λ y. nat_lt 0 l && is_live t l && nat_eq y.parent i)
+        (e.there l)
 
     child_now : (i : ℕ) → is_child_of u i p ≡ false
-    child_now i = ap (λ b. nat_lt 0 p && b && nat_eq (process_at u p).parent i) (e.lives p ∙ ap (λ b. not b && is_live t p) (eq-eqb p p refl)) ∙ neither (nat_lt 0 p) (nat_eq (process_at u p).parent i)
+    child_now i = ap (λ b. nat_lt 0 p && b && nat_eq (process_at u p).parent i) (e.lives p ∙ ap (λ b. not b && is_live t p) (eq-eqb p p refl))
+        ∙ neither (nat_lt 0 p) (nat_eq (process_at u p).parent i)
       where
         neither : (x y : Bool) → (x && false && y) ≡ false
         neither true y = refl
@@ -120,7 +127,8 @@ module _ (t u : Table) (n : Naming) (m k : Machine) (p : ℕ) where
 
     -- its parent has one child less
     pub one_child_less : children_of t parent ≡ suc (children_of u parent)
-    one_child_less = where_less (is_child_of t parent) (is_child_of u parent) 32 p (live_below t p e.live) (is_child t parent p e.later e.live refl) (child_now parent) (λ l f. sym (child_there parent l (not_eq l f)))
+    one_child_less = where_less (is_child_of t parent) (is_child_of u parent) 32 p (live_below t p e.live) (is_child t parent p e.later e.live refl)
+        (child_now parent) (λ l f. sym (child_there parent l (not_eq l f)))
 
     children_other : (i : ℕ) → (i ≡ parent → ⊥) → children_of u i ≡ children_of t i
     children_other i ne = where_same (is_child_of u i) (is_child_of t i) 32 (λ l _. elim (cases_eq l p) [
@@ -157,7 +165,8 @@ module _ (t u : Table) (n : Naming) (m k : Machine) (p : ℕ) where
     awaits_at i l = subst (λ y. Awaits y.standing (children_of u i)) (sym (e.there i)) (elim (cases_eq i parent) [
       | inl h ↦
           subst (λ j. Awaits (process_at t j).standing (children_of u j)) (sym h)
-          (fewer (process_at t parent).standing (children_of t parent) (children_of u parent) (e.stands.awaits parent (subst (λ j. is_live t j ≡ true) h (was i l))) one_child_less)
+          (fewer (process_at t parent).standing (children_of t parent) (children_of u parent)
+          (e.stands.awaits parent (subst (λ j. is_live t j ≡ true) h (was i l))) one_child_less)
       | inr ne ↦ subst (λ c. Awaits (process_at t i).standing c) (sym (children_other i ne)) (e.stands.awaits i (was i l))
     ])
 

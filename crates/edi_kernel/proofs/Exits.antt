@@ -1,5 +1,6 @@
 -- A branch comes to its end.
-use Rattle.std.proofs.Common.{◌≡◌, ℕ, zero, suc, ◌+◌, ◌-◌, ◌<◌, ◌≤◌, inl, inr, Bool, true, false, ◌&&◌, not, nat_eq, nat_lt, nat_le, List, [], ◌∷◌, ◌++◌, length, map, Option, Some, None, refl, sym, ◌∙◌, ap, arith, subst, slice_set, slice_index_or, eq-eqb, length-append}
+use Rattle.std.proofs.Common.{◌≡◌, ℕ, zero, suc, ◌+◌, ◌-◌, ◌<◌, ◌≤◌, inl, inr, Bool, true, false, ◌&&◌, not, nat_eq, nat_lt, nat_le, List, [], ◌∷◌, ◌++◌}
+use Rattle.std.proofs.Common.{length, map, Option, Some, None, refl, sym, ◌∙◌, ap, arith, subst, slice_set, slice_index_or, eq-eqb, length-append}
 use Rattle.std.proofs.lemmas.Bool.{cases_eq, ne_eqb, leb-true, leb-false}
 use Rattle.std.proofs.lemmas.List.{length_push, append-nil}
 use Rattle.edi_calls.specs.Names.{Name, same, find, with_at, without, names}
@@ -34,7 +35,8 @@ module _ (t u : Table) (p : ℕ) (table : IsTable t) (taken : IsTaken t p) (put 
   freed_lives : (i : ℕ) → is_live u i ≡ (not (nat_eq i p) && is_live t i)
   freed_lives i = elim (cases_eq i p) [
     | inl e ↦
-        ap (λ b. nat_lt i 32 && not b) (ap (λ j. is_free_home (home_of u.lists j)) e ∙ ap is_free_home (put_home_here t u 1 p (process_at t p) put)) ∙ dead (nat_lt i 32)
+        ap (λ b. nat_lt i 32 && not b) (ap (λ j. is_free_home (home_of u.lists j)) e ∙ ap is_free_home (put_home_here t u 1 p (process_at t p) put))
+        ∙ dead (nat_lt i 32)
         ∙ sym (ap (λ b. not b && is_live t i) (eq-eqb i p e))
     | inr ne ↦
         ap (λ h. nat_lt i 32 && not (is_free_home h)) (put_home_there t u 1 p (process_at t p) put i ne)
@@ -76,7 +78,8 @@ module _ (t u : Table) (p : ℕ) (table : IsTable t) (taken : IsTaken t p) (put 
       lives = freed_lives;
       free = freed_free;
       others = λ q ne. find-without-other k.activities (n.name p) q ne ∙ f.others q ne;
-      named = λ q h. let b : (has (names k.activities) q ≡ true) × (same q (n.name p) ≡ false) = deaths.has-without k.activities (n.name p) q h in (sym (ap (λ ns. has ns q) f.named) ∙ b.0, b.1);
+      named = λ q h. let b : (has (names k.activities) q ≡ true) × (same q (n.name p) ≡ false) = deaths.has-without k.activities (n.name p) q h in
+          (sym (ap (λ ns. has ns q) f.named) ∙ b.0, b.1);
       once = deaths.once-without k.activities (n.name p) (subst Once (sym f.named) s.once);
       one_less = deaths.length-without k.activities (n.name p) a (subst Once (sym f.named) s.once) f.found ∙ same_length k.activities m.activities f.named;
       marks = λ i l. sym (ap (λ ms. slice_index_or ms i false) (put.marked ∙ unmarked) ∙ none i);
@@ -145,7 +148,8 @@ module _ (t u : Table) (n : Naming) (m : Machine) (p w : ℕ) where
     step_is : one_less m (n.name p) entry entry.standing ≡ went (changed (awaits (w - 1))) (freed (w - 1) (n.name p))
     step_is = ap (λ s. one_less m (n.name p) entry (standing_of s)) h.waiting
 
-    by_number : (v : ℕ) → w ≡ suc v → (is_last : Bool) → nat_le w 1 ≡ is_last → TellsOne is_last w p t u → Exited u n (map n.name (ready_slots t)) (map n.name (ready_slots u)) (one_less m (n.name p) entry entry.standing)
+    by_number : (v : ℕ) → w ≡ suc v → (is_last : Bool) → nat_le w 1 ≡ is_last → TellsOne is_last w p t u → Exited u n (map n.name (ready_slots t))
+        (map n.name (ready_slots u)) (one_less m (n.name p) entry entry.standing)
     by_number zero e true f put =
         let x : Process = record (process_at t p) { standing = standing.Ready } in
         let one : w - 1 ≡ 0 = omega (arith, e) in
@@ -154,7 +158,8 @@ module _ (t u : Table) (n : Naming) (m : Machine) (p w : ℕ) where
           machine = changed mach.ready;
           joined = n.name p ∷ [];
           is = step_is ∙ ap (λ v. went (changed (awaits v)) (freed v (n.name p))) one;
-          stands = changes standing.Ready put.processes (put_lives t u p x put homeless) (ap length (put_other t u 0 p x put h.table.sound (omega arith) 1 (λ e. omega (arith, e)))) put.marked none;
+          stands = changes standing.Ready put.processes (put_lives t u p x put homeless)
+              (ap length (put_other t u 0 p x put h.table.sound (omega arith) 1 (λ e. omega (arith, e)))) put.marked none;
           ready = ap (map n.name) (put_list t u 0 p x put h.table.sound (omega arith)) ∙ map-append n.name (ready_slots t) (p ∷ []);
         }
     by_number zero e false f is = let g : 1 < w = leb-false w 1 f in absurd (omega (arith, e, g))
@@ -167,11 +172,13 @@ module _ (t u : Table) (n : Naming) (m : Machine) (p w : ℕ) where
           is = step_is ∙ ap (λ v. went (changed (awaits v)) (freed v (n.name p))) less;
           stands =
               subst (λ x. TableIsMachine u n (changed (mach.waiting x))) less
-              (changes (standing.Waiting (w - 1)) (ap (λ t. t.processes) is) (λ i. ap (λ t. is_live t i) is) (ap (λ t. length (free_slots t)) is) (ap (λ t. t.marked) is) (omega (arith, h.few)));
+              (changes (standing.Waiting (w - 1)) (ap (λ t. t.processes) is) (λ i. ap (λ t. is_live t i) is) (ap (λ t. length (free_slots t)) is)
+              (ap (λ t. t.marked) is) (omega (arith, h.few)));
           ready = ap (λ t. map n.name (ready_slots t)) is ∙ sym (append-nil (map n.name (ready_slots t)));
         }
 
-    pub tells_one : (v : ℕ) → w ≡ suc v → TellsOne (nat_le w 1) w p t u → Exited u n (map n.name (ready_slots t)) (map n.name (ready_slots u)) (one_less m (n.name p) entry entry.standing)
+    pub tells_one : (v : ℕ) → w ≡ suc v → TellsOne (nat_le w 1) w p t u → Exited u n (map n.name (ready_slots t)) (map n.name (ready_slots u))
+        (one_less m (n.name p) entry entry.standing)
     tells_one v e tells = by_number v e (nat_le w 1) refl tells
 
 -- ---- what the end of a branch leaves as it is
@@ -193,14 +200,16 @@ module _ {X : Type 0} (part : Machine → X) (same : (m : Machine) (es : List (N
   pub kept : (k : Machine) (p : Name) (r : Running) (machine : Machine) (joined : List Name) → exited k p r ≡ went machine (joins joined) →
       part machine ≡ part (record { memory = r.local.memory; activities = without k.activities p; marks = []; turns = r.turns; system = r.system })
   kept k p r machine joined e =
-      sym (ap part_of e) ∙ kept_told (record { memory = r.local.memory; activities = without k.activities p; marks = []; turns = r.turns; system = r.system }) (parent_of p) (find (without k.activities p) (parent_of p))
+      sym (ap part_of e) ∙ kept_told (record { memory = r.local.memory; activities = without k.activities p; marks = []; turns = r.turns; system = r.system })
+      (parent_of p) (find (without k.activities p) (parent_of p))
 
 -- the process has gone
 abbrev found_in : Stepped → Name → Option mach.Activity
 found_in (went m next) p = find m.activities p
 found_in (mach.ended ending m) p = find m.activities p
 
-none_told_one : (m : Machine) (q p : Name) (a : mach.Activity) (s : mach.Standing) → find m.activities q ≡ Some a → find m.activities p ≡ None → found_in (one_less m q a s) p ≡ None
+none_told_one : (m : Machine) (q p : Name) (a : mach.Activity) (s : mach.Standing) → find m.activities q ≡ Some a → find m.activities p ≡ None
+    → found_in (one_less m q a s) p ≡ None
 none_told_one m q p a mach.ready f e = e
 none_told_one m q p a mach.at_when f e = e
 none_told_one m q p a (mach.waiting n) f e = elim (same-or-other p q) [
@@ -215,7 +224,8 @@ none_told : (m : Machine) (q p : Name) (o : Option mach.Activity) → find m.act
 none_told m q p None f e = e
 none_told m q p (Some a) f e = none_told_one m q p a a.standing f e
 
-pub none_left : (k : Machine) (p : Name) (r : Running) (machine : Machine) (joined : List Name) → exited k p r ≡ went machine (joins joined) → find machine.activities p ≡ None
+pub none_left : (k : Machine) (p : Name) (r : Running) (machine : Machine) (joined : List Name) → exited k p r ≡ went machine (joins joined)
+    → find machine.activities p ≡ None
 none_left k p r machine joined e =
     let rest : Machine = record { memory = r.local.memory; activities = without k.activities p; marks = []; turns = r.turns; system = r.system } in
     sym (ap (λ s. found_in s p) e) ∙ none_told rest (parent_of p) p (find rest.activities (parent_of p)) refl (find-without-same k.activities p)
@@ -249,12 +259,14 @@ module _ (t u : Table) (n : Naming) (m k : Machine) (p : ℕ) (a : mach.Activity
         longer q f i e = let h : length q ≡ length (child q f i) = ap length e in omega (arith, h, length-append q (f ∷ i ∷ []))
 
     parent_live : is_live removed.between parent ≡ true
-    parent_live = freed_lives t removed.between p at.table at.taken removed.put parent ∙ ap (λ b. not b && is_live t parent) (ne_eqb parent p not_self) ∙ birth.lives
+    parent_live = freed_lives t removed.between p at.table at.taken removed.put parent ∙ ap (λ b. not b && is_live t parent) (ne_eqb parent p not_self)
+        ∙ birth.lives
 
     its_parent : parent_of (n.name p) ≡ n.name parent
     its_parent = ap parent_of birth.named ∙ parent_is (n.name parent) birth.fork birth.number
 
-    told_is : exited k (n.name p) r ≡ one_less without_p (n.name parent) (entry_of (process_at removed.between parent) (n.forks parent)) (standing_of (process_at removed.between parent).standing)
+    told_is : exited k (n.name p) r ≡ one_less without_p (n.name parent) (entry_of (process_at removed.between parent) (n.forks parent))
+        (standing_of (process_at removed.between parent).standing)
     told_is =
         ap (λ q. notified without_p q (find without_p.activities q)) its_parent
         ∙ ap (notified without_p (n.name parent)) (stands_between.found parent parent_live)
@@ -262,18 +274,21 @@ module _ (t u : Table) (n : Naming) (m k : Machine) (p : ℕ) (a : mach.Activity
     -- the parent waits
     waits : (s : Standing) → (process_at removed.between parent).standing ≡ s → Tells s parent removed.between u →
         Exited u n (map n.name (ready_slots removed.between)) (map n.name (ready_slots u))
-        (one_less without_p (n.name parent) (entry_of (process_at removed.between parent) (n.forks parent)) (standing_of (process_at removed.between parent).standing))
+        (one_less without_p (n.name parent) (entry_of (process_at removed.between parent) (n.forks parent))
+        (standing_of (process_at removed.between parent).standing))
     waits standing.Ready e tells = absurd (omega (arith, none standing.Ready e, more))
       where
         none : (s : Standing) → (process_at removed.between parent).standing ≡ s → Awaits s (children_of t parent)
-        none s e = subst (λ s. Awaits s (children_of t parent)) (sym (ap (λ y. y.standing) (freed_there t removed.between p at.table at.taken removed.put parent)) ∙ e) (at.stands.awaits parent birth.lives)
+        none s e = subst (λ s. Awaits s (children_of t parent))
+            (sym (ap (λ y. y.standing) (freed_there t removed.between p at.table at.taken removed.put parent)) ∙ e) (at.stands.awaits parent birth.lives)
 
         more : children_of t parent ≡ suc (children_of removed.between parent)
         more = deaths.one_child_less t removed.between n m without_p p ending
     waits standing.AtWhen e tells = absurd (omega (arith, none standing.AtWhen e, more))
       where
         none : (s : Standing) → (process_at removed.between parent).standing ≡ s → Awaits s (children_of t parent)
-        none s e = subst (λ s. Awaits s (children_of t parent)) (sym (ap (λ y. y.standing) (freed_there t removed.between p at.table at.taken removed.put parent)) ∙ e) (at.stands.awaits parent birth.lives)
+        none s e = subst (λ s. Awaits s (children_of t parent))
+            (sym (ap (λ y. y.standing) (freed_there t removed.between p at.table at.taken removed.put parent)) ∙ e) (at.stands.awaits parent birth.lives)
 
         more : children_of t parent ≡ suc (children_of removed.between parent)
         more = deaths.one_child_less t removed.between n m without_p p ending
@@ -291,7 +306,8 @@ module _ (t u : Table) (n : Naming) (m k : Machine) (p : ℕ) (a : mach.Activity
         (w - 1) (omega (arith, none (standing.Waiting w) e, more)) tells
       where
         none : (s : Standing) → (process_at removed.between parent).standing ≡ s → Awaits s (children_of t parent)
-        none s e = subst (λ s. Awaits s (children_of t parent)) (sym (ap (λ y. y.standing) (freed_there t removed.between p at.table at.taken removed.put parent)) ∙ e) (at.stands.awaits parent birth.lives)
+        none s e = subst (λ s. Awaits s (children_of t parent))
+            (sym (ap (λ y. y.standing) (freed_there t removed.between p at.table at.taken removed.put parent)) ∙ e) (at.stands.awaits parent birth.lives)
 
         more : children_of t parent ≡ suc (children_of removed.between parent)
         more = deaths.one_child_less t removed.between n m without_p p ending
@@ -299,7 +315,8 @@ module _ (t u : Table) (n : Naming) (m k : Machine) (p : ℕ) (a : mach.Activity
     pub exits : Exited u n (map n.name (ready_slots t)) (map n.name (ready_slots u)) (exited k (n.name p) r)
     exits =
         let e : Exited u n (map n.name (ready_slots removed.between)) (map n.name (ready_slots u))
-        (one_less without_p (n.name parent) (entry_of (process_at removed.between parent) (n.forks parent)) (standing_of (process_at removed.between parent).standing)) =
+        (one_less without_p (n.name parent) (entry_of (process_at removed.between parent) (n.forks parent))
+        (standing_of (process_at removed.between parent).standing)) =
         waits (process_at removed.between parent).standing refl removed.told in
         record {
           machine = e.machine;

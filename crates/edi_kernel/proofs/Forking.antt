@@ -1,5 +1,6 @@
 -- The children of a fork begin one after another.
-use Rattle.std.proofs.Common.{◌≡◌, ℕ, zero, suc, ◌+◌, ◌*◌, ◌<◌, ◌≤◌, inl, inr, Bool, true, false, ◌&&◌, ◌||◌, not, nat_eq, nat_lt, if◌then◌else◌, List, [], ◌∷◌, ◌++◌, length, map, drop, Option, Some, None, refl, sym, ◌∙◌, ap, arith, subst, slice_index_or, eq-eqb, append_assoc}
+use Rattle.std.proofs.Common.{◌≡◌, ℕ, zero, suc, ◌+◌, ◌*◌, ◌<◌, ◌≤◌, inl, inr, Bool, true, false, ◌&&◌, ◌||◌, not, nat_eq, nat_lt, if◌then◌else◌, List, []}
+use Rattle.std.proofs.Common.{◌∷◌, ◌++◌, length, map, drop, Option, Some, None, refl, sym, ◌∙◌, ap, arith, subst, slice_index_or, eq-eqb, append_assoc}
 use Rattle.std.specs.Prelude.{slice_get}
 use Rattle.std.specs.Option.{option_map}
 use Rattle.std.proofs.lemmas.Bool.{cases_eq, ne_eqb}
@@ -64,13 +65,15 @@ module _ (t u : Table) (parent : ℕ) (a : Activity) (s : IsTable t) (added : Ad
   ]
 
   home_there : (i : ℕ) → (i ≡ c → ⊥) → home_of u.lists i ≡ home_of t.lists i
-  home_there i ne = put_home_there added.between u 0 c (beginning parent a) added.put i ne ∙ added.taken.homes i ∙ ap (λ b. if b then None else home_of t.lists i) (ne_eqb i c ne)
+  home_there i ne = put_home_there added.between u 0 c (beginning parent a) added.put i ne ∙ added.taken.homes i
+      ∙ ap (λ b. if b then None else home_of t.lists i) (ne_eqb i c ne)
 
   process_there : (i : ℕ) → (i ≡ c → ⊥) → process_at u i ≡ process_at t i
   process_there i ne = put_there added.between u 0 c (beginning parent a) added.put i ne ∙ ap (λ xs. slice_index_or xs i no_process) added.taken.processes
 
   process_here : process_at u c ≡ beginning parent a
-  process_here = put_here added.between u 0 c (beginning parent a) added.put (let e : length added.between.processes ≡ length t.processes = ap length added.taken.processes in omega (arith, e, s.wide, added.inside))
+  process_here = put_here added.between u 0 c (beginning parent a) added.put
+      (let e : length added.between.processes ≡ length t.processes = ap length added.taken.processes in omega (arith, e, s.wide, added.inside))
 
   lives : (i : ℕ) → is_live u i ≡ (nat_eq i c || is_live t i)
   lives i = elim (cases_eq i c) [
@@ -141,7 +144,8 @@ module _ (slot : ℕ) (parent : Activity) (branches : List Branch) (store : List
     pub ready : map naming.name (ready_slots u) ≡ map n.name (ready_slots t) ++ children p f 0 i
     pub turns : machine.turns ≡ m.turns
     pub system : machine.system ≡ m.system
-    pub chain : with_children p f i parent.base (parent.end + i * share) share (drop i branches) machine ≡ with_children p f 0 parent.base parent.end share branches m
+    pub chain : with_children p f i parent.base (parent.end + i * share) share (drop i branches) machine ≡ with_children p f 0 parent.base parent.end share
+        branches m
 
   module _ (s : Starts) where
     grown_none : Grown 0 store t
@@ -164,10 +168,12 @@ module _ (slot : ℕ) (parent : Activity) (branches : List Branch) (store : List
       ready = sym (append-nil (map n.name (ready_slots t)));
       turns = refl;
       system = refl;
-      chain = ap (λ a. with_children p f 0 parent.base a share (drop 0 branches) m) (omega arith) ∙ ap (λ bs. with_children p f 0 parent.base parent.end share bs m) (drop_none branches);
+      chain = ap (λ a. with_children p f 0 parent.base a share (drop 0 branches) m) (omega arith)
+          ∙ ap (λ bs. with_children p f 0 parent.base parent.end share bs m) (drop_none branches);
     }
 
-    module _ (i : ℕ) (words : List ℕ) (u : Table) (h : OneMore slot parent branches i (HaveBegun slot parent branches store t i) words u) (g : Grown i h.store_before h.table_before) (b : Branch) (at_i : slice_get branches i ≡ Some b)
+    module _ (i : ℕ) (words : List ℕ) (u : Table) (h : OneMore slot parent branches i (HaveBegun slot parent branches store t i) words u)
+        (g : Grown i h.store_before h.table_before) (b : Branch) (at_i : slice_get branches i ≡ Some b)
         (is : h.child ≡ child_at (child_first (local_of [] parent) share i) share b) (less : i < length branches) where
       abbrev at : ℕ
       at = parent.end + i * share
@@ -194,9 +200,11 @@ module _ (slot : ℕ) (parent : Activity) (branches : List Branch) (store : List
         lives = lives h.table_before u slot h.child g.table h.added;
         free = added_free slot h.child h.table_before u g.table s.inside h.ordered h.added;
         activities =
-            ap (λ q. with_at g.machine.activities q (entry_of (beginning slot (child_at (child_first (local_of [] parent) share i) share b)) 0)) (ap (λ q. child q f i) (sym g.named))
+            ap (λ q. with_at g.machine.activities q (entry_of (beginning slot (child_at (child_first (local_of [] parent) share i) share b)) 0))
+            (ap (λ q. child q f i) (sym g.named))
             ∙ ap (λ c. with_at g.machine.activities (child (g.naming.name slot) f i) (entry_of (beginning slot c) 0)) (sym is);
-        marks = λ j l. ap (λ ms. has ms (naming_i.name j)) g.no_marks_left ∙ sym (ap (λ ms. slice_index_or ms j false) (marked_same h.table_before u slot h.child g.table h.added ∙ g.unmarked) ∙ unmarked_at 32 j);
+        marks = λ j l. ap (λ ms. has ms (naming_i.name j)) g.no_marks_left
+            ∙ sym (ap (λ ms. slice_index_or ms j false) (marked_same h.table_before u slot h.child g.table h.added ∙ g.unmarked) ∙ unmarked_at 32 j);
         going = refl;
         fork = g.fork;
         fresh = λ j l e. g.fresh j i (omega arith) l (e ∙ ap (λ q. child q f i) g.named);
@@ -210,7 +218,8 @@ module _ (slot : ℕ) (parent : Activity) (branches : List Branch) (store : List
       name_other = births.not_c h.table_before u g.naming g.machine machine_i slot slot_i f i (beginning slot h.child) begins
 
       name_new : naming_i.name slot_i ≡ child p f i
-      name_new = births.at_c h.table_before u g.naming g.machine machine_i slot slot_i f i (beginning slot h.child) begins slot_i refl ∙ ap (λ q. child q f i) g.named
+      name_new = births.at_c h.table_before u g.naming g.machine machine_i slot slot_i f i (beginning slot h.child) begins slot_i refl
+          ∙ ap (λ q. child q f i) g.named
 
       fresh_i : (j q : ℕ) → suc i ≤ q → is_live u j ≡ true → naming_i.name j ≡ child p f q → ⊥
       fresh_i j q le l e = elim (cases_eq j slot_i) [
@@ -219,19 +228,23 @@ module _ (slot : ℕ) (parent : Activity) (branches : List Branch) (store : List
             let z : (p ≡ p) × (f ≡ f) × (i ≡ q) = same_ends p p f i f q y in
             let w : i ≡ q = z.2 in omega (arith, w, le)
         | inr ne ↦
-            g.fresh j q (omega (arith, le)) (births.was h.table_before u g.naming g.machine machine_i slot slot_i f i (beginning slot h.child) begins j ne l) (sym (name_other j ne) ∙ e)
+            g.fresh j q (omega (arith, le)) (births.was h.table_before u g.naming g.machine machine_i slot slot_i f i (beginning slot h.child) begins j ne l)
+            (sym (name_other j ne) ∙ e)
       ]
 
       ready_i : map naming_i.name (ready_slots u) ≡ map n.name (ready_slots t) ++ children p f 0 (suc i)
       ready_i =
           ap (map naming_i.name) (added_ready slot h.child h.table_before u g.table s.inside h.ordered h.added)
           ∙ map-append naming_i.name (ready_slots h.table_before) (slot_i ∷ [])
-          ∙ ap (λ qs. qs ++ naming_i.name slot_i ∷ []) (map_same naming_i.name g.naming.name (ready_slots h.table_before) (λ j k. name_other j (ready_not h.table_before u slot h.child g.table h.added j k)) ∙ g.ready)
+          ∙ ap (λ qs. qs ++ naming_i.name slot_i ∷ [])
+          (map_same naming_i.name g.naming.name (ready_slots h.table_before)
+          (λ j k. name_other j (ready_not h.table_before u slot h.child g.table h.added j k)) ∙ g.ready)
           ∙ ap (λ q. (map n.name (ready_slots t) ++ children p f 0 i) ++ q ∷ []) name_new
           ∙ append_assoc (map n.name (ready_slots t)) (children p f 0 i) (child p f i ∷ [])
           ∙ ap (λ qs. map n.name (ready_slots t) ++ qs) (ap (λ j. children p f 0 i ++ child p f j ∷ []) (omega arith) ∙ sym (children-push p f 0 i))
 
-      chain_i : with_children p f (suc i) parent.base (parent.end + suc i * share) share (drop (suc i) branches) machine_i ≡ with_children p f 0 parent.base parent.end share branches m
+      chain_i : with_children p f (suc i) parent.base (parent.end + suc i * share) share (drop (suc i) branches) machine_i ≡ with_children p f 0 parent.base
+          parent.end share branches m
       chain_i =
           ap (λ a. with_children p f (suc i) parent.base a share (drop (suc i) branches) machine_i) (next parent.end i share)
           ∙ ap (λ bs. with_children p f i parent.base at share bs g.machine) (sym (drop_at branches i b at_i)) ∙ g.chain
@@ -251,9 +264,11 @@ module _ (slot : ℕ) (parent : Activity) (branches : List Branch) (store : List
         no_marks_left = g.no_marks_left;
         unmarked = marked_same h.table_before u slot h.child g.table h.added ∙ g.unmarked;
         none_counted = marks_same h.table_before u slot h.child g.table h.added ∙ g.none_counted;
-        few = let e = births.children_p h.table_before u g.naming g.machine machine_i slot slot_i f i (beginning slot h.child) begins in omega (arith, e, g.few);
+        few = let e = births.children_p h.table_before u g.naming g.machine machine_i slot slot_i f i (beginning slot h.child) begins in
+            omega (arith, e, g.few);
         waiting = ap (λ y. y.standing) (process_there h.table_before u slot h.child g.table h.added slot not_slot) ∙ g.waiting;
-        fork = let e = births.forks_not_c h.table_before u g.naming g.machine machine_i slot slot_i f i (beginning slot h.child) begins slot not_slot in omega (arith, e, g.fork);
+        fork = let e = births.forks_not_c h.table_before u g.naming g.machine machine_i slot slot_i f i (beginning slot h.child) begins slot not_slot in
+            omega (arith, e, g.fork);
         named = name_other slot not_slot ∙ g.named;
         fresh = fresh_i;
         ready = ready_i;
@@ -266,7 +281,8 @@ module _ (slot : ℕ) (parent : Activity) (branches : List Branch) (store : List
     grown zero words u le h = subst (λ w. Grown 0 w u) (sym h.0) (subst (λ v. Grown 0 store v) (sym h.1) grown_none)
     grown (suc i) words u le h = by_branch (slice_get branches i) refl h.is (grown i h.store_before h.table_before (omega (arith, le)) h.begun)
       where
-        by_branch : (o : Option Branch) → slice_get branches i ≡ o → Some h.child ≡ option_map (child_at (child_first (local_of [] parent) share i) share) o → Grown i h.store_before h.table_before → Grown (suc i) words u
+        by_branch : (o : Option Branch) → slice_get branches i ≡ o → Some h.child ≡ option_map (child_at (child_first (local_of [] parent) share i) share) o
+            → Grown i h.store_before h.table_before → Grown (suc i) words u
         by_branch None e k g = let a : Some h.child ≡ None = k in absurd (cc)
         by_branch (Some b) e k g = grown_more i words u h g b e (some k) (omega (arith, le))
           where

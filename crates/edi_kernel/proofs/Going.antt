@@ -1,5 +1,6 @@
 -- A stint of the kernel is one of the machine.
-use Rattle.std.proofs.Common.{◌≡◌, ℕ, zero, suc, ◌+◌, ◌-◌, ◌<◌, ◌≤◌, inl, inr, Bool, true, false, ◌&&◌, nat_lt, ◌*◌, List, [], ◌∷◌, ◌++◌, length, map, Option, Some, None, refl, sym, ◌∙◌, ap, arith, subst, nat_eq, if◌then◌else◌, eq-eqb}
+use Rattle.std.proofs.Common.{◌≡◌, ℕ, zero, suc, ◌+◌, ◌-◌, ◌<◌, ◌≤◌, inl, inr, Bool, true, false, ◌&&◌, nat_lt, ◌*◌, List, [], ◌∷◌, ◌++◌, length, map}
+use Rattle.std.proofs.Common.{Option, Some, None, refl, sym, ◌∙◌, ap, arith, subst, nat_eq, if◌then◌else◌, eq-eqb}
 use Rattle.std.specs.Prelude.{◌==◌}
 use Rattle.std.specs.Option.{option_map}
 use Rattle.std.proofs.lemmas.Bool.{cases_eq, ne_eqb, eqb-false}
@@ -33,19 +34,22 @@ use Rattle.edi_kernel.specs.declared.table.Standing.{Standing}
 use Rattle.edi_kernel.specs.declared.table.Standing.TheVariants as standing
 use Rattle.edi_kernel.specs.declared.table.Process.{Process}
 use Rattle.edi_kernel.specs.declared.table.Table.{Table}
-use Rattle.edi_kernel.specs.Table.{PutsProcess, Removed, at_its_when, waiting_for, process_at, marks_with, marked_with, unmarked, ready_slots, free_slots, is_live, is_waiting, resumed, with_process}
+use Rattle.edi_kernel.specs.Table.{PutsProcess, Removed, at_its_when, waiting_for, process_at, marks_with, marked_with, unmarked, ready_slots, free_slots}
+use Rattle.edi_kernel.specs.Table.{is_live, is_waiting, resumed, with_process}
 use Rattle.edi_kernel.specs.TableIsMachine.{IsTable, IsTaken, IsBetween, Naming, Awaits, Born, TableIsMachine, is_child_of, entry_of, children_of}
 use Rattle.edi_kernel.specs.Stretch.{Paused, going, pausing, stopping, stretch, running_in, walked, Pauses, Breaks, Stretches, Allows}
 use Rattle.edi_kernel.specs.Stints as stints
 use Rattle.edi_kernel.specs.Stints.{stint, stint_after}
 use Rattle.edi_kernel.specs.Forks.{HaveBegun, share_in}
-use Rattle.edi_kernel.specs.Kernel.{IsKernel, IsTakenIn, Holds, Switches, EndsRun, BreaksOff, TellsStanding, ForksInto, GoesTo, attempt_end, HandlesTurn, Handles}
+use Rattle.edi_kernel.specs.Kernel.{IsKernel, IsTakenIn, Holds, Switches, EndsRun, BreaksOff, TellsStanding, ForksInto, GoesTo, attempt_end, HandlesTurn}
+use Rattle.edi_kernel.specs.Kernel.{Handles}
 use Rattle.edi_kernel.proofs.Names.{child_some, same_ends}
 use Rattle.edi_kernel.proofs.Counts.{marked_few, map-append, where_same}
 use Rattle.edi_kernel.proofs.Changes.{length-names, one_changes, at_set_same, at_set_other}
 use Rattle.edi_kernel.proofs.Lists.{written_table, unmarked_at}
 use Rattle.edi_kernel.proofs.Walks.{Follows, follows_itself, names-with_at, marks_after, Comes, comes, Walked, walks}
-use Rattle.edi_kernel.proofs.Switches.{At, taken_live, follows_marks, unmarked_table, unmarked_taken, unmarked_at_slot, marked_at_slot, stood, stood_ready, all_ready}
+use Rattle.edi_kernel.proofs.Switches.{At, taken_live, follows_marks, unmarked_table, unmarked_taken, unmarked_at_slot, marked_at_slot, stood, stood_ready}
+use Rattle.edi_kernel.proofs.Switches.{all_ready}
 use Rattle.edi_kernel.proofs.Exits.{Exited, exits, kept, none_left}
 use Rattle.edi_kernel.proofs.Handled.{handled}
 use Rattle.edi_kernel.proofs.Forking.{Starts, Grown, grown, drop_all}
@@ -63,8 +67,10 @@ pub few_marks : (t : Table) (slot : ℕ) → IsTable t → IsTaken t slot → t.
 few_marks t slot s h = omega (arith, h.counted, marked_few t (slot ∷ ready_slots t), length-le-nodes 32 2 t.lists 0 s.sound)
 
 -- the same stretch of the same activity
-pub stretches_same : (words store : List ℕ) (live live' left : ℕ) (first : Bool) (a b : Activity) (old new : Option State) (pause : Pause) (now : State → Running) (c : Bool) → live ≡ live' → a ≡ b →
-    WhereTold old new (λ s t. Stretches words live first (running_in store a s left) false pause (now t) c) → WhereTold old new (λ s t. Stretches words live' first (running_in store b s left) false pause (now t) c)
+pub stretches_same : (words store : List ℕ) (live live' left : ℕ) (first : Bool) (a b : Activity) (old new : Option State) (pause : Pause)
+    (now : State → Running) (c : Bool) → live ≡ live' → a ≡ b →
+    WhereTold old new (λ s t. Stretches words live first (running_in store a s left) false pause (now t) c)
+    → WhereTold old new (λ s t. Stretches words live' first (running_in store b s left) false pause (now t) c)
 stretches_same words store live live' left first a b old new pause now c e f h =
     subst (λ x. WhereTold old new (λ s t. Stretches words live' first (running_in store x s left) false pause (now t) c)) f
     (subst (λ n. WhereTold old new (λ s t. Stretches words n first (running_in store a s left) false pause (now t) c)) e h)
@@ -79,19 +85,22 @@ runs m store s left process forks e f g = by_standing process.standing refl
         ap (λ y. running_of m (entry_of (record process { standing = y }) forks)) h
         ∙ same ∙ sym (ap (λ y. running_in store (resumed (record process { standing = y })) s left) h)
       where
-        same : running_of m (entry_of (record process { standing = standing.Ready }) forks) ≡ running_in store (resumed (record process { standing = standing.Ready })) s left
+        same : running_of m (entry_of (record process { standing = standing.Ready }) forks) ≡ running_in store
+            (resumed (record process { standing = standing.Ready })) s left
         same = cc
     by_standing standing.AtWhen h =
         ap (λ y. running_of m (entry_of (record process { standing = y }) forks)) h
         ∙ same ∙ sym (ap (λ y. running_in store (resumed (record process { standing = y })) s left) h)
       where
-        same : running_of m (entry_of (record process { standing = standing.AtWhen }) forks) ≡ running_in store (resumed (record process { standing = standing.AtWhen })) s left
+        same : running_of m (entry_of (record process { standing = standing.AtWhen }) forks) ≡ running_in store
+            (resumed (record process { standing = standing.AtWhen })) s left
         same = cc
     by_standing (standing.Waiting n) h =
         ap (λ y. running_of m (entry_of (record process { standing = y }) forks)) h
         ∙ same ∙ sym (ap (λ y. running_in store (resumed (record process { standing = y })) s left) h)
       where
-        same : running_of m (entry_of (record process { standing = standing.Waiting n }) forks) ≡ running_in store (resumed (record process { standing = standing.Waiting n })) s left
+        same : running_of m (entry_of (record process { standing = standing.Waiting n }) forks) ≡ running_in store
+            (resumed (record process { standing = standing.Waiting n })) s left
         same = cc
 
 -- the first process has the first slot
@@ -140,14 +149,17 @@ module _ (words : List ℕ) (old mid new : KernelState) (slot left left1 used : 
     abbrev start : Running
     start = running_in old.store (resumed (process_at old.table slot)) s left
 
-    came : (steps : ℕ) (x : Paused) → stretch (fetch words) live (slot == 0) steps (running_in old.store (resumed (process_at old.table slot)) s left) false ≡ x →
+    came : (steps : ℕ) (x : Paused) → stretch (fetch words) live (slot == 0) steps (running_in old.store (resumed (process_at old.table slot)) s left) false
+        ≡ x →
         Comes (fetch words) m p others (n.forks slot) steps m x
     came steps x e =
         subst (Comes (fetch words) m p others (n.forks slot) steps m)
         (ap (λ l. stretch (fetch words) l (is_first p) steps (running_in old.store (resumed (process_at old.table slot)) s left) false) (sym is_live_count)
-        ∙ ap (λ b. stretch (fetch words) live b steps (running_in old.store (resumed (process_at old.table slot)) s left) false) (sym (first_is old.table n m slot g.stands (taken_live old.table slot g.taken)))
+        ∙ ap (λ b. stretch (fetch words) live b steps (running_in old.store (resumed (process_at old.table slot)) s left) false)
+        (sym (first_is old.table n m slot g.stands (taken_live old.table slot g.taken)))
         ∙ e)
-        (comes (fetch words) m p others (n.forks slot) steps m (entry_of (process_at old.table slot) (n.forks slot)) (running_in old.store (resumed (process_at old.table slot)) s left) false
+        (comes (fetch words) m p others (n.forks slot) steps m (entry_of (process_at old.table slot) (n.forks slot))
+        (running_in old.store (resumed (process_at old.table slot)) s left) false
         (follows_itself m p (entry_of (process_at old.table slot) (n.forks slot)) (g.stands.found slot (taken_live old.table slot g.taken)))
         (runs m old.store s left (process_at old.table slot) (n.forks slot) g.memory g.system g.turns))
 
@@ -155,7 +167,8 @@ module _ (words : List ℕ) (old mid new : KernelState) (slot left left1 used : 
     at_mid : At mid.table n (record m { marks = marks_after (fetch words) m p others (n.forks slot) cleared }) slot
     at_mid = subst (λ u. At u n (record m { marks = marks_after (fetch words) m p others (n.forks slot) cleared }) slot) (sym g.mid_table) (by_cleared cleared)
       where
-        by_cleared : (b : Bool) → At (if b then unmarked old.table else old.table) n (record m { marks = marks_after (fetch words) m p others (n.forks slot) b }) slot
+        by_cleared : (b : Bool) → At (if b then unmarked old.table else old.table) n
+            (record m { marks = marks_after (fetch words) m p others (n.forks slot) b }) slot
         by_cleared true = unmarked_at_slot old.table n m slot (record { table = g.table; taken = g.taken; stands = g.stands })
         by_cleared false = record { table = g.table; taken = g.taken; stands = g.stands }
 
@@ -194,10 +207,12 @@ module _ (words : List ℕ) (old mid new : KernelState) (slot left left1 used : 
         is = is;
         holds = record {
           naming = n;
-          stands = stood (unmarked mid.table) new.table slot a at_clear.table at_clear.taken put n (record m { marks = [] }) k b [] ms r mid.store at_clear.stands (follows_marks m k p (n.forks slot) ms [] b f) refl (sym (ap (λ x. x.local) e));
+          stands = stood (unmarked mid.table) new.table slot a at_clear.table at_clear.taken put n (record m { marks = [] }) k b [] ms r mid.store
+              at_clear.stands (follows_marks m k p (n.forks slot) ms [] b f) refl (sym (ap (λ x. x.local) e));
           memory = sym (ap (λ x. x.local.memory) e) ∙ sym same;
           is_taken = sym (ap (option_map n.name) g.none_taken);
-          is_ready = sym (ap (map n.name) (stood_ready (unmarked mid.table) new.table slot a at_clear.table at_clear.taken put) ∙ map-append n.name (ready_slots mid.table) (slot ∷ []) ∙ ap (λ xs. map n.name xs ++ p ∷ []) same_ready);
+          is_ready = sym (ap (map n.name) (stood_ready (unmarked mid.table) new.table slot a at_clear.table at_clear.taken put)
+              ∙ map-append n.name (ready_slots mid.table) (slot ∷ []) ∙ ap (λ xs. map n.name xs ++ p ∷ []) same_ready);
         };
         system = sym (ap (λ x. x.system) e);
         turns = sym (ap (λ x. x.turns) e) ∙ sym g.spent;
@@ -207,10 +222,12 @@ module _ (words : List ℕ) (old mid new : KernelState) (slot left left1 used : 
 
     -- ---- an attempt that marks its process
 
-    marked_attempt : (k : Machine) (b : mach.Activity) (r : Running) (steps rest : ℕ) (result : StintEnd) → Follows m k p (n.forks slot) (marks_after (fetch words) m p others (n.forks slot) cleared) b → now ≡ r →
+    marked_attempt : (k : Machine) (b : mach.Activity) (r : Running) (steps rest : ℕ) (result : StintEnd) → Follows m k p (n.forks slot)
+        (marks_after (fetch words) m p others (n.forks slot) cleared) b → now ≡ r →
         stint (fetch words) steps m p others ≡ stint_after (λ m. stint (fetch words) rest m p others) (at_turn k p others b (again true) r) →
         PutsProcess 0 slot (at_its_when (process_at mid.table slot) a) (marked_with mid.table slot) new.table → new.store ≡ mid.store →
-        result ≡ attempt_end (marks_with mid.table slot == length (ready_slots new.table)) used → new.arrived ≡ Some a → GoesTo words result left new t m p others
+        result ≡ attempt_end (marks_with mid.table slot == length (ready_slots new.table)) used → new.arrived ≡ Some a → GoesTo words result left new t m p
+        others
     marked_attempt k b r steps rest result f e is put same ends told =
         subst (λ x. GoesTo words x left new t m p others) (sym ends) (by_marks (marks_with mid.table slot == length (ready_slots new.table)) refl)
       where
@@ -225,12 +242,18 @@ module _ (words : List ℕ) (old mid new : KernelState) (slot left left1 used : 
 
         tested : (marks_with mid.table slot == length (ready_slots new.table)) ≡ all_marked (p ∷ k.marks) (p ∷ others)
         tested =
-            all_ready (marked_with mid.table slot) n (record m { marks = p ∷ marks_after (fetch words) m p others (n.forks slot) cleared }) slot marked new.table ready
-            ∙ ap (λ ms. all_marked (p ∷ ms) (p ∷ map n.name (ready_slots mid.table))) (sym f.marks_are) ∙ ap (λ xs. all_marked (p ∷ k.marks) (p ∷ map n.name xs)) same_ready
+            all_ready (marked_with mid.table slot) n (record m { marks = p ∷ marks_after (fetch words) m p others (n.forks slot) cleared }) slot marked
+            new.table ready
+            ∙ ap (λ ms. all_marked (p ∷ ms) (p ∷ map n.name (ready_slots mid.table))) (sym f.marks_are)
+            ∙ ap (λ xs. all_marked (p ∷ k.marks) (p ∷ map n.name xs)) same_ready
 
         comes_to : (x : Bool) → all_marked (p ∷ k.marks) (p ∷ others) ≡ x →
-            stint (fetch words) steps m p others ≡ stint_after (λ m. stint (fetch words) rest m p others) (if x then ended outcome.standstill (back k p (activity_of r.local b.forks mach.at_when) (p ∷ k.marks) r) else went (back k p (activity_of r.local b.forks mach.at_when) (p ∷ k.marks) r) (joins (p ∷ [])))
-        comes_to x h = is ∙ ap (λ y. stint_after (λ m. stint (fetch words) rest m p others) (if y then ended outcome.standstill (back k p (activity_of r.local b.forks mach.at_when) (p ∷ k.marks) r) else went (back k p (activity_of r.local b.forks mach.at_when) (p ∷ k.marks) r) (joins (p ∷ [])))) h
+            stint (fetch words) steps m p others ≡ stint_after (λ m. stint (fetch words) rest m p others)
+            (if x then ended outcome.standstill (back k p (activity_of r.local b.forks mach.at_when) (p ∷ k.marks) r) else went
+            (back k p (activity_of r.local b.forks mach.at_when) (p ∷ k.marks) r) (joins (p ∷ [])))
+        comes_to x h = is ∙ ap (λ y. stint_after (λ m. stint (fetch words) rest m p others)
+            (if y then ended outcome.standstill (back k p (activity_of r.local b.forks mach.at_when) (p ∷ k.marks) r) else went
+            (back k p (activity_of r.local b.forks mach.at_when) (p ∷ k.marks) r) (joins (p ∷ [])))) h
 
         by_marks : (x : Bool) → (marks_with mid.table slot == length (ready_slots new.table)) ≡ x → GoesTo words (attempt_end x used) left new t m p others
         by_marks true h = (
@@ -255,8 +278,11 @@ module _ (words : List ℕ) (old mid new : KernelState) (slot left left1 used : 
             holds = record {
               naming = n;
               stands =
-                  stood (marked_with mid.table slot) new.table slot a marked.table marked.taken put n (record m { marks = p ∷ marks_after (fetch words) m p others (n.forks slot) cleared }) k b (p ∷ k.marks) (marks_after (fetch words) m p others (n.forks slot) cleared) r mid.store marked.stands
-                  (follows_marks m k p (n.forks slot) (marks_after (fetch words) m p others (n.forks slot) cleared) (p ∷ marks_after (fetch words) m p others (n.forks slot) cleared) b f) (ap (λ ms. p ∷ ms) f.marks_are) (sym (ap (λ x. x.local) e));
+                  stood (marked_with mid.table slot) new.table slot a marked.table marked.taken put n
+                  (record m { marks = p ∷ marks_after (fetch words) m p others (n.forks slot) cleared }) k b (p ∷ k.marks)
+                  (marks_after (fetch words) m p others (n.forks slot) cleared) r mid.store marked.stands
+                  (follows_marks m k p (n.forks slot) (marks_after (fetch words) m p others (n.forks slot) cleared)
+                  (p ∷ marks_after (fetch words) m p others (n.forks slot) cleared) b f) (ap (λ ms. p ∷ ms) f.marks_are) (sym (ap (λ x. x.local) e));
               memory = sym (ap (λ x. x.local.memory) e) ∙ sym same;
               is_taken = sym (ap (option_map n.name) g.none_taken);
               is_ready = sym (ap (map n.name) ready ∙ map-append n.name (ready_slots mid.table) (slot ∷ []) ∙ ap (λ xs. map n.name xs ++ p ∷ []) same_ready);
@@ -271,10 +297,12 @@ module _ (words : List ℕ) (old mid new : KernelState) (slot left left1 used : 
 
     gone : (k : Machine) (b : mach.Activity) (ms : List Name) (r : Running) (steps rest : ℕ) → Follows m k p (n.forks slot) ms b → now ≡ r → 0 < slot →
         stint (fetch words) steps m p others ≡ stint_after (λ m. stint (fetch words) rest m p others) (exited k p r) →
-        Removed slot (unmarked mid.table) new.table → new.store ≡ mid.store → (h : Switches words (left - used) new t m p others) × (find h.machine.activities p ≡ None)
+        Removed slot (unmarked mid.table) new.table → new.store ≡ mid.store → (h : Switches words (left - used) new t m p others)
+        × (find h.machine.activities p ≡ None)
     gone k b ms r steps rest f e pos is removed same =
         let x : Exited new.table n (map n.name (ready_slots (unmarked mid.table))) (map n.name (ready_slots new.table)) (exited k p r) =
-        exits (unmarked mid.table) new.table n (record m { marks = [] }) k slot b ms r removed at_clear pos (follows_marks m k p (n.forks slot) ms [] b f) refl in (
+        exits (unmarked mid.table) new.table n (record m { marks = [] }) k slot b ms r removed at_clear pos (follows_marks m k p (n.forks slot) ms [] b f)
+        refl in (
           record {
             steps = steps;
             machine = x.machine;
@@ -318,7 +346,8 @@ module _ (words : List ℕ) (old mid new : KernelState) (slot left left1 used : 
       forks_here = ap (λ x. if x then suc (n.forks slot) else n.forks slot) (eq-eqb slot slot refl)
 
       no_children : children_of (unmarked mid.table) slot ≡ 0
-      no_children = none (process_at mid.table slot).standing (children_of (unmarked mid.table) slot) at_clear.taken.going (at_clear.stands.awaits slot (taken_live (unmarked mid.table) slot at_clear.taken))
+      no_children = none (process_at mid.table slot).standing (children_of (unmarked mid.table) slot) at_clear.taken.going
+          (at_clear.stands.awaits slot (taken_live (unmarked mid.table) slot at_clear.taken))
         where
           none : (s : Standing) (c : ℕ) → is_waiting s ≡ false → Awaits s c → c ≡ 0
           none standing.Ready c w h = h
@@ -362,7 +391,8 @@ module _ (words : List ℕ) (old mid new : KernelState) (slot left left1 used : 
       begins : Starts slot a branches mid.store table_now naming_now machine_now fork_number
       begins = record {
         inside = at_clear.taken.inside;
-        table = written_table (unmarked mid.table) slot waits at_clear.table at_clear.taken.inside (at_clear.table.parents slot) g.ordered at_clear.taken.homeless;
+        table = written_table (unmarked mid.table) slot waits at_clear.table at_clear.taken.inside (at_clear.table.parents slot) g.ordered
+            at_clear.taken.homeless;
         stands = stands_now;
         live = taken_live (unmarked mid.table) slot at_clear.taken;
         homeless = at_clear.taken.homeless;
@@ -370,7 +400,8 @@ module _ (words : List ℕ) (old mid new : KernelState) (slot left left1 used : 
         no_marks_left = refl;
         unmarked = refl;
         none_counted = refl;
-        none = where_same (is_child_of table_now slot) (is_child_of (unmarked mid.table) slot) 32 (λ i _. ap (λ y. nat_lt 0 i && is_live mid.table i && nat_eq y slot) (same_parent i)) ∙ no_children;
+        none = where_same (is_child_of table_now slot) (is_child_of (unmarked mid.table) slot) 32
+            (λ i _. ap (λ y. nat_lt 0 i && is_live mid.table i && nat_eq y slot) (same_parent i)) ∙ no_children;
         waiting = ap (λ y. y.standing) here;
         fork = omega (arith, forks_here, f.forked);
         fresh = fresh;
@@ -385,14 +416,16 @@ module _ (words : List ℕ) (old mid new : KernelState) (slot left left1 used : 
             | inr ne ↦ ap (λ y. y.parent) (at_set_other mid.table.processes slot i waits ne)
           ]
 
-      forks : (steps rest : ℕ) → stint (fetch words) steps m p others ≡ stint_after (λ m. stint (fetch words) rest m p others) (at_turn k p others b (forking branches) now) →
+      forks : (steps rest : ℕ) → stint (fetch words) steps m p others ≡ stint_after (λ m. stint (fetch words) rest m p others)
+          (at_turn k p others b (forking branches) now) →
           HaveBegun slot a branches mid.store table_now (length branches) new.store new.table → 0 < length branches →
           (h : Switches words (left - used) new t m p others) × ForksInto p h.joined
       forks steps rest is begun some =
           let x : Grown slot a branches mid.store table_now naming_now machine_now fork_number (length branches) new.store new.table =
           grown slot a branches mid.store table_now naming_now machine_now fork_number begins (length branches) new.store new.table (omega arith) begun in
           let chain : x.machine ≡ with_children p fork_number 0 a.base a.end (share_in a branches) branches machine_now =
-          ap (λ bs. with_children p fork_number (length branches) a.base (a.end + length branches * share_in a branches) (share_in a branches) bs x.machine) (sym (drop_all branches)) ∙ x.chain in (
+          ap (λ bs. with_children p fork_number (length branches) a.base (a.end + length branches * share_in a branches) (share_in a branches) bs x.machine)
+          (sym (drop_all branches)) ∙ x.chain in (
             record {
               steps = steps;
               machine = x.machine;
@@ -413,23 +446,29 @@ module _ (words : List ℕ) (old mid new : KernelState) (slot left left1 used : 
 
     -- ---- all pauses
 
-    at_turns : (kd : TurnKind) (steps : ℕ) (end : Paused) (result : StintEnd) (l : Local) → Comes (fetch words) m p others (n.forks slot) steps m end → Pauses words end (pause.At kd) now cleared →
+    at_turns : (kd : TurnKind) (steps : ℕ) (end : Paused) (result : StintEnd) (l : Local) → Comes (fetch words) m p others (n.forks slot) steps m end
+        → Pauses words end (pause.At kd) now cleared →
         Allows (Some (pause.At kd)) words live (slot == 0) l → HandlesTurn kd words slot used a mid new result → GoesTo words result left new t m p others
     at_turns kind.Arrive steps (pausing arriving r c) result l w h allowed d =
-        subst (λ x. GoesTo words x left new t m p others) (sym d.2) (arrived w.machine w.activity (marks_after (fetch words) m p others (n.forks slot) c) r steps w.rest w.follows h.1 w.is d.0 d.1 d.3)
+        subst (λ x. GoesTo words x left new t m p others) (sym d.2)
+        (arrived w.machine w.activity (marks_after (fetch words) m p others (n.forks slot) c) r steps w.rest w.follows h.1 w.is d.0 d.1 d.3)
     at_turns (kind.Again false) steps (pausing (again marks) r c) result l w h allowed d =
         subst (λ x. GoesTo words x left new t m p others) (sym d.2)
         (arrived w.machine w.activity (marks_after (fetch words) m p others (n.forks slot) c) r steps w.rest w.follows h.1
-        (subst (λ x. stint (fetch words) steps m p others ≡ stint_after (λ m. stint (fetch words) w.rest m p others) (at_turn w.machine p others w.activity (again x) r)) (sym h.0) w.is) d.0 d.1 d.3)
+        (subst (λ x. stint (fetch words) steps m p others ≡ stint_after (λ m. stint (fetch words) w.rest m p others)
+        (at_turn w.machine p others w.activity (again x) r)) (sym h.0) w.is) d.0 d.1 d.3)
     at_turns (kind.Again true) steps (pausing (again marks) r c) result l w h allowed d =
         marked_attempt w.machine w.activity r steps w.rest result
         (subst (λ x. Follows m w.machine p (n.forks slot) (marks_after (fetch words) m p others (n.forks slot) x) w.activity) (sym h.2) w.follows) h.1
-        (subst (λ x. stint (fetch words) steps m p others ≡ stint_after (λ m. stint (fetch words) w.rest m p others) (at_turn w.machine p others w.activity (again x) r)) (sym h.0) w.is) d.0 d.1 d.2 d.3
+        (subst (λ x. stint (fetch words) steps m p others ≡ stint_after (λ m. stint (fetch words) w.rest m p others)
+        (at_turn w.machine p others w.activity (again x) r)) (sym h.0) w.is) d.0 d.1 d.2 d.3
     at_turns (kind.Fork at) steps (pausing (forking branches) r c) result l w h allowed d =
         subst (λ x. GoesTo words x left new t m p others) (sym d.1)
         (forks w.machine w.activity (marks_after (fetch words) m p others (n.forks slot) c) w.follows (branches_at words at) steps w.rest
-        (subst (λ x. stint (fetch words) steps m p others ≡ stint_after (λ m. stint (fetch words) w.rest m p others) (at_turn w.machine p others w.activity (forking (branches_at words at)) x)) (sym h.1)
-        (subst (λ x. stint (fetch words) steps m p others ≡ stint_after (λ m. stint (fetch words) w.rest m p others) (at_turn w.machine p others w.activity (forking x) r)) (sym h.0) w.is)) d.0 allowed.0.some)
+        (subst (λ x. stint (fetch words) steps m p others ≡ stint_after (λ m. stint (fetch words) w.rest m p others)
+        (at_turn w.machine p others w.activity (forking (branches_at words at)) x)) (sym h.1)
+        (subst (λ x. stint (fetch words) steps m p others ≡ stint_after (λ m. stint (fetch words) w.rest m p others)
+        (at_turn w.machine p others w.activity (forking x) r)) (sym h.0) w.is)) d.0 allowed.0.some)
     at_turns kind.Exit steps (pausing exiting r c) result l w h allowed d =
         subst (λ x. GoesTo words x left new t m p others) (sym d.2)
         (gone w.machine w.activity (marks_after (fetch words) m p others (n.forks slot) c) r steps w.rest w.follows h.1 (later_slot allowed) w.is d.0 d.1)
@@ -450,7 +489,8 @@ module _ (words : List ℕ) (old mid new : KernelState) (slot left left1 used : 
     at_turns kd steps (pausing finishing r c) result l w h allowed d = absurd h.0
     at_turns kd steps end result l w h allowed d = absurd h
 
-    overs : (e : Ending) (steps : ℕ) (end : Paused) → Comes (fetch words) m p others (n.forks slot) steps m end → Pauses words end (pause.Over e) now cleared → new.store ≡ mid.store →
+    overs : (e : Ending) (steps : ℕ) (end : Paused) → Comes (fetch words) m p others (n.forks slot) steps m end → Pauses words end (pause.Over e) now cleared
+        → new.store ≡ mid.store →
         EndsRun words (left - used) e new t m p others
     overs ending.Done steps (pausing finishing r c) w h kept_words = record {
       steps = steps;
@@ -518,7 +558,8 @@ module _ (words : List ℕ) (old mid new : KernelState) (slot left left1 used : 
     overs e steps (stopping (outcome.bad address) r c) w h kept_words = absurd h
     overs e steps going w h kept_words = absurd h
 
-    no_standstill : (end : Paused) → Pauses words end (pause.Over ending.Standstill) now cleared → GoesTo words (stint_end.Over used ending.Standstill) left new t m p others
+    no_standstill : (end : Paused) → Pauses words end (pause.Over ending.Standstill) now cleared → GoesTo words (stint_end.Over used ending.Standstill) left
+        new t m p others
     no_standstill end h = absurd (never end h)
       where
         never : (end : Paused) → Pauses words end (pause.Over ending.Standstill) now cleared → ⊥
@@ -546,7 +587,8 @@ module _ (words : List ℕ) (old mid new : KernelState) (slot left left1 used : 
     first : (slot == 0) ≡ is_first p
     first = first_is old.table n m slot g.stands (taken_live old.table slot g.taken)
 
-    broken_at : (h : Breaks words live (slot == 0) start false now) → Walked (fetch words) m p others (n.forks slot) h.steps m h.at h.emptied → BreaksOff words (left - used) t m p others
+    broken_at : (h : Breaks words live (slot == 0) start false now) → Walked (fetch words) m p others (n.forks slot) h.steps m h.at h.emptied
+        → BreaksOff words (left - used) t m p others
     broken_at h w = record {
       steps = h.steps;
       machine = w.machine;
@@ -577,17 +619,24 @@ module _ (words : List ℕ) (old mid new : KernelState) (slot left left1 used : 
         (walks (fetch words) m p others (n.forks slot) h.steps m (entry_of (process_at old.table slot) (n.forks slot)) start false h.at h.emptied
         (follows_itself m p (entry_of (process_at old.table slot) (n.forks slot)) (g.stands.found slot (taken_live old.table slot g.taken)))
         (runs m old.store s left (process_at old.table slot) (n.forks slot) g.memory g.system g.turns)
-        (ap (λ l. walked (fetch words) l (is_first p) h.steps start false) (sym is_live_count) ∙ ap (λ b. walked (fetch words) live b h.steps start false) (sym first) ∙ h.reached))
+        (ap (λ l. walked (fetch words) l (is_first p) h.steps start false) (sym is_live_count) ∙ ap (λ b. walked (fetch words) live b h.steps start false)
+        (sym first) ∙ h.reached))
 
-    pub goes : (pause : Pause) (result : StintEnd) (l : Local) → Stretches words live (slot == 0) start false pause now cleared → Allows (Some pause) words live (slot == 0) l →
+    pub goes : (pause : Pause) (result : StintEnd) (l : Local) → Stretches words live (slot == 0) start false pause now cleared
+        → Allows (Some pause) words live (slot == 0) l →
         Handles pause words slot used a mid new result → GoesTo words result left new t m p others
     goes (pause.Over ending.Fault) result l h allowed d = subst (λ x. GoesTo words x left new t m p others) (sym d.2) (broken h)
-    goes (pause.Over ending.Done) result l h allowed d = subst (λ x. GoesTo words x left new t m p others) (sym d.2) (overs ending.Done h.steps h.end (came h.steps h.end h.is) h.pauses d.1)
-    goes (pause.Over (ending.Halted at)) result l h allowed d = subst (λ x. GoesTo words x left new t m p others) (sym d.2) (overs (ending.Halted at) h.steps h.end (came h.steps h.end h.is) h.pauses d.1)
-    goes (pause.Over (ending.Failed cause at)) result l h allowed d = subst (λ x. GoesTo words x left new t m p others) (sym d.2) (overs (ending.Failed cause at) h.steps h.end (came h.steps h.end h.is) h.pauses d.1)
-    goes (pause.Over ending.Turns) result l h allowed d = subst (λ x. GoesTo words x left new t m p others) (sym d.2) (overs ending.Turns h.steps h.end (came h.steps h.end h.is) h.pauses d.1)
+    goes (pause.Over ending.Done) result l h allowed d = subst (λ x. GoesTo words x left new t m p others) (sym d.2)
+        (overs ending.Done h.steps h.end (came h.steps h.end h.is) h.pauses d.1)
+    goes (pause.Over (ending.Halted at)) result l h allowed d = subst (λ x. GoesTo words x left new t m p others) (sym d.2)
+        (overs (ending.Halted at) h.steps h.end (came h.steps h.end h.is) h.pauses d.1)
+    goes (pause.Over (ending.Failed cause at)) result l h allowed d = subst (λ x. GoesTo words x left new t m p others) (sym d.2)
+        (overs (ending.Failed cause at) h.steps h.end (came h.steps h.end h.is) h.pauses d.1)
+    goes (pause.Over ending.Turns) result l h allowed d = subst (λ x. GoesTo words x left new t m p others) (sym d.2)
+        (overs ending.Turns h.steps h.end (came h.steps h.end h.is) h.pauses d.1)
     goes (pause.Over ending.Standstill) result l h allowed d = subst (λ x. GoesTo words x left new t m p others) (sym d.2) (no_standstill h.end h.pauses)
-    goes (pause.Over (ending.Bad at)) result l h allowed d = subst (λ x. GoesTo words x left new t m p others) (sym d.2) (overs (ending.Bad at) h.steps h.end (came h.steps h.end h.is) h.pauses d.1)
+    goes (pause.Over (ending.Bad at)) result l h allowed d = subst (λ x. GoesTo words x left new t m p others) (sym d.2)
+        (overs (ending.Bad at) h.steps h.end (came h.steps h.end h.is) h.pauses d.1)
     goes (pause.At kd) result l h allowed d = at_turns kd h.steps h.end result l (came h.steps h.end h.is) h.pauses allowed d
 
 -- ---- the whole stint
@@ -613,14 +662,18 @@ mid_of old walked table slot cleared k e same f =
     sound false = k.table
 
 module _ (words : List ℕ) (old mid new : KernelState) (slot left left1 : ℕ) (a : Activity) (cleared : Bool) (pause : Pause) (result : StintEnd) (l : Local)
-    (kernel : IsKernel old) (taken : old.taken ≡ Some slot) (m_is : Mid old mid.table slot cleared) (none : new.taken ≡ None) (less : left1 ≤ left) (ordered : IsOrdered a)
-    (allowed : Allows (Some pause) words (32 - length (free_slots old.table)) (slot == 0) l) (handles : Handles pause words slot (left - left1) a mid new result) where
+    (kernel : IsKernel old) (taken : old.taken ≡ Some slot) (m_is : Mid old mid.table slot cleared) (none : new.taken ≡ None) (less : left1 ≤ left)
+    (ordered : IsOrdered a)
+    (allowed : Allows (Some pause) words (32 - length (free_slots old.table)) (slot == 0) l)
+    (handles : Handles pause words slot (left - left1) a mid new result) where
   pub stays_kernel : IsKernel new
   stays_kernel =
-      let h : IsTable new.table × IsBetween new.table = handled words slot (left - left1) a mid new result m_is.sound m_is.taken ordered pause (32 - length (free_slots old.table)) l allowed handles in
+      let h : IsTable new.table × IsBetween new.table = handled words slot (left - left1) a mid new result m_is.sound m_is.taken ordered pause
+      (32 - length (free_slots old.table)) l allowed handles in
       record { table = h.0; taken = subst (IsTakenIn new.table) (sym none) h.1 }
 
-  pub goes_all : (s t : State) → Stretches words (32 - length (free_slots old.table)) (slot == 0) (running_in old.store (resumed (process_at old.table slot)) s left) false pause (running_in mid.store a t left1) cleared →
+  pub goes_all : (s t : State) → Stretches words (32 - length (free_slots old.table)) (slot == 0)
+      (running_in old.store (resumed (process_at old.table slot)) s left) false pause (running_in mid.store a t left1) cleared →
       (m : Machine) (p : Name) (others : List Name) → Holds old m (Some p) others → m.system ≡ s → m.turns ≡ left → GoesTo words result left new t m p others
   goes_all s t h m p others holds system turns =
       subst (λ q. GoesTo words result left new t m q others) (sym p_is)

@@ -16,7 +16,8 @@ use Rattle.edi_kernel.specs.declared.state.KernelState.{KernelState}
 use Rattle.edi_kernel.specs.declared.table.Standing.{Standing}
 use Rattle.edi_kernel.specs.declared.table.Standing.TheVariants as standing
 use Rattle.edi_kernel.specs.declared.table.Table.{Table}
-use Rattle.edi_kernel.specs.Table.{PutsProcess, Tells, TellsOne, Removed, at_its_when, waiting_for, process_at, marked_with, unmarked, ready_slots, is_waiting, no_marks, with_process}
+use Rattle.edi_kernel.specs.Table.{PutsProcess, Tells, TellsOne, Removed, at_its_when, waiting_for, process_at, marked_with, unmarked, ready_slots}
+use Rattle.edi_kernel.specs.Table.{is_waiting, no_marks, with_process}
 use Rattle.edi_kernel.specs.TableIsMachine.{IsTable, IsTaken, IsBetween}
 use Rattle.edi_kernel.specs.Stretch.{Allows}
 use Rattle.edi_kernel.specs.Forks.{HaveBegun}
@@ -51,9 +52,11 @@ tells_table standing.AtWhen slot t u h lt e tells = subst IsTable (sym tells) h
 tells_table (standing.Waiting n) slot t u h lt e tells = by_number (nat_le n 1) tells
   where
     by_number : (b : Bool) → TellsOne b n slot t u → IsTable u
-    by_number true put = put_table t u 0 slot (record (process_at t slot) { standing = standing.Ready }) h put (inl refl) lt (h.parents slot) (h.ordered slot lt) refl
+    by_number true put = put_table t u 0 slot (record (process_at t slot) { standing = standing.Ready }) h put (inl refl) lt (h.parents slot)
+        (h.ordered slot lt) refl
     by_number false is =
-        subst IsTable (sym is) (written_table t slot (record (process_at t slot) { standing = standing.Waiting (n - 1) }) h lt (h.parents slot) (h.ordered slot lt) (h.waiting slot (ap is_waiting e)))
+        subst IsTable (sym is) (written_table t slot (record (process_at t slot) { standing = standing.Waiting (n - 1) }) h lt (h.parents slot)
+        (h.ordered slot lt) (h.waiting slot (ap is_waiting e)))
 
 tells_marked : (s : Standing) (slot : ℕ) (t u : Table) → Tells s slot t u → (u.marked ≡ t.marked) × (u.marks ≡ t.marks)
 tells_marked standing.Ready slot t u tells = (ap (λ v. v.marked) tells, ap (λ v. v.marks) tells)
@@ -66,7 +69,8 @@ tells_marked (standing.Waiting n) slot t u tells = by_number (nat_le n 1) tells
 
 -- ---- each pause
 
-module _ (words : List ℕ) (slot used : ℕ) (a : Activity) (old new : KernelState) (result : StintEnd) (table : IsTable old.table) (taken : IsTaken old.table slot) (ordered : IsOrdered a) where
+module _ (words : List ℕ) (slot used : ℕ) (a : Activity) (old new : KernelState) (result : StintEnd) (table : IsTable old.table)
+    (taken : IsTaken old.table slot) (ordered : IsOrdered a) where
   stood_table : (t : Table) → IsTable t → IsTaken t slot → PutsProcess 0 slot (at_its_when (process_at t slot) a) t new.table → IsTable new.table
   stood_table t s k put = put_table t new.table 0 slot (at_its_when (process_at t slot) a) s put (inl refl) k.inside (s.parents slot) ordered refl
 
@@ -78,7 +82,8 @@ module _ (words : List ℕ) (slot used : ℕ) (a : Activity) (old new : KernelSt
       positive zero h = absurd (h refl)
       positive (suc p) h = omega arith
 
-  handled_turn : (k : TurnKind) (live : ℕ) (l : Local) → Allows (Some (pause.At k)) words live (slot == 0) l → HandlesTurn k words slot used a old new result → IsTable new.table × IsBetween new.table
+  handled_turn : (k : TurnKind) (live : ℕ) (l : Local) → Allows (Some (pause.At k)) words live (slot == 0) l → HandlesTurn k words slot used a old new result
+      → IsTable new.table × IsBetween new.table
   handled_turn (kind.Again true) live l allowed h = (
     stood_table (marked_with old.table slot) (marked_table old.table slot table) (marked_taken old.table slot table taken) h.0,
     stood_between (marked_with old.table slot) new.table slot a (marked_table old.table slot table) (marked_taken old.table slot table taken) h.0,
@@ -89,7 +94,8 @@ module _ (words : List ℕ) (slot used : ℕ) (a : Activity) (old new : KernelSt
   )
   handled_turn (kind.Fork at) live l allowed h =
       let t : Table = with_process (unmarked old.table) slot (waiting_for (length (branches_at words at)) (process_at old.table slot) a) in
-      let s : IsTable t = written_table (unmarked old.table) slot (waiting_for (length (branches_at words at)) (process_at old.table slot) a) (unmarked_table old.table table) taken.inside (table.parents slot) ordered taken.homeless in (
+      let s : IsTable t = written_table (unmarked old.table) slot (waiting_for (length (branches_at words at)) (process_at old.table slot) a)
+      (unmarked_table old.table table) taken.inside (table.parents slot) ordered taken.homeless in (
         begun_table slot a (branches_at words at) old.store t taken.inside s (length (branches_at words at)) new.store new.table h.0,
         none_counted new.table
             (begun_marked slot a (branches_at words at) old.store t taken.inside s (length (branches_at words at)) new.store new.table h.0)
@@ -98,9 +104,13 @@ module _ (words : List ℕ) (slot used : ℕ) (a : Activity) (old new : KernelSt
   handled_turn kind.Exit live l allowed h =
       let pos : 0 < slot = later (slot == 0) refl allowed in
       let r : Removed slot (unmarked old.table) new.table = h.0 in
-      let s : IsTable r.between = freed_table (unmarked old.table) r.between slot (unmarked_table old.table table) (unmarked_taken old.table slot taken) r.put pos in
-      let m : (new.table.marked ≡ r.between.marked) × (new.table.marks ≡ r.between.marks) = tells_marked (process_at r.between (process_at (unmarked old.table) slot).parent).standing (process_at (unmarked old.table) slot).parent r.between new.table r.told in (
-        tells_table (process_at r.between (process_at (unmarked old.table) slot).parent).standing (process_at (unmarked old.table) slot).parent r.between new.table s (table.parents slot) refl r.told,
+      let s : IsTable r.between = freed_table (unmarked old.table) r.between slot (unmarked_table old.table table) (unmarked_taken old.table slot taken) r.put
+      pos in
+      let m : (new.table.marked ≡ r.between.marked) × (new.table.marks ≡ r.between.marks) = tells_marked
+      (process_at r.between (process_at (unmarked old.table) slot).parent).standing (process_at (unmarked old.table) slot).parent r.between new.table
+      r.told in (
+        tells_table (process_at r.between (process_at (unmarked old.table) slot).parent).standing (process_at (unmarked old.table) slot).parent r.between
+            new.table s (table.parents slot) refl r.told,
         none_counted new.table (m.0 ∙ r.put.marked) (m.1 ∙ r.put.marks),
       )
   handled_turn k live l allowed h = (
@@ -108,6 +118,8 @@ module _ (words : List ℕ) (slot used : ℕ) (a : Activity) (old new : KernelSt
     stood_between (unmarked old.table) new.table slot a (unmarked_table old.table table) (unmarked_taken old.table slot taken) h.0,
   )
 
-  pub handled : (p : Pause) (live : ℕ) (l : Local) → Allows (Some p) words live (slot == 0) l → Handles p words slot used a old new result → IsTable new.table × IsBetween new.table
-  handled (pause.Over ending) live l allowed h = (subst IsTable (sym h.0) (unmarked_table old.table table), none_counted new.table (ap (λ t. t.marked) h.0) (ap (λ t. t.marks) h.0))
+  pub handled : (p : Pause) (live : ℕ) (l : Local) → Allows (Some p) words live (slot == 0) l → Handles p words slot used a old new result → IsTable new.table
+      × IsBetween new.table
+  handled (pause.Over ending) live l allowed h =
+      (subst IsTable (sym h.0) (unmarked_table old.table table), none_counted new.table (ap (λ t. t.marked) h.0) (ap (λ t. t.marks) h.0))
   handled (pause.At k) live l allowed h = handled_turn k live l allowed h

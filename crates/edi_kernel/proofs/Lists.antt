@@ -1,5 +1,7 @@
 -- What a slot that joins or leaves a list changes, and what every table keeps.
-use Rattle.std.proofs.Common.{◌≡◌, ℕ, zero, suc, ◌<◌, ◌⊎◌, inl, inr, Bool, true, false, ◌&&◌, not, nat_eq, nat_lt, if◌then◌else◌, List, [], ◌∷◌, ◌++◌, length, Option, Some, None, refl, sym, ◌∙◌, ap, arith, subst, slice_index_or, get_or-set_same, get_or-set_other, length-set, eq-eqb}
+use Rattle.std.proofs.Common.{◌≡◌, ℕ, zero, suc, ◌<◌, ◌⊎◌, inl, inr, Bool, true, false, ◌&&◌, not, nat_eq, nat_lt, if◌then◌else◌, List, [], ◌∷◌, ◌++◌}
+use Rattle.std.proofs.Common.{length, Option, Some, None, refl, sym, ◌∙◌, ap, arith, subst, slice_index_or, get_or-set_same, get_or-set_other, length-set}
+use Rattle.std.proofs.Common.{eq-eqb}
 use Rattle.std.specs.Prelude.{replicate, ◌==◌}
 use Rattle.std.proofs.lemmas.Bool.{cases_eq, ne_eqb, eqb-true}
 use Rattle.std.proofs.lemmas.Bool.Decides.{nat_tests}
@@ -61,11 +63,13 @@ module _ (t u : Table) (l p : ℕ) (x : Process) (put : PutsProcess l p x t u) w
 -- who joins the ready ones from no list stays alive
 pub put_lives : (t u : Table) (p : ℕ) (x : Process) → PutsProcess 0 p x t u → home_of t.lists p ≡ None → (i : ℕ) → is_live u i ≡ is_live t i
 put_lives t u p x put none i = ap (λ b. nat_lt i 32 && not b) (elim (cases_eq i p) [
-  | inl e ↦ ap (λ j. is_free_home (home_of u.lists j)) e ∙ ap is_free_home (put_home_here t u 0 p x put) ∙ sym (ap (λ j. is_free_home (home_of t.lists j)) e ∙ ap is_free_home none)
+  | inl e ↦ ap (λ j. is_free_home (home_of u.lists j)) e ∙ ap is_free_home (put_home_here t u 0 p x put)
+      ∙ sym (ap (λ j. is_free_home (home_of t.lists j)) e ∙ ap is_free_home none)
   | inr ne ↦ ap is_free_home (put_home_there t u 0 p x put i ne)
 ])
 
-pub put_table : (t u : Table) (l p : ℕ) (x : Process) → IsTable t → PutsProcess l p x t u → (nat_eq l 1 ≡ false) ⊎ (0 < p) → p < 32 → x.parent < 32 → IsOrdered x.activity → is_waiting x.standing ≡ false → IsTable u
+pub put_table : (t u : Table) (l p : ℕ) (x : Process) → IsTable t → PutsProcess l p x t u → (nat_eq l 1 ≡ false) ⊎ (0 < p) → p < 32 → x.parent < 32
+    → IsOrdered x.activity → is_waiting x.standing ≡ false → IsTable u
 put_table t u l p x s put rooted lt parent ordered going = record {
   sound = put.sound;
   wide = ap length put.processes ∙ length-set t.processes p x ∙ s.wide;
@@ -93,7 +97,8 @@ put_table t u l p x s put rooted lt parent ordered going = record {
     here : (i : ℕ) → i ≡ p → process_at u i ≡ x
     here i e = ap (process_at u) e ∙ put_here t u l p x put (omega (arith, s.wide, lt))
 
-pub written_table : (t : Table) (p : ℕ) (x : Process) → IsTable t → p < 32 → x.parent < 32 → IsOrdered x.activity → home_of t.lists p ≡ None → IsTable (with_process t p x)
+pub written_table : (t : Table) (p : ℕ) (x : Process) → IsTable t → p < 32 → x.parent < 32 → IsOrdered x.activity → home_of t.lists p ≡ None
+    → IsTable (with_process t p x)
 written_table t p x s lt parent ordered none = record {
   sound = s.sound;
   wide = length-set t.processes p x ∙ s.wide;
@@ -124,7 +129,8 @@ withdrawn_table t u p s w = record {
   parents = λ i. subst (λ xs. (slice_index_or xs i no_process).parent < 32) (sym w.processes) (s.parents i);
   ordered = λ i b. subst (λ xs. IsOrdered (slice_index_or xs i no_process).activity) (sym w.processes) (s.ordered i b);
   root = ap is_free_home (w.homes 0) ∙ taken (0 == p) (home_of t.lists 0) s.root;
-  waiting = λ i h. w.homes i ∙ none (i == p) (home_of t.lists i) (s.waiting i (sym (ap (λ xs. is_waiting (slice_index_or xs i no_process).standing) w.processes) ∙ h));
+  waiting = λ i h. w.homes i ∙ none (i == p) (home_of t.lists i)
+      (s.waiting i (sym (ap (λ xs. is_waiting (slice_index_or xs i no_process).standing) w.processes) ∙ h));
 }
   where
     taken : (b : Bool) (o : Option ℕ) → is_free_home o ≡ false → is_free_home (if b then None else o) ≡ false

@@ -11,14 +11,17 @@ use Rattle.edi_kernel.specs.Moments.{Moment, moment, moment_on, moment_after}
 
 module _ (fetch : ℕ → Option (Instruction × ℕ)) (choices : Choices) where
   -- behind a switch
-  pub moment_switched : (n : ℕ) (m : Machine) (p : Name) (others : List Name) (drawn : ℕ) (m' : Machine) (ps : List Name) → stint fetch n m p others ≡ stints.switched m' ps →
-      (k : ℕ) (x : Option Moment) → moment_on (take_next choices drawn (others ++ ps)) (moment fetch choices k m') ≡ x → (j : ℕ) × (moment fetch choices j m p others drawn ≡ x)
+  pub moment_switched : (n : ℕ) (m : Machine) (p : Name) (others : List Name) (drawn : ℕ) (m' : Machine) (ps : List Name)
+      → stint fetch n m p others ≡ stints.switched m' ps →
+      (k : ℕ) (x : Option Moment) → moment_on (take_next choices drawn (others ++ ps)) (moment fetch choices k m') ≡ x → (j : ℕ)
+      × (moment fetch choices j m p others drawn ≡ x)
   moment_switched zero m p others drawn m' ps e k x h = absurd (cc)
   moment_switched (suc n) m p others drawn m' ps e k x h = by_step (step fetch m p others) refl e (λ l. moment_switched n l p others drawn m' ps)
     where
       by_step : (s : Stepped) → step fetch m p others ≡ s → stint_after (λ m. stint fetch n m p others) s ≡ stints.switched m' ps →
           ((l : Machine) → stint fetch n l p others ≡ stints.switched m' ps →
-          (k : ℕ) (x : Option Moment) → moment_on (take_next choices drawn (others ++ ps)) (moment fetch choices k m') ≡ x → (j : ℕ) × (moment fetch choices j l p others drawn ≡ x)) →
+          (k : ℕ) (x : Option Moment) → moment_on (take_next choices drawn (others ++ ps)) (moment fetch choices k m') ≡ x → (j : ℕ)
+          × (moment fetch choices j l p others drawn ≡ x)) →
           (j : ℕ) × (moment fetch choices j m p others drawn ≡ x)
       by_step (went l stays) f g more =
           let y : (j : ℕ) × (moment fetch choices j l p others drawn ≡ x) = more l g k x h in
@@ -39,7 +42,8 @@ module _ (fetch : ℕ → Option (Instruction × ℕ)) (choices : Choices) where
   moment_followed (suc n) m p others drawn m' e = by_step (step fetch m p others) refl e (λ l. moment_followed n l p others drawn m')
     where
       by_step : (s : Stepped) → step fetch m p others ≡ s → goes_with (λ m. followed fetch n m p others) s ≡ Some m' →
-          ((l : Machine) → followed fetch n l p others ≡ Some m' → moment fetch choices n l p others drawn ≡ Some (record { machine = m'; name = p; others = others; drawn = drawn })) →
+          ((l : Machine) → followed fetch n l p others ≡ Some m' → moment fetch choices n l p others drawn ≡ Some
+          (record { machine = m'; name = p; others = others; drawn = drawn })) →
           moment fetch choices (suc n) m p others drawn ≡ Some (record { machine = m'; name = p; others = others; drawn = drawn })
       by_step (went l stays) f g more = ap (moment_after choices (moment fetch choices n) p others drawn) f ∙ more l g
       by_step (went l (joins qs)) f g more = absurd (cc)

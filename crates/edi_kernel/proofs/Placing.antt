@@ -1,5 +1,6 @@
 -- The process that arrived stands last among the ready ones, with the activity that the kernel tells.
-use Rattle.std.proofs.Common.{◌≡◌, ℕ, ◌<◌, ◌==◌, inl, inr, Bool, true, false, List, [], ◌∷◌, ◌++◌, length, Option, Some, None, refl, sym, ◌∙◌, ap, arith, subst, slice_index_or, get_or-set_same, if◌then◌else◌}
+use Rattle.std.proofs.Common.{◌≡◌, ℕ, ◌<◌, ◌==◌, inl, inr, Bool, true, false, List, [], ◌∷◌, ◌++◌, length, Option, Some, None, refl, sym, ◌∙◌, ap, arith}
+use Rattle.std.proofs.Common.{subst, slice_index_or, get_or-set_same, if◌then◌else◌}
 use Rattle.std.specs.Prelude.{⊤}
 use Rattle.edi_machine.specs.declared.activity.Activity.{Activity}
 use Rattle.edi_ring.specs.Lists.{IsSound}
@@ -17,7 +18,8 @@ use Rattle.edi_kernel.specs.Runs.{EndsUnready}
 use Rattle.edi_kernel.proofs.Lists.{put_list}
 
 -- a process that is put at the back of the ready ones at its `when`
-pub put_last : (t u : Table) (slot : ℕ) (x : Process) (a : Activity) → IsTable t → slot < 32 → PutsProcess 0 slot (at_its_when x a) t u → StandsLast (Some slot) (ready_slots t) u (Some a)
+pub put_last : (t u : Table) (slot : ℕ) (x : Process) (a : Activity) → IsTable t → slot < 32 → PutsProcess 0 slot (at_its_when x a) t u
+    → StandsLast (Some slot) (ready_slots t) u (Some a)
 put_last t u slot x a table inside put = record {
   slot = slot;
   was = refl;
@@ -29,18 +31,22 @@ put_last t u slot x a table inside put = record {
 }
   where
     here : process_at u slot ≡ at_its_when x a
-    here = ap (λ xs. slice_index_or xs slot no_process) put.processes ∙ get_or-set_same t.processes slot (at_its_when x a) no_process (omega (arith, inside, table.wide))
+    here = ap (λ xs. slice_index_or xs slot no_process) put.processes ∙ get_or-set_same t.processes slot (at_its_when x a) no_process
+        (omega (arith, inside, table.wide))
 
 -- the end of a stint is told of the same list of ready ones
-pub stands_same : (e : StintEnd) (taken taken' : Option ℕ) (ready ready' : List ℕ) (t : Table) (arrived : Option Activity) → taken ≡ taken' → ready ≡ ready' → StandsAfter e taken ready t arrived → StandsAfter e taken' ready' t arrived
-stands_same e taken taken' ready ready' t arrived same list h = subst (λ x. StandsAfter e x ready' t arrived) same (subst (λ x. StandsAfter e taken x t arrived) list h)
+pub stands_same : (e : StintEnd) (taken taken' : Option ℕ) (ready ready' : List ℕ) (t : Table) (arrived : Option Activity) → taken ≡ taken' → ready ≡ ready'
+    → StandsAfter e taken ready t arrived → StandsAfter e taken' ready' t arrived
+stands_same e taken taken' ready ready' t arrived same list h = subst (λ x. StandsAfter e x ready' t arrived) same
+    (subst (λ x. StandsAfter e taken x t arrived) list h)
 
 pub ready_if : (b : Bool) (t : Table) → ready_slots (if b then unmarked t else t) ≡ ready_slots t
 ready_if true t = refl
 ready_if false t = refl
 
 -- at the end of a run
-pub stands_at_end : (e : StintEnd) (x : Ending) (taken : Option ℕ) (ready : List ℕ) (t : Table) (arrived : Option Activity) → ended_by e ≡ Some x → StandsAfter e taken ready t arrived → StandsAtEnd (Some x) t arrived
+pub stands_at_end : (e : StintEnd) (x : Ending) (taken : Option ℕ) (ready : List ℕ) (t : Table) (arrived : Option Activity) → ended_by e ≡ Some x
+    → StandsAfter e taken ready t arrived → StandsAtEnd (Some x) t arrived
 stands_at_end (stint_end.Over used ending.Standstill) x taken ready t arrived is h = subst (λ y. StandsAtEnd y t arrived) is (inl (taken, ready, h))
 stands_at_end (stint_end.Over used ending.Done) x taken ready t arrived is h = subst (λ y. StandsAtEnd y t arrived) is h
 stands_at_end (stint_end.Over used (ending.Halted line)) x taken ready t arrived is h = subst (λ y. StandsAtEnd y t arrived) is h
@@ -53,7 +59,8 @@ stands_at_end (stint_end.Forked used) x taken ready t arrived is h = absurd (cc)
 stands_at_end (stint_end.Exited used) x taken ready t arrived is h = absurd (cc)
 
 -- where a stint switches and then nobody is ready, nobody arrived
-none_arrived : (e : StintEnd) (taken : Option ℕ) (ready : List ℕ) (t : Table) (arrived : Option Activity) → ended_by e ≡ None → ready_slots t ≡ [] → StandsAfter e taken ready t arrived → arrived ≡ None
+none_arrived : (e : StintEnd) (taken : Option ℕ) (ready : List ℕ) (t : Table) (arrived : Option Activity) → ended_by e ≡ None → ready_slots t ≡ []
+    → StandsAfter e taken ready t arrived → arrived ≡ None
 none_arrived (stint_end.Arrived used) taken ready t arrived is nobody h = absurd (none_last ready h.slot (sym h.last ∙ nobody))
   where
     none_last : (xs : List ℕ) (x : ℕ) → xs ++ x ∷ [] ≡ [] → ⊥
@@ -63,11 +70,13 @@ none_arrived (stint_end.Forked used) taken ready t arrived is nobody h = h
 none_arrived (stint_end.Exited used) taken ready t arrived is nobody h = h
 none_arrived (stint_end.Over used e) taken ready t arrived is nobody h = absurd (cc)
 
-pub stands_unready : (e : StintEnd) (taken : Option ℕ) (ready : List ℕ) (result : Option Ending) (mid new : KernelState) → ended_by e ≡ None → EndsUnready result mid new →
+pub stands_unready : (e : StintEnd) (taken : Option ℕ) (ready : List ℕ) (result : Option Ending) (mid new : KernelState) → ended_by e ≡ None
+    → EndsUnready result mid new →
     StandsAfter e taken ready mid.table mid.arrived → StandsAtEnd result new.table new.arrived
 stands_unready e taken ready None mid new is nobody h = tt
 stands_unready e taken ready (Some ending.Standstill) mid new is nobody h =
-    subst (λ (k : KernelState). StandsAtEnd (Some ending.Standstill) k.table k.arrived) (sym nobody.0) (inr (none_arrived e taken ready mid.table mid.arrived is nobody.1 h, nobody.1))
+    subst (λ (k : KernelState). StandsAtEnd (Some ending.Standstill) k.table k.arrived) (sym nobody.0)
+    (inr (none_arrived e taken ready mid.table mid.arrived is nobody.1 h, nobody.1))
 stands_unready e taken ready (Some ending.Done) mid new is nobody h = absurd nobody
 stands_unready e taken ready (Some (ending.Halted line)) mid new is nobody h = absurd nobody
 stands_unready e taken ready (Some (ending.Failed cause line)) mid new is nobody h = absurd nobody

@@ -37,29 +37,38 @@ module _ (fetch : ℕ → Option (Instruction × ℕ)) (choices : Choices) where
   over_same : {m n : Machine} {e f : outcome.Ending} → stints.over e m ≡ stints.over f n → (e ≡ f) × (m ≡ n)
   over_same e = ((cc), (cc))
 
-  pub run_switched : (n : ℕ) (m : Machine) (p : Name) (others : List Name) (drawn : ℕ) (m' : Machine) (ps : List Name) → stint fetch n m p others ≡ stints.switched m' ps →
-      (k : ℕ) (r : MachineRun) → go_on (take_next choices drawn (others ++ ps)) (run fetch choices k m') m' drawn ≡ r → (j : ℕ) × (run fetch choices j m p others drawn ≡ r)
+  pub run_switched : (n : ℕ) (m : Machine) (p : Name) (others : List Name) (drawn : ℕ) (m' : Machine) (ps : List Name)
+      → stint fetch n m p others ≡ stints.switched m' ps →
+      (k : ℕ) (r : MachineRun) → go_on (take_next choices drawn (others ++ ps)) (run fetch choices k m') m' drawn ≡ r → (j : ℕ)
+      × (run fetch choices j m p others drawn ≡ r)
   run_switched zero m p others drawn m' ps e k r h = absurd (cc)
   run_switched (suc n) m p others drawn m' ps e k r h = by_step (step fetch m p others) refl e (run_switched n)
     where
       by_step : (s : Stepped) → step fetch m p others ≡ s → stint_after (λ m. stint fetch n m p others) s ≡ stints.switched m' ps →
           ((m : Machine) (p : Name) (others : List Name) (drawn : ℕ) (m' : Machine) (ps : List Name) → stint fetch n m p others ≡ stints.switched m' ps →
-          (k : ℕ) (r : MachineRun) → go_on (take_next choices drawn (others ++ ps)) (run fetch choices k m') m' drawn ≡ r → (j : ℕ) × (run fetch choices j m p others drawn ≡ r)) →
+          (k : ℕ) (r : MachineRun) → go_on (take_next choices drawn (others ++ ps)) (run fetch choices k m') m' drawn ≡ r → (j : ℕ)
+          × (run fetch choices j m p others drawn ≡ r)) →
           (j : ℕ) × (run fetch choices j m p others drawn ≡ r)
       by_step (went l stays) f g more =
           let x : (j : ℕ) × (run fetch choices j l p others drawn ≡ r) = more l p others drawn m' ps g k r h in
           (suc x.0, ap (after_step choices (run fetch choices x.0) p others drawn) f ∙ x.1)
       by_step (went l (joins qs)) f g more =
-          let x : (l ≡ m') × (qs ≡ ps) = switched_same g in
-          (suc k, ap (after_step choices (run fetch choices k) p others drawn) f ∙ ap (λ qs. go_on (take_next choices drawn (others ++ qs)) (run fetch choices k l) l drawn) x.1 ∙ ap (λ y. go_on (take_next choices drawn (others ++ ps)) (run fetch choices k y) y drawn) x.0 ∙ h)
+          let x : (l ≡ m') × (qs ≡ ps) = switched_same g in (
+            suc k,
+            ap (after_step choices (run fetch choices k) p others drawn) f
+                ∙ ap (λ qs. go_on (take_next choices drawn (others ++ qs)) (run fetch choices k l) l drawn) x.1
+                ∙ ap (λ y. go_on (take_next choices drawn (others ++ ps)) (run fetch choices k y) y drawn) x.0 ∙ h,
+          )
       by_step (ended e l) f g more = absurd (cc)
 
-  pub run_over : (n : ℕ) (m : Machine) (p : Name) (others : List Name) (drawn : ℕ) (e : outcome.Ending) (m' : Machine) → stint fetch n m p others ≡ stints.over e m' → (j : ℕ) × (run fetch choices j m p others drawn ≡ finished e m' drawn)
+  pub run_over : (n : ℕ) (m : Machine) (p : Name) (others : List Name) (drawn : ℕ) (e : outcome.Ending) (m' : Machine)
+      → stint fetch n m p others ≡ stints.over e m' → (j : ℕ) × (run fetch choices j m p others drawn ≡ finished e m' drawn)
   run_over zero m p others drawn e m' h = absurd (cc)
   run_over (suc n) m p others drawn e m' h = by_step (step fetch m p others) refl h (run_over n)
     where
       by_step : (s : Stepped) → step fetch m p others ≡ s → stint_after (λ m. stint fetch n m p others) s ≡ stints.over e m' →
-          ((m : Machine) (p : Name) (others : List Name) (drawn : ℕ) (e : outcome.Ending) (m' : Machine) → stint fetch n m p others ≡ stints.over e m' → (j : ℕ) × (run fetch choices j m p others drawn ≡ finished e m' drawn)) →
+          ((m : Machine) (p : Name) (others : List Name) (drawn : ℕ) (e : outcome.Ending) (m' : Machine) → stint fetch n m p others ≡ stints.over e m'
+          → (j : ℕ) × (run fetch choices j m p others drawn ≡ finished e m' drawn)) →
           (j : ℕ) × (run fetch choices j m p others drawn ≡ finished e m' drawn)
       by_step (went l stays) f g more =
           let x : (j : ℕ) × (run fetch choices j l p others drawn ≡ finished e m' drawn) = more l p others drawn e m' g in
@@ -71,11 +80,13 @@ module _ (fetch : ℕ → Option (Instruction × ℕ)) (choices : Choices) where
 
 -- ---- a round
 
-module _ (words : List ℕ) (bound : ℕ) (k new : KernelState) (now : State) (old drawn : Drawn) (m : Machine) (p : Name) (others : List Name) (left used : ℕ) (turns : left - used ≡ bound - new.used) (store : new.store ≡ k.store) where
+module _ (words : List ℕ) (bound : ℕ) (k new : KernelState) (now : State) (old drawn : Drawn) (m : Machine) (p : Name) (others : List Name) (left used : ℕ)
+    (turns : left - used ≡ bound - new.used) (store : new.store ≡ k.store) where
   -- the stint ended the run
   ends_run : (e : Ending) → drawn ≡ old → EndsRun words (left - used) e k now m p others → RunEnds words bound e new now old drawn m p others
   ends_run e same h =
-      let j : (j : ℕ) × (run (fetch words) old.source j m p others old.drawn ≡ finished h.end h.machine old.drawn) = run_over (fetch words) old.source h.steps m p others old.drawn h.end h.machine h.is in
+      let j : (j : ℕ) × (run (fetch words) old.source j m p others old.drawn ≡ finished h.end h.machine old.drawn) = run_over (fetch words) old.source h.steps
+      m p others old.drawn h.end h.machine h.is in
       record {
         steps = j.0;
         machine = h.machine;
@@ -97,20 +108,24 @@ module _ (words : List ℕ) (bound : ℕ) (k new : KernelState) (now : State) (o
       keeps ending.Fault x = tt
 
   -- the stint switched
-  goes_on : (result : Option Ending) → (h : Switches words (left - used) k now m p others) → Proceeds result new h.machine old drawn (others ++ h.joined) → Rounds words bound result new now old drawn m p others
+  goes_on : (result : Option Ending) → (h : Switches words (left - used) k now m p others) → Proceeds result new h.machine old drawn (others ++ h.joined)
+      → Rounds words bound result new now old drawn m p others
   goes_on None h c = record {
     machine = h.machine;
     name = c.name;
     rest = c.others;
-    comes = λ n r e. run_switched (fetch words) old.source h.steps m p others old.drawn h.machine h.joined h.is n r (ap (λ t. go_on t (run (fetch words) old.source n h.machine) h.machine old.drawn) c.is ∙ e);
-    passes = λ n x e. moment_switched (fetch words) old.source h.steps m p others old.drawn h.machine h.joined h.is n x (ap (λ t. moment_on t (moment (fetch words) old.source n h.machine)) c.is ∙ e);
+    comes = λ n r e. run_switched (fetch words) old.source h.steps m p others old.drawn h.machine h.joined h.is n r
+        (ap (λ t. go_on t (run (fetch words) old.source n h.machine) h.machine old.drawn) c.is ∙ e);
+    passes = λ n x e. moment_switched (fetch words) old.source h.steps m p others old.drawn h.machine h.joined h.is n x
+        (ap (λ t. moment_on t (moment (fetch words) old.source n h.machine)) c.is ∙ e);
     holds = c.holds;
     system = h.system;
     turns = h.turns ∙ turns;
   }
   goes_on (Some ending.Standstill) h c =
       let j : (j : ℕ) × (run (fetch words) old.source j m p others old.drawn ≡ finished outcome.standstill h.machine old.drawn) =
-      run_switched (fetch words) old.source h.steps m p others old.drawn h.machine h.joined h.is 0 (finished outcome.standstill h.machine old.drawn) (ap (λ ps. go_on (take_next old.source old.drawn ps) (run (fetch words) old.source 0 h.machine) h.machine old.drawn) c.0) in
+      run_switched (fetch words) old.source h.steps m p others old.drawn h.machine h.joined h.is 0 (finished outcome.standstill h.machine old.drawn)
+      (ap (λ ps. go_on (take_next old.source old.drawn ps) (run (fetch words) old.source 0 h.machine) h.machine old.drawn) c.0) in
       record {
         steps = j.0;
         machine = h.machine;
@@ -128,7 +143,8 @@ module _ (words : List ℕ) (bound : ℕ) (k new : KernelState) (now : State) (o
   goes_on (Some (ending.Bad at)) h c = absurd c
   goes_on (Some ending.Fault) h c = absurd c
 
-  pub round_over : (e : Ending) → drawn ≡ old → GoesTo words (stint_end.Over used e) left k now m p others → Rounds words bound (Some e) new now old drawn m p others
+  pub round_over : (e : Ending) → drawn ≡ old → GoesTo words (stint_end.Over used e) left k now m p others → Rounds words bound (Some e) new now old drawn m p
+      others
   round_over ending.Done same h = ends_run ending.Done same h
   round_over (ending.Halted line) same h = ends_run (ending.Halted line) same h
   round_over (ending.Failed cause line) same h = ends_run (ending.Failed cause line) same h
@@ -144,15 +160,19 @@ module _ (words : List ℕ) (bound : ℕ) (k new : KernelState) (now : State) (o
     turns = h.turns ∙ turns;
   }
 
-  pub round_on : (result : Option Ending) → Switches words (left - used) k now m p others → ((machine : Machine) (ready : List Name) → Holds k machine None ready → Proceeds result new machine old drawn ready) → Rounds words bound result new now old drawn m p others
+  pub round_on : (result : Option Ending) → Switches words (left - used) k now m p others
+      → ((machine : Machine) (ready : List Name) → Holds k machine None ready → Proceeds result new machine old drawn ready) → Rounds words bound result new now
+      old drawn m p others
   round_on result h c = goes_on result h (c h.machine (others ++ h.joined) h.holds)
 
 -- the round by the end of its stint
 module _ (words : List ℕ) (bound : ℕ) (k : KernelState) (old : Drawn) (left : ℕ) where
-  pub round_ends : (end : StintEnd) (e : Ending) (new : KernelState) (now : State) (m : Machine) (p : Name) (others : List Name) → ended_by end ≡ Some e → left - used_in end ≡ bound - new.used → new.store ≡ k.store →
+  pub round_ends : (end : StintEnd) (e : Ending) (new : KernelState) (now : State) (m : Machine) (p : Name) (others : List Name) → ended_by end ≡ Some e
+      → left - used_in end ≡ bound - new.used → new.store ≡ k.store →
       GoesTo words end left k now m p others → Rounds words bound (Some e) new now old old m p others
   round_ends (stint_end.Over used e) d new now m p others h turns store g =
-      subst (λ x. Rounds words bound (Some x) new now old old m p others) (some h) (round_over words bound k new now old old m p others left used turns store e refl g)
+      subst (λ x. Rounds words bound (Some x) new now old old m p others) (some h)
+      (round_over words bound k new now old old m p others left used turns store e refl g)
     where
       some : Some e ≡ Some d → e ≡ d
       some e = cc
@@ -160,16 +180,21 @@ module _ (words : List ℕ) (bound : ℕ) (k : KernelState) (old : Drawn) (left 
   round_ends (stint_end.Forked used) e new now m p others h turns store g = absurd (cc)
   round_ends (stint_end.Exited used) e new now m p others h turns store g = absurd (cc)
 
-  pub round_goes : (end : StintEnd) (result : Option Ending) (new : KernelState) (drawn : Drawn) (now : State) (m : Machine) (p : Name) (others : List Name) → ended_by end ≡ None → left - used_in end ≡ bound - new.used → new.store ≡ k.store →
+  pub round_goes : (end : StintEnd) (result : Option Ending) (new : KernelState) (drawn : Drawn) (now : State) (m : Machine) (p : Name) (others : List Name)
+      → ended_by end ≡ None → left - used_in end ≡ bound - new.used → new.store ≡ k.store →
       ((machine : Machine) (ready : List Name) → Holds k machine None ready → Proceeds result new machine old drawn ready) →
       GoesTo words end left k now m p others → Rounds words bound result new now old drawn m p others
   round_goes (stint_end.Over used e) result new drawn now m p others h turns store c g = absurd (cc)
-  round_goes (stint_end.Arrived used) result new drawn now m p others h turns store c g = round_on words bound k new now old drawn m p others left used turns store result g.0 c
-  round_goes (stint_end.Forked used) result new drawn now m p others h turns store c g = round_on words bound k new now old drawn m p others left used turns store result g.0 c
-  round_goes (stint_end.Exited used) result new drawn now m p others h turns store c g = round_on words bound k new now old drawn m p others left used turns store result g.0 c
+  round_goes (stint_end.Arrived used) result new drawn now m p others h turns store c g = round_on words bound k new now old drawn m p others left used turns
+      store result g.0 c
+  round_goes (stint_end.Forked used) result new drawn now m p others h turns store c g = round_on words bound k new now old drawn m p others left used turns
+      store result g.0 c
+  round_goes (stint_end.Exited used) result new drawn now m p others h turns store c g = round_on words bound k new now old drawn m p others left used turns
+      store result g.0 c
 
 -- what is kept beside the processes and the memory is free
-pub holds_same : (k new : KernelState) (m : Machine) (taken : Option Name) (ready : List Name) → new.store ≡ k.store → new.table ≡ k.table → new.taken ≡ k.taken → Holds k m taken ready → Holds new m taken ready
+pub holds_same : (k new : KernelState) (m : Machine) (taken : Option Name) (ready : List Name) → new.store ≡ k.store → new.table ≡ k.table
+    → new.taken ≡ k.taken → Holds k m taken ready → Holds new m taken ready
 holds_same k new m taken ready e f g h = record {
   naming = h.naming;
   stands = subst (λ t. TableIsMachine t h.naming m) (sym f) h.stands;
@@ -186,7 +211,8 @@ pub record Underway (code : CodeParts) (system : State) (bound : ℕ) (old : Dra
   pub name : Name
   pub others : List Name
   pub comes : (n : ℕ) (r : MachineRun) → run (fetch code.words) old.source n machine name others drawn.drawn ≡ r →
-      (j : ℕ) × (after_step old.source (run (fetch code.words) old.source j) [] [] old.drawn (entered (fetch code.words code.entry) code.entry code.calls bound system) ≡ r)
+      (j : ℕ) × (after_step old.source (run (fetch code.words) old.source j) [] [] old.drawn
+      (entered (fetch code.words code.entry) code.entry code.calls bound system) ≡ r)
   pub passes : (n : ℕ) (x : Option Moment) → moment (fetch code.words) old.source n machine name others drawn.drawn ≡ x →
       (j : ℕ) × (moment_of code system bound old.source old.drawn j ≡ x)
   pub holds : Holds k machine (Some name) others
@@ -200,9 +226,11 @@ module _ (code : CodeParts) (bound : ℕ) (old : Drawn) where
   -- what a round does from any machine that the kernel is
   abbrev AnyRound : Option Ending → (k new : KernelState) → (now next : Drawn) → State → State → Type 0
   AnyRound result k new now next s t =
-      (m : Machine) (p : Name) (others : List Name) → Holds k m (Some p) others → m.system ≡ s → m.turns ≡ bound - k.used → Rounds code.words bound result new t now next m p others
+      (m : Machine) (p : Name) (others : List Name) → Holds k m (Some p) others → m.system ≡ s → m.turns ≡ bound - k.used → Rounds code.words bound result new
+      t now next m p others
 
-  underway_more : (s x y : State) (k new : KernelState) (now next : Drawn) → now.source ≡ old.source → Underway code s bound old k x now → AnyRound None k new now next x y → Underway code s bound old new y next
+  underway_more : (s x y : State) (k new : KernelState) (now next : Drawn) → now.source ≡ old.source → Underway code s bound old k x now
+      → AnyRound None k new now next x y → Underway code s bound old new y next
   underway_more s x y k new now next same u h =
       let g : GoesRound code.words bound new y now next u.machine u.name u.others = h u.machine u.name u.others u.holds u.system_is u.turns in
       record {
@@ -210,57 +238,75 @@ module _ (code : CodeParts) (bound : ℕ) (old : Drawn) where
         name = g.name;
         others = g.rest;
         comes = λ n r e.
-            let z : (i : ℕ) × (run (fetch code.words) now.source i u.machine u.name u.others now.drawn ≡ r) = g.comes n r (ap (λ c. run (fetch code.words) c n g.machine g.name g.rest next.drawn) same ∙ e) in
+            let z : (i : ℕ) × (run (fetch code.words) now.source i u.machine u.name u.others now.drawn ≡ r) = g.comes n r
+            (ap (λ c. run (fetch code.words) c n g.machine g.name g.rest next.drawn) same ∙ e) in
             u.comes z.0 r (sym (ap (λ c. run (fetch code.words) c z.0 u.machine u.name u.others now.drawn) same) ∙ z.1);
         passes = λ n x e.
-            let z : (i : ℕ) × (moment (fetch code.words) now.source i u.machine u.name u.others now.drawn ≡ x) = g.passes n x (ap (λ c. moment (fetch code.words) c n g.machine g.name g.rest next.drawn) same ∙ e) in
+            let z : (i : ℕ) × (moment (fetch code.words) now.source i u.machine u.name u.others now.drawn ≡ x) = g.passes n x
+            (ap (λ c. moment (fetch code.words) c n g.machine g.name g.rest next.drawn) same ∙ e) in
             u.passes z.0 x (sym (ap (λ c. moment (fetch code.words) c z.0 u.machine u.name u.others now.drawn) same) ∙ z.1);
         holds = g.holds;
         system_is = g.system;
         turns = g.turns;
       }
 
-  runs_as : (s x y : State) (k new : KernelState) (now next : Drawn) (e : Ending) → now.source ≡ old.source → new.used ≤ bound → (u : Underway code s bound old k x now) → RunEnds code.words bound e new y now next u.machine u.name u.others → RunsAs code s bound old e new.store new.used y next
+  runs_as : (s x y : State) (k new : KernelState) (now next : Drawn) (e : Ending) → now.source ≡ old.source → new.used ≤ bound
+      → (u : Underway code s bound old k x now) → RunEnds code.words bound e new y now next u.machine u.name u.others → RunsAs code s bound old e new.store
+      new.used y next
   runs_as s x y k new now next e same le u h = record {
     machine = h.machine;
     end = h.end;
-    is = u.comes h.steps (finished h.end h.machine next.drawn) (sym (ap (λ c. run (fetch code.words) c h.steps u.machine u.name u.others now.drawn) same) ∙ h.is);
+    is = u.comes h.steps (finished h.end h.machine next.drawn)
+        (sym (ap (λ c. run (fetch code.words) c h.steps u.machine u.name u.others now.drawn) same) ∙ h.is);
     same = h.same;
     memory = h.memory;
     system_is = h.system;
     turns = omega (arith, h.turns, le);
   }
 
-  fails_in : (s x y : State) (k new : KernelState) (now next : Drawn) → now.source ≡ old.source → new.used ≤ bound → (u : Underway code s bound old k x now) → RunFails code.words bound new y now next u.machine u.name u.others →
+  fails_in : (s x y : State) (k new : KernelState) (now next : Drawn) → now.source ≡ old.source → new.used ≤ bound → (u : Underway code s bound old k x now)
+      → RunFails code.words bound new y now next u.machine u.name u.others →
       FailsIn code s bound old new.used y next
   fails_in s x y k new now next same le u h =
       let z : (j : ℕ) × (moment_of code s bound old.source old.drawn j ≡ Some h.at) =
       u.passes h.steps (Some h.at) (sym (ap (λ c. moment (fetch code.words) c h.steps u.machine u.name u.others now.drawn) same) ∙ h.is) in
       record { steps = z.0; at = h.at; is = z.1; fails = h.fails; drawn = h.drawn; turns = omega (arith, h.turns, le) }
 
-  underway_ends : (s x y : State) (k new : KernelState) (now next : Drawn) (e : Ending) → now.source ≡ old.source → new.used ≤ bound → Underway code s bound old k x now → AnyRound (Some e) k new now next x y → RunsTo code s bound old e new.store new.used y next
-  underway_ends s x y k new now next ending.Done same le u h = runs_as s x y k new now next ending.Done same le u (h u.machine u.name u.others u.holds u.system_is u.turns)
-  underway_ends s x y k new now next (ending.Halted line) same le u h = runs_as s x y k new now next (ending.Halted line) same le u (h u.machine u.name u.others u.holds u.system_is u.turns)
-  underway_ends s x y k new now next (ending.Failed cause line) same le u h = runs_as s x y k new now next (ending.Failed cause line) same le u (h u.machine u.name u.others u.holds u.system_is u.turns)
-  underway_ends s x y k new now next ending.Turns same le u h = runs_as s x y k new now next ending.Turns same le u (h u.machine u.name u.others u.holds u.system_is u.turns)
-  underway_ends s x y k new now next ending.Standstill same le u h = runs_as s x y k new now next ending.Standstill same le u (h u.machine u.name u.others u.holds u.system_is u.turns)
-  underway_ends s x y k new now next (ending.Bad at) same le u h = runs_as s x y k new now next (ending.Bad at) same le u (h u.machine u.name u.others u.holds u.system_is u.turns)
-  underway_ends s x y k new now next ending.Fault same le u h = fails_in s x y k new now next same le u (h u.machine u.name u.others u.holds u.system_is u.turns)
+  underway_ends : (s x y : State) (k new : KernelState) (now next : Drawn) (e : Ending) → now.source ≡ old.source → new.used ≤ bound
+      → Underway code s bound old k x now → AnyRound (Some e) k new now next x y → RunsTo code s bound old e new.store new.used y next
+  underway_ends s x y k new now next ending.Done same le u h = runs_as s x y k new now next ending.Done same le u
+      (h u.machine u.name u.others u.holds u.system_is u.turns)
+  underway_ends s x y k new now next (ending.Halted line) same le u h = runs_as s x y k new now next (ending.Halted line) same le u
+      (h u.machine u.name u.others u.holds u.system_is u.turns)
+  underway_ends s x y k new now next (ending.Failed cause line) same le u h = runs_as s x y k new now next (ending.Failed cause line) same le u
+      (h u.machine u.name u.others u.holds u.system_is u.turns)
+  underway_ends s x y k new now next ending.Turns same le u h = runs_as s x y k new now next ending.Turns same le u
+      (h u.machine u.name u.others u.holds u.system_is u.turns)
+  underway_ends s x y k new now next ending.Standstill same le u h = runs_as s x y k new now next ending.Standstill same le u
+      (h u.machine u.name u.others u.holds u.system_is u.turns)
+  underway_ends s x y k new now next (ending.Bad at) same le u h = runs_as s x y k new now next (ending.Bad at) same le u
+      (h u.machine u.name u.others u.holds u.system_is u.turns)
+  underway_ends s x y k new now next ending.Fault same le u h = fails_in s x y k new now next same le u
+      (h u.machine u.name u.others u.holds u.system_is u.turns)
 
-  pub told_more : (first before after : Option State) (k new : KernelState) (now next : Drawn) → now.source ≡ old.source → WhereTold first before (λ s t. Underway code s bound old k t now) →
+  pub told_more : (first before after : Option State) (k new : KernelState) (now next : Drawn) → now.source ≡ old.source
+      → WhereTold first before (λ s t. Underway code s bound old k t now) →
       WhereTold before after (AnyRound None k new now next) → WhereTold first after (λ s t. Underway code s bound old new t next)
   told_more first before after k new now next same h g = WhereTold-then _ _ _ first before after (λ s x y a b. underway_more s x y k new now next same a b) h g
 
-  pub told_ends : (first before after : Option State) (k new : KernelState) (now next : Drawn) (e : Ending) → now.source ≡ old.source → new.used ≤ bound → WhereTold first before (λ s t. Underway code s bound old k t now) →
+  pub told_ends : (first before after : Option State) (k new : KernelState) (now next : Drawn) (e : Ending) → now.source ≡ old.source → new.used ≤ bound
+      → WhereTold first before (λ s t. Underway code s bound old k t now) →
       WhereTold before after (AnyRound (Some e) k new now next) → WhereTold first after (λ s t. RunsTo code s bound old e new.store new.used t next)
-  told_ends first before after k new now next e same le h g = WhereTold-then _ _ _ first before after (λ s x y a b. underway_ends s x y k new now next e same le a b) h g
+  told_ends first before after k new now next e same le h g = WhereTold-then _ _ _ first before after
+      (λ s x y a b. underway_ends s x y k new now next e same le a b) h g
 
   where_same : (o : Option State) (P : State → State → Type 0) → ((s : State) → P s s) → WhereTold o o P
   where_same None P h = tt
   where_same (Some s) P h = h s
 
   -- the run begins with the entry's turn
-  pub told_begins : (o : Option State) (k new : KernelState) → Started code k → 0 < bound → new.store ≡ k.store → new.table ≡ k.table → new.taken ≡ k.taken → new.used ≡ 1 → WhereTold o o (λ s t. Underway code s bound old new t old)
+  pub told_begins : (o : Option State) (k new : KernelState) → Started code k → 0 < bound → new.store ≡ k.store → new.table ≡ k.table → new.taken ≡ k.taken
+      → new.used ≡ 1 → WhereTold o o (λ s t. Underway code s bound old new t old)
   told_begins o k new started pos e f g one = where_same o (λ s t. Underway code s bound old new t old) begin
     where
       begin : (s : State) → Underway code s bound old new s old
@@ -271,14 +317,23 @@ module _ (code : CodeParts) (bound : ℕ) (old : Drawn) where
             machine = x.machine;
             name = [];
             others = [];
-            comes = λ n r h. (n, ap (after_step old.source (run (fetch code.words) old.source n) [] [] old.drawn) (ap (λ i. entered (fetch code.words code.entry) code.entry code.calls i s) (sym b) ∙ x.is) ∙ h);
-            passes = λ n y h. (n, ap (moment_after old.source (moment (fetch code.words) old.source n) [] [] old.drawn) (ap (λ i. entered (fetch code.words code.entry) code.entry code.calls i s) (sym b) ∙ x.is) ∙ h);
+            comes = λ n r h. (
+              n,
+              ap (after_step old.source (run (fetch code.words) old.source n) [] [] old.drawn)
+                  (ap (λ i. entered (fetch code.words code.entry) code.entry code.calls i s) (sym b) ∙ x.is) ∙ h,
+            );
+            passes = λ n y h. (
+              n,
+              ap (moment_after old.source (moment (fetch code.words) old.source n) [] [] old.drawn)
+                  (ap (λ i. entered (fetch code.words code.entry) code.entry code.calls i s) (sym b) ∙ x.is) ∙ h,
+            );
             holds = holds_same k new x.machine (Some []) [] e f g x.holds;
             system_is = x.system_is;
             turns = x.turns ∙ ap (λ i. bound - i) (sym one);
           }
 
-  pub told_never : (o : Option State) (k new : KernelState) → Started code k → bound ≡ 0 → new.used ≡ 0 → WhereTold o o (λ s t. RunsTo code s bound old ending.Turns new.store new.used t old)
+  pub told_never : (o : Option State) (k new : KernelState) → Started code k → bound ≡ 0 → new.used ≡ 0
+      → WhereTold o o (λ s t. RunsTo code s bound old ending.Turns new.store new.used t old)
   told_never o k new started none zero_used = where_same o (λ s t. RunsTo code s bound old ending.Turns new.store new.used t old) never
     where
       never : (s : State) → RunsAs code s bound old ending.Turns new.store new.used s old
@@ -287,7 +342,11 @@ module _ (code : CodeParts) (bound : ℕ) (old : Drawn) where
           record {
             machine = x.machine;
             end = outcome.turns;
-            is = (0, ap (after_step old.source (run (fetch code.words) old.source 0) [] [] old.drawn) (ap (λ i. entered (fetch code.words code.entry) code.entry code.calls i s) none ∙ x.is));
+            is = (
+              0,
+              ap (after_step old.source (run (fetch code.words) old.source 0) [] [] old.drawn)
+                  (ap (λ i. entered (fetch code.words code.entry) code.entry code.calls i s) none ∙ x.is),
+            );
             same = tt;
             memory = tt;
             system_is = x.system_is;
@@ -301,16 +360,24 @@ abbrev pub AnyStint : List ℕ → StintEnd → (left : ℕ) → (prior k : Kern
 AnyStint words end left prior k s t =
     (m : Machine) (p : Name) (others : List Name) → Holds prior m (Some p) others → m.system ≡ s → m.turns ≡ left → GoesTo words end left k t m p others
 
-module _ (words : List ℕ) (bound : ℕ) (prior k new : KernelState) (old : Drawn) (left : ℕ) (end : StintEnd) (before after : Option State) (turns : left - used_in end ≡ bound - new.used) (store : new.store ≡ k.store) where
+module _ (words : List ℕ) (bound : ℕ) (prior k new : KernelState) (old : Drawn) (left : ℕ) (end : StintEnd) (before after : Option State)
+    (turns : left - used_in end ≡ bound - new.used) (store : new.store ≡ k.store) where
   pub told_round_ends : (e : Ending) → ended_by end ≡ Some e → WhereTold before after (AnyStint words end left prior k) →
-      WhereTold before after (λ s t. (m : Machine) (p : Name) (others : List Name) → Holds prior m (Some p) others → m.system ≡ s → m.turns ≡ left → Rounds words bound (Some e) new t old old m p others)
+      WhereTold before after (λ s t. (m : Machine) (p : Name) (others : List Name) → Holds prior m (Some p) others → m.system ≡ s → m.turns ≡ left
+      → Rounds words bound (Some e) new t old old m p others)
   told_round_ends e over h =
-      WhereTold-map (AnyStint words end left prior k) (λ s t. (m : Machine) (p : Name) (others : List Name) → Holds prior m (Some p) others → m.system ≡ s → m.turns ≡ left → Rounds words bound (Some e) new t old old m p others) before after
+      WhereTold-map (AnyStint words end left prior k)
+      (λ s t. (m : Machine) (p : Name) (others : List Name) → Holds prior m (Some p) others → m.system ≡ s → m.turns ≡ left
+      → Rounds words bound (Some e) new t old old m p others) before after
       (λ s t f m p others a b c. round_ends words bound k old left end e new t m p others over turns store (f m p others a b c)) h
 
-  pub told_round_goes : (result : Option Ending) (drawn : Drawn) → ended_by end ≡ None → ((machine : Machine) (ready : List Name) → Holds k machine None ready → Proceeds result new machine old drawn ready) →
+  pub told_round_goes : (result : Option Ending) (drawn : Drawn) → ended_by end ≡ None
+      → ((machine : Machine) (ready : List Name) → Holds k machine None ready → Proceeds result new machine old drawn ready) →
       WhereTold before after (AnyStint words end left prior k) →
-      WhereTold before after (λ s t. (m : Machine) (p : Name) (others : List Name) → Holds prior m (Some p) others → m.system ≡ s → m.turns ≡ left → Rounds words bound result new t old drawn m p others)
+      WhereTold before after (λ s t. (m : Machine) (p : Name) (others : List Name) → Holds prior m (Some p) others → m.system ≡ s → m.turns ≡ left
+      → Rounds words bound result new t old drawn m p others)
   told_round_goes result drawn on proceeds h =
-      WhereTold-map (AnyStint words end left prior k) (λ s t. (m : Machine) (p : Name) (others : List Name) → Holds prior m (Some p) others → m.system ≡ s → m.turns ≡ left → Rounds words bound result new t old drawn m p others) before after
+      WhereTold-map (AnyStint words end left prior k)
+      (λ s t. (m : Machine) (p : Name) (others : List Name) → Holds prior m (Some p) others → m.system ≡ s → m.turns ≡ left → Rounds words bound result new
+      t old drawn m p others) before after
       (λ s t f m p others a b c. round_goes words bound k old left end result new drawn t m p others on turns store proceeds (f m p others a b c)) h

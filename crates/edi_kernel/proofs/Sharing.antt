@@ -1,5 +1,6 @@
 -- Lists of slots with one of them taken out, and the slots of children.
-use Rattle.std.proofs.Common.{Bor, ◌≡◌, ℕ, zero, suc, ◌+◌, ◌-◌, ◌/◌, ◌<◌, inl, inr, Bool, true, false, nat_eq, if◌then◌else◌, List, [], ◌∷◌, ◌++◌, length, map, Some, None, refl, sym, ◌∙◌, ap, arith, subst, eq-eqb, drop}
+use Rattle.std.proofs.Common.{Bor, ◌≡◌, ℕ, zero, suc, ◌+◌, ◌-◌, ◌/◌, ◌<◌, inl, inr, Bool, true, false, nat_eq, if◌then◌else◌, List, [], ◌∷◌, ◌++◌, length}
+use Rattle.std.proofs.Common.{map, Some, None, refl, sym, ◌∙◌, ap, arith, subst, eq-eqb, drop}
 use Rattle.std.specs.Prelude.{slice_get}
 use Rattle.std.specs.List.{IsDistinct, AllByRecursion}
 use Rattle.edi_calls.specs.Names.{Name}
@@ -60,7 +61,8 @@ among_home (a ∷ b ∷ []) x l e h = go (has a x) (has b x) refl refl h
     go false false f g k = absurd (cc)
 
 -- the names of the others, where the node at a slot is taken out
-pub others_named : (name : ℕ → Name) (xs : List ℕ) (k x : ℕ) → NoneTwice xs → slice_get xs k ≡ Some x → (name_at (map name xs) k ≡ name x) × (map name (minus x xs) ≡ without_index (map name xs) k)
+pub others_named : (name : ℕ → Name) (xs : List ℕ) (k x : ℕ) → NoneTwice xs → slice_get xs k ≡ Some x → (name_at (map name xs) k ≡ name x)
+    × (map name (minus x xs) ≡ without_index (map name xs) k)
 others_named name [] k x t e = absurd (cc)
 others_named name (y ∷ xs) zero x t e =
     let same : y ≡ x = some e in
@@ -103,7 +105,8 @@ module _ (parent : ℕ) (a : Activity) (t u : Table) (s : IsTable t) (lt : paren
 
   pub added_free : length (free_slots u) + 1 ≡ length (free_slots t)
   added_free =
-      let other : length (free_slots u) ≡ length (free_slots added.between) = ap length (put_other added.between u 0 added.slot (beginning parent a) added.put between_table.sound (omega arith) 1 (λ e. omega (arith, e))) in
+      let other : length (free_slots u) ≡ length (free_slots added.between) = ap length
+      (put_other added.between u 0 added.slot (beginning parent a) added.put between_table.sound (omega arith) 1 (λ e. omega (arith, e))) in
       omega (arith, other, fewer_free t added.between added.slot s added.taken added.was)
 
   pub added_ready : ready_slots u ≡ ready_slots t ++ added.slot ∷ []
@@ -130,7 +133,8 @@ branches_read words at next line x ws f e =
     sym (length-branches ws.now) ∙ sym (ap length (branches_of_found words at line (next - at) (branches_of ws.now) d))
 
 -- there are fewer than 65,536 of them
-pub branches_few : (words : List ℕ) (at next line : ℕ) (x : Op) (ws : Bor (List ℕ)) → Found words at (instruction_of x) next → x ≡ code.Cobegin line ws → length ws.now / 3 < 2 ^ 32
+pub branches_few : (words : List ℕ) (at next line : ℕ) (x : Op) (ws : Bor (List ℕ)) → Found words at (instruction_of x) next → x ≡ code.Cobegin line ws
+    → length ws.now / 3 < 2 ^ 32
 branches_few words at next line x ws f e =
     let a : is_allowed (op.cobegin line (branches_of ws.now)) ≡ true = sym (ap (λ x. is_allowed (instruction_of x)) e) ∙ f.reads.allowed in
     few (length (branches_of ws.now)) (list_all has_frame (branches_of ws.now)) (length ws.now / 3) (length-branches ws.now) a
@@ -146,9 +150,11 @@ branches_few words at next line x ws f e =
     few n b k e h = let l : n < 2 ^ 16 = below n (left (is_count n) b h) in omega (arith, e, l)
 
 -- one child more has begun
-pub one_child : (slot : ℕ) (parent : Activity) (branches : List Branch) (store : List ℕ) (table : Table) (i : ℕ) (s u : List ℕ) (t v : Table) (child : Activity) →
+pub one_child : (slot : ℕ) (parent : Activity) (branches : List Branch) (store : List ℕ) (table : Table) (i : ℕ) (s u : List ℕ) (t v : Table)
+    (child : Activity) →
     HaveBegun slot parent branches store table i s t →
-    Some child ≡ option_map (child_at (child_first (local_of [] parent) (share_in parent branches) i) (share_in parent branches)) (slice_get branches i) → IsOrdered child →
+    Some child ≡ option_map (child_at (child_first (local_of [] parent) (share_in parent branches) i) (share_in parent branches)) (slice_get branches i)
+    → IsOrdered child →
     u ≡ written s (child_first (local_of [] parent) (share_in parent branches) i) (parent.base ∷ 0 ∷ 0 ∷ 0 ∷ 0 ∷ []) → Added slot child t v →
     HaveBegun slot parent branches store table (i + 1) u v
 one_child slot parent branches store table i s u t v child begun is ordered words added =

@@ -16,7 +16,8 @@ has_at : (xs : List ℕ) (k x : ℕ) → slice_get xs k ≡ Some x → has xs x 
 has_at xs k x e = has-from_among x xs (among_at xs k x e)
 
 -- the two lists tell where a node is
-pub home_in : (ls : List (List ℕ)) (l x : ℕ) → length ls ≡ 2 → l < 2 → has (list_at ls l) x ≡ true → (has (list_at ls 0) x ≡ true → has (list_at ls 1) x ≡ true → ⊥) → home_of ls x ≡ Some l
+pub home_in : (ls : List (List ℕ)) (l x : ℕ) → length ls ≡ 2 → l < 2 → has (list_at ls l) x ≡ true
+    → (has (list_at ls 0) x ≡ true → has (list_at ls 1) x ≡ true → ⊥) → home_of ls x ≡ Some l
 home_in [] l x e lt h none = absurd (omega (arith, e))
 home_in (a ∷ []) l x e lt h none = absurd (omega (arith, e))
 home_in (a ∷ b ∷ c ∷ ls) l x e lt h none = absurd (omega (arith, e))
@@ -42,10 +43,12 @@ some_home ls x l e = rw e refl
 
 -- ---- a process is told that a child has ended
 
-pub tells_last : (s : Standing) (n slot : ℕ) (old new : Table) → s ≡ standing.Waiting n → n ≤ 1 → PutsProcess 0 slot (record (process_at old slot) { standing = standing.Ready }) old new → Tells s slot old new
+pub tells_last : (s : Standing) (n slot : ℕ) (old new : Table) → s ≡ standing.Waiting n → n ≤ 1
+    → PutsProcess 0 slot (record (process_at old slot) { standing = standing.Ready }) old new → Tells s slot old new
 tells_last s n slot old new e h put = rw e (rw (le-leb n 1 h) put)
 
-pub tells_more : (s : Standing) (n slot : ℕ) (old new : Table) → s ≡ standing.Waiting n → 1 < n → new ≡ with_process old slot (record (process_at old slot) { standing = standing.Waiting (n - 1) }) → Tells s slot old new
+pub tells_more : (s : Standing) (n slot : ℕ) (old new : Table) → s ≡ standing.Waiting n → 1 < n
+    → new ≡ with_process old slot (record (process_at old slot) { standing = standing.Waiting (n - 1) }) → Tells s slot old new
 tells_more s n slot old new e h is = rw e (rw (lt-leb n 1 h) is)
 
 pub tells_other : (s : Standing) (slot : ℕ) (t : Table) → ((n : ℕ) → s ≡ standing.Waiting n → ⊥) → Tells s slot t t

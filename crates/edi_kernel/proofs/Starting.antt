@@ -1,5 +1,6 @@
 -- The first process alone.
-use Rattle.std.proofs.Common.{◌≡◌, ℕ, zero, suc, ◌+◌, ◌<◌, ◌≤◌, Bool, true, false, ◌&&◌, ◌||◌, not, nat_lt, if◌then◌else◌, List, [], ◌∷◌, length, map, Option, Some, None, refl, sym, ◌∙◌, ap, arith, subst, slice_index_or}
+use Rattle.std.proofs.Common.{◌≡◌, ℕ, zero, suc, ◌+◌, ◌<◌, ◌≤◌, Bool, true, false, ◌&&◌, ◌||◌, not, nat_lt, if◌then◌else◌, List, [], ◌∷◌, length, map}
+use Rattle.std.proofs.Common.{Option, Some, None, refl, sym, ◌∙◌, ap, arith, subst, slice_index_or}
 use Rattle.std.specs.Prelude.{replicate}
 use Rattle.std.specs.Option.{option_map}
 use Rattle.std.proofs.lemmas.Bool.Decides.{nat_tests}
@@ -113,7 +114,8 @@ module _ (t : Table) (a : code.Activity) (f : FirstAlone t a) where
       born = λ i l pos. absurd (omega (arith, only_zero i l, pos));
       awaits = λ i l.
           subst (λ j. Awaits (process_at t j).standing (children_of t j)) (sym (only_zero i l))
-          (subst (λ y. Awaits y.standing (children_of t 0)) (sym (process_is 0 (omega arith))) (none (is_child_of t 0) 32 (λ j _. no_child j (is_child_of t 0 j) refl)));
+          (subst (λ y. Awaits y.standing (children_of t 0)) (sym (process_is 0 (omega arith)))
+          (none (is_child_of t 0) 32 (λ j _. no_child j (is_child_of t 0 j) refl)));
     }
       where
         or_none : (b : Bool) → (b || false) ≡ true → b ≡ true
@@ -166,15 +168,19 @@ module _ (parts : CodeParts) (k : KernelState) (s : Started parts k) (system : S
   entering None left b = absurd b
   entering (Some x) left b = absurd b
 
-  never : (found : Option (Instruction × ℕ)) → ActivityBegins found parts.calls k.store s.first → (m : Machine) × (entered found parts.entry parts.calls 0 system ≡ ended outcome.turns m) × (m.system ≡ system) × (m.turns ≡ 0)
-  never (Some (op.entry need r p v f, body)) b = (machine_at (start_memory parts.calls) (([], first_activity need (5 + p + v) body) ∷ []) 0 system, refl, refl, refl)
+  never : (found : Option (Instruction × ℕ)) → ActivityBegins found parts.calls k.store s.first → (m : Machine)
+      × (entered found parts.entry parts.calls 0 system ≡ ended outcome.turns m) × (m.system ≡ system) × (m.turns ≡ 0)
+  never (Some (op.entry need r p v f, body)) b =
+      (machine_at (start_memory parts.calls) (([], first_activity need (5 + p + v) body) ∷ []) 0 system, refl, refl, refl)
   never None b = absurd b
   never (Some x) b = absurd b
 
   pub enters : (left : ℕ) → Enters parts k system left
-  enters left = let e : Entering (fetch parts.words parts.entry) left = entering (fetch parts.words parts.entry) left s.begins in record { machine = e.0; is = e.1; holds = e.2; system_is = e.3; turns = e.4 }
+  enters left = let e : Entering (fetch parts.words parts.entry) left = entering (fetch parts.words parts.entry) left s.begins in
+      record { machine = e.0; is = e.1; holds = e.2; system_is = e.3; turns = e.4 }
 
   pub never_enters : NeverEnters parts system
   never_enters =
-      let e : (m : Machine) × (entered (fetch parts.words parts.entry) parts.entry parts.calls 0 system ≡ ended outcome.turns m) × (m.system ≡ system) × (m.turns ≡ 0) = never (fetch parts.words parts.entry) s.begins in
+      let e : (m : Machine) × (entered (fetch parts.words parts.entry) parts.entry parts.calls 0 system ≡ ended outcome.turns m) × (m.system ≡ system)
+      × (m.turns ≡ 0) = never (fetch parts.words parts.entry) s.begins in
       record { machine = e.0; is = e.1; system_is = e.2; turns = e.3 }

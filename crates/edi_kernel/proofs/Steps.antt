@@ -1,5 +1,6 @@
 -- One instruction of the code, and one of the definition.
-use Rattle.std.proofs.Common.{◌≡◌, ℕ, zero, suc, ◌+◌, ◌-◌, ◌<◌, ◌≤◌, inl, inr, Bool, true, false, ◌||◌, List, length, Option, Some, None, refl, sym, subst, ap, ◌∙◌, arith}
+use Rattle.std.proofs.Common.{◌≡◌, ℕ, zero, suc, ◌+◌, ◌-◌, ◌<◌, ◌≤◌, inl, inr, Bool, true, false, ◌||◌, List, length, Option, Some, None, refl, sym, subst}
+use Rattle.std.proofs.Common.{ap, ◌∙◌, arith}
 use Rattle.std.specs.Prelude.{⊤}
 use Rattle.edi_told.specs.Told.{WhereTold}
 use Rattle.edi_calls.specs.declared.kinds.Cause.{Cause}
@@ -8,7 +9,8 @@ use Rattle.edi_calls.specs.State.{State}
 use Rattle.edi_calls.specs.Calls.{CallResult, answered, call}
 use Rattle.edi_calls.specs.Outcome as outcome
 use Rattle.edi_target.specs.Op.{Instruction}
-use Rattle.edi_target.specs.Effect.{Local, Turn, entering, leaving, looping, arriving, again, forking, exiting, finishing, Effect, goes, released, asks, due, fails, bad}
+use Rattle.edi_target.specs.Effect.{Local, Turn, entering, leaving, looping, arriving, again, forking, exiting, finishing, Effect, goes, released, asks, due}
+use Rattle.edi_target.specs.Effect.{fails, bad}
 use Rattle.edi_target.specs.Fetch.{fetch}
 use Rattle.edi_target.specs.Mach.{Running, answer_at, called, turn_from, settled, effect_at}
 use Rattle.edi_target.specs.Perform.{perform}
@@ -25,7 +27,8 @@ use Rattle.edi_machine.specs.Steps as steps
 use Rattle.edi_kernel.specs.declared.ends.Ending.TheVariants as ending
 use Rattle.edi_kernel.specs.declared.stretch.Pause.{Pause}
 use Rattle.edi_kernel.specs.declared.stretch.Pause.TheVariants as pause
-use Rattle.edi_kernel.specs.Stretch.{Paused, pausing, stopping, after_answer, failure_of, pause_by, pause_with, pause_of, left_after, goes_on, clears_after, StepsFrom, OneStep, Allows, Falls}
+use Rattle.edi_kernel.specs.Stretch.{Paused, pausing, stopping, after_answer, failure_of, pause_by, pause_with, pause_of, left_after, goes_on, clears_after}
+use Rattle.edi_kernel.specs.Stretch.{StepsFrom, OneStep, Allows, Falls}
 use Rattle.edi_kernel.proofs.Effects.{Fits, every_effect_fits}
 
 abbrev is_asks : Effect → Bool
@@ -42,12 +45,14 @@ module _ (words : List ℕ) (live : ℕ) (is_first : Bool) (before after : Local
   -- what the code leaves, where it ended so
   abbrev Made : Effect → StepEnd → Type 0
   Made effect end =
-      StepsFrom words live is_first was cleared (settled effect was) (pause_of end left) (now (left_after end left)) (cleared || clears_after end before.held after.held)
+      StepsFrom words live is_first was cleared (settled effect was) (pause_of end left) (now (left_after end left))
+      (cleared || clears_after end before.held after.held)
 
   same_now : (l : Local) (n m : ℕ) → after ≡ l → t ≡ s → n ≡ m → record was { local = l; turns = n } ≡ now m
   same_now l n m e f g = cc
 
-  more_same : (l : Local) (n m : ℕ) (c d : Bool) → after ≡ l → t ≡ s → n ≡ m → c ≡ d → (more : Running → Bool → Paused) → more (record was { local = l; turns = n }) c ≡ more (now m) d
+  more_same : (l : Local) (n m : ℕ) (c d : Bool) → after ≡ l → t ≡ s → n ≡ m → c ≡ d → (more : Running → Bool → Paused)
+      → more (record was { local = l; turns = n }) c ≡ more (now m) d
   more_same l n m c d e f k g more = ap (λ r. more r c) (same_now l n m e f k) ∙ ap (more (now m)) g
 
   or_false : (b : Bool) → b ≡ (b || false)
@@ -66,18 +71,40 @@ module _ (words : List ℕ) (live : ℕ) (is_first : Bool) (before after : Local
   emptied b e = or_true cleared ∙ ap (λ b. cleared || b) (sym e)
 
   by_turn : (n : ℕ) (turn : Turn) (l : Local) → after ≡ l → t ≡ s → Forks (due turn l) words before.pc →
-      StepsFrom words live is_first was cleared (turn_from (suc n) turn l was) (pause_by (kind_of before.pc turn)) (now (suc n - 1)) (cleared || goes_on (kind_of before.pc turn))
+      StepsFrom words live is_first was cleared (turn_from (suc n) turn l was) (pause_by (kind_of before.pc turn)) (now (suc n - 1))
+      (cleared || goes_on (kind_of before.pc turn))
   by_turn n entering l e f k = more_same l n (suc n - 1) true (cleared || true) e f (omega arith) (or_true cleared)
   by_turn n leaving l e f k = more_same l n (suc n - 1) true (cleared || true) e f (omega arith) (or_true cleared)
   by_turn n looping l e f k = more_same l n (suc n - 1) true (cleared || true) e f (omega arith) (or_true cleared)
-  by_turn n arriving l e f k = (pausing arriving (record was { local = l; turns = n }) cleared, λ more. refl, (tt, sym (same_now l n (suc n - 1) e f (omega arith)), sym (or_false cleared)))
-  by_turn n (again marks) l e f k = (pausing (again marks) (record was { local = l; turns = n }) cleared, λ more. refl, (refl, sym (same_now l n (suc n - 1) e f (omega arith)), sym (or_false cleared)))
-  by_turn n (forking branches) l e f k = (pausing (forking branches) (record was { local = l; turns = n }) cleared, λ more. refl, (k.here, sym (same_now l n (suc n - 1) e f (omega arith)), sym (or_false cleared)))
-  by_turn n exiting l e f k = (pausing exiting (record was { local = l; turns = n }) cleared, λ more. refl, (tt, sym (same_now l n (suc n - 1) e f (omega arith)), sym (or_false cleared)))
-  by_turn n finishing l e f k = (pausing finishing (record was { local = l; turns = n }) cleared, λ more. refl, sym (same_now l n (suc n - 1) e f (omega arith)))
+  by_turn n arriving l e f k = (
+    pausing arriving (record was { local = l; turns = n }) cleared,
+    λ more. refl,
+    (tt, sym (same_now l n (suc n - 1) e f (omega arith)), sym (or_false cleared)),
+  )
+  by_turn n (again marks) l e f k = (
+    pausing (again marks) (record was { local = l; turns = n }) cleared,
+    λ more. refl,
+    (refl, sym (same_now l n (suc n - 1) e f (omega arith)), sym (or_false cleared)),
+  )
+  by_turn n (forking branches) l e f k = (
+    pausing (forking branches) (record was { local = l; turns = n }) cleared,
+    λ more. refl,
+    (k.here, sym (same_now l n (suc n - 1) e f (omega arith)), sym (or_false cleared)),
+  )
+  by_turn n exiting l e f k = (
+    pausing exiting (record was { local = l; turns = n }) cleared,
+    λ more. refl,
+    (tt, sym (same_now l n (suc n - 1) e f (omega arith)), sym (or_false cleared)),
+  )
+  by_turn n finishing l e f k = (
+    pausing finishing (record was { local = l; turns = n }) cleared,
+    λ more. refl,
+    sym (same_now l n (suc n - 1) e f (omega arith)),
+  )
 
   by_left : (n : ℕ) (turn : Turn) (l : Local) → n ≡ left → after ≡ l → t ≡ s → Forks (due turn l) words before.pc →
-      StepsFrom words live is_first was cleared (turn_from n turn l was) (pause_with n (kind_of before.pc turn)) (now (n - 1)) (cleared || goes_on (kind_of before.pc turn))
+      StepsFrom words live is_first was cleared (turn_from n turn l was) (pause_with n (kind_of before.pc turn)) (now (n - 1))
+      (cleared || goes_on (kind_of before.pc turn))
   by_left zero turn l g e f k = (stopping outcome.turns was cleared, λ more. refl, (omega (arith, g), f))
   by_left (suc n) turn l g e f k = by_turn n turn l e f k
 
@@ -95,17 +122,21 @@ module _ (words : List ℕ) (live : ℕ) (is_first : Bool) (before after : Local
   by_failure cause.FileLimit line e = (stopping (outcome.failed cause.FileLimit line) was cleared, λ more. refl, (refl, refl, e))
 
   -- a call that was answered
-  answered_on : (result : CallResult) (address : Option ℕ) (line : ℕ) (l : Local) (answer : List ℕ) (b : Bool) → result ≡ answered answer t → after ≡ answer_at address answer l → b ≡ false →
+  answered_on : (result : CallResult) (address : Option ℕ) (line : ℕ) (l : Local) (answer : List ℕ) (b : Bool) → result ≡ answered answer t
+      → after ≡ answer_at address answer l → b ≡ false →
       (more : Running → Bool → Paused) → after_answer more cleared (called result address line l was) ≡ more (now left) (cleared || b)
   answered_on result address line l answer b e f g more =
       ap (λ r. after_answer more cleared (called r address line l was)) e
       ∙ ap (λ x. more (record was { local = x; system = t }) cleared) (sym f) ∙ ap (more (now left)) (kept b g)
 
-  refused : (result : CallResult) (c : Cause) (address : Option ℕ) (line : ℕ) (l : Local) → called result address line l was ≡ settled (fails c line) was → now left ≡ was →
+  refused : (result : CallResult) (c : Cause) (address : Option ℕ) (line : ℕ) (l : Local) → called result address line l was ≡ settled (fails c line) was
+      → now left ≡ was →
       StepsFrom words live is_first was cleared (called result address line l was) (Some (pause.Over (failure_of c line))) (now left) (cleared || false)
-  refused result c address line l e f = subst (λ a. StepsFrom words live is_first was cleared a (Some (pause.Over (failure_of c line))) (now left) (cleared || false)) (sym e) (by_failure c line f)
+  refused result c address line l e f = subst
+      (λ a. StepsFrom words live is_first was cleared a (Some (pause.Over (failure_of c line))) (now left) (cleared || false)) (sym e) (by_failure c line f)
 
-  made : (effect : Effect) (end : StepEnd) → effect_of words live is_first before ≡ effect → Takes effect end before after (Some s) (Some t) → (is_asks effect ≡ false → t ≡ s) →
+  made : (effect : Effect) (end : StepEnd) → effect_of words live is_first before ≡ effect → Takes effect end before after (Some s) (Some t)
+      → (is_asks effect ≡ false → t ≡ s) →
       ends_phase end before after ≡ is_released effect → Forks effect words before.pc → Made effect end
   made (goes l) end.On e h st ph fk = more_same l left left cleared _ h (st refl) refl (kept _ ph)
   made (goes l) end e h st ph fk = absurd h
@@ -113,19 +144,25 @@ module _ (words : List ℕ) (live : ℕ) (is_first : Bool) (before after : Local
   made (released l) end e h st ph fk = absurd h
   made (asks number arguments address line l) end.On e h st ph fk = answered_on (call number arguments s) address line l h.0 _ h.3 h.2 ph
   made (asks number arguments address line l) (end.Fail cause.NoFile at) e h st ph fk =
-      subst (λ a. StepsFrom words live is_first was cleared (called (call number arguments s) address line l was) (Some (pause.Over (ending.Failed cause.NoFile a))) (now left) (cleared || false)) (sym h.0)
+      subst (λ a. StepsFrom words live is_first was cleared (called (call number arguments s) address line l was)
+      (Some (pause.Over (ending.Failed cause.NoFile a))) (now left) (cleared || false)) (sym h.0)
       (refused (call number arguments s) cause.NoFile address line l (ap (λ r. called r address line l was) h.2.0) (stopped h.2.1 h.1))
   made (asks number arguments address line l) (end.Fail cause.FileLimit at) e h st ph fk =
-      subst (λ a. StepsFrom words live is_first was cleared (called (call number arguments s) address line l was) (Some (pause.Over (ending.Failed cause.FileLimit a))) (now left) (cleared || false)) (sym h.0)
+      subst (λ a. StepsFrom words live is_first was cleared (called (call number arguments s) address line l was)
+      (Some (pause.Over (ending.Failed cause.FileLimit a))) (now left) (cleared || false)) (sym h.0)
       (refused (call number arguments s) cause.FileLimit address line l (ap (λ r. called r address line l was) h.2.0) (stopped h.2.1 h.1))
-  made (asks number arguments address line l) end.Fault e h st ph fk = record { number = number; arguments = arguments; address = address; line = line; next = l; effect = e; tears = h.1; turns = refl }
+  made (asks number arguments address line l) end.Fault e h st ph fk =
+      record { number = number; arguments = arguments; address = address; line = line; next = l; effect = e; tears = h.1; turns = refl }
   made (asks number arguments address line l) end e h st ph fk = absurd h
   made (due turn l) (end.Turn k) e h st ph fk =
-      subst (λ x. StepsFrom words live is_first was cleared (turn_from left turn l was) (pause_with left x) (now (left - 1)) (cleared || goes_on x)) (sym h.0) (by_left left turn l refl h.1 (st refl) fk)
+      subst (λ x. StepsFrom words live is_first was cleared (turn_from left turn l was) (pause_with left x) (now (left - 1)) (cleared || goes_on x)) (sym h.0)
+      (by_left left turn l refl h.1 (st refl) fk)
   made (due turn l) end e h st ph fk = absurd h
   made (fails c line) (end.Fail d at) e h st ph fk =
-      subst (λ x. StepsFrom words live is_first was cleared (settled (fails c line) was) (Some (pause.Over (failure_of x at))) (now left) (cleared || false)) (sym h.0)
-      (subst (λ a. StepsFrom words live is_first was cleared (settled (fails c line) was) (Some (pause.Over (failure_of c a))) (now left) (cleared || false)) (sym h.1)
+      subst (λ x. StepsFrom words live is_first was cleared (settled (fails c line) was) (Some (pause.Over (failure_of x at))) (now left) (cleared || false))
+      (sym h.0)
+      (subst (λ a. StepsFrom words live is_first was cleared (settled (fails c line) was) (Some (pause.Over (failure_of c a))) (now left) (cleared || false))
+      (sym h.1)
       (by_failure c line (stopped (st refl) h.2)))
   made (fails c line) end e h st ph fk = absurd h
   made bad (end.Bad at) e h st ph fk = (stopping (outcome.bad before.pc) was cleared, λ more. refl, (h.0, stopped (st refl) h.1))
@@ -144,7 +181,8 @@ some_state : {s t : State} → Some t ≡ Some s → t ≡ s
 some_state e = cc
 
 -- where it is told at the end it was told before
-untold : (effect : Effect) (end : StepEnd) (before after : Local) (t : State) → Takes effect end before after None (Some t) → (is_asks effect ≡ false → Some t ≡ None) → ⊥
+untold : (effect : Effect) (end : StepEnd) (before after : Local) (t : State) → Takes effect end before after None (Some t)
+    → (is_asks effect ≡ false → Some t ≡ None) → ⊥
 untold (goes l) end before after t h st = let e : Some t ≡ None = st refl in absurd (cc)
 untold (released l) end before after t h st = let e : Some t ≡ None = st refl in absurd (cc)
 untold (asks number arguments address line l) end.On before after t h st = h.3
@@ -171,7 +209,8 @@ module _ (words : List ℕ) (live : ℕ) (is_first : Bool) (before after : Local
       ends_phase end before after ≡ is_released (effect_of words live is_first before) → Forks (effect_of words live is_first before) words before.pc →
       WhereTold (state x) (state y) (λ s t. Made words live is_first before after s t left cleared (effect_of words live is_first before) end)
   steps_told state x y end cleared h keeps ph fk =
-      told (state x) (state y) (effect_of words live is_first before) end cleared refl h (kept_state state x y (effect_of words live is_first before) keeps) ph fk
+      told (state x) (state y) (effect_of words live is_first before) end cleared refl h (kept_state state x y (effect_of words live is_first before) keeps)
+      ph fk
 
   -- ---- what holds whether or not the state is told
 
@@ -190,10 +229,12 @@ module _ (words : List ℕ) (live : ℕ) (is_first : Bool) (before after : Local
   allows_turn (suc n) exiting l e f k = f
   allows_turn (suc n) finishing l e f k = tt
 
-  pub allows : (old new : Option State) (effect : Effect) (end : StepEnd) → Takes effect end before after old new → Fits live is_first effect → Forks effect words before.pc →
+  pub allows : (old new : Option State) (effect : Effect) (end : StepEnd) → Takes effect end before after old new → Fits live is_first effect
+      → Forks effect words before.pc →
       Allows (pause_of end left) words live is_first after
   allows old new effect end.On h f k = tt
-  allows old new (due turn l) (end.Turn kind) h f k = subst (λ x. Allows (pause_with left x) words live is_first after) (sym h.0) (allows_turn left turn l h.1 f k)
+  allows old new (due turn l) (end.Turn kind) h f k = subst (λ x. Allows (pause_with left x) words live is_first after) (sym h.0)
+      (allows_turn left turn l h.1 f k)
   allows old new effect (end.Turn kind) h f k = absurd h
   allows old new effect (end.Fail cause.Halt at) h f k = tt
   allows old new effect (end.Fail c at) h f k = tt
@@ -253,20 +294,29 @@ module _ (words : List ℕ) (live : ℕ) (is_first : Bool) (before after : Local
       Takes (effect_of words live is_first before) end before after (state x) (state y) → steps.Keeps (effect_of words live is_first before) x y →
       ends_phase end before after ≡ is_released (effect_of words live is_first before) → Forks (effect_of words live is_first before) words before.pc →
       result ≡ pause_of end left → n ≡ left_after end left → b ≡ (cleared || clears_after end before.held after.held) →
-      WhereTold (state x) (state y) (λ s t. OneStep words live is_first (record { local = before; system = s; turns = left }) cleared result (record { local = after; system = t; turns = n }) b)
+      WhereTold (state x) (state y) (λ s t. OneStep words live is_first (record { local = before; system = s; turns = left }) cleared result
+      (record { local = after; system = t; turns = n }) b)
   steps_are state x y end cleared result n b h keeps ph fk e f g =
-      subst (λ r. WhereTold (state x) (state y) (λ s t. OneStep words live is_first (record { local = before; system = s; turns = left }) cleared r (record { local = after; system = t; turns = n }) b)) (sym e)
-      (subst (λ m. WhereTold (state x) (state y) (λ s t. OneStep words live is_first (record { local = before; system = s; turns = left }) cleared (pause_of end left) (record { local = after; system = t; turns = m }) b)) (sym f)
-      (subst (λ d. WhereTold (state x) (state y) (λ s t. OneStep words live is_first (record { local = before; system = s; turns = left }) cleared (pause_of end left) (record { local = after; system = t; turns = left_after end left }) d)) (sym g)
+      subst (λ r. WhereTold (state x) (state y)
+      (λ s t. OneStep words live is_first (record { local = before; system = s; turns = left }) cleared r (record { local = after; system = t; turns = n })
+      b)) (sym e)
+      (subst (λ m. WhereTold (state x) (state y)
+      (λ s t. OneStep words live is_first (record { local = before; system = s; turns = left }) cleared (pause_of end left)
+      (record { local = after; system = t; turns = m }) b)) (sym f)
+      (subst (λ d. WhereTold (state x) (state y)
+      (λ s t. OneStep words live is_first (record { local = before; system = s; turns = left }) cleared (pause_of end left)
+      (record { local = after; system = t; turns = left_after end left }) d)) (sym g)
       (steps_told state x y end cleared h keeps ph fk)))
 
-  pub allowed_are : (old new : Option State) (end : StepEnd) (result : Option Pause) → Takes (effect_of words live is_first before) end before after old new → Forks (effect_of words live is_first before) words before.pc →
+  pub allowed_are : (old new : Option State) (end : StepEnd) (result : Option Pause) → Takes (effect_of words live is_first before) end before after old new
+      → Forks (effect_of words live is_first before) words before.pc →
       result ≡ pause_of end left → Allows result words live is_first after
   allowed_are old new end result h k e =
       subst (λ r. Allows r words live is_first after) (sym e)
       (allows old new (effect_of words live is_first before) end h (every_effect_fits (fetch words) (fetch words before.pc) live is_first before) k)
 
-  pub falls_are : (old new : Option State) (end : StepEnd) (result : Option Pause) (n : ℕ) → Takes (effect_of words live is_first before) end before after old new →
+  pub falls_are : (old new : Option State) (end : StepEnd) (result : Option Pause) (n : ℕ) → Takes (effect_of words live is_first before) end before after old
+      new →
       result ≡ pause_of end left → n ≡ left_after end left → Falls result words left before.pc n after.pc
   falls_are old new end result n h e f =
       subst (λ r. Falls r words left before.pc n after.pc) (sym e)

@@ -19,11 +19,13 @@ use Rattle.edi_kernel.proofs.Starting.{Enters, enters}
 use Rattle.edi_kernel.proofs.Rounds.{AnyStint, holds_same}
 
 -- so many turns before the stint, and what is kept beside the processes and the memory is free
-module _ (words : List ℕ) (k new : KernelState) (left n : ℕ) (store : new.store ≡ k.store) (table : new.table ≡ k.table) (taken : new.taken ≡ k.taken) (arrived : new.arrived ≡ k.arrived) where
+module _ (words : List ℕ) (k new : KernelState) (left n : ℕ) (store : new.store ≡ k.store) (table : new.table ≡ k.table) (taken : new.taken ≡ k.taken)
+    (arrived : new.arrived ≡ k.arrived) where
   less : (used : ℕ) → left - n - used ≡ left - (used + n)
   less used = omega arith
 
-  switches : (used : ℕ) (t : State) (m : Machine) (p : Name) (others : List Name) → Switches words (left - n - used) k t m p others → Switches words (left - (used + n)) new t m p others
+  switches : (used : ℕ) (t : State) (m : Machine) (p : Name) (others : List Name) → Switches words (left - n - used) k t m p others
+      → Switches words (left - (used + n)) new t m p others
   switches used t m p others h = record {
     steps = h.steps;
     machine = h.machine;
@@ -34,7 +36,8 @@ module _ (words : List ℕ) (k new : KernelState) (left n : ℕ) (store : new.st
     turns = h.turns ∙ less used;
   }
 
-  ends : (used : ℕ) (e : Ending) (t : State) (m : Machine) (p : Name) (others : List Name) → EndsRun words (left - n - used) e k t m p others → EndsRun words (left - (used + n)) e new t m p others
+  ends : (used : ℕ) (e : Ending) (t : State) (m : Machine) (p : Name) (others : List Name) → EndsRun words (left - n - used) e k t m p others
+      → EndsRun words (left - (used + n)) e new t m p others
   ends used e t m p others h = record {
     steps = h.steps;
     machine = h.machine;
@@ -49,7 +52,8 @@ module _ (words : List ℕ) (k new : KernelState) (left n : ℕ) (store : new.st
   tells : (m : Machine) (p : Name) → TellsStanding k m p → TellsStanding new m p
   tells m p h = record { activity = h.activity; forks = h.forks; told = arrived ∙ h.told; found = h.found }
 
-  pub goes_later : (end : StintEnd) (t : State) (m : Machine) (p : Name) (others : List Name) → GoesTo words end (left - n) k t m p others → GoesTo words (later_by n end) left new t m p others
+  pub goes_later : (end : StintEnd) (t : State) (m : Machine) (p : Name) (others : List Name) → GoesTo words end (left - n) k t m p others
+      → GoesTo words (later_by n end) left new t m p others
   unfolding switches ends
   goes_later (stint_end.Arrived used) t m p others h = (switches used t m p others h.0, tells h.0.machine p h.1)
   goes_later (stint_end.Forked used) t m p others h = (switches used t m p others h.0, h.1)
@@ -60,7 +64,8 @@ module _ (words : List ℕ) (k new : KernelState) (left n : ℕ) (store : new.st
   goes_later (stint_end.Over used ending.Turns) t m p others h = ends used ending.Turns t m p others h
   goes_later (stint_end.Over used ending.Standstill) t m p others h = (ends used ending.Standstill t m p others h.0, tells h.0.machine p h.1)
   goes_later (stint_end.Over used (ending.Bad at)) t m p others h = ends used (ending.Bad at) t m p others h
-  goes_later (stint_end.Over used ending.Fault) t m p others h = record { steps = h.steps; machine = h.machine; is = h.is; fails = h.fails; turns = h.turns ∙ less used }
+  goes_later (stint_end.Over used ending.Fault) t m p others h =
+      record { steps = h.steps; machine = h.machine; is = h.is; fails = h.fails; turns = h.turns ∙ less used }
 
 -- the machine behind the entry's turn
 module _ (code : CodeParts) (k mid : KernelState) (left n : ℕ) (store : mid.store ≡ k.store) (table : mid.table ≡ k.table) (taken : mid.taken ≡ k.taken) where
@@ -70,7 +75,8 @@ module _ (code : CodeParts) (k mid : KernelState) (left n : ℕ) (store : mid.st
     pub system : m.system ≡ s
     pub turns : m.turns ≡ left - n
 
-  pub ready_by : (b : Bool) → n ≡ (if b then 1 else 0) → n ≤ left → (s : State) (m : Machine) (p : Name) (others : List Name) → IsAtBy b code k s left m p others → Ready s m p others
+  pub ready_by : (b : Bool) → n ≡ (if b then 1 else 0) → n ≤ left → (s : State) (m : Machine) (p : Name) (others : List Name)
+      → IsAtBy b code k s left m p others → Ready s m p others
   ready_by false e le s m p others h = record { holds = holds_same k mid m (Some p) others store table taken h.0; system = h.1; turns = h.2 ∙ omega (arith, e) }
   ready_by true e le s m p others h =
       let x : Enters code k s (left - 1) = enters code k h.0 s (left - 1) in
@@ -78,7 +84,8 @@ module _ (code : CodeParts) (k mid : KernelState) (left n : ℕ) (store : mid.st
       let same : x.machine ≡ m = went_same (sym x.is ∙ ap (λ i. entered (fetch code.words code.entry) code.entry code.calls i s) l ∙ h.1) in
       let held : Holds mid x.machine (Some []) [] = holds_same k mid x.machine (Some []) [] store table taken x.holds in
       record {
-        holds = subst (λ y. Holds mid y (Some p) others) same (subst (λ q. Holds mid x.machine (Some q) others) (sym h.2) (subst (λ qs. Holds mid x.machine (Some []) qs) (sym h.3) held));
+        holds = subst (λ y. Holds mid y (Some p) others) same
+            (subst (λ q. Holds mid x.machine (Some q) others) (sym h.2) (subst (λ qs. Holds mid x.machine (Some []) qs) (sym h.3) held));
         system = sym (ap (λ y. y.system) same) ∙ x.system_is;
         turns = sym (ap (λ y. y.turns) same) ∙ x.turns ∙ omega (arith, e);
       }
@@ -86,14 +93,20 @@ module _ (code : CodeParts) (k mid : KernelState) (left n : ℕ) (store : mid.st
       went_same : {a b : Machine} → went a stays ≡ went b stays → a ≡ b
       went_same e = cc
 
-module _ (code : CodeParts) (k mid after new : KernelState) (left n : ℕ) (end : StintEnd) (store : mid.store ≡ k.store) (table : mid.table ≡ k.table) (taken : mid.taken ≡ k.taken)
-    (store' : new.store ≡ after.store) (table' : new.table ≡ after.table) (taken' : new.taken ≡ after.taken) (arrived' : new.arrived ≡ after.arrived) (before later : Option State) (result : StintEnd) (is : result ≡ later_by n end) where
+module _ (code : CodeParts) (k mid after new : KernelState) (left n : ℕ) (end : StintEnd) (store : mid.store ≡ k.store) (table : mid.table ≡ k.table)
+    (taken : mid.taken ≡ k.taken)
+    (store' : new.store ≡ after.store) (table' : new.table ≡ after.table) (taken' : new.taken ≡ after.taken) (arrived' : new.arrived ≡ after.arrived)
+    (before later : Option State) (result : StintEnd) (is : result ≡ later_by n end) where
   abbrev AnyFrom : State → State → Type 0
   AnyFrom s t = (m : Machine) (p : Name) (others : List Name) → IsAt code k s left m p others → GoesTo code.words result left new t m p others
 
-  pub told_stint : n ≡ (if k.entering then 1 else 0) → n ≤ left → WhereTold before later (AnyStint code.words end (left - n) mid after) → WhereTold before later AnyFrom
-  told_stint e le h = WhereTold-map (AnyStint code.words end (left - n) mid after) AnyFrom before later (λ s t f m p others at. by_end s t m p others f (ready_by code k mid left n store table taken k.entering e le s m p others at)) h
+  pub told_stint : n ≡ (if k.entering then 1 else 0) → n ≤ left → WhereTold before later (AnyStint code.words end (left - n) mid after)
+      → WhereTold before later AnyFrom
+  told_stint e le h = WhereTold-map (AnyStint code.words end (left - n) mid after) AnyFrom before later
+      (λ s t f m p others at. by_end s t m p others f (ready_by code k mid left n store table taken k.entering e le s m p others at)) h
     where
-      by_end : (s t : State) (m : Machine) (p : Name) (others : List Name) → AnyStint code.words end (left - n) mid after s t → Ready code k mid left n store table taken s m p others → GoesTo code.words result left new t m p others
+      by_end : (s t : State) (m : Machine) (p : Name) (others : List Name) → AnyStint code.words end (left - n) mid after s t → Ready code k mid left n store
+          table taken s m p others → GoesTo code.words result left new t m p others
       by_end s t m p others f r =
-          subst (λ x. GoesTo code.words x left new t m p others) (sym is) (goes_later code.words after new left n store' table' taken' arrived' end t m p others (f m p others r.holds r.system r.turns))
+          subst (λ x. GoesTo code.words x left new t m p others) (sym is)
+          (goes_later code.words after new left n store' table' taken' arrived' end t m p others (f m p others r.holds r.system r.turns))

@@ -14,7 +14,8 @@ use Rattle.edi_machine.specs.declared.ends.StepEnd.TheVariants as end
 use Rattle.edi_kernel.specs.declared.ends.Ending.TheVariants as ending
 use Rattle.edi_kernel.specs.declared.stretch.Pause.{Pause}
 use Rattle.edi_kernel.specs.declared.stretch.Pause.TheVariants as pause
-use Rattle.edi_kernel.specs.Stretch.{Paused, pausing, after_turn, after_answer, walk_turn, walk_on, walked, stretch, OneStep, Reaches, Stretches, Falls, Spends, pause_by, pause_with, pause_of, left_after}
+use Rattle.edi_kernel.specs.Stretch.{Paused, pausing, after_turn, after_answer, walk_turn, walk_on, walked, stretch, OneStep, Reaches, Stretches, Falls}
+use Rattle.edi_kernel.specs.Stretch.{Spends, pause_by, pause_with, pause_of, left_after}
 
 -- an activity that goes on is after the step where the stretch goes on from
 walks_on : (c e : Bool) (answer : Answer) (now : Running) → ((more : Running → Bool → Paused) → after_answer more c answer ≡ more now e) →
@@ -48,31 +49,45 @@ module _ (words : List ℕ) (live : ℕ) (is_first : Bool) where
   told_itself None r c = tt
   told_itself (Some s) r c = reaches_itself (r s) c
 
-  one_more : (was r now : Running) (c d e : Bool) → Reaches words live is_first was c r d → OneStep words live is_first r d None now e → Reaches words live is_first was c now e
+  one_more : (was r now : Running) (c d e : Bool) → Reaches words live is_first was c r d → OneStep words live is_first r d None now e
+      → Reaches words live is_first was c now e
   one_more was r now c d e h k = record {
     ends = λ n x f. h.ends (suc n) x (k (stretch (fetch words) live is_first n) ∙ f);
     gets = λ n x f. h.gets (suc n) x (walks_on d e (local_step (fetch words) live is_first r) now k (walked (fetch words) live is_first n) ∙ f);
   }
 
   -- the last instruction ends the stretch
-  last : (pause : Pause) (was r now : Running) (c d e : Bool) → Reaches words live is_first was c r d → OneStep words live is_first r d (Some pause) now e → Stretches words live is_first was c pause now e
-  last (pause.Over ending.Fault) was r now c d e h k = let m = h.gets 0 (Some (r, d)) refl in record { steps = m.0; at = r; emptied = d; reached = m.1; torn = k }
-  last (pause.Over ending.Done) was r now c d e h k = let m = h.ends 1 k.0 (k.1 (stretch (fetch words) live is_first 0)) in record { steps = m.0; end = k.0; is = m.1; pauses = k.2 }
-  last (pause.Over (ending.Halted line)) was r now c d e h k = let m = h.ends 1 k.0 (k.1 (stretch (fetch words) live is_first 0)) in record { steps = m.0; end = k.0; is = m.1; pauses = k.2 }
-  last (pause.Over (ending.Failed cause line)) was r now c d e h k = let m = h.ends 1 k.0 (k.1 (stretch (fetch words) live is_first 0)) in record { steps = m.0; end = k.0; is = m.1; pauses = k.2 }
-  last (pause.Over ending.Turns) was r now c d e h k = let m = h.ends 1 k.0 (k.1 (stretch (fetch words) live is_first 0)) in record { steps = m.0; end = k.0; is = m.1; pauses = k.2 }
-  last (pause.Over ending.Standstill) was r now c d e h k = let m = h.ends 1 k.0 (k.1 (stretch (fetch words) live is_first 0)) in record { steps = m.0; end = k.0; is = m.1; pauses = k.2 }
-  last (pause.Over (ending.Bad at)) was r now c d e h k = let m = h.ends 1 k.0 (k.1 (stretch (fetch words) live is_first 0)) in record { steps = m.0; end = k.0; is = m.1; pauses = k.2 }
-  last (pause.At kind) was r now c d e h k = let m = h.ends 1 k.0 (k.1 (stretch (fetch words) live is_first 0)) in record { steps = m.0; end = k.0; is = m.1; pauses = k.2 }
+  last : (pause : Pause) (was r now : Running) (c d e : Bool) → Reaches words live is_first was c r d → OneStep words live is_first r d (Some pause) now e
+      → Stretches words live is_first was c pause now e
+  last (pause.Over ending.Fault) was r now c d e h k = let m = h.gets 0 (Some (r, d)) refl in
+      record { steps = m.0; at = r; emptied = d; reached = m.1; torn = k }
+  last (pause.Over ending.Done) was r now c d e h k = let m = h.ends 1 k.0 (k.1 (stretch (fetch words) live is_first 0)) in
+      record { steps = m.0; end = k.0; is = m.1; pauses = k.2 }
+  last (pause.Over (ending.Halted line)) was r now c d e h k = let m = h.ends 1 k.0 (k.1 (stretch (fetch words) live is_first 0)) in
+      record { steps = m.0; end = k.0; is = m.1; pauses = k.2 }
+  last (pause.Over (ending.Failed cause line)) was r now c d e h k = let m = h.ends 1 k.0 (k.1 (stretch (fetch words) live is_first 0)) in
+      record { steps = m.0; end = k.0; is = m.1; pauses = k.2 }
+  last (pause.Over ending.Turns) was r now c d e h k = let m = h.ends 1 k.0 (k.1 (stretch (fetch words) live is_first 0)) in
+      record { steps = m.0; end = k.0; is = m.1; pauses = k.2 }
+  last (pause.Over ending.Standstill) was r now c d e h k = let m = h.ends 1 k.0 (k.1 (stretch (fetch words) live is_first 0)) in
+      record { steps = m.0; end = k.0; is = m.1; pauses = k.2 }
+  last (pause.Over (ending.Bad at)) was r now c d e h k = let m = h.ends 1 k.0 (k.1 (stretch (fetch words) live is_first 0)) in
+      record { steps = m.0; end = k.0; is = m.1; pauses = k.2 }
+  last (pause.At kind) was r now c d e h k = let m = h.ends 1 k.0 (k.1 (stretch (fetch words) live is_first 0)) in
+      record { steps = m.0; end = k.0; is = m.1; pauses = k.2 }
 
   module _ (was r now : State → Running) (c d e : Bool) (old between new : Option State) where
-    pub told_more : WhereTold old between (λ s t. Reaches words live is_first (was s) c (r t) d) → WhereTold between new (λ s t. OneStep words live is_first (r s) d None (now t) e) →
+    pub told_more : WhereTold old between (λ s t. Reaches words live is_first (was s) c (r t) d)
+        → WhereTold between new (λ s t. OneStep words live is_first (r s) d None (now t) e) →
         WhereTold old new (λ s t. Reaches words live is_first (was s) c (now t) e)
-    told_more h k = WhereTold-then _ (λ s t. OneStep words live is_first (r s) d None (now t) e) (λ s t. Reaches words live is_first (was s) c (now t) e) old between new (λ x y z a b. one_more (was x) (r y) (now z) c d e a b) h k
+    told_more h k = WhereTold-then _ (λ s t. OneStep words live is_first (r s) d None (now t) e) (λ s t. Reaches words live is_first (was s) c (now t) e) old
+        between new (λ x y z a b. one_more (was x) (r y) (now z) c d e a b) h k
 
-    pub told_last : (pause : Pause) → WhereTold old between (λ s t. Reaches words live is_first (was s) c (r t) d) → WhereTold between new (λ s t. OneStep words live is_first (r s) d (Some pause) (now t) e) →
+    pub told_last : (pause : Pause) → WhereTold old between (λ s t. Reaches words live is_first (was s) c (r t) d)
+        → WhereTold between new (λ s t. OneStep words live is_first (r s) d (Some pause) (now t) e) →
         WhereTold old new (λ s t. Stretches words live is_first (was s) c pause (now t) e)
-    told_last pause h k = WhereTold-then _ (λ s t. OneStep words live is_first (r s) d (Some pause) (now t) e) (λ s t. Stretches words live is_first (was s) c pause (now t) e) old between new (λ x y z a b. last pause (was x) (r y) (now z) c d e a b) h k
+    told_last pause h k = WhereTold-then _ (λ s t. OneStep words live is_first (r s) d (Some pause) (now t) e)
+        (λ s t. Stretches words live is_first (was s) c pause (now t) e) old between new (λ x y z a b. last pause (was x) (r y) (now z) c d e a b) h k
 
 -- the measure falls
 pub measure_falls : (words : List ℕ) (left pc new_left new_pc : ℕ) → Falls None words left pc new_left new_pc →

@@ -1,5 +1,6 @@
 -- What the kernel does at a switch, and what the machine does.
-use Rattle.std.proofs.Common.{◌≡◌, ℕ, suc, ◌+◌, ◌<◌, inl, inr, Bool, true, false, ◌||◌, nat_eq, if◌then◌else◌, List, [], ◌∷◌, ◌++◌, length, map, Option, Some, None, refl, sym, ◌∙◌, ap, arith, slice_index_or, get_or-set_same, get_or-set_other, length-set}
+use Rattle.std.proofs.Common.{◌≡◌, ℕ, suc, ◌+◌, ◌<◌, inl, inr, Bool, true, false, ◌||◌, nat_eq, if◌then◌else◌, List, [], ◌∷◌, ◌++◌, length, map, Option}
+use Rattle.std.proofs.Common.{Some, None, refl, sym, ◌∙◌, ap, arith, slice_index_or, get_or-set_same, get_or-set_other, length-set}
 use Rattle.std.specs.Prelude.{◌==◌}
 use Rattle.std.proofs.lemmas.Bool.{cases_eq}
 use Rattle.std.proofs.lemmas.List.{length_push}
@@ -40,7 +41,8 @@ pub ready_other : (t : Table) (p i : ℕ) → IsTable t → IsTaken t p → IsAm
 ready_other t p i s k h e = none_some (home_of t.lists p) 0 k.homeless (ap (home_of t.lists) (sym e) ∙ home_among t 0 i s.sound (omega arith) h)
 
 -- the machine k is m but for the activity of p, also with other marks
-pub follows_marks : (m k : Machine) (p : Name) (f : ℕ) (ms xs : List Name) (a : mach.Activity) → Follows m k p f ms a → Follows (record m { marks = xs }) k p f ms a
+pub follows_marks : (m k : Machine) (p : Name) (f : ℕ) (ms xs : List Name) (a : mach.Activity) → Follows m k p f ms a → Follows (record m { marks = xs }) k p
+    f ms a
 follows_marks m k p f ms xs a h = record { found = h.found; forked = h.forked; others = h.others; named = h.named; marks_are = h.marks_are }
 
 -- ---- marks
@@ -68,7 +70,15 @@ pub unmarked_at_slot : (t : Table) (n : Naming) (m : Machine) (p : ℕ) → At t
 unmarked_at_slot t n m p a = record { table = unmarked_table t a.table; taken = unmarked_taken t p a.taken; stands = unmarked_stands t n m a.stands }
 
 pub marked_table : (t : Table) (p : ℕ) → IsTable t → IsTable (marked_with t p)
-marked_table t p s = record { sound = s.sound; wide = s.wide; marked_wide = length-set t.marked p true ∙ s.marked_wide; parents = s.parents; ordered = s.ordered; root = s.root; waiting = s.waiting }
+marked_table t p s = record {
+  sound = s.sound;
+  wide = s.wide;
+  marked_wide = length-set t.marked p true ∙ s.marked_wide;
+  parents = s.parents;
+  ordered = s.ordered;
+  root = s.root;
+  waiting = s.waiting;
+}
 
 mark_there : (t : Table) (p i : ℕ) → (i ≡ p → ⊥) → marked_at (marked_with t p) i ≡ marked_at t i
 mark_there t p i ne = get_or-set_other t.marked p i true false ne
@@ -84,10 +94,12 @@ marked_taken t p s k = record {
   counted =
       go (marked_at t p) k.counted
       ∙ ap suc (sym (marked_same (marked_with t p) t (ready_slots t) (λ i h. mark_there t p i (ready_other t p i s k h))))
-      ∙ sym (ap (λ b. if b then suc (marked_among (marked_with t p) (ready_slots t)) else marked_among (marked_with t p) (ready_slots t)) (mark_here t p (omega (arith, s.marked_wide, k.inside))));
+      ∙ sym (ap (λ b. if b then suc (marked_among (marked_with t p) (ready_slots t)) else marked_among (marked_with t p) (ready_slots t))
+      (mark_here t p (omega (arith, s.marked_wide, k.inside))));
 }
   where
-    go : (b : Bool) → t.marks ≡ (if b then suc (marked_among t (ready_slots t)) else marked_among t (ready_slots t)) → (if b then t.marks else t.marks + 1) ≡ suc (marked_among t (ready_slots t))
+    go : (b : Bool) → t.marks ≡ (if b then suc (marked_among t (ready_slots t)) else marked_among t (ready_slots t)) → (if b then t.marks else t.marks + 1)
+        ≡ suc (marked_among t (ready_slots t))
     go true e = e
     go false e = omega (arith, e)
 
@@ -106,7 +118,8 @@ marked_stands t n m p a = record {
         ap (λ b. b || has m.marks (n.name i)) (names_apart t n m a.stands i p l (taken_live t p a.taken) ne) ∙ a.stands.marks i l ∙ sym (mark_there t p i ne)
   ];
   root = a.stands.root;
-  born = λ i l h. let b : Born t n i = a.stands.born i l h in record { lives = b.lives; fork = b.fork; number = b.number; named = b.named; earlier = b.earlier };
+  born = λ i l h. let b : Born t n i = a.stands.born i l h in
+      record { lives = b.lives; fork = b.fork; number = b.number; named = b.named; earlier = b.earlier };
   awaits = a.stands.awaits;
 }
 
@@ -115,7 +128,8 @@ marked_at_slot t n m p a = record { table = marked_table t p a.table; taken = ma
 
 -- ---- a process stands at its `when`
 
-module _ (t u : Table) (slot : ℕ) (act : Activity) (table : IsTable t) (taken : IsTaken t slot) (put : PutsProcess 0 slot (at_its_when (process_at t slot) act) t u) where
+module _ (t u : Table) (slot : ℕ) (act : Activity) (table : IsTable t) (taken : IsTaken t slot)
+    (put : PutsProcess 0 slot (at_its_when (process_at t slot) act) t u) where
   pub stood_ready : ready_slots u ≡ ready_slots t ++ slot ∷ []
   stood_ready = put_list t u 0 slot (at_its_when (process_at t slot) act) put table.sound (omega arith)
 
@@ -126,7 +140,8 @@ module _ (t u : Table) (slot : ℕ) (act : Activity) (table : IsTable t) (taken 
         ∙ ap (marked_among t) (sym stood_ready) ∙ marked_same t u (ready_slots u) (λ i h. ap (λ ms. slice_index_or ms i false) (sym put.marked));
   }
     where
-      go : (b : Bool) → (if b then suc (marked_among t (ready_slots t)) else marked_among t (ready_slots t)) ≡ marked_among t (ready_slots t) + (if b then 1 else 0)
+      go : (b : Bool) → (if b then suc (marked_among t (ready_slots t)) else marked_among t (ready_slots t)) ≡ marked_among t (ready_slots t) +
+          (if b then 1 else 0)
       go true = omega arith
       go false = omega arith
 
@@ -145,7 +160,8 @@ module _ (t u : Table) (slot : ℕ) (act : Activity) (table : IsTable t) (taken 
           free = ap length (put_other t u 0 slot (at_its_when (process_at t slot) act) put table.sound (omega arith) 1 (λ e. omega (arith, e)));
           forks_here = omega arith;
           forks_there = λ i ne. refl;
-          found_here = find-with_at-same k.activities (n.name slot) (activity_of r.local a.forks mach.at_when) ∙ ap (λ x. Some (activity_of x a.forks mach.at_when)) l ∙ ap (λ x. Some (activity_of (local_of store act) x mach.at_when)) f.forked;
+          found_here = find-with_at-same k.activities (n.name slot) (activity_of r.local a.forks mach.at_when)
+              ∙ ap (λ x. Some (activity_of x a.forks mach.at_when)) l ∙ ap (λ x. Some (activity_of (local_of store act) x mach.at_when)) f.forked;
           found_there = λ q ne. find-with_at-other k.activities (n.name slot) q (activity_of r.local a.forks mach.at_when) ne ∙ f.others q ne;
           named = names-with_at k.activities (n.name slot) (activity_of r.local a.forks mach.at_when) a f.found ∙ f.named;
           marks = λ i h. ap (λ ys. has ys (n.name i)) e ∙ s.marks i h ∙ ap (λ ys. slice_index_or ys i false) (sym put.marked);
@@ -161,7 +177,8 @@ module _ (t u : Table) (slot : ℕ) (act : Activity) (table : IsTable t) (taken 
 pub all_ready : (t : Table) (n : Naming) (m : Machine) (p : ℕ) → At t n m p → (u : Table) → ready_slots u ≡ ready_slots t ++ p ∷ [] →
     (t.marks == length (ready_slots u)) ≡ all_marked m.marks (n.name p ∷ map n.name (ready_slots t))
 all_ready t n m p a u e =
-    ap (λ x. nat_eq x (length (ready_slots u))) a.taken.counted ∙ ap (nat_eq (marked_among t (p ∷ ready_slots t))) (ap length e ∙ length_push (ready_slots t) p ∙ one (length (ready_slots t)))
+    ap (λ x. nat_eq x (length (ready_slots u))) a.taken.counted ∙ ap (nat_eq (marked_among t (p ∷ ready_slots t)))
+    (ap length e ∙ length_push (ready_slots t) p ∙ one (length (ready_slots t)))
     ∙ sym (all_marked-among t m.marks n.name (p ∷ ready_slots t) (λ i h. a.stands.marks i (live i h)))
   where
     one : (x : ℕ) → x + 1 ≡ suc x

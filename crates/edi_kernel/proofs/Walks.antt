@@ -7,7 +7,8 @@ use Rattle.edi_calls.specs.Outcome as outcome
 use Rattle.edi_calls.proofs.Tables.{find-with_at-same, find-with_at-other}
 use Rattle.edi_target.specs.Op.{Instruction}
 use Rattle.edi_target.specs.Effect.{Turn, entering, leaving, looping, arriving, again, forking, exiting, finishing}
-use Rattle.edi_target.specs.Mach.{Running, Answer, on, behind, turned, over, local_step, Activity, ready, Machine, running_of, activity_of, back, at_turn, kernel, is_first, step_of, step}
+use Rattle.edi_target.specs.Mach.{Running, Answer, on, behind, turned, over, local_step, Activity, ready, Machine, running_of, activity_of, back, at_turn}
+use Rattle.edi_target.specs.Mach.{kernel, is_first, step_of, step}
 use Rattle.edi_kernel.specs.Stretch.{Paused, going, pausing, stopping, after_answer, after_turn, stretch, walk_turn, walk_on, walked}
 use Rattle.edi_kernel.specs.Stints as stints
 use Rattle.edi_kernel.specs.Stints.{Stint, stint, stint_after, goes_with, followed}
@@ -18,7 +19,8 @@ pub names-with_at : {A : Type 0} (es : tables.Table A) (p : Name) (a b : A) → 
 names-with_at [] p a b e = absurd (cc)
 names-with_at (x ∷ es) p a b e = go (same p x.0) e (names-with_at es p a b)
   where
-    go : (d : Bool) → (if d then Some x.1 else find es p) ≡ Some b → (find es p ≡ Some b → names (with_at es p a) ≡ names es) → names (if d then (x.0, a) ∷ es else x ∷ with_at es p a) ≡ (x.0 ∷ names es)
+    go : (d : Bool) → (if d then Some x.1 else find es p) ≡ Some b → (find es p ≡ Some b → names (with_at es p a) ≡ names es)
+        → names (if d then (x.0, a) ∷ es else x ∷ with_at es p a) ≡ (x.0 ∷ names es)
     go true f ih = refl
     go false f ih = ap (λ ns. x.0 ∷ ns) (ih f)
 
@@ -31,7 +33,8 @@ pub record Follows (m k : Machine) (p : Name) (forks : ℕ) (marks : List Name) 
   pub marks_are : k.marks ≡ marks
 
 -- it still is where p is given another activity
-pub written : (m k : Machine) (p : Name) (forks : ℕ) (marks marks' : List Name) (a b : Activity) (r : Running) → Follows m k p forks marks a → b.forks ≡ forks → Follows m (back k p b marks' r) p forks marks' b
+pub written : (m k : Machine) (p : Name) (forks : ℕ) (marks marks' : List Name) (a b : Activity) (r : Running) → Follows m k p forks marks a → b.forks ≡ forks
+    → Follows m (back k p b marks' r) p forks marks' b
 written m k p forks marks marks' a b r f e = record {
   found = find-with_at-same k.activities p b;
   forked = e;
@@ -76,21 +79,30 @@ module _ (fetch : ℕ → Option (Instruction × ℕ)) (m : Machine) (p : Name) 
       step fetch k p others ≡ kernel k p others a (local_step fetch (length m.activities) (is_first p) r)
   step_is k a r found runs named =
       ap (step_of fetch k p others) found
-      ∙ ap (λ n. kernel k p others a (local_step fetch n (is_first p) (running_of k a))) (sym (length-names k.activities) ∙ ap length named ∙ length-names m.activities)
+      ∙ ap (λ n. kernel k p others a (local_step fetch n (is_first p) (running_of k a)))
+      (sym (length-names k.activities) ∙ ap length named ∙ length-names m.activities)
       ∙ ap (λ r. kernel k p others a (local_step fetch (length m.activities) (is_first p) r)) runs
 
   pub comes : (n : ℕ) (k : Machine) (a : Activity) (r : Running) (cleared : Bool) → Follows m k p forks (marks_after cleared) a → running_of k a ≡ r →
       Comes n k (stretch fetch (length m.activities) (is_first p) n r cleared)
   comes zero k a r cleared f e = tt
   comes (suc n) k a r cleared f e =
-      by_answer (local_step fetch (length m.activities) (is_first p) r) (ap (stint_after (λ m. stint fetch n m p others)) (step_is k a r f.found e f.named)) (comes n)
+      by_answer (local_step fetch (length m.activities) (is_first p) r) (ap (stint_after (λ m. stint fetch n m p others)) (step_is k a r f.found e f.named))
+      (comes n)
     where
       by_turn : (turn : Turn) (s : Running) → stint fetch (suc n) k p others ≡ stint_after (λ m. stint fetch n m p others) (at_turn k p others a turn s) →
-          ((l : Machine) (b : Activity) (s : Running) (cleared : Bool) → Follows m l p forks (marks_after cleared) b → running_of l b ≡ s → Comes n l (stretch fetch (length m.activities) (is_first p) n s cleared)) →
+          ((l : Machine) (b : Activity) (s : Running) (cleared : Bool) → Follows m l p forks (marks_after cleared) b → running_of l b ≡ s
+          → Comes n l (stretch fetch (length m.activities) (is_first p) n s cleared)) →
           Comes (suc n) k (after_turn (stretch fetch (length m.activities) (is_first p) n) cleared turn s)
-      by_turn entering s g more = one_more n k (back k p (activity_of s.local a.forks ready) [] s) _ g (more (back k p (activity_of s.local a.forks ready) [] s) (activity_of s.local a.forks ready) s true (written m k p forks _ [] a (activity_of s.local a.forks ready) s f f.forked) refl)
-      by_turn leaving s g more = one_more n k (back k p (activity_of s.local a.forks ready) [] s) _ g (more (back k p (activity_of s.local a.forks ready) [] s) (activity_of s.local a.forks ready) s true (written m k p forks _ [] a (activity_of s.local a.forks ready) s f f.forked) refl)
-      by_turn looping s g more = one_more n k (back k p (activity_of s.local a.forks ready) [] s) _ g (more (back k p (activity_of s.local a.forks ready) [] s) (activity_of s.local a.forks ready) s true (written m k p forks _ [] a (activity_of s.local a.forks ready) s f f.forked) refl)
+      by_turn entering s g more = one_more n k (back k p (activity_of s.local a.forks ready) [] s) _ g
+          (more (back k p (activity_of s.local a.forks ready) [] s) (activity_of s.local a.forks ready) s true
+          (written m k p forks _ [] a (activity_of s.local a.forks ready) s f f.forked) refl)
+      by_turn leaving s g more = one_more n k (back k p (activity_of s.local a.forks ready) [] s) _ g
+          (more (back k p (activity_of s.local a.forks ready) [] s) (activity_of s.local a.forks ready) s true
+          (written m k p forks _ [] a (activity_of s.local a.forks ready) s f f.forked) refl)
+      by_turn looping s g more = one_more n k (back k p (activity_of s.local a.forks ready) [] s) _ g
+          (more (back k p (activity_of s.local a.forks ready) [] s) (activity_of s.local a.forks ready) s true
+          (written m k p forks _ [] a (activity_of s.local a.forks ready) s f f.forked) refl)
       by_turn arriving s g more = record { machine = k; activity = a; rest = n; follows = f; is = g }
       by_turn (again marks) s g more = record { machine = k; activity = a; rest = n; follows = f; is = g }
       by_turn (forking branches) s g more = record { machine = k; activity = a; rest = n; follows = f; is = g }
@@ -98,13 +110,17 @@ module _ (fetch : ℕ → Option (Instruction × ℕ)) (m : Machine) (p : Name) 
       by_turn finishing s g more = record { machine = k; activity = a; rest = n; follows = f; is = g }
 
       by_answer : (answer : Answer) → stint fetch (suc n) k p others ≡ stint_after (λ m. stint fetch n m p others) (kernel k p others a answer) →
-          ((l : Machine) (b : Activity) (s : Running) (cleared : Bool) → Follows m l p forks (marks_after cleared) b → running_of l b ≡ s → Comes n l (stretch fetch (length m.activities) (is_first p) n s cleared)) →
+          ((l : Machine) (b : Activity) (s : Running) (cleared : Bool) → Follows m l p forks (marks_after cleared) b → running_of l b ≡ s
+          → Comes n l (stretch fetch (length m.activities) (is_first p) n s cleared)) →
           Comes (suc n) k (after_answer (stretch fetch (length m.activities) (is_first p) n) cleared answer)
       by_answer (on s) g more =
           one_more n k (back k p (activity_of s.local a.forks ready) k.marks s) _ g
           (more (back k p (activity_of s.local a.forks ready) k.marks s) (activity_of s.local a.forks ready) s cleared
-          (subst (λ ms. Follows m (back k p (activity_of s.local a.forks ready) k.marks s) p forks ms (activity_of s.local a.forks ready)) f.marks_are (written m k p forks _ k.marks a (activity_of s.local a.forks ready) s f f.forked)) refl)
-      by_answer (behind s) g more = one_more n k (back k p (activity_of s.local a.forks ready) [] s) _ g (more (back k p (activity_of s.local a.forks ready) [] s) (activity_of s.local a.forks ready) s true (written m k p forks _ [] a (activity_of s.local a.forks ready) s f f.forked) refl)
+          (subst (λ ms. Follows m (back k p (activity_of s.local a.forks ready) k.marks s) p forks ms (activity_of s.local a.forks ready)) f.marks_are
+          (written m k p forks _ k.marks a (activity_of s.local a.forks ready) s f f.forked)) refl)
+      by_answer (behind s) g more = one_more n k (back k p (activity_of s.local a.forks ready) [] s) _ g
+          (more (back k p (activity_of s.local a.forks ready) [] s) (activity_of s.local a.forks ready) s true
+          (written m k p forks _ [] a (activity_of s.local a.forks ready) s f f.forked) refl)
       by_answer (turned turn s) g more = by_turn turn s g more
       by_answer (over ending s) g more = record { machine = k; activity = a; follows = f; is = g }
 
@@ -117,7 +133,8 @@ module _ (fetch : ℕ → Option (Instruction × ℕ)) (m : Machine) (p : Name) 
     pub runs : running_of machine activity ≡ r
     pub is : followed fetch n k p others ≡ Some machine
 
-  walk_more : (n : ℕ) (k l : Machine) (r : Running) (c : Bool) → followed fetch (suc n) k p others ≡ followed fetch n l p others → Walked n l r c → Walked (suc n) k r c
+  walk_more : (n : ℕ) (k l : Machine) (r : Running) (c : Bool) → followed fetch (suc n) k p others ≡ followed fetch n l p others → Walked n l r c
+      → Walked (suc n) k r c
   walk_more n k l r c e w = record { machine = w.machine; activity = w.activity; follows = w.follows; runs = w.runs; is = e ∙ w.is }
 
   some_same : (x y : Running × Bool) → Some x ≡ Some y → x ≡ y
@@ -129,20 +146,29 @@ module _ (fetch : ℕ → Option (Instruction × ℕ)) (m : Machine) (p : Name) 
       (l : Machine) (b : Activity) (s : Running) (cleared : Bool) (to : Running) (c : Bool) → Follows m l p forks (marks_after cleared) b → running_of l b ≡ s →
       walked fetch (length m.activities) (is_first p) n s cleared ≡ Some (to, c) → Walked n l to c
 
-  pub walks : (n : ℕ) (k : Machine) (a : Activity) (r : Running) (cleared : Bool) (to : Running) (c : Bool) → Follows m k p forks (marks_after cleared) a → running_of k a ≡ r →
+  pub walks : (n : ℕ) (k : Machine) (a : Activity) (r : Running) (cleared : Bool) (to : Running) (c : Bool) → Follows m k p forks (marks_after cleared) a
+      → running_of k a ≡ r →
       walked fetch (length m.activities) (is_first p) n r cleared ≡ Some (to, c) → Walked n k to c
   walks zero k a r cleared to c f e w =
       let same = some_same (r, cleared) (to, c) w in
-      record { machine = k; activity = a; follows = subst (λ b. Follows m k p forks (marks_after b) a) (ap (λ x. x.1) same) f; runs = e ∙ ap (λ x. x.0) same; is = refl }
+      record {
+        machine = k;
+        activity = a;
+        follows = subst (λ b. Follows m k p forks (marks_after b) a) (ap (λ x. x.1) same) f;
+        runs = e ∙ ap (λ x. x.0) same;
+        is = refl;
+      }
   walks (suc n) k a r cleared to c f e w =
-      by_answer (local_step fetch (length m.activities) (is_first p) r) (ap (goes_with (λ m. followed fetch n m p others)) (step_is k a r f.found e f.named)) w (walks n)
+      by_answer (local_step fetch (length m.activities) (is_first p) r) (ap (goes_with (λ m. followed fetch n m p others)) (step_is k a r f.found e f.named))
+      w (walks n)
     where
       -- it goes on, and the marks are taken away
       cleared_on : (s : Running) → followed fetch (suc n) k p others ≡ followed fetch n (back k p (activity_of s.local a.forks ready) [] s) p others →
           walked fetch (length m.activities) (is_first p) n s true ≡ Some (to, c) → Walks n → Walked (suc n) k to c
       cleared_on s g h more =
           walk_more n k (back k p (activity_of s.local a.forks ready) [] s) to c g
-          (more (back k p (activity_of s.local a.forks ready) [] s) (activity_of s.local a.forks ready) s true to c (written m k p forks _ [] a (activity_of s.local a.forks ready) s f f.forked) refl h)
+          (more (back k p (activity_of s.local a.forks ready) [] s) (activity_of s.local a.forks ready) s true to c
+          (written m k p forks _ [] a (activity_of s.local a.forks ready) s f f.forked) refl h)
 
       by_turn : (turn : Turn) (s : Running) → followed fetch (suc n) k p others ≡ goes_with (λ m. followed fetch n m p others) (at_turn k p others a turn s) →
           walk_turn (walked fetch (length m.activities) (is_first p) n) turn s ≡ Some (to, c) → Walks n → Walked (suc n) k to c
@@ -160,7 +186,8 @@ module _ (fetch : ℕ → Option (Instruction × ℕ)) (m : Machine) (p : Name) 
       by_answer (on s) g h more =
           walk_more n k (back k p (activity_of s.local a.forks ready) k.marks s) to c g
           (more (back k p (activity_of s.local a.forks ready) k.marks s) (activity_of s.local a.forks ready) s cleared to c
-          (subst (λ ms. Follows m (back k p (activity_of s.local a.forks ready) k.marks s) p forks ms (activity_of s.local a.forks ready)) f.marks_are (written m k p forks _ k.marks a (activity_of s.local a.forks ready) s f f.forked)) refl h)
+          (subst (λ ms. Follows m (back k p (activity_of s.local a.forks ready) k.marks s) p forks ms (activity_of s.local a.forks ready)) f.marks_are
+          (written m k p forks _ k.marks a (activity_of s.local a.forks ready) s f f.forked)) refl h)
       by_answer (behind s) g h more = cleared_on s g h more
       by_answer (turned turn s) g h more = by_turn turn s g h more
       by_answer (over ending s) g h more = absurd (cc)

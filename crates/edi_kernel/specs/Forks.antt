@@ -15,7 +15,8 @@ abbrev pub share_in : Activity → List Branch → ℕ
 share_in parent branches = share_of (local_of [] parent) (length branches)
 
 -- child i begins after the children that have begun
-pub record OneMore (slot : ℕ) (parent : Activity) (branches : List Branch) (i : ℕ) (before : List ℕ → Table → Type 0) (store : List ℕ) (table : Table) : Type 0 where
+pub record OneMore (slot : ℕ) (parent : Activity) (branches : List Branch) (i : ℕ) (before : List ℕ → Table → Type 0) (store : List ℕ) (table : Table) : Type
+    0 where
   pub store_before : List ℕ
   pub table_before : Table
   pub begun : before store_before table_before

@@ -30,7 +30,8 @@ module _ (code : CodeParts) (system : State) (bound : ℕ) (choices : Choices) (
 
   -- each state of the past is that of a moment
   abbrev pub PastIsOfMoments : Type 0
-  PastIsOfMoments = (n : ℕ) (s : State) → Contains (moments_of system (past_at n)) s → (s ≡ system) ⊎ ((k : ℕ) × (x : Moment) × IsMomentAfter k x × (x.machine.system ≡ s))
+  PastIsOfMoments = (n : ℕ) (s : State) → Contains (moments_of system (past_at n)) s → (s ≡ system)
+      ⊎ ((k : ℕ) × (x : Moment) × IsMomentAfter k x × (x.machine.system ≡ s))
 
 -- so of every run of every code, however many choices were drawn before it
 abbrev pub OfEveryRun : (CodeParts → State → ℕ → Choices → ℕ → Type 0) → Type 0

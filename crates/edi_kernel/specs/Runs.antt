@@ -93,7 +93,8 @@ pub record GoesRound (words : List ℕ) (bound : ℕ) (k : KernelState) (now : S
   pub system : machine.system ≡ now
   pub turns : machine.turns ≡ bound - k.used
 
-pub record RunEnds (words : List ℕ) (bound : ℕ) (e : Ending) (k : KernelState) (now : State) (old new : Drawn) (m : Machine) (p : Name) (others : List Name) : Type 0 where
+pub record RunEnds (words : List ℕ) (bound : ℕ) (e : Ending) (k : KernelState) (now : State) (old new : Drawn) (m : Machine) (p : Name) (others : List Name) :
+    Type 0 where
   pub steps : ℕ
   pub machine : Machine
   pub end : outcome.Ending
@@ -132,17 +133,19 @@ IsAt code k s left m p others = IsAtBy k.entering code k s left m p others
 -- none drawn before this is the machine's definition itself.
 abbrev pub EndsAfter : CodeParts → State → (bound : ℕ) → Choices → (before : ℕ) → outcome.Ending → Machine → (drawn : ℕ) → Type 0
 EndsAfter code system bound choices before end m drawn =
-    (n : ℕ) × (after_step choices (run (fetch code.words) choices n) [] [] before (entered (fetch code.words code.entry) code.entry code.calls bound system) ≡ finished end m drawn)
+    (n : ℕ) × (after_step choices (run (fetch code.words) choices n) [] [] before (entered (fetch code.words code.entry) code.entry code.calls bound system)
+    ≡ finished end m drawn)
 
 -- the kernel has run this code to its end, exactly as the machine does
-pub record RunsAs (code : CodeParts) (system : State) (bound : ℕ) (old : Drawn) (e : Ending) (words : List ℕ) (used : ℕ) (now : State) (new : Drawn) : Type 0 where
-  pub machine : Machine
-  pub end : outcome.Ending
-  pub is : EndsAfter code system bound old.source old.drawn end machine new.drawn
-  pub same : EndsAs end e
-  pub memory : KeepsWords e machine.memory words
-  pub system_is : machine.system ≡ now
-  pub turns : bound - machine.turns ≡ used
+pub record RunsAs (code : CodeParts) (system : State) (bound : ℕ) (old : Drawn) (e : Ending) (words : List ℕ) (used : ℕ) (now : State) (new : Drawn) : Type 0
+  where
+    pub machine : Machine
+    pub end : outcome.Ending
+    pub is : EndsAfter code system bound old.source old.drawn end machine new.drawn
+    pub same : EndsAs end e
+    pub memory : KeepsWords e machine.memory words
+    pub system_is : machine.system ≡ now
+    pub turns : bound - machine.turns ≡ used
 
 -- An object outside failed in the system call at which the run of this code stands after some number of instructions. Up
 -- to there each instruction did, and each system call was answered, as the machine's definition has it; that call was to
@@ -162,5 +165,6 @@ RunsTo code system bound old e words used now new = RunsAs code system bound old
 -- where no choice had been drawn before, a run of the kernel has an outcome of the machine's definition
 abbrev pub RunsAreTheMachines : Type 0
 RunsAreTheMachines =
-    (code : CodeParts) (system : State) (bound : ℕ) (old new : Drawn) (e : Ending) (words : List ℕ) (used : ℕ) (now : State) → old.drawn ≡ 0 → (r : RunsAs code system bound old e words used now new) →
+    (code : CodeParts) (system : State) (bound : ℕ) (old new : Drawn) (e : Ending) (words : List ℕ) (used : ℕ) (now : State) → old.drawn ≡ 0
+    → (r : RunsAs code system bound old e words used now new) →
     Mach (fetch code.words) code.entry code.calls system bound old.source (outcome_of now r.end used new.drawn)

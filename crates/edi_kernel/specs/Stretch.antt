@@ -169,7 +169,8 @@ OneStep words live is_first was cleared result now is_cleared =
 -- where a stretch from `r` ends, and where its activity is on the way, there those of one from `was` are as well
 pub record Reaches (words : List ℕ) (live : ℕ) (is_first : Bool) (was : Running) (cleared : Bool) (r : Running) (is_cleared : Bool) : Type 0 where
   pub ends : (n : ℕ) (x : Paused) → stretch (fetch words) live is_first n r is_cleared ≡ x → (k : ℕ) × (stretch (fetch words) live is_first k was cleared ≡ x)
-  pub gets : (n : ℕ) (x : Option (Running × Bool)) → walked (fetch words) live is_first n r is_cleared ≡ x → (k : ℕ) × (walked (fetch words) live is_first k was cleared ≡ x)
+  pub gets : (n : ℕ) (x : Option (Running × Bool)) → walked (fetch words) live is_first n r is_cleared ≡ x → (k : ℕ)
+      × (walked (fetch words) live is_first k was cleared ≡ x)
 
 -- a stretch that an object outside ended, in the system call of the instruction that it had reached
 pub record Breaks (words : List ℕ) (live : ℕ) (is_first : Bool) (was : Running) (cleared : Bool) (now : Running) : Type 0 where
@@ -180,11 +181,12 @@ pub record Breaks (words : List ℕ) (live : ℕ) (is_first : Bool) (was : Runni
   pub torn : Torn words live is_first at now
 
 -- a stretch that pauses as the definition says
-pub record Arrives (words : List ℕ) (live : ℕ) (is_first : Bool) (was : Running) (cleared : Bool) (pause : Pause) (now : Running) (is_cleared : Bool) : Type 0 where
-  pub steps : ℕ
-  pub end : Paused
-  pub is : stretch (fetch words) live is_first steps was cleared ≡ end
-  pub pauses : Pauses words end pause now is_cleared
+pub record Arrives (words : List ℕ) (live : ℕ) (is_first : Bool) (was : Running) (cleared : Bool) (pause : Pause) (now : Running) (is_cleared : Bool) : Type 0
+  where
+    pub steps : ℕ
+    pub end : Paused
+    pub is : stretch (fetch words) live is_first steps was cleared ≡ end
+    pub pauses : Pauses words end pause now is_cleared
 
 abbrev pub Stretches : List ℕ → (live : ℕ) → (is_first : Bool) → (was : Running) → Bool → Pause → (now : Running) → Bool → Type 0
 Stretches words live is_first was cleared (pause.Over ending.Fault) now is_cleared = Breaks words live is_first was cleared now

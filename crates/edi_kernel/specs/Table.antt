@@ -1,5 +1,6 @@
 -- Words of contracts. What the table of processes keeps of each slot.
-use Rattle.std.specs.Prelude.{◌≡◌, ℕ, ◌+◌, ◌-◌, ◌<◌, ◌==◌, Bool, true, false, ◌&&◌, not, nat_eq, nat_le, nat_lt, if◌then◌else◌, List, [], length, replicate, slice_index_or, slice_set, Option, Some, None}
+use Rattle.std.specs.Prelude.{◌≡◌, ℕ, ◌+◌, ◌-◌, ◌<◌, ◌==◌, Bool, true, false, ◌&&◌, not, nat_eq, nat_le, nat_lt, if◌then◌else◌, List, [], length, replicate}
+use Rattle.std.specs.Prelude.{slice_index_or, slice_set, Option, Some, None}
 use Rattle.edi_machine.specs.declared.activity.Activity.{Activity}
 use Rattle.edi_ring.specs.Lists.{list_at, home_of, appended, without, IsSound}
 use Rattle.edi_kernel.specs.declared.table.Standing.{Standing}

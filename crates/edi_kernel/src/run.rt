@@ -100,7 +100,8 @@ impl KernelState {
         requires kernel { IsKernel self.old }
         requires free { self.old.taken ≡ None }
         requires some { 0 < length (ready_slots self.old.table) }
-        ensures exact { choices.old.drawn < 2 ^ 64 - 1 → (m : Machine) (ready : List Name) → Holds self.old m None ready → Chooses self.new m choices.old choices.new ready }
+        ensures exact { choices.old.drawn < 2 ^ 64 - 1 → (m : Machine) (ready : List Name) → Holds self.old m None ready → Chooses self.new m choices.old
+            choices.new ready }
         ensures takes { TakesNext self.old self.new choices.old choices.new }
         ensures kernel { IsKernel self.new }
         ensures taken { IsSome self.new.taken }
@@ -119,7 +120,8 @@ impl KernelState {
     fn proceed(&mut self, choices: &mut Choices) -> Option<Ending>
         requires kernel { IsKernel self.old }
         requires free { self.old.taken ≡ None }
-        ensures exact { choices.old.drawn < 2 ^ 64 - 1 → (m : Machine) (ready : List Name) → Holds self.old m None ready → Proceeds result self.new m choices.old choices.new ready }
+        ensures exact { choices.old.drawn < 2 ^ 64 - 1 → (m : Machine) (ready : List Name) → Holds self.old m None ready
+            → Proceeds result self.new m choices.old choices.new ready }
         ensures kernel { IsKernel self.new }
         ensures taken { result ≡ None → IsSome self.new.taken }
         ensures source { choices.new.source ≡ choices.old.source }
@@ -148,7 +150,8 @@ impl KernelState {
         requires taken { IsSome self.old.taken }
         requires working { C.failed calls.old None }
         requires used { self.old.used ≤ bound }
-        ensures exact { choices.old.drawn < 2 ^ 64 - 1 → WhereTold (C.state calls.old) (C.state calls.new) (λ s t. (m : Machine) (p : Name) (others : List Name) →
+        ensures exact { choices.old.drawn < 2 ^ 64 - 1 → WhereTold (C.state calls.old) (C.state calls.new)
+            (λ s t. (m : Machine) (p : Name) (others : List Name) →
             Holds self.old m (Some p) others → m.system ≡ s → m.turns ≡ bound - self.old.used →
             Rounds code.now.words bound result self.new t choices.old choices.new m p others) }
         ensures kernel { IsKernel self.new }

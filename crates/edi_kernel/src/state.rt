@@ -102,7 +102,8 @@ impl KernelState {
         requires table { IsTable self.old.table }
         requires taken { IsTaken self.old.table slot }
         requires ordered { IsOrdered activity.now }
-        requires allowed { Allows (Some (Pause.At kind)) code.now.words (32 - length (free_slots self.old.table)) (slot == 0) (local_of self.old.store activity.now) }
+        requires allowed { Allows (Some (Pause.At kind)) code.now.words (32 - length (free_slots self.old.table)) (slot == 0)
+            (local_of self.old.store activity.now) }
         requires marks { self.old.table.marks < 64 }
         requires arrived { self.old.arrived ≡ None }
         ensures standing { StandsAfter result (Some slot) (ready_slots self.old.table) self.new.table self.new.arrived }
@@ -181,7 +182,8 @@ impl KernelState {
             result.0 (running_in self.new.store result.1.activity t result.1.left) result.1.cleared) }
         ensures same { self.new ≡ record self.old { store = self.new.store } }
         ensures standstill { is_standstill result.0 ≡ false }
-        ensures allowed { Allows (Some result.0) code.now.words (32 - length (free_slots self.old.table)) (slot == 0) (local_of self.new.store result.1.activity) }
+        ensures allowed { Allows (Some result.0) code.now.words (32 - length (free_slots self.old.table)) (slot == 0)
+            (local_of self.new.store result.1.activity) }
         ensures less { result.1.left ≤ left }
         ensures spends { Spends (Some result.0) left result.1.left }
         ensures later { (outside : Outside) → C.faults calls.old outside ≤ C.faults calls.new outside }

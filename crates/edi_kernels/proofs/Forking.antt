@@ -1,5 +1,6 @@
 -- The children of a fork, one at a time.
-use Rattle.std.proofs.Common.{◌≡◌, ℕ, suc, ◌+◌, ◌-◌, ◌<◌, ◌≤◌, ◌^◌, ◌⊎◌, inl, inr, false, if◌then◌else◌, List, [], ◌∷◌, ◌++◌, map, length, Option, Some, None, refl, sym, subst, ap, ◌∙◌, arith}
+use Rattle.std.proofs.Common.{◌≡◌, ℕ, suc, ◌+◌, ◌-◌, ◌<◌, ◌≤◌, ◌^◌, ◌⊎◌, inl, inr, false, if◌then◌else◌, List, [], ◌∷◌, ◌++◌, map, length, Option, Some}
+use Rattle.std.proofs.Common.{None, refl, sym, subst, ap, ◌∙◌, arith}
 use Rattle.std.specs.Prelude.{slice_index_or, sum_by, option_to_list}
 use Rattle.edi_calls.specs.Names.{Name, same, find, names}
 use Rattle.edi_calls.specs.Ready.{child}
@@ -15,7 +16,8 @@ use Rattle.edi_unit.specs.Tree.{Block}
 use Rattle.edi_unit.specs.Need.{slots, slot_words, acts_height}
 use Rattle.edi_unit.specs.Fits.{BranchFits, BlockFits, KindFits}
 use Rattle.edi_meaning.specs.Store as meaning
-use Rattle.edi_meaning.specs.Store.{Spot, Location, system_procedure, block_procedure, Cell, value, location, procedure, no_cell, Instance, Store, Shape, instances, frames, shape, frame_at, cells_in, cell, used, now, Owns, IsLive, Older, within, above}
+use Rattle.edi_meaning.specs.Store.{Spot, Location, system_procedure, block_procedure, Cell, value, location, procedure, no_cell, Instance, Store, Shape}
+use Rattle.edi_meaning.specs.Store.{instances, frames, shape, frame_at, cells_in, cell, used, now, Owns, IsLive, Older, within, above}
 use Rattle.edi_meaning.specs.Whole.{result_cells, instance_of}
 use Rattle.edi_meaning.specs.Step as source
 use Rattle.edi_meaning.specs.Step.{Process, Processes, branch_end, body_of, child_process}

@@ -1,5 +1,6 @@
 -- A process that goes on, that arrives at its `when`, or that stands there again: the kernels agree.
-use Rattle.std.proofs.Common.{◌≡◌, ℕ, ◌+◌, ◌⊎◌, inl, inr, Bool, true, false, if◌then◌else◌, List, [], ◌∷◌, ◌++◌, length, length-append, Some, refl, sym, subst, ap, ◌∙◌, arith}
+use Rattle.std.proofs.Common.{◌≡◌, ℕ, ◌+◌, ◌⊎◌, inl, inr, Bool, true, false, if◌then◌else◌, List, [], ◌∷◌, ◌++◌, length, length-append, Some, refl, sym}
+use Rattle.std.proofs.Common.{subst, ap, ◌∙◌, arith}
 use Rattle.std.specs.Prelude.{unwrap_or}
 use Rattle.edi_calls.specs.Names.{Name, same, find}
 use Rattle.edi_calls.specs.Outcome as outcome
@@ -9,7 +10,8 @@ use Rattle.edi_unit.specs.Tree.{Clauses}
 use Rattle.edi_meaning.specs.Store.{shape}
 use Rattle.edi_meaning.specs.Evaluation.{World, Evaluation, gives}
 use Rattle.edi_meaning.specs.Step as source
-use Rattle.edi_meaning.specs.Step.{Process, Processes, Position, Work, Asks, goes, arrives, again, is_running, ready, at_when, waiting, local_step, work_step, kernel}
+use Rattle.edi_meaning.specs.Step.{Process, Processes, Position, Work, Asks, goes, arrives, again, is_running, ready, at_when, waiting, local_step}
+use Rattle.edi_meaning.specs.Step.{work_step, kernel}
 use Rattle.edi_meaning.proofs.Kernel.{After}
 use Rattle.edi_meaning.proofs.Dangling.{Coherent}
 use Rattle.edi_meaning.proofs.Names.{some_is}
@@ -27,7 +29,8 @@ use Rattle.edi_spots.specs.Follows.{GoesOn, Waits, resting}
 use Rattle.edi_spots.specs.Related.{no_process, standing_of, activity, Related, MarksAgree}
 use Rattle.edi_spots.specs.Lands.{step, Keeps, Switches, LandsTested, Lands, Taken, Outside, Stepping, scene, taken_as, GoesClaim, ArrivesClaim, AgainClaim}
 use Rattle.edi_kernels.proofs.Lifting.{marks_after, Before}
-use Rattle.edi_kernels.proofs.Kernels.{activity_here, found_here, size_here, in_outer, before_here, stepped, words_there, adds_there, passes_sound, step_after_sound}
+use Rattle.edi_kernels.proofs.Kernels.{activity_here, found_here, size_here, in_outer, before_here, stepped, words_there, adds_there, passes_sound}
+use Rattle.edi_kernels.proofs.Kernels.{step_after_sound}
 use Rattle.edi_kernels.proofs.Settled.{process_same, Written, related_on}
 
 -- ---- the activity of p

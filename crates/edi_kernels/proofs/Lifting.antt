@@ -1,5 +1,6 @@
 -- What a process does alone, lifted to the whole machine.
-use Rattle.std.proofs.Common.{◌≡◌, ℕ, zero, suc, ◌⊎◌, inl, inr, Bool, true, false, ◌||◌, if◌then◌else◌, List, [], ◌∷◌, ◌++◌, length, Some, None, refl, sym, subst, ap, ◌∙◌}
+use Rattle.std.proofs.Common.{◌≡◌, ℕ, zero, suc, ◌⊎◌, inl, inr, Bool, true, false, ◌||◌, if◌then◌else◌, List, [], ◌∷◌, ◌++◌, length, Some, None, refl, sym}
+use Rattle.std.proofs.Common.{subst, ap, ◌∙◌}
 use Rattle.edi_calls.specs.Names.{Name, Table, same, find, with_at, without, names}
 use Rattle.edi_calls.specs.Ready.{stays}
 use Rattle.edi_calls.specs.State.{State}
@@ -9,7 +10,8 @@ use Rattle.edi_target.specs.Memory.{word}
 use Rattle.edi_target.specs.Effect.{Turn, entering, leaving, looping, arriving, again, forking, exiting, finishing}
 use Rattle.edi_target.specs.Mach as target
 use Rattle.edi_target.specs.Moments.{news_of, news_from, news_at}
-use Rattle.edi_target.specs.Mach.{Running, Answer, on, behind, turned, over, Activity, Machine, ready, running_of, activity_of, back, kernel, is_first, local_step}
+use Rattle.edi_target.specs.Mach.{Running, Answer, on, behind, turned, over, Activity, Machine, ready, running_of, activity_of, back, kernel, is_first}
+use Rattle.edi_target.specs.Mach.{local_step}
 use Rattle.edi_spots.specs.Coded.{Coded}
 use Rattle.edi_spots.specs.Walks.{onward_turn, onward, Walker, plain, Walks}
 use Rattle.edi_spots.specs.Lands.{step, Passes}

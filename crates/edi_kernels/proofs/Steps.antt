@@ -13,7 +13,8 @@ use Rattle.edi_meaning.proofs.Names.{some_is}
 use Rattle.edi_meaning.proofs.Parents.{waiting_does_not_run}
 use Rattle.edi_spots.specs.Coded.{Coded}
 use Rattle.edi_spots.specs.Related.{Queue}
-use Rattle.edi_spots.specs.Lands.{Lands, StepClaim, Stepping, LocalClaim, KernelClaim, GoesClaim, ArrivesClaim, AgainClaim, ForkClaim, LeaveClaim, EndsClaim, StepsCohere}
+use Rattle.edi_spots.specs.Lands.{Lands, StepClaim, Stepping, LocalClaim, KernelClaim, GoesClaim, ArrivesClaim, AgainClaim, ForkClaim, LeaveClaim, EndsClaim}
+use Rattle.edi_spots.specs.Lands.{StepsCohere}
 
 module _ (g : Coded) (local : LocalClaim g) (goes_claim : GoesClaim g) (arrives_claim : ArrivesClaim g) (again_claim : AgainClaim g)
     (fork_claim : ForkClaim g) (leave_claim : LeaveClaim g) (ends_claim : EndsClaim g) (cohere : StepsCohere) where

@@ -63,7 +63,8 @@ word_fixed name =
     fixed_first (symbol_beside words_mod_to_proc name) _ (fixed_beside words_mod_to_proc name refl)
     (fixed_beside words_record_to_while name refl)))
 
-fixed_word : (name : List ℕ) (o : Option Symbol) → is_name name ≡ true → word_of name ≡ o → is_fixed o ≡ true → is_fixed (Some (unwrap_or o (is.Name name))) ≡ true
+fixed_word : (name : List ℕ) (o : Option Symbol) → is_name name ≡ true → word_of name ≡ o → is_fixed o ≡ true → is_fixed (Some (unwrap_or o (is.Name name)))
+    ≡ true
 fixed_word name None h stated k = both_so _ _ (both_so _ _ h (rw stated refl)) refl
 fixed_word name (Some s) h stated k = k
 

@@ -1,5 +1,6 @@
 -- Pieces that stand at the front of a text.
-use Rattle.std.proofs.Common.{◌≡◌, ℕ, suc, ◌+◌, Bool, true, false, not, ◌||◌, ◌&&◌, cond, eqb, ltb, List, [], ◌∷◌, ◌++◌, length, take, get_or, ℤ, Result, Err, Option, None, Some, refl, sym, ap, ◌∙◌, subst, arith, one-add, append_assoc, length-append}
+use Rattle.std.proofs.Common.{◌≡◌, ℕ, suc, ◌+◌, Bool, true, false, not, ◌||◌, ◌&&◌, cond, eqb, ltb, List, [], ◌∷◌, ◌++◌, length, take, get_or, ℤ, Result}
+use Rattle.std.proofs.Common.{Err, Option, None, Some, refl, sym, ap, ◌∙◌, subst, arith, one-add, append_assoc, length-append}
 use Rattle.std.specs.Prelude.{is_some, slice_index}
 use Rattle.std.specs.List.{prefix_len, list_all}
 use Rattle.std.proofs.lemmas.Bool.Decides.{nat_tests}
@@ -7,7 +8,8 @@ use Rattle.std.proofs.Math.Seq.{take-append_seam}
 use Rattle.edi_lex.specs.Bytes.{is_separator, is_letter, is_digit, is_name_byte, is_string_byte, is_comment_byte, feeds_at, line_feeds}
 use Rattle.edi_lex.specs.Specials.{special_of, special_pair, special_with}
 use Rattle.edi_lex.specs.Spelling.{is_name, is_numeral, number_of, word_or_name}
-use Rattle.edi_lex.specs.Symbols.{space, stands, stray, too_great, comment_piece, string_piece, special_piece, longer_of, with_value, piece_of, with_front, by_piece, symbols_from}
+use Rattle.edi_lex.specs.Symbols.{space, stands, stray, too_great, comment_piece, string_piece, special_piece, longer_of, with_value, piece_of, with_front}
+use Rattle.edi_lex.specs.Symbols.{by_piece, symbols_from}
 use Rattle.edi_lex.specs.Sound.{is_special}
 use Rattle.edi_lex.specs.Reading.{comment_from}
 use Rattle.edi_lex.specs.declared.symbol.Symbol.{Symbol}
@@ -84,19 +86,22 @@ pub space_first : (b : ℕ) (rest : List ℕ) (line : ℕ) → piece_of b rest �
 unfolding symbols_from
 space_first b rest line is = ap (λ p. by_piece p line (λ k. symbols_from rest k (line + feeds_at b))) is
 
-pub name_first : (kept rest : List ℕ) (line : ℕ) → is_name kept ≡ true → stops is_name_byte rest ≡ true → symbols_from (kept ++ rest) 0 line ≡ marked (word_or_name kept) line (symbols_from rest 0 line)
+pub name_first : (kept rest : List ℕ) (line : ℕ) → is_name kept ≡ true → stops is_name_byte rest ≡ true → symbols_from (kept ++ rest) 0 line ≡ marked
+    (word_or_name kept) line (symbols_from rest 0 line)
 unfolding piece_of
 name_first [] rest line h e = absurd (cc)
 name_first (b ∷ bs) rest line h e =
     let parts = both (is_letter b) (list_all is_name_byte bs) h in
     let long : prefix_len is_name_byte (bs ++ rest) ≡ length bs = run_len is_name_byte bs rest parts.1 e in
     symbol_first b bs rest line (word_or_name (b ∷ bs)) (no_feed is_letter refl b parts.0) (no_feeds is_name_byte refl bs parts.1)
-    (rw parts.0 (ap (λ n. stands (word_or_name (b ∷ take n (bs ++ rest))) n) long ∙ ap (λ t. stands (word_or_name (b ∷ t)) (length bs)) (take-append_seam bs rest)))
+    (rw parts.0 (ap (λ n. stands (word_or_name (b ∷ take n (bs ++ rest))) n) long ∙ ap (λ t. stands (word_or_name (b ∷ t)) (length bs))
+    (take-append_seam bs rest)))
 
 digit_no_letter : (b : ℕ) → is_digit b ≡ true → is_letter b ≡ false
 digit_no_letter b h = grind (arith, nat_tests)
 
-numeral_is : (b : ℕ) (bs rest : List ℕ) → is_numeral (b ∷ bs) ≡ true → stops is_digit rest ≡ true → piece_of b (bs ++ rest) ≡ with_value (number_of (b ∷ bs)) (length bs)
+numeral_is : (b : ℕ) (bs rest : List ℕ) → is_numeral (b ∷ bs) ≡ true → stops is_digit rest ≡ true → piece_of b (bs ++ rest) ≡ with_value (number_of (b ∷ bs))
+    (length bs)
 unfolding piece_of
 numeral_is b bs rest h e =
     let parts = both (is_digit b) (list_all is_digit bs) h in
@@ -143,7 +148,8 @@ string_is k ks rest h e =
     let some : ltb 0 (length (k ∷ ks)) ≡ true = grind (arith, nat_tests) in
     rw first (
     ap (λ n. cond (ltb 0 n && eqb (get_or ((k ∷ ks) ++ rest) n 0) 39) (stands (is.Chars (take n ((k ∷ ks) ++ rest))) (n + 1)) stray) long
-    ∙ ap (λ t. cond (t && eqb (get_or ((k ∷ ks) ++ rest) (length (k ∷ ks)) 0) 39) (stands (is.Chars (take (length (k ∷ ks)) ((k ∷ ks) ++ rest))) (length (k ∷ ks) + 1)) stray) some
+    ∙ ap (λ t. cond (t && eqb (get_or ((k ∷ ks) ++ rest) (length (k ∷ ks)) 0) 39)
+    (stands (is.Chars (take (length (k ∷ ks)) ((k ∷ ks) ++ rest))) (length (k ∷ ks) + 1)) stray) some
     ∙ ap (λ t. cond (eqb t 39) (stands (is.Chars (take (length (k ∷ ks)) ((k ∷ ks) ++ rest))) (length (k ∷ ks) + 1)) stray) (at_seam (k ∷ ks) rest)
     ∙ ap (λ t. cond (eqb (get_or rest 0 0) 39) (stands (is.Chars t) (length (k ∷ ks) + 1)) stray) (take-append_seam (k ∷ ks) rest))
 
@@ -220,7 +226,8 @@ comment_is [] begun line = refl
 comment_is (b ∷ rest) begun line =
     elim (eqb b 34) as (λ t. eqb b 34 ≡ t → by_piece (comment_piece (b ∷ rest)) begun (λ k. symbols_from (b ∷ rest) k line)
     ≡ cond t (symbols_from rest 0 line) (cond (is_comment_byte b) (comment_from rest begun (line + feeds_at b)) (Err (BadCharacter begun)))) [
-      | true ↦ λ h. subst (λ x. by_piece (comment_piece (x ∷ rest)) begun (λ k. symbols_from (x ∷ rest) k line) ≡ symbols_from rest 0 line) (sym (same_byte b 34 h))
+      | true ↦ λ h. subst (λ x. by_piece (comment_piece (x ∷ rest)) begun (λ k. symbols_from (x ∷ rest) k line) ≡ symbols_from rest 0 line)
+          (sym (same_byte b 34 h))
           (ap (symbols_from rest 0) (omega arith))
       | false ↦ λ h. elim (is_comment_byte b) as (λ p. is_comment_byte b ≡ p → by_piece (comment_piece (b ∷ rest)) begun (λ k. symbols_from (b ∷ rest) k line)
           ≡ cond p (comment_from rest begun (line + feeds_at b)) (Err (BadCharacter begun))) [
@@ -239,7 +246,8 @@ comment_first rest line =
 pub special_first : (b : ℕ) (rest : List ℕ) (line : ℕ) (one : Symbol) → is_special b ≡ true → special_of b ≡ Some one → special_with b rest ≡ None
     → symbols_from (b ∷ rest) 0 line ≡ marked one line (symbols_from rest 0 line)
 special_first b rest line one h first second =
-    symbol_first b [] rest line one (special_feeds b h) refl (special_piece_is b rest h ∙ ap (λ o. longer_of o (special_with b rest)) first ∙ ap (longer_of (Some one)) second)
+    symbol_first b [] rest line one (special_feeds b h) refl
+    (special_piece_is b rest h ∙ ap (λ o. longer_of o (special_with b rest)) first ∙ ap (longer_of (Some one)) second)
 
 pub pair_feeds : (b c : ℕ) (two : Symbol) → special_pair b c ≡ Some two → feeds_at c ≡ 0
 pair_feeds b c two second =

@@ -18,7 +18,8 @@ unfolding symbols_from piece_of
 row_line_feed = refl
 
 -- the longest symbol is taken
-pub row_longest : symbols_of (codes "x:=-07<<=<>") ≡ Ok (at (is.Name (codes "x")) 1 ∷ at is.Becomes 1 ∷ at is.Minus 1 ∷ at (is.Numeral (pos 7)) 1 ∷ at is.Less 1 ∷ at is.AtMost 1 ∷ at is.NotEqual 1 ∷ [], 1)
+pub row_longest : symbols_of (codes "x:=-07<<=<>") ≡ Ok
+    (at (is.Name (codes "x")) 1 ∷ at is.Becomes 1 ∷ at is.Minus 1 ∷ at (is.Numeral (pos 7)) 1 ∷ at is.Less 1 ∷ at is.AtMost 1 ∷ at is.NotEqual 1 ∷ [], 1)
 unfolding symbols_from piece_of
 row_longest = refl
 

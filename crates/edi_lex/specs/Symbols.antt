@@ -1,6 +1,7 @@
 -- Definition. The symbols of a text. The text is cut from the front into pieces. A piece is a separator, a comment, or the
 -- longest symbol that stands there. The first place where no piece stands is the fault.
-use Rattle.std.specs.Prelude.{◌≡◌, ℤ, ℕ, zero, suc, ◌+◌, Bool, ◌&&◌, ◌||◌, nat_lt, nat_eq, ◌==◌, List, [], ◌∷◌, ◌++◌, length, take, slice_index, Result, Ok, Err, Option, Some, None, if◌then◌else◌, codes, ⊤}
+use Rattle.std.specs.Prelude.{◌≡◌, ℤ, ℕ, zero, suc, ◌+◌, Bool, ◌&&◌, ◌||◌, nat_lt, nat_eq, ◌==◌, List, [], ◌∷◌, ◌++◌, length, take, slice_index, Result, Ok}
+use Rattle.std.specs.Prelude.{Err, Option, Some, None, if◌then◌else◌, codes, ⊤}
 use Rattle.std.specs.List.{prefix_len, starts_with}
 use Rattle.edi_lex.specs.Bytes.{is_separator, is_letter, is_digit, is_name_byte, is_string_byte, is_comment_byte, feeds_at, line_feeds}
 use Rattle.edi_lex.specs.Specials.{special_of, special_with}

@@ -1,5 +1,6 @@
 -- What is pushed and popped.
-use Rattle.std.proofs.Common.{◌≡◌, ℕ, ◌+◌, ◌^◌, ◌<◌, ◌≤◌, List, [], ◌∷◌, ◌++◌, length, get_or, set, take, drop, refl, sym, ap, ap₂, ◌∙◌, arith, append_assoc, length-append, length-take}
+use Rattle.std.proofs.Common.{◌≡◌, ℕ, ◌+◌, ◌^◌, ◌<◌, ◌≤◌, List, [], ◌∷◌, ◌++◌, length, get_or, set, take, drop, refl, sym, ap, ap₂, ◌∙◌, arith, append_assoc}
+use Rattle.std.proofs.Common.{length-append, length-take}
 use Rattle.std.proofs.lemmas.Bool.{le-leb, lt-leb}
 use Rattle.std.proofs.lemmas.List.{take_more, take_at, drop_at, drop-drop}
 use Rattle.edi_store.specs.Memory.{IsMemory, words_at, written}
@@ -14,7 +15,8 @@ use Rattle.edi_machine.specs.Steps.{Gives}
 pub put_one : (memory : List ℕ) (at w : ℕ) → IsMemory memory → at < 2 ^ 16 → set memory at w ≡ written memory at (w ∷ [])
 put_one memory at w is small = sym (written-one memory at w (omega (arith, is.long)))
 
-pub written_append : (memory : List ℕ) (at : ℕ) (xs ys : List ℕ) → at + (length xs + length ys) ≤ length memory → written (written memory at xs) (at + length xs) ys ≡ written memory at (xs ++ ys)
+pub written_append : (memory : List ℕ) (at : ℕ) (xs ys : List ℕ) → at + (length xs + length ys) ≤ length memory → written (written memory at xs)
+    (at + length xs) ys ≡ written memory at (xs ++ ys)
 written_append memory at xs ys within =
     let front : List ℕ = take at memory ++ xs in
     let rest : List ℕ = drop (at + length xs) memory in
@@ -29,7 +31,8 @@ written_append memory at xs ys within =
     ∙ append_assoc (take at memory) xs (ys ++ drop (at + length (xs ++ ys)) memory)
     ∙ ap (λ l. take at memory ++ l) (sym (append_assoc xs ys (drop (at + length (xs ++ ys)) memory)))
 
-pub written_more : (memory : List ℕ) (at : ℕ) (words : List ℕ) (i : ℕ) → i < length words → at + length words ≤ length memory → set (written memory at (take i words)) (at + i) (get_or words i 0) ≡ written memory at (take (i + 1) words)
+pub written_more : (memory : List ℕ) (at : ℕ) (words : List ℕ) (i : ℕ) → i < length words → at + length words ≤ length memory
+    → set (written memory at (take i words)) (at + i) (get_or words i 0) ≡ written memory at (take (i + 1) words)
 written_more memory at words i here within =
     let count : length (take i words) ≡ i = omega (arith, length-take i words) in
     let w : ℕ = get_or words i 0 in
@@ -45,11 +48,13 @@ words_at_length memory at n is within = length-words_at memory at n (omega (arit
 -- ---- pushes
 
 -- a push where the frame has room, and where it has none
-pub push_goes : (words : List ℕ) (l : Local) (go : Local → Effect) → l.top + length words ≤ l.end → push words l go ≡ go (record l { memory = written l.memory l.top words; top = l.top + length words })
+pub push_goes : (words : List ℕ) (l : Local) (go : Local → Effect) → l.top + length words ≤ l.end
+    → push words l go ≡ go (record l { memory = written l.memory l.top words; top = l.top + length words })
 push_goes words l go room = rw (le-leb (l.top + length words) l.end room) refl
 
 pub push_bad : (words : List ℕ) (l : Local) (go : Local → Effect) → l.end < l.top + length words → push words l go ≡ bad
 push_bad words l go full = rw (lt-leb (l.top + length words) l.end full) refl
 
-pub pushed : (words : List ℕ) (l : Local) (next : ℕ) (before after : Local) → l.top + length words ≤ l.end → after ≡ record l { memory = written l.memory l.top words; top = l.top + length words; pc = next } → Gives (push words l (to next)) end.On before after
+pub pushed : (words : List ℕ) (l : Local) (next : ℕ) (before after : Local) → l.top + length words ≤ l.end
+    → after ≡ record l { memory = written l.memory l.top words; top = l.top + length words; pc = next } → Gives (push words l (to next)) end.On before after
 pushed words l next before after room same = rw (push_goes words l (to next) room) same

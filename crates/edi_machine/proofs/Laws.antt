@@ -9,7 +9,8 @@ use Rattle.edi_calls.specs.Calls.{answer_words}
 use Rattle.edi_target.specs.Op as op
 use Rattle.edi_target.specs.Op.{Instruction, Branch, is_allowed, is_count}
 use Rattle.edi_target.specs.Fetch.{fetch}
-use Rattle.edi_target.specs.Effect.{Local, entering, leaving, looping, arriving, again, forking, exiting, finishing, Effect, goes, released, asks, due, fails, bad, in_range, enter}
+use Rattle.edi_target.specs.Effect.{Local, entering, leaving, looping, arriving, again, forking, exiting, finishing, Effect, goes, released, asks, due}
+use Rattle.edi_target.specs.Effect.{fails, bad, in_range, enter}
 use Rattle.edi_target.specs.Perform.{short_cut, with_answer_address, system_call, perform, exceeds, share_of, most_processes}
 use Rattle.edi_machine.specs.Starts.{IsFork, branches_in}
 
@@ -42,7 +43,8 @@ module _ (words : List ℕ) (at : ℕ) where
   goes_law : {held : ℕ} {l : Local} → l.held ≡ held → Law held (goes l)
   goes_law h = record { law = h }
 
-  asks_law : {held number : ℕ} {arguments : List ℕ} {address : Option ℕ} {line : ℕ} {l : Local} → l.held ≡ held → Law held (asks number arguments address line l)
+  asks_law : {held number : ℕ} {arguments : List ℕ} {address : Option ℕ} {line : ℕ} {l : Local} → l.held ≡ held
+      → Law held (asks number arguments address line l)
   asks_law h = record { law = h }
 
   entering_law : {held : ℕ} {l : Local} → Law held (due entering l)
@@ -81,7 +83,8 @@ module _ (words : List ℕ) (at : ℕ) where
   entered None link back line l = bad_law
   entered (Some x) link back line l = bad_law
 
-  addressed : {held : ℕ} {go : Option ℕ → Local → Effect} (n : ℕ) (l : Local) → l.held ≡ held → ((address : Option ℕ) (m : Local) → m.held ≡ held → Law held (go address m)) → Law held (with_answer_address n l go)
+  addressed : {held : ℕ} {go : Option ℕ → Local → Effect} (n : ℕ) (l : Local) → l.held ≡ held
+      → ((address : Option ℕ) (m : Local) → m.held ≡ held → Law held (go address m)) → Law held (with_answer_address n l go)
   addressed zero l e h = h None l e
   addressed (suc n) l e h = test _ (h _ _ e)
 
@@ -91,14 +94,17 @@ module _ (words : List ℕ) (at : ℕ) where
   -- DONE ends a phase
   ended : (l : Local) (next : ℕ) → Law l.held (if nat_eq l.held 1 then released (record l { pc = next; held = 0 }) else bad)
   ended l next =
-      cond_both (nat_eq l.held 1) (released (record l { pc = next; held = 0 })) bad (Law l.held) (λ e. record { law = (eqb-true l.held 1 e, refl) }) (λ e. bad_law)
+      cond_both (nat_eq l.held 1) (released (record l { pc = next; held = 0 })) bad (Law l.held) (λ e. record { law = (eqb-true l.held 1 e, refl) })
+      (λ e. bad_law)
 
   -- a COBEGIN forks
-  forked : (live : ℕ) (is_first : Bool) (line next : ℕ) (branches : List Branch) (l : Local) → fetch words at ≡ Some (op.cobegin line branches, next) → 0 < length branches → Law l.held (perform (fetch words) live is_first (op.cobegin line branches) next l)
+  forked : (live : ℕ) (is_first : Bool) (line next : ℕ) (branches : List Branch) (l : Local) → fetch words at ≡ Some (op.cobegin line branches, next)
+      → 0 < length branches → Law l.held (perform (fetch words) live is_first (op.cobegin line branches) next l)
   forked live is_first line next branches l here some =
       either (nat_lt 0 l.held) (fails_law {c = cause.Held} {line = line})
       (either (nat_lt most_processes (live + length branches)) (fails_law {c = cause.ProcessLimit} {line = line})
-      (cond_both (list_any (exceeds (share_of l (length branches))) branches) (fails cause.VariableLimit line) (due (forking branches) (record l { pc = next })) (Law l.held)
+      (cond_both (list_any (exceeds (share_of l (length branches))) branches) (fails cause.VariableLimit line)
+      (due (forking branches) (record l { pc = next })) (Law l.held)
       (λ e. fails_law)
       (λ e. record { law = record { here = ap branches_in here; some = some; fits = e } })))
 
@@ -108,7 +114,8 @@ module _ (words : List ℕ) (at : ℕ) where
       let parts = and_parts (nat_le 1 (length branches)) _ count.0 in
       omega (arith, leb-true 1 (length branches) parts.0)
 
-  pub each_law : (live : ℕ) (is_first : Bool) (i : Instruction) (next : ℕ) (l : Local) → fetch words at ≡ Some (i, next) → is_allowed i ≡ true → Law l.held (perform (fetch words) live is_first i next l)
+  pub each_law : (live : ℕ) (is_first : Bool) (i : Instruction) (next : ℕ) (l : Local) → fetch words at ≡ Some (i, next) → is_allowed i ≡ true
+      → Law l.held (perform (fetch words) live is_first i next l)
   each_law live is_first (op.const value) next l here allowed = search (test, either, ranged, goes_law, fails_law) depth 9
   each_law live is_first (op.text words) next l here allowed = search (test, either, ranged, goes_law, fails_law) depth 9
   each_law live is_first (op.zeros count) next l here allowed = search (test, either, ranged, goes_law, fails_law) depth 9

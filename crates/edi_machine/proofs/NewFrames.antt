@@ -7,7 +7,9 @@ use Rattle.edi_store.proofs.MemoryLaws.{length-words_at, words_at-written_apart}
 use Rattle.edi_machine.proofs.Frames.{written_append}
 
 -- words that are written part by part: the first five, zeros, words from before them, and zeros
-pub frame_written : (memory : List ℕ) (at : ℕ) (first : List ℕ) (r from p k : ℕ) → IsMemory memory → length first ≡ 5 → from + p ≤ at → at + (5 + r + p + k) ≤ 2 ^ 16 → cleared (copied (cleared (written memory at first) (at + 5) r) from (at + 5 + r) p) (at + 5 + r + p) k ≡ written memory at (first ++ ((replicate r 0 ++ words_at memory from p) ++ replicate k 0))
+pub frame_written : (memory : List ℕ) (at : ℕ) (first : List ℕ) (r from p k : ℕ) → IsMemory memory → length first ≡ 5 → from + p ≤ at
+    → at + (5 + r + p + k) ≤ 2 ^ 16 → cleared (copied (cleared (written memory at first) (at + 5) r) from (at + 5 + r) p) (at + 5 + r + p) k ≡ written memory at
+    (first ++ ((replicate r 0 ++ words_at memory from p) ++ replicate k 0))
 frame_written memory at first r from p k is five before within =
     let zeros : List ℕ = replicate r 0 in
     let words : List ℕ = words_at memory from p in

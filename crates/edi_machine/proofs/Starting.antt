@@ -1,5 +1,6 @@
 -- The memory and the activities with which processes begin.
-use Rattle.std.proofs.Common.{◌≡◌, ℕ, zero, suc, ◌+◌, ◌*◌, ◌<◌, ◌≤◌, Bool, true, false, List, [], ◌∷◌, ◌++◌, Option, Some, None, length, take, drop, get_or, refl, sym, ap, subst, ◌∙◌, arith, append-nil, length-take}
+use Rattle.std.proofs.Common.{◌≡◌, ℕ, zero, suc, ◌+◌, ◌*◌, ◌<◌, ◌≤◌, Bool, true, false, List, [], ◌∷◌, ◌++◌, Option, Some, None, length, take, drop, get_or}
+use Rattle.std.proofs.Common.{refl, sym, ap, subst, ◌∙◌, arith, append-nil, length-take}
 use Rattle.std.specs.Prelude.{◌&&◌, slice_get}
 use Rattle.std.specs.List.{list_any, list_all}
 use Rattle.std.proofs.lemmas.Bool.{leb-true, ltb-false, and_parts, or_parts}
@@ -11,7 +12,8 @@ use Rattle.edi_target.specs.Op as op
 use Rattle.edi_target.specs.Op.{Instruction, Branch, has_frame}
 use Rattle.edi_target.specs.Decode.{decode}
 use Rattle.edi_target.specs.Fetch.{fetch}
-use Rattle.edi_target.specs.Check.{CodeParts, IsSound, fields_fault, is_program, is_start, jump_fault, operation_fault, first_fault, or_else, parts_fault, starts_of, unless, words_fault}
+use Rattle.edi_target.specs.Check.{CodeParts, IsSound, fields_fault, is_program, is_start, jump_fault, operation_fault, first_fault, or_else, parts_fault}
+use Rattle.edi_target.specs.Check.{starts_of, unless, words_fault}
 use Rattle.edi_target.specs.Perform.{exceeds}
 use Rattle.edi_target.specs.View.{instruction_of}
 use Rattle.edi_target.specs.declared.op.Op.{Op}
@@ -36,7 +38,9 @@ descriptors_length [] = refl
 descriptors_length (x ∷ xs) = omega (arith, descriptors_length xs)
 
 -- one more descriptor is written
-pub descriptor_more : (memory : List ℕ) (calls : List ℕ) (i : ℕ) → i < length calls → 5 + 3 * length calls ≤ length memory → written (written memory 5 (descriptors (take i calls))) (5 + 3 * i) (65535 ∷ get_or calls i 0 ∷ 0 ∷ []) ≡ written memory 5 (descriptors (take (i + 1) calls))
+pub descriptor_more : (memory : List ℕ) (calls : List ℕ) (i : ℕ) → i < length calls → 5 + 3 * length calls ≤ length memory
+    → written (written memory 5 (descriptors (take i calls))) (5 + 3 * i) (65535 ∷ get_or calls i 0 ∷ 0 ∷ []) ≡ written memory 5
+    (descriptors (take (i + 1) calls))
 descriptor_more memory calls i here within =
     let so_far : List ℕ = descriptors (take i calls) in
     let last : List ℕ = 65535 ∷ get_or calls i 0 ∷ 0 ∷ [] in
@@ -71,7 +75,8 @@ unfolding parts_fault
 sound_entry c e =
     entry_kept c.words c.entry (length c.calls) (none_of (fields_fault (length c.words) c.entry (length c.calls) c.calls) _ e).1
 
-program_at : (count at : ℕ) (x : Option (Instruction × ℕ)) → is_program count (elim x [ None ↦ None | Some found ↦ Some (found.0, at + found.1) ]) ≡ is_program count x
+program_at : (count at : ℕ) (x : Option (Instruction × ℕ)) → is_program count (elim x [ None ↦ None | Some found ↦ Some (found.0, at + found.1) ])
+    ≡ is_program count x
 program_at count at None = refl
 program_at count at (Some (op.entry need r p v f, n)) = refl
 program_at count at (Some x) = refl
@@ -97,14 +102,16 @@ only_entry : (o : Op) (count n : ℕ) → is_program count (Some (instruction_of
 only_entry (code.Entry need r p v f) count n is other = other need r p v f refl
 only_entry o count n is other = absurd (cc)
 
-pub entry_read : (c : CodeParts) (words : List ℕ) (at : ℕ) (o : Op) (n : ℕ) → IsSound c → words ≡ c.words → at ≡ c.entry → Some (instruction_of o, n) ≡ fetch words at → ((need r p v f : ℕ) → o ≡ code.Entry need r p v f → ⊥) → ⊥
+pub entry_read : (c : CodeParts) (words : List ℕ) (at : ℕ) (o : Op) (n : ℕ) → IsSound c → words ≡ c.words → at ≡ c.entry → Some (instruction_of o, n) ≡ fetch
+    words at → ((need r p v f : ℕ) → o ≡ code.Entry need r p v f → ⊥) → ⊥
 entry_read c words at o n sound same start read other =
     only_entry o (length c.calls) n (ap (is_program (length c.calls)) read ∙ entry_at_words c words at sound same start) other
 
 -- ---- branches
 
 -- a branch that is one of those which fit needs no more than the share
-pub branch_fits : (share : ℕ) (branches : List Branch) (i : ℕ) (b : Branch) → list_any (exceeds share) branches ≡ false → slice_get branches i ≡ Some b → b.need ≤ share
+pub branch_fits : (share : ℕ) (branches : List Branch) (i : ℕ) (b : Branch) → list_any (exceeds share) branches ≡ false → slice_get branches i ≡ Some b
+    → b.need ≤ share
 branch_fits share [] i b fits there = absurd (cc)
 branch_fits share (x ∷ branches) zero b fits there =
     let same : x ≡ b = cc in

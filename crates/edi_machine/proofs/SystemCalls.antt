@@ -1,5 +1,6 @@
 -- The words of system calls, and how they end.
-use Rattle.std.proofs.Common.{◌≡◌, ℕ, ◌+◌, ◌-◌, ◌<◌, ◌≤◌, ◌^◌, List, [], ◌∷◌, ◌++◌, Option, Some, None, length, get_or, set, take, drop, refl, sym, ap, subst, ◌∙◌, arith, length-drop, get_or-drop}
+use Rattle.std.proofs.Common.{◌≡◌, ℕ, ◌+◌, ◌-◌, ◌<◌, ◌≤◌, ◌^◌, List, [], ◌∷◌, ◌++◌, Option, Some, None, length, get_or, set, take, drop, refl, sym, ap}
+use Rattle.std.proofs.Common.{subst, ◌∙◌, arith, length-drop, get_or-drop}
 use Rattle.std.proofs.lemmas.Bool.{le-leb}
 use Rattle.std.proofs.lemmas.List.{take_more, take_more_set}
 use Rattle.edi_told.specs.Told.{WhereTold}
@@ -18,7 +19,8 @@ use Rattle.edi_machine.specs.declared.ends.StepEnd.TheVariants as end
 use Rattle.edi_machine.specs.Steps.{HasAnswer, Takes, Tears, answered_at}
 
 -- one word more of those that are read from the memory
-pub read_more : (memory words : List ℕ) (at i w : ℕ) → IsMemory memory → i < length words → at + i < 2 ^ 16 → w ≡ get_or memory (at + i) 0 → take i words ≡ words_at memory at i → take (i + 1) (set words i w) ≡ words_at memory at (i + 1)
+pub read_more : (memory words : List ℕ) (at i w : ℕ) → IsMemory memory → i < length words → at + i < 2 ^ 16 → w ≡ get_or memory (at + i) 0
+    → take i words ≡ words_at memory at i → take (i + 1) (set words i w) ≡ words_at memory at (i + 1)
 read_more memory words at i w is here within read so_far =
     take_more_set words i w here
     ∙ ap (λ (l : List ℕ). l ++ w ∷ []) so_far
@@ -49,7 +51,8 @@ met_fault file_limit answer s t m = absurd m
 
 -- ---- the arguments
 
-pop_goes : (n : ℕ) (l : Local) (go : List ℕ → Local → Effect) → l.base + 5 + n ≤ l.top → pop n l go ≡ go (words_at l.memory (l.top - n) n) (record l { top = l.top - n })
+pop_goes : (n : ℕ) (l : Local) (go : List ℕ → Local → Effect) → l.base + 5 + n ≤ l.top → pop n l go ≡ go (words_at l.memory (l.top - n) n)
+    (record l { top = l.top - n })
 pop_goes n l go room = rw (le-leb (l.base + 5 + n) l.top room) refl
 
 answer_is : (address : Option ℕ) (answer : List ℕ) (l : Local) → answer_at address answer l ≡ record l { memory = answered_at address l.memory answer }
@@ -71,24 +74,35 @@ module _ (number line next : ℕ) (address : Option ℕ) (l before after : Local
   Made e = WhereTold old new (λ s t. Meets (call number arguments s) e (take (answer_words number) (word ∷ [])) s t)
 
   module _ (same : count ≡ argument_words number) (room : l.base + 5 + count ≤ l.top) (are : arguments ≡ words_at l.memory (l.top - count) count) where
-    at_effect : (e : StepEnd) → Takes (asks number arguments address line (record l { top = l.top - count; pc = next })) e before after old new → Takes (asking (argument_words number) number address line next l) e before after old new
+    at_effect : (e : StepEnd) → Takes (asks number arguments address line (record l { top = l.top - count; pc = next })) e before after old new
+        → Takes (asking (argument_words number) number address line next l) e before after old new
     at_effect e takes =
         subst (λ (n : ℕ). Takes (asking n number address line next l) e before after old new) same
         (subst (λ (x : Effect). Takes x e before after old new) (sym (pop_goes count l (λ ws m. asks number ws address line (record m { pc = next })) room))
         (subst (λ (ws : List ℕ). Takes (asks number ws address line (record l { top = l.top - count; pc = next })) e before after old new) are takes))
 
-    pub asked : (e : CallEnd) → e ≡ call_end.Ok → Made e → HasAnswer address number → after ≡ record l { memory = answered_at address l.memory (take (answer_words number) (word ∷ [])); top = l.top - count; pc = next } → Takes (asking (argument_words number) number address line next l) end.On before after old new
+    pub asked : (e : CallEnd) → e ≡ call_end.Ok → Made e → HasAnswer address number
+        → after ≡ record l { memory = answered_at address l.memory (take (answer_words number) (word ∷ [])); top = l.top - count; pc = next }
+        → Takes (asking (argument_words number) number address line next l) end.On before after old new
     asked e ended made has is =
-        at_effect end.On (take (answer_words number) (word ∷ []), answer_length address number word has, is ∙ sym (answer_is address _ _), WhereTold-map _ _ old new (λ s t m. met_ok _ _ s t m) (subst Made ended made))
+        at_effect end.On (
+          take (answer_words number) (word ∷ []),
+          answer_length address number word has,
+          is ∙ sym (answer_is address _ _),
+          WhereTold-map _ _ old new (λ s t m. met_ok _ _ s t m) (subst Made ended made),
+        )
 
-    pub no_file_there : (e : CallEnd) → e ≡ call_end.NoFile → Made e → after ≡ before → Takes (asking (argument_words number) number address line next l) (end.Fail cause.NoFile line) before after old new
+    pub no_file_there : (e : CallEnd) → e ≡ call_end.NoFile → Made e → after ≡ before → Takes (asking (argument_words number) number address line next l)
+        (end.Fail cause.NoFile line) before after old new
     no_file_there e ended made is =
         at_effect (end.Fail cause.NoFile line) (refl, is, WhereTold-map _ _ old new (λ s t m. met_no_file _ _ s t m) (subst Made ended made))
 
-    pub file_is_full : (e : CallEnd) → e ≡ call_end.FileLimit → Made e → after ≡ before → Takes (asking (argument_words number) number address line next l) (end.Fail cause.FileLimit line) before after old new
+    pub file_is_full : (e : CallEnd) → e ≡ call_end.FileLimit → Made e → after ≡ before → Takes (asking (argument_words number) number address line next l)
+        (end.Fail cause.FileLimit line) before after old new
     file_is_full e ended made is =
         at_effect (end.Fail cause.FileLimit line) (refl, is, WhereTold-map _ _ old new (λ s t m. met_limit _ _ s t m) (subst Made ended made))
 
-    pub torn : (e : CallEnd) → e ≡ call_end.OutsideFault → Made e → after ≡ before → Takes (asking (argument_words number) number address line next l) end.Fault before after old new
+    pub torn : (e : CallEnd) → e ≡ call_end.OutsideFault → Made e → after ≡ before → Takes (asking (argument_words number) number address line next l)
+        end.Fault before after old new
     torn e ended made is =
         at_effect end.Fault (is, WhereTold-map _ _ old new (λ s t m. met_fault _ _ s t m) (subst Made ended made))

@@ -6,7 +6,8 @@ use Rattle.edi_calls.specs.State.{State}
 use Rattle.edi_target.specs.Op.{Instruction, Branch, is_allowed}
 use Rattle.edi_target.specs.Fetch.{fetch}
 use Rattle.edi_target.specs.Perform.{perform}
-use Rattle.edi_target.specs.Effect.{Local, Effect, entering, leaving, looping, arriving, again, forking, exiting, finishing, goes, released, asks, due, fails, bad}
+use Rattle.edi_target.specs.Effect.{Local, Effect, entering, leaving, looping, arriving, again, forking, exiting, finishing, goes, released, asks, due}
+use Rattle.edi_target.specs.Effect.{fails, bad}
 use Rattle.edi_target.specs.Mach.{answer_at, effect_at}
 use Rattle.edi_machine.specs.declared.ends.TurnKind.TheVariants as kind
 use Rattle.edi_machine.specs.declared.ends.StepEnd.{StepEnd}
@@ -34,10 +35,12 @@ ended : (before after : ℕ) → before ≡ 1 → after ≡ 0 → (nat_eq before
 ended before after one none = ap₂ (λ (m n : ℕ). nat_eq m 1 && nat_eq n 0) one none
 
 -- an activity that goes on with held gone from 1 to 0 has ended a phase, and no other has
-pub phase_told : (words : List ℕ) (at : ℕ) (answer : StepEnd) (e : Effect) (before after : Local) (old new : Option State) → Takes e answer before after old new → Lawful words at before.held e → ends_phase answer before after ≡ is_released e
+pub phase_told : (words : List ℕ) (at : ℕ) (answer : StepEnd) (e : Effect) (before after : Local) (old new : Option State) → Takes e answer before after old
+    new → Lawful words at before.held e → ends_phase answer before after ≡ is_released e
 phase_told words at end.On (goes l) before after old new takes law = went before.held after.held (ap (λ (m : Local). m.held) takes ∙ law)
 phase_told words at end.On (released l) before after old new takes law = ended before.held after.held law.0 (ap (λ (m : Local). m.held) takes ∙ law.1)
-phase_told words at end.On (asks number arguments address line l) before after old new takes law = went before.held after.held (ap (λ (m : Local). m.held) takes.2 ∙ answer_held address takes.0 l ∙ law)
+phase_told words at end.On (asks number arguments address line l) before after old new takes law = went before.held after.held
+    (ap (λ (m : Local). m.held) takes.2 ∙ answer_held address takes.0 l ∙ law)
 phase_told words at end.On (due turn l) before after old new takes law = absurd takes
 phase_told words at end.On (fails c line) before after old new takes law = absurd takes
 phase_told words at end.On bad before after old new takes law = absurd takes
@@ -82,14 +85,16 @@ forks_here words at held (due finishing l) law = tt
 forks_here words at held (fails c line) law = tt
 forks_here words at held bad law = tt
 
-fork_stands : (words : List ℕ) (at pc : ℕ) (branches : List Branch) (l after : Local) → at ≡ pc → after ≡ l → IsFork words pc branches l → IsFork words at (branches_at words at) after
+fork_stands : (words : List ℕ) (at pc : ℕ) (branches : List Branch) (l after : Local) → at ≡ pc → after ≡ l → IsFork words pc branches l
+    → IsFork words at (branches_at words at) after
 fork_stands words at pc branches l after same is fork =
     let P : ℕ → List Branch → Local → Type 0 = λ n bs m. IsFork words n bs m in
     subst (λ (n : ℕ). P n (branches_at words n) after) (sym same)
     (subst (λ (bs : List Branch). P pc bs after) (sym fork.here) (subst (λ (m : Local). P pc branches m) (sym is) fork))
 
 -- what a fork's turn leaves can fork
-pub can_fork : (words : List ℕ) (answer : StepEnd) (e : Effect) (before after : Local) (old new : Option State) → Takes e answer before after old new → Forks e words before.pc → CanFork answer words after
+pub can_fork : (words : List ℕ) (answer : StepEnd) (e : Effect) (before after : Local) (old new : Option State) → Takes e answer before after old new
+    → Forks e words before.pc → CanFork answer words after
 can_fork words (end.Turn (kind.Fork at)) (goes l) before after old new takes fork = absurd takes
 can_fork words (end.Turn (kind.Fork at)) (released l) before after old new takes fork = absurd takes
 can_fork words (end.Turn (kind.Fork at)) (asks number arguments address line l) before after old new takes fork = absurd takes
@@ -103,17 +108,20 @@ can_fork words (end.Turn k) e before after old new takes fork = tt
 can_fork words answer e before after old new takes fork = tt
 
 -- both of the instruction that was read
-module _ (code words : List ℕ) (live : ℕ) (is_first : Bool) (l : Local) (i : Instruction) (next : ℕ) (same : words ≡ code) (here : Some (i, next) ≡ fetch words l.pc) (allowed : is_allowed i ≡ true) where
+module _ (code words : List ℕ) (live : ℕ) (is_first : Bool) (l : Local) (i : Instruction) (next : ℕ) (same : words ≡ code)
+    (here : Some (i, next) ≡ fetch words l.pc) (allowed : is_allowed i ≡ true) where
   law : Lawful words l.pc l.held (perform (fetch words) live is_first i next l)
   law = (each_law words l.pc live is_first i next l (sym here) allowed).law
 
-  pub phase_of_step : (answer : StepEnd) (after : Local) (old new : Option State) → Takes (perform (fetch words) live is_first i next l) answer l after old new → ends_phase answer l after ≡ is_released (effect_of code live is_first l)
+  pub phase_of_step : (answer : StepEnd) (after : Local) (old new : Option State) → Takes (perform (fetch words) live is_first i next l) answer l after old
+      new → ends_phase answer l after ≡ is_released (effect_of code live is_first l)
   phase_of_step answer after old new takes =
       phase_told words l.pc answer (perform (fetch words) live is_first i next l) l after old new takes law
       ∙ ap (λ (x : Option (Instruction × ℕ)). is_released (effect_at (fetch words) x live is_first l)) here
       ∙ ap (λ (ws : List ℕ). is_released (effect_of ws live is_first l)) same
 
-  pub branches_of_step : (answer : StepEnd) (after : Local) (old new : Option State) → Takes (perform (fetch words) live is_first i next l) answer l after old new → CanFork answer code after
+  pub branches_of_step : (answer : StepEnd) (after : Local) (old new : Option State) → Takes (perform (fetch words) live is_first i next l) answer l after old
+      new → CanFork answer code after
   branches_of_step answer after old new takes =
       subst (λ (ws : List ℕ). CanFork answer ws after) same
       (can_fork words answer (perform (fetch words) live is_first i next l) l after old new takes

@@ -9,7 +9,8 @@ use Rattle.edi_calls.specs.Calls.{CallResult, answered, no_file, file_limit, ans
 use Rattle.edi_calls.specs.Ends.{IsTorn}
 use Rattle.edi_store.specs.Memory.{written}
 use Rattle.edi_target.specs.Fetch.{fetch}
-use Rattle.edi_target.specs.Effect.{Local, Turn, entering, leaving, looping, arriving, again, forking, exiting, finishing, Effect, goes, released, asks, due, fails, bad}
+use Rattle.edi_target.specs.Effect.{Local, Turn, entering, leaving, looping, arriving, again, forking, exiting, finishing, Effect, goes, released, asks, due}
+use Rattle.edi_target.specs.Effect.{fails, bad}
 use Rattle.edi_target.specs.Mach.{effect_at, answer_at}
 use Rattle.edi_machine.specs.declared.ends.TurnKind.{TurnKind}
 use Rattle.edi_machine.specs.declared.ends.TurnKind.TheVariants as kind
@@ -52,7 +53,8 @@ Tears _ before after = ⊥
 -- The call of this number was made with these words. Where it was answered the activity goes on with the answer at the
 -- address. Where it was refused the program fails, and neither the activity nor the system has changed. Where an object
 -- outside failed the activity has not changed.
-abbrev pub Calls : (number : ℕ) → (arguments : List ℕ) → (address : Option ℕ) → (line : ℕ) → Local → StepEnd → (before after : Local) → (old new : Option State) → Type 0
+abbrev pub Calls : (number : ℕ) → (arguments : List ℕ) → (address : Option ℕ) → (line : ℕ) → Local → StepEnd → (before after : Local)
+    → (old new : Option State) → Type 0
 Calls number arguments address line l end.On before after old new =
     (answer : List ℕ) × (length answer ≡ answer_words number) × (after ≡ answer_at address answer l)
     × WhereTold old new (λ s t. call number arguments s ≡ answered answer t)

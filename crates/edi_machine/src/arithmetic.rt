@@ -26,7 +26,8 @@ pub fn truth_word(b: bool) -> u16
 pub fn top_two_integers(store: &Store, activity: &Activity) -> Option<(i16, i16)>
     requires ordered { IsOrdered activity.now }
     ensures top { let a = activity.now in
-        MatchOption result (a.top < a.base + 7) (λ r. (a.base + 7 ≤ a.top) × (r.0 ≡ signed (word store.now (a.top - 1 - 1))) × (r.1 ≡ signed (word store.now (a.top - 1)))) }
+        MatchOption result (a.top < a.base + 7) (λ r. (a.base + 7 ≤ a.top) × (r.0 ≡ signed (word store.now (a.top - 1 - 1)))
+        × (r.1 ≡ signed (word store.now (a.top - 1)))) }
 {
     match top_two_words(store, activity) {
         Some((x, y)) => Some((x.cast_signed(), y.cast_signed())),
@@ -45,7 +46,8 @@ fn put_result(
     requires ordered { IsOrdered activity.old }
     requires two { activity.old.base + 7 ≤ activity.old.top }
     ensures exact { let l = local_of store.old activity.old in
-        Gives (in_range line (option_map unsigned value) (λ z. push (z ∷ []) (record l { top = l.top - 1 - 1 }) (to next))) result l (local_of store.new activity.new) }
+        Gives (in_range line (option_map unsigned value) (λ z. push (z ∷ []) (record l { top = l.top - 1 - 1 }) (to next))) result l
+        (local_of store.new activity.new) }
     ensures ordered { IsOrdered activity.new }
 {
     match value {

@@ -95,7 +95,8 @@ fn top_two_are_equal(store: &Store, activity: &Activity, count: u16) -> Option<b
     requires ordered { IsOrdered activity.now }
     ensures top { let a = activity.now in
         MatchOption result (a.top < a.base + 5 + count + count)
-        (λ r. (a.base + 5 + count + count ≤ a.top) × (r ≡ bytes_eq (words_at store.now (a.top - count - count) count) (words_at store.now (a.top - count) count))) }
+        (λ r. (a.base + 5 + count + count ≤ a.top)
+        × (r ≡ bytes_eq (words_at store.now (a.top - count - count) count) (words_at store.now (a.top - count) count))) }
 {
     let count = u32::from(count);
     if activity.top - activity.base - 5 < count + count {

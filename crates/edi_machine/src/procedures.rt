@@ -36,7 +36,9 @@ fn put_frame(store: &mut Store, at: u32, block: Block, link: u16, base: u32, bac
     requires arguments { top + block.parameters ≤ at }
     requires fits { 5 + block.results + block.parameters ≤ block.need }
     requires within { at + block.need ≤ 2 ^ 16 }
-    ensures exact { store.new ≡ written store.old at (frame_words link base back top block.results (words_at store.old top block.parameters) ++ replicate (block.need - (5 + block.results + block.parameters)) 0) }
+    ensures exact { store.new ≡ written store.old at
+        (frame_words link base back top block.results (words_at store.old top block.parameters)
+        ++ replicate (block.need - (5 + block.results + block.parameters)) 0) }
 {
     let first_words = [
         link,

@@ -139,7 +139,8 @@ fn with_word(set: [u16; 8], x: u16) -> [u16; 8]
 pub fn is_member(store: &mut Store, activity: &mut Activity, next: u32) -> StepEnd
     requires ordered { IsOrdered activity.old }
     ensures exact { let l = local_of store.old activity.old in
-        Gives (pop 8 l (λ set l. pop_word l (λ x l. push (truth (nat_lt x 128 && word_has set x) ∷ []) l (to next)))) result l (local_of store.new activity.new) }
+        Gives (pop 8 l (λ set l. pop_word l (λ x l. push (truth (nat_lt x 128 && word_has set x) ∷ []) l (to next)))) result l
+        (local_of store.new activity.new) }
     ensures ordered { IsOrdered activity.new }
 {
     if activity.top - activity.base < 14 {

@@ -38,7 +38,8 @@ fn execute<C: Calls>(
     requires allowed { is_allowed (instruction_of op) ≡ true }
     requires whole { IsTrue (is_whole op) }
     ensures exact { let l = local_of store.old activity.old in
-        Takes (perform (fetch words.now) live first (instruction_of op.entry) next l) result l (local_of store.new activity.new) (C.state calls.old) (C.state calls.new) }
+        Takes (perform (fetch words.now) live first (instruction_of op.entry) next l) result l (local_of store.new activity.new) (C.state calls.old)
+        (C.state calls.new) }
     ensures keeps { let l = local_of store.old activity.old in
         Keeps (perform (fetch words.now) live first (instruction_of op.entry) next l) calls.old calls.new }
     ensures later { (outside : Outside) → C.faults calls.old outside ≤ C.faults calls.new outside }

@@ -99,7 +99,8 @@ fn ask<C: Calls>(
         Takes (pop (argument_words number) (record l { top = top }) (λ arguments m. asks number arguments address line (record m { pc = next })))
         result l (local_of store.new activity.new) (C.state calls.old) (C.state calls.new) }
     ensures keeps { let l = local_of store.old activity.old in
-        Keeps (pop (argument_words number) (record l { top = top }) (λ arguments m. asks number arguments address line (record m { pc = next }))) calls.old calls.new }
+        Keeps (pop (argument_words number) (record l { top = top }) (λ arguments m. asks number arguments address line (record m { pc = next }))) calls.old
+        calls.new }
     ensures later { (outside : Outside) → C.faults calls.old outside ≤ C.faults calls.new outside }
     ensures blame { Blames result (C.failed calls.new) (C.faults calls.old) (C.faults calls.new) }
     ensures references { C.references calls.new ≡ C.references calls.old }

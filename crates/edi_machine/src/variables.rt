@@ -39,7 +39,8 @@ pub fn load(store: &mut Store, activity: &mut Activity, count: u16, next: u32) -
 pub fn keep(store: &mut Store, activity: &mut Activity, count: u16, next: u32) -> StepEnd
     requires ordered { IsOrdered activity.old }
     ensures exact { let l = local_of store.old activity.old in
-        Gives (pop count l (λ words l. pop_word l (λ x l. within x count (goes (record l { memory = written l.memory x words; pc = next }))))) result l (local_of store.new activity.new) }
+        Gives (pop count l (λ words l. pop_word l (λ x l. within x count (goes (record l { memory = written l.memory x words; pc = next }))))) result l
+        (local_of store.new activity.new) }
     ensures ordered { IsOrdered activity.new }
 {
     let count = u32::from(count);

@@ -6,7 +6,8 @@ use Rattle.edi_unit.specs.Tree.{Acts, Clauses, ProgramUnit}
 use Rattle.edi_unit.specs.Values.{Value, is_true}
 use Rattle.edi_meaning.specs.Evaluation.{World, Evaluation, gives, ends, ◌>>=◌, turn_from, turn}
 use Rattle.edi_meaning.specs.Whole.{expression, acts, first, below, whole_first}
-use Rattle.edi_meaning.specs.Step.{Position, Standing, at_when, Asks, goes, again, is_quiet, local_step, Process, Processes, Stepped, went, ended, kernel, step_of, step, start, is_running, is_running_process, may_step, at, nowhere, onward, permitted}
+use Rattle.edi_meaning.specs.Step.{Position, Standing, at_when, Asks, goes, again, is_quiet, local_step, Process, Processes, Stepped, went, ended, kernel}
+use Rattle.edi_meaning.specs.Step.{step_of, step, start, is_running, is_running_process, may_step, at, nowhere, onward, permitted}
 use Rattle.edi_meaning.specs.Laws.{IsWhole, AttemptsAreWhole}
 use Rattle.edi_meaning.specs.Attempts.{tested, IsExecuted, IsFailed, IsAttempt, AttemptsExecute, AttemptsAreOneStep}
 
@@ -15,12 +16,14 @@ module _ (unit : ProgramUnit) (s : Processes) (p : Name) (q : Process) (cs : Cla
   failed_is_whole zero w = tt
   failed_is_whole (suc n) w = (refl, refl, refl)
 
-  run_is_whole : (r : Evaluation Bool) → IsWhole s p q cs position (kernel unit s p q (r >>= λ ran w. if ran then gives (goes q.work) w else turn w (gives (again cs position (is_quiet cs) q.work))))
+  run_is_whole : (r : Evaluation Bool) → IsWhole s p q cs position
+      (kernel unit s p q (r >>= λ ran w. if ran then gives (goes q.work) w else turn w (gives (again cs position (is_quiet cs) q.work))))
   run_is_whole (gives true w) = (refl, refl)
   run_is_whole (gives false w) = failed_is_whole w.turns w
   run_is_whole (ends ending system turns) = tt
 
-  standing_is_whole : (standing : Standing) → standing ≡ at_when cs position → IsWhole s p q cs position (kernel unit s p q (local_step unit p q.size standing q.work s.world))
+  standing_is_whole : (standing : Standing) → standing ≡ at_when cs position
+      → IsWhole s p q cs position (kernel unit s p q (local_step unit p q.size standing q.work s.world))
   standing_is_whole standing e =
       let P : Standing → Type 0 = λ x. IsWhole s p q cs position (kernel unit s p q (local_step unit p q.size x q.work s.world)) in
       subst P (sym e) (run_is_whole (whole_first unit p q.size cs s.world))
@@ -38,7 +41,8 @@ module _ (unit : ProgramUnit) (p : Name) (size : ℕ) (deeper : Acts → World �
   ran None w = gives false w
   ran (Some body) w = acts unit p size deeper body w >>= λ _ w. gives true w
 
-  executed_first : (cs : Clauses) (body : Evaluation (Unit {0})) → ((body >>= λ _ w. gives true w) >>= λ found w. if found then gives true w else first unit p size deeper cs w) ≡ (body >>= λ _ w. gives true w)
+  executed_first : (cs : Clauses) (body : Evaluation (Unit {0}))
+      → ((body >>= λ _ w. gives true w) >>= λ found w. if found then gives true w else first unit p size deeper cs w) ≡ (body >>= λ _ w. gives true w)
   executed_first cs (gives done w) = refl
   executed_first cs (ends ending system turns) = refl
 
@@ -47,13 +51,15 @@ module _ (unit : ProgramUnit) (p : Name) (size : ℕ) (deeper : Acts → World �
   first_is (tree.clause_then (tree.clause e s) cs) w = go (λ w. first_is cs w) (expression unit p size deeper e w)
     where
       by_value : ((w : World) → first unit p size deeper cs w ≡ (tested unit p size deeper cs w >>= ran)) → (b : Bool) (w : World) →
-          ((if b then (acts unit p size deeper s w >>= λ _ w. gives true w) else gives false w) >>= λ found w. if found then gives true w else first unit p size deeper cs w)
+          ((if b then (acts unit p size deeper s w >>= λ _ w. gives true w) else gives false w) >>= λ found w. if found then gives true w else first unit p
+          size deeper cs w)
           ≡ ((if b then gives (Some s) w else tested unit p size deeper cs w) >>= ran)
       by_value rest true w = executed_first cs (acts unit p size deeper s w)
       by_value rest false w = rest w
 
       go : ((w : World) → first unit p size deeper cs w ≡ (tested unit p size deeper cs w >>= ran)) → (r : Evaluation Value) →
-          ((r >>= λ v w. if is_true v then (acts unit p size deeper s w >>= λ _ w. gives true w) else gives false w) >>= λ found w. if found then gives true w else first unit p size deeper cs w)
+          ((r >>= λ v w. if is_true v then (acts unit p size deeper s w >>= λ _ w. gives true w) else gives false w) >>= λ found w. if found then gives true w
+          else first unit p size deeper cs w)
           ≡ ((r >>= λ v w. if is_true v then gives (Some s) w else tested unit p size deeper cs w) >>= ran)
       go rest (gives v w) = by_value rest (is_true v) w
       go rest (ends ending system turns) = refl
@@ -66,11 +72,13 @@ module _ (unit : ProgramUnit) (s : Processes) (p : Name) (q : Process) (cs : Cla
   executed (gives done w) = refl
   executed (ends ending system turns) = refl
 
-  failed : (n : ℕ) (w : World) → w.turns ≡ n → IsFailed s p q cs position w n (kernel unit s p q (turn_from n w (gives (again cs position (is_quiet cs) q.work))))
+  failed : (n : ℕ) (w : World) → w.turns ≡ n → IsFailed s p q cs position w n
+      (kernel unit s p q (turn_from n w (gives (again cs position (is_quiet cs) q.work))))
   failed zero w e = refl
   failed (suc n) w e = refl
 
-  attempted : (r : Evaluation (Option Acts)) → IsAttempt unit s p q cs position r (kernel unit s p q ((r >>= ran unit p q.size (below unit p q.size s.world)) >>= After))
+  attempted : (r : Evaluation (Option Acts)) → IsAttempt unit s p q cs position r
+      (kernel unit s p q ((r >>= ran unit p q.size (below unit p q.size s.world)) >>= After))
   attempted (gives None w) = failed w.turns w refl
   attempted (gives (Some body) w) = executed (acts unit p q.size (below unit p q.size s.world) body w)
   attempted (ends ending system turns) = refl
@@ -92,7 +100,8 @@ module _ (unit : ProgramUnit) (behind : List Name) (s : Processes) where
   along [] first e = let same : first ≡ s = cc in ap (permitted unit behind) same
   along (p ∷ before) first e = by_test (λ t f. along before t f) (may_step first p) e
     where
-      onward_along : ((t : Processes) → permitted unit before t ≡ at s → permitted unit (before ++ behind) t ≡ permitted unit behind s) → (x : Stepped) → onward x before (permitted unit before) ≡ at s → onward x (before ++ behind) (permitted unit (before ++ behind)) ≡ permitted unit behind s
+      onward_along : ((t : Processes) → permitted unit before t ≡ at s → permitted unit (before ++ behind) t ≡ permitted unit behind s) → (x : Stepped)
+          → onward x before (permitted unit before) ≡ at s → onward x (before ++ behind) (permitted unit (before ++ behind)) ≡ permitted unit behind s
       onward_along rest (went t next quiet) e = rest t e
       onward_along rest (ended ending system turns) e = absurd (never before e)
         where
@@ -100,7 +109,8 @@ module _ (unit : ProgramUnit) (behind : List Name) (s : Processes) where
           never [] e = absurd (cc)
           never (r ∷ names) e = absurd (cc)
 
-      by_test : ((t : Processes) → permitted unit before t ≡ at s → permitted unit (before ++ behind) t ≡ permitted unit behind s) → (b : Bool) → (if b then onward (step unit first p) before (permitted unit before) else nowhere) ≡ at s →
+      by_test : ((t : Processes) → permitted unit before t ≡ at s → permitted unit (before ++ behind) t ≡ permitted unit behind s) → (b : Bool)
+          → (if b then onward (step unit first p) before (permitted unit before) else nowhere) ≡ at s →
           (if b then onward (step unit first p) (before ++ behind) (permitted unit (before ++ behind)) else nowhere) ≡ permitted unit behind s
       by_test rest true e = onward_along rest (step unit first p) e
       by_test rest false e = absurd (cc)

@@ -1,5 +1,6 @@
 -- Whoever waits waits for somebody, and the first process lives, as long as each `cobegin` has a branch.
-use Rattle.std.proofs.Common.{◌≡◌, ℕ, zero, suc, ◌-◌, ◌<◌, ◌⊎◌, inl, inr, Bool, true, false, if◌then◌else◌, List, [], ◌∷◌, ◌++◌, length, length-append, Option, Some, None, refl, sym, subst, ap, ◌∙◌, arith}
+use Rattle.std.proofs.Common.{◌≡◌, ℕ, zero, suc, ◌-◌, ◌<◌, ◌⊎◌, inl, inr, Bool, true, false, if◌then◌else◌, List, [], ◌∷◌, ◌++◌, length, length-append}
+use Rattle.std.proofs.Common.{Option, Some, None, refl, sym, subst, ap, ◌∙◌, arith}
 use Rattle.std.specs.Prelude.{⊤, nat_lt}
 use Rattle.std.proofs.lemmas.Bool.{cases_lt}
 use Rattle.edi_calls.specs.Names.{Name, Table, same, find, with_at, without}
@@ -13,7 +14,10 @@ use Rattle.edi_unit.specs.Tree.{Act, Acts, Clause, Clauses, Block, ProgramUnit}
 use Rattle.edi_meaning.specs.Store.{Spot, Closure, system_procedure, block_procedure, Cell, shape, now, room}
 use Rattle.edi_meaning.specs.Evaluation.{World, Evaluation, gives, ends, ◌>>=◌, turn_from}
 use Rattle.edi_meaning.specs.Whole.{meant, system_call, whole_arguments, whole_assignment, whole_condition, whole_first}
-use Rattle.edi_meaning.specs.Step.{Position, inside, Work, doing, loop_end, procedure_end, branch_end, program_entry, program_end, doing_all, body_of, Standing, ready, at_when, waiting, Asks, goes, arrives, again, forks, leaves, is_quiet, chosen, with_chosen, called, statement_step, work_step, local_step, Process, Processes, back, child_process, with_child, with_children, awaits, step_of, step, start}
+use Rattle.edi_meaning.specs.Step.{Position, inside, Work, doing, loop_end, procedure_end, branch_end, program_entry, program_end, doing_all, body_of}
+use Rattle.edi_meaning.specs.Step.{Standing, ready, at_when, waiting, Asks, goes, arrives, again, forks, leaves, is_quiet, chosen, with_chosen, called}
+use Rattle.edi_meaning.specs.Step.{statement_step, work_step, local_step, Process, Processes, back, child_process, with_child, with_children, awaits}
+use Rattle.edi_meaning.specs.Step.{step_of, step, start}
 use Rattle.edi_meaning.specs.Someone.{ActHasBranches, ActsHaveBranches, ClauseHasBranches, ClausesHaveBranches, ForksHaveBranches, FittingForksHaveBranches}
 use Rattle.edi_meaning.proofs.Lasting.{Gives}
 use Rattle.edi_meaning.proofs.Kernel.{if_either, Handles, kernel_handles, After}
@@ -87,7 +91,8 @@ turn_good : (p : Name) (n : ℕ) (w : World) (go : World → Evaluation Asks) �
 turn_good p zero w go h = tt
 turn_good p (suc n) w go h = h (record w { turns = n })
 
-all_good : (p : Name) (s : Acts) (position : Position) (n : ℕ) (work : List Work) → ActsHaveBranches s → WorkGood p work → WorkGood p (doing_all s position n work)
+all_good : (p : Name) (s : Acts) (position : Position) (n : ℕ) (work : List Work) → ActsHaveBranches s → WorkGood p work
+    → WorkGood p (doing_all s position n work)
 all_good p tree.no_act position n work h k = k
 all_good p (tree.act_then a s) position n work h k = (h.0, all_good p s position (suc n) work h.1 k)
 
@@ -96,7 +101,8 @@ abbrev ChosenHas : Option (Acts × ℕ) → Type 0
 ChosenHas None = ⊤
 ChosenHas (Some c) = ActsHaveBranches c.0
 
-chosen_then : (p : Name) (r : Evaluation (Option (Acts × ℕ))) (position : Position) (after work : List Work) → Gives (λ c w. ChosenHas c) (λ ending system turns. ⊤) r → WorkGood p work → WorkGood p (after ++ work) →
+chosen_then : (p : Name) (r : Evaluation (Option (Acts × ℕ))) (position : Position) (after work : List Work)
+    → Gives (λ c w. ChosenHas c) (λ ending system turns. ⊤) r → WorkGood p work → WorkGood p (after ++ work) →
     Good p (r >>= λ c w. gives (goes (with_chosen position c after work)) w)
 chosen_then p (gives None w) position after work h k l = k
 chosen_then p (gives (Some c) w) position after work h k l = all_good p c.0 (inside position c.1) 0 (after ++ work) h l
@@ -119,19 +125,23 @@ module _ (unit : ProgramUnit) (have : ForksHaveBranches unit) (p : Name) (size :
   called_good : (c : Closure) (cells : List Cell) (line : ℕ) (work : List Work) (w : World) → WorkGood p work → Good p (called unit p size c cells line work w)
   called_good (system_procedure number) cells line work w h = goes_good p (system_call number cells line w) (λ _. work) (λ _. h)
   called_good (block_procedure number parent) cells line work w h =
-      if_either (Good p) (nat_lt (room size (shape w.store p)) (block_at unit.blocks number).need) _ _ tt (turn_good p w.turns w _ (λ w. body_good number (procedure_end ∷ work) h))
+      if_either (Good p) (nat_lt (room size (shape w.store p)) (block_at unit.blocks number).need) _ _ tt
+      (turn_good p w.turns w _ (λ w. body_good number (procedure_end ∷ work) h))
 
-  arguments_good : (c : World → Closure) (line : ℕ) (work : List Work) (r : Evaluation (List Cell)) → WorkGood p work → Good p (r >>= λ cells w. called unit p size (c w) cells line work w)
+  arguments_good : (c : World → Closure) (line : ℕ) (work : List Work) (r : Evaluation (List Cell)) → WorkGood p work
+      → Good p (r >>= λ cells w. called unit p size (c w) cells line work w)
   arguments_good c line work (gives cells w) h = called_good (c w) cells line work w h
   arguments_good c line work (ends e system turns) h = tt
 
-  statement_good : (a : Act) (position : Position) (work : List Work) (w : World) → ActHasBranches a → WorkGood p work → Good p (statement_step unit p size a position work w)
+  statement_good : (a : Act) (position : Position) (work : List Work) (w : World) → ActHasBranches a → WorkGood p work
+      → Good p (statement_step unit p size a position work w)
   statement_good tree.skip position work w a h = h
   statement_good (tree.assign v e) position work w a h = goes_good p (whole_assignment unit p size v e w) (λ _. work) (λ _. h)
   statement_good (tree.call c es line) position work w a h = arguments_good (meant unit p size c) line work (whole_arguments unit p size es w) h
   statement_good (tree.halt line) position work w a h = tt
   statement_good (tree.if_act cs) position work w a h = chosen_then p (chosen unit p size cs 0 w) position [] work (chosen_has cs 0 w a) h h
-  statement_good (tree.while_act cs) position work w a h = chosen_then p (chosen unit p size cs 0 w) position (loop_end cs position ∷ []) work (chosen_has cs 0 w a) h (a, h)
+  statement_good (tree.while_act cs) position work w a h = chosen_then p (chosen unit p size cs 0 w) position (loop_end cs position ∷ []) work
+      (chosen_has cs 0 w a) h (a, h)
   statement_good (tree.when_act cs line) position work w a h = turn_good p w.turns w _ (λ w. h)
   statement_good (tree.cobegin bs line) position work w a h = (a, h)
 
@@ -196,7 +206,8 @@ without_good live (n ∷ p) some h = record {
     stays (([], q) ∷ live) e = e
     stays ((m ∷ ms, q) ∷ live) e = go (same (n ∷ p) (m ∷ ms)) (stays live e)
       where
-        go : (b : Bool) → find (without live (n ∷ p)) [] ≡ Some h.first.0 → find (if b then without live (n ∷ p) else (m ∷ ms, q) ∷ without live (n ∷ p)) [] ≡ Some h.first.0
+        go : (b : Bool) → find (without live (n ∷ p)) [] ≡ Some h.first.0 → find (if b then without live (n ∷ p) else (m ∷ ms, q) ∷ without live (n ∷ p)) []
+            ≡ Some h.first.0
         go true f = f
         go false f = f
 
@@ -211,19 +222,25 @@ module _ (unit : ProgramUnit) (have : ForksHaveBranches unit) where
   child_some : (p : Name) (f i : ℕ) → 0 < length (child p f i)
   child_some p f i = omega (arith, length-append p (f ∷ i ∷ []))
 
-  children_good : (p : Name) (f share : ℕ) (parent : Spot) (bs : List ℕ) (i : ℕ) (s : Processes) → StateGood s → StateGood (with_children unit p f i share parent bs s)
+  children_good : (p : Name) (f share : ℕ) (parent : Spot) (bs : List ℕ) (i : ℕ) (s : Processes) → StateGood s
+      → StateGood (with_children unit p f i share parent bs s)
   children_good p f share parent [] i s h = h
   children_good p f share parent (b ∷ bs) i s h =
       children_good p f share parent bs (suc i) (with_child unit (child p f i) share parent b s)
       (with_good s.live (child p f i) (child_process unit share b) h
-      (record { work = all_good (child p f i) (block_at unit.blocks b).body _ 0 (branch_end ∷ []) (have b) (child_some p f i, tt); waits = λ n e. absurd (cc) }))
+      (record {
+        work = all_good (child p f i) (block_at unit.blocks b).body _ 0 (branch_end ∷ []) (have b) (child_some p f i, tt);
+        waits = λ n e. absurd (cc);
+      }))
 
   handles : (s : Processes) (p : Name) (q : Process) → StateGood s → Handles unit s p q (λ a w. AsksGood p a) (λ ending system turns. ⊤) (After StateGood)
   handles s p q h = record {
     of_end = λ ending system turns d. tt;
     of_goes = λ work w d. with_good s.live p (record q { work = work; standing = ready }) h (record { work = d; waits = λ n e. absurd (cc) });
-    of_arrives = λ cs position work w d. with_good s.live p (record q { work = work; standing = at_when cs position }) h (record { work = d; waits = λ n e. absurd (cc) });
-    of_again = λ cs position quiet work w d. with_good s.live p (record q { work = work; standing = at_when cs position }) h (record { work = d; waits = λ n e. absurd (cc) });
+    of_arrives = λ cs position work w d. with_good s.live p (record q { work = work; standing = at_when cs position }) h
+        (record { work = d; waits = λ n e. absurd (cc) });
+    of_again = λ cs position quiet work w d. with_good s.live p (record q { work = work; standing = at_when cs position }) h
+        (record { work = d; waits = λ n e. absurd (cc) });
     of_no_fork = λ bs line work w ending o d. tt;
     of_fork = λ bs line work w n share e d.
         let q' : Process = record q { forks = suc q.forks; work = work; standing = waiting (length bs) } in

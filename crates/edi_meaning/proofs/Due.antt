@@ -1,5 +1,6 @@
 -- A process has as many instances as its work has yet to leave.
-use Rattle.std.proofs.Common.{◌≡◌, ℕ, zero, suc, ◌-◌, ◌<◌, ◌⊎◌, inl, inr, List, [], ◌∷◌, ◌++◌, map, take, length, length-append, Option, Some, None, refl, sym, subst, ap, ◌∙◌, arith}
+use Rattle.std.proofs.Common.{◌≡◌, ℕ, zero, suc, ◌-◌, ◌<◌, ◌⊎◌, inl, inr, List, [], ◌∷◌, ◌++◌, map, take, length, length-append, Option, Some, None, refl}
+use Rattle.std.proofs.Common.{sym, subst, ap, ◌∙◌, arith}
 use Rattle.std.specs.Prelude.{⊤, nat_lt}
 use Rattle.std.proofs.lemmas.List.{length-take}
 use Rattle.edi_calls.specs.Names.{Name, with_at}
@@ -7,11 +8,15 @@ use Rattle.edi_calls.specs.Outcome as outcome
 use Rattle.edi_unit.specs.Need.{block_at}
 use Rattle.edi_unit.specs.Tree as tree
 use Rattle.edi_unit.specs.Tree.{Act, Acts, Clauses, ProgramUnit}
-use Rattle.edi_meaning.specs.Store.{Closure, system_procedure, block_procedure, Cell, procedure, Instance, Store, Shape, instances, frames, shape, room, grown, shrunk}
+use Rattle.edi_meaning.specs.Store.{Closure, system_procedure, block_procedure, Cell, procedure, Instance, Store, Shape, instances, frames, shape, room}
+use Rattle.edi_meaning.specs.Store.{grown, shrunk}
 use Rattle.edi_meaning.specs.Evaluation.{World, Evaluation, gives}
 use Rattle.edi_meaning.specs.Whole.{meant, instance_of}
-use Rattle.edi_meaning.specs.Step.{Position, inside, Work, doing, loop_end, procedure_end, branch_end, program_entry, program_end, doing_all, body_of, Standing, ready, at_when, waiting, Asks, goes, arrives, again, forks, leaves, chosen, with_chosen, called, statement_step, work_step, attempt, local_step, awaits}
-use Rattle.edi_meaning.proofs.Lasting.{Every, Any, Lasting, Keeps, At, give, stop, bind, turn_keeps, if_keeps, system_keeps, whole_arguments_keep, whole_assignment_keeps, whole_condition_keeps, whole_first_keeps}
+use Rattle.edi_meaning.specs.Step.{Position, inside, Work, doing, loop_end, procedure_end, branch_end, program_entry, program_end, doing_all, body_of}
+use Rattle.edi_meaning.specs.Step.{Standing, ready, at_when, waiting, Asks, goes, arrives, again, forks, leaves, chosen, with_chosen, called, statement_step}
+use Rattle.edi_meaning.specs.Step.{work_step, attempt, local_step, awaits}
+use Rattle.edi_meaning.proofs.Lasting.{Every, Any, Lasting, Keeps, At, give, stop, bind, turn_keeps, if_keeps, system_keeps, whole_arguments_keep}
+use Rattle.edi_meaning.proofs.Lasting.{whole_assignment_keeps, whole_condition_keeps, whole_first_keeps}
 use Rattle.edi_meaning.proofs.Own.{instances-same}
 use Rattle.edi_meaning.proofs.Frames.{HasShape, own_shape, framing, length-frames, shape-grown}
 
@@ -85,7 +90,8 @@ module _ (unit : ProgramUnit) (p : Name) (size : ℕ) (F : Shape) where
   on : (work : List Work) (w : World) → HasShape F w.store → Due p work (length (F p)) → Rests (gives (goes work) w)
   on work w h d = give s _ _ w (subst (Due p work) (number w h) d)
 
-  both : (work : List Work) (w : World) → HasShape F w.store → (0 < length (F p)) × Due p work (length (F p)) → (0 < length (shape w.store p)) × Due p work (length (shape w.store p))
+  both : (work : List Work) (w : World) → HasShape F w.store → (0 < length (F p)) × Due p work (length (F p)) → (0 < length (shape w.store p))
+      × Due p work (length (shape w.store p))
   both work w h d = subst (λ n. (0 < n) × Due p work n) (number w h) d
 
   chosen_rests : (cs : Clauses) (n : ℕ) (w : World) → HasShape F w.store → Keeps s (At s F Any) (chosen unit p size cs n w)
@@ -93,12 +99,15 @@ module _ (unit : ProgramUnit) (p : Name) (size : ℕ) (F : Shape) where
   chosen_rests (tree.clause_then (tree.clause e as') cs) n w h =
       bind s F Any _ _ _ (whole_condition_keeps s F e w h) (λ holds w _ h. if_keeps s _ holds _ _ (give s _ _ w (tt, h)) (chosen_rests cs (suc n) w h))
 
-  due_chosen : (position : Position) (c : Option (Acts × ℕ)) (after work : List Work) (d : ℕ) → 0 < d → Due p work d → Due p (after ++ work) d → Due p (with_chosen position c after work) d
+  due_chosen : (position : Position) (c : Option (Acts × ℕ)) (after work : List Work) (d : ℕ) → 0 < d → Due p work d → Due p (after ++ work) d
+      → Due p (with_chosen position c after work) d
   due_chosen position None after work d l h k = h
   due_chosen position (Some c) after work d l h k = due_all p c.0 (inside position c.1) 0 (after ++ work) d l k
 
-  called_rests : (c : Closure) (cells : List Cell) (line : ℕ) (work : List Work) (w : World) → HasShape F w.store → (0 < length (F p)) × Due p work (length (F p)) → Rests (called unit p size c cells line work w)
-  called_rests (system_procedure n) cells line work w h d = bind s F Any _ _ _ (system_keeps s F n cells line w (every_cell cells) h) (λ _ w _ h. on work w h d.1)
+  called_rests : (c : Closure) (cells : List Cell) (line : ℕ) (work : List Work) (w : World) → HasShape F w.store → (0 < length (F p))
+      × Due p work (length (F p)) → Rests (called unit p size c cells line work w)
+  called_rests (system_procedure n) cells line work w h d = bind s F Any _ _ _ (system_keeps s F n cells line w (every_cell cells) h)
+      (λ _ w _ h. on work w h d.1)
     where
       every_cell : (cells : List Cell) → Every Any cells
       every_cell [] = tt
@@ -110,9 +119,11 @@ module _ (unit : ProgramUnit) (p : Name) (size : ℕ) (F : Shape) where
       let more : suc (length (F p)) ≡ length (shape (grown p i w.store) p) = ap suc (number w h) ∙ sym (length-grown p i w.store) in
       let same : length (F p) ≡ suc (length (F p)) - 1 = omega arith in
       give s _ _ _ (subst (Due p (body_of unit n (procedure_end ∷ work))) more
-      (due_all p (block_at unit.blocks n).body _ 0 (procedure_end ∷ work) (suc (length (F p))) (omega arith) (omega (arith, d.0), subst (Due p work) same d.1)))))
+      (due_all p (block_at unit.blocks n).body _ 0 (procedure_end ∷ work) (suc (length (F p))) (omega arith)
+      (omega (arith, d.0), subst (Due p work) same d.1)))))
 
-  statement_rests : (a : Act) (position : Position) (work : List Work) (w : World) → HasShape F w.store → (0 < length (F p)) × Due p work (length (F p)) → Rests (statement_step unit p size a position work w)
+  statement_rests : (a : Act) (position : Position) (work : List Work) (w : World) → HasShape F w.store → (0 < length (F p)) × Due p work (length (F p))
+      → Rests (statement_step unit p size a position work w)
   statement_rests tree.skip position work w h d = on work w h d.1
   statement_rests (tree.assign v e) position work w h d = bind s F Any _ _ _ (whole_assignment_keeps s F v e w h) (λ _ w _ h. on work w h d.1)
   statement_rests (tree.call c es line) position work w h d =
@@ -142,16 +153,19 @@ module _ (unit : ProgramUnit) (p : Name) (size : ℕ) (F : Shape) where
       give s _ _ _ (subst (Due p (body_of unit unit.program work)) one (due_all p (block_at unit.blocks unit.program).body _ 0 work 1 (omega arith) d.2)))
   work_rests (program_end ∷ work) w h d = turn_keeps s F _ w.turns w _ refl h (λ w h. stop s F _ outcome.done w tt h)
 
-  attempt_rests : (cs : Clauses) (position : Position) (work : List Work) (w : World) → HasShape F w.store → (0 < length (F p)) × Due p work (length (F p)) → Rests (attempt unit p size cs position work w)
+  attempt_rests : (cs : Clauses) (position : Position) (work : List Work) (w : World) → HasShape F w.store → (0 < length (F p)) × Due p work (length (F p))
+      → Rests (attempt unit p size cs position work w)
   attempt_rests cs position work w h d =
       bind s F Any _ _ _ (whole_first_keeps s F cs w h)
       (λ ran w _ h. if_keeps s _ ran _ _ (on work w h d.1) (turn_keeps s F _ w.turns w _ refl h (λ w h. give s _ _ w (both work w h d))))
 
-  local_rests : (standing : Standing) (work : List Work) (w : World) → HasShape F w.store → DueAs p standing work (length (F p)) → Rests (local_step unit p size standing work w)
+  local_rests : (standing : Standing) (work : List Work) (w : World) → HasShape F w.store → DueAs p standing work (length (F p))
+      → Rests (local_step unit p size standing work w)
   local_rests ready work w h d = work_rests work w h d
   local_rests (at_when cs position) work w h d = attempt_rests cs position work w h d
   local_rests (waiting n) work w h d = record { is = tt }
 
 -- a local step leaves as many instances as its work has yet to leave
-pub local_due : (unit : ProgramUnit) (p : Name) (size : ℕ) (standing : Standing) (work : List Work) (w : World) → DueAs p standing work (length (shape w.store p)) → Keeps (framing unit p size) (DueAsks p) (local_step unit p size standing work w)
+pub local_due : (unit : ProgramUnit) (p : Name) (size : ℕ) (standing : Standing) (work : List Work) (w : World)
+    → DueAs p standing work (length (shape w.store p)) → Keeps (framing unit p size) (DueAsks p) (local_step unit p size standing work w)
 local_due unit p size standing work w d = local_rests unit p size (shape w.store) standing work w (own_shape w.store) d

@@ -15,10 +15,12 @@ use Rattle.edi_meaning.proofs.Names.{some_is, no_some, flat, below_child, not_be
 -- ---- names of later forks are free
 
 pub record Fresh (live : Table Process) : Type 0 where
-  pub old : (p : Name) (q : Process) (f i : ℕ) (rest : List (ℕ × ℕ)) (x : Process) → find live p ≡ Some q → find live (child p f i ++ flat rest) ≡ Some x → f ≤ q.forks
+  pub old : (p : Name) (q : Process) (f i : ℕ) (rest : List (ℕ × ℕ)) (x : Process) → find live p ≡ Some q → find live (child p f i ++ flat rest) ≡ Some x
+      → f ≤ q.forks
 
 -- who is live after a change of p, which was live, was live before
-was_live : (live : Table Process) (p : Name) (q q' : Process) (z : Name) (x : Process) → find live p ≡ Some q → find (with_at live p q') z ≡ Some x → (y : Process) × (find live z ≡ Some y)
+was_live : (live : Table Process) (p : Name) (q q' : Process) (z : Name) (x : Process) → find live p ≡ Some q → find (with_at live p q') z ≡ Some x
+    → (y : Process) × (find live z ≡ Some y)
 was_live live p q q' z x e f = go (same-or-other z p)
   where
     go : (z ≡ p) ⊎ (same z p ≡ false) → (y : Process) × (find live z ≡ Some y)
@@ -28,7 +30,8 @@ was_live live p q q' z x e f = go (same-or-other z p)
 pub fresh_changed : (live : Table Process) (p : Name) (q q' : Process) → find live p ≡ Some q → q.forks ≤ q'.forks → Fresh live → Fresh (with_at live p q')
 fresh_changed live p q q' e le fresh = record { old = old }
   where
-    old : (r : Name) (rq : Process) (f i : ℕ) (rest : List (ℕ × ℕ)) (x : Process) → find (with_at live p q') r ≡ Some rq → find (with_at live p q') (child r f i ++ flat rest) ≡ Some x → f ≤ rq.forks
+    old : (r : Name) (rq : Process) (f i : ℕ) (rest : List (ℕ × ℕ)) (x : Process) → find (with_at live p q') r ≡ Some rq
+        → find (with_at live p q') (child r f i ++ flat rest) ≡ Some x → f ≤ rq.forks
     old r rq f i rest x g h =
         let was : (y : Process) × (find live (child r f i ++ flat rest) ≡ Some y) = was_live live p q q' (child r f i ++ flat rest) x e h in
         go was (same-or-other r p)
@@ -48,7 +51,10 @@ kept_without live p z x e = go (same-or-other z p)
     go (inr n) = sym (find-without-other live p z n) ∙ e
 
 pub fresh_without : (live : Table Process) (p : Name) → Fresh live → Fresh (without live p)
-fresh_without live p fresh = record { old = λ r rq f i rest x g h. fresh.old r rq f i rest x (kept_without live p r rq g) (kept_without live p (child r f i ++ flat rest) x h) }
+fresh_without live p fresh = record {
+  old = λ r rq f i rest x g h. fresh.old r rq f i rest x (kept_without live p r rq g)
+      (kept_without live p (child r f i ++ flat rest) x h);
+}
 
 -- ---- children
 
@@ -59,13 +65,16 @@ Free live p f k = (j : ℕ) (rest : List (ℕ × ℕ)) → k ≤ j → find live
 pub free_name : (live : Table Process) (p : Name) (f k j : ℕ) → k ≤ j → Free live p f k → find live (child p f j) ≡ None
 free_name live p f k j le free = ap (find live) (sym (append-nil (child p f j))) ∙ free j [] le
 
-fresh_child : (live : Table Process) (p : Name) (q : Process) (f k : ℕ) (c : Process) → find live p ≡ Some q → f ≤ q.forks → Free live p f k → c.forks ≡ 0 → Fresh live → Fresh (with_at live (child p f k) c)
+fresh_child : (live : Table Process) (p : Name) (q : Process) (f k : ℕ) (c : Process) → find live p ≡ Some q → f ≤ q.forks → Free live p f k → c.forks ≡ 0
+    → Fresh live → Fresh (with_at live (child p f k) c)
 fresh_child live p q f k c e le free none fresh = record { old = old }
   where
-    old : (r : Name) (rq : Process) (g i : ℕ) (rest : List (ℕ × ℕ)) (x : Process) → find (with_at live (child p f k) c) r ≡ Some rq → find (with_at live (child p f k) c) (child r g i ++ flat rest) ≡ Some x → g ≤ rq.forks
+    old : (r : Name) (rq : Process) (g i : ℕ) (rest : List (ℕ × ℕ)) (x : Process) → find (with_at live (child p f k) c) r ≡ Some rq
+        → find (with_at live (child p f k) c) (child r g i ++ flat rest) ≡ Some x → g ≤ rq.forks
     old r rq g i rest x a b = go (same-or-other r (child p f k)) (same-or-other (child r g i ++ flat rest) (child p f k))
       where
-        go : (r ≡ child p f k) ⊎ (same r (child p f k) ≡ false) → (child r g i ++ flat rest ≡ child p f k) ⊎ (same (child r g i ++ flat rest) (child p f k) ≡ false) → g ≤ rq.forks
+        go : (r ≡ child p f k) ⊎ (same r (child p f k) ≡ false) → (child r g i ++ flat rest ≡ child p f k)
+            ⊎ (same (child r g i ++ flat rest) (child p f k) ≡ false) → g ≤ rq.forks
         go (inl h) (inl l) = absurd (not_below r g i rest (l ∙ sym h))
         go (inl h) (inr n) =
             let gone : find live (child r g i ++ flat rest) ≡ None =
@@ -80,12 +89,14 @@ fresh_child live p q f k c e le free none fresh = record { old = old }
               omega arith
           | inr below ↦ fresh.old r rq g i below.0 q (sym (find-with_at-other live (child p f k) r c m) ∙ a) (ap (find live) below.1 ∙ e)
         ]
-        go (inr m) (inr n) = fresh.old r rq g i rest x (sym (find-with_at-other live (child p f k) r c m) ∙ a) (sym (find-with_at-other live (child p f k) (child r g i ++ flat rest) c n) ∙ b)
+        go (inr m) (inr n) = fresh.old r rq g i rest x (sym (find-with_at-other live (child p f k) r c m) ∙ a)
+            (sym (find-with_at-other live (child p f k) (child r g i ++ flat rest) c n) ∙ b)
 
 pub free_child : (live : Table Process) (p : Name) (f k : ℕ) (c : Process) → Free live p f k → Free (with_at live (child p f k) c) p f (suc k)
 free_child live p f k c free j rest le = go (same-or-other (child p f j ++ flat rest) (child p f k))
   where
-    go : (child p f j ++ flat rest ≡ child p f k) ⊎ (same (child p f j ++ flat rest) (child p f k) ≡ false) → find (with_at live (child p f k) c) (child p f j ++ flat rest) ≡ None
+    go : (child p f j ++ flat rest ≡ child p f k) ⊎ (same (child p f j ++ flat rest) (child p f k) ≡ false) → find (with_at live (child p f k) c)
+        (child p f j ++ flat rest) ≡ None
     go (inl h) = elim (below_child p p f j f k rest h) [
       | inl same3 ↦ let which : j ≡ k = same3.2 in absurd (omega arith)
       | inr below ↦ absurd (not_below p f j below.0 below.1)
@@ -96,17 +107,20 @@ free_child live p f k c free j rest le = go (same-or-other (child p f j ++ flat 
 pub free_next : (live : Table Process) (p : Name) (q q' : Process) → find live p ≡ Some q → Fresh live → Free (with_at live p q') p (suc q.forks) 0
 free_next live p q q' found fresh j rest h = go (find (with_at live p q') (child p (suc q.forks) j ++ flat rest)) refl
   where
-    go : (x : Option Process) → find (with_at live p q') (child p (suc q.forks) j ++ flat rest) ≡ x → find (with_at live p q') (child p (suc q.forks) j ++ flat rest) ≡ None
+    go : (x : Option Process) → find (with_at live p q') (child p (suc q.forks) j ++ flat rest) ≡ x
+        → find (with_at live p q') (child p (suc q.forks) j ++ flat rest) ≡ None
     go None f = f
     go (Some y) f = elim (same-or-other (child p (suc q.forks) j ++ flat rest) p) [
       | inl k ↦ absurd (not_below p (suc q.forks) j rest k)
       | inr n ↦
-          let le : suc q.forks ≤ q.forks = fresh.old p q (suc q.forks) j rest y found (sym (find-with_at-other live p (child p (suc q.forks) j ++ flat rest) q' n) ∙ f) in
+          let le : suc q.forks ≤ q.forks = fresh.old p q (suc q.forks) j rest y found
+          (sym (find-with_at-other live p (child p (suc q.forks) j ++ flat rest) q' n) ∙ f) in
           absurd (omega arith)
     ]
 
 -- a process that is live keeps its place in the table beside a new child
-pub kept_child : (live : Table Process) (p : Name) (f k : ℕ) (c : Process) (x : Name) (q : Process) → Free live p f k → find live x ≡ Some q → find (with_at live (child p f k) c) x ≡ Some q
+pub kept_child : (live : Table Process) (p : Name) (f k : ℕ) (c : Process) (x : Name) (q : Process) → Free live p f k → find live x ≡ Some q
+    → find (with_at live (child p f k) c) x ≡ Some q
 kept_child live p f k c x q free e = go (same-or-other x (child p f k))
   where
     go : (x ≡ child p f k) ⊎ (same x (child p f k) ≡ false) → find (with_at live (child p f k) c) x ≡ Some q
@@ -120,15 +134,18 @@ pub record Forked (live after : Table Process) (p : Name) (f k n : ℕ) : Type 0
   pub born : (j : ℕ) → k ≤ j → j < k + n → (c : Process) × (find after (child p f j) ≡ Some c) × (c.standing ≡ ready)
   pub only : (x : Name) (q : Process) → find after x ≡ Some q → (find live x ≡ Some q) ⊎ ((j : ℕ) × (k ≤ j) × (j < k + n) × (x ≡ child p f j))
 
-born_at : (after : Table Process) (p : Name) (f k n : ℕ) (c : Process) (j : ℕ) → k ≤ j → j < k + suc n → find after (child p f k) ≡ Some c → c.standing ≡ ready →
-    ((j : ℕ) → suc k ≤ j → j < suc k + n → (c : Process) × (find after (child p f j) ≡ Some c) × (c.standing ≡ ready)) → (c : Process) × (find after (child p f j) ≡ Some c) × (c.standing ≡ ready)
+born_at : (after : Table Process) (p : Name) (f k n : ℕ) (c : Process) (j : ℕ) → k ≤ j → j < k + suc n → find after (child p f k) ≡ Some c
+    → c.standing ≡ ready →
+    ((j : ℕ) → suc k ≤ j → j < suc k + n → (c : Process) × (find after (child p f j) ≡ Some c) × (c.standing ≡ ready)) → (c : Process)
+    × (find after (child p f j) ≡ Some c) × (c.standing ≡ ready)
 born_at after p f k n c j h l e r more = elim (cases_lt k j) [
   | inl above ↦ more j (omega arith) (omega arith)
   | inr below ↦ let same : k ≡ j = omega arith in (c, ap (λ i. find after (child p f i)) (sym same) ∙ e, r)
 ]
 
 only_at : (live : Table Process) (p : Name) (f k n : ℕ) (c : Process) (x : Name) (y : Process) →
-    (find (with_at live (child p f k) c) x ≡ Some y) ⊎ ((j : ℕ) × (suc k ≤ j) × (j < suc k + n) × (x ≡ child p f j)) → (find live x ≡ Some y) ⊎ ((j : ℕ) × (k ≤ j) × (j < k + suc n) × (x ≡ child p f j))
+    (find (with_at live (child p f k) c) x ≡ Some y) ⊎ ((j : ℕ) × (suc k ≤ j) × (j < suc k + n) × (x ≡ child p f j)) → (find live x ≡ Some y)
+    ⊎ ((j : ℕ) × (k ≤ j) × (j < k + suc n) × (x ≡ child p f j))
 only_at live p f k n c x y (inr h) = inr (h.0, omega arith, omega arith, h.3)
 only_at live p f k n c x y (inl h) = elim (same-or-other x (child p f k)) [
   | inl e ↦ inr (k, omega arith, omega arith, e)
@@ -143,11 +160,13 @@ module _ (unit : ProgramUnit) (p : Name) (f share : ℕ) (parent : Spot) where
       let s1 : Processes = with_child unit (child p f k) share parent b s in
       let c : Process = child_process unit share b in
       let more : Forked s1.live (with_children unit p f (suc k) share parent bs s1).live p f (suc k) (length bs) =
-      forked_children bs (suc k) q s1 (kept_child s.live p f k c p q free e) le (free_child s.live p f k c free) (fresh_child s.live p q f k c e le free refl fresh) in
+      forked_children bs (suc k) q s1 (kept_child s.live p f k c p q free e) le (free_child s.live p f k c free)
+      (fresh_child s.live p q f k c e le free refl fresh) in
       record {
         fresh = more.fresh;
         kept = λ x y h. more.kept x y (kept_child s.live p f k c x y free h);
-        born = λ j h l. born_at (with_children unit p f (suc k) share parent bs s1).live p f k (length bs) c j h l (more.kept (child p f k) c (find-with_at-same s.live (child p f k) c)) refl more.born;
+        born = λ j h l. born_at (with_children unit p f (suc k) share parent bs s1).live p f k (length bs) c j h l
+            (more.kept (child p f k) c (find-with_at-same s.live (child p f k) c)) refl more.born;
         only = λ x y h. only_at s.live p f k (length bs) c x y (more.only x y h);
       }
 

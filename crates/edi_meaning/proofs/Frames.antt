@@ -67,7 +67,8 @@ pub own_shape : (store : Store) → HasShape (shape store) store
 own_shape store = record { each = λ r. refl }
 
 -- a call changes the shape, and its end restores it
-pub returned : (p : Name) (i : Instance) (F : Shape) (before store : Store) → HasShape F before → HasShape (shape (grown p i before)) store → HasShape F (shrunk p store)
+pub returned : (p : Name) (i : Instance) (F : Shape) (before store : Store) → HasShape F before → HasShape (shape (grown p i before)) store
+    → HasShape F (shrunk p store)
 returned p i F before store h k = record { each = λ r. go r (same-or-other r p) }
   where
     go : (r : Name) → (r ≡ p) ⊎ (same r p ≡ false) → shape (shrunk p store) r ≡ F r
@@ -128,13 +129,15 @@ take-nil (suc n) = refl
 
 shrunk_turnover : (p : Name) (store : Store) (fs : List Frame) → shape store p ≡ fs → Turnover fs (shape (shrunk p store) p)
 shrunk_turnover p store [] e =
-    unchanged (ap frames (instances-same store p _) ∙ frames-take (length (instances store p) - 1) (instances store p) ∙ ap (take (length (instances store p) - 1)) e ∙ take-nil (length (instances store p) - 1))
+    unchanged (ap frames (instances-same store p _) ∙ frames-take (length (instances store p) - 1) (instances store p)
+    ∙ ap (take (length (instances store p) - 1)) e ∙ take-nil (length (instances store p) - 1))
 shrunk_turnover p store (f ∷ fs) e =
     let r : (before : List Frame) × (g : Frame) × ((f ∷ fs) ≡ before ++ g ∷ []) = last_frame f fs in
     left r.1 (r.2 ∙ ap (λ l. l ++ r.1 ∷ []) (sym (shape-shrunk p store r.0 r.1 (e ∙ r.2))))
 
 -- the instances of p become these, and the frames of the others stay
-others_stay : (p : Name) (before store : Store) (is : List Instance) → HasShape (shape before) store → (r : Name) → same r p ≡ false → shape (with_at store p is) r ≡ shape before r
+others_stay : (p : Name) (before store : Store) (is : List Instance) → HasShape (shape before) store → (r : Name) → same r p ≡ false
+    → shape (with_at store p is) r ≡ shape before r
 others_stay p before store is h r n = ap frames (instances-other store p r is n) ∙ h.each r
 
 module _ (unit : ProgramUnit) (p : Name) (size : ℕ) (before : Store) where
@@ -151,4 +154,5 @@ module _ (unit : ProgramUnit) (p : Name) (size : ℕ) (before : Store) where
 pub local_steps : (unit : ProgramUnit) (p : Name) (size : ℕ) (standing : Standing) (work : List Work) (w : World) →
     Keeps (framing unit p size) (λ a v. Steps p w.store v.store) (local_step unit p size standing work w)
 local_steps unit p size standing work w =
-    local_keeps (framing unit p size) (shape w.store) (λ v. Steps p w.store v.store) (turnovers unit p size w.store) standing work w (λ idle v h. tt) (own_shape w.store)
+    local_keeps (framing unit p size) (shape w.store) (λ v. Steps p w.store v.store) (turnovers unit p size w.store) standing work w (λ idle v h. tt)
+    (own_shape w.store)

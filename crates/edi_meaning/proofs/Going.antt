@@ -8,7 +8,8 @@ use Rattle.edi_calls.proofs.Lasting.{each_call_goes_on_all}
 use Rattle.edi_unit.specs.Tree.{ProgramUnit}
 use Rattle.edi_meaning.specs.Store.{shape, now}
 use Rattle.edi_meaning.specs.Evaluation.{World}
-use Rattle.edi_meaning.specs.Step.{waiting, Process, Processes, Stepped, went, ended, back, local_step, step_of, step, may_step, Led, at, over, nowhere, onward, permitted}
+use Rattle.edi_meaning.specs.Step.{waiting, Process, Processes, Stepped, went, ended, back, local_step, step_of, step, may_step, Led, at, over, nowhere}
+use Rattle.edi_meaning.specs.Step.{onward, permitted}
 use Rattle.edi_meaning.specs.Laws.{Grows, GoesFrom, LedOn, StepsGoOn}
 use Rattle.edi_meaning.proofs.Lasting.{Any, Lasting}
 use Rattle.edi_meaning.proofs.Local.{Moving, local_keeps}
@@ -84,7 +85,8 @@ abbrev StepGoes : World → Stepped → Type 0
 StepGoes w (went t next quiet) = GoesFrom w t.world.system t.world.turns
 StepGoes w (ended ending system turns) = GoesFrom w system turns
 
-goes_by_kernel : (unit : ProgramUnit) (s : Processes) (p : Name) (q : Process) (before : World) → Handles unit s p q (λ a w. GoesFrom before w.system w.turns) (λ ending. GoesFrom before) (StepGoes before)
+goes_by_kernel : (unit : ProgramUnit) (s : Processes) (p : Name) (q : Process) (before : World) → Handles unit s p q (λ a w. GoesFrom before w.system w.turns)
+    (λ ending. GoesFrom before) (StepGoes before)
 goes_by_kernel unit s p q before = record {
   of_end = λ ending system turns h. h;
   of_goes = λ work w h. h;
@@ -106,7 +108,8 @@ step_goes unit s p = go (find s.live p)
     go None = goes_same s.world
     go (Some q) =
         kernel_handles unit s p q _ _ (StepGoes s.world) (goes_by_kernel unit s p q s.world) (local_step unit p q.size q.standing q.work s.world)
-        (local_keeps (going unit p q.size s.world) tt (λ w. GoesFrom s.world w.system w.turns) (goes_further unit p q.size s.world) q.standing q.work s.world (λ idle v h. h) (goes_same s.world)).is
+        (local_keeps (going unit p q.size s.world) tt (λ w. GoesFrom s.world w.system w.turns) (goes_further unit p q.size s.world) q.standing q.work s.world
+        (λ idle v h. h) (goes_same s.world)).is
 
 -- ---- along permitted steps
 
@@ -115,11 +118,13 @@ led_all w v (at s) h k = goes_all w v s.world.system s.world.turns h k
 led_all w v (over ending system turns) h k = goes_all w v system turns h k
 led_all w v nowhere h k = tt
 
-onward_goes : (w : World) (x : Stepped) (names : List Name) (go : Processes → Led) → StepGoes w x → ((t : Processes) → LedOn t.world (go t)) → LedOn w (onward x names go)
+onward_goes : (w : World) (x : Stepped) (names : List Name) (go : Processes → Led) → StepGoes w x → ((t : Processes) → LedOn t.world (go t))
+    → LedOn w (onward x names go)
 onward_goes w (went t next quiet) names go h k = led_all w t.world (go t) h (k t)
 onward_goes w (ended ending system turns) [] go h k = h
 onward_goes w (ended ending system turns) (p ∷ ps) go h k = tt
 
 pub steps_go_on : StepsGoOn
 steps_go_on unit [] s = goes_same s.world
-steps_go_on unit (p ∷ ps) s = if_either (LedOn s.world) (may_step s p) _ nowhere (onward_goes s.world (step unit s p) ps (permitted unit ps) (step_goes unit s p) (λ t. steps_go_on unit ps t)) tt
+steps_go_on unit (p ∷ ps) s = if_either (LedOn s.world) (may_step s p) _ nowhere
+    (onward_goes s.world (step unit s p) ps (permitted unit ps) (step_goes unit s p) (λ t. steps_go_on unit ps t)) tt

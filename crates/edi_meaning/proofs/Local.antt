@@ -9,13 +9,16 @@ use Rattle.edi_unit.specs.Tree.{Act, Acts, Clauses, ProgramUnit}
 use Rattle.edi_meaning.specs.Store.{Spot, Closure, system_procedure, block_procedure, Cell, procedure, shape, room, grown, shrunk}
 use Rattle.edi_meaning.specs.Evaluation.{World, Evaluation, gives, turn}
 use Rattle.edi_meaning.specs.Whole.{meant, instance_of}
-use Rattle.edi_meaning.specs.Step.{Position, Work, doing, loop_end, procedure_end, branch_end, program_entry, program_end, Standing, ready, at_when, waiting, Asks, chosen, called, statement_step, work_step, attempt, local_step}
-use Rattle.edi_meaning.proofs.Lasting.{Every, Any, Lasting, Keeps, At, give, stop, bind, turn_keeps, if_keeps, system_keeps, whole_arguments_keep, whole_assignment_keeps, whole_condition_keeps, whole_first_keeps}
+use Rattle.edi_meaning.specs.Step.{Position, Work, doing, loop_end, procedure_end, branch_end, program_entry, program_end, Standing, ready, at_when, waiting}
+use Rattle.edi_meaning.specs.Step.{Asks, chosen, called, statement_step, work_step, attempt, local_step}
+use Rattle.edi_meaning.proofs.Lasting.{Every, Any, Lasting, Keeps, At, give, stop, bind, turn_keeps, if_keeps, system_keeps, whole_arguments_keep}
+use Rattle.edi_meaning.proofs.Lasting.{whole_assignment_keeps, whole_condition_keeps, whole_first_keeps}
 
 -- T comes of a fact, also where a block is entered, left, or the first one of the program
 pub record Moving {unit : ProgramUnit} {p : Name} {size : ℕ} (s : Lasting unit p size) (x : s.Level) (T : World → Type 0) : Type 0 where
   pub stays : (w : World) → s.Holds x w → T w
-  pub grows : (number : ℕ) (parent : Spot) (cells : List Cell) (w : World) → s.Fits x (procedure (block_procedure number parent)) → Every (s.Fits x) cells → s.Holds x w →
+  pub grows : (number : ℕ) (parent : Spot) (cells : List Cell) (w : World) → s.Fits x (procedure (block_procedure number parent)) → Every (s.Fits x) cells
+      → s.Holds x w →
       T (record w { store = grown p (instance_of unit p size number parent cells) w.store })
   pub shrinks : (w : World) → s.Holds x w → T (record w { store = shrunk p w.store })
   pub begins : (w : World) → s.Holds x w →
@@ -47,7 +50,8 @@ module _ {unit : ProgramUnit} {p : Name} {size : ℕ} (s : Lasting unit p size) 
   chosen_keeps (tree.clause_then (tree.clause e as') cs) n w h =
       bind s x Any _ _ _ (whole_condition_keeps s x e w h) (λ holds w _ h. if_keeps s _ holds _ _ (give s _ _ w (tt, h)) (chosen_keeps cs (suc n) w h))
 
-  called_keeps : (c : Closure) (cells : List Cell) (line : ℕ) (work : List Work) (w : World) → s.Fits x (procedure c) → Every (s.Fits x) cells → s.Holds x w → Leads (called unit p size c cells line work w)
+  called_keeps : (c : Closure) (cells : List Cell) (line : ℕ) (work : List Work) (w : World) → s.Fits x (procedure c) → Every (s.Fits x) cells → s.Holds x w
+      → Leads (called unit p size c cells line work w)
   called_keeps (system_procedure number) cells line work w c f h = bind s x Any _ _ _ (system_keeps s x number cells line w f h) (λ _ w _ h. on _ w h)
   called_keeps (block_procedure number parent) cells line work w c f h =
       if_keeps s _ (nat_lt (room size (shape w.store p)) (block_at unit.blocks number).need) _ _ (stop s x _ _ w tt h)
@@ -57,7 +61,8 @@ module _ {unit : ProgramUnit} {p : Name} {size : ℕ} (s : Lasting unit p size) 
   statement_keeps tree.skip position work w h = on _ w h
   statement_keeps (tree.assign v e) position work w h = bind s x Any _ _ _ (whole_assignment_keeps s x v e w h) (λ _ w _ h. on _ w h)
   statement_keeps (tree.call c es line) position work w h =
-      bind s x (Every (s.Fits x)) _ _ _ (whole_arguments_keep s x es w h) (λ cells w f h. called_keeps (meant unit p size c w) cells line work w (s.by_procedure x c w h) f h)
+      bind s x (Every (s.Fits x)) _ _ _ (whole_arguments_keep s x es w h)
+      (λ cells w f h. called_keeps (meant unit p size c w) cells line work w (s.by_procedure x c w h) f h)
   statement_keeps (tree.halt line) position work w h = stop s x _ (outcome.halted line) w tt h
   statement_keeps (tree.if_act cs) position work w h = bind s x Any _ _ _ (chosen_keeps cs 0 w h) (λ c w _ h. on _ w h)
   statement_keeps (tree.while_act cs) position work w h = bind s x Any _ _ _ (chosen_keeps cs 0 w h) (λ c w _ h. on _ w h)

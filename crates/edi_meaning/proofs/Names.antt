@@ -1,5 +1,6 @@
 -- Names of processes: a child's name tells its parent, its fork and its number.
-use Rattle.std.proofs.Common.{◌≡◌, ℕ, ◌⊎◌, inl, inr, false, List, [], ◌∷◌, ◌++◌, length, ◌-◌, Option, Some, None, refl, sym, ap, ◌∙◌, arith, append_assoc, length-append}
+use Rattle.std.proofs.Common.{◌≡◌, ℕ, ◌⊎◌, inl, inr, false, List, [], ◌∷◌, ◌++◌, length, ◌-◌, Option, Some, None, refl, sym, ap, ◌∙◌, arith, append_assoc}
+use Rattle.std.proofs.Common.{length-append}
 use Rattle.std.proofs.lemmas.List.{append-nil, take_at}
 use Rattle.edi_calls.specs.Names.{Name}
 use Rattle.edi_calls.specs.Ready.{child, parent_of, has}
@@ -33,9 +34,11 @@ last_of y (z ∷ xs) =
 pub same_ends : (xs ys : List ℕ) (a b c d : ℕ) → xs ++ a ∷ b ∷ [] ≡ ys ++ c ∷ d ∷ [] → (xs ≡ ys) × (a ≡ c) × (b ≡ d)
 same_ends [] [] a b c d e = (refl, (cc), (cc))
 same_ends [] (y ∷ []) a b c d e = let h : length (a ∷ b ∷ []) ≡ length (y ∷ c ∷ d ∷ []) = ap length e in absurd (omega (arith, h))
-same_ends [] (y ∷ z ∷ ys) a b c d e = let h : length (a ∷ b ∷ []) ≡ length (y ∷ z ∷ (ys ++ c ∷ d ∷ [])) = ap length e in absurd (omega (arith, h, length-append ys (c ∷ d ∷ [])))
+same_ends [] (y ∷ z ∷ ys) a b c d e = let h : length (a ∷ b ∷ []) ≡ length (y ∷ z ∷ (ys ++ c ∷ d ∷ [])) = ap length e in
+    absurd (omega (arith, h, length-append ys (c ∷ d ∷ [])))
 same_ends (x ∷ []) [] a b c d e = let h : length (x ∷ a ∷ b ∷ []) ≡ length (c ∷ d ∷ []) = ap length e in absurd (omega (arith, h))
-same_ends (x ∷ w ∷ xs) [] a b c d e = let h : length (x ∷ w ∷ (xs ++ a ∷ b ∷ [])) ≡ length (c ∷ d ∷ []) = ap length e in absurd (omega (arith, h, length-append xs (a ∷ b ∷ [])))
+same_ends (x ∷ w ∷ xs) [] a b c d e = let h : length (x ∷ w ∷ (xs ++ a ∷ b ∷ [])) ≡ length (c ∷ d ∷ []) = ap length e in
+    absurd (omega (arith, h, length-append xs (a ∷ b ∷ [])))
 same_ends (x ∷ xs) (y ∷ ys) a b c d e =
     let head : x ≡ y = first e in
     let r : (xs ≡ ys) × (a ≡ c) × (b ≡ d) = same_ends xs ys a b c d (rest e) in

@@ -44,7 +44,8 @@ module _ (unit : ProgramUnit) (ending : Ending) (end : Traced) (turns : ℕ) whe
   abbrev NeverOver : List Name → Type 0
   NeverOver names = (s : Processes) → permitted unit names s ≡ over ending end turns → IsNoBad ending
 
-  onward_no_bad : (x : Stepped) (names : List Name) → StepNoBad x → NeverOver names → onward x names (permitted unit names) ≡ over ending end turns → IsNoBad ending
+  onward_no_bad : (x : Stepped) (names : List Name) → StepNoBad x → NeverOver names → onward x names (permitted unit names) ≡ over ending end turns
+      → IsNoBad ending
   onward_no_bad (went t next quiet) names h k e = k t e
   onward_no_bad (ended other system left) [] h k e = let by : other ≡ ending = (cc) in subst IsNoBad by h
   onward_no_bad (ended other system left) (r ∷ rs) h k e = absurd (cc)
@@ -83,12 +84,14 @@ module _ (unit : ProgramUnit) (choices : Choices) where
   next_no_bad stays more s p others drawn h = h p others drawn
   next_no_bad (joins ps) more s p others drawn h = taken_no_bad (take_next choices drawn (others ++ ps)) more s drawn h
 
-  tested_no_bad : (b : Bool) (next : Next) (more : Name → List Name → ℕ → Selected) (s : Processes) (p : Name) (others : List Name) (drawn : ℕ) → MoreNoBad more →
+  tested_no_bad : (b : Bool) (next : Next) (more : Name → List Name → ℕ → Selected) (s : Processes) (p : Name) (others : List Name) (drawn : ℕ)
+      → MoreNoBad more →
       EndNoBad (if b then finished outcome.standstill s.world.system s.world.turns drawn [] else after_next choices more s p others drawn next)
   tested_no_bad true next more s p others drawn h = tt
   tested_no_bad false next more s p others drawn h = next_no_bad next more s p others drawn h
 
-  stepped_no_bad : (x : Stepped) (more : Processes → List Name → Name → List Name → ℕ → Selected) (p : Name) (others marks : List Name) (drawn : ℕ) → StepNoBad x →
+  stepped_no_bad : (x : Stepped) (more : Processes → List Name → Name → List Name → ℕ → Selected) (p : Name) (others marks : List Name) (drawn : ℕ)
+      → StepNoBad x →
       ((s : Processes) (marks : List Name) → MoreNoBad (more s marks)) → EndNoBad (after_step choices more p others marks drawn x)
   stepped_no_bad (ended ending system turns) more p others marks drawn h k = h
   stepped_no_bad (went s next quiet) more p others marks drawn h k =

@@ -1,6 +1,7 @@
 -- Where variables may be: what a cell of a process means, and where a static parent is, is with that process or an
 -- ancestor of it.
-use Rattle.std.proofs.Common.{◌≡◌, ℕ, zero, suc, ◌+◌, ◌-◌, ◌≤◌, ◌⊎◌, inl, inr, false, List, [], ◌∷◌, ◌++◌, map, take, length, Option, Some, None, refl, sym, subst, ap, ◌∙◌, arith}
+use Rattle.std.proofs.Common.{◌≡◌, ℕ, zero, suc, ◌+◌, ◌-◌, ◌≤◌, ◌⊎◌, inl, inr, false, List, [], ◌∷◌, ◌++◌, map, take, length, Option, Some, None, refl, sym}
+use Rattle.std.proofs.Common.{subst, ap, ◌∙◌, arith}
 use Rattle.std.specs.Prelude.{⊤, slice_get, slice_set, slice_index_or, unwrap_or}
 use Rattle.std.proofs.lemmas.List.{length-take, nil_from_length}
 use Rattle.edi_calls.specs.Names.{Name, same, with_at, without}
@@ -12,7 +13,9 @@ use Rattle.edi_unit.specs.Need.{block_at}
 use Rattle.edi_unit.specs.Types as types
 use Rattle.edi_unit.specs.Values.{Value, zero_value}
 use Rattle.edi_unit.specs.Tree.{ProgramUnit}
-use Rattle.edi_meaning.specs.Store.{Spot, Location, system_procedure, block_procedure, Cell, value, location, procedure, Instance, Store, instances, frames, shape, no_frame, frame_at, reached, now, cells_in, with_cell_in, no_cell, cell, located, slot, put, procedure_in, ancestor, Owns}
+use Rattle.edi_meaning.specs.Store.{Spot, Location, system_procedure, block_procedure, Cell, value, location, procedure, Instance, Store, instances, frames}
+use Rattle.edi_meaning.specs.Store.{shape, no_frame, frame_at, reached, now, cells_in, with_cell_in, no_cell, cell, located, slot, put, procedure_in}
+use Rattle.edi_meaning.specs.Store.{ancestor, Owns}
 use Rattle.edi_meaning.specs.Evaluation.{World}
 use Rattle.edi_meaning.specs.Whole.{result_cells, meant, instance_of}
 use Rattle.edi_meaning.proofs.Lasting.{Every}
@@ -149,7 +152,8 @@ module _ (P : Cell → Type 0) (values : (v : Value) → P (value v)) where
   zeros_fit ts (v ∷ vs) = (values (zero_value ts v), zeros_fit ts vs)
 
   -- what holds of values and of the arguments holds of all cells
-  pub new_cells_fit : (unit : ProgramUnit) (r : Name) (size number : ℕ) (parent : Spot) (cells : List Cell) → Every P cells → Every P (instance_of unit r size number parent cells).cells
+  pub new_cells_fit : (unit : ProgramUnit) (r : Name) (size number : ℕ) (parent : Spot) (cells : List Cell) → Every P cells
+      → Every P (instance_of unit r size number parent cells).cells
   new_cells_fit unit r size number parent cells h =
       let vs : List ℕ = (block_at unit.blocks number).variables in
       every-append P (result_cells unit.types (block_at unit.blocks number).result) (cells ++ map (λ t. value (zero_value unit.types t)) vs)
@@ -160,7 +164,8 @@ pub calls_fit : (P : Cell → Type 0) → ((n : ℕ) → P (procedure (system_pr
 calls_fit P h [] = tt
 calls_fit P h (n ∷ ns) = (h n, calls_fit P h ns)
 
-pub instance_owned : (unit : ProgramUnit) (r : Name) (size number : ℕ) (parent : Spot) (cells : List Cell) → Owns r parent.0 → Every (CellOwned r) cells → InstanceOwned r (instance_of unit r size number parent cells)
+pub instance_owned : (unit : ProgramUnit) (r : Name) (size number : ℕ) (parent : Spot) (cells : List Cell) → Owns r parent.0 → Every (CellOwned r) cells
+    → InstanceOwned r (instance_of unit r size number parent cells)
 instance_owned unit r size number parent cells o h = record { parent = o; cells = new_cells_fit (CellOwned r) (λ v. tt) unit r size number parent cells h }
 
 -- ---- changes of a store
@@ -181,17 +186,20 @@ pub owned_with : (store : Store) (p : Name) (is : List Instance) → Owned store
 owned_with store p is o h = record { each = λ r. go r (same-or-other r p) }
   where
     go : (r : Name) → (r ≡ p) ⊎ (same r p ≡ false) → Every (InstanceOwned r) (instances (with_at store p is) r)
-    go r (inl e) = subst (λ z. Every (InstanceOwned z) (instances (with_at store p is) z)) (sym e) (subst (Every (InstanceOwned p)) (sym (instances-same store p is)) h)
+    go r (inl e) = subst (λ z. Every (InstanceOwned z) (instances (with_at store p is) z)) (sym e)
+        (subst (Every (InstanceOwned p)) (sym (instances-same store p is)) h)
     go r (inr n) = subst (Every (InstanceOwned r)) (sym (instances-other store p r is n)) (o.each r)
 
 pub owned_without : (store : Store) (p : Name) → Owned store → Owned (without store p)
 owned_without store p o = record { each = λ r. go r (same-or-other r p) }
   where
     go : (r : Name) → (r ≡ p) ⊎ (same r p ≡ false) → Every (InstanceOwned r) (instances (without store p) r)
-    go r (inl e) = subst (λ z. Every (InstanceOwned z) (instances (without store p) z)) (sym e) (subst (Every (InstanceOwned p)) (sym (instances-gone store p)) tt)
+    go r (inl e) = subst (λ z. Every (InstanceOwned z) (instances (without store p) z)) (sym e)
+        (subst (Every (InstanceOwned p)) (sym (instances-gone store p)) tt)
     go r (inr n) = subst (Every (InstanceOwned r)) (sym (instances-left store p r n)) (o.each r)
 
-with_cell_owned : (r : Name) (is : List Instance) (depth variable : ℕ) (c : Cell) → CellOwned r c → Every (InstanceOwned r) is → Every (InstanceOwned r) (with_cell_in is depth variable c)
+with_cell_owned : (r : Name) (is : List Instance) (depth variable : ℕ) (c : Cell) → CellOwned r c → Every (InstanceOwned r) is
+    → Every (InstanceOwned r) (with_cell_in is depth variable c)
 with_cell_owned r [] depth variable c k h = tt
 with_cell_owned r (i ∷ is) zero variable c k h = (record { parent = h.0.parent; cells = every-set (CellOwned r) i.cells variable c k h.0.cells }, h.1)
 with_cell_owned r (i ∷ is) (suc depth) variable c k h = (h.0, with_cell_owned r is depth variable c k h.1)

@@ -1,9 +1,11 @@
 -- Parents wait for their children, and for no others.
-use Rattle.std.proofs.Common.{◌≡◌, ℕ, zero, suc, ◌+◌, ◌-◌, ◌<◌, ◌⊎◌, inl, inr, Bool, true, false, not, ◌||◌, ◌&&◌, if◌then◌else◌, List, [], ◌∷◌, ◌++◌, length, length-append, Option, Some, None, refl, sym, subst, ap, ◌∙◌, arith}
+use Rattle.std.proofs.Common.{◌≡◌, ℕ, zero, suc, ◌+◌, ◌-◌, ◌<◌, ◌⊎◌, inl, inr, Bool, true, false, not, ◌||◌, ◌&&◌, if◌then◌else◌, List, [], ◌∷◌, ◌++◌}
+use Rattle.std.proofs.Common.{length, length-append, Option, Some, None, refl, sym, subst, ap, ◌∙◌, arith}
 use Rattle.std.proofs.lemmas.List.{length-take, nil_from_length}
 use Rattle.edi_calls.specs.Names.{Name, Table, same, find, with_at, without, names}
 use Rattle.edi_calls.specs.Ready.{child, parent_of, has}
-use Rattle.edi_calls.proofs.Tables.{same-refl, same-equal, same-or-other, same-symmetric, find-with_at-same, find-with_at-other, find-without-same, find-without-other}
+use Rattle.edi_calls.proofs.Tables.{same-refl, same-equal, same-or-other, same-symmetric, find-with_at-same, find-with_at-other, find-without-same}
+use Rattle.edi_calls.proofs.Tables.{find-without-other}
 use Rattle.edi_meaning.specs.Step.{Standing, waiting, Process, awaits, is_running}
 use Rattle.edi_meaning.specs.Laws.{is_child, children_in, IsWaiting}
 use Rattle.edi_meaning.proofs.Names.{some_is, no_some, parent-child, Once}
@@ -48,7 +50,8 @@ module _ {A : Type 0} where
   names-with_at [] p a b e = cc
   names-with_at (entry ∷ t) p a b e = go (same p entry.0) e (names-with_at t p a b)
     where
-      go : (c : Bool) → (if c then Some entry.1 else find t p) ≡ Some b → (find t p ≡ Some b → names (with_at t p a) ≡ names t) → names (if c then (entry.0, a) ∷ t else entry ∷ with_at t p a) ≡ (entry.0 ∷ names t)
+      go : (c : Bool) → (if c then Some entry.1 else find t p) ≡ Some b → (find t p ≡ Some b → names (with_at t p a) ≡ names t)
+          → names (if c then (entry.0, a) ∷ t else entry ∷ with_at t p a) ≡ (entry.0 ∷ names t)
       go true f h = refl
       go false f h = ap (λ l. entry.0 ∷ l) (h f)
 
@@ -57,13 +60,16 @@ module _ {A : Type 0} where
   names-with_new [] p a e = refl
   names-with_new (entry ∷ t) p a e = go (same p entry.0) e (names-with_new t p a)
     where
-      go : (c : Bool) → (if c then Some entry.1 else find t p) ≡ None → (find t p ≡ None → names (with_at t p a) ≡ names t ++ p ∷ []) → names (if c then (entry.0, a) ∷ t else entry ∷ with_at t p a) ≡ (entry.0 ∷ names t) ++ p ∷ []
+      go : (c : Bool) → (if c then Some entry.1 else find t p) ≡ None → (find t p ≡ None → names (with_at t p a) ≡ names t ++ p ∷ [])
+          → names (if c then (entry.0, a) ∷ t else entry ∷ with_at t p a) ≡ (entry.0 ∷ names t) ++ p ∷ []
       go true f h = cc
       go false f h = ap (λ l. entry.0 ∷ l) (h f)
 
   pub once-new : (t : Table A) (p : Name) (a : A) → find t p ≡ None → Once (names t) → Once (names (with_at t p a))
   once-new t p a e o =
-      subst Once (sym (names-with_new t p a e)) (once-append (names t) (p ∷ []) o (refl, tt) (λ x h. not_true (has (p ∷ []) x) (λ k. true_false (sym h ∙ ap (has (names t)) (is_one x k) ∙ not_found t p e))))
+      subst Once (sym (names-with_new t p a e))
+      (once-append (names t) (p ∷ []) o (refl, tt)
+      (λ x h. not_true (has (p ∷ []) x) (λ k. true_false (sym h ∙ ap (has (names t)) (is_one x k) ∙ not_found t p e))))
     where
       is_one : (x : Name) → has (p ∷ []) x ≡ true → x ≡ p
       is_one x k = same-equal x p (sym (right_false (same x p)) ∙ k)
@@ -74,7 +80,11 @@ module _ {A : Type 0} where
     where
       go : (c : Bool) → same p entry.0 ≡ c → Once (names (without t p)) → Once (names (if c then without t p else entry ∷ without t p))
       go true e h = h
-      go false e h = (has-names (without t p) entry.0 ∙ ap is_found (find-without-other t p entry.0 (same-symmetric p entry.0 e)) ∙ sym (has-names t entry.0) ∙ o.0, h)
+      go false e h = (
+        has-names (without t p) entry.0 ∙ ap is_found (find-without-other t p entry.0 (same-symmetric p entry.0 e)) ∙ sym (has-names t entry.0)
+            ∙ o.0,
+        h,
+      )
 
 -- ---- counting children
 
@@ -109,7 +119,8 @@ some_children_in : (ns : List Name) (r p : Name) → has ns r ≡ true → is_ch
 some_children_in [] r p h k = absurd (true_false (sym h))
 some_children_in (x ∷ xs) r p h k = go (some_children_in xs r p) (same-or-other r x)
   where
-    go : (has xs r ≡ true → is_child r p ≡ true → 0 < children_in xs p) → (r ≡ x) ⊎ (same r x ≡ false) → 0 < (if is_child x p then suc (children_in xs p) else children_in xs p)
+    go : (has xs r ≡ true → is_child r p ≡ true → 0 < children_in xs p) → (r ≡ x) ⊎ (same r x ≡ false)
+        → 0 < (if is_child x p then suc (children_in xs p) else children_in xs p)
     go ih (inl e) = omega (arith, ap (λ b. if b then suc (children_in xs p) else children_in xs p) (sym (ap (λ y. is_child y p) e) ∙ k))
     go ih (inr n) = omega (arith, count_first (is_child x p) (children_in xs p), ih (sym (ap (λ b. b || has xs r) n) ∙ h) k)
 
@@ -118,24 +129,33 @@ module _ {A : Type 0} where
   names-without_none [] c h = refl
   names-without_none (x ∷ xs) c h = go (same c x.0) h (names-without_none xs c)
     where
-      go : (b : Bool) → (b || has (names xs) c) ≡ false → (has (names xs) c ≡ false → names (without xs c) ≡ names xs) → names (if b then without xs c else x ∷ without xs c) ≡ (x.0 ∷ names xs)
+      go : (b : Bool) → (b || has (names xs) c) ≡ false → (has (names xs) c ≡ false → names (without xs c) ≡ names xs)
+          → names (if b then without xs c else x ∷ without xs c) ≡ (x.0 ∷ names xs)
       go true k ih = absurd (true_false k)
       go false k ih = ap (λ l. x.0 ∷ l) (ih k)
 
   -- one child less, where a child is taken out
-  children-without : (t : Table A) (c p : Name) (a : A) → find t c ≡ Some a → Once (names t) → children_in (names (without t c)) p + one_if (is_child c p) ≡ children_in (names t) p
+  children-without : (t : Table A) (c p : Name) (a : A) → find t c ≡ Some a → Once (names t) → children_in (names (without t c)) p + one_if (is_child c p)
+      ≡ children_in (names t) p
   children-without [] c p a e o = cc
   children-without (entry ∷ t) c p a e o = go (same c entry.0) refl e (children-without t c p a)
     where
-      go : (b : Bool) → same c entry.0 ≡ b → (if b then Some entry.1 else find t c) ≡ Some a → (find t c ≡ Some a → Once (names t) → children_in (names (without t c)) p + one_if (is_child c p) ≡ children_in (names t) p) →
+      go : (b : Bool) → same c entry.0 ≡ b → (if b then Some entry.1 else find t c) ≡ Some a
+          → (find t c ≡ Some a → Once (names t) → children_in (names (without t c)) p + one_if (is_child c p) ≡ children_in (names t) p) →
           children_in (names (if b then without t c else entry ∷ without t c)) p + one_if (is_child c p) ≡ children_in (entry.0 ∷ names t) p
       go true s f ih =
           let q : c ≡ entry.0 = same-equal c entry.0 s in
-          let rest : children_in (names (without t c)) p ≡ children_in (names t) p = ap (λ l. children_in l p) (names-without_none t c (ap (has (names t)) q ∙ o.0)) in
+          let rest : children_in (names (without t c)) p ≡ children_in (names t) p = ap (λ l. children_in l p)
+          (names-without_none t c (ap (has (names t)) q ∙ o.0)) in
           let which : one_if (is_child c p) ≡ one_if (is_child entry.0 p) = ap (λ y. one_if (is_child y p)) q in
           omega (arith, rest, which, count_first (is_child entry.0 p) (children_in (names t) p))
       go false s f ih =
-          omega (arith, ih f o.1, count_first (is_child entry.0 p) (children_in (names t) p), count_first (is_child entry.0 p) (children_in (names (without t c)) p))
+          omega (
+            arith,
+            ih f o.1,
+            count_first (is_child entry.0 p) (children_in (names t) p),
+            count_first (is_child entry.0 p) (children_in (names (without t c)) p),
+          )
 
 -- ---- who is whose child
 
@@ -147,7 +167,8 @@ child_differs p f i = go (same-or-other (child p f i) p)
     go (inr n) = n
 
 pub child_is_child : (p : Name) (f i : ℕ) → is_child (child p f i) p ≡ true
-child_is_child p f i = ap (λ x. same x p && not (same (child p f i) p)) (parent-child p f i) ∙ ap (λ b. b && not (same (child p f i) p)) (same-refl p) ∙ ap not (child_differs p f i)
+child_is_child p f i = ap (λ x. same x p && not (same (child p f i) p)) (parent-child p f i) ∙ ap (λ b. b && not (same (child p f i) p)) (same-refl p)
+    ∙ ap not (child_differs p f i)
 
 pub not_child_of : (r p : Name) → same (parent_of r) p ≡ false → is_child r p ≡ false
 not_child_of r p n = ap (λ b. b && not (same r p)) n
@@ -177,7 +198,8 @@ pub record FamilyBut (live : Table Process) (p : Name) : Type 0 where
   pub parents : (r : Name) (q : Process) → find live r ≡ Some q → (r ≡ []) ⊎ IsWaiting live (parent_of r)
   pub counts : (z : Name) (q : Process) (n : ℕ) → same z p ≡ false → find live z ≡ Some q → q.standing ≡ waiting n → children_in (names live) z ≡ n
 
-pub whole_family : (live : Table Process) (p : Name) → FamilyBut live p → ((q : Process) (n : ℕ) → find live p ≡ Some q → q.standing ≡ waiting n → children_in (names live) p ≡ n) → Family live
+pub whole_family : (live : Table Process) (p : Name) → FamilyBut live p
+    → ((q : Process) (n : ℕ) → find live p ≡ Some q → q.standing ≡ waiting n → children_in (names live) p ≡ n) → Family live
 whole_family live p f own = record { once = f.once; parents = f.parents; counts = λ z q n e w. go z q n e w (same-or-other z p) }
   where
     go : (z : Name) (q : Process) (n : ℕ) → find live z ≡ Some q → q.standing ≡ waiting n → (z ≡ p) ⊎ (same z p ≡ false) → children_in (names live) z ≡ n
@@ -202,7 +224,8 @@ module _ (live : Table Process) (p : Name) (q : Process) (found : find live p �
     where
       go : (z ≡ p) ⊎ (same z p ≡ false) → same z p ≡ false
       go (inr n) = n
-      go (inl e) = absurd (waiting_does_not_run q.standing w.number runs (ap (λ x. x.standing) (some_is (sym found ∙ sym (ap (find live) e) ∙ w.found)) ∙ w.standing))
+      go (inl e) = absurd (waiting_does_not_run q.standing w.number runs
+          (ap (λ x. x.standing) (some_is (sym found ∙ sym (ap (find live) e) ∙ w.found)) ∙ w.standing))
 
   pub no_children : children_in (names live) p ≡ 0
   no_children = no_children_in (names live) p (λ r h. of r (found_of live r h))
@@ -251,10 +274,12 @@ module _ (live : Table Process) (p : Name) (q : Process) (found : find live p �
   left_was z x e = sym (find-without-other live p z (left_apart z x e)) ∙ e
 
   parents_left : (r : Name) (x : Process) → find (without live p) r ≡ Some x → (r ≡ []) ⊎ IsWaiting (without live p) (parent_of r)
-  parents_left r x e = elim (family.parents r x (left_was r x e)) [ inl k ↦ inl k | inr w ↦ inr (waiting_without live p (parent_of r) (waits_apart (parent_of r) w) w) ]
+  parents_left r x e = elim (family.parents r x (left_was r x e))
+      [ inl k ↦ inl k | inr w ↦ inr (waiting_without live p (parent_of r) (waits_apart (parent_of r) w) w) ]
 
   -- the number of children of another than its parent is the same
-  counts_left : (z : Name) (x : Process) (n : ℕ) → is_child p z ≡ false → find (without live p) z ≡ Some x → x.standing ≡ waiting n → children_in (names (without live p)) z ≡ n
+  counts_left : (z : Name) (x : Process) (n : ℕ) → is_child p z ≡ false → find (without live p) z ≡ Some x → x.standing ≡ waiting n
+      → children_in (names (without live p)) z ≡ n
   counts_left z x n k e w =
       omega (arith, children-without live p z q found family.once, ap one_if k, family.counts z x n (left_was z x e) w)
 
@@ -266,12 +291,14 @@ module _ (live : Table Process) (p : Name) (q : Process) (found : find live p �
     counts = λ z x n e w. counts_left z x n (not_child_of p z (other z x n e w (same-or-other (parent_of p) z))) e w;
   }
     where
-      other : (z : Name) (x : Process) (n : ℕ) → find (without live p) z ≡ Some x → x.standing ≡ waiting n → (parent_of p ≡ z) ⊎ (same (parent_of p) z ≡ false) → same (parent_of p) z ≡ false
+      other : (z : Name) (x : Process) (n : ℕ) → find (without live p) z ≡ Some x → x.standing ≡ waiting n → (parent_of p ≡ z)
+          ⊎ (same (parent_of p) z ≡ false) → same (parent_of p) z ≡ false
       other z x n e w (inl k) = absurd (nobody x n (ap (find (without live p)) k ∙ e) w)
       other z x n e w (inr m) = m
 
   -- and its parent waits for one less
-  pub family_awaited : (y : Process) (n : ℕ) → find (without live p) (parent_of p) ≡ Some y → y.standing ≡ waiting n → Family (with_at (without live p) (parent_of p) (record y { standing = awaits (n - 1) }))
+  pub family_awaited : (y : Process) (n : ℕ) → find (without live p) (parent_of p) ≡ Some y → y.standing ≡ waiting n
+      → Family (with_at (without live p) (parent_of p) (record y { standing = awaits (n - 1) }))
   family_awaited y n e w = whole_family after r but own
     where
       r : Name
@@ -301,7 +328,8 @@ module _ (live : Table Process) (p : Name) (q : Process) (found : find live p �
       more (suc m) k h = record { process = y'; found = find-with_at-same rest r y'; number = suc m; standing = ap awaits k }
 
       -- whoever is left has a parent that waits
-      up : (z : Name) (x : Process) → find rest z ≡ Some x → (parent_of z ≡ r) ⊎ (same (parent_of z) r ≡ false) → (z ≡ []) ⊎ IsWaiting rest (parent_of z) → (z ≡ []) ⊎ IsWaiting after (parent_of z)
+      up : (z : Name) (x : Process) → find rest z ≡ Some x → (parent_of z ≡ r) ⊎ (same (parent_of z) r ≡ false) → (z ≡ []) ⊎ IsWaiting rest (parent_of z)
+          → (z ≡ []) ⊎ IsWaiting after (parent_of z)
       up z x f k (inl h) = inl h
       up z x f (inr m) (inr h) = inr (still_waiting rest r y' (parent_of z) m h)
       up z x f (inl k) (inr h) = elim (same-or-other z r) [
@@ -318,8 +346,10 @@ module _ (live : Table Process) (p : Name) (q : Process) (found : find live p �
       but : FamilyBut after r
       but = record {
         once = subst Once (sym same_names) (once-without live p family.once);
-        parents = λ z x f. let a : (a : Process) × (find rest z ≡ Some a) = was_left z x f in up z a.0 a.1 (same-or-other (parent_of z) r) (parents_left z a.0 a.1);
-        counts = λ z x m d f g. ap (λ l. children_in l z) same_names ∙ counts_left z x m (not_child_of p z (same-symmetric z r d)) (sym (find-with_at-other rest r z y' d) ∙ f) g;
+        parents = λ z x f. let a : (a : Process) × (find rest z ≡ Some a) = was_left z x f in
+            up z a.0 a.1 (same-or-other (parent_of z) r) (parents_left z a.0 a.1);
+        counts = λ z x m d f g. ap (λ l. children_in l z) same_names ∙ counts_left z x m (not_child_of p z (same-symmetric z r d))
+            (sym (find-with_at-other rest r z y' d) ∙ f) g;
       }
 
       of_awaits : (m k : ℕ) → awaits m ≡ waiting k → m ≡ k

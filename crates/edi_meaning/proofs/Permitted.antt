@@ -1,5 +1,6 @@
 -- The execution that the choices select is a permitted one.
-use Rattle.std.proofs.Common.{◌≡◌, ℕ, zero, suc, ◌+◌, ◌-◌, ◌<◌, ◌≤◌, ◌⊎◌, inl, inr, Bool, true, false, ◌||◌, if◌then◌else◌, List, [], ◌∷◌, ◌++◌, length, Option, Some, None, ◌&&◌, refl, sym, subst, ap, ◌∙◌, arith}
+use Rattle.std.proofs.Common.{◌≡◌, ℕ, zero, suc, ◌+◌, ◌-◌, ◌<◌, ◌≤◌, ◌⊎◌, inl, inr, Bool, true, false, ◌||◌, if◌then◌else◌, List, [], ◌∷◌, ◌++◌, length}
+use Rattle.std.proofs.Common.{Option, Some, None, ◌&&◌, refl, sym, subst, ap, ◌∙◌, arith}
 use Rattle.std.specs.Prelude.{⊤}
 use Rattle.std.proofs.lemmas.List.{append-nil}
 use Rattle.edi_calls.specs.State.{State, Traced}
@@ -12,14 +13,17 @@ use Rattle.edi_calls.proofs.Tables.{same-refl, same-equal, same-or-other, find-w
 use Rattle.edi_unit.specs.Tree.{ProgramUnit}
 use Rattle.edi_meaning.specs.Store.{shape, now}
 use Rattle.edi_meaning.specs.Evaluation.{World, Evaluation, gives, ends}
-use Rattle.edi_meaning.specs.Step.{Work, ready, at_when, waiting, Asks, Process, Processes, Stepped, went, ended, back, with_children, fork_taken, awaits, freed, local_step, step, start, is_running, is_running_process, may_step, Led, over, nowhere, onward, permitted}
-use Rattle.edi_meaning.specs.Select.{Selected, unfinished, finished, stepped_first, marked, is_standstill, go_on, after_next, after_step, select, select_from_start}
+use Rattle.edi_meaning.specs.Step.{Work, ready, at_when, waiting, Asks, Process, Processes, Stepped, went, ended, back, with_children, fork_taken, awaits}
+use Rattle.edi_meaning.specs.Step.{freed, local_step, step, start, is_running, is_running_process, may_step, Led, over, nowhere, onward, permitted}
+use Rattle.edi_meaning.specs.Select.{Selected, unfinished, finished, stepped_first, marked, is_standstill, go_on, after_next, after_step, select}
+use Rattle.edi_meaning.specs.Select.{select_from_start}
 use Rattle.edi_meaning.specs.Laws.{LeadsTo, SelectIsPermitted}
 use Rattle.edi_meaning.proofs.Lasting.{IsOwn, Gives}
 use Rattle.edi_meaning.proofs.Kernel.{rest_of, Handles, kernel_handles, of_process}
 use Rattle.edi_meaning.proofs.Work.{Falls, standing_size, work_size, step_falls}
 use Rattle.edi_meaning.proofs.Family.{Fresh, fresh_changed, fresh_without, free_name, free_next, Forked, forked_children, start_fresh}
-use Rattle.edi_meaning.proofs.Sound.{or_true, not_true, true_right, right_false, has-append, has-child, once-append, has-children, once-children, Each, EachTaken, each_next}
+use Rattle.edi_meaning.proofs.Sound.{or_true, not_true, true_right, right_false, has-append, has-child, once-append, has-children, once-children, Each}
+use Rattle.edi_meaning.proofs.Sound.{EachTaken, each_next}
 use Rattle.edi_meaning.proofs.Standstill.{Idle, Marks, step_marks, idle_same, AllIdle, nothing_happens, marked_one}
 
 -- p is ready or at its `when`
@@ -47,7 +51,8 @@ among : (a b : Bool) → a ≡ false → (a || b) ≡ true → b ≡ true
 among true b e f = absurd (cc)
 among false b e f = f
 
-module _ (unit : ProgramUnit) (s : Processes) (p : Name) (q : Process) (others : List Name) (found : find s.live p ≡ Some q) (fresh : Fresh s.live) (each : Each (May s.live) (p ∷ others)) where
+module _ (unit : ProgramUnit) (s : Processes) (p : Name) (q : Process) (others : List Name) (found : find s.live p ≡ Some q) (fresh : Fresh s.live)
+    (each : Each (May s.live) (p ∷ others)) where
   others_may : (x : Name) → has others x ≡ true → May s.live x
   others_may x h = each.holds x (ap (λ b. same x p || b) h ∙ true_right (same x p))
 
@@ -63,7 +68,8 @@ module _ (unit : ProgramUnit) (s : Processes) (p : Name) (q : Process) (others :
   others_changed q' x h = ap is_running_process (find-with_at-other s.live p x q' (other_than others p x each.once.0 h)) ∙ others_may x h
 
   self_changed : (q' : Process) (x : Name) → is_running q'.standing ≡ true → same x p ≡ true → May (with_at s.live p q') x
-  self_changed q' x r h = ap (λ y. is_running_process (find (with_at s.live p q') y)) (same-equal x p h) ∙ ap is_running_process (find-with_at-same s.live p q') ∙ r
+  self_changed q' x r h = ap (λ y. is_running_process (find (with_at s.live p q') y)) (same-equal x p h)
+      ∙ ap is_running_process (find-with_at-same s.live p q') ∙ r
 
   goes_sound : (q' : Process) → q.forks ≤ q'.forks → is_running q'.standing ≡ true → Fresh (with_at s.live p q') × Each (May (with_at s.live p q')) (p ∷ others)
   goes_sound q' le r = (
@@ -78,7 +84,8 @@ module _ (unit : ProgramUnit) (s : Processes) (p : Name) (q : Process) (others :
     },
   )
 
-  back_sound : (q' : Process) → q.forks ≤ q'.forks → is_running q'.standing ≡ true → Fresh (with_at s.live p q') × Each (May (with_at s.live p q')) (others ++ p ∷ [])
+  back_sound : (q' : Process) → q.forks ≤ q'.forks → is_running q'.standing ≡ true → Fresh (with_at s.live p q') × Each (May (with_at s.live p q'))
+      (others ++ p ∷ [])
   back_sound q' le r = (
     fresh_changed s.live p q q' found le fresh,
     record {
@@ -95,9 +102,11 @@ module _ (unit : ProgramUnit) (s : Processes) (p : Name) (q : Process) (others :
   )
 
   -- the others and the children stand once each, and may step
-  fork_each : (q' : Process) (n : ℕ) (after : Table Process) → q'.forks ≡ suc q.forks → is_running q'.standing ≡ false → Forked (with_at s.live p q') after p (suc q.forks) 0 n → Each (May after) (others ++ children p (suc q.forks) 0 n)
+  fork_each : (q' : Process) (n : ℕ) (after : Table Process) → q'.forks ≡ suc q.forks → is_running q'.standing ≡ false → Forked (with_at s.live p q') after p
+      (suc q.forks) 0 n → Each (May after) (others ++ children p (suc q.forks) 0 n)
   fork_each q' n after e waits fork = record {
-    once = once-append others (children p (suc q.forks) 0 n) each.once.1 (once-children p (suc q.forks) 0 n) (λ x h. not_true (has (children p (suc q.forks) 0 n) x) (λ c. apart x h (has-children p (suc q.forks) 0 n x c)));
+    once = once-append others (children p (suc q.forks) 0 n) each.once.1 (once-children p (suc q.forks) 0 n)
+        (λ x h. not_true (has (children p (suc q.forks) 0 n) x) (λ c. apart x h (has-children p (suc q.forks) 0 n x c)));
     holds = λ x h. elim (or_true (has others x) (has (children p (suc q.forks) 0 n) x) (sym (has-append others (children p (suc q.forks) 0 n) x) ∙ h)) [
       | inl o ↦ kept_may x (others_changed q' x o)
       | inr c ↦ born_may x (has-children p (suc q.forks) 0 n x c)
@@ -137,7 +146,8 @@ module _ (unit : ProgramUnit) (s : Processes) (p : Name) (q : Process) (others :
             let may : May (with_at s.live p q') x = ap is_running_process old ∙ sym (ap is_running_process g) ∙ m in
             let here : has others x ≡ true = was_other x may in
             ap (λ b. b || has (children p (suc q.forks) 0 n) x) here
-        | inr new ↦ ap (λ b. has others x || b) (ap (has (children p (suc q.forks) 0 n)) new.3 ∙ has-child p (suc q.forks) 0 n new.0 new.1 new.2) ∙ true_right (has others x)
+        | inr new ↦ ap (λ b. has others x || b) (ap (has (children p (suc q.forks) 0 n)) new.3 ∙ has-child p (suc q.forks) 0 n new.0 new.1 new.2)
+            ∙ true_right (has others x)
       ]
 
       born_may : (x : Name) → (j : ℕ) × (0 ≤ j) × (j < 0 + n) × (x ≡ child p (suc q.forks) j) → May after x
@@ -152,7 +162,8 @@ module _ (unit : ProgramUnit) (s : Processes) (p : Name) (q : Process) (others :
       let s1 : Processes = back s p q' (record w { turns = n }) in
       let after : Table Process = (with_children unit p f 0 share (now (shape w.store) p) bs s1).live in
       let fork : Forked s1.live after p f 0 (length bs) =
-      forked_children unit p f share (now (shape w.store) p) bs 0 q' s1 (find-with_at-same s.live p q') (omega arith) (free_next s.live p q q' found fresh) (fresh_changed s.live p q q' found (omega arith) fresh) in
+      forked_children unit p f share (now (shape w.store) p) bs 0 q' s1 (find-with_at-same s.live p q') (omega arith) (free_next s.live p q q' found fresh)
+      (fresh_changed s.live p q q' found (omega arith) fresh) in
       (fork.fresh, fork_each q' (length bs) after refl refl fork)
 
   -- ---- its end
@@ -166,7 +177,8 @@ module _ (unit : ProgramUnit) (s : Processes) (p : Name) (q : Process) (others :
     | inr n ↦ may_others x n (sym (ap is_running_process (find-without-other s.live p x n)) ∙ m)
   ]
 
-  nobody_joins : (live : Table Process) → Fresh live → ((x : Name) → has others x ≡ true → May live x) → ((x : Name) → May live x → has others x ≡ true) → Fresh live × Each (May live) (others ++ [])
+  nobody_joins : (live : Table Process) → Fresh live → ((x : Name) → has others x ≡ true → May live x) → ((x : Name) → May live x → has others x ≡ true)
+      → Fresh live × Each (May live) (others ++ [])
   nobody_joins live f h a = (f, subst (Each (May live)) (sym (append-nil others)) (record { once = each.once.1; holds = h; all = a }))
 
   -- its parent waits for one child less
@@ -195,7 +207,8 @@ module _ (unit : ProgramUnit) (s : Processes) (p : Name) (q : Process) (others :
       still_waits m x t = elim (same-or-other x r) [
         | inl e ↦
             let gone : find (with_at (without s.live p) r (record y { standing = waiting (suc m) })) x ≡ Some (record y { standing = waiting (suc m) }) =
-            ap (find (with_at (without s.live p) r (record y { standing = waiting (suc m) }))) e ∙ find-with_at-same (without s.live p) r (record y { standing = waiting (suc m) }) in
+            ap (find (with_at (without s.live p) r (record y { standing = waiting (suc m) }))) e ∙ find-with_at-same (without s.live p) r
+            (record y { standing = waiting (suc m) }) in
             let a : false ≡ true = sym (ap is_running_process gone) ∙ t in absurd (cc)
         | inr n ↦ changed_rest (record y { standing = waiting (suc m) }) x n t
       ]
@@ -207,7 +220,9 @@ module _ (unit : ProgramUnit) (s : Processes) (p : Name) (q : Process) (others :
           once = once-append others (r ∷ []) each.once.1 (refl, tt) (λ x h. false_or (same x r) (apart x h));
           holds = λ x h. elim (or_true (has others x) (has (r ∷ []) x) (sym (has-append others (r ∷ []) x) ∙ h)) [
             | inl o ↦ still (record y { standing = ready }) x o
-            | inr o ↦ ap (λ z. is_running_process (find (with_at (without s.live p) r (record y { standing = ready })) z)) (same-equal x r (sym (right_false (same x r)) ∙ o)) ∙ ap is_running_process (find-with_at-same (without s.live p) r (record y { standing = ready }))
+            | inr o ↦ ap (λ z. is_running_process (find (with_at (without s.live p) r (record y { standing = ready })) z))
+                (same-equal x r (sym (right_false (same x r)) ∙ o))
+                ∙ ap is_running_process (find-with_at-same (without s.live p) r (record y { standing = ready }))
           ];
           all = λ x t. has-append others (r ∷ []) x ∙ elim (same-or-other x r) [
             | inl e ↦ ap (λ b. has others x || (b || false)) (ap (λ z. same z r) e ∙ same-refl r) ∙ true_right (has others x)
@@ -215,7 +230,9 @@ module _ (unit : ProgramUnit) (s : Processes) (p : Name) (q : Process) (others :
           ];
         },
       )
-      awaited (suc m) = nobody_joins (with_at (without s.live p) r (record y { standing = waiting (suc m) })) (fresh_changed (without s.live p) r y (record y { standing = waiting (suc m) }) e (omega arith) (fresh_without s.live p fresh)) (still (record y { standing = waiting (suc m) })) (still_waits m)
+      awaited (suc m) = nobody_joins (with_at (without s.live p) r (record y { standing = waiting (suc m) }))
+          (fresh_changed (without s.live p) r y (record y { standing = waiting (suc m) }) e (omega arith) (fresh_without s.live p fresh))
+          (still (record y { standing = waiting (suc m) })) (still_waits m)
 
   sound : Handles unit s p q (λ a w. ⊤) (λ ending system turns. ⊤) (StepSound p others)
   sound = record {
@@ -233,7 +250,8 @@ module _ (unit : ProgramUnit) (s : Processes) (p : Name) (q : Process) (others :
   all_gives (gives a w) = tt
   all_gives (ends ending system turns) = tt
 
-pub step_sound : (unit : ProgramUnit) (s : Processes) (p : Name) (q : Process) (others : List Name) → find s.live p ≡ Some q → Fresh s.live → Each (May s.live) (p ∷ others) → StepSound p others (step unit s p)
+pub step_sound : (unit : ProgramUnit) (s : Processes) (p : Name) (q : Process) (others : List Name) → find s.live p ≡ Some q → Fresh s.live
+    → Each (May s.live) (p ∷ others) → StepSound p others (step unit s p)
 step_sound unit s p q others found fresh each =
     let r : Evaluation Asks = local_step unit p q.size q.standing q.work s.world in
     of_process unit s p q (StepSound p others) found
@@ -246,7 +264,8 @@ module _ (unit : ProgramUnit) where
   abbrev AreIdle : Processes → List Name → Type 0
   AreIdle s marks = (m : Name) → has marks m ≡ true → Idle unit s.live s.world.store m
 
-  marks_after : (s t : Processes) (p : Name) (marks : List Name) (quiet : Bool) (next : Next) → Marks unit s p (went t next quiet) → AreIdle s marks → AreIdle t (marked quiet p marks)
+  marks_after : (s t : Processes) (p : Name) (marks : List Name) (quiet : Bool) (next : Next) → Marks unit s p (went t next quiet) → AreIdle s marks
+      → AreIdle t (marked quiet p marks)
   marks_after s t p marks false next h k = λ m i. let a : false ≡ true = i in absurd (cc)
   marks_after s t p marks true next h k = λ m i. elim (or_true (same m p) (has marks m) i) [
     | inl e ↦ idle_same unit s t m h.0 (subst (Idle unit s.live s.world.store) (sym (same-equal m p e)) h.1)
@@ -258,7 +277,8 @@ module _ (unit : ProgramUnit) where
   and_true false b e = absurd (cc)
 
   -- where every ready process is marked, every process that may step is idle
-  all_idle : (s t : Processes) (p : Name) (others marks : List Name) (quiet : Bool) (next : Next) → Each (May s.live) (p ∷ others) → Marks unit s p (went t next quiet) → AreIdle t (marked quiet p marks) →
+  all_idle : (s t : Processes) (p : Name) (others marks : List Name) (quiet : Bool) (next : Next) → Each (May s.live) (p ∷ others)
+      → Marks unit s p (went t next quiet) → AreIdle t (marked quiet p marks) →
       is_standstill quiet (marked quiet p marks) (p ∷ others) ≡ true → AllIdle unit t
   all_idle s t p others marks false next each h k e = absurd (cc)
   all_idle s t p others marks true next each h k e = λ x m.
@@ -281,25 +301,31 @@ module _ (unit : ProgramUnit) (choices : Choices) where
   LeadsAs led unfinished = ⊤
   LeadsAs led (finished ending end turns drawn order) = LeadsTo unit (led order) ending end turns
 
-  at_standstill : (s : Processes) (drawn : ℕ) → AllIdle unit s → LeadsAs (λ order. permitted unit order s) (finished outcome.standstill s.world.system s.world.turns drawn [])
+  at_standstill : (s : Processes) (drawn : ℕ) → AllIdle unit s → LeadsAs (λ order. permitted unit order s)
+      (finished outcome.standstill s.world.system s.world.turns drawn [])
   at_standstill s drawn idle = (s, refl, refl, refl, nothing_happens unit s idle)
 
   -- the rest of a selection leads there
   abbrev MoreLeads : Processes → (Name → List Name → ℕ → Selected) → Type 0
-  MoreLeads s more = (p : Name) (others : List Name) (d : ℕ) → Fresh s.live → Each (May s.live) (p ∷ others) → LeadsAs (λ order. permitted unit order s) (more p others d)
+  MoreLeads s more = (p : Name) (others : List Name) (d : ℕ) → Fresh s.live → Each (May s.live) (p ∷ others) → LeadsAs (λ order. permitted unit order s)
+      (more p others d)
 
-  taken_leads : (more : Name → List Name → ℕ → Selected) (s : Processes) (drawn : ℕ) (t : Taking) → EachTaken (May s.live) t → Fresh s.live → MoreLeads s more → LeadsAs (λ order. permitted unit order s) (go_on t more s drawn)
+  taken_leads : (more : Name → List Name → ℕ → Selected) (s : Processes) (drawn : ℕ) (t : Taking) → EachTaken (May s.live) t → Fresh s.live → MoreLeads s more
+      → LeadsAs (λ order. permitted unit order s) (go_on t more s drawn)
   taken_leads more s drawn nobody e f h = at_standstill s drawn (λ p m. absurd (e p m))
   taken_leads more s drawn (taking p others d) e f h = h p others d f e
 
-  next_leads : (more : Name → List Name → ℕ → Selected) (s : Processes) (p : Name) (others : List Name) (drawn : ℕ) (next : Next) (quiet : Bool) → StepSound p others (went s next quiet) → MoreLeads s more →
+  next_leads : (more : Name → List Name → ℕ → Selected) (s : Processes) (p : Name) (others : List Name) (drawn : ℕ) (next : Next) (quiet : Bool)
+      → StepSound p others (went s next quiet) → MoreLeads s more →
       LeadsAs (λ order. permitted unit order s) (after_next choices more s p others drawn next)
   next_leads more s p others drawn stays quiet e h = h p others drawn e.0 e.1
   next_leads more s p others drawn (joins ps) quiet e h =
       taken_leads more s drawn (take_next choices drawn (others ++ ps)) (each_next (May s.live) choices drawn (others ++ ps) e.1) e.0 h
 
-  tested_leads : (b : Bool) (more : Name → List Name → ℕ → Selected) (s : Processes) (p : Name) (others : List Name) (drawn : ℕ) (next : Next) (quiet : Bool) → (b ≡ true → AllIdle unit s) → StepSound p others (went s next quiet) → MoreLeads s more →
-      LeadsAs (λ order. permitted unit order s) (if b then finished outcome.standstill s.world.system s.world.turns drawn [] else after_next choices more s p others drawn next)
+  tested_leads : (b : Bool) (more : Name → List Name → ℕ → Selected) (s : Processes) (p : Name) (others : List Name) (drawn : ℕ) (next : Next) (quiet : Bool)
+      → (b ≡ true → AllIdle unit s) → StepSound p others (went s next quiet) → MoreLeads s more →
+      LeadsAs (λ order. permitted unit order s)
+      (if b then finished outcome.standstill s.world.system s.world.turns drawn [] else after_next choices more s p others drawn next)
   tested_leads true more s p others drawn next quiet idle e h = at_standstill s drawn (idle refl)
   tested_leads false more s p others drawn next quiet idle e h = next_leads more s p others drawn next quiet e h
 
@@ -310,8 +336,10 @@ module _ (unit : ProgramUnit) (choices : Choices) where
   RestLeads more = (s : Processes) (marks : List Name) → AreIdle unit s marks → MoreLeads s (more s marks)
 
   -- from a step of p on
-  stepped_leads : (s : Processes) (x : Stepped) (more : Rest) (p : Name) (others marks : List Name) (drawn size turns : ℕ) → Each (May s.live) (p ∷ others) → AreIdle unit s marks →
-      StepSound p others x → Falls size turns p x → Marks unit s p x → RestLeads more → LeadsAs (λ order. onward x order (permitted unit order)) (after_step choices more p others marks drawn x)
+  stepped_leads : (s : Processes) (x : Stepped) (more : Rest) (p : Name) (others marks : List Name) (drawn size turns : ℕ) → Each (May s.live) (p ∷ others)
+      → AreIdle unit s marks →
+      StepSound p others x → Falls size turns p x → Marks unit s p x → RestLeads more → LeadsAs (λ order. onward x order (permitted unit order))
+      (after_step choices more p others marks drawn x)
   stepped_leads s (ended ending system t) more p others marks drawn size turns each idle e f m h = own_leads unit ending system t f
   stepped_leads s (went t next quiet) more p others marks drawn size turns each idle e f m h =
       let after : AreIdle unit t (marked quiet p marks) = marks_after unit s t p marks quiet next m idle in
@@ -319,7 +347,8 @@ module _ (unit : ProgramUnit) (choices : Choices) where
       (all_idle unit s t p others marks quiet next each m after) e (h t (marked quiet p marks) after)
 
   -- p steps first, where it may
-  first_leads : (s : Processes) (p : Name) (r : Selected) → may_step s p ≡ true → LeadsAs (λ order. onward (step unit s p) order (permitted unit order)) r → LeadsAs (λ order. permitted unit order s) (stepped_first p r)
+  first_leads : (s : Processes) (p : Name) (r : Selected) → may_step s p ≡ true → LeadsAs (λ order. onward (step unit s p) order (permitted unit order)) r
+      → LeadsAs (λ order. permitted unit order s) (stepped_first p r)
   first_leads s p unfinished m h = tt
   first_leads s p (finished ending end turns drawn order) m h =
       let P : Bool → Type 0 = λ b. LeadsTo unit (if b then onward (step unit s p) order (permitted unit order) else nowhere) ending end turns in
@@ -332,7 +361,8 @@ module _ (unit : ProgramUnit) (choices : Choices) where
       may : may_step s p ≡ true
       may = e.holds p (ap (λ b. b || has others p) (same-refl p))
 
-      of_found : (x : Option Process) → find s.live p ≡ x → RestLeads (select unit choices n) → LeadsAs (λ order. permitted unit order s) (stepped_first p (after_step choices (select unit choices n) p others marks drawn (step unit s p)))
+      of_found : (x : Option Process) → find s.live p ≡ x → RestLeads (select unit choices n) → LeadsAs (λ order. permitted unit order s)
+          (stepped_first p (after_step choices (select unit choices n) p others marks drawn (step unit s p)))
       of_found None g ih = let a : false ≡ true = sym (ap is_running_process g) ∙ may in absurd (cc)
       of_found (Some q) g ih =
           first_leads s p (after_step choices (select unit choices n) p others marks drawn (step unit s p)) may

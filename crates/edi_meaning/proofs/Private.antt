@@ -1,6 +1,7 @@
 -- A step of a process changes no cell but those of its own instances, of its ancestors', and of the children that it
 -- makes.
-use Rattle.std.proofs.Common.{◌≡◌, ℕ, suc, ◌+◌, ◌-◌, ◌<◌, ◌≤◌, ◌⊎◌, inl, inr, false, List, [], ◌∷◌, ◌++◌, map, take, length, Option, Some, None, refl, sym, subst, ap, ◌∙◌, arith}
+use Rattle.std.proofs.Common.{◌≡◌, ℕ, suc, ◌+◌, ◌-◌, ◌<◌, ◌≤◌, ◌⊎◌, inl, inr, false, List, [], ◌∷◌, ◌++◌, map, take, length, Option, Some, None, refl, sym}
+use Rattle.std.proofs.Common.{subst, ap, ◌∙◌, arith}
 use Rattle.std.specs.Prelude.{⊤}
 use Rattle.edi_calls.specs.State.{State}
 use Rattle.edi_calls.specs.Names.{Name, Table, same, find, with_at, without}
@@ -11,12 +12,15 @@ use Rattle.edi_unit.specs.Values.{Value}
 use Rattle.edi_meaning.specs.Store.{Spot, Location, Cell, system_procedure, procedure, Instance, Store, instances, frames, shape, now, put, Owns}
 use Rattle.edi_meaning.specs.Evaluation.{World, Evaluation, gives, ends}
 use Rattle.edi_meaning.specs.Whole.{instance_of}
-use Rattle.edi_meaning.specs.Step.{Work, Standing, ready, at_when, waiting, Asks, Process, Processes, Stepped, went, ended, back, with_child, with_children, fork_taken, awaits, freed, local_step, step_of, step, start}
+use Rattle.edi_meaning.specs.Step.{Work, Standing, ready, at_when, waiting, Asks, Process, Processes, Stepped, went, ended, back, with_child, with_children}
+use Rattle.edi_meaning.specs.Step.{fork_taken, awaits, freed, local_step, step_of, step, start}
 use Rattle.edi_meaning.specs.Laws.{IsMade, IsPrivate, StepIsPrivate, CellsArePrivate}
 use Rattle.edi_meaning.proofs.Lasting.{Every, Gives, Lasting, Keeps}
 use Rattle.edi_meaning.proofs.Local.{Moving, local_keeps}
 use Rattle.edi_meaning.proofs.Kernel.{rest_of, Handles, kernel_handles, of_process, After, permitted_keep}
-use Rattle.edi_meaning.proofs.Own.{owns_self, owns_all, owns_first, owns_parent, every-append, every-take, CellOwned, InstanceOwned, Owned, slot_owned, meant_owned, calls_fit, instance_owned, instances-other, instances-gone, instances-left, owned_with, owned_without, put_owned}
+use Rattle.edi_meaning.proofs.Own.{owns_self, owns_all, owns_first, owns_parent, every-append, every-take, CellOwned, InstanceOwned, Owned, slot_owned}
+use Rattle.edi_meaning.proofs.Own.{meant_owned, calls_fit, instance_owned, instances-other, instances-gone, instances-left, owned_with, owned_without}
+use Rattle.edi_meaning.proofs.Own.{put_owned}
 use Rattle.edi_meaning.proofs.Frames.{framing, Steps, local_steps}
 use Rattle.edi_meaning.proofs.Names.{no_some}
 use Rattle.edi_meaning.proofs.Family.{Fresh, fresh_changed, fresh_without, free_name, free_next, Forked, forked_children, start_fresh}
@@ -61,7 +65,8 @@ module _ (unit : ProgramUnit) (p : Name) (size : ℕ) (before : Store) where
   pub grown_leaves : (number : ℕ) (parent : Spot) (cells : List Cell) (store : Store) → Owns p parent.0 → Every (CellOwned p) cells → Leaves p before store →
       Leaves p before (with_at store p (instances store p ++ instance_of unit p size number parent cells ∷ []))
   grown_leaves number parent cells store c f h =
-      leaves_with p before store _ (every-append (InstanceOwned p) (instances store p) _ (h.owned.each p) (instance_owned unit p size number parent cells c f, tt)) h
+      leaves_with p before store _ (every-append (InstanceOwned p) (instances store p) _ (h.owned.each p)
+      (instance_owned unit p size number parent cells c f, tt)) h
 
   pub shrunk_leaves : (store : Store) → Leaves p before store → Leaves p before (with_at store p (take (length (instances store p) - 1) (instances store p)))
   shrunk_leaves store h = leaves_with p before store _ (every-take (InstanceOwned p) (length (instances store p) - 1) (instances store p) (h.owned.each p)) h
@@ -91,13 +96,18 @@ module _ (unit : ProgramUnit) (p : Name) (size : ℕ) (before : Store) where
     stays = λ w h. h;
     grows = λ number parent cells w c f h. grown_leaves number parent cells w.store c f h;
     shrinks = λ w h. shrunk_leaves w.store h;
-    begins = λ w h. leaves_with p before w.store _ (instance_owned unit p size unit.program ([], 0) (map (λ n. procedure (system_procedure n)) unit.calls) (owns_first p) (calls_fit (CellOwned p) (λ n. tt) unit.calls), tt) h;
+    begins = λ w h. leaves_with p before w.store _ (
+      instance_owned unit p size unit.program ([], 0) (map (λ n. procedure (system_procedure n)) unit.calls) (owns_first p)
+          (calls_fit (CellOwned p) (λ n. tt) unit.calls),
+      tt,
+    ) h;
   }
 
 pub local_leaves : (unit : ProgramUnit) (p : Name) (size : ℕ) (standing : Standing) (work : List Work) (w : World) → Owned w.store →
     Keeps (privacy unit p size w.store) (λ a v. Leaves p w.store v.store) (local_step unit p size standing work w)
 local_leaves unit p size standing work w o =
-    local_keeps (privacy unit p size w.store) tt (λ v. Leaves p w.store v.store) (private_moves unit p size w.store) standing work w (λ idle v h. tt) (leaves_all p w.store o)
+    local_keeps (privacy unit p size w.store) tt (λ v. Leaves p w.store v.store) (private_moves unit p size w.store) standing work w (λ idle v h. tt)
+    (leaves_all p w.store o)
 
 -- ---- all processes
 
@@ -138,17 +148,21 @@ module _ (unit : ProgramUnit) (p : Name) (f share : ℕ) (parent : Spot) (mine :
   children_owned [] k s o = o
   children_owned (b ∷ bs) k s o =
       children_owned bs (suc k) (with_child unit (child p f k) share parent b s)
-      (owned_with s.world.store (child p f k) _ o (instance_owned unit (child p f k) share b parent [] (owns_all (child p f k) p parent.0 (owns_parent p f k) mine) tt, tt))
+      (owned_with s.world.store (child p f k) _ o
+      (instance_owned unit (child p f k) share b parent [] (owns_all (child p f k) p parent.0 (owns_parent p f k) mine) tt, tt))
 
   -- only children have other instances
   only_children : (bs : List ℕ) (k : ℕ) (s : Processes) (r : Name) →
-      (instances (with_children unit p f k share parent bs s).world.store r ≡ instances s.world.store r) ⊎ ((j : ℕ) × (k ≤ j) × (j < k + length bs) × (r ≡ child p f j))
+      (instances (with_children unit p f k share parent bs s).world.store r ≡ instances s.world.store r)
+      ⊎ ((j : ℕ) × (k ≤ j) × (j < k + length bs) × (r ≡ child p f j))
   only_children [] k s r = inl refl
   only_children (b ∷ bs) k s r = go (only_children bs (suc k) (with_child unit (child p f k) share parent b s) r) (same-or-other r (child p f k))
     where
-      go : (instances (with_children unit p f (suc k) share parent bs (with_child unit (child p f k) share parent b s)).world.store r ≡ instances (with_child unit (child p f k) share parent b s).world.store r) ⊎ ((j : ℕ) × (suc k ≤ j) × (j < suc k + length bs) × (r ≡ child p f j)) →
+      go : (instances (with_children unit p f (suc k) share parent bs (with_child unit (child p f k) share parent b s)).world.store r ≡ instances
+          (with_child unit (child p f k) share parent b s).world.store r) ⊎ ((j : ℕ) × (suc k ≤ j) × (j < suc k + length bs) × (r ≡ child p f j)) →
           (r ≡ child p f k) ⊎ (same r (child p f k) ≡ false) →
-          (instances (with_children unit p f (suc k) share parent bs (with_child unit (child p f k) share parent b s)).world.store r ≡ instances s.world.store r) ⊎ ((j : ℕ) × (k ≤ j) × (j < k + suc (length bs)) × (r ≡ child p f j))
+          (instances (with_children unit p f (suc k) share parent bs (with_child unit (child p f k) share parent b s)).world.store r ≡ instances s.world.store
+          r) ⊎ ((j : ℕ) × (k ≤ j) × (j < k + suc (length bs)) × (r ≡ child p f j))
       go (inl e) (inl h) = inr (k, omega arith, omega arith, h)
       go (inl e) (inr n) = inl (e ∙ instances-other s.world.store (child p f k) r _ n)
       go (inr c) n = inr (c.0, omega arith, omega arith, c.3)
@@ -179,7 +193,8 @@ module _ (unit : ProgramUnit) (s : Processes) (p : Name) (q : Process) (found : 
 
   -- its end, however the table of the others is then
   gone_moves : (live : Table Process) (w : World) → Fresh live → ((r : Name) → find live r ≡ None → find (without s.live p) r ≡ None) → Left w.store →
-      IsPrivate s (record { live = live; world = record w { store = without w.store p } }) p × Proper (record { live = live; world = record w { store = without w.store p } })
+      IsPrivate s (record { live = live; world = record w { store = without w.store p } }) p
+      × Proper (record { live = live; world = record w { store = without w.store p } })
   gone_moves live w fresh was l = (
     record {
       cells = λ r n. inl (instances-left w.store p r (not_self p r n) ∙ l.0.others r n);
@@ -196,7 +211,8 @@ module _ (unit : ProgramUnit) (s : Processes) (p : Name) (q : Process) (found : 
       Moves s p (went (back (rest_of s p w) r (record y { standing = awaits (n - 1) }) (rest_of s p w).world) (freed (n - 1) r) false)
   awaited_moves w r y n e l =
       let y' : Process = record y { standing = awaits (n - 1) } in
-      gone_moves (with_at (without s.live p) r y') w (fresh_changed (without s.live p) r y y' e (omega arith) (fresh_without s.live p proper.fresh)) (λ x g. none_before (without s.live p) r y' x g) l
+      gone_moves (with_at (without s.live p) r y') w (fresh_changed (without s.live p) r y y' e (omega arith) (fresh_without s.live p proper.fresh))
+      (λ x g. none_before (without s.live p) r y' x g) l
 
   fork_moves : (bs : List ℕ) (work : List Work) (w : World) (n share : ℕ) → Left w.store → Moves s p (fork_taken unit s p q bs work w (suc n) share)
   fork_moves bs work w n share l = (
@@ -225,20 +241,24 @@ module _ (unit : ProgramUnit) (s : Processes) (p : Name) (q : Process) (found : 
 
       born : Forked s1.live t.live p f 0 (length bs)
       born =
-          forked_children unit p f share (now (shape w.store) p) bs 0 q' s1 (find-with_at-same s.live p q') (omega arith) (free_next s.live p q q' found proper.fresh)
+          forked_children unit p f share (now (shape w.store) p) bs 0 q' s1 (find-with_at-same s.live p q') (omega arith)
+          (free_next s.live p q q' found proper.fresh)
           (fresh_changed s.live p q q' found (omega arith) proper.fresh)
 
       made : (r : Name) → (instances t.world.store r ≡ instances w.store r) ⊎ IsMade s t p r
       made r = go (only_children unit p f share (now (shape w.store) p) (owns_self p) bs 0 s1 r)
         where
-          go : (instances t.world.store r ≡ instances w.store r) ⊎ ((j : ℕ) × (0 ≤ j) × (j < 0 + length bs) × (r ≡ child p f j)) → (instances t.world.store r ≡ instances w.store r) ⊎ IsMade s t p r
+          go : (instances t.world.store r ≡ instances w.store r) ⊎ ((j : ℕ) × (0 ≤ j) × (j < 0 + length bs) × (r ≡ child p f j))
+              → (instances t.world.store r ≡ instances w.store r) ⊎ IsMade s t p r
           go (inl e) = inl e
           go (inr c) =
-              let free : find s.live r ≡ None = none_before s.live p q' r (ap (find s1.live) c.3 ∙ free_name s1.live p f 0 c.0 c.1 (free_next s.live p q q' found proper.fresh)) in
+              let free : find s.live r ≡ None = none_before s.live p q' r
+              (ap (find s1.live) c.3 ∙ free_name s1.live p f 0 c.0 c.1 (free_next s.live p q q' found proper.fresh)) in
               let b : (x : Process) × (find t.live (child p f c.0) ≡ Some x) × (x.standing ≡ ready) = born.born c.0 c.1 c.2 in
               inr (record { fork = f; number = c.0; named = c.3; free = free; bare = proper.bare r free; process = b.0; live = ap (find t.live) c.3 ∙ b.1 })
 
-      only_made : {A : Type 0} (r : Name) (old : A) (of : List Instance → A) → of (instances w.store r) ≡ old → (of (instances t.world.store r) ≡ old) ⊎ IsMade s t p r
+      only_made : {A : Type 0} (r : Name) (old : A) (of : List Instance → A) → of (instances w.store r) ≡ old → (of (instances t.world.store r) ≡ old)
+          ⊎ IsMade s t p r
       only_made r old of e = go (made r)
         where
           go : (instances t.world.store r ≡ instances w.store r) ⊎ IsMade s t p r → (of (instances t.world.store r) ≡ old) ⊎ IsMade s t p r
@@ -265,7 +285,8 @@ module _ (unit : ProgramUnit) (s : Processes) (p : Name) (q : Process) (found : 
     of_awaited = λ w y n e g h. awaited_moves w (parent_of p) y n e h;
   }
 
-  all_left : (r : Evaluation Asks) → Keeps (privacy unit p q.size s.world.store) (λ a w. Leaves p s.world.store w.store) r → Keeps (framing unit p q.size) (λ a w. Steps p s.world.store w.store) r →
+  all_left : (r : Evaluation Asks) → Keeps (privacy unit p q.size s.world.store) (λ a w. Leaves p s.world.store w.store) r → Keeps (framing unit p q.size)
+      (λ a w. Steps p s.world.store w.store) r →
       Gives (λ a w. Left w.store) (λ ending system turns. ⊤) r
   all_left (gives a w) h k = (h.is, k.is)
   all_left (ends e system turns) h k = tt
@@ -279,7 +300,8 @@ step_moves unit s p proper = go (find s.live p) refl
         let r : Evaluation Asks = local_step unit p q.size q.standing q.work s.world in
         of_process unit s p q (Moves s p) e
         (kernel_handles unit s p q _ _ (Moves s p) (moving unit s p q e proper) r
-        (all_left unit s p q e proper r (local_leaves unit p q.size q.standing q.work s.world proper.owned) (local_steps unit p q.size q.standing q.work s.world)))
+        (all_left unit s p q e proper r (local_leaves unit p q.size q.standing q.work s.world proper.owned)
+        (local_steps unit p q.size q.standing q.work s.world)))
 
 -- ---- along permitted steps
 

@@ -1,5 +1,6 @@
 -- What cells and static parents mean lives, and is no newer than where it is meant.
-use Rattle.std.proofs.Common.{◌≡◌, ℕ, zero, suc, ◌+◌, ◌-◌, ◌<◌, ◌≤◌, ◌⊎◌, inl, inr, true, false, List, [], ◌∷◌, ◌++◌, take, length, refl, sym, subst, ap, ◌∙◌, arith}
+use Rattle.std.proofs.Common.{◌≡◌, ℕ, zero, suc, ◌+◌, ◌-◌, ◌<◌, ◌≤◌, ◌⊎◌, inl, inr, true, false, List, [], ◌∷◌, ◌++◌, take, length, refl, sym, subst, ap}
+use Rattle.std.proofs.Common.{◌∙◌, arith}
 use Rattle.std.specs.Prelude.{⊤, slice_get, unwrap_or}
 use Rattle.std.proofs.lemmas.Bool.{cases_lt}
 use Rattle.std.proofs.lemmas.List.{nil_from_length}
@@ -9,7 +10,9 @@ use Rattle.edi_unit.specs.declared.expressions.Callee.{Callee}
 use Rattle.edi_unit.specs.declared.expressions.Callee.TheVariants as callee
 use Rattle.edi_unit.specs.Values.{Value}
 use Rattle.edi_unit.specs.Tree.{ProgramUnit}
-use Rattle.edi_meaning.specs.Store.{Spot, system_procedure, block_procedure, Cell, value, location, procedure, Instance, Store, Shape, instances, frames, shape, no_frame, frame_at, reached, now, cells_in, with_cell_in, no_cell, cell, located, slot, procedure_in, ancestor, Owns, IsLive, Older, within, above}
+use Rattle.edi_meaning.specs.Store.{Spot, system_procedure, block_procedure, Cell, value, location, procedure, Instance, Store, Shape, instances, frames}
+use Rattle.edi_meaning.specs.Store.{shape, no_frame, frame_at, reached, now, cells_in, with_cell_in, no_cell, cell, located, slot, procedure_in, ancestor}
+use Rattle.edi_meaning.specs.Store.{Owns, IsLive, Older, within, above}
 use Rattle.edi_meaning.specs.Evaluation.{World}
 use Rattle.edi_meaning.specs.Whole.{meant}
 use Rattle.edi_meaning.specs.Laws.{Means, CellMeans, NothingDangles}
@@ -72,7 +75,8 @@ cell_moved F G s s' g (location l) h = g l.spot h
 cell_moved F G s s' g (procedure (system_procedure number)) h = tt
 cell_moved F G s s' g (procedure (block_procedure number parent)) h = g parent h
 
-pub cells_moved : (F G : Shape) (s s' : Spot) → ((t : Spot) → Means F s t → Means G s' t) → (cs : List Cell) → Every (CellMeans F s) cs → Every (CellMeans G s') cs
+pub cells_moved : (F G : Shape) (s s' : Spot) → ((t : Spot) → Means F s t → Means G s' t) → (cs : List Cell) → Every (CellMeans F s) cs
+    → Every (CellMeans G s') cs
 cells_moved F G s s' g [] h = tt
 cells_moved F G s s' g (c ∷ cs) h = (cell_moved F G s s' g c h.0, cells_moved F G s s' g cs h.1)
 
@@ -87,7 +91,8 @@ InstancesMean F r d [] = ⊤
 InstancesMean F r d (i ∷ is) = InstanceMeans F (r, d) i × InstancesMean F r (suc d) is
 
 module _ (F : Shape) (r : Name) where
-  pub mean-append : (is : List Instance) (d m : ℕ) (i : Instance) → d + length is ≡ m → InstancesMean F r d is → InstanceMeans F (r, m) i → InstancesMean F r d (is ++ i ∷ [])
+  pub mean-append : (is : List Instance) (d m : ℕ) (i : Instance) → d + length is ≡ m → InstancesMean F r d is → InstanceMeans F (r, m) i
+      → InstancesMean F r d (is ++ i ∷ [])
   mean-append [] d m i e h k = let q : m ≡ d = omega (arith, e) in (subst (λ x. InstanceMeans F (r, x) i) q k, tt)
   mean-append (j ∷ js) d m i e h k = (h.0, mean-append js (suc d) m i (omega (arith, e)) h.1 k)
 
@@ -96,12 +101,15 @@ module _ (F : Shape) (r : Name) where
   mean-take (suc n) [] d h = tt
   mean-take (suc n) (i ∷ is) d h = (h.0, mean-take n is (suc d) h.1)
 
-  pub mean-with_cell : (is : List Instance) (d depth variable : ℕ) (v : Value) → InstancesMean F r d is → InstancesMean F r d (with_cell_in is depth variable (value v))
+  pub mean-with_cell : (is : List Instance) (d depth variable : ℕ) (v : Value) → InstancesMean F r d is
+      → InstancesMean F r d (with_cell_in is depth variable (value v))
   mean-with_cell [] d depth variable v h = tt
-  mean-with_cell (i ∷ is) d zero variable v h = (record { parent = h.0.parent; cells = every-set (CellMeans F (r, d)) i.cells variable (value v) tt h.0.cells }, h.1)
+  mean-with_cell (i ∷ is) d zero variable v h =
+      (record { parent = h.0.parent; cells = every-set (CellMeans F (r, d)) i.cells variable (value v) tt h.0.cells }, h.1)
   mean-with_cell (i ∷ is) d (suc depth) variable v h = (h.0, mean-with_cell is (suc d) depth variable v h.1)
 
-  parent_of_one : (is : List Instance) (d k m : ℕ) → d + k ≡ m → k < length is → InstancesMean F r d is → Means F (r, m) (unwrap_or (slice_get (frames is) k) no_frame).parent
+  parent_of_one : (is : List Instance) (d k m : ℕ) → d + k ≡ m → k < length is → InstancesMean F r d is
+      → Means F (r, m) (unwrap_or (slice_get (frames is) k) no_frame).parent
   parent_of_one [] d k m e l h = absurd (omega arith)
   parent_of_one (i ∷ is) d zero m e l h = let q : d ≡ m = omega (arith, e) in subst (λ x. Means F (r, x) i.frame.parent) q h.0.parent
   parent_of_one (i ∷ is) d (suc k) m e l h = parent_of_one is (suc d) k m (omega (arith, e)) (omega (arith, l)) h.1
@@ -111,7 +119,8 @@ module _ (F : Shape) (r : Name) where
   cells_of_one (i ∷ is) d zero m e h = let q : d ≡ m = omega (arith, e) in subst (λ x. Every (CellMeans F (r, x)) i.cells) q h.0.cells
   cells_of_one (i ∷ is) d (suc k) m e h = cells_of_one is (suc d) k m (omega (arith, e)) h.1
 
-pub mean-moved : (F G : Shape) (r : Name) (n : ℕ) → ((d : ℕ) → d < n → (t : Spot) → Means F (r, d) t → Means G (r, d) t) → (is : List Instance) (d : ℕ) → d + length is ≤ n → InstancesMean F r d is → InstancesMean G r d is
+pub mean-moved : (F G : Shape) (r : Name) (n : ℕ) → ((d : ℕ) → d < n → (t : Spot) → Means F (r, d) t → Means G (r, d) t) → (is : List Instance) (d : ℕ)
+    → d + length is ≤ n → InstancesMean F r d is → InstancesMean G r d is
 mean-moved F G r n g [] d le h = tt
 mean-moved F G r n g (i ∷ is) d le h = (
   record {
@@ -135,7 +144,8 @@ module _ (F : Shape) (store : Store) (h : Refers F store) where
   parent_means s l = parent_of_one F s.0 (instances store s.0) 0 s.1 s.1 (omega arith) (omega (arith, l, length_is F store h.shape s.0)) (h.each s.0)
 
   cell_means : (s : Spot) (variable : ℕ) → CellMeans F s (cell store s variable)
-  cell_means s variable = every-at (CellMeans F s) (cells_in (instances store s.0) s.1) variable no_cell (cells_of_one F s.0 (instances store s.0) 0 s.1 s.1 (omega arith) (h.each s.0)) tt
+  cell_means s variable = every-at (CellMeans F s) (cells_in (instances store s.0) s.1) variable no_cell
+      (cells_of_one F s.0 (instances store s.0) 0 s.1 s.1 (omega arith) (h.each s.0)) tt
 
   reached_means : (levels : ℕ) (s : Spot) → IsLive F s → Means F s (reached (shape store) levels s)
   reached_means zero s l = means_self F s l
@@ -170,11 +180,17 @@ module _ (unit : ProgramUnit) (p : Name) (size : ℕ) (F : Shape) (store : Store
       let t : Spot = reached (shape store) levels (now (shape store) p) in
       located_means F (now F p) t variable (cell store t variable) (from_here levels) (cell_means F store h t variable)
 
-pub meant_means : (unit : ProgramUnit) (p : Name) (size : ℕ) (F : Shape) (w : World) → Refers F w.store → 0 < length (F p) → (c : Callee) → CellMeans F (now F p) (procedure (meant unit p size c w))
+pub meant_means : (unit : ProgramUnit) (p : Name) (size : ℕ) (F : Shape) (w : World) → Refers F w.store → 0 < length (F p) → (c : Callee)
+    → CellMeans F (now F p) (procedure (meant unit p size c w))
 meant_means unit p size F w h some (callee.Block levels number) = from_here unit p size F w.store h some levels
 meant_means unit p size F w h some (callee.Formal levels variable) =
     let t : Spot = reached (shape w.store) levels (now (shape w.store) p) in
-    procedure_means F (now F p) (cell w.store t variable) (cell_means_all F (now F p) t (cell w.store t variable) (from_here unit p size F w.store h some levels) (cell_means F w.store h t variable))
+    procedure_means F (now F p) (cell w.store t variable)
+    (cell_means_all F (now F p) t (cell w.store t variable) (from_here unit p size F w.store h some levels) (cell_means F w.store h t variable))
 
 pub nothing_dangles : (store : Store) → Refers (shape store) store → NothingDangles store
-nothing_dangles store h = record { parents = λ s l. parent_means (shape store) store h s l; cells = λ s variable l. cell_means (shape store) store h s variable }
+nothing_dangles store h = record {
+  parents = λ s l. parent_means (shape store) store h s l;
+  cells = λ s variable l. cell_means (shape store) store h s
+      variable;
+}

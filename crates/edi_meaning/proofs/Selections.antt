@@ -1,5 +1,6 @@
 -- Every selection ends, in one way, and the choices that it drew give it again.
-use Rattle.std.proofs.Common.{◌≡◌, ℕ, zero, suc, ◌+◌, ◌-◌, ◌<◌, ◌≤◌, inl, inr, Bool, true, false, if◌then◌else◌, List, [], ◌∷◌, ◌++◌, length, Option, Some, None, refl, sym, subst, ap, ◌∙◌, arith, length-append}
+use Rattle.std.proofs.Common.{◌≡◌, ℕ, zero, suc, ◌+◌, ◌-◌, ◌<◌, ◌≤◌, inl, inr, Bool, true, false, if◌then◌else◌, List, [], ◌∷◌, ◌++◌, length, Option, Some}
+use Rattle.std.proofs.Common.{None, refl, sym, subst, ap, ◌∙◌, arith, length-append}
 use Rattle.std.proofs.Math.ListN.{get_or-append}
 use Rattle.std.proofs.Math.Seq.{get_or-append_seam}
 use Rattle.std.proofs.lemmas.Bool.{cases_lt}
@@ -12,7 +13,8 @@ use Rattle.edi_calls.specs.Outcome.{Ending, Outcome, outcome_of}
 use Rattle.edi_calls.specs.Ready.{Next, stays, joins, Taking, nobody, taking, taking_at, take_next}
 use Rattle.edi_unit.specs.Tree.{ProgramUnit}
 use Rattle.edi_meaning.specs.Step.{Process, Processes, Stepped, went, ended, step, step_of, start}
-use Rattle.edi_meaning.specs.Select.{Selected, unfinished, finished, stepped_first, marked, is_standstill, go_on, after_next, after_step, select, select_from_start}
+use Rattle.edi_meaning.specs.Select.{Selected, unfinished, finished, stepped_first, marked, is_standstill, go_on, after_next, after_step, select}
+use Rattle.edi_meaning.specs.Select.{select_from_start}
 use Rattle.edi_meaning.specs.Laws.{EverySelectionEnds, SelectionsAreDetermined, RecordReplays}
 use Rattle.edi_meaning.proofs.Work.{Falls, standing_size, work_size, step_falls}
 
@@ -35,7 +37,8 @@ module _ (unit : ProgramUnit) (choices : Choices) where
   Continued s marks drawn nobody = ⊤
   Continued s marks drawn (taking p others d) = Finishes s marks p others d
 
-  taken_ends : (s : Processes) (marks : List Name) (drawn : ℕ) (t : Taking) → Continued s marks drawn t → (n : ℕ) × IsFinished (go_on t (select unit choices n s marks) s drawn)
+  taken_ends : (s : Processes) (marks : List Name) (drawn : ℕ) (t : Taking) → Continued s marks drawn t → (n : ℕ)
+      × IsFinished (go_on t (select unit choices n s marks) s drawn)
   taken_ends s marks drawn nobody c = (0, (outcome.standstill, s.world.system, s.world.turns, drawn, [], refl))
   taken_ends s marks drawn (taking p others d) c = c
 
@@ -43,12 +46,14 @@ module _ (unit : ProgramUnit) (choices : Choices) where
   Continues p others marks drawn s stays = Finishes s marks p others drawn
   Continues p others marks drawn s (joins ps) = Continued s marks drawn (take_next choices drawn (others ++ ps))
 
-  next_ends : (p : Name) (others marks : List Name) (drawn : ℕ) (s : Processes) (next : Next) → Continues p others marks drawn s next → (n : ℕ) × IsFinished (after_next choices (select unit choices n s marks) s p others drawn next)
+  next_ends : (p : Name) (others marks : List Name) (drawn : ℕ) (s : Processes) (next : Next) → Continues p others marks drawn s next → (n : ℕ)
+      × IsFinished (after_next choices (select unit choices n s marks) s p others drawn next)
   next_ends p others marks drawn s stays c = c
   next_ends p others marks drawn s (joins ps) c = taken_ends s marks drawn (take_next choices drawn (others ++ ps)) c
 
   tested_ends : (b : Bool) (p : Name) (others marks : List Name) (drawn : ℕ) (s : Processes) (next : Next) → Continues p others marks drawn s next →
-      (n : ℕ) × IsFinished (if b then finished outcome.standstill s.world.system s.world.turns drawn [] else after_next choices (select unit choices n s marks) s p others drawn next)
+      (n : ℕ) × IsFinished (if b then finished outcome.standstill s.world.system s.world.turns drawn [] else after_next choices
+      (select unit choices n s marks) s p others drawn next)
   tested_ends true p others marks drawn s next c = (0, (outcome.standstill, s.world.system, s.world.turns, drawn, [], refl))
   tested_ends false p others marks drawn s next c = next_ends p others marks drawn s next c
 
@@ -56,19 +61,23 @@ module _ (unit : ProgramUnit) (choices : Choices) where
   Onward p others marks drawn (ended ending system turns) = ⊤
   Onward p others marks drawn (went s next quiet) = Continues p others (marked quiet p marks) drawn s next
 
-  stepped_ends : (p : Name) (others marks : List Name) (drawn : ℕ) (x : Stepped) → Onward p others marks drawn x → (n : ℕ) × IsFinished (after_step choices (select unit choices n) p others marks drawn x)
+  stepped_ends : (p : Name) (others marks : List Name) (drawn : ℕ) (x : Stepped) → Onward p others marks drawn x → (n : ℕ)
+      × IsFinished (after_step choices (select unit choices n) p others marks drawn x)
   stepped_ends p others marks drawn (ended ending system turns) c = (0, (ending, system, turns, drawn, [], refl))
   stepped_ends p others marks drawn (went s next quiet) c =
       tested_ends (is_standstill quiet (marked quiet p marks) (p ∷ others)) p others (marked quiet p marks) drawn s next c
 
-  one_more : (s : Processes) (marks : List Name) (p : Name) (others : List Name) (drawn : ℕ) → Onward p others marks drawn (step unit s p) → Finishes s marks p others drawn
+  one_more : (s : Processes) (marks : List Name) (p : Name) (others : List Name) (drawn : ℕ) → Onward p others marks drawn (step unit s p)
+      → Finishes s marks p others drawn
   one_more s marks p others drawn c =
-      let e : (n : ℕ) × IsFinished (after_step choices (select unit choices n) p others marks drawn (step unit s p)) = stepped_ends p others marks drawn (step unit s p) c in
+      let e : (n : ℕ) × IsFinished (after_step choices (select unit choices n) p others marks drawn (step unit s p)) = stepped_ends p others marks drawn
+      (step unit s p) c in
       (suc e.0, first_finished p (after_step choices (select unit choices e.0) p others marks drawn (step unit s p)) e.1)
 
   onward : (x : Stepped) (p : Name) (others marks : List Name) (drawn size turns : ℕ) → Falls size turns p x →
       ((s : Processes) (marks : List Name) (q : Name) (os : List Name) (d : ℕ) → s.world.turns < turns → Finishes s marks q os d) →
-      ((s : Processes) (marks : List Name) (q : Process) → s.world.turns ≤ turns → find s.live p ≡ Some q → standing_size q.standing + work_size q.work < size → Finishes s marks p others drawn) →
+      ((s : Processes) (marks : List Name) (q : Process) → s.world.turns ≤ turns → find s.live p ≡ Some q → standing_size q.standing + work_size q.work < size
+      → Finishes s marks p others drawn) →
       Onward p others marks drawn x
   onward (ended ending system turns) p others marks drawn size t f less smaller = tt
   onward (went s stays quiet) p others marks drawn size t f less smaller = elim f [
@@ -83,7 +92,8 @@ module _ (unit : ProgramUnit) (choices : Choices) where
 
   -- with at most t turns left, where the selections with fewer end
   by_work : (t : ℕ) → ((s : Processes) (marks : List Name) (q : Name) (os : List Name) (d : ℕ) → s.world.turns < t → Finishes s marks q os d) →
-      (left : ℕ) (s : Processes) (marks : List Name) (p : Name) (others : List Name) (drawn : ℕ) (q : Process) → find s.live p ≡ Some q → s.world.turns ≤ t → standing_size q.standing + work_size q.work < left → Finishes s marks p others drawn
+      (left : ℕ) (s : Processes) (marks : List Name) (p : Name) (others : List Name) (drawn : ℕ) (q : Process) → find s.live p ≡ Some q → s.world.turns ≤ t
+      → standing_size q.standing + work_size q.work < left → Finishes s marks p others drawn
   by_work t less zero s marks p others drawn q e h k = absurd (omega arith)
   by_work t less (suc left) s marks p others drawn q e h k =
       one_more s marks p others drawn
@@ -95,7 +105,8 @@ module _ (unit : ProgramUnit) (choices : Choices) where
   by_turns zero s marks p others drawn h = absurd (omega arith)
   by_turns (suc t) s marks p others drawn h = of_found (by_work t (by_turns t)) (find s.live p) refl
     where
-      of_found : ((left : ℕ) (s : Processes) (marks : List Name) (p : Name) (others : List Name) (drawn : ℕ) (q : Process) → find s.live p ≡ Some q → s.world.turns ≤ t → standing_size q.standing + work_size q.work < left → Finishes s marks p others drawn) →
+      of_found : ((left : ℕ) (s : Processes) (marks : List Name) (p : Name) (others : List Name) (drawn : ℕ) (q : Process) → find s.live p ≡ Some q
+          → s.world.turns ≤ t → standing_size q.standing + work_size q.work < left → Finishes s marks p others drawn) →
           (x : Option Process) → find s.live p ≡ x → Finishes s marks p others drawn
       of_found counted None e = one_more s marks p others drawn (subst (λ (x : Option Process). Onward p others marks drawn (step_of unit s p x)) (sym e) tt)
       of_found counted (Some q) e = counted (suc (standing_size q.standing + work_size q.work)) s marks p others drawn q e (omega arith) (omega arith)
@@ -122,7 +133,8 @@ module _ (unit : ProgramUnit) (ending : Ending) (end : Traced) (turns d : ℕ) w
   -- the choices are never fewer than before
   module _ (choices : Choices) where
     queue_drawn : (queue : List Name) (more : Name → List Name → ℕ → Selected) (s : Processes) (drawn : ℕ) (order : List Name) →
-        ((p : Name) (others : List Name) (x : ℕ) → more p others x ≡ End order → x ≤ d) → go_on (take_next choices drawn queue) more s drawn ≡ End order → drawn ≤ d
+        ((p : Name) (others : List Name) (x : ℕ) → more p others x ≡ End order → x ≤ d) → go_on (take_next choices drawn queue) more s drawn ≡ End order
+        → drawn ≤ d
     queue_drawn [] more s drawn order ih h = omega (arith, same_drawn _ _ _ _ _ _ _ _ _ _ h)
     queue_drawn (p ∷ []) more s drawn order ih h = ih p [] drawn h
     queue_drawn (p ∷ q ∷ ready) more s drawn order ih h = omega (arith, ih _ _ (drawn + 1) h)
@@ -132,7 +144,8 @@ module _ (unit : ProgramUnit) (ending : Ending) (end : Traced) (turns d : ℕ) w
     next_drawn stays more s p others drawn order ih h = ih p others drawn h
     next_drawn (joins ps) more s p others drawn order ih h = queue_drawn (others ++ ps) more s drawn order ih h
 
-    tested_drawn : (b : Bool) (next : Next) (more : Name → List Name → ℕ → Selected) (s : Processes) (p : Name) (others : List Name) (drawn : ℕ) (order : List Name) →
+    tested_drawn : (b : Bool) (next : Next) (more : Name → List Name → ℕ → Selected) (s : Processes) (p : Name) (others : List Name) (drawn : ℕ)
+        (order : List Name) →
         ((p : Name) (others : List Name) (x : ℕ) → more p others x ≡ End order → x ≤ d) →
         (if b then finished outcome.standstill s.world.system s.world.turns drawn [] else after_next choices more s p others drawn next) ≡ End order → drawn ≤ d
     tested_drawn true next more s p others drawn order ih h = omega (arith, same_drawn _ _ _ _ _ _ _ _ _ _ h)
@@ -143,9 +156,11 @@ module _ (unit : ProgramUnit) (ending : Ending) (end : Traced) (turns d : ℕ) w
         after_step choices more p others marks drawn x ≡ End order → drawn ≤ d
     stepped_drawn (ended e system t) more p others marks drawn order ih h = omega (arith, same_drawn _ _ _ _ _ _ _ _ _ _ h)
     stepped_drawn (went s next quiet) more p others marks drawn order ih h =
-        tested_drawn (is_standstill quiet (marked quiet p marks) (p ∷ others)) next (more s (marked quiet p marks)) s p others drawn order (ih s (marked quiet p marks)) h
+        tested_drawn (is_standstill quiet (marked quiet p marks) (p ∷ others)) next (more s (marked quiet p marks)) s p others drawn order
+        (ih s (marked quiet p marks)) h
 
-    drawn_within : (n : ℕ) (order : List Name) (s : Processes) (marks : List Name) (p : Name) (others : List Name) (drawn : ℕ) → select unit choices n s marks p others drawn ≡ End order → drawn ≤ d
+    drawn_within : (n : ℕ) (order : List Name) (s : Processes) (marks : List Name) (p : Name) (others : List Name) (drawn : ℕ) → select unit choices n s marks
+        p others drawn ≡ End order → drawn ≤ d
     drawn_within zero order s marks p others drawn h = absurd (cc)
     drawn_within (suc n) order s marks p others drawn h =
         let before : (rest : List Name) × (after_step choices (select unit choices n) p others marks drawn (step unit s p) ≡ End rest) × (p ∷ rest ≡ order) =
@@ -157,7 +172,8 @@ module _ (unit : ProgramUnit) (ending : Ending) (end : Traced) (turns d : ℕ) w
     Same one other order = (p : Name) (others : List Name) (x : ℕ) → one p others x ≡ End order → other p others x ≡ End order
 
     queue_same : (queue : List Name) (one other : Name → List Name → ℕ → Selected) (s : Processes) (drawn : ℕ) (order : List Name) → Same one other order →
-        ((p : Name) (others : List Name) (x : ℕ) → one p others x ≡ End order → x ≤ d) → go_on (take_next c drawn queue) one s drawn ≡ End order → go_on (take_next c' drawn queue) other s drawn ≡ End order
+        ((p : Name) (others : List Name) (x : ℕ) → one p others x ≡ End order → x ≤ d) → go_on (take_next c drawn queue) one s drawn ≡ End order
+        → go_on (take_next c' drawn queue) other s drawn ≡ End order
     queue_same [] one other s drawn order ih l h = h
     queue_same (p ∷ []) one other s drawn order ih l h = ih p [] drawn h
     queue_same (p ∷ q ∷ ready) one other s drawn order ih l h =
@@ -165,12 +181,15 @@ module _ (unit : ProgramUnit) (ending : Ending) (end : Traced) (turns d : ℕ) w
         let P : ℕ → Type 0 = λ v. go_on (taking_at (p ∷ q ∷ ready) (v % length (p ∷ q ∷ ready)) (drawn + 1)) other s drawn ≡ End order in
         subst P (agree (drawn + 1) (omega arith) drawn_more) (ih _ _ (drawn + 1) h)
 
-    next_same : (next : Next) (one other : Name → List Name → ℕ → Selected) (s : Processes) (p : Name) (others : List Name) (drawn : ℕ) (order : List Name) → Same one other order →
-        ((p : Name) (others : List Name) (x : ℕ) → one p others x ≡ End order → x ≤ d) → after_next c one s p others drawn next ≡ End order → after_next c' other s p others drawn next ≡ End order
+    next_same : (next : Next) (one other : Name → List Name → ℕ → Selected) (s : Processes) (p : Name) (others : List Name) (drawn : ℕ) (order : List Name)
+        → Same one other order →
+        ((p : Name) (others : List Name) (x : ℕ) → one p others x ≡ End order → x ≤ d) → after_next c one s p others drawn next ≡ End order
+        → after_next c' other s p others drawn next ≡ End order
     next_same stays one other s p others drawn order ih l h = ih p others drawn h
     next_same (joins ps) one other s p others drawn order ih l h = queue_same (others ++ ps) one other s drawn order ih l h
 
-    tested_same : (b : Bool) (next : Next) (one other : Name → List Name → ℕ → Selected) (s : Processes) (p : Name) (others : List Name) (drawn : ℕ) (order : List Name) → Same one other order →
+    tested_same : (b : Bool) (next : Next) (one other : Name → List Name → ℕ → Selected) (s : Processes) (p : Name) (others : List Name) (drawn : ℕ)
+        (order : List Name) → Same one other order →
         ((p : Name) (others : List Name) (x : ℕ) → one p others x ≡ End order → x ≤ d) →
         (if b then finished outcome.standstill s.world.system s.world.turns drawn [] else after_next c one s p others drawn next) ≡ End order →
         (if b then finished outcome.standstill s.world.system s.world.turns drawn [] else after_next c' other s p others drawn next) ≡ End order
@@ -183,7 +202,8 @@ module _ (unit : ProgramUnit) (ending : Ending) (end : Traced) (turns d : ℕ) w
         after_step c one p others marks drawn x ≡ End order → after_step c' other p others marks drawn x ≡ End order
     stepped_same (ended e system t) one other p others marks drawn order ih l h = h
     stepped_same (went s next quiet) one other p others marks drawn order ih l h =
-        tested_same (is_standstill quiet (marked quiet p marks) (p ∷ others)) next (one s (marked quiet p marks)) (other s (marked quiet p marks)) s p others drawn order (ih s (marked quiet p marks)) (l s (marked quiet p marks)) h
+        tested_same (is_standstill quiet (marked quiet p marks) (p ∷ others)) next (one s (marked quiet p marks)) (other s (marked quiet p marks)) s p others
+        drawn order (ih s (marked quiet p marks)) (l s (marked quiet p marks)) h
 
     select_same : (n k : ℕ) → n ≤ k → (order : List Name) (s : Processes) (marks : List Name) (p : Name) (others : List Name) (drawn : ℕ) →
         select unit c n s marks p others drawn ≡ End order → select unit c' k s marks p others drawn ≡ End order
@@ -207,18 +227,22 @@ some-same e = cc
 
 module _ (unit : ProgramUnit) (system : State) (bound : ℕ) (choices : Choices) where
   same_end : (n k : ℕ) (x y : Ending) (s s' : Traced) (t t' d d' : ℕ) (o o' : List Name) → n ≤ k →
-      select_from_start unit system bound choices n ≡ finished x s t d o → select_from_start unit system bound choices k ≡ finished y s' t' d' o' → finished x s t d o ≡ finished y s' t' d' o'
+      select_from_start unit system bound choices n ≡ finished x s t d o → select_from_start unit system bound choices k ≡ finished y s' t' d' o'
+      → finished x s t d o ≡ finished y s' t' d' o'
   same_end n k x y s s' t t' d d' o o' le e e' =
       sym (select_same unit x s t d choices choices (λ i _ _. refl) n k le o (start unit system bound) [] [] [] 0 e) ∙ e'
 
-  same_outcome : (x y : Ending) (s s' : Traced) (t t' d d' : ℕ) (o o' : List Name) → finished x s t d o ≡ finished y s' t' d' o' → outcome_of s.now x (bound - t) d ≡ outcome_of s'.now y (bound - t') d'
+  same_outcome : (x y : Ending) (s s' : Traced) (t t' d d' : ℕ) (o o' : List Name) → finished x s t d o ≡ finished y s' t' d' o'
+      → outcome_of s.now x (bound - t) d ≡ outcome_of s'.now y (bound - t') d'
   same_outcome x y s s' t t' d d' o o' e = some-same (ap (outcome_at bound) e)
 
 pub selections_are_determined : SelectionsAreDetermined
 selections_are_determined unit system bound choices one other a b =
     a.6 ∙ elim (cases_lt a.5.0 b.5.0) [
-      | inl h ↦ same_outcome unit system bound choices a.0 b.0 a.1 b.1 a.2 b.2 a.3 b.3 a.4 b.4 (same_end unit system bound choices a.5.0 b.5.0 a.0 b.0 a.1 b.1 a.2 b.2 a.3 b.3 a.4 b.4 (omega arith) a.5.1 b.5.1)
-      | inr h ↦ sym (same_outcome unit system bound choices b.0 a.0 b.1 a.1 b.2 a.2 b.3 a.3 b.4 a.4 (same_end unit system bound choices b.5.0 a.5.0 b.0 a.0 b.1 a.1 b.2 a.2 b.3 a.3 b.4 a.4 h b.5.1 a.5.1))
+      | inl h ↦ same_outcome unit system bound choices a.0 b.0 a.1 b.1 a.2 b.2 a.3 b.3 a.4 b.4
+          (same_end unit system bound choices a.5.0 b.5.0 a.0 b.0 a.1 b.1 a.2 b.2 a.3 b.3 a.4 b.4 (omega arith) a.5.1 b.5.1)
+      | inr h ↦ sym (same_outcome unit system bound choices b.0 a.0 b.1 a.1 b.2 a.2 b.3 a.3 b.4 a.4
+          (same_end unit system bound choices b.5.0 a.5.0 b.0 a.0 b.1 a.1 b.2 a.2 b.3 a.3 b.4 a.4 h b.5.1 a.5.1))
     ] ∙ sym b.6
 
 -- ---- the record
@@ -239,5 +263,8 @@ first_choices-at c (suc n) i h k = elim (cases_lt (i - 1) n) [
 ]
 
 pub record_replays : RecordReplays
-record_replays unit system bound choices ending end turns drawn order e =
-    (e.0, select_same unit ending end turns drawn choices (listed (first_choices choices drawn)) (λ i h k. sym (first_choices-at choices drawn i h k)) e.0 e.0 (omega arith) order (start unit system bound) [] [] [] 0 e.1)
+record_replays unit system bound choices ending end turns drawn order e = (
+  e.0,
+  select_same unit ending end turns drawn choices (listed (first_choices choices drawn)) (λ i h k. sym (first_choices-at choices drawn i h k)) e.0 e.0
+      (omega arith) order (start unit system bound) [] [] [] 0 e.1,
+)

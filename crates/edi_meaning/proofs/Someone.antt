@@ -1,5 +1,6 @@
 -- Some process may always step, so a standstill comes by the marks.
-use Rattle.std.proofs.Common.{◌≡◌, ℕ, zero, suc, ◌+◌, ◌-◌, ◌<◌, ◌≤◌, inl, inr, Bool, true, false, not, ◌||◌, ◌&&◌, if◌then◌else◌, max, List, [], ◌∷◌, ◌++◌, length, Option, Some, None, refl, sym, subst, ap, ◌∙◌, arith}
+use Rattle.std.proofs.Common.{◌≡◌, ℕ, zero, suc, ◌+◌, ◌-◌, ◌<◌, ◌≤◌, inl, inr, Bool, true, false, not, ◌||◌, ◌&&◌, if◌then◌else◌, max, List, [], ◌∷◌, ◌++◌}
+use Rattle.std.proofs.Common.{length, Option, Some, None, refl, sym, subst, ap, ◌∙◌, arith}
 use Rattle.std.specs.Prelude.{⊤}
 use Rattle.std.proofs.lemmas.List.{length-take}
 use Rattle.edi_calls.specs.Choice.{Choices}
@@ -8,10 +9,12 @@ use Rattle.edi_calls.specs.Outcome as outcome
 use Rattle.edi_calls.specs.Ready.{parent_of, has, all_marked, Next, stays, joins, Taking, nobody, taking, take_next}
 use Rattle.edi_calls.proofs.Tables.{same-refl, same-equal}
 use Rattle.edi_unit.specs.Tree.{ProgramUnit}
-use Rattle.edi_meaning.specs.Step.{Standing, ready, at_when, waiting, Process, Processes, Stepped, went, ended, step, start, is_running, is_running_process, may_step, nowhere, onward, permitted, local_step}
+use Rattle.edi_meaning.specs.Step.{Standing, ready, at_when, waiting, Process, Processes, Stepped, went, ended, step, start, is_running, is_running_process}
+use Rattle.edi_meaning.specs.Step.{may_step, nowhere, onward, permitted, local_step}
 use Rattle.edi_meaning.specs.Evaluation.{Evaluation, gives, ends}
 use Rattle.edi_meaning.specs.Step.{Asks}
-use Rattle.edi_meaning.specs.Select.{Selected, unfinished, finished, stepped_first, marked, is_standstill, go_on, after_next, after_step, select, select_from_start}
+use Rattle.edi_meaning.specs.Select.{Selected, unfinished, finished, stepped_first, marked, is_standstill, go_on, after_next, after_step, select}
+use Rattle.edi_meaning.specs.Select.{select_from_start}
 use Rattle.edi_meaning.specs.Laws.{is_child, children_in}
 use Rattle.edi_meaning.specs.Someone.{ForksHaveBranches, SomeoneMayStep, LastIsMarked, StandstillIsMarked}
 use Rattle.edi_meaning.proofs.Lasting.{IsOwn, Gives}
@@ -42,7 +45,8 @@ child_among : (rs : List Name) (p : Name) → 0 < children_in rs p → (r : Name
 child_among [] p some = absurd (omega (arith, some))
 child_among (r ∷ rs) p some = go (is_child r p) refl some (λ l. child_among rs p l)
   where
-    go : (b : Bool) → is_child r p ≡ b → 0 < (if b then suc (children_in rs p) else children_in rs p) → (0 < children_in rs p → (r : Name) × (has rs r ≡ true) × (is_child r p ≡ true)) →
+    go : (b : Bool) → is_child r p ≡ b → 0 < (if b then suc (children_in rs p) else children_in rs p)
+        → (0 < children_in rs p → (r : Name) × (has rs r ≡ true) × (is_child r p ≡ true)) →
         (x : Name) × (has (r ∷ rs) x ≡ true) × (is_child x p ≡ true)
     go true e some ih = (r, ap (λ b. b || has rs r) (same-refl r), e)
     go false e some ih =
@@ -73,7 +77,9 @@ module _ (s : Processes) (coherent : Coherent s) (good : StateGood s) where
   climb zero p q found less = absurd (omega (arith, less, not_longer (names s.live) p (has-found s.live p q found)))
   climb (suc fuel) p q found less = go q.standing refl (λ r y e l. climb fuel r y e l)
     where
-      go : (standing : Standing) → q.standing ≡ standing → ((r : Name) (y : Process) → find s.live r ≡ Some y → longest (names s.live) < length r + fuel → (x : Name) × (may_step s x ≡ true)) → (x : Name) × (may_step s x ≡ true)
+      go : (standing : Standing) → q.standing ≡ standing
+          → ((r : Name) (y : Process) → find s.live r ≡ Some y → longest (names s.live) < length r + fuel → (x : Name) × (may_step s x ≡ true)) → (x : Name)
+          × (may_step s x ≡ true)
       go ready e rest = (p, ap is_running_process found ∙ ap is_running e)
       go (at_when cs position) e rest = (p, ap is_running_process found ∙ ap is_running e)
       go (waiting n) e rest =
@@ -117,7 +123,8 @@ module _ (unit : ProgramUnit) (s : Processes) (p : Name) (q : Process) where
   quiet_joins : find s.live p ≡ Some q → QuietJoins p (step unit s p)
   quiet_joins found =
       of_process unit s p q (QuietJoins p) found
-      (kernel_handles unit s p q _ _ (QuietJoins p) marking (local_step unit p q.size q.standing q.work s.world) (any (local_step unit p q.size q.standing q.work s.world)))
+      (kernel_handles unit s p q _ _ (QuietJoins p) marking (local_step unit p q.size q.standing q.work s.world)
+      (any (local_step unit p q.size q.standing q.work s.world)))
 
 -- ---- along a selection
 
@@ -155,16 +162,21 @@ module _ (unit : ProgramUnit) (have : ForksHaveBranches unit) (choices : Choices
           marks = l.marks;
         }
 
-    taken_marked : (more : Name → List Name → ℕ → Selected) (drawn : ℕ) (k : Taking) → EachTaken (May t.live) k → Fresh t.live → Coherent t → StateGood t → MoreMarked t more → Marked s (stepped_first p (go_on k more t drawn))
+    taken_marked : (more : Name → List Name → ℕ → Selected) (drawn : ℕ) (k : Taking) → EachTaken (May t.live) k → Fresh t.live → Coherent t → StateGood t
+        → MoreMarked t more → Marked s (stepped_first p (go_on k more t drawn))
     taken_marked more drawn nobody e f c g h = let x : (x : Name) × (may_step t x ≡ true) = someone t c g in absurd (e x.0 x.1)
     taken_marked more drawn (taking r others d) e f c g h = first_marked (more r others d) (h r others d f e)
 
-    next_marked : (more : Name → List Name → ℕ → Selected) (others : List Name) (drawn : ℕ) (n : Next) → StepSound p others (went t n quiet) → Coherent t → StateGood t → MoreMarked t more → Marked s (stepped_first p (after_next choices more t p others drawn n))
+    next_marked : (more : Name → List Name → ℕ → Selected) (others : List Name) (drawn : ℕ) (n : Next) → StepSound p others (went t n quiet) → Coherent t
+        → StateGood t → MoreMarked t more → Marked s (stepped_first p (after_next choices more t p others drawn n))
     next_marked more others drawn stays e c g h = first_marked (more p others drawn) (h p others drawn e.0 e.1)
-    next_marked more others drawn (joins ps) e c g h = taken_marked more drawn (take_next choices drawn (others ++ ps)) (each_next (May t.live) choices drawn (others ++ ps) e.1) e.0 c g h
+    next_marked more others drawn (joins ps) e c g h = taken_marked more drawn (take_next choices drawn (others ++ ps))
+        (each_next (May t.live) choices drawn (others ++ ps) e.1) e.0 c g h
 
-    tested_marked : (b : Bool) (more : Name → List Name → ℕ → Selected) (others : List Name) (drawn : ℕ) → (b ≡ true → quiet ≡ true) → QuietJoins p (went t next quiet) → StepSound p others (went t next quiet) → Coherent t → StateGood t → MoreMarked t more →
-        Marked s (stepped_first p (if b then finished outcome.standstill t.world.system t.world.turns drawn [] else after_next choices more t p others drawn next))
+    tested_marked : (b : Bool) (more : Name → List Name → ℕ → Selected) (others : List Name) (drawn : ℕ) → (b ≡ true → quiet ≡ true)
+        → QuietJoins p (went t next quiet) → StepSound p others (went t next quiet) → Coherent t → StateGood t → MoreMarked t more →
+        Marked s (stepped_first p (if b then finished outcome.standstill t.world.system t.world.turns drawn [] else after_next choices more t p others drawn
+        next))
     tested_marked true more others drawn by q e c g h = λ f. record {
       before = [];
       name = p;
@@ -176,8 +188,10 @@ module _ (unit : ProgramUnit) (have : ForksHaveBranches unit) (choices : Choices
     }
     tested_marked false more others drawn by q e c g h = next_marked more others drawn next e c g h
 
-  stepped_marked : (s : Processes) (p : Name) (x : Stepped) (more : Rest) (others marks : List Name) (drawn size turns : ℕ) → may_step s p ≡ true → step unit s p ≡ x →
-      StepSound p others x → Falls size turns p x → After Coherent x → After StateGood x → QuietJoins p x → RestMarked more → Marked s (stepped_first p (after_step choices more p others marks drawn x))
+  stepped_marked : (s : Processes) (p : Name) (x : Stepped) (more : Rest) (others marks : List Name) (drawn size turns : ℕ) → may_step s p ≡ true
+      → step unit s p ≡ x →
+      StepSound p others x → Falls size turns p x → After Coherent x → After StateGood x → QuietJoins p x → RestMarked more
+      → Marked s (stepped_first p (after_step choices more p others marks drawn x))
   stepped_marked s p (ended ending system t) more others marks drawn size turns may is e f c g q h = λ k. absurd (subst IsOwn k f)
   stepped_marked s p (went t next quiet) more others marks drawn size turns may is e f c g q h =
       tested_marked s t p next quiet may is (is_standstill quiet (marked quiet p marks) (p ∷ others)) (more t (marked quiet p marks)) others drawn
@@ -190,7 +204,8 @@ module _ (unit : ProgramUnit) (have : ForksHaveBranches unit) (choices : Choices
       may : may_step s p ≡ true
       may = e.holds p (ap (λ b. b || has others p) (same-refl p))
 
-      of_found : (x : Option Process) → find s.live p ≡ x → RestMarked (select unit choices n) → Marked s (stepped_first p (after_step choices (select unit choices n) p others marks drawn (step unit s p)))
+      of_found : (x : Option Process) → find s.live p ≡ x → RestMarked (select unit choices n)
+          → Marked s (stepped_first p (after_step choices (select unit choices n) p others marks drawn (step unit s p)))
       of_found None k ih = let a : false ≡ true = sym (ap is_running_process k) ∙ may in absurd (cc)
       of_found (Some q) k ih =
           stepped_marked s p (step unit s p) (select unit choices n) others marks drawn (standing_size q.standing + work_size q.work) s.world.turns may refl

@@ -1,5 +1,6 @@
 -- What joins the list of ready processes, and taking the next, keep the list sound.
-use Rattle.std.proofs.Common.{◌≡◌, ℕ, zero, suc, ◌+◌, ◌<◌, ◌≤◌, ◌⊎◌, inl, inr, Bool, true, false, ◌||◌, List, [], ◌∷◌, ◌++◌, length, refl, sym, subst, ap, ◌∙◌, arith}
+use Rattle.std.proofs.Common.{◌≡◌, ℕ, zero, suc, ◌+◌, ◌<◌, ◌≤◌, ◌⊎◌, inl, inr, Bool, true, false, ◌||◌, List, [], ◌∷◌, ◌++◌, length, refl, sym, subst, ap}
+use Rattle.std.proofs.Common.{◌∙◌, arith}
 use Rattle.std.specs.Prelude.{◌%◌}
 use Rattle.std.proofs.lemmas.Bool.{cases_lt}
 use Rattle.edi_calls.specs.Choice.{Choices, choice}
@@ -48,7 +49,9 @@ pub has-children : (p : Name) (f k n : ℕ) (x : Name) → has (children p f k n
 has-children p f k zero x e = absurd (cc)
 has-children p f k (suc n) x e = go (or_true (same x (child p f k)) (has (children p f (suc k) n) x) e) (has-children p f (suc k) n x)
   where
-    go : (same x (child p f k) ≡ true) ⊎ (has (children p f (suc k) n) x ≡ true) → (has (children p f (suc k) n) x ≡ true → (j : ℕ) × (suc k ≤ j) × (j < suc k + n) × (x ≡ child p f j)) → (j : ℕ) × (k ≤ j) × (j < k + suc n) × (x ≡ child p f j)
+    go : (same x (child p f k) ≡ true) ⊎ (has (children p f (suc k) n) x ≡ true)
+        → (has (children p f (suc k) n) x ≡ true → (j : ℕ) × (suc k ≤ j) × (j < suc k + n) × (x ≡ child p f j)) → (j : ℕ) × (k ≤ j) × (j < k + suc n)
+        × (x ≡ child p f j)
     go (inl h) ih = (k, omega arith, omega arith, same-equal x (child p f k) h)
     go (inr h) ih = let r : (j : ℕ) × (suc k ≤ j) × (j < suc k + n) × (x ≡ child p f j) = ih h in (r.0, omega arith, omega arith, r.3)
 
@@ -59,8 +62,10 @@ not_true false h = refl
 pub has-child : (p : Name) (f k n j : ℕ) → k ≤ j → j < k + n → has (children p f k n) (child p f j) ≡ true
 has-child p f k zero j h l = absurd (omega arith)
 has-child p f k (suc n) j h l = elim (cases_lt k j) [
-  | inl above ↦ ap (λ b. same (child p f j) (child p f k) || b) (has-child p f (suc k) n j (omega arith) (omega arith)) ∙ true_right (same (child p f j) (child p f k))
-  | inr below ↦ let here : j ≡ k = omega arith in ap (λ b. b || has (children p f (suc k) n) (child p f j)) (ap (λ i. same (child p f j) (child p f i)) (sym here) ∙ same-refl (child p f j))
+  | inl above ↦ ap (λ b. same (child p f j) (child p f k) || b) (has-child p f (suc k) n j (omega arith) (omega arith))
+      ∙ true_right (same (child p f j) (child p f k))
+  | inr below ↦ let here : j ≡ k = omega arith in
+      ap (λ b. b || has (children p f (suc k) n) (child p f j)) (ap (λ i. same (child p f j) (child p f i)) (sym here) ∙ same-refl (child p f j))
 ]
 
 pub once-children : (p : Name) (f k n : ℕ) → Once (children p f k n)
@@ -92,8 +97,11 @@ has-without_place (x ∷ xs) (suc i) p h = elim (or_true (same p x) (has (withou
 pub once-without_place : (l : List Name) (i : ℕ) → Once l → Once (without_index l i)
 once-without_place [] i o = tt
 once-without_place (x ∷ xs) zero o = o.1
-once-without_place (x ∷ xs) (suc i) o =
-    (not_true (has (without_index xs i) x) (λ h. let a : has xs x ≡ true = has-without_place xs i x h in let b : has xs x ≡ false = o.0 in let c : true ≡ false = sym a ∙ b in absurd (cc)), once-without_place xs i o.1)
+once-without_place (x ∷ xs) (suc i) o = (
+  not_true (has (without_index xs i) x) (λ h. let a : has xs x ≡ true = has-without_place xs i x h in let b : has xs x ≡ false = o.0 in
+      let c : true ≡ false = sym a ∙ b in absurd (cc)),
+  once-without_place xs i o.1,
+)
 
 -- the one that is taken out is not among the others
 pub not-without_place : (l : List Name) (i : ℕ) → i < length l → Once l → has (without_index l i) (name_at l i) ≡ false
@@ -101,7 +109,8 @@ not-without_place [] i h o = absurd (omega arith)
 not-without_place (x ∷ xs) zero h o = o.0
 not-without_place (x ∷ xs) (suc i) h o = go (same-or-other (name_at xs i) x) (not-without_place xs i (omega arith) o.1) (has-at xs i (omega arith))
   where
-    go : (name_at xs i ≡ x) ⊎ (same (name_at xs i) x ≡ false) → has (without_index xs i) (name_at xs i) ≡ false → has xs (name_at xs i) ≡ true → (same (name_at xs i) x || has (without_index xs i) (name_at xs i)) ≡ false
+    go : (name_at xs i ≡ x) ⊎ (same (name_at xs i) x ≡ false) → has (without_index xs i) (name_at xs i) ≡ false → has xs (name_at xs i) ≡ true
+        → (same (name_at xs i) x || has (without_index xs i) (name_at xs i)) ≡ false
     go (inl e) ih there = let a : has xs x ≡ true = sym (ap (has xs) e) ∙ there in let c : true ≡ false = sym a ∙ o.0 in absurd (cc)
     go (inr n) ih there = ap (λ b. b || has (without_index xs i) (name_at xs i)) n ∙ ih
 

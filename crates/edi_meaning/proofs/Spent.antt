@@ -7,7 +7,8 @@ use Rattle.edi_calls.specs.Outcome.{Ending}
 use Rattle.edi_calls.specs.State.{Traced}
 use Rattle.edi_unit.specs.Tree.{ProgramUnit}
 use Rattle.edi_meaning.specs.Store.{shape}
-use Rattle.edi_meaning.specs.Step.{Work, Standing, ready, at_when, waiting, Process, Processes, Stepped, went, ended, local_step, step, start, is_running, is_running_process, may_step, over, nowhere, onward, permitted}
+use Rattle.edi_meaning.specs.Step.{Work, Standing, ready, at_when, waiting, Process, Processes, Stepped, went, ended, local_step, step, start, is_running}
+use Rattle.edi_meaning.specs.Step.{is_running_process, may_step, over, nowhere, onward, permitted}
 use Rattle.edi_meaning.specs.Spent.{PermittedEndsSpent, SelectionEndsSpent}
 use Rattle.edi_meaning.proofs.Lasting.{spent_over, Any, Lasting}
 use Rattle.edi_meaning.proofs.Local.{Moving, IsIdle, local_keeps}
@@ -49,7 +50,8 @@ abbrev StepSpent : Stepped → Type 0
 StepSpent (went t next quiet) = ⊤
 StepSpent (ended ending system turns) = ending ≡ outcome.turns → turns ≡ 0
 
-handles : (unit : ProgramUnit) (s : Processes) (p : Name) (q : Process) → Handles unit s p q (λ a w. ⊤) (λ ending system turns. ending ≡ outcome.turns → turns ≡ 0) StepSpent
+handles : (unit : ProgramUnit) (s : Processes) (p : Name) (q : Process) → Handles unit s p q (λ a w. ⊤)
+    (λ ending system turns. ending ≡ outcome.turns → turns ≡ 0) StepSpent
 handles unit s p q = record {
   of_end = λ ending system turns h. h;
   of_goes = λ work w h. tt;
@@ -68,7 +70,8 @@ never_idle p ready (x ∷ work) d may due idle = idle
 never_idle p (at_when cs position) work d may due idle = idle
 never_idle p (waiting n) work d may due idle = absurd (cc)
 
-step_spent : (unit : ProgramUnit) (s : Processes) (p : Name) (q : Process) → find s.live p ≡ Some q → is_running q.standing ≡ true → Coherent s → StepSpent (step unit s p)
+step_spent : (unit : ProgramUnit) (s : Processes) (p : Name) (q : Process) → find s.live p ≡ Some q → is_running q.standing ≡ true → Coherent s
+    → StepSpent (step unit s p)
 step_spent unit s p q found may coherent =
     of_process unit s p q StepSpent found
     (kernel_handles unit s p q _ _ StepSpent (handles unit s p q) (local_step unit p q.size q.standing q.work s.world)
@@ -78,7 +81,8 @@ step_spent unit s p q found may coherent =
 -- ---- along permitted steps
 
 module _ (unit : ProgramUnit) (end : Traced) (t : ℕ) where
-  onward_spent : (x : Stepped) (names : List Name) → StepSpent x → After Coherent x → ((u : Processes) → Coherent u → permitted unit names u ≡ over outcome.turns end t → t ≡ 0) →
+  onward_spent : (x : Stepped) (names : List Name) → StepSpent x → After Coherent x
+      → ((u : Processes) → Coherent u → permitted unit names u ≡ over outcome.turns end t → t ≡ 0) →
       onward x names (permitted unit names) ≡ over outcome.turns end t → t ≡ 0
   onward_spent (went u next quiet) names h c k e = k u c e
   onward_spent (ended ending system turns) [] h c k e =

@@ -12,7 +12,10 @@ use Rattle.edi_unit.specs.Tree.{Act, Acts, Clauses, ProgramUnit}
 use Rattle.edi_meaning.specs.Store.{Store, Closure, system_procedure, block_procedure, Cell, shape, room}
 use Rattle.edi_meaning.specs.Evaluation.{World, Evaluation, gives, ends, ◌>>=◌, turn_from, turn}
 use Rattle.edi_meaning.specs.Whole.{meant, system_call, levels_of, whole_first, whole_arguments, whole_assignment, first}
-use Rattle.edi_meaning.specs.Step.{Position, Work, doing, loop_end, procedure_end, branch_end, program_entry, program_end, Standing, ready, at_when, waiting, Asks, goes, arrives, again, forks, leaves, is_quiet, chosen, with_chosen, called, statement_step, work_step, attempt, local_step, Process, Processes, Stepped, went, ended, kernel, step, is_running_process, may_step, Led, nowhere, onward, permitted}
+use Rattle.edi_meaning.specs.Step.{Position, Work, doing, loop_end, procedure_end, branch_end, program_entry, program_end, Standing, ready, at_when, waiting}
+use Rattle.edi_meaning.specs.Step.{Asks, goes, arrives, again, forks, leaves, is_quiet, chosen, with_chosen, called, statement_step, work_step, attempt}
+use Rattle.edi_meaning.specs.Step.{local_step, Process, Processes, Stepped, went, ended, kernel, step, is_running_process, may_step, Led, nowhere, onward}
+use Rattle.edi_meaning.specs.Step.{permitted}
 use Rattle.edi_meaning.specs.Laws.{Settled}
 use Rattle.edi_meaning.proofs.Lasting.{Gives}
 use Rattle.edi_meaning.proofs.Kernel.{if_either, Handles, kernel_handles, of_process}
@@ -45,7 +48,8 @@ module _ (unit : ProgramUnit) (p : Name) (size : ℕ) where
   called_unmarked (block_procedure number parent) cells line work w =
       if_either Unmarked (nat_lt (room size (shape w.store p)) (block_at unit.blocks number).need) _ _ tt (turn_unmarked w.turns w _ (λ w. tt))
 
-  arguments_unmarked : (c : World → Closure) (line : ℕ) (work : List Work) (r : Evaluation (List Cell)) → Unmarked (r >>= λ cells w. called unit p size (c w) cells line work w)
+  arguments_unmarked : (c : World → Closure) (line : ℕ) (work : List Work) (r : Evaluation (List Cell))
+      → Unmarked (r >>= λ cells w. called unit p size (c w) cells line work w)
   arguments_unmarked c line work (gives cells w) = called_unmarked (c w) cells line work w
   arguments_unmarked c line work (ends e system turns) = tt
 
@@ -55,7 +59,8 @@ module _ (unit : ProgramUnit) (p : Name) (size : ℕ) where
   statement_unmarked (tree.call c es line) position work w = arguments_unmarked (meant unit p size c) line work (whole_arguments unit p size es w)
   statement_unmarked (tree.halt line) position work w = tt
   statement_unmarked (tree.if_act cs) position work w = goes_unmarked (chosen unit p size cs 0 w) (λ c. with_chosen position c [] work)
-  statement_unmarked (tree.while_act cs) position work w = goes_unmarked (chosen unit p size cs 0 w) (λ c. with_chosen position c (loop_end cs position ∷ []) work)
+  statement_unmarked (tree.while_act cs) position work w = goes_unmarked (chosen unit p size cs 0 w)
+      (λ c. with_chosen position c (loop_end cs position ∷ []) work)
   statement_unmarked (tree.when_act cs line) position work w = turn_unmarked w.turns w _ (λ w. tt)
   statement_unmarked (tree.cobegin bs line) position work w = tt
 
@@ -106,12 +111,14 @@ module _ (unit : ProgramUnit) (s : Processes) (p : Name) (q : Process) (found : 
   }
 
   -- an attempt that found nothing
-  failed_marks : (cs : Clauses) (position : Position) → q.standing ≡ at_when cs position → (quiet : Bool) → is_quiet cs ≡ quiet → (w : World) → whole_first unit p q.size cs s.world ≡ gives false w →
+  failed_marks : (cs : Clauses) (position : Position) → q.standing ≡ at_when cs position → (quiet : Bool) → is_quiet cs ≡ quiet → (w : World)
+      → whole_first unit p q.size cs s.world ≡ gives false w →
       (n : ℕ) → Marks unit s p (kernel unit s p q (turn_from n w (gives (again cs position quiet q.work))))
   failed_marks cs position st quiet e w h zero = tt
   failed_marks cs position st false e w h (suc n) = tt
   failed_marks cs position st true e w h (suc n) =
-      let none : (w ≡ s.world) × ((deeper : Acts → World → Evaluation (Unit {0})) (v : World) → v.store ≡ s.world.store → first unit p q.size deeper cs v ≡ gives false v) =
+      let none : (w ≡ s.world) × ((deeper : Acts → World → Evaluation (Unit {0})) (v : World) → v.store ≡ s.world.store → first unit p q.size deeper cs v
+      ≡ gives false v) =
       none_true unit p q.size s.world.store cs e (levels_of unit p q.size s.world.turns) s.world w refl h in
       let as_before : record q { work = q.work; standing = at_when cs position } ≡ q = ap (λ x. record q { standing = x }) (sym st) in (
         record {
@@ -129,7 +136,8 @@ module _ (unit : ProgramUnit) (s : Processes) (p : Name) (q : Process) (found : 
   attempt_marks cs position st (ends e system turns) h = tt
 
   local_marks : (standing : Standing) → q.standing ≡ standing → Marks unit s p (kernel unit s p q (local_step unit p q.size standing q.work s.world))
-  local_marks ready st = kernel_handles unit s p q _ _ (Marks unit s p) unmarked (work_step unit p q.size q.work s.world) (work_unmarked unit p q.size q.work s.world)
+  local_marks ready st = kernel_handles unit s p q _ _ (Marks unit s p) unmarked (work_step unit p q.size q.work s.world)
+      (work_unmarked unit p q.size q.work s.world)
   local_marks (at_when cs position) st = attempt_marks cs position st (whole_first unit p q.size cs s.world) refl
   local_marks (waiting n) st = tt
 
@@ -168,19 +176,24 @@ idle_step unit s p i =
     turned : (n : ℕ) → Idles s (kernel unit s p i.process (turn_from n s.world (gives (again i.clauses i.position (is_quiet i.clauses) i.process.work))))
     turned zero = (refl, refl)
     turned (suc n) =
-        let as_before : record i.process { work = i.process.work; standing = at_when i.clauses i.position } ≡ i.process = ap (λ x. record i.process { standing = x }) (sym i.standing) in
+        let as_before : record i.process { work = i.process.work; standing = at_when i.clauses i.position } ≡ i.process =
+        ap (λ x. record i.process { standing = x }) (sym i.standing) in
         record { live = ap (with_at s.live p) as_before ∙ with_at-found s.live p i.process i.found; store = refl; system = refl }
 
-    tried : whole_first unit p i.process.size i.clauses s.world ≡ gives false s.world → Idles s (kernel unit s p i.process (attempt unit p i.process.size i.clauses i.position i.process.work s.world))
+    tried : whole_first unit p i.process.size i.clauses s.world ≡ gives false s.world
+        → Idles s (kernel unit s p i.process (attempt unit p i.process.size i.clauses i.position i.process.work s.world))
     tried h =
-        let R : Evaluation Bool → Type 0 = λ r. Idles s (kernel unit s p i.process (r >>= λ ran w. if ran then gives (goes i.process.work) w else turn w (gives (again i.clauses i.position (is_quiet i.clauses) i.process.work)))) in
+        let R : Evaluation Bool → Type 0 = λ r. Idles s
+        (kernel unit s p i.process (r >>= λ ran w. if ran then gives (goes i.process.work) w else turn w
+        (gives (again i.clauses i.position (is_quiet i.clauses) i.process.work)))) in
         subst R (sym h) (turned s.world.turns)
 
 -- every process that may step is idle
 abbrev pub AllIdle : ProgramUnit → Processes → Type 0
 AllIdle unit s = (p : Name) → may_step s p ≡ true → Idle unit s.live s.world.store p
 
-idle_onward : (s : Processes) (x : Stepped) (names : List Name) (go : Processes → Led) → Idles s x → ((t : Processes) → SameBut s t → Settled s (go t)) → Settled s (onward x names go)
+idle_onward : (s : Processes) (x : Stepped) (names : List Name) (go : Processes → Led) → Idles s x → ((t : Processes) → SameBut s t → Settled s (go t))
+    → Settled s (onward x names go)
 idle_onward s (went t next quiet) names go h k = k t h
 idle_onward s (ended ending system turns) [] go h k = h
 idle_onward s (ended ending system turns) (p ∷ ps) go h k = tt
@@ -192,12 +205,16 @@ if_settled s false x h = tt
 settled_from : (unit : ProgramUnit) (names : List Name) (s t : Processes) → SameBut s t → AllIdle unit s → Settled s (permitted unit names t)
 settled_from unit [] s t e idle = (e.live, e.store, e.system)
 settled_from unit (p ∷ ps) s t e idle =
-    if_settled s (may_step t p) _ (λ m. steps m (idle_step unit t p (idle_same unit s t p e (idle p (ap (λ l. is_running_process (find l p)) (sym e.live) ∙ m)))) (λ u f. settled_from unit ps s u (same_twice s t u e f) idle))
+    if_settled s (may_step t p) _ (λ m. steps m
+    (idle_step unit t p (idle_same unit s t p e (idle p (ap (λ l. is_running_process (find l p)) (sym e.live) ∙ m))))
+    (λ u f. settled_from unit ps s u (same_twice s t u e f) idle))
   where
-    steps : may_step t p ≡ true → Idles t (step unit t p) → ((u : Processes) → SameBut t u → Settled s (permitted unit ps u)) → Settled s (onward (step unit t p) ps (permitted unit ps))
+    steps : may_step t p ≡ true → Idles t (step unit t p) → ((u : Processes) → SameBut t u → Settled s (permitted unit ps u))
+        → Settled s (onward (step unit t p) ps (permitted unit ps))
     steps m i k = go (step unit t p) ps i k
       where
-        go : (x : Stepped) (names : List Name) → Idles t x → ((u : Processes) → SameBut t u → Settled s (permitted unit ps u)) → Settled s (onward x names (permitted unit ps))
+        go : (x : Stepped) (names : List Name) → Idles t x → ((u : Processes) → SameBut t u → Settled s (permitted unit ps u))
+            → Settled s (onward x names (permitted unit ps))
         go (went u next quiet) names i k = k u i
         go (ended ending system turns) [] i k = (i.0, i.1 ∙ e.system)
         go (ended ending system turns) (r ∷ rs) i k = tt
@@ -211,7 +228,8 @@ pub marked_one : (marks l : List Name) (p : Name) → all_marked marks l ≡ tru
 marked_one marks [] p a h = absurd (cc)
 marked_one marks (x ∷ xs) p a h = go (has marks x) refl (or_true (same p x) (has xs p) h) a (marked_one marks xs p)
   where
-    go : (b : Bool) → has marks x ≡ b → (same p x ≡ true) ⊎ (has xs p ≡ true) → (b && all_marked marks xs) ≡ true → (all_marked marks xs ≡ true → has xs p ≡ true → has marks p ≡ true) → has marks p ≡ true
+    go : (b : Bool) → has marks x ≡ b → (same p x ≡ true) ⊎ (has xs p ≡ true) → (b && all_marked marks xs) ≡ true
+        → (all_marked marks xs ≡ true → has xs p ≡ true → has marks p ≡ true) → has marks p ≡ true
     go false e o f ih = absurd (cc)
     go true e (inl k) f ih = ap (has marks) (same-equal p x k) ∙ e
     go true e (inr k) f ih = ih f k

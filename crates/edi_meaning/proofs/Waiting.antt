@@ -8,13 +8,15 @@ use Rattle.edi_calls.proofs.Tables.{same-or-other, same-symmetric, find-with_at-
 use Rattle.edi_unit.specs.Tree.{ProgramUnit}
 use Rattle.edi_meaning.specs.Store.{Spot, shape, now}
 use Rattle.edi_meaning.specs.Evaluation.{World, Evaluation, gives, ends}
-use Rattle.edi_meaning.specs.Step.{Work, Standing, ready, at_when, waiting, Asks, Process, Processes, Stepped, went, ended, back, child_process, with_child, with_children, fork_taken, local_step, step_of, step, start, is_running, at, permitted}
+use Rattle.edi_meaning.specs.Step.{Work, Standing, ready, at_when, waiting, Asks, Process, Processes, Stepped, went, ended, back, child_process, with_child}
+use Rattle.edi_meaning.specs.Step.{with_children, fork_taken, local_step, step_of, step, start, is_running, at, permitted}
 use Rattle.edi_meaning.specs.Laws.{is_child, children_in, IsWaiting, ParentsWait}
 use Rattle.edi_meaning.proofs.Lasting.{Gives}
 use Rattle.edi_meaning.proofs.Kernel.{Handles, kernel_handles, of_process, After, permitted_keep}
 use Rattle.edi_meaning.proofs.Names.{some_is, no_some, parent-child}
 use Rattle.edi_meaning.proofs.Family.{Fresh, Free, free_name, free_next, free_child, kept_child}
-use Rattle.edi_meaning.proofs.Parents.{names-with_at, names-with_new, once-new, children-append, children-one, one_if, child_is_child, not_child_of, Family, FamilyBut, whole_family, still_waiting, no_children, changed, family_goes, family_left, family_awaited}
+use Rattle.edi_meaning.proofs.Parents.{names-with_at, names-with_new, once-new, children-append, children-one, one_if, child_is_child, not_child_of, Family}
+use Rattle.edi_meaning.proofs.Parents.{FamilyBut, whole_family, still_waiting, no_children, changed, family_goes, family_left, family_awaited}
 use Rattle.edi_meaning.proofs.Private.{Proper, start_proper, step_proper}
 
 -- ---- children
@@ -22,7 +24,8 @@ use Rattle.edi_meaning.proofs.Private.{Proper, start_proper, step_proper}
 module _ (live : Table Process) (p : Name) (f k : ℕ) (c : Process) (free : find live (child p f k) ≡ None) (new : c.standing ≡ ready) where
   -- a child more for p, and for nobody else
   one_more : (z : Name) → children_in (names (with_at live (child p f k) c)) z ≡ children_in (names live) z + one_if (is_child (child p f k) z)
-  one_more z = ap (λ l. children_in l z) (names-with_new live (child p f k) c free) ∙ children-append (names live) (child p f k ∷ []) z ∙ ap (λ n. children_in (names live) z + n) (children-one (child p f k) z)
+  one_more z = ap (λ l. children_in l z) (names-with_new live (child p f k) c free) ∙ children-append (names live) (child p f k ∷ []) z
+      ∙ ap (λ n. children_in (names live) z + n) (children-one (child p f k) z)
 
   child_joins : IsWaiting live p → FamilyBut live p → FamilyBut (with_at live (child p f k) c) p
   child_joins waits family = record {
@@ -35,13 +38,18 @@ module _ (live : Table Process) (p : Name) (f k : ℕ) (c : Process) (free : fin
       old : (z : Name) → IsWaiting live z → same z (child p f k) ≡ false
       old z w = elim (same-or-other z (child p f k)) [ inl e ↦ absurd (no_some (find live z) (ap (find live) e ∙ free) w.found) | inr n ↦ n ]
 
-      up : (r : Name) (x : Process) → find (with_at live (child p f k) c) r ≡ Some x → (r ≡ child p f k) ⊎ (same r (child p f k) ≡ false) → (r ≡ []) ⊎ IsWaiting (with_at live (child p f k) c) (parent_of r)
-      up r x e (inl h) = inr (subst (IsWaiting (with_at live (child p f k) c)) (sym (ap parent_of h ∙ parent-child p f k)) (still_waiting live (child p f k) c p (old p waits) waits))
-      up r x e (inr n) = elim (family.parents r x (sym (find-with_at-other live (child p f k) r c n) ∙ e)) [ inl h ↦ inl h | inr w ↦ inr (still_waiting live (child p f k) c (parent_of r) (old (parent_of r) w) w) ]
+      up : (r : Name) (x : Process) → find (with_at live (child p f k) c) r ≡ Some x → (r ≡ child p f k) ⊎ (same r (child p f k) ≡ false) → (r ≡ [])
+          ⊎ IsWaiting (with_at live (child p f k) c) (parent_of r)
+      up r x e (inl h) = inr (subst (IsWaiting (with_at live (child p f k) c)) (sym (ap parent_of h ∙ parent-child p f k))
+          (still_waiting live (child p f k) c p (old p waits) waits))
+      up r x e (inr n) = elim (family.parents r x (sym (find-with_at-other live (child p f k) r c n) ∙ e))
+          [ inl h ↦ inl h | inr w ↦ inr (still_waiting live (child p f k) c (parent_of r) (old (parent_of r) w) w) ]
 
-      count : (z : Name) (x : Process) (n : ℕ) → same z p ≡ false → find (with_at live (child p f k) c) z ≡ Some x → x.standing ≡ waiting n → (z ≡ child p f k) ⊎ (same z (child p f k) ≡ false) → children_in (names (with_at live (child p f k) c)) z ≡ n
+      count : (z : Name) (x : Process) (n : ℕ) → same z p ≡ false → find (with_at live (child p f k) c) z ≡ Some x → x.standing ≡ waiting n
+          → (z ≡ child p f k) ⊎ (same z (child p f k) ≡ false) → children_in (names (with_at live (child p f k) c)) z ≡ n
       count z x n m e w (inl h) =
-          let a : ready ≡ waiting n = sym new ∙ ap (λ y. y.standing) (some_is (sym (find-with_at-same live (child p f k) c) ∙ sym (ap (find (with_at live (child p f k) c)) h) ∙ e)) ∙ w in
+          let a : ready ≡ waiting n = sym new ∙ ap (λ y. y.standing)
+          (some_is (sym (find-with_at-same live (child p f k) c) ∙ sym (ap (find (with_at live (child p f k) c)) h) ∙ e)) ∙ w in
           absurd (cc)
       count z x n m e w (inr d) =
           let other : is_child (child p f k) z ≡ false = not_child_of (child p f k) z (ap (λ y. same y z) (parent-child p f k) ∙ same-symmetric z p m) in
@@ -54,7 +62,8 @@ module _ (unit : ProgramUnit) (p : Name) (f share : ℕ) (parent : Spot) where
     family : FamilyBut live p
     number : children_in (names live) p ≡ n
 
-  children_join : (bs : List ℕ) (k m : ℕ) (q : Process) (s : Processes) → q.standing ≡ waiting m → Free s.live p f k → Joined s.live q k → Joined (with_children unit p f k share parent bs s).live q (k + length bs)
+  children_join : (bs : List ℕ) (k m : ℕ) (q : Process) (s : Processes) → q.standing ≡ waiting m → Free s.live p f k → Joined s.live q k
+      → Joined (with_children unit p f k share parent bs s).live q (k + length bs)
   children_join [] k m q s w free j = record { found = j.found; family = j.family; number = omega (arith, j.number) }
   children_join (b ∷ bs) k m q s w free j =
       let c : Process = child_process unit share b in
@@ -75,7 +84,8 @@ abbrev IsFamily : Processes → Type 0
 IsFamily s = Family s.live
 
 module _ (unit : ProgramUnit) (s : Processes) (p : Name) (q : Process) (found : find s.live p ≡ Some q) (fresh : Fresh s.live) (family : Family s.live) where
-  fork_family : (runs : is_running q.standing ≡ true) (bs : List ℕ) (work : List Work) (w : World) (n share : ℕ) → After IsFamily (fork_taken unit s p q bs work w (suc n) share)
+  fork_family : (runs : is_running q.standing ≡ true) (bs : List ℕ) (work : List Work) (w : World) (n share : ℕ)
+      → After IsFamily (fork_taken unit s p q bs work w (suc n) share)
   fork_family runs bs work w n share = whole_family t.live p joined.family own
     where
       q' : Process
@@ -119,7 +129,8 @@ any_run (gives a v) = refl
 any_run (ends ending system turns) = tt
 
 -- only who runs takes a step that goes on
-pub only_running : (unit : ProgramUnit) (p : Name) (size : ℕ) (standing : Standing) (work : List Work) (w : World) → Gives (λ a v. is_running standing ≡ true) (λ ending system turns. ⊤) (local_step unit p size standing work w)
+pub only_running : (unit : ProgramUnit) (p : Name) (size : ℕ) (standing : Standing) (work : List Work) (w : World) → Gives (λ a v. is_running standing ≡ true)
+    (λ ending system turns. ⊤) (local_step unit p size standing work w)
 only_running unit p size ready work w = any_run (local_step unit p size ready work w)
 only_running unit p size (at_when cs position) work w = any_run (local_step unit p size (at_when cs position) work w)
 only_running unit p size (waiting n) work w = tt
@@ -131,7 +142,8 @@ step_family unit s p fresh family = go (find s.live p) refl
     go None e = subst (λ x. After IsFamily (step_of unit s p x)) (sym e) tt
     go (Some q) e =
         of_process unit s p q (After IsFamily) e
-        (kernel_handles unit s p q _ _ (After IsFamily) (keeping unit s p q e fresh family) (local_step unit p q.size q.standing q.work s.world) (only_running unit p q.size q.standing q.work s.world))
+        (kernel_handles unit s p q _ _ (After IsFamily) (keeping unit s p q e fresh family) (local_step unit p q.size q.standing q.work s.world)
+        (only_running unit p q.size q.standing q.work s.world))
 
 -- ---- along permitted steps
 
@@ -154,14 +166,16 @@ start_family unit system bound = record { once = (refl, tt); parents = λ r q e.
     alone [] q e = refl
     alone (y ∷ ys) q e = absurd (cc)
 
-    idle : (p : Name) (q : Process) (n : ℕ) → find (start unit system bound).live p ≡ Some q → q.standing ≡ waiting n → children_in (names (start unit system bound).live) p ≡ n
+    idle : (p : Name) (q : Process) (n : ℕ) → find (start unit system bound).live p ≡ Some q → q.standing ≡ waiting n
+        → children_in (names (start unit system bound).live) p ≡ n
     idle [] q n e w = let a : ready ≡ waiting n = ap (λ y. y.standing) (some_is e) ∙ w in absurd (cc)
     idle (y ∷ ys) q n e w = absurd (cc)
 
 pub start_with : (unit : ProgramUnit) (system : State) (bound : ℕ) → WithFamily (start unit system bound)
 start_with unit system bound = record { proper = start_proper unit system bound; family = start_family unit system bound }
 
-pub permitted_family : (unit : ProgramUnit) (system : State) (bound : ℕ) (order : List Name) (s : Processes) → permitted unit order (start unit system bound) ≡ at s → WithFamily s
+pub permitted_family : (unit : ProgramUnit) (system : State) (bound : ℕ) (order : List Name) (s : Processes) → permitted unit order (start unit system bound)
+    ≡ at s → WithFamily s
 permitted_family unit system bound order s e =
     permitted_keep unit WithFamily (step_both unit) order (start unit system bound) s (start_with unit system bound) e
 

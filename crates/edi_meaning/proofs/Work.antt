@@ -1,5 +1,6 @@
 -- A step without a turn leaves its process less to do, so every selection ends.
-use Rattle.std.proofs.Common.{◌≡◌, ℕ, zero, suc, ◌+◌, ◌-◌, ◌<◌, ◌≤◌, ◌⊎◌, inl, inr, false, List, [], ◌∷◌, ◌++◌, length, Option, Some, None, refl, subst, ap, arith}
+use Rattle.std.proofs.Common.{◌≡◌, ℕ, zero, suc, ◌+◌, ◌-◌, ◌<◌, ◌≤◌, ◌⊎◌, inl, inr, false, List, [], ◌∷◌, ◌++◌, length, Option, Some, None, refl, subst, ap}
+use Rattle.std.proofs.Common.{arith}
 use Rattle.std.specs.Prelude.{⊤, nat_lt}
 use Rattle.edi_calls.specs.Names.{Name, find}
 use Rattle.edi_calls.specs.Outcome as outcome
@@ -10,9 +11,13 @@ use Rattle.edi_unit.specs.Tree.{Expression, Act, Acts, Clause, Clauses, ProgramU
 use Rattle.edi_meaning.specs.Store.{Spot, Closure, system_procedure, block_procedure, Cell, shape, now, room}
 use Rattle.edi_meaning.specs.Evaluation.{World, Evaluation, gives, ends, turn_from, turn}
 use Rattle.edi_meaning.specs.Whole.{meant}
-use Rattle.edi_meaning.specs.Step.{Position, inside, Work, doing, loop_end, procedure_end, branch_end, program_entry, program_end, doing_all, Standing, ready, at_when, waiting, Asks, goes, arrives, again, forks, leaves, chosen, with_chosen, called, statement_step, work_step, attempt, local_step, Process, Processes, Stepped, went, ended, back, with_child, with_children, awaits, freed, step}
+use Rattle.edi_meaning.specs.Step.{Position, inside, Work, doing, loop_end, procedure_end, branch_end, program_entry, program_end, doing_all, Standing}
+use Rattle.edi_meaning.specs.Step.{ready, at_when, waiting, Asks, goes, arrives, again, forks, leaves, chosen, with_chosen, called, statement_step}
+use Rattle.edi_meaning.specs.Step.{work_step, attempt, local_step, Process, Processes, Stepped, went, ended, back, with_child, with_children, awaits, freed}
+use Rattle.edi_meaning.specs.Step.{step}
 use Rattle.edi_calls.proofs.Tables.{find-with_at-same}
-use Rattle.edi_meaning.proofs.Lasting.{IsOwn, own_over, Every, Any, Lasting, Keeps, At, give, stop, bind, if_keeps, system_keeps, whole_arguments_keep, whole_assignment_keeps, whole_condition_keeps, whole_first_keeps}
+use Rattle.edi_meaning.proofs.Lasting.{IsOwn, own_over, Every, Any, Lasting, Keeps, At, give, stop, bind, if_keeps, system_keeps, whole_arguments_keep}
+use Rattle.edi_meaning.proofs.Lasting.{whole_assignment_keeps, whole_condition_keeps, whole_first_keeps}
 use Rattle.edi_meaning.proofs.Turns.{turning}
 use Rattle.edi_meaning.proofs.Kernel.{rest_of, Handles, kernel_handles, of_process}
 
@@ -88,7 +93,8 @@ module _ (unit : ProgramUnit) (p : Name) (size t : ℕ) where
   goes_falling m work w h k = give few _ _ w (inr (h, k))
 
   -- behind a turn everything is less
-  turn_falling : (m : ℕ) (n : ℕ) (w : World) (go : World → Evaluation Asks) → w.turns ≡ n → w.turns ≤ t → ((w : World) → w.turns < t → Falling m (go w)) → Falling m (turn_from n w go)
+  turn_falling : (m : ℕ) (n : ℕ) (w : World) (go : World → Evaluation Asks) → w.turns ≡ n → w.turns ≤ t → ((w : World) → w.turns < t → Falling m (go w))
+      → Falling m (turn_from n w go)
   turn_falling m zero w go e h k = stop few tt _ outcome.turns w e h
   turn_falling m (suc n) w go e h k = k (record w { turns = n }) (omega arith)
 
@@ -101,7 +107,8 @@ module _ (unit : ProgramUnit) (p : Name) (size t : ℕ) where
       bind few tt Any _ _ _ (whole_condition_keeps few tt e w h)
       (λ holds w _ h. if_keeps few _ holds _ _ (give few _ _ w (omega arith, h)) (more (chosen unit p size cs (suc n) w) (chosen_part cs (suc n) w h)))
     where
-      more : (r : Evaluation (Option (Acts × ℕ))) → Keeps few (At few tt (IsPart cs)) r → Keeps few (At few tt (IsPart (tree.clause_then (tree.clause e as') cs))) r
+      more : (r : Evaluation (Option (Acts × ℕ))) → Keeps few (At few tt (IsPart cs)) r
+          → Keeps few (At few tt (IsPart (tree.clause_then (tree.clause e as') cs))) r
       more (gives c w) h = give few _ c w (part_of_more e as' cs c h.is.0, h.is.1)
       more (ends x system turns) h = record { is = h.is }
 
@@ -110,21 +117,29 @@ module _ (unit : ProgramUnit) (p : Name) (size t : ℕ) where
   chosen_falling m cs position after work None w i h k l = goes_falling m work w h l
   chosen_falling m cs position after work (Some c) w i h k l = goes_falling m _ w h (omega (arith, i, size_of_all c.0 (inside position c.1) 0 (after ++ work)))
 
-  called_falling : (m : ℕ) (c : Closure) (cells : List Cell) (line : ℕ) (work : List Work) (w : World) → Every Any cells → w.turns ≤ t → work_size work < m → Falling m (called unit p size c cells line work w)
-  called_falling m (system_procedure number) cells line work w f h k = bind few tt Any _ _ _ (system_keeps few tt number cells line w f h) (λ _ w _ h. goes_falling m work w h k)
+  called_falling : (m : ℕ) (c : Closure) (cells : List Cell) (line : ℕ) (work : List Work) (w : World) → Every Any cells → w.turns ≤ t → work_size work < m
+      → Falling m (called unit p size c cells line work w)
+  called_falling m (system_procedure number) cells line work w f h k = bind few tt Any _ _ _ (system_keeps few tt number cells line w f h)
+      (λ _ w _ h. goes_falling m work w h k)
   called_falling m (block_procedure number parent) cells line work w f h k =
-      if_keeps few _ (nat_lt (room size (shape w.store p)) (block_at unit.blocks number).need) _ _ (stop few tt _ _ w tt h) (turn_falling m w.turns w _ refl h (λ w l. give few _ _ _ (inl l)))
+      if_keeps few _ (nat_lt (room size (shape w.store p)) (block_at unit.blocks number).need) _ _ (stop few tt _ _ w tt h)
+      (turn_falling m w.turns w _ refl h (λ w l. give few _ _ _ (inl l)))
 
-  statement_falling : (a : Act) (position : Position) (work : List Work) (w : World) → w.turns ≤ t → Falling (act_size a + work_size work) (statement_step unit p size a position work w)
+  statement_falling : (a : Act) (position : Position) (work : List Work) (w : World) → w.turns ≤ t → Falling (act_size a + work_size work)
+      (statement_step unit p size a position work w)
   statement_falling tree.skip position work w h = goes_falling _ work w h (omega arith)
-  statement_falling (tree.assign v e) position work w h = bind few tt Any _ _ _ (whole_assignment_keeps few tt v e w h) (λ _ w _ h. goes_falling _ work w h (omega arith))
+  statement_falling (tree.assign v e) position work w h = bind few tt Any _ _ _ (whole_assignment_keeps few tt v e w h)
+      (λ _ w _ h. goes_falling _ work w h (omega arith))
   statement_falling (tree.call c es line) position work w h =
-      bind few tt (Every Any) _ _ _ (whole_arguments_keep few tt es w h) (λ cells w f h. called_falling _ (meant unit p size c w) cells line work w f h (omega arith))
+      bind few tt (Every Any) _ _ _ (whole_arguments_keep few tt es w h)
+      (λ cells w f h. called_falling _ (meant unit p size c w) cells line work w f h (omega arith))
   statement_falling (tree.halt line) position work w h = stop few tt _ (outcome.halted line) w tt h
   statement_falling (tree.if_act cs) position work w h =
-      bind few tt (IsPart cs) _ _ _ (chosen_part cs 0 w h) (λ c w i h. chosen_falling (1 + clauses_size cs + work_size work) cs position [] work c w i h (omega arith) (omega arith))
+      bind few tt (IsPart cs) _ _ _ (chosen_part cs 0 w h)
+      (λ c w i h. chosen_falling (1 + clauses_size cs + work_size work) cs position [] work c w i h (omega arith) (omega arith))
   statement_falling (tree.while_act cs) position work w h =
-      bind few tt (IsPart cs) _ _ _ (chosen_part cs 0 w h) (λ c w i h. chosen_falling (2 + clauses_size cs + work_size work) cs position (loop_end cs position ∷ []) work c w i h (omega arith) (omega arith))
+      bind few tt (IsPart cs) _ _ _ (chosen_part cs 0 w h)
+      (λ c w i h. chosen_falling (2 + clauses_size cs + work_size work) cs position (loop_end cs position ∷ []) work c w i h (omega arith) (omega arith))
   statement_falling (tree.when_act cs line) position work w h = turn_falling _ w.turns w _ refl h (λ w l. give few _ _ w l)
   statement_falling (tree.cobegin bs line) position work w h = give few _ _ w h
 
@@ -137,12 +152,14 @@ module _ (unit : ProgramUnit) (p : Name) (size t : ℕ) where
   work_falling (program_entry ∷ work) w h = turn_falling _ w.turns w _ refl h (λ w l. give few _ _ _ (inl l))
   work_falling (program_end ∷ work) w h = turn_falling _ w.turns w _ refl h (λ w l. stop few tt _ outcome.done w tt (omega arith))
 
-  attempt_falling : (cs : Clauses) (position : Position) (work : List Work) (w : World) → w.turns ≤ t → Falling (1 + work_size work) (attempt unit p size cs position work w)
+  attempt_falling : (cs : Clauses) (position : Position) (work : List Work) (w : World) → w.turns ≤ t → Falling (1 + work_size work)
+      (attempt unit p size cs position work w)
   attempt_falling cs position work w h =
       bind few tt Any _ _ _ (whole_first_keeps few tt cs w h)
       (λ ran w _ h. if_keeps few _ ran _ _ (goes_falling _ work w h (omega arith)) (turn_falling _ w.turns w _ refl h (λ w l. give few _ _ w l)))
 
-  local_falling : (standing : Standing) (work : List Work) (w : World) → w.turns ≤ t → Falling (standing_size standing + work_size work) (local_step unit p size standing work w)
+  local_falling : (standing : Standing) (work : List Work) (w : World) → w.turns ≤ t → Falling (standing_size standing + work_size work)
+      (local_step unit p size standing work w)
   local_falling ready work w h = subst (λ n. Falling n (work_step unit p size work w)) (omega arith) (work_falling work w h)
   local_falling (at_when cs position) work w h = attempt_falling cs position work w h
   local_falling (waiting n) work w h = record { is = (h, tt) }
@@ -166,7 +183,8 @@ freed_falls : (m n t : ℕ) (p r : Name) (s : Processes) → s.world.turns < t �
 freed_falls m zero t p r s h = h
 freed_falls m (suc n) t p r s h = h
 
-falling : (unit : ProgramUnit) (s : Processes) (p : Name) (q : Process) (m t : ℕ) → Handles unit s p q (Less m t) (λ ending system turns. (turns ≤ t) × IsOwn ending) (Falls m t p)
+falling : (unit : ProgramUnit) (s : Processes) (p : Name) (q : Process) (m t : ℕ) → Handles unit s p q (Less m t)
+    (λ ending system turns. (turns ≤ t) × IsOwn ending) (Falls m t p)
 falling unit s p q m t = record {
   of_end = λ ending system turns h. h.1;
   of_goes = λ work w h. go work w h;
@@ -182,14 +200,16 @@ falling unit s p q m t = record {
             (back s p (record q { forks = suc q.forks; work = work; standing = waiting (length bs) }) (record w { turns = n }))),
       );
   of_leaves = λ w k h. h;
-  of_awaited = λ w y n e g h. freed_falls m (n - 1) t p (parent_of p) (back (rest_of s p w) (parent_of p) (record y { standing = awaits (n - 1) }) (rest_of s p w).world) h;
+  of_awaited = λ w y n e g h. freed_falls m (n - 1) t p (parent_of p)
+      (back (rest_of s p w) (parent_of p) (record y { standing = awaits (n - 1) }) (rest_of s p w).world) h;
 }
   where
     go : (work : List Work) (w : World) → Less m t (goes work) w → Falls m t p (went (back s p (record q { work = work; standing = ready }) w) stays false)
     go work w (inl h) = inl h
     go work w (inr h) = inr (h.0, (record q { work = work; standing = ready }, find-with_at-same s.live p _, omega (arith, h.1)))
 
-pub step_falls : (unit : ProgramUnit) (s : Processes) (p : Name) (q : Process) → find s.live p ≡ Some q → Falls (standing_size q.standing + work_size q.work) s.world.turns p (step unit s p)
+pub step_falls : (unit : ProgramUnit) (s : Processes) (p : Name) (q : Process) → find s.live p ≡ Some q → Falls (standing_size q.standing + work_size q.work)
+    s.world.turns p (step unit s p)
 step_falls unit s p q e =
     let m = standing_size q.standing + work_size q.work in
     of_process unit s p q (Falls m s.world.turns p) e

@@ -8,9 +8,11 @@ use Rattle.edi_calls.specs.Outcome as outcome
 use Rattle.edi_calls.specs.Outcome.{Ending, Outcome}
 use Rattle.edi_calls.specs.Ready.{child, parent_of, stays, joins}
 use Rattle.edi_unit.specs.Tree.{Clauses, ProgramUnit}
-use Rattle.edi_meaning.specs.Store.{Spot, Cell, value, location, procedure, system_procedure, block_procedure, Store, Shape, instances, shape, frame_at, cell, Owns, IsLive, Older}
+use Rattle.edi_meaning.specs.Store.{Spot, Cell, value, location, procedure, system_procedure, block_procedure, Store, Shape, instances, shape, frame_at}
+use Rattle.edi_meaning.specs.Store.{cell, Owns, IsLive, Older}
 use Rattle.edi_meaning.specs.Evaluation.{World}
-use Rattle.edi_meaning.specs.Step.{Position, ready, at_when, waiting, is_running, Process, Processes, Stepped, went, ended, is_quiet, step, start, Led, at, over, nowhere, permitted}
+use Rattle.edi_meaning.specs.Step.{Position, ready, at_when, waiting, is_running, Process, Processes, Stepped, went, ended, is_quiet, step, start, Led, at}
+use Rattle.edi_meaning.specs.Step.{over, nowhere, permitted}
 use Rattle.edi_meaning.specs.Select.{Ends, Select}
 
 -- every selection ends, after some number of steps

@@ -16,7 +16,9 @@ use Rattle.edi_unit.specs.declared.units.Parameter.{Parameter}
 use Rattle.edi_unit.specs.declared.units.Parameter.TheVariants as parameter
 use Rattle.edi_unit.specs.Types.{Shape, array_of, standard_types}
 use Rattle.edi_unit.specs.Values.{zero_value}
-use Rattle.edi_unit.specs.Tree.{Expression, constant, load, chain, convert, apply_of, link, no_link, link_then, Place, place, index, no_part, part_then, by_value, by_variable, by_procedure, no_argument, argument_then, Act, skip, assign, call, if_act, while_act, when_act, cobegin, Acts, no_act, act_then, clause, Clauses, no_clause, clause_then, Block, ProgramUnit}
+use Rattle.edi_unit.specs.Tree.{Expression, constant, load, chain, convert, apply_of, link, no_link, link_then, Place, place, index, no_part, part_then}
+use Rattle.edi_unit.specs.Tree.{by_value, by_variable, by_procedure, no_argument, argument_then, Act, skip, assign, call, if_act, while_act, when_act}
+use Rattle.edi_unit.specs.Tree.{cobegin, Acts, no_act, act_then, clause, Clauses, no_clause, clause_then, Block, ProgramUnit}
 use Rattle.edi_meaning.specs.Select.{Selected, unfinished, finished, select_from_start}
 
 -- ---- writing programs down
@@ -57,7 +59,8 @@ abbrev pub display : ℕ → ℤ → Act
 display levels c = call (callee.Formal levels 0) (argument_then (by_value (constant 1 c)) no_argument) 1
 
 abbrev pub block_of : BlockKind → ℕ → Option ℕ → List Parameter → List ℕ → ℕ → List Act → Block
-block_of k up result parameters variables need body = record { kind = k; up = up; result = result; parameters = parameters; variables = variables; need = need; body = list_of body }
+block_of k up result parameters variables need body =
+    record { kind = k; up = up; result = result; parameters = parameters; variables = variables; need = need; body = list_of body }
 
 abbrev pub program_of : List Shape → List ℕ → List Block → ProgramUnit
 program_of types calls blocks = record { types = standard_types ++ types; blocks = blocks; program = 0; calls = calls }
@@ -87,7 +90,9 @@ row_shows = refl
 -- HEAD var x: int begin while x < 3 do display('k'); x := x + 1 end end
 abbrev pub program_that_counts : ProgramUnit
 program_that_counts =
-    program_of [] (2 ∷ []) (head (0 ∷ []) 12 (while_act (one_clause (two (value_of 0 1) op.Less (number (pos 3)) 1) (display 0 (pos 107) ∷ assign (variable 0 1) (two (value_of 0 1) op.Plus (number (pos 1)) 1) ∷ [])) ∷ []) ∷ [])
+    program_of [] (2 ∷ []) (head (0 ∷ []) 12
+    (while_act (one_clause (two (value_of 0 1) op.Less (number (pos 3)) 1)
+    (display 0 (pos 107) ∷ assign (variable 0 1) (two (value_of 0 1) op.Plus (number (pos 1)) 1) ∷ [])) ∷ []) ∷ [])
 
 pub row_counts : selected program_that_counts [] ≡ (107 ∷ 107 ∷ 107 ∷ [], outcome.done, 5, 0)
 unfolding zero_value
@@ -155,9 +160,11 @@ program_with_procedure =
     program_of [] (2 ∷ [])
     (head [] 12 (go_with 0 (pos 1) (callee.Block 0 3) ∷ [])
     ∷ block_of kind.Procedure 0 None (parameter.Value 0 ∷ parameter.Formal None ∷ []) [] 13
-    (if_act (two_clauses (two (value_of 0 0) op.Equal (number (pos 1)) 1) (go_with 1 (pos 2) (callee.Block 0 2) ∷ []) true_value (call (callee.Formal 0 1) no_argument 1 ∷ [])) ∷ [])
+    (if_act (two_clauses (two (value_of 0 0) op.Equal (number (pos 1)) 1) (go_with 1 (pos 2) (callee.Block 0 2) ∷ []) true_value
+    (call (callee.Formal 0 1) no_argument 1 ∷ [])) ∷ [])
     ∷ block_of kind.Procedure 1 None [] [] 7
-    (if_act (two_clauses (two (value_of 1 0) op.Equal (number (pos 1)) 1) (display 2 (pos 49) ∷ []) (two (value_of 1 0) op.Equal (number (pos 2)) 1) (display 2 (pos 50) ∷ [])) ∷ [])
+    (if_act (two_clauses (two (value_of 1 0) op.Equal (number (pos 1)) 1) (display 2 (pos 49) ∷ []) (two (value_of 1 0) op.Equal (number (pos 2)) 1)
+    (display 2 (pos 50) ∷ [])) ∷ [])
     ∷ block_of kind.Procedure 0 None [] [] 5 (skip ∷ [])
     ∷ [])
 
@@ -172,7 +179,8 @@ program_that_recurs =
     program_of [] (2 ∷ [])
     (head [] 9 (call (callee.Block 0 1) (argument_then (by_value (number (pos 1))) no_argument) 1 ∷ [])
     ∷ block_of kind.Procedure 0 None (parameter.Value 0 ∷ []) [] 8
-    (if_act (two_clauses (two (value_of 0 0) op.Equal (number (pos 1)) 1) (call (callee.Block 1 1) (argument_then (by_value (number (pos 2))) no_argument) 1 ∷ []) true_value (display 1 (pos 120) ∷ [])) ∷ [])
+    (if_act (two_clauses (two (value_of 0 0) op.Equal (number (pos 1)) 1)
+    (call (callee.Block 1 1) (argument_then (by_value (number (pos 2))) no_argument) 1 ∷ []) true_value (display 1 (pos 120) ∷ [])) ∷ [])
     ∷ [])
 
 pub row_recurs : selected program_that_recurs [] ≡ (120 ∷ [], outcome.done, 6, 0)
@@ -195,7 +203,8 @@ row_held = refl
 abbrev pub program_that_decides : ProgramUnit
 program_that_decides =
     program_of [] (2 ∷ [])
-    (head [] 10 (if_act (two_clauses (two false_value op.And (two (two (number (pos 1)) op.Div (number (pos 0)) 1) op.Equal (number (pos 1)) 1) 1) (skip ∷ []) true_value (display 0 (pos 107) ∷ [])) ∷ []) ∷ [])
+    (head [] 10 (if_act (two_clauses (two false_value op.And (two (two (number (pos 1)) op.Div (number (pos 0)) 1) op.Equal (number (pos 1)) 1) 1) (skip ∷ [])
+    true_value (display 0 (pos 107) ∷ [])) ∷ []) ∷ [])
 
 pub row_decides : selected program_that_decides [] ≡ (107 ∷ [], outcome.done, 2, 0)
 unfolding zero_value
@@ -299,7 +308,8 @@ abbrev pub program_that_goes_on : ProgramUnit
 program_that_goes_on =
     program_of [] (2 ∷ [])
     (head (0 ∷ 0 ∷ []) 10 (cobegin (1 ∷ 2 ∷ 3 ∷ []) 3 ∷ [])
-    ∷ block_of kind.Branch 0 None [] [] 7 (when_act (one_clause (two (value_of 1 1) op.Equal (number (pos 1)) 3) (assign (variable 1 2) (number (pos 1)) ∷ [])) 3 ∷ [])
+    ∷ block_of kind.Branch 0 None [] [] 7 (when_act
+    (one_clause (two (value_of 1 1) op.Equal (number (pos 1)) 3) (assign (variable 1 2) (number (pos 1)) ∷ [])) 3 ∷ [])
     ∷ block_of kind.Branch 0 None [] [] 7 (when_act (one_clause (two (value_of 1 2) op.Equal (number (pos 1)) 3) (display 1 (pos 98) ∷ [])) 3 ∷ [])
     ∷ block_of kind.Branch 0 None [] [] 7 (when_act (one_clause true_value (assign (variable 1 1) (number (pos 1)) ∷ [])) 3 ∷ [])
     ∷ [])

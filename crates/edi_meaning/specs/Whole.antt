@@ -10,11 +10,13 @@ use Rattle.edi_calls.specs.Outcome as outcome
 use Rattle.edi_unit.specs.declared.expressions.Callee.{Callee}
 use Rattle.edi_unit.specs.declared.expressions.Callee.TheVariants as callee
 use Rattle.edi_unit.specs.Types.{Shape, shape_at, is_set_shape, array_of, field_type, natural}
-use Rattle.edi_unit.specs.Values.{Value, ordinal, compound, members, Values, no_value, value_then, values, zero_value, ordinal_of, is_true, apply, decides, sign, negation, converted, with_ordinal, element_at}
+use Rattle.edi_unit.specs.Values.{Value, ordinal, compound, members, Values, no_value, value_then, values, zero_value, ordinal_of, is_true, apply, decides}
+use Rattle.edi_unit.specs.Values.{sign, negation, converted, with_ordinal, element_at}
 use Rattle.edi_unit.specs.Need.{block_at, slots, slot_type}
 use Rattle.edi_unit.specs.Tree as tree
 use Rattle.edi_unit.specs.Tree.{Expression, Expressions, Link, Links, Place, Part, Parts, Argument, Arguments, Act, Acts, Clause, Clauses, Block, ProgramUnit}
-use Rattle.edi_meaning.specs.Store.{Spot, Location, Closure, system_procedure, block_procedure, Cell, value, location, procedure, Instance, Store, shape, frame_at, reached, now, room, slot, get, put, formal, grown, shrunk}
+use Rattle.edi_meaning.specs.Store.{Spot, Location, Closure, system_procedure, block_procedure, Cell, value, location, procedure, Instance, Store, shape}
+use Rattle.edi_meaning.specs.Store.{frame_at, reached, now, room, slot, get, put, formal, grown, shrunk}
 use Rattle.edi_meaning.specs.Evaluation.{World, Evaluation, gives, ◌>>=◌, stops, fails, turn}
 
 -- ---- failures of evaluation

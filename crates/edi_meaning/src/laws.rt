@@ -5,7 +5,8 @@ ghost use Rattle.edi_meaning.specs.Attempts.{AttemptsAreOneStep, AttemptsExecute
 ghost use Rattle.edi_meaning.specs.Bad.{PermittedIsNeverBad, SelectionIsNeverBad};
 ghost use Rattle.edi_meaning.specs.Someone.{FittingForksHaveBranches, SomeoneMayStep, StandstillIsMarked};
 ghost use Rattle.edi_meaning.specs.Spent.{PermittedEndsSpent, SelectionEndsSpent};
-ghost use Rattle.edi_meaning.specs.Laws.{AttemptsAreWhole, CellsArePrivate, EverySelectionEnds, ParentsWait, RecordReplays, ReferencesLive, SelectIsPermitted, SelectionsAreDetermined, StepsGoOn};
+ghost use Rattle.edi_meaning.specs.Laws.{AttemptsAreWhole, CellsArePrivate, EverySelectionEnds, ParentsWait, RecordReplays, ReferencesLive};
+ghost use Rattle.edi_meaning.specs.Laws.{SelectIsPermitted, SelectionsAreDetermined, StepsGoOn};
 
 /// Critical phases are executed strictly one at a time: an attempt at a `when` is one step, which leaves its process
 /// behind the whole body, or at the `when` again, and changes nothing else of any process. It evaluates the conditions one

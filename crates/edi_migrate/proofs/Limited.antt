@@ -1,5 +1,6 @@
 -- The first bytes of a file decide whether it is an image of version 1.
-use Rattle.std.proofs.Common.{◌≡◌, ℕ, zero, suc, ◌+◌, ◌*◌, ◌/◌, ◌<◌, ◌≤◌, Bool, true, false, ◌&&◌, nat_le, List, [], ◌∷◌, ◌++◌, length, take, drop, Option, Some, None, refl, sym, ap, ◌∙◌, arith, leb-true, leb-false}
+use Rattle.std.proofs.Common.{◌≡◌, ℕ, zero, suc, ◌+◌, ◌*◌, ◌/◌, ◌<◌, ◌≤◌, Bool, true, false, ◌&&◌, nat_le, List, [], ◌∷◌, ◌++◌, length, take, drop, Option}
+use Rattle.std.proofs.Common.{Some, None, refl, sym, ap, ◌∙◌, arith, leb-true, leb-false}
 use Rattle.std.specs.Simd.{first_chunks}
 use Rattle.std.specs.Str.{bytes_eq}
 use Rattle.std.proofs.lemmas.Bool.{le-leb, lt-leb}
@@ -39,7 +40,8 @@ pub first_bytes_decide : FirstBytesDecide
 first_bytes_decide bytes = go (nat_le (length bytes) 2097664) refl
   where
     go : (b : Bool) → nat_le (length bytes) 2097664 ≡ b →
-        (old_fault_of (blocks_of (take most_fetched bytes)) ≡ old_fault_of (blocks_of bytes)) × (old_fault_of (blocks_of (take most_fetched bytes)) ≡ None → take most_fetched bytes ≡ bytes)
+        (old_fault_of (blocks_of (take most_fetched bytes)) ≡ old_fault_of (blocks_of bytes))
+        × (old_fault_of (blocks_of (take most_fetched bytes)) ≡ None → take most_fetched bytes ≡ bytes)
     go true e =
         let all : take most_fetched bytes ≡ bytes = take_all most_fetched bytes (leb-true (length bytes) 2097664 e) in
         (ap (λ xs. old_fault_of (blocks_of xs)) all, λ none. all)

@@ -1,12 +1,14 @@
 -- The blocks of an image that is made of bytes: the catalogue, and the blocks of the files.
-use Rattle.std.proofs.Common.{◌≡◌, ℕ, zero, suc, ◌+◌, ◌-◌, ◌*◌, ◌/◌, ◌%◌, ◌<◌, ◌≤◌, true, List, [], ◌∷◌, ◌++◌, length, take, drop, get_or, refl, ap, sym, subst, ◌∙◌, arith, append_assoc, length-append, length-drop}
+use Rattle.std.proofs.Common.{◌≡◌, ℕ, zero, suc, ◌+◌, ◌-◌, ◌*◌, ◌/◌, ◌%◌, ◌<◌, ◌≤◌, true, List, [], ◌∷◌, ◌++◌, length, take, drop, get_or, refl, ap, sym}
+use Rattle.std.proofs.Common.{subst, ◌∙◌, arith, append_assoc, length-append, length-drop}
 use Rattle.std.specs.Prelude.{map, ◌&&◌, ◌==◌, nat_le, nat_lt, if◌then◌else◌, replicate, Option, Some, None, IfSome, ⊤}
 use Rattle.std.specs.List.{list_all, range_with_len}
 use Rattle.std.specs.Simd.{first_chunks}
 use Rattle.std.proofs.Math.ListN.{get_or-append}
 use Rattle.std.proofs.Math.Seq.{get_or-append_seam}
 use Rattle.std.proofs.lemmas.Bool.{and_parts, ltb-true}
-use Rattle.std.proofs.lemmas.List.{take_at, drop_at, take-append-le, drop-append-le, take-take, drop-take, drop-drop, length-map, length-replicate, length-take-le}
+use Rattle.std.proofs.lemmas.List.{take_at, drop_at, take-append-le, drop-append-le, take-take, drop-take, drop-drop, length-map, length-replicate}
+use Rattle.std.proofs.lemmas.List.{length-take-le}
 use Rattle.edi_calls.specs.State.{is_title, most_bytes, pages_of}
 use Rattle.edi_host.specs.Blocks.{blocks_of}
 use Rattle.edi_image.specs.Build.{two, map_block}
@@ -95,7 +97,8 @@ length-fields r = ap (λ n. suc (suc (suc (suc (suc (suc (suc (suc (suc (suc n))
 length-bytes_of_record : (count : ℕ) (r : FileRecord) → is_record count r ≡ true → length (bytes_of_record r) ≡ 64
 unfolding bytes_of_record
 length-bytes_of_record count r h =
-    let maps = and_parts (is_title r.title && nat_le r.length most_bytes && are_data count r.maps) (length r.maps == (if nat_le (pages_of r.length) 255 then 1 else 2)) h in
+    let maps = and_parts (is_title r.title && nat_le r.length most_bytes && are_data count r.maps)
+    (length r.maps == (if nat_le (pages_of r.length) 255 then 1 else 2)) h in
     let data_ = and_parts (is_title r.title && nat_le r.length most_bytes) (are_data count r.maps) maps.0 in
     let size = and_parts (is_title r.title) (nat_le r.length most_bytes) data_.0 in
     length-append (with_blanks 24 r.title) (field_bytes r ++ replicate 30 0)
@@ -120,7 +123,8 @@ entry_in count (r ∷ records) zero fit h = take_at (bytes_of_slot r) (entries_b
 entry_in count (r ∷ records) (suc k) fit h =
     let index : 64 * suc k ≡ 64 + 64 * k = omega arith in
     ap (λ n. take 64 (drop n (bytes_of_slot r ++ entries_bytes records))) index
-    ∙ ap (take 64) (sym (drop-drop (64 * k) 64 (bytes_of_slot r ++ entries_bytes records)) ∙ ap (drop (64 * k)) (drop_at (bytes_of_slot r) (entries_bytes records) 64 (length-entry count r fit.0)))
+    ∙ ap (take 64) (sym (drop-drop (64 * k) 64 (bytes_of_slot r ++ entries_bytes records))
+    ∙ ap (drop (64 * k)) (drop_at (bytes_of_slot r) (entries_bytes records) 64 (length-entry count r fit.0)))
     ∙ entry_in count records k fit.1 (omega arith)
 
 -- an entry of the blocks that the entries fill
@@ -202,7 +206,8 @@ are_laid new old front rest first (file ∷ files) is size = (
       ∙ sym (append_assoc front (laid old first file) (laid_from old (first + blocks_of_slot file) files ++ rest)))
       (length-append front (laid old first file) ∙ ap (λ n. n + length (laid old first file)) size ∙ ap (λ n. first + n) (length-laid old first file)),
 ) where
-  one : (file_ : Option StoredFile) → new ≡ front ++ (laid old first file_ ++ (laid_from old (first + blocks_of_slot file) files ++ rest)) → IsLaidIn new old first file_
+  one : (file_ : Option StoredFile) → new ≡ front ++ (laid old first file_ ++ (laid_from old (first + blocks_of_slot file) files ++ rest))
+      → IsLaidIn new old first file_
   one None e = tt
   one (Some f) e =
       let map_ : List ℕ = map_block (range_with_len (first + 1) (length f.pages)) in
@@ -232,7 +237,8 @@ pub length-old_files : (old : List (List ℕ)) → length (old_files_of old) ≡
 unfolding old_entries_of
 length-old_files old =
     length-append (map (stored_of old) (old_entries_from old 0 64)) (replicate 192 None)
-    ∙ ap (λ n. n + length (replicate {A = Option StoredFile} 192 None)) (length-map (old_entries_from old 0 64) (stored_of old) ∙ length-old_entries_from old 0 64)
+    ∙ ap (λ n. n + length (replicate {A = Option StoredFile} 192 None))
+    (length-map (old_entries_from old 0 64) (stored_of old) ∙ length-old_entries_from old 0 64)
     ∙ ap (λ n. 64 + n) (length-replicate {A = Option StoredFile} 192 None)
 
 length-header_block : (version count : ℕ) → length (header_block version count) ≡ 512

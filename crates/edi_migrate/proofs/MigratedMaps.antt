@@ -1,5 +1,6 @@
 -- A map block of numbers that follow one another.
-use Rattle.std.proofs.Common.{◌≡◌, ℕ, zero, suc, ◌+◌, ◌-◌, ◌*◌, ◌/◌, ◌%◌, ◌^◌, ◌≤◌, ◌<◌, List, [], ◌∷◌, ◌++◌, length, replicate, refl, ap, sym, ◌∙◌, arith, length-append, append_assoc, append-nil, take}
+use Rattle.std.proofs.Common.{◌≡◌, ℕ, zero, suc, ◌+◌, ◌-◌, ◌*◌, ◌/◌, ◌%◌, ◌^◌, ◌≤◌, ◌<◌, List, [], ◌∷◌, ◌++◌, length, replicate, refl, ap, sym, ◌∙◌, arith}
+use Rattle.std.proofs.Common.{length-append, append_assoc, append-nil, take}
 use Rattle.std.specs.List.{range_with_len}
 use Rattle.std.specs.Int.{bytes_high_first}
 use Rattle.std.proofs.lemmas.List.{length-replicate, take-replicate}

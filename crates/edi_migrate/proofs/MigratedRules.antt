@@ -1,5 +1,6 @@
 -- The rules of an image whose files lie one after another.
-use Rattle.std.proofs.Common.{◌≡◌, ℕ, zero, suc, ◌+◌, ◌/◌, ◌<◌, ◌≤◌, Bool, true, false, List, [], ◌∷◌, ◌++◌, length, refl, ap, sym, subst, ◌∙◌, arith, append_assoc, append-nil}
+use Rattle.std.proofs.Common.{◌≡◌, ℕ, zero, suc, ◌+◌, ◌/◌, ◌<◌, ◌≤◌, Bool, true, false, List, [], ◌∷◌, ◌++◌, length, refl, ap, sym, subst, ◌∙◌, arith}
+use Rattle.std.proofs.Common.{append_assoc, append-nil}
 use Rattle.std.specs.Prelude.{◌&&◌, ◌||◌, ◌==◌, not, nat_le, nat_lt, map, replicate, if◌then◌else◌, Option, Some, None, ⊤}
 use Rattle.std.specs.List.{list_all, list_any, range_with_len}
 use Rattle.std.specs.Str.{bytes_eq}
@@ -116,7 +117,8 @@ pages_hold count slot first (suc n) used low high below =
     let inside : (nat_le 33 first && nat_lt first count) ≡ true =
     and_from (nat_le 33 first) (nat_lt first count) (le-leb 33 first low) (lt-ltb first count (omega arith)) in
     let rest = pages_hold count slot (first + 1) n (used ++ first ∷ []) (omega arith) (omega arith) (below_next first used below) in (
-      ap (λ t. if t then (if is_in first used then Some (fault.Shared first) else first_broken (used ++ first ∷ []) (page_rules 33 count slot (range_with_len (first + 1) n)))
+      ap (λ t. if t then (if is_in first used then Some (fault.Shared first) else first_broken (used ++ first ∷ [])
+          (page_rules 33 count slot (range_with_len (first + 1) n)))
           else Some (fault.Page slot first)) inside
           ∙ ap (λ t. if t then Some (fault.Shared first) else first_broken (used ++ first ∷ []) (page_rules 33 count slot (range_with_len (first + 1) n)))
           (below_new first used below)

@@ -41,7 +41,8 @@ moved_record count n first file whole low high =
     let few : nat_le (pages_of file.record_.length) 255 ≡ true = le-leb (pages_of file.record_.length) 255 (subst (λ k. k ≤ 255) many whole.few) in
     let inside : are_data count (first ∷ []) ≡ true =
     ap (λ b. b && true) (and_from (nat_le 33 first) (nat_lt first count) (le-leb 33 first low) (lt-ltb first count high)) in
-    let short : nat_le file.record_.length most_bytes ≡ true = le-leb file.record_.length most_bytes (let s : file.record_.length ≤ 130560 = shape.short in omega arith) in
+    let short : nat_le file.record_.length most_bytes ≡ true = le-leb file.record_.length most_bytes (let s : file.record_.length ≤ 130560 = shape.short in
+    omega arith) in
     and_from (is_title file.record_.title && nat_le file.record_.length most_bytes && are_data count (first ∷ []))
     (1 == (if nat_le (pages_of file.record_.length) 255 then 1 else 2))
     (and_from (is_title file.record_.title && nat_le file.record_.length most_bytes) (are_data count (first ∷ []))

@@ -1,5 +1,6 @@
 -- A migration, from the old image to what the drive has.
-use Rattle.std.proofs.Common.{◌≡◌, ℕ, zero, suc, ◌+◌, ◌*◌, ◌/◌, ◌≤◌, true, false, List, [], ◌∷◌, ◌++◌, length, drop, refl, ap, sym, subst, ◌∙◌, arith, length-append, length-drop}
+use Rattle.std.proofs.Common.{◌≡◌, ℕ, zero, suc, ◌+◌, ◌*◌, ◌/◌, ◌≤◌, true, false, List, [], ◌∷◌, ◌++◌, length, drop, refl, ap, sym, subst, ◌∙◌, arith}
+use Rattle.std.proofs.Common.{length-append, length-drop}
 use Rattle.std.specs.Prelude.{nat_le, map, flat_map, replicate, if◌then◌else◌, Option, Some, None}
 use Rattle.std.specs.List.{list_all}
 use Rattle.std.specs.Option.{option_map}
@@ -16,7 +17,8 @@ use Rattle.edi_image.specs.Image.{Holds}
 use Rattle.edi_migrate.specs.OldImage.{old_fault_of, old_slots_of}
 use Rattle.edi_migrate.specs.OldFiles.{is_old_stored, migrated_slots, old_files_of}
 use Rattle.edi_image.specs.Stored.{StoredFile, blocks_in, blocks_taken, is_sized}
-use Rattle.edi_migrate.specs.Migrated.{blocks_of_slots, migrated_bytes, HasRoom, AreStored, IfFull, MigrateAnswers, MigrateLeaves, MigrateTouches, is_image_fault, refuses}
+use Rattle.edi_migrate.specs.Migrated.{blocks_of_slots, migrated_bytes, HasRoom, AreStored, IfFull, MigrateAnswers, MigrateLeaves, MigrateTouches}
+use Rattle.edi_migrate.specs.Migrated.{is_image_fault, refuses}
 use Rattle.edi_image.proofs.Empty.{length-resized}
 use Rattle.edi_migrate.proofs.MigratedRules.{whole_of}
 use Rattle.edi_image.proofs.KeptFiles.{file_of}
@@ -116,21 +118,24 @@ refusal_told end.NoMemory given old count is h answers stored = tt
 
 -- ---- the new image
 
-has_room : (count : ℕ) (old : List (List ℕ)) → list_all (is_old_stored (length old)) (old_files_of old) ≡ true → HasRoom count (blocks_taken (old_files_of old)) old
+has_room : (count : ℕ) (old : List (List ℕ)) → list_all (is_old_stored (length old)) (old_files_of old) ≡ true
+    → HasRoom count (blocks_taken (old_files_of old)) old
     → 33 + blocks_of_slots (old_files_of old) ≤ count
 has_room count old stored room =
     let fits : blocks_taken (old_files_of old) + 33 ≤ count = room.1 in
     omega (arith, fits, taken_same (length old) (old_files_of old) stored)
 
 image_made : (given : List ℕ) (old : List (List ℕ)) (count : ℕ) (bytes : List ℕ) → old ≡ blocks_of given
-    → HasRoom count (blocks_taken (old_files_of old)) old → bytes ≡ migrated_bytes old count (old_files_of old) → list_all (is_old_stored (length old)) (old_files_of old) ≡ true
+    → HasRoom count (blocks_taken (old_files_of old)) old → bytes ≡ migrated_bytes old count (old_files_of old) → list_all (is_old_stored (length old))
+    (old_files_of old) ≡ true
     → IsMade old count (old_files_of old) bytes
 image_made given old count bytes o room b stored =
     is_made old count (old_files_of old) bytes (subst AreFull (sym o) (old_full given)) stored (length-old_files old) (has_room count old stored room) b
 
 -- its blocks have room on the drive
 pub image_fits : (given : List ℕ) (old image : List (List ℕ)) (count : ℕ) (bytes seen : List ℕ) → old ≡ blocks_of given
-    → HasRoom count (blocks_taken (old_files_of old)) old → bytes ≡ migrated_bytes old count (old_files_of old) → list_all (is_old_stored (length old)) (old_files_of old) ≡ true
+    → HasRoom count (blocks_taken (old_files_of old)) old → bytes ≡ migrated_bytes old count (old_files_of old) → list_all (is_old_stored (length old))
+    (old_files_of old) ≡ true
     → seen ≡ bytes → image ≡ blocks_of seen → length image ≤ count
 image_fits given old image count bytes seen o room b stored s i =
     let many : length (blocks_of bytes) ≡ 33 + blocks_of_slots (old_files_of old) = (image_made given old count bytes o room b stored).many in

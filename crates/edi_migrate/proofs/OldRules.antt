@@ -1,5 +1,6 @@
 -- The rules on an image of version 1, slot by slot.
-use Rattle.std.proofs.Common.{◌≡◌, ℕ, zero, suc, ◌+◌, ◌-◌, ◌<◌, ◌≤◌, Bool, true, false, List, [], ◌∷◌, ◌++◌, length, take, min, refl, ap, sym, ◌∙◌, subst, arith, append_assoc, append-nil}
+use Rattle.std.proofs.Common.{◌≡◌, ℕ, zero, suc, ◌+◌, ◌-◌, ◌<◌, ◌≤◌, Bool, true, false, List, [], ◌∷◌, ◌++◌, length, take, min, refl, ap, sym, ◌∙◌, subst}
+use Rattle.std.proofs.Common.{arith, append_assoc, append-nil}
 use Rattle.std.specs.Prelude.{◌&&◌, ◌==◌, nat_le, map, if◌then◌else◌, Option, None}
 use Rattle.std.specs.List.{list_all, list_any}
 use Rattle.std.specs.Str.{bytes_eq}
@@ -185,6 +186,7 @@ pub old_progress_ends : (blocks : List (List ℕ)) (slot : ℕ) (used : List ℕ
 unfolding old_entries_of
 old_progress_ends blocks slot used files e so_far = (
   so_far.rules
-      ∙ ap (λ n. first_broken used (slot_rules 5 blocks slot (titles_of files) (old_entries_from blocks slot n))) (let none : 64 - slot ≡ 0 = omega arith in none),
+      ∙ ap (λ n. first_broken used (slot_rules 5 blocks slot (titles_of files) (old_entries_from blocks slot n))) (let none : 64 - slot ≡ 0 = omega arith in
+      none),
   so_far.files_ ∙ ap (λ n. map (stored_of blocks) (old_entries_from blocks 0 n)) e,
 )

@@ -8,7 +8,8 @@ ghost use Rattle.edi_calls.specs.State as calls;
 ghost use Rattle.edi_migrate.specs.OldImage.{old_slots_of};
 ghost use Rattle.edi_migrate.specs.OldFiles.{old_files_of};
 ghost use Rattle.edi_image.specs.Stored.{blocks_taken};
-ghost use Rattle.edi_migrate.specs.Migrated.{AreStored, HasRoom, IfFull, MigrateAnswers, MigrateCounts, MigrateLeaves, MigrateTouches, BlocksLeave, migrated_bytes, refusal, refuses};
+ghost use Rattle.edi_migrate.specs.Migrated.{AreStored, HasRoom, IfFull, MigrateAnswers, MigrateCounts, MigrateLeaves, MigrateTouches, BlocksLeave};
+ghost use Rattle.edi_migrate.specs.Migrated.{migrated_bytes, refusal, refuses};
 
 use crate::building::image_bytes;
 use crate::old::read_old_image;
@@ -54,7 +55,8 @@ fn new_image(alloc: Global, count: u32, old: &[[u8; BLOCK]]) -> Result<Vec<u8>, 
     requires least { 64 ≤ count }
     requires most { count ≤ 4096 }
     ensures { MatchResult result
-        (λ bytes. HasRoom count (blocks_taken (old_files_of old.now)) old.now × (bytes.items ≡ migrated_bytes old.now count (old_files_of old.now)) × AreStored old.now)
+        (λ bytes. HasRoom count (blocks_taken (old_files_of old.now)) old.now × (bytes.items ≡ migrated_bytes old.now count (old_files_of old.now))
+        × AreStored old.now)
         (λ end. (refuses end ≡ true) × MigrateAnswers end count (blocks_taken (old_files_of old.now)) old.now × IfFull end (AreStored old.now)) }
 {
     let files = match read_old_image(alloc, old) {

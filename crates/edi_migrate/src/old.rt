@@ -1,6 +1,7 @@
 //! Images of version 1, which are only read.
 
-ghost use Rattle.std.specs.Prelude.{◌≡◌, ◌≤◌, ◌<◌, ◌+◌, ◌++◌, ◌∷◌, [], true, false, Some, None, IfOk, OnOk, if◌then◌else◌, length, map, replicate, MatchResult, ⊤};
+ghost use Rattle.std.specs.Prelude.{◌≡◌, ◌≤◌, ◌<◌, ◌+◌, ◌++◌, ◌∷◌, [], true, false, Some, None, IfOk, OnOk, if◌then◌else◌, length, map, replicate};
+ghost use Rattle.std.specs.Prelude.{MatchResult, ⊤};
 ghost use Rattle.std.specs.List.{list_all};
 ghost use Rattle.edi_calls.specs.State.{pages_of};
 ghost use Rattle.edi_image.specs.Rules.{first_broken, used_by};
@@ -188,7 +189,8 @@ fn read_slot(
     ensures finds { Finds result (first_broken used.old.items (entry_rules FIRST blocks.now slot (titles_of files.old.items) (old_said_at blocks.now slot)))
         (λ _. TakesSlot used.old.items used.new.items (entry_rules FIRST blocks.now slot (titles_of files.old.items) (old_said_at blocks.now slot))
         files.old.items files.new.items (stored_of blocks.now (old_said_at blocks.now slot))) }
-    ensures stored { OnOk result (list_all (is_old_stored (length blocks.now)) files.old.items ≡ true → list_all (is_old_stored (length blocks.now)) files.new.items ≡ true) }
+    ensures stored { OnOk result (list_all (is_old_stored (length blocks.now)) files.old.items ≡ true → list_all (is_old_stored (length blocks.now))
+        files.new.items ≡ true) }
     ensures alone { failed result ≡ false }
 {
     match said_at(blocks, slot) {

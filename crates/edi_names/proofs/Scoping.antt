@@ -1,6 +1,7 @@
 -- Which names a construct adds to the innermost scope, and to the one round it.
 use Rattle.std.specs.Prelude.{if◌then◌else◌}
-use Rattle.std.proofs.Common.{◌≡◌, ℕ, Bool, true, false, cond, is_some, ◌||◌, List, [], ◌∷◌, ◌++◌, length, map, take, ◌⊎◌, inl, inr, Option, Some, None, refl, sym, ap, ◌∙◌, subst, arith}
+use Rattle.std.proofs.Common.{◌≡◌, ℕ, Bool, true, false, cond, is_some, ◌||◌, List, [], ◌∷◌, ◌++◌, length, map, take, ◌⊎◌, inl, inr, Option, Some, None}
+use Rattle.std.proofs.Common.{refl, sym, ap, ◌∙◌, subst, arith}
 use Rattle.std.specs.Map.{lookup}
 use Rattle.std.specs.Option.{option_or}
 use Rattle.std.specs.Str.{bytes_eq}
@@ -112,9 +113,11 @@ step a b x y z h k l r = by (either b y h)
 
 pub behind : {ns ms xs ys : List (List ℕ)} {a b c : List Scope} → Adds ns xs a b → Adds ms ys b c → Adds (ns ++ ms) (xs ++ ys) a c
 behind {ns = ns} {ms = ms} {xs = xs} {ys = ys} {a = a} {b = b} {c = c} x y = record {
-  inner = λ n h. step (has a n) (has b n) (is_among ns n) (is_among ms n) (is_among (ns ++ ms) n) (y.inner n h) (x.inner n) (in_left ns ms n) (in_right ns ms n);
+  inner = λ n h. step (has a n) (has b n) (is_among ns n) (is_among ms n) (is_among (ns ++ ms) n) (y.inner n h) (x.inner n) (in_left ns ms n)
+      (in_right ns ms n);
   round = λ n h.
-      step (has (outside a) n) (has (outside b) n) (is_among xs n) (is_among ys n) (is_among (xs ++ ys) n) (y.round n h) (x.round n) (in_left xs ys n) (in_right xs ys n);
+      step (has (outside a) n) (has (outside b) n) (is_among xs n) (is_among ys n) (is_among (xs ++ ys) n) (y.round n h) (x.round n) (in_left xs ys n)
+      (in_right xs ys n);
   farther = y.farther ∙ x.farther;
   within = λ n h. both n (either (is_among xs n) (is_among ys n) (sym (among_append xs ys n) ∙ h));
   long = y.long ∙ x.long;
@@ -197,7 +200,8 @@ cond_some : (t : Bool) (e : Entity) (o : Option Entity) → is_some (cond t (Som
 cond_some true e o = refl
 cond_some false e o = refl
 
-one_more : (name : List ℕ) (e : Entity) (s : Scope) (n : List ℕ) → is_some (meaning (with_one name e s).names n) ≡ true → (is_some (meaning s.names n) || is_among (name ∷ []) n) ≡ true
+one_more : (name : List ℕ) (e : Entity) (s : Scope) (n : List ℕ) → is_some (meaning (with_one name e s).names n) ≡ true
+    → (is_some (meaning s.names n) || is_among (name ∷ []) n) ≡ true
 one_more name e s n h =
     new_in (bytes_eq n name) (is_some (meaning s.names n)) (sym (cond_some (bytes_eq n name) e (meaning s.names n)) ∙ h)
 
@@ -207,7 +211,13 @@ with_adds true name e [] = record { inner = λ n h. never h; round = λ n h. nev
 with_adds true name e (s ∷ []) = record { inner = one_more name e s; round = λ n h. never h; farther = refl; within = λ n h. h; long = refl }
 with_adds true name e (s ∷ t ∷ o) = record { inner = one_more name e s; round = one_more name e t; farther = refl; within = λ n h. h; long = refl }
 with_adds false name e [] = record { inner = λ n h. never h; round = λ n h. never h; farther = refl; within = λ n h. never h; long = refl }
-with_adds false name e (s ∷ o) = record { inner = one_more name e s; round = λ n h. left_or (has o n) false h; farther = refl; within = λ n h. never h; long = refl }
+with_adds false name e (s ∷ o) = record {
+  inner = one_more name e s;
+  round = λ n h. left_or (has o n) false h;
+  farther = refl;
+  within = λ n h. never h;
+  long = refl;
+}
 
 pub exported_adds : (name : List ℕ) (e : Entity) (scopes : List Scope) → Adds (name ∷ []) (name ∷ []) scopes (exported name e scopes)
 exported_adds name e [] = record { inner = λ n h. never h; round = λ n h. never h; farther = refl; within = λ n h. h; long = refl }
@@ -241,7 +251,8 @@ sees_inside names {ns = ns} {ps = ps} {a = a} {b = b} w x =
     by n (inl e) = in_left ps (ns ++ names) n (x.own n e)
     by n (inr e) = in_right ps (ns ++ names) n (sees_behind names w x.outer n e)
 
-pub opened : (module' : Bool) {ns xs ps : List (List ℕ)} (a b o : List Scope) → Adds ps [] (entered module' a) b → Adds ns xs (outside b) o → Opens ns xs ps a (take 1 b ++ o)
+pub opened : (module' : Bool) {ns xs ps : List (List ℕ)} (a b o : List Scope) → Adds ps [] (entered module' a) b → Adds ns xs (outside b) o
+    → Opens ns xs ps a (take 1 b ++ o)
 opened module' a [] o x y = absurd (omega (arith, x.long))
 opened module' a (s ∷ b) o x y = record { outer = behind (leaving x) y; own = λ n h. x.inner n h }
 

@@ -13,17 +13,21 @@ use Rattle.edi_unit.specs.Types.{shape_at}
 use Rattle.edi_static.specs.Judged.{Judged}
 use Rattle.edi_static.specs.Environment.{Environment, found, look_up, type_named}
 use Rattle.edi_static.specs.Operators.{Typed}
-use Rattle.edi_static.specs.Fitting.{Use, constructs, calls, halts, neither, use_of, rest_of, only_factor, name_of_factor, name_alone, string_of_factor, string_alone, single, takes_strings}
+use Rattle.edi_static.specs.Fitting.{Use, constructs, calls, halts, neither, use_of, rest_of, only_factor, name_of_factor, name_alone, string_of_factor}
+use Rattle.edi_static.specs.Fitting.{string_alone, single, takes_strings}
 use Rattle.edi_static.specs.Types as types
 use Rattle.edi_static.specs.Expressions as spec
-use Rattle.edi_names.specs.Uses.{is_among, NameKnown, ConstantKnown, RootKnown, ExprKnown, ComparisonKnown, ExprsKnown, SimpleKnown, AddendKnown, AddendsKnown, TermKnown, MultiplierKnown, MultipliersKnown, FactorKnown, ArgsKnown, VariableKnown, SelectorKnown, SelectorsKnown}
+use Rattle.edi_names.specs.Uses.{is_among, NameKnown, ConstantKnown, RootKnown, ExprKnown, ComparisonKnown, ExprsKnown, SimpleKnown, AddendKnown}
+use Rattle.edi_names.specs.Uses.{AddendsKnown, TermKnown, MultiplierKnown, MultipliersKnown, FactorKnown, ArgsKnown, VariableKnown, SelectorKnown}
+use Rattle.edi_names.specs.Uses.{SelectorsKnown}
 use Rattle.edi_names.proofs.Shows.{Shows, always, first, over, two, so}
 
 -- every visible name is among these
 abbrev pub Within : (names : List (List ℕ)) → Environment → Type 0
 Within names env = (name : List ℕ) → is_some (visible env.scopes name) ≡ true → is_among names name ≡ true
 
-found_known : (names : List (List ℕ)) (o : Option Entity) (name : Name) → (is_some o ≡ true → is_among names name.text ≡ true) → Shows (NameKnown names name) (found o name)
+found_known : (names : List (List ℕ)) (o : Option Entity) (name : Name) → (is_some o ≡ true → is_among names name.text ≡ true) → Shows (NameKnown names name)
+    (found o name)
 found_known names None name h = record { shown = tt }
 found_known names (Some e) name h = record { shown = h refl }
 
@@ -45,7 +49,8 @@ string_known names X (Some (text.parenthesized e)) h = tt
 string_known names X (Some (text.call_factor name xs)) h = tt
 string_known names X (Some (text.variable_factor v)) h = tt
 
-alone_known : (names : List (List ℕ)) (X : Type 0) (o : Option text.Factor) → IfSome o (λ f. FactorKnown names f → X) → IfSome (name_of_factor o) (λ name. NameKnown names name → X)
+alone_known : (names : List (List ℕ)) (X : Type 0) (o : Option text.Factor) → IfSome o (λ f. FactorKnown names f → X)
+    → IfSome (name_of_factor o) (λ name. NameKnown names name → X)
 alone_known names X None h = tt
 alone_known names X (Some (text.variable_factor (text.variable (root.Name name) text.no_selector))) h = λ k. h (k, tt)
 alone_known names X (Some (text.variable_factor (text.variable (root.Name name) (text.next_selector s ss)))) h = tt
@@ -75,20 +80,24 @@ module _ (env : Environment) (names : List (List ℕ)) (within : Within names en
   rooted_known (root.Name name) = first _ (look_known name)
   rooted_known (root.Val name) = first _ (look_known name)
 
-  taken_known : (X : Type 0) (strings : Bool) (o : Option (List ℕ)) (judged : Judged Typed) → IfSome o (λ _. X) → Shows X judged → Shows X (spec.taken env strings o judged)
+  taken_known : (X : Type 0) (strings : Bool) (o : Option (List ℕ)) (judged : Judged Typed) → IfSome o (λ _. X) → Shows X judged
+      → Shows X (spec.taken env strings o judged)
   taken_known X true (Some characters) judged h k = record { shown = h }
   taken_known X true None judged h k = first _ k
   taken_known X false o judged h k = first _ k
 
-  element_known : (strings : Bool) (e : text.Expr) (judged : Judged Typed) → Shows (ExprKnown names e) judged → Shows (ExprKnown names e) (spec.element env strings e judged)
+  element_known : (strings : Bool) (e : text.Expr) (judged : Judged Typed) → Shows (ExprKnown names e) judged
+      → Shows (ExprKnown names e) (spec.element env strings e judged)
   element_known strings e judged k =
       taken_known (ExprKnown names e) strings (string_alone e) judged (string_known names (ExprKnown names e) (only_factor e) (only_known names e)) k
 
-  procedure_known : (X : Type 0) (line : ℕ) (asked : Heading) (o : Option Name) (judged : Judged Typed) → IfSome o (λ name. NameKnown names name → X) → Shows X judged → Shows X (spec.procedure_argument env line asked o judged)
+  procedure_known : (X : Type 0) (line : ℕ) (asked : Heading) (o : Option Name) (judged : Judged Typed) → IfSome o (λ name. NameKnown names name → X)
+      → Shows X judged → Shows X (spec.procedure_argument env line asked o judged)
   procedure_known X line asked (Some name) judged h k = first _ (so h (look_known name))
   procedure_known X line asked None judged h k = first _ k
 
-  argument_known : (line : ℕ) (e : text.Expr) (judged : Judged Typed) (fs : Formals) → Shows (ExprKnown names e) judged → Shows (ExprKnown names e) (spec.argument env line e judged fs)
+  argument_known : (line : ℕ) (e : text.Expr) (judged : Judged Typed) (fs : Formals) → Shows (ExprKnown names e) judged
+      → Shows (ExprKnown names e) (spec.argument env line e judged fs)
   argument_known line e judged no_formal k = record { shown = tt }
   argument_known line e judged (value_then of fs) k = first _ k
   argument_known line e judged (variable_then of fs) k = first _ k

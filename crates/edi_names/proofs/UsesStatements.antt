@@ -13,7 +13,8 @@ use Rattle.edi_static.specs.Fitting.{Use, constructs, calls, halts, neither, use
 use Rattle.edi_static.specs.Statements as spec
 use Rattle.edi_static.specs.Statements.{After, add_statements, close_block, leave_branch, enter_branch}
 use Rattle.edi_static.proofs.Judging.{Gives, bind, ruled}
-use Rattle.edi_names.specs.Uses.{is_among, ListKnown, StatementsKnown, StatementKnown, ConditionsKnown, ConditionKnown, ElseKnown, BranchKnown, BranchesKnown, OptionalArgsKnown, VariableKnown, ExprKnown}
+use Rattle.edi_names.specs.Uses.{is_among, ListKnown, StatementsKnown, StatementKnown, ConditionsKnown, ConditionKnown, ElseKnown, BranchKnown}
+use Rattle.edi_names.specs.Uses.{BranchesKnown, OptionalArgsKnown, VariableKnown, ExprKnown}
 use Rattle.edi_names.proofs.Shows.{Holds, Shows, always, first, over, two}
 use Rattle.edi_names.proofs.UsesExpressions.{Within, look_known, constant_known, expression_known, place_known, all_arguments_known}
 
@@ -41,31 +42,37 @@ module _ (scopes : List Scope) (names : List (List ℕ)) (among : (name : List �
   lefts P (gives a) p h = (p, h.1)
   lefts P (faults why line) p h = tt
 
-  boths : {A B : Type 0} (P Q : Type 0) (m : Judged (After A)) (f : After A → Judged (After B)) → Stays P m → ((a : After A) → Same a.env → Keeps Q (f a)) → Stays (P × Q) (m >>= f)
+  boths : {A B : Type 0} (P Q : Type 0) (m : Judged (After A)) (f : After A → Judged (After B)) → Stays P m → ((a : After A) → Same a.env → Keeps Q (f a))
+      → Stays (P × Q) (m >>= f)
   boths P Q (gives a) f h k = pairs P Q (f a) h.0 (k a h.1).kept
   boths P Q (faults why line) f h k = tt
 
-  both : {A B P Q : Type 0} {m : Judged (After A)} {f : After A → Judged (After B)} → Keeps P m → ((a : After A) → Same a.env → Keeps Q (f a)) → Keeps (P × Q) (m >>= f)
+  both : {A B P Q : Type 0} {m : Judged (After A)} {f : After A → Judged (After B)} → Keeps P m → ((a : After A) → Same a.env → Keeps Q (f a))
+      → Keeps (P × Q) (m >>= f)
   both {P = P} {Q = Q} {m = m} {f = f} h k = record { kept = boths P Q m f h.kept k }
 
-  ends : {A B : Type 0} (P : Type 0) (m : Judged (After A)) (f : After A → Judged (After B)) → Stays P m → ((a : After A) → Same a.env → Keeps (Unit {0}) (f a)) → Stays P (m >>= f)
+  ends : {A B : Type 0} (P : Type 0) (m : Judged (After A)) (f : After A → Judged (After B)) → Stays P m
+      → ((a : After A) → Same a.env → Keeps (Unit {0}) (f a)) → Stays P (m >>= f)
   ends P (gives a) f h k = lefts P (f a) h.0 (k a h.1).kept
   ends P (faults why line) f h k = tt
 
   -- what stands behind uses no name
-  alone : {A B P : Type 0} {m : Judged (After A)} {f : After A → Judged (After B)} → Keeps P m → ((a : After A) → Same a.env → Keeps (Unit {0}) (f a)) → Keeps P (m >>= f)
+  alone : {A B P : Type 0} {m : Judged (After A)} {f : After A → Judged (After B)} → Keeps P m → ((a : After A) → Same a.env → Keeps (Unit {0}) (f a))
+      → Keeps P (m >>= f)
   alone {P = P} {m = m} {f = f} h k = record { kept = ends P m f h.kept k }
 
   afters : {A B : Type 0} (P Q : Type 0) (m : Judged A) (f : A → Judged (After B)) → Holds P m → ((a : A) → Keeps Q (f a)) → Stays (P × Q) (m >>= f)
   afters P Q (gives a) f h k = pairs P Q (f a) h (k a).kept
   afters P Q (faults why line) f h k = tt
 
-  behinds : {A B : Type 0} (P Q : Type 0) (m : Judged (After A)) (f : After A → Judged (After B)) → Stays P m → ((a : After A) → Same a.env → Keeps Q (f a)) → Stays Q (m >>= f)
+  behinds : {A B : Type 0} (P Q : Type 0) (m : Judged (After A)) (f : After A → Judged (After B)) → Stays P m → ((a : After A) → Same a.env → Keeps Q (f a))
+      → Stays Q (m >>= f)
   behinds P Q (gives a) f h k = (k a h.1).kept
   behinds P Q (faults why line) f h k = tt
 
   -- what stands in front uses no name
-  behind : {A B P Q : Type 0} {m : Judged (After A)} {f : After A → Judged (After B)} → Keeps P m → ((a : After A) → Same a.env → Keeps Q (f a)) → Keeps Q (m >>= f)
+  behind : {A B P Q : Type 0} {m : Judged (After A)} {f : After A → Judged (After B)} → Keeps P m → ((a : After A) → Same a.env → Keeps Q (f a))
+      → Keeps Q (m >>= f)
   behind {P = P} {Q = Q} {m = m} {f = f} h k = record { kept = behinds P Q m f h.kept k }
 
   -- statements behind a part that leaves nothing known
@@ -91,7 +98,8 @@ module _ (scopes : List Scope) (names : List (List ℕ)) (among : (name : List �
 
   -- ---- statements
 
-  called_known : (env : Environment) → Same env → (line : ℕ) (use' : Use) (x : Option text.Args) → Shows (OptionalArgsKnown names x) (spec.called env line use' x)
+  called_known : (env : Environment) → Same env → (line : ℕ) (use' : Use) (x : Option text.Args) → Shows (OptionalArgsKnown names x)
+      (spec.called env line use' x)
   called_known env e line (calls c) None = always (spec.called env line (calls c) None) tt
   called_known env e line (calls c) (Some xs) = over _ (λ _. first _ (all_arguments_known env names (within env e) line xs (heading_formals c.asks)))
   called_known env e line halts None = record { shown = tt }
@@ -99,7 +107,8 @@ module _ (scopes : List Scope) (names : List (List ℕ)) (among : (name : List �
   called_known env e line (constructs of) x = record { shown = tt }
   called_known env e line neither x = record { shown = tt }
 
-  assigned_known : (env : Environment) → Same env → (v : text.Variable) (line : ℕ) (x : text.Expr) → Shows (VariableKnown names v × ExprKnown names x) (spec.assigned env v line x)
+  assigned_known : (env : Environment) → Same env → (v : text.Variable) (line : ℕ) (x : text.Expr) → Shows (VariableKnown names v × ExprKnown names x)
+      (spec.assigned env v line x)
   assigned_known env e v line x = two (place_known env names (within env e) v) (λ l. first _ (expression_known env names (within env e) x))
 
   pub closed : (n : ℕ) (s : Acts) (line : ℕ) (env : Environment) → Same env → Gives Same (close_block n s line env)
@@ -109,7 +118,10 @@ module _ (scopes : List Scope) (names : List (List ℕ)) (among : (name : List �
 
   left : (before : Environment) (line : ℕ) (a : After Acts) → Same a.env → Keeps (Unit {0}) (leave_branch before line a)
   left before line a e =
-      record { kept = bind Same (λ b. Unit {0} × Same b.env) (close_block (length before.blocks) a.what line a.env) _ (closed (length before.blocks) a.what line a.env e) (λ b k. (tt, k)) }
+      record {
+        kept = bind Same (λ b. Unit {0} × Same b.env) (close_block (length before.blocks) a.what line a.env) _
+            (closed (length before.blocks) a.what line a.env e) (λ b k. (tt, k));
+      }
 
   mutual
     list_keeps : (x : text.StatementList) (env : Environment) → Same env → Keeps (ListKnown names x) (spec.statement_list x env)

@@ -1,6 +1,8 @@
 -- Computed rows. Programs whose names are not visible where they are used. The text of each stands in its comment, where `/` ends a line.
 use Rattle.std.specs.Prelude.{◌≡◌, true, false, None}
-use Rattle.edi_tree.specs.Tree.{no_name, group, no_group, var_list, heading, no_params, list, no_statement, skip, assignment, call, variable, no_selector, procedure, var_item, procedure_item, module_with, item_member, no_member, next_member, item_declaration, module_declaration, no_declaration, next_declaration, no_global, program}
+use Rattle.edi_tree.specs.Tree.{no_name, group, no_group, var_list, heading, no_params, list, no_statement, skip, assignment, call, variable, no_selector}
+use Rattle.edi_tree.specs.Tree.{procedure, var_item, procedure_item, module_with, item_member, no_member, next_member, item_declaration, module_declaration}
+use Rattle.edi_tree.specs.Tree.{no_declaration, next_declaration, no_global, program}
 use Rattle.edi_tree.specs.declared.expressions.Root.TheVariants as root
 use Rattle.edi_static.specs.Written.{id, only, named}
 use Rattle.edi_names.specs.Visible.{NamesAreVisible}

@@ -7,7 +7,12 @@ use Rattle.edi_tree.specs.declared.constants.Constant.{Constant}
 use Rattle.edi_tree.specs.declared.constants.Constant.TheVariants as constant
 use Rattle.edi_tree.specs.declared.expressions.Root.{Root}
 use Rattle.edi_tree.specs.declared.expressions.Root.TheVariants as root
-use Rattle.edi_tree.specs.Tree.{Expr, expr, Comparison, no_comparison, compared, Exprs, no_expr, next_expr, Simple, simple, Addend, addend, Addends, no_addend, next_addend, Term, term, Multiplier, multiplier, Multipliers, no_multiplier, next_multiplier, Factor, numeral, string, not_factor, parenthesized, call_factor, variable_factor, Args, args, Variable, variable, Selector, field, index, Selectors, no_selector, next_selector, StatementList, list, Statements, no_statement, next_statement, Statement, skip, assignment, call, if_statement, while_statement, when_statement, cobegin, Conditions, conditions, Condition, condition, Else, no_else, next_else, Branch, branch, Branches, no_branch, next_branch}
+use Rattle.edi_tree.specs.Tree.{Expr, expr, Comparison, no_comparison, compared, Exprs, no_expr, next_expr, Simple, simple, Addend, addend, Addends}
+use Rattle.edi_tree.specs.Tree.{no_addend, next_addend, Term, term, Multiplier, multiplier, Multipliers, no_multiplier, next_multiplier, Factor, numeral}
+use Rattle.edi_tree.specs.Tree.{string, not_factor, parenthesized, call_factor, variable_factor, Args, args, Variable, variable, Selector, field, index}
+use Rattle.edi_tree.specs.Tree.{Selectors, no_selector, next_selector, StatementList, list, Statements, no_statement, next_statement, Statement, skip}
+use Rattle.edi_tree.specs.Tree.{assignment, call, if_statement, while_statement, when_statement, cobegin, Conditions, conditions, Condition, condition, Else}
+use Rattle.edi_tree.specs.Tree.{no_else, next_else, Branch, branch, Branches, no_branch, next_branch}
 
 -- the name is one of these
 abbrev pub is_among : List (List ℕ) → List ℕ → Bool

@@ -3,7 +3,13 @@
 -- module exports.
 use Rattle.std.specs.Prelude.{ℕ, List, [], ◌∷◌, ◌++◌, Option, Some, None, codes}
 use Rattle.edi_tree.specs.declared.names.Name.{Name}
-use Rattle.edi_tree.specs.Tree.{Names, no_name, next_name, ConstDecls, no_const_decl, next_const_decl, ConstList, const_list, Group, group, Groups, no_group, next_group, TypeDecl, enum_decl, record_decl, array_decl, set_decl, VarList, var_list, Heading, heading, Params, no_params, params, MoreParams, no_param, next_param, Param, value_param, var_param, procedure_param, Procedure, procedure, Item, const_item, type_item, var_item, procedure_item, pre_item, post_item, Module, module_with, Member, item_member, exported_member, module_member, Members, no_member, next_member, Declaration, item_declaration, module_declaration, Declarations, no_declaration, next_declaration, Global, const_global, type_global, Globals, no_global, next_global, Program, program}
+use Rattle.edi_tree.specs.Tree.{Names, no_name, next_name, ConstDecls, no_const_decl, next_const_decl, ConstList, const_list, Group, group, Groups, no_group}
+use Rattle.edi_tree.specs.Tree.{next_group, TypeDecl, enum_decl, record_decl, array_decl, set_decl, VarList, var_list, Heading, heading, Params, no_params}
+use Rattle.edi_tree.specs.Tree.{params, MoreParams, no_param, next_param, Param, value_param, var_param, procedure_param, Procedure, procedure, Item}
+use Rattle.edi_tree.specs.Tree.{const_item, type_item, var_item, procedure_item, pre_item, post_item, Module, module_with, Member, item_member}
+use Rattle.edi_tree.specs.Tree.{exported_member, module_member, Members, no_member, next_member, Declaration, item_declaration, module_declaration}
+use Rattle.edi_tree.specs.Tree.{Declarations, no_declaration, next_declaration, Global, const_global, type_global, Globals, no_global, next_global, Program}
+use Rattle.edi_tree.specs.Tree.{program}
 use Rattle.edi_static.specs.Headings.{own_name}
 use Rattle.edi_static.specs.Declarations.{procedure_name}
 use Rattle.edi_names.specs.Uses.{NameKnown, ConstantKnown, ListKnown}

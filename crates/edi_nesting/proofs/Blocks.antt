@@ -1,5 +1,6 @@
 -- The bodies of blocks nest no deeper than the levels of their text allow, construct by construct.
-use Rattle.std.proofs.Common.{◌≡◌, ℕ, suc, ◌+◌, ◌*◌, ◌<◌, ◌≤◌, max, Bool, true, false, List, [], length, Option, Some, None, All, nat_lt, nat_le, is_some, ◌||◌, ◌&&◌, ◌==◌, int_le, refl, arith, subst, sym}
+use Rattle.std.proofs.Common.{◌≡◌, ℕ, suc, ◌+◌, ◌*◌, ◌<◌, ◌≤◌, max, Bool, true, false, List, [], length, Option, Some, None, All, nat_lt, nat_le, is_some}
+use Rattle.std.proofs.Common.{◌||◌, ◌&&◌, ◌==◌, int_le, refl, arith, subst, sym}
 use Rattle.std.proofs.lemmas.List.{get_or_past}
 use Rattle.std.proofs.lemmas.List.Elements.{All-set, All-get_or, All-push}
 use Rattle.edi_scope.specs.declared.entity.Entity.{Entity}
@@ -9,7 +10,9 @@ use Rattle.edi_tree.specs.declared.names.Name.{Name}
 use Rattle.edi_tree.specs.declared.constants.Constant.{Constant}
 use Rattle.edi_tree.specs.declared.constants.ConstDecl.{ConstDecl}
 use Rattle.edi_tree.specs.Tree as text
-use Rattle.edi_tree.specs.Depth.{constant_depth, expr_depth, args_depth, optional_args_depth, variable_depth, list_depth, statements_depth, statement_depth, conditions_depth, condition_depth, else_depth, branch_depth, branches_depth, procedure_depth, item_depth, module_depth, member_depth, members_depth, declaration_depth, declarations_depth, depth}
+use Rattle.edi_tree.specs.Depth.{constant_depth, expr_depth, args_depth, optional_args_depth, variable_depth, list_depth, statements_depth, statement_depth}
+use Rattle.edi_tree.specs.Depth.{conditions_depth, condition_depth, else_depth, branch_depth, branches_depth, procedure_depth, item_depth, module_depth}
+use Rattle.edi_tree.specs.Depth.{member_depth, members_depth, declaration_depth, declarations_depth, depth}
 use Rattle.edi_unit.specs.declared.units.BlockKind.{BlockKind}
 use Rattle.edi_unit.specs.declared.units.BlockKind.TheVariants as block_kind
 use Rattle.edi_unit.specs.Types.{Shape, record_of, array_of, set_of, is_elementary, greatest_size, int_type, bool_type}
@@ -19,12 +22,17 @@ use Rattle.edi_unit.specs.Fits.{heading, heading_result, heading_formals, Formal
 use Rattle.edi_static.specs.declared.faults.StaticKind.TheVariants as kind
 use Rattle.edi_static.specs.Judged.{gives, ◌>>=◌, must}
 use Rattle.edi_static.specs.Environment.{Environment, at_first, look_up, type_named, declare, give_outside, enter, here, set_block}
-use Rattle.edi_static.specs.Types.{constant, const_decl, const_decls, const_list, most_constants, enum_constants, enum_decl, fields_of_groups, no_fields, declare_type, array_decl, set_decl, type_decl, variable_decl, variables_named, variables_of_groups, var_list}
-use Rattle.edi_static.specs.Headings.{Listed, Headed, leave, round, own_name, params_named, param_group, procedure_named, result_named, with_result, heading_parts, parameters, more_parameters, parameter}
+use Rattle.edi_static.specs.Types.{constant, const_decl, const_decls, const_list, most_constants, enum_constants, enum_decl, fields_of_groups, no_fields}
+use Rattle.edi_static.specs.Types.{declare_type, array_decl, set_decl, type_decl, variable_decl, variables_named, variables_of_groups, var_list}
+use Rattle.edi_static.specs.Headings.{Listed, Headed, leave, round, own_name, params_named, param_group, procedure_named, result_named, with_result}
+use Rattle.edi_static.specs.Headings.{heading_parts, parameters, more_parameters, parameter}
 use Rattle.edi_static.specs.Fitting.{Use, constructs, calls, halts, neither, use_of}
 use Rattle.edi_static.specs.Expressions.{expression, variable_place, all_arguments, args_count}
-use Rattle.edi_static.specs.Statements.{After, procedure_called, acts_append, assigned, called, add_statements, with_need, close_block, enter_branch, leave_branch, statement_list, statements, statement, conditions, elses, condition, branch, branches}
-use Rattle.edi_static.specs.Declarations.{kind_of, with_heading, block_of, procedure_name, heading_of, begun_named, completes, post_marked, all_completed, begin_procedure, begin_post, pre_decl, procedure_rest, item, module_decl, members, member, declarations, declaration}
+use Rattle.edi_static.specs.Statements.{After, procedure_called, acts_append, assigned, called, add_statements, with_need, close_block, enter_branch}
+use Rattle.edi_static.specs.Statements.{leave_branch, statement_list, statements, statement, conditions, elses, condition, branch, branches}
+use Rattle.edi_static.specs.Declarations.{kind_of, with_heading, block_of, procedure_name, heading_of, begun_named, completes, post_marked, all_completed}
+use Rattle.edi_static.specs.Declarations.{begin_procedure, begin_post, pre_decl, procedure_rest, item, module_decl, members, member, declarations}
+use Rattle.edi_static.specs.Declarations.{declaration}
 use Rattle.edi_static.specs.Programs.{program_heading, global_decl, global_decls, program_procedure, resolve_tree}
 use Rattle.edi_static.proofs.Judging.{Gives, bind, behind, choose, ruled, weaker}
 use Rattle.edi_nesting.specs.Nesting.{IsShallow, UnitsAreShallow, act_nesting, acts_nesting, clause_nesting, clauses_nesting}
@@ -36,7 +44,8 @@ use Rattle.edi_nesting.proofs.Expressions.{PlaceWithin, ArgumentsWithin, express
 abbrev ActWithin : ℕ → Act → Type 0
 ActWithin most a = act_nesting a ≤ most
 
-assigned_within : (env : Environment) (v : text.Variable) (line : ℕ) (e : text.Expr) → Gives (ActWithin (5 * max (variable_depth v) (expr_depth e) + 6)) (assigned env v line e)
+assigned_within : (env : Environment) (v : text.Variable) (line : ℕ) (e : text.Expr) → Gives (ActWithin (5 * max (variable_depth v) (expr_depth e) + 6))
+    (assigned env v line e)
 assigned_within env v line e =
     let most : ℕ = 5 * max (variable_depth v) (expr_depth e) + 6 in
     bind (PlaceWithin (5 * variable_depth v)) (ActWithin most) (variable_place env v) _ (place_within env v) (λ l h.
@@ -127,7 +136,8 @@ module _ (levels : ℕ) where
       behind Shallow (must (nat_lt n most_constants) kind.Range name.line) (λ _. gives e) (λ _. k)))
       (λ e k. enum_shallow m of (suc n) ns e k)
 
-  type_shallow : (m : Bool) (name : Name) (shape : Shape) (fields : List (List ℕ)) (env : Environment) → Shallow env → Gives Shallow (declare_type m name shape fields env)
+  type_shallow : (m : Bool) (name : Name) (shape : Shape) (fields : List (List ℕ)) (env : Environment) → Shallow env
+      → Gives Shallow (declare_type m name shape fields env)
   type_shallow m name shape fields env h = behind Shallow _ _ (λ _. bind Shallow Shallow _ _ (declare_shallow m name _ env h) (λ e k. k))
 
   enum_decl_shallow : (m : Bool) (name : Name) (ns : text.Names) (env : Environment) → Shallow env → Gives Shallow (enum_decl m name ns env)
@@ -136,7 +146,8 @@ module _ (levels : ℕ) where
       (bind Shallow Shallow _ _ (declare_shallow m name _ env h) (λ e k. enum_shallow m _ 0 ns e k))
       (λ e k. k)
 
-  array_shallow : (m : Bool) (name : Name) (lower upper : Constant) (element : Name) (env : Environment) → Shallow env → Gives Shallow (array_decl m name lower upper element env)
+  array_shallow : (m : Bool) (name : Name) (lower upper : Constant) (element : Name) (env : Environment) → Shallow env
+      → Gives Shallow (array_decl m name lower upper element env)
   array_shallow m name lower upper element env h =
       behind Shallow (constant env lower) _ (λ lo.
       behind Shallow (constant env upper) _ (λ hi.
@@ -175,7 +186,8 @@ module _ (levels : ℕ) where
 
   -- ---- headings
 
-  params_shallow : (block before of : ℕ) (one : Formals) (ns : text.Names) (l : Listed) → ShallowListed l → Gives ShallowListed (params_named block before of one ns l)
+  params_shallow : (block before of : ℕ) (one : Formals) (ns : text.Names) (l : Listed) → ShallowListed l
+      → Gives ShallowListed (params_named block before of one ns l)
   params_shallow block before of one text.no_name l h = h
   params_shallow block before of one (text.next_name name ns) l h =
       bind ShallowListed ShallowListed _ _
@@ -183,9 +195,11 @@ module _ (levels : ℕ) where
       (λ m k. params_shallow block before of one ns m k)
 
   group_shallow : (block before : ℕ) (v : Bool) (g : text.Group) (l : Listed) → ShallowListed l → Gives ShallowListed (param_group block before v g l)
-  group_shallow block before v (text.group first names of) l h = behind ShallowListed (type_named l.env of) _ (λ t. params_shallow block before t _ (text.next_name first names) l h)
+  group_shallow block before v (text.group first names of) l h = behind ShallowListed (type_named l.env of) _
+      (λ t. params_shallow block before t _ (text.next_name first names) l h)
 
-  procedure_named_shallow : (block before : ℕ) (name : Name) (fs : Formals) (inner : Headed) → ShallowHeaded inner → Gives ShallowListed (procedure_named block before name fs inner)
+  procedure_named_shallow : (block before : ℕ) (name : Name) (fs : Formals) (inner : Headed) → ShallowHeaded inner
+      → Gives ShallowListed (procedure_named block before name fs inner)
   procedure_named_shallow block before name fs inner h = bind Shallow ShallowListed _ _ (declare_shallow false name _ (leave inner.env) h) (λ e k. k)
 
   result_shallow : (r : Option Name) (l : Listed) → ShallowListed l → Gives ShallowHeaded (with_result r l)
@@ -235,7 +249,8 @@ module _ (levels : ℕ) where
 
   need_shallow : (n line : ℕ) (env : Environment) → Shallow env → Gives Shallow (with_need n line env)
   need_shallow n line env h =
-      ruled Shallow (nat_le (need env.types env.blocks n) greatest_size) kind.Range line _ (λ e. set_shallow n (record (block_at env.blocks n) { need = need env.types env.blocks n }) env (at_shallow env.blocks n h) h)
+      ruled Shallow (nat_le (need env.types env.blocks n) greatest_size) kind.Range line _
+      (λ e. set_shallow n (record (block_at env.blocks n) { need = need env.types env.blocks n }) env (at_shallow env.blocks n h) h)
 
   close_shallow : (n : ℕ) (s : Acts) (line : ℕ) (env : Environment) → acts_nesting s ≤ 5 * levels + 1 → Shallow env → Gives Shallow (close_block n s line env)
   close_shallow n s line env low h = need_shallow n line (add_statements n s env) (add_shallow n s env low h)
@@ -243,25 +258,32 @@ module _ (levels : ℕ) where
   enter_branch_shallow : (env : Environment) → Shallow env → Shallow (enter_branch env)
   enter_branch_shallow env h = All-push Low env.blocks _ h (omega arith)
 
-  leave_branch_shallow : (before : Environment) (line : ℕ) (done : After Acts) (d : ℕ) → d < levels → ActsDone d done → Gives ShallowAfter (leave_branch before line done)
+  leave_branch_shallow : (before : Environment) (line : ℕ) (done : After Acts) (d : ℕ) → d < levels → ActsDone d done
+      → Gives ShallowAfter (leave_branch before line done)
   leave_branch_shallow before line done d less h =
       bind Shallow ShallowAfter _ _ (close_shallow _ done.what line done.env (omega (arith, less, h.1)) h.0) (λ e k. k)
 
   mutual
     list_shallow : (s : text.StatementList) (env : Environment) → list_depth s < levels → Shallow env → Gives (ActsDone (list_depth s)) (statement_list s env)
     list_shallow (text.list s more) env less h =
-        bind (ActDone (statement_depth s)) (ActsDone (max (statement_depth s) (statements_depth more))) _ _ (statement_shallow s env (omega (arith, less)) h) (λ one k.
-        bind (ActsDone (statements_depth more)) (ActsDone (max (statement_depth s) (statements_depth more))) _ _ (statements_shallow more one.env (omega (arith, less)) k.0) (λ others j.
+        bind (ActDone (statement_depth s)) (ActsDone (max (statement_depth s) (statements_depth more))) _ _ (statement_shallow s env (omega (arith, less)) h)
+        (λ one k.
+        bind (ActsDone (statements_depth more)) (ActsDone (max (statement_depth s) (statements_depth more))) _ _
+        (statements_shallow more one.env (omega (arith, less)) k.0) (λ others j.
         (j.0, omega (arith, k.1, j.1))))
 
-    statements_shallow : (s : text.Statements) (env : Environment) → statements_depth s < levels → Shallow env → Gives (ActsDone (statements_depth s)) (statements s env)
+    statements_shallow : (s : text.Statements) (env : Environment) → statements_depth s < levels → Shallow env → Gives (ActsDone (statements_depth s))
+        (statements s env)
     statements_shallow text.no_statement env less h = (h, omega arith)
     statements_shallow (text.next_statement s more) env less h =
-        bind (ActDone (statement_depth s)) (ActsDone (max (statement_depth s) (statements_depth more))) _ _ (statement_shallow s env (omega (arith, less)) h) (λ one k.
-        bind (ActsDone (statements_depth more)) (ActsDone (max (statement_depth s) (statements_depth more))) _ _ (statements_shallow more one.env (omega (arith, less)) k.0) (λ others j.
+        bind (ActDone (statement_depth s)) (ActsDone (max (statement_depth s) (statements_depth more))) _ _ (statement_shallow s env (omega (arith, less)) h)
+        (λ one k.
+        bind (ActsDone (statements_depth more)) (ActsDone (max (statement_depth s) (statements_depth more))) _ _
+        (statements_shallow more one.env (omega (arith, less)) k.0) (λ others j.
         (j.0, omega (arith, k.1, j.1))))
 
-    statement_shallow : (s : text.Statement) (env : Environment) → statement_depth s < levels → Shallow env → Gives (ActDone (statement_depth s)) (statement s env)
+    statement_shallow : (s : text.Statement) (env : Environment) → statement_depth s < levels → Shallow env → Gives (ActDone (statement_depth s))
+        (statement s env)
     statement_shallow text.skip env less h = (h, omega arith)
     statement_shallow (text.assignment v line e) env less h =
         let d : ℕ = max (variable_depth v) (expr_depth e) in
@@ -269,33 +291,43 @@ module _ (levels : ℕ) where
     statement_shallow (text.call name xs) env less h =
         let d : ℕ = optional_args_depth xs in
         behind (ActDone d) (look_up env name) _ (λ means.
-        bind (ActWithin (5 * d + 6)) (ActDone d) (called env name.line (use_of env means) xs) _ (called_within env name.line (use_of env means) xs) (λ a k. (h, k)))
+        bind (ActWithin (5 * d + 6)) (ActDone d) (called env name.line (use_of env means) xs) _ (called_within env name.line (use_of env means) xs)
+        (λ a k. (h, k)))
     statement_shallow (text.if_statement cs) env less h =
-        bind (ClausesDone (conditions_depth cs)) (ActDone (suc (conditions_depth cs))) _ _ (conditions_shallow cs env (omega (arith, less)) h) (λ done k. (k.0, omega (arith, k.1)))
+        bind (ClausesDone (conditions_depth cs)) (ActDone (suc (conditions_depth cs))) _ _ (conditions_shallow cs env (omega (arith, less)) h)
+        (λ done k. (k.0, omega (arith, k.1)))
     statement_shallow (text.while_statement cs) env less h =
-        bind (ClausesDone (conditions_depth cs)) (ActDone (suc (conditions_depth cs))) _ _ (conditions_shallow cs env (omega (arith, less)) h) (λ done k. (k.0, omega (arith, k.1)))
+        bind (ClausesDone (conditions_depth cs)) (ActDone (suc (conditions_depth cs))) _ _ (conditions_shallow cs env (omega (arith, less)) h)
+        (λ done k. (k.0, omega (arith, k.1)))
     statement_shallow (text.when_statement line cs) env less h =
-        bind (ClausesDone (conditions_depth cs)) (ActDone (suc (conditions_depth cs))) _ _ (conditions_shallow cs env (omega (arith, less)) h) (λ done k. (k.0, omega (arith, k.1)))
+        bind (ClausesDone (conditions_depth cs)) (ActDone (suc (conditions_depth cs))) _ _ (conditions_shallow cs env (omega (arith, less)) h)
+        (λ done k. (k.0, omega (arith, k.1)))
     statement_shallow (text.cobegin line b bs) env less h =
         bind ShallowAfter (ActDone (suc (max (branch_depth b) (branches_depth bs)))) _ _
         (bind (ActsDone (branch_depth b)) ShallowAfter _ _ (branch_shallow b env (omega (arith, less)) h) (λ one k.
         branches_shallow bs env one (branch_depth b) (omega (arith, less)) (omega (arith, less)) k))
         (λ done k. (k, omega arith))
 
-    conditions_shallow : (cs : text.Conditions) (env : Environment) → conditions_depth cs < levels → Shallow env → Gives (ClausesDone (conditions_depth cs)) (conditions cs env)
+    conditions_shallow : (cs : text.Conditions) (env : Environment) → conditions_depth cs < levels → Shallow env → Gives (ClausesDone (conditions_depth cs))
+        (conditions cs env)
     conditions_shallow (text.conditions c more) env less h =
-        bind (ClauseDone (condition_depth c)) (ClausesDone (max (condition_depth c) (else_depth more))) _ _ (condition_shallow c env (omega (arith, less)) h) (λ one k.
-        bind (ClausesDone (else_depth more)) (ClausesDone (max (condition_depth c) (else_depth more))) _ _ (elses_shallow more one.env (omega (arith, less)) k.0) (λ others j.
+        bind (ClauseDone (condition_depth c)) (ClausesDone (max (condition_depth c) (else_depth more))) _ _ (condition_shallow c env (omega (arith, less)) h)
+        (λ one k.
+        bind (ClausesDone (else_depth more)) (ClausesDone (max (condition_depth c) (else_depth more))) _ _
+        (elses_shallow more one.env (omega (arith, less)) k.0) (λ others j.
         (j.0, omega (arith, k.1, j.1))))
 
     elses_shallow : (cs : text.Else) (env : Environment) → else_depth cs < levels → Shallow env → Gives (ClausesDone (else_depth cs)) (elses cs env)
     elses_shallow text.no_else env less h = (h, omega arith)
     elses_shallow (text.next_else c more) env less h =
-        bind (ClauseDone (condition_depth c)) (ClausesDone (max (condition_depth c) (else_depth more))) _ _ (condition_shallow c env (omega (arith, less)) h) (λ one k.
-        bind (ClausesDone (else_depth more)) (ClausesDone (max (condition_depth c) (else_depth more))) _ _ (elses_shallow more one.env (omega (arith, less)) k.0) (λ others j.
+        bind (ClauseDone (condition_depth c)) (ClausesDone (max (condition_depth c) (else_depth more))) _ _ (condition_shallow c env (omega (arith, less)) h)
+        (λ one k.
+        bind (ClausesDone (else_depth more)) (ClausesDone (max (condition_depth c) (else_depth more))) _ _
+        (elses_shallow more one.env (omega (arith, less)) k.0) (λ others j.
         (j.0, omega (arith, k.1, j.1))))
 
-    condition_shallow : (c : text.Condition) (env : Environment) → condition_depth c < levels → Shallow env → Gives (ClauseDone (condition_depth c)) (condition c env)
+    condition_shallow : (c : text.Condition) (env : Environment) → condition_depth c < levels → Shallow env → Gives (ClauseDone (condition_depth c))
+        (condition c env)
     condition_shallow (text.condition e line s) env less h =
         let d : ℕ = max (expr_depth e) (list_depth s) in
         bind (Within (5 * expr_depth e + 5)) (ClauseDone d) (expression env e) _ (expression_within env e) (λ c k.
@@ -310,7 +342,8 @@ module _ (levels : ℕ) where
         weaker (ActsDone (list_depth s)) (ActsDone d) (statement_list s (enter_branch env)) (λ done j. (j.0, omega (arith, j.1)))
         (list_shallow s (enter_branch env) (omega (arith, less)) (enter_branch_shallow env h))))
 
-    branches_shallow : (bs : text.Branches) (before : Environment) (done : After Acts) (d : ℕ) → d < levels → branches_depth bs < levels → ActsDone d done → Gives ShallowAfter (branches bs before done)
+    branches_shallow : (bs : text.Branches) (before : Environment) (done : After Acts) (d : ℕ) → d < levels → branches_depth bs < levels → ActsDone d done
+        → Gives ShallowAfter (branches bs before done)
     branches_shallow (text.no_branch end) before done d less few h =
         bind ShallowAfter ShallowAfter _ _ (leave_branch_shallow before end done d less h) (λ one k. k)
     branches_shallow (text.next_branch also b bs) before done d less few h =
@@ -346,7 +379,8 @@ module _ (levels : ℕ) where
         bind Shallow Shallow _ _ (declarations_shallow ds _ (omega (arith, small)) k) (λ inner j.
         behind Shallow (all_completed inner.begun) _ (λ _.
         let less : list_depth s < levels = omega (arith, small) in
-        bind (ActsDone (list_depth s)) Shallow _ _ (list_shallow s inner less j) (λ done i. close_shallow block done.what end done.env (omega (arith, less, i.1)) i.0)))
+        bind (ActsDone (list_depth s)) Shallow _ _ (list_shallow s inner less j)
+        (λ done i. close_shallow block done.what end done.env (omega (arith, less, i.1)) i.0)))
 
     item_shallow : (m : Bool) (i : text.Item) (env : Environment) → item_depth i ≤ levels → Shallow env → Gives Shallow (item m i env)
     item_shallow m (text.const_item cs) env small h = const_list_shallow m cs env h
@@ -368,11 +402,13 @@ module _ (levels : ℕ) where
         bind Shallow Shallow _ _ (members_shallow ms _ (omega (arith, small)) h) (λ inner k.
         behind Shallow (all_completed inner.begun) _ (λ _.
         let less : list_depth s < levels = omega (arith, small) in
-        bind (ActsDone (list_depth s)) Shallow _ _ (list_shallow s inner less k) (λ done j. add_shallow (here env) done.what done.env (omega (arith, less, j.1)) j.0)))
+        bind (ActsDone (list_depth s)) Shallow _ _ (list_shallow s inner less k)
+        (λ done j. add_shallow (here env) done.what done.env (omega (arith, less, j.1)) j.0)))
 
     members_shallow : (ms : text.Members) (env : Environment) → members_depth ms ≤ levels → Shallow env → Gives Shallow (members ms env)
     members_shallow text.no_member env small h = h
-    members_shallow (text.next_member m ms) env small h = bind Shallow Shallow _ _ (member_shallow m env (omega (arith, small)) h) (λ e k. members_shallow ms e (omega (arith, small)) k)
+    members_shallow (text.next_member m ms) env small h = bind Shallow Shallow _ _ (member_shallow m env (omega (arith, small)) h)
+        (λ e k. members_shallow ms e (omega (arith, small)) k)
 
     member_shallow : (m : text.Member) (env : Environment) → member_depth m ≤ levels → Shallow env → Gives Shallow (member m env)
     member_shallow (text.item_member i) env small h = item_shallow false i env small h

@@ -3,7 +3,8 @@
 use Rattle.std.proofs.Common.{ℕ, suc, ◌+◌, ◌*◌, ◌≤◌, max, Bool, ◌++◌, ◌==◌, arith}
 use Rattle.edi_tree.specs.declared.expressions.Root.TheVariants as root
 use Rattle.edi_tree.specs.Tree as text
-use Rattle.edi_tree.specs.Depth.{expr_depth, comparison_depth, exprs_depth, simple_depth, addend_depth, addends_depth, term_depth, multiplier_depth, multipliers_depth, factor_depth, args_depth, variable_depth, selector_depth, selectors_depth}
+use Rattle.edi_tree.specs.Depth.{expr_depth, comparison_depth, exprs_depth, simple_depth, addend_depth, addends_depth, term_depth, multiplier_depth}
+use Rattle.edi_tree.specs.Depth.{multipliers_depth, factor_depth, args_depth, variable_depth, selector_depth, selectors_depth}
 use Rattle.edi_unit.specs.Types.{shape_at, bool_type}
 use Rattle.edi_unit.specs.Tree as unit
 use Rattle.edi_unit.specs.Fits.{Formals, heading_formals}
@@ -11,10 +12,13 @@ use Rattle.edi_static.specs.declared.faults.StaticKind.TheVariants as kind
 use Rattle.edi_static.specs.Environment.{Environment, look_up}
 use Rattle.edi_static.specs.Operators.{Typed, relation_operator, addition_operator, multiplication_operator, signed, operated}
 use Rattle.edi_static.specs.Fitting.{Use, constructs, calls, halts, neither, use_of, rest_of, function_called, is_indexed_by, takes_strings}
-use Rattle.edi_static.specs.Expressions.{Reached, Located, args_count, rooted, element, argument, expression, comparison, simple, addends, addend, term, multipliers, multiplier, factor, applied, more_elements, more_arguments, variable_value, variable_place, selectors, selector, all_arguments}
+use Rattle.edi_static.specs.Expressions.{Reached, Located, args_count, rooted, element, argument, expression, comparison, simple, addends, addend, term}
+use Rattle.edi_static.specs.Expressions.{multipliers, multiplier, factor, applied, more_elements, more_arguments, variable_value, variable_place, selectors}
+use Rattle.edi_static.specs.Expressions.{selector, all_arguments}
 use Rattle.edi_static.proofs.Judging.{Gives, bind, behind, ruled, weaker}
 use Rattle.edi_nesting.specs.Nesting.{place_nesting, parts_nesting, arguments_nesting}
-use Rattle.edi_nesting.proofs.Parts.{Within, LinkWithin, LinksWithin, PartWithin, ListWithin, ArgumentWithin, chained_within, operated_within, signed_within, single_within, alone_within, element_within, both_within, constructed_within, argument_within, field_within}
+use Rattle.edi_nesting.proofs.Parts.{Within, LinkWithin, LinksWithin, PartWithin, ListWithin, ArgumentWithin, chained_within, operated_within, signed_within}
+use Rattle.edi_nesting.proofs.Parts.{single_within, alone_within, element_within, both_within, constructed_within, argument_within, field_within}
 
 abbrev pub PartsWithin : ℕ → Reached → Type 0
 PartsWithin most r = parts_nesting r.parts ≤ most
@@ -29,9 +33,11 @@ module _ (env : Environment) where
   mutual
     pub expression_within : (e : text.Expr) → Gives (Within (5 * expr_depth e + 5)) (expression env e)
     expression_within (text.expr s c) =
-        bind (Within (5 * simple_depth s + 4)) (Within (5 * max (simple_depth s) (comparison_depth c) + 5)) (simple env s) _ (simple_within s) (λ left h. comparison_within left (simple_depth s) c h)
+        bind (Within (5 * simple_depth s + 4)) (Within (5 * max (simple_depth s) (comparison_depth c) + 5)) (simple env s) _ (simple_within s)
+        (λ left h. comparison_within left (simple_depth s) c h)
 
-    comparison_within : (left : Typed) (d : ℕ) (c : text.Comparison) → Within (5 * d + 4) left → Gives (Within (5 * max d (comparison_depth c) + 5)) (comparison env left c)
+    comparison_within : (left : Typed) (d : ℕ) (c : text.Comparison) → Within (5 * d + 4) left → Gives (Within (5 * max d (comparison_depth c) + 5))
+        (comparison env left c)
     comparison_within left d text.no_comparison h = omega (arith, h)
     comparison_within left d (text.compared r line s) h =
         bind (Within (5 * simple_depth s + 4)) (Within (5 * max d (simple_depth s) + 5)) (simple env s) _ (simple_within s) (λ right k.
@@ -70,7 +76,8 @@ module _ (env : Environment) where
     multipliers_within left (text.next_multiplier m more) =
         let most : ℕ = 5 * max (multiplier_depth m) (multipliers_depth more) + 1 in
         bind (LinkWithin (5 * multiplier_depth m + 1)) (LinksWithin most) (multiplier env left m) _ (multiplier_within left m) (λ l h.
-        bind (LinksWithin (5 * multipliers_depth more + 1)) (LinksWithin most) (multipliers env l.of more) _ (multipliers_within l.of more) (λ ls k. omega (arith, h, k)))
+        bind (LinksWithin (5 * multipliers_depth more + 1)) (LinksWithin most) (multipliers env l.of more) _ (multipliers_within l.of more)
+        (λ ls k. omega (arith, h, k)))
 
     multiplier_within : (left : ℕ) (m : text.Multiplier) → Gives (LinkWithin (5 * multiplier_depth m + 1)) (multiplier env left m)
     multiplier_within left (text.multiplier o line f) =
@@ -82,8 +89,10 @@ module _ (env : Environment) where
     factor_within (text.string s) = single_within s.line s.text
     factor_within (text.not_factor line f) =
         let most : ℕ = 5 * suc (factor_depth f) + 1 in
-        bind (Within (5 * factor_depth f + 1)) (Within most) (factor env f) _ (factor_within f) (λ v h. ruled (Within most) (v.of == bool_type) kind.Types line _ (λ e. omega (arith, h)))
-    factor_within (text.parenthesized e) = weaker (Within (5 * expr_depth e + 5)) (Within (5 * suc (expr_depth e) + 1)) (expression env e) (λ v h. omega (arith, h)) (expression_within e)
+        bind (Within (5 * factor_depth f + 1)) (Within most) (factor env f) _ (factor_within f)
+        (λ v h. ruled (Within most) (v.of == bool_type) kind.Types line _ (λ e. omega (arith, h)))
+    factor_within (text.parenthesized e) = weaker (Within (5 * expr_depth e + 5)) (Within (5 * suc (expr_depth e) + 1)) (expression env e)
+        (λ v h. omega (arith, h)) (expression_within e)
     factor_within (text.call_factor name xs) =
         behind (Within (5 * args_depth xs + 1)) (look_up env name) _ (λ means. applied_within name.line (use_of env means) xs)
     factor_within (text.variable_factor v) = value_within v
@@ -122,7 +131,8 @@ module _ (env : Environment) where
         let most : ℕ = 5 * max (expr_depth e) (exprs_depth es) + 5 in
         bind (ArgumentWithin (5 * expr_depth e + 5)) (ArgumentsWithin most) (argument env line e (expression env e) fs) _
         (argument_within env line e (expression env e) fs (5 * expr_depth e + 5) (expression_within e)) (λ a h.
-        bind (ArgumentsWithin (5 * exprs_depth es + 5)) (ArgumentsWithin most) (more_arguments env line es (rest_of fs)) _ (more_arguments_within line es (rest_of fs)) (λ xs k. omega (arith, h, k)))
+        bind (ArgumentsWithin (5 * exprs_depth es + 5)) (ArgumentsWithin most) (more_arguments env line es (rest_of fs)) _
+        (more_arguments_within line es (rest_of fs)) (λ xs k. omega (arith, h, k)))
 
     value_within : (v : text.Variable) → Gives (Within (5 * variable_depth v + 1)) (variable_value env v)
     value_within (text.variable (root.Name name) text.no_selector) = alone_within env name
@@ -133,7 +143,8 @@ module _ (env : Environment) where
         (selectors_within r.of (text.next_selector s ss)) (λ steps h. omega (arith, h)))
     value_within (text.variable (root.Val name) ss) =
         behind (Within (5 * selectors_depth ss + 1)) (rooted env (root.Val name)) _ (λ r.
-        bind (PartsWithin (5 * selectors_depth ss)) (Within (5 * selectors_depth ss + 1)) (selectors env r.of ss) _ (selectors_within r.of ss) (λ steps h. omega (arith, h)))
+        bind (PartsWithin (5 * selectors_depth ss)) (Within (5 * selectors_depth ss + 1)) (selectors env r.of ss) _ (selectors_within r.of ss)
+        (λ steps h. omega (arith, h)))
 
     selectors_within : (of : ℕ) (ss : text.Selectors) → Gives (PartsWithin (5 * selectors_depth ss)) (selectors env of ss)
     selectors_within of text.no_selector = omega arith
@@ -146,7 +157,8 @@ module _ (env : Environment) where
     selector_within of (text.field line name) = field_within env line of name
     selector_within of (text.index line e) =
         let most : ℕ = 5 * suc (expr_depth e) in
-        bind (Within (5 * expr_depth e + 5)) (PartWithin most) (expression env e) _ (expression_within e) (λ v h. ruled (PartWithin most) (is_indexed_by (shape_at env.types of) v.of) kind.Types line _ (λ r. omega (arith, h)))
+        bind (Within (5 * expr_depth e + 5)) (PartWithin most) (expression env e) _ (expression_within e)
+        (λ v h. ruled (PartWithin most) (is_indexed_by (shape_at env.types of) v.of) kind.Types line _ (λ r. omega (arith, h)))
 
   pub place_within : (v : text.Variable) → Gives (PlaceWithin (5 * variable_depth v)) (variable_place env v)
   place_within (text.variable r ss) =
@@ -158,4 +170,5 @@ module _ (env : Environment) where
       let most : ℕ = 5 * suc (max (expr_depth e) (exprs_depth es)) in
       bind (ArgumentWithin (5 * expr_depth e + 5)) (ArgumentsWithin most) (argument env line e (expression env e) fs) _
       (argument_within env line e (expression env e) fs (5 * expr_depth e + 5) (expression_within e)) (λ a h.
-      bind (ArgumentsWithin (5 * exprs_depth es + 5)) (ArgumentsWithin most) (more_arguments env line es (rest_of fs)) _ (more_arguments_within line es (rest_of fs)) (λ xs k. omega (arith, h, k)))
+      bind (ArgumentsWithin (5 * exprs_depth es + 5)) (ArgumentsWithin most) (more_arguments env line es (rest_of fs)) _
+      (more_arguments_within line es (rest_of fs)) (λ xs k. omega (arith, h, k)))

@@ -1,5 +1,6 @@
 -- Operators on one operand: `not`, a leading `-`, and conversions.
-use Rattle.std.proofs.Common.{◌≡◌, ℕ, ◌+◌, ◌-◌, ◌<◌, ◌≤◌, Bool, true, false, ◌&&◌, if◌then◌else◌, List, [], ◌∷◌, length, Option, Some, None, refl, sym, subst, ap, ◌∙◌, arith}
+use Rattle.std.proofs.Common.{◌≡◌, ℕ, ◌+◌, ◌-◌, ◌<◌, ◌≤◌, Bool, true, false, ◌&&◌, if◌then◌else◌, List, [], ◌∷◌, length, Option, Some, None, refl, sym}
+use Rattle.std.proofs.Common.{subst, ap, ◌∙◌, arith}
 use Rattle.std.specs.Prelude.{ℤ, IfSome, IsTrue, nat_eq, int_le, pos}
 use Rattle.std.specs.Option.{option_map}
 use Rattle.edi_calls.specs.declared.kinds.Cause.TheVariants as cause

@@ -1,10 +1,12 @@
 -- Elementary values, sets and truth values as words.
-use Rattle.std.proofs.Common.{◌≡◌, ℕ, zero, suc, ◌<◌, ◌^◌, ◌⊎◌, inl, inr, ℤ, pos, negsuc, Bool, true, false, not, List, [], ◌∷◌, length, get_or, IsTrue, refl, sym, ap, subst, ◌∙◌, arith, get_or-take}
+use Rattle.std.proofs.Common.{◌≡◌, ℕ, zero, suc, ◌<◌, ◌^◌, ◌⊎◌, inl, inr, ℤ, pos, negsuc, Bool, true, false, not, List, [], ◌∷◌, length, get_or, IsTrue}
+use Rattle.std.proofs.Common.{refl, sym, ap, subst, ◌∙◌, arith, get_or-take}
 use Rattle.std.specs.Prelude.{nat_eq}
 use Rattle.std.proofs.lemmas.Bool.{false≢true}
 use Rattle.std.proofs.lemmas.Int.{ints}
 use Rattle.edi_word.proofs.IntLaws.{fits_from_is_int, signed-unsigned}
-use Rattle.edi_unit.specs.Types.{Shape, int, char, bool, enumeration, record_of, array_of, set_of, shape_at, int_type, char_type, bool_type, is_elementary, is_elementary_shape, is_ordinal_of, has_parts, is_set_shape}
+use Rattle.edi_unit.specs.Types.{Shape, int, char, bool, enumeration, record_of, array_of, set_of, shape_at, int_type, char_type, bool_type, is_elementary}
+use Rattle.edi_unit.specs.Types.{is_elementary_shape, is_ordinal_of, has_parts, is_set_shape}
 use Rattle.edi_unit.specs.Values.{Value, ordinal, compound, members, IsOf, ordinal_of, is_true, truth}
 use Rattle.edi_target.specs.Effect as effect
 use Rattle.edi_worded.specs.Words.{value_words, IsTable}

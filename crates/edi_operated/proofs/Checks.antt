@@ -1,5 +1,6 @@
 -- Conversions, members of sets and indices on words.
-use Rattle.std.proofs.Common.{◌≡◌, ℕ, suc, ◌-◌, ◌<◌, ◌≤◌, ◌^◌, ℤ, pos, negsuc, ◌-ℤ◌, ◌+ℤ◌, Bool, true, false, ◌&&◌, cond, ltb, inl, inr, List, length, IsTrue, refl, sym, ap, subst, ◌∙◌, arith}
+use Rattle.std.proofs.Common.{◌≡◌, ℕ, suc, ◌-◌, ◌<◌, ◌≤◌, ◌^◌, ℤ, pos, negsuc, ◌-ℤ◌, ◌+ℤ◌, Bool, true, false, ◌&&◌, cond, ltb, inl, inr, List, length}
+use Rattle.std.proofs.Common.{IsTrue, refl, sym, ap, subst, ◌∙◌, arith}
 use Rattle.std.specs.Prelude.{nat_lt, nat_abs, int_le, if◌then◌else◌, Some, None, IfSome}
 use Rattle.std.specs.Option.{option_map}
 use Rattle.std.proofs.lemmas.Bool.{false≢true, cases_lt, lt-ltb, le-ltb}
@@ -9,7 +10,8 @@ use Rattle.edi_word.specs.Words.{signed}
 use Rattle.edi_word.specs.Sets.{IsOrdinalSet, words_of_members, words_with, with_member, set_has}
 use Rattle.edi_word.specs.SetViews.{AreSetWords-words_where, words_of_members-members_of}
 use Rattle.edi_word.proofs.SetLaws.{members_of-words_of_members, IsOrdinalSet-members_where, with_agrees}
-use Rattle.edi_unit.specs.Types.{Shape, int, char, bool, enumeration, record_of, array_of, set_of, shape_at, is_elementary, is_elementary_shape, is_ordinal_of, natural, element_count, size}
+use Rattle.edi_unit.specs.Types.{Shape, int, char, bool, enumeration, record_of, array_of, set_of, shape_at, is_elementary, is_elementary_shape}
+use Rattle.edi_unit.specs.Types.{is_ordinal_of, natural, element_count, size}
 use Rattle.edi_unit.specs.Values.{Value, ordinal, IsOf, ordinal_of, with_ordinal}
 use Rattle.edi_unit.specs.Fits.{ShapeFits}
 use Rattle.edi_worded.specs.Words.{IsTable}

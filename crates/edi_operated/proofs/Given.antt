@@ -1,5 +1,6 @@
 -- System calls: the words of arguments, and the types of answers.
-use Rattle.std.proofs.Common.{◌≡◌, ℕ, zero, suc, ◌%◌, ◌<◌, ℤ, pos, negsuc, Bool, true, false, List, [], ◌∷◌, ◌++◌, length, IsTrue, refl, sym, ap, subst, ◌∙◌, arith, replicate, Option, Some, None}
+use Rattle.std.proofs.Common.{◌≡◌, ℕ, zero, suc, ◌%◌, ◌<◌, ℤ, pos, negsuc, Bool, true, false, List, [], ◌∷◌, ◌++◌, length, IsTrue, refl, sym, ap, subst, ◌∙◌}
+use Rattle.std.proofs.Common.{arith, replicate, Option, Some, None}
 use Rattle.std.specs.Prelude.{if◌then◌else◌, nat_lt, slice_index, slice_get, is_some, ⊤}
 use Rattle.std.specs.Option.{option_map_or}
 use Rattle.std.proofs.lemmas.Bool.{false≢true}
@@ -8,7 +9,8 @@ use Rattle.edi_word.specs.Words.{unsigned}
 use Rattle.edi_calls.specs.State.{Found, State, title_of, most_bytes}
 use Rattle.edi_calls.specs.Calls as calls
 use Rattle.edi_calls.specs.Calls.{CallResult, answered, no_file, file_limit, word_of, call}
-use Rattle.edi_unit.specs.Types.{Shape, char, char_type, bool_type, part_types, has_parts, is_set_shape, is_elementary, is_elementary_shape, is_ordinal_of, natural}
+use Rattle.edi_unit.specs.Types.{Shape, char, char_type, bool_type, part_types, has_parts, is_set_shape, is_elementary, is_elementary_shape, is_ordinal_of}
+use Rattle.edi_unit.specs.Types.{natural}
 use Rattle.edi_unit.specs.Values.{Value, ordinal, compound, members, Values, no_value, value_then, IsOf, AreOf, ordinal_of}
 use Rattle.edi_unit.specs.Fits.{Formals, value_then, IsCall, accept, display, print, find, more, read, fresh, write, close, remove, IsTitle}
 use Rattle.edi_meaning.specs.Whole.{words_of_value, words_of_values}

@@ -1,18 +1,21 @@
 -- Each operator on words is that on values.
-use Rattle.std.proofs.Common.{◌≡◌, ℕ, ◌<◌, ◌^◌, ℤ, pos, Bool, true, false, not, ◌&&◌, ◌||◌, List, [], ◌∷◌, length, take, IsTrue, refl, sym, ap, ap₂, subst, ◌∙◌, arith, get_or-take}
+use Rattle.std.proofs.Common.{◌≡◌, ℕ, ◌<◌, ◌^◌, ℤ, pos, Bool, true, false, not, ◌&&◌, ◌||◌, List, [], ◌∷◌, length, take, IsTrue, refl, sym, ap, ap₂, subst}
+use Rattle.std.proofs.Common.{◌∙◌, arith, get_or-take}
 use Rattle.std.specs.Prelude.{All, ◌==◌, bytes_eq, nat_lt, int_lt, int_le, if◌then◌else◌, Option, Some, None, IfSome}
 use Rattle.std.specs.Option.{option_map}
 use Rattle.std.proofs.lemmas.Bool.{false≢true}
 use Rattle.std.proofs.lemmas.Bool.Decides.{Decides-eqb}
 use Rattle.edi_word.specs.Integers.{is_int, int_sum, int_difference, int_product, int_quotient, int_remainder}
 use Rattle.edi_word.specs.Words.{signed, unsigned, word_add, word_sub, word_mul, word_div, word_modulo, WordsFollow}
-use Rattle.edi_word.specs.Sets.{IsOrdinalSet, ViewsAgree, words_of_members, set_has, set_union, set_minus, set_meet, words_union, words_minus, words_meet, word_has}
+use Rattle.edi_word.specs.Sets.{IsOrdinalSet, ViewsAgree, words_of_members, set_has, set_union, set_minus, set_meet, words_union, words_minus, words_meet}
+use Rattle.edi_word.specs.Sets.{word_has}
 use Rattle.edi_word.specs.SetViews.{AreSetWords-words_where, words_of_members-members_of}
 use Rattle.edi_word.proofs.IntLaws.{word_add_follows, word_sub_follows, word_mul_follows, word_div_follows, word_modulo_follows}
 use Rattle.edi_word.proofs.SetLaws.{members_of-words_of_members, IsOrdinalSet-members_where, union_agrees, minus_agrees, meet_agrees, has_agrees}
 use Rattle.edi_unit.specs.declared.expressions.Operator.{Operator}
 use Rattle.edi_unit.specs.declared.expressions.Operator.TheVariants as op
-use Rattle.edi_unit.specs.Types.{Shape, int, set_of, shape_at, int_type, bool_type, is_elementary, is_elementary_shape, is_ordinal_of, is_set_shape, named_types, ordinal_types}
+use Rattle.edi_unit.specs.Types.{Shape, int, set_of, shape_at, int_type, bool_type, is_elementary, is_elementary_shape, is_ordinal_of, is_set_shape}
+use Rattle.edi_unit.specs.Types.{named_types, ordinal_types}
 use Rattle.edi_unit.specs.Values.{Value, ordinal, members, IsOf, ordinal_of, is_true, truth, is_member, same_value, on_ints, on_ints_or_sets, apply, decides}
 use Rattle.edi_unit.specs.Need.{operator_type}
 use Rattle.edi_unit.specs.Fits.{OperatorFits}
@@ -21,8 +24,10 @@ use Rattle.edi_target.specs.Effect as effect
 use Rattle.edi_worded.specs.Words.{value_words, IsTable}
 use Rattle.edi_worded.proofs.Small.{ordinal_int}
 use Rattle.edi_worded.proofs.Alike.{words_tell_values}
-use Rattle.edi_operated.specs.Operated.{word_of, IsAlone, first_word, one_word, truth_word, on_either, operated, Follows, OperatorsFollow, DecidedIsResult, SignFollows, NegationFollows}
-use Rattle.edi_operated.proofs.Alone.{shape_int, standard_known, int_elementary, elementary_is_alone, elementary_ordinal, elementary_small, set_is_members, truth_words, truth_is_word, truth_is_tested}
+use Rattle.edi_operated.specs.Operated.{word_of, IsAlone, first_word, one_word, truth_word, on_either, operated, Follows, OperatorsFollow, DecidedIsResult}
+use Rattle.edi_operated.specs.Operated.{SignFollows, NegationFollows}
+use Rattle.edi_operated.proofs.Alone.{shape_int, standard_known, int_elementary, elementary_is_alone, elementary_ordinal, elementary_small, set_is_members}
+use Rattle.edi_operated.proofs.Alone.{truth_words, truth_is_word, truth_is_tested}
 use Rattle.edi_operated.proofs.Ints.{GivesInts, sum_gives, difference_gives, product_gives, quotient_gives, remainder_gives}
 
 -- ---- results that are truth values

@@ -1,5 +1,6 @@
 -- Words of contracts. What the instructions for operators make of the words of their operands, and that it is what the operators make of the values.
-use Rattle.std.specs.Prelude.{◌≡◌, ℕ, ◌-◌, ◌<◌, ℤ, pos, ◌-ℤ◌, nat_abs, nat_eq, nat_lt, int_lt, int_le, Bool, true, false, not, ◌&&◌, if◌then◌else◌, IsTrue, IfSome, List, [], ◌∷◌, length, slice_index, Option, Some, None}
+use Rattle.std.specs.Prelude.{◌≡◌, ℕ, ◌-◌, ◌<◌, ℤ, pos, ◌-ℤ◌, nat_abs, nat_eq, nat_lt, int_lt, int_le, Bool, true, false, not, ◌&&◌, if◌then◌else◌, IsTrue}
+use Rattle.std.specs.Prelude.{IfSome, List, [], ◌∷◌, length, slice_index, Option, Some, None}
 use Rattle.std.specs.Option.{option_map}
 use Rattle.std.specs.Str.{bytes_eq}
 use Rattle.edi_word.specs.Words.{signed, word_add, word_sub, word_mul, word_div, word_modulo}
@@ -7,7 +8,8 @@ use Rattle.edi_word.specs.Sets.{IsOrdinalSet, words_of_members, word_has, words_
 use Rattle.edi_unit.specs.declared.expressions.Operator.{Operator}
 use Rattle.edi_unit.specs.declared.expressions.Operator.TheVariants as op
 use Rattle.edi_unit.specs.Types.{Shape, char, bool, enumeration, shape_at, int_type, bool_type, is_elementary, is_set_shape, element_count, size}
-use Rattle.edi_unit.specs.Values.{Value, ordinal, members, IsOf, ordinal_of, is_true, truth, apply, decides, sign, negation, converted, with_ordinal, element_at}
+use Rattle.edi_unit.specs.Values.{Value, ordinal, members, IsOf, ordinal_of, is_true, truth, apply, decides, sign, negation, converted, with_ordinal}
+use Rattle.edi_unit.specs.Values.{element_at}
 use Rattle.edi_unit.specs.Need.{operator_type}
 use Rattle.edi_unit.specs.Fits.{OperatorFits}
 use Rattle.edi_target.specs.Op.{word_of_integer}

@@ -11,7 +11,8 @@ use Rattle.edi_grammar.specs.Edison.{edison}
 -- Waiting for the part before p, the predictive parser stops where it stops waiting for x before q; and what stands
 -- between p and q are the elements that f puts in front.
 pub record Goes (k : Sort) (n : ℕ) (f : List Element → List Element) (x : List (Part Sort)) (p q : List Mark) : Type 0 where
-  pub at : (y : List (Part Sort)) (w : Why) (r : List (Option Mark)) → level edison y 0 ≡ n → Stops edison 64 (x ++ y) (to_end q) w r → Stops edison 64 (part k ∷ y) (to_end p) w r
+  pub at : (y : List (Part Sort)) (w : Why) (r : List (Option Mark)) → level edison y 0 ≡ n → Stops edison 64 (x ++ y) (to_end q) w r
+      → Stops edison 64 (part k ∷ y) (to_end p) w r
   pub reads : (es : List Element) → StandAsMarks (marks_among es) q → StandAsMarks (marks_among (f es)) p
 
 -- the part stands between p and q, and is what f puts in front

@@ -15,7 +15,8 @@ redirected_other xs None v c ne = refl
 redirected_other xs (Some i) v c ne = get_or-set_other xs i c v None (λ e. ne (ap (λ k. Some k) (sym e)))
 
 -- a link written at a place leads where it says, and every other link as before
-pub step-same : (links : List (Option ℕ)) (end o v : Option ℕ) → ((c : ℕ) → o ≡ Some c → c < length links) → step (redirected links o v) (redirected_end end o v) o ≡ v
+pub step-same : (links : List (Option ℕ)) (end o v : Option ℕ) → ((c : ℕ) → o ≡ Some c → c < length links)
+    → step (redirected links o v) (redirected_end end o v) o ≡ v
 step-same links end None v within = refl
 step-same links end (Some i) v within = get_or-set_same links i v None (within i refl)
 
@@ -42,7 +43,8 @@ pub walk-Stands : (next prev : List (Option ℕ)) (e : Ends) (xs : List ℕ) →
 walk-Stands next prev e xs s = rw s.counted (walk-Runs next prev e.first e.last None xs s.runs)
 
 -- the arrays hold no other lists
-pub lists_in-IsLinked : (next prev home : List (Option ℕ)) (ends : List Ends) (lists : List (List ℕ)) → IsLinked next prev home ends lists → lists_in next ends ≡ lists
+pub lists_in-IsLinked : (next prev home : List (Option ℕ)) (ends : List Ends) (lists : List (List ℕ)) → IsLinked next prev home ends lists
+    → lists_in next ends ≡ lists
 lists_in-IsLinked next prev home ends lists h =
     same_lists (lists_in next ends) lists (length-map ends (λ e. walk next e.first e.len) ∙ sym h.as_many)
     (λ k d lt.

@@ -1,5 +1,6 @@
 -- What a call leaves behind, as its clauses say it.
-use Rattle.std.proofs.Common.{◌≡◌, ℕ, zero, suc, ◌+◌, ◌-◌, ◌<◌, ◌≤◌, inl, inr, cond, List, [], ◌∷◌, ◌++◌, length, refl, sym, ◌∙◌, ap, arith, subst, eqb, eq-eqb, get_or, set, get_or-set_same, get_or-set_other, length-set, add-one}
+use Rattle.std.proofs.Common.{◌≡◌, ℕ, zero, suc, ◌+◌, ◌-◌, ◌<◌, ◌≤◌, inl, inr, cond, List, [], ◌∷◌, ◌++◌, length, refl, sym, ◌∙◌, ap, arith, subst, eqb}
+use Rattle.std.proofs.Common.{eq-eqb, get_or, set, get_or-set_same, get_or-set_other, length-set, add-one}
 use Rattle.std.specs.Prelude.{Option, Some, None, IsSome, slice_get}
 use Rattle.std.proofs.lemmas.Bool.{cases_eq, ne_eqb}
 use Rattle.std.proofs.lemmas.List.{length_push}
@@ -46,7 +47,8 @@ among_at (x ∷ xs) zero n at_k = inl (cc)
 among_at (x ∷ xs) (suc k) n at_k = inr (among_at xs k n at_k)
 
 -- one home written
-home-set : (home : List (Option ℕ)) (node q : ℕ) (v : Option ℕ) → node < length home → get_or (set home node v) q None ≡ cond (eqb q node) v (get_or home q None)
+home-set : (home : List (Option ℕ)) (node q : ℕ) (v : Option ℕ) → node < length home → get_or (set home node v) q None ≡ cond (eqb q node) v
+    (get_or home q None)
 home-set home node q v lt =
     elim (cases_eq q node) [
       | inl same ↦ rw (eq-eqb q node same) (subst (λ (n : ℕ). get_or (set home node v) n None ≡ v) (sym same) (get_or-set_same home node v None lt))
@@ -78,7 +80,8 @@ module _ (nodes count : ℕ) (next prev home : List (Option ℕ)) (ends : List E
   index_within list k node at_k =
       moves.in_range next prev home ends lists linked nodes wide_next wide_prev wide_home list node (among_at (list_at lists list) k node at_k)
 
-  pub next_index : (list k node : ℕ) → list < count → slice_get (list_at lists list) k ≡ Some node → get_or next node None ≡ slice_get (list_at lists list) (k + 1)
+  pub next_index : (list k node : ℕ) → list < count → slice_get (list_at lists list) k ≡ Some node → get_or next node None ≡ slice_get (list_at lists list)
+      (k + 1)
   next_index list k node lt at_k =
       rw add-one (next-slice_get next prev _ _ _ (list_at lists list) k node (linked.stands list (omega (arith, many))).runs at_k)
 
@@ -111,7 +114,8 @@ module _ (nodes count : ℕ) (next prev home : List (Option ℕ)) (ends : List E
     pub room : e.len + 1 ≤ nodes
     room =
         let after = push_leaves in
-        let short = length-le-nodes nodes count (appended lists list node) list (subst (λ (seen : List (List ℕ)). IsSound nodes count seen) after.exact after.sound) in
+        let short = length-le-nodes nodes count (appended lists list node) list
+        (subst (λ (seen : List (List ℕ)). IsSound nodes count seen) after.exact after.sound) in
         let many_lists = linked.as_many in
         let index : list_at (appended lists list node) list ≡ list_at lists list ++ node ∷ [] = get_or-set_same lists list _ [] (omega arith) in
         let counted = (linked.stands list listed).counted in
@@ -145,7 +149,11 @@ module _ (nodes count : ℕ) (next prev home : List (Option ℕ)) (ends : List E
           (moves.following_in next prev home ends lists linked nodes wide_next wide_prev wide_home list node its_home c k)
 
       pub take_leaves : Leaves nodes count (redirected next preceding following) (redirected prev following preceding) (set home node None)
-          (set ends list (record { first = redirected_end here.first preceding following; last = redirected_end here.last following preceding; len = here.len - 1 }))
+          (set ends list (record {
+            first = redirected_end here.first preceding following;
+            last = redirected_end here.last following preceding;
+            len = here.len - 1;
+          }))
           (without lists node) (λ q. cond (eqb q node) None (home_of lists q))
       take_leaves =
           leaves nodes count _ _ _ _ _ _

@@ -1,5 +1,6 @@
 -- What each call makes of the arrays and of the lists that they hold.
-use Rattle.std.proofs.Common.{◌≡◌, ℕ, ◌+◌, ◌-◌, ◌<◌, inl, inr, List, [], ◌∷◌, ◌++◌, length, refl, sym, ◌∙◌, ap, arith, subst, get_or, set, get_or-set_same, get_or-set_other, length-set}
+use Rattle.std.proofs.Common.{◌≡◌, ℕ, ◌+◌, ◌-◌, ◌<◌, inl, inr, List, [], ◌∷◌, ◌++◌, length, refl, sym, ◌∙◌, ap, arith, subst, get_or, set, get_or-set_same}
+use Rattle.std.proofs.Common.{get_or-set_other, length-set}
 use Rattle.std.specs.Prelude.{Option, Some, None}
 use Rattle.std.proofs.lemmas.Bool.{cases_eq, cases_lt}
 use Rattle.std.proofs.lemmas.List.{length-map, length_push, get_or_past}
@@ -7,7 +8,8 @@ use Rattle.std.proofs.Math.ListN.{get_or-map as get_or-map_all}
 use Rattle.edi_ring.specs.declared.Ends.{Ends}
 use Rattle.edi_ring.specs.Lists.{list_at, appended, without}
 use Rattle.edi_ring.specs.Links.{step, redirected, redirected_end, Runs, ListStands, IsLinked, no_ends, IsAmong, NoneTwice}
-use Rattle.edi_ring.proofs.Chain.{runs_same, runs_unlinked, runs_pushed, prev_of, next_of, last_of, minus, minus_none, among-minus, minus_gone, minus_keeps, NoneTwice-minus, length-minus, among_push, among_kept, among-push, NoneTwice-push}
+use Rattle.edi_ring.proofs.Chain.{runs_same, runs_unlinked, runs_pushed, prev_of, next_of, last_of, minus, minus_none, among-minus, minus_gone, minus_keeps}
+use Rattle.edi_ring.proofs.Chain.{NoneTwice-minus, length-minus, among_push, among_kept, among-push, NoneTwice-push}
 use Rattle.edi_ring.proofs.Arrays.{redirected_other, step-same, step-other}
 use Rattle.edi_ring.proofs.Homes.{within}
 
@@ -86,7 +88,8 @@ module _ (next prev home : List (Option ℕ)) (ends : List Ends) (lists : List (
     at_other : (l : ℕ) → (l ≡ list → ⊥) → list_at (appended lists list node) l ≡ list_at lists l
     at_other l ne = get_or-set_other lists list l (xs ++ node ∷ []) [] ne
 
-    pushed_stands : (l : ℕ) → l < length (set ends list e') → ListStands next' prev' (get_or (set ends list e') l no_ends) (list_at (appended lists list node) l)
+    pushed_stands : (l : ℕ) → l < length (set ends list e') → ListStands next' prev' (get_or (set ends list e') l no_ends)
+        (list_at (appended lists list node) l)
     pushed_stands l lt =
         elim (cases_eq l list) [
           | inl same ↦
@@ -132,7 +135,8 @@ module _ (next prev home : List (Option ℕ)) (ends : List Ends) (lists : List (
         elim (cases_eq q node) [
           | inl same ↦
               let now : get_or (set home node (Some list)) node None ≡ Some list = get_or-set_same home node (Some list) None (omega arith) in
-              let there : get_or (set home node (Some list)) node None ≡ Some l = subst (λ (n : ℕ). get_or (set home node (Some list)) n None ≡ Some l) same k in
+              let there : get_or (set home node (Some list)) node None ≡ Some l = subst (λ (n : ℕ). get_or (set home node (Some list)) n None ≡ Some l) same
+              k in
               let is_it : list ≡ l = cc in
               rw (← is_it, at_list, same) (among_push node xs)
           | inr other ↦
@@ -213,7 +217,8 @@ module _ (next prev home : List (Option ℕ)) (ends : List Ends) (lists : List (
     left_at : (l : ℕ) → list_at (without lists node) l ≡ minus node (list_at lists l)
     left_at l = get_or-map_all (minus node) lists l []
 
-    left_stands : (l : ℕ) → l < length (set ends list left) → ListStands bridged_next bridged_prev (get_or (set ends list left) l no_ends) (list_at (without lists node) l)
+    left_stands : (l : ℕ) → l < length (set ends list left) → ListStands bridged_next bridged_prev (get_or (set ends list left) l no_ends)
+        (list_at (without lists node) l)
     left_stands l lt =
         elim (cases_eq l list) [
           | inl same ↦
@@ -237,7 +242,8 @@ module _ (next prev home : List (Option ℕ)) (ends : List Ends) (lists : List (
     left_homes : (l q : ℕ) → IsAmong q (list_at (without lists node) l) → get_or (set home node None) q None ≡ Some l
     left_homes l q i =
         let was : IsAmong q (minus node (list_at lists l)) = rw (left_at l) at i in
-        get_or-set_other home node q None None (λ same. minus_gone node (list_at lists l) (subst (λ (n : ℕ). IsAmong n (minus node (list_at lists l))) same was))
+        get_or-set_other home node q None None (λ same. minus_gone node (list_at lists l)
+        (subst (λ (n : ℕ). IsAmong n (minus node (list_at lists l))) same was))
         ∙ h.homes l q (among-minus node q (list_at lists l) was)
 
     left_among : (l q : ℕ) → get_or (set home node None) q None ≡ Some l → IsAmong q (list_at (without lists node) l)

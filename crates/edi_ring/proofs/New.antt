@@ -10,7 +10,8 @@ replicated a zero i = refl
 replicated a (suc n) zero = refl
 replicated a (suc n) (suc i) = replicated a n i
 
-pub IsLinked-new : (nodes count : ℕ) → IsLinked (replicate nodes None) (replicate nodes None) (replicate nodes None) (replicate count no_ends) (replicate count [])
+pub IsLinked-new : (nodes count : ℕ) → IsLinked (replicate nodes None) (replicate nodes None) (replicate nodes None) (replicate count no_ends)
+    (replicate count [])
 IsLinked-new nodes count = record {
   as_many = length-replicate count [] ∙ sym (length-replicate count no_ends);
   stands = λ l lt. rw (replicated no_ends count l, replicated {A = List ℕ} [] count l) (record { runs = (refl, refl); counted = refl });

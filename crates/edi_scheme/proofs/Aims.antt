@@ -1,5 +1,6 @@
 -- Where the instructions of a code lead: no target is at fault.
-use Rattle.std.proofs.Common.{◌≡◌, ℕ, ◌+◌, ◌-◌, ◌<◌, ◌≤◌, Bool, true, false, ◌&&◌, if◌then◌else◌, nat_lt, nat_le, List, [], ◌∷◌, ◌++◌, Option, None, length, map, drop, refl, ap, ◌∙◌, subst, arith, length-append}
+use Rattle.std.proofs.Common.{◌≡◌, ℕ, ◌+◌, ◌-◌, ◌<◌, ◌≤◌, Bool, true, false, ◌&&◌, if◌then◌else◌, nat_lt, nat_le, List, [], ◌∷◌, ◌++◌, Option, None, length}
+use Rattle.std.proofs.Common.{map, drop, refl, ap, ◌∙◌, subst, arith, length-append}
 use Rattle.std.proofs.lemmas.Bool.{le-leb, lt-ltb}
 use Rattle.edi_unit.specs.declared.expressions.Operator.{Operator}
 use Rattle.edi_unit.specs.declared.expressions.Operator.TheVariants as op
@@ -9,10 +10,12 @@ use Rattle.edi_unit.specs.Tree.{Clauses, no_clause, clause_then}
 use Rattle.edi_target.specs.Op as instruction
 use Rattle.edi_target.specs.Op.{Instruction, Branch, words_of}
 use Rattle.edi_target.specs.Decode.{decode}
-use Rattle.edi_target.specs.Check.{Way, ahead, back, enters, begins, is_start, starts_of, is_entry, targets_of, targets_fault, keeps, first_fault, or_else, unless}
+use Rattle.edi_target.specs.Check.{Way, ahead, back, enters, begins, is_start, starts_of, is_entry, targets_of, targets_fault, keeps, first_fault, or_else}
+use Rattle.edi_target.specs.Check.{unless}
 use Rattle.edi_target.specs.declared.code_fault.CodeFault.{CodeFault}
 use Rattle.edi_target.specs.declared.code_fault.CodeFault.TheVariants as fault
-use Rattle.edi_scheme.specs.Pieces.{Code, words_of_code, code_length, is_address, variable_code, element_code, on_sets, operation, decision, check_code, ClauseKind, once, repeated, released, close_code, again_code}
+use Rattle.edi_scheme.specs.Pieces.{Code, words_of_code, code_length, is_address, variable_code, element_code, on_sets, operation, decision, check_code}
+use Rattle.edi_scheme.specs.Pieces.{ClauseKind, once, repeated, released, close_code, again_code}
 use Rattle.edi_scheme.proofs.Laid.{Long}
 
 -- ---- codes without targets
@@ -112,7 +115,8 @@ module _ (words : List ℕ) where
     pub begins : is_entry (decode (drop a words)) ≡ true
 
   pub aims_entry : (at : ℕ) (i : Instruction) (target : ℕ) → targets_of i ≡ (enters, target) ∷ [] → Enters target → Aims at i
-  aims_entry at i target e h = aims_one at i (enters, target) e (both (is_start (starts_of words) target) (is_entry (decode (drop target words))) h.start h.begins)
+  aims_entry at i target e h = aims_one at i (enters, target) e
+      (both (is_start (starts_of words) target) (is_entry (decode (drop target words))) h.start h.begins)
 
   -- the branches of a `cobegin`
   pub data Begin : List Branch → Type 0 where
@@ -168,12 +172,14 @@ IsBeyond once target from to = to ≤ target
 IsBeyond repeated target from to = target ≤ from
 IsBeyond released target from to = to ≤ target
 
-pub beyond_part : (choice : ClauseKind) (target from to inner end : ℕ) → from ≤ inner → end ≤ to → IsBeyond choice target from to → IsBeyond choice target inner end
+pub beyond_part : (choice : ClauseKind) (target from to inner end : ℕ) → from ≤ inner → end ≤ to → IsBeyond choice target from to
+    → IsBeyond choice target inner end
 beyond_part once target from to inner end f e h = omega (arith, e, h)
 beyond_part repeated target from to inner end f e h = omega (arith, f, h)
 beyond_part released target from to inner end f e h = omega (arith, e, h)
 
-pub close_leads : (words : List ℕ) (choice : ClauseKind) (target at : ℕ) (cs : Clauses) → IsBeyond choice target at (at + code_length (close_code choice 0 cs)) → Good words target → Leads words (close_code choice target cs) at
+pub close_leads : (words : List ℕ) (choice : ClauseKind) (target at : ℕ) (cs : Clauses)
+    → IsBeyond choice target at (at + code_length (close_code choice 0 cs)) → Good words target → Leads words (close_code choice target cs) at
 close_leads words once target at no_clause h g = nothing
 close_leads words once target at (clause_then c cs) h g = leads_one words (aims_ahead words at (instruction.jump target) target refl g (omega (arith, h)))
 close_leads words repeated target at cs h g = leads_one words (aims_back words at (instruction.loop target) target refl g h)

@@ -1,5 +1,6 @@
 -- The calls of a unit that fits are at most ten different ones of 1 to 10, as a code has to have them.
-use Rattle.std.proofs.Common.{◌≡◌, ◌≢◌, ℕ, zero, suc, ◌+◌, ◌<◌, ◌≤◌, Bool, true, false, not, ◌&&◌, ◌||◌, ◌==◌, nat_le, eqb, List, [], ◌∷◌, ◌++◌, None, length, AllPairs, slice_index, slice_index_or, refl, ap, ◌∙◌, arith, eq-eqb}
+use Rattle.std.proofs.Common.{◌≡◌, ◌≢◌, ℕ, zero, suc, ◌+◌, ◌<◌, ◌≤◌, Bool, true, false, not, ◌&&◌, ◌||◌, ◌==◌, nat_le, eqb, List, [], ◌∷◌, ◌++◌, None}
+use Rattle.std.proofs.Common.{length, AllPairs, slice_index, slice_index_or, refl, ap, ◌∙◌, arith, eq-eqb}
 use Rattle.std.specs.List.{list_any}
 use Rattle.std.proofs.lemmas.Bool.{false≢true, eqb-true, ne_eqb, le-leb}
 use Rattle.std.proofs.lemmas.List.Folds.{list_any-append}
@@ -88,7 +89,8 @@ numbers_free before at (n ∷ ns) all apart new =
     let test : (nat_le 1 n && nat_le n 10 && not (list_any (λ m. m == n) before)) ≡ true =
     ap (λ b. b && nat_le n 10 && not (list_any (λ m. m == n) before)) one ∙ ap (λ b. b && not (list_any (λ m. m == n) before)) ten ∙ ap not new.0 in
     ap (λ b. or_else (unless b (fault.Header at n)) (numbers_fault (before ++ n ∷ []) (at + 1) ns)) test
-    ∙ numbers_free (before ++ n ∷ []) (at + 1) ns all.1 (λ i j d l m. apart (suc i) (suc j) d (omega (arith, l)) (omega (arith, m))) (one_more before n ns new.1 (apart_from n ns apart))
+    ∙ numbers_free (before ++ n ∷ []) (at + 1) ns all.1 (λ i j d l m. apart (suc i) (suc j) d (omega (arith, l)) (omega (arith, m)))
+    (one_more before n ns new.1 (apart_from n ns apart))
 
 pub nothing_before : (ns : List ℕ) → New [] ns
 nothing_before [] = tt

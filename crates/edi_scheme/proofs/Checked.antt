@@ -1,5 +1,6 @@
 -- The code of a unit that fits has no fault.
-use Rattle.std.proofs.Common.{◌≡◌, ℕ, zero, suc, ◌+◌, ◌*◌, ◌/◌, ◌^◌, ◌<◌, ◌≤◌, Bool, true, false, ◌&&◌, ◌==◌, if◌then◌else◌, nat_le, nat_lt, List, [], ◌∷◌, ◌++◌, All, Option, Some, None, IsTrue, length, drop, refl, sym, ap, ◌∙◌, subst, arith, inl, inr, ◌⊎◌, eq-eqb}
+use Rattle.std.proofs.Common.{◌≡◌, ℕ, zero, suc, ◌+◌, ◌*◌, ◌/◌, ◌^◌, ◌<◌, ◌≤◌, Bool, true, false, ◌&&◌, ◌==◌, if◌then◌else◌, nat_le, nat_lt, List, [], ◌∷◌}
+use Rattle.std.proofs.Common.{◌++◌, All, Option, Some, None, IsTrue, length, drop, refl, sym, ap, ◌∙◌, subst, arith, inl, inr, ◌⊎◌, eq-eqb}
 use Rattle.std.proofs.Math.Nat.{eq-or-lt_of_le}
 use Rattle.std.proofs.lemmas.Bool.{false≢true, le-leb, lt-ltb}
 use Rattle.std.proofs.lemmas.List.Sums.{sum_by-cons}
@@ -16,7 +17,8 @@ use Rattle.edi_target.specs.Op as instruction
 use Rattle.edi_target.specs.Op.{Instruction, words_of}
 use Rattle.edi_target.specs.Decode.{decode}
 use Rattle.edi_target.specs.Fetch.{fetch}
-use Rattle.edi_target.specs.Check.{is_start, starts_of, is_entry, is_program, first_fault, operation_fault, jump_fault, entry_fault, fields_fault, numbers_fault, words_fault, parts_fault, or_else, unless}
+use Rattle.edi_target.specs.Check.{is_start, starts_of, is_entry, is_program, first_fault, operation_fault, jump_fault, entry_fault, fields_fault}
+use Rattle.edi_target.specs.Check.{numbers_fault, words_fault, parts_fault, or_else, unless}
 use Rattle.edi_target.specs.declared.code_fault.CodeFault.TheVariants as fault
 use Rattle.edi_scheme.specs.Pieces.{Code, is_branch, result_words, function_flag, entry_of, return_of}
 use Rattle.edi_scheme.specs.Code.{acts_code, entry, block_code, blocks_code, code_of}
@@ -42,7 +44,9 @@ same_program count (instruction.const v) m n = refl
 same_program count i m n = refl
 
 -- a test of what is decoded, where an instruction is fetched
-fetched_test : (test : Option (Instruction × ℕ) → Bool) → ((i : Instruction) (m n : ℕ) → test (Some (i, m)) ≡ test (Some (i, n))) → (o : Option (Instruction × ℕ)) (at : ℕ) → test o ≡ test (elim o as (λ _. Option (Instruction × ℕ)) [ None ↦ None | Some found ↦ Some (found.0, at + found.1) ])
+fetched_test : (test : Option (Instruction × ℕ) → Bool) → ((i : Instruction) (m n : ℕ) → test (Some (i, m)) ≡ test (Some (i, n)))
+    → (o : Option (Instruction × ℕ)) (at : ℕ)
+    → test o ≡ test (elim o as (λ _. Option (Instruction × ℕ)) [ None ↦ None | Some found ↦ Some (found.0, at + found.1) ])
 fetched_test test same None at = refl
 fetched_test test same (Some (i, n)) at = same i n (at + n)
 
@@ -68,7 +72,8 @@ formal_words types (p ∷ ps) all =
     let rest = formal_words types ps (λ k d h. all (suc k) d (omega (arith, h))) in
     omega (arith, sum_by-cons (slot_words types) p ps, three, rest)
 
-program_test : (types : List Shape) (r : Option ℕ) (p count : ℕ) → r ≡ None → p ≡ 3 * count → (result_words types r == 0 && p == 3 * count && function_flag r == 0) ≡ true
+program_test : (types : List Shape) (r : Option ℕ) (p count : ℕ) → r ≡ None → p ≡ 3 * count
+    → (result_words types r == 0 && p == 3 * count && function_flag r == 0) ≡ true
 program_test types None p count e h = ap (λ b. 0 == 0 && b && 0 == 0) (eq-eqb p (3 * count) h)
 program_test types (Some t) p count e h = let no : None ≡ Some t = sym e in absurd (cc)
 
@@ -85,16 +90,19 @@ module _ (words : List ℕ) where
       ∙ no_jump code (at + length (words_of i)) rest
 
   -- the first instruction of a block
-  first_good : (test : Bool) (x : Code) (last i : Instruction) (y : Code) (at : ℕ) → Starts (Good words) (if test then x ++ last ∷ [] else (i ∷ y)) at → Good words at
+  first_good : (test : Bool) (x : Code) (last i : Instruction) (y : Code) (at : ℕ) → Starts (Good words) (if test then x ++ last ∷ [] else (i ∷ y)) at
+      → Good words at
   first_good true x last i y at h = covers_start (Good words) x at (covers_before (Good words) x last [] at h)
   first_good false x last i y at h = h.each at (inl refl)
 
-  either_block : (test : Bool) (x y : Code) (at : ℕ) → (Starts (Good words) x at → Leads words x at) → (Starts (Good words) y at → Leads words y at) → Starts (Good words) (if test then x else y) at → Leads words (if test then x else y) at
+  either_block : (test : Bool) (x y : Code) (at : ℕ) → (Starts (Good words) x at → Leads words x at) → (Starts (Good words) y at → Leads words y at)
+      → Starts (Good words) (if test then x else y) at → Leads words (if test then x else y) at
   either_block true x y at f g h = f h
   either_block false x y at f g h = g h
 
 -- the starts in the first blocks, and in one of them
-block_starts : (good : ℕ → Type 0) (types : List Shape) (blocks : List Block) (count n : ℕ) → n < count → Starts good (blocks_code types blocks count) 0 → Starts good (block_code types blocks (entry types blocks n) n) (entry types blocks n)
+block_starts : (good : ℕ → Type 0) (types : List Shape) (blocks : List Block) (count n : ℕ) → n < count → Starts good (blocks_code types blocks count) 0
+    → Starts good (block_code types blocks (entry types blocks n) n) (entry types blocks n)
 block_starts good types blocks zero n k h = absurd (omega (arith, k))
 block_starts good types blocks (suc count) n k h =
     cases (λ less. block_starts good types blocks count n less (starts_front good front last 0 h)) (eq-or-lt_of_le (omega (arith, k)))
@@ -105,7 +113,8 @@ block_starts good types blocks (suc count) n k h =
     last : Code
     last = block_code types blocks (entry types blocks count) count
 
-    cases : (n < count → Starts good (block_code types blocks (entry types blocks n) n) (entry types blocks n)) → (n ≡ count) ⊎ (n < count) → Starts good (block_code types blocks (entry types blocks n) n) (entry types blocks n)
+    cases : (n < count → Starts good (block_code types blocks (entry types blocks n) n) (entry types blocks n)) → (n ≡ count) ⊎ (n < count)
+        → Starts good (block_code types blocks (entry types blocks n) n) (entry types blocks n)
     cases before (inr less) = before less
     cases before (inl same) =
         subst (λ m. Starts good (block_code types blocks (entry types blocks m) m) (entry types blocks m)) (sym same)
@@ -126,7 +135,8 @@ module _ (unit : ProgramUnit) (fits : Fits unit) (parts : HaveParts unit.types) 
 
   starts_same : starts_of words ≡ starts words code 0
   starts_same =
-      starts_are words code 0 (blocks_allowed types fits.table parts fits.shapes blocks fits.headings fits.fits_blocks (length blocks) (omega arith)) refl (omega arith)
+      starts_are words code 0 (blocks_allowed types fits.table parts fits.shapes blocks fits.headings fits.fits_blocks (length blocks) (omega arith)) refl
+      (omega arith)
 
   all_start : Starts (Good words) code 0
   all_start = record { each = λ a k. ap (λ s. is_start s a) starts_same ∙ position_start words code 0 a k }
@@ -139,7 +149,8 @@ module _ (unit : ProgramUnit) (fits : Fits unit) (parts : HaveParts unit.types) 
 
   procedure : (n : ℕ) → n < length blocks → is_branch (block_at blocks n).kind ≡ false → IsProcedure (fetch words) types blocks (entry types blocks) n
   procedure n h e =
-      subst (λ t. Either t (IsBranch (fetch words) types blocks (entry types blocks) n) (IsProcedure (fetch words) types blocks (entry types blocks) n)) e (code_stands unit fits parts n h)
+      subst (λ t. Either t (IsBranch (fetch words) types blocks (entry types blocks) n) (IsProcedure (fetch words) types blocks (entry types blocks) n)) e
+      (code_stands unit fits parts n h)
 
   enters : (n : ℕ) → n < length blocks → IsTrue (is_called (block_at blocks n).kind) → Enters words (entry types blocks n)
   enters n h c = record {
@@ -156,7 +167,8 @@ module _ (unit : ProgramUnit) (fits : Fits unit) (parts : HaveParts unit.types) 
       let first = entry_of types (block_at blocks n) in
       let last = return_of types (block_at blocks n) in
       let list = λ (from : ℕ). acts_code types blocks (entry types blocks) n from body in
-      let lead = λ (from : ℕ). acts_lead words types blocks fits.headings (entry types blocks) enters entry_good n body from (fits.fits_blocks n h).statements in
+      let lead = λ (from : ℕ). acts_lead words types blocks fits.headings (entry types blocks) enters entry_good n body from
+      (fits.fits_blocks n h).statements in
       either_block words (is_branch (block_at blocks n).kind) (list at ++ instruction.exit ∷ []) (first ∷ (list (at + 6) ++ last ∷ [])) at
       (λ s.
       leads_append words _ (acts_are_long types blocks (entry types blocks) n body at) (lead at (covers_before (Good words) (list at) instruction.exit [] at s))
@@ -164,7 +176,8 @@ module _ (unit : ProgramUnit) (fits : Fits unit) (parts : HaveParts unit.types) 
       (λ s.
       let rest = starts_back (Good words) (first ∷ []) (list (at + 6) ++ last ∷ []) at 6 (long_one first) s in
       leads_then (record { free = refl })
-      (leads_append words _ (acts_are_long types blocks (entry types blocks) n body (at + 6)) (lead (at + 6) (covers_before (Good words) (list (at + 6)) last [] (at + 6) rest))
+      (leads_append words _ (acts_are_long types blocks (entry types blocks) n body (at + 6))
+      (lead (at + 6) (covers_before (Good words) (list (at + 6)) last [] (at + 6) rest))
       (leads_one words (record { free = refl }))))
       (starts_in n h)
 
@@ -196,7 +209,8 @@ module _ (unit : ProgramUnit) (fits : Fits unit) (parts : HaveParts unit.types) 
   pub no_words : words_fault true words 0 (length unit.calls) ≡ None
   unfolding words_fault
   no_words =
-      ap (λ o. or_else o (or_else (first_fault (jump_fault words (starts_of words)) (starts_of words)) (entry_fault words (starts_of words) 0 (length unit.calls))))
+      ap (λ o. or_else o (or_else (first_fault (jump_fault words (starts_of words)) (starts_of words))
+      (entry_fault words (starts_of words) 0 (length unit.calls))))
       (ap (first_fault (operation_fault true)) starts_same ∙ no_operation words code 0)
       ∙ ap (λ o. or_else o (entry_fault words (starts_of words) 0 (length unit.calls)))
       (ap (first_fault (jump_fault words (starts_of words))) starts_same ∙ no_jump words code 0 (blocks_lead (length blocks) (omega arith)))
@@ -218,7 +232,8 @@ module _ (unit : ProgramUnit) (fits : Fits unit) (parts : HaveParts unit.types) 
       fields (length words) unit.calls long_enough small (at_most_ten unit.calls numbers fits.fits_calls.distinct)
       (numbers_free [] 13 unit.calls numbers fits.fits_calls.distinct (nothing_before unit.calls))
     where
-      fields : (count : ℕ) (ns : List ℕ) → 1 ≤ count → count ≤ 4194304 → length ns ≤ 10 → numbers_fault [] 13 ns ≡ None → fields_fault count 0 (length ns) ns ≡ None
+      fields : (count : ℕ) (ns : List ℕ) → 1 ≤ count → count ≤ 4194304 → length ns ≤ 10 → numbers_fault [] 13 ns ≡ None → fields_fault count 0 (length ns) ns
+          ≡ None
       fields count ns some small few free =
           let third = or_else (unless (nat_le (length ns) 10) (fault.Header 12 (length ns))) (numbers_fault [] 13 ns) in
           let second = or_else (unless (nat_lt 0 count) (fault.Header 8 (0 / 2 ^ 24))) third in

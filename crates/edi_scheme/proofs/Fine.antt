@@ -1,5 +1,6 @@
 -- Each instruction of the code of a unit that fits has operands that are allowed.
-use Rattle.std.proofs.Common.{◌≡◌, ℕ, zero, suc, ◌+◌, ◌-◌, ◌^◌, ◌<◌, ◌≤◌, pos, Bool, true, false, ◌&&◌, nat_le, nat_lt, if◌then◌else◌, List, [], ◌∷◌, length, map, All, Option, Some, None, IfSome, refl, arith}
+use Rattle.std.proofs.Common.{◌≡◌, ℕ, zero, suc, ◌+◌, ◌-◌, ◌^◌, ◌<◌, ◌≤◌, pos, Bool, true, false, ◌&&◌, nat_le, nat_lt, if◌then◌else◌, List, [], ◌∷◌, length}
+use Rattle.std.proofs.Common.{map, All, Option, Some, None, IfSome, refl, arith}
 use Rattle.std.specs.List.{list_all}
 use Rattle.std.specs.Option.{option_map}
 use Rattle.std.proofs.lemmas.Bool.{false≢true, le-leb, lt-ltb}
@@ -9,15 +10,23 @@ use Rattle.edi_unit.specs.declared.expressions.Operator.TheVariants as op
 use Rattle.edi_unit.specs.declared.expressions.Callee.{Callee}
 use Rattle.edi_unit.specs.declared.expressions.Callee.TheVariants as callee
 use Rattle.edi_unit.specs.declared.units.Parameter.{Parameter}
-use Rattle.edi_unit.specs.Types.{Shape, int, char, bool, enumeration, record_of, array_of, set_of, shape_at, is_set_shape, size, named_types, greatest_size, IsTypeTable, HasOrderedBounds}
-use Rattle.edi_unit.specs.Tree.{Expression, constant, load, not_of, sign_of, chain, make, convert, apply_of, Expressions, no_expression, expression_then, link, Links, no_link, link_then, Place, place, Part, field, index, Parts, no_part, part_then, by_value, by_variable, by_procedure, Arguments, no_argument, argument_then, Act, skip, assign, call, halt, if_act, while_act, when_act, cobegin, Acts, no_act, act_then, Clause, clause, Clauses, no_clause, clause_then, Block}
+use Rattle.edi_unit.specs.Types.{Shape, int, char, bool, enumeration, record_of, array_of, set_of, shape_at, is_set_shape, size, named_types, greatest_size}
+use Rattle.edi_unit.specs.Types.{IsTypeTable, HasOrderedBounds}
+use Rattle.edi_unit.specs.Tree.{Expression, constant, load, not_of, sign_of, chain, make, convert, apply_of, Expressions, no_expression, expression_then}
+use Rattle.edi_unit.specs.Tree.{link, Links, no_link, link_then, Place, place, Part, field, index, Parts, no_part, part_then, by_value, by_variable}
+use Rattle.edi_unit.specs.Tree.{by_procedure, Arguments, no_argument, argument_then, Act, skip, assign, call, halt, if_act, while_act, when_act, cobegin}
+use Rattle.edi_unit.specs.Tree.{Acts, no_act, act_then, Clause, clause, Clauses, no_clause, clause_then, Block}
 use Rattle.edi_unit.specs.Need.{block_at, slot_at, slot_type, part_type, operator_type, place_type, expression_type}
-use Rattle.edi_unit.specs.Fits.{ShapesFit, ShapeFits, Heading, Formals, no_formal, value_then, variable_then, procedure_then, CalleeFits, ExpressionFits, ExpressionsFit, LinksFit, PlaceFits, PartFits, PartsFit, ArgumentsFit, BranchFits, ActFits, ActsFit, ClauseFits, ClausesFit, BlockFits}
+use Rattle.edi_unit.specs.Fits.{ShapesFit, ShapeFits, Heading, Formals, no_formal, value_then, variable_then, procedure_then, CalleeFits, ExpressionFits}
+use Rattle.edi_unit.specs.Fits.{ExpressionsFit, LinksFit, PlaceFits, PartFits, PartsFit, ArgumentsFit, BranchFits, ActFits, ActsFit, ClauseFits, ClausesFit}
+use Rattle.edi_unit.specs.Fits.{BlockFits}
 use Rattle.edi_meaning.specs.Step.{is_quiet}
 use Rattle.edi_target.specs.Op.{Instruction, Branch, has_frame, is_count, is_integer}
-use Rattle.edi_scheme.specs.Pieces.{Code, is_branch, is_address, function_flag, entry_of, variable_code, element_code, on_sets, operation, decision, check_code, constant_words, row_code, ClauseKind, once, repeated, released, close_code, again_code}
+use Rattle.edi_scheme.specs.Pieces.{Code, is_branch, is_address, function_flag, entry_of, variable_code, element_code, on_sets, operation, decision}
+use Rattle.edi_scheme.specs.Pieces.{check_code, constant_words, row_code, ClauseKind, once, repeated, released, close_code, again_code}
 use Rattle.edi_scheme.specs.Laws.{HaveParts}
-use Rattle.edi_scheme.specs.Code.{call_code, procedure_code, expression_code, expressions_code, members_code, links_code, place_code, parts_code, part_code, arguments_code, act_code, acts_code, clause_code, clauses_code, entry, block_code, blocks_code}
+use Rattle.edi_scheme.specs.Code.{call_code, procedure_code, expression_code, expressions_code, members_code, links_code, place_code, parts_code, part_code}
+use Rattle.edi_scheme.specs.Code.{arguments_code, act_code, acts_code, clause_code, clauses_code, entry, block_code, blocks_code}
 use Rattle.edi_scheme.proofs.Laid.{Allowed, AreAllowed, none, one_then, allowed_append, allowed_one}
 use Rattle.edi_scheme.proofs.Known as known
 use Rattle.edi_scheme.proofs.Known.{ordinal_integer}
@@ -101,13 +110,15 @@ again_allowed false target = allowed_one (record { operands = refl; integers = r
 
 -- ---- the constructs of a block
 
-module _ (types : List Shape) (table : IsTypeTable types) (parts : HaveParts types) (shapes : ShapesFit types) (blocks : List Block) (headings : ℕ → ℕ → Heading) (each : (n : ℕ) → n < length blocks → BlockFits types blocks headings n) (entry : ℕ → ℕ) where
+module _ (types : List Shape) (table : IsTypeTable types) (parts : HaveParts types) (shapes : ShapesFit types) (blocks : List Block)
+    (headings : ℕ → ℕ → Heading) (each : (n : ℕ) → n < length blocks → BlockFits types blocks headings n) (entry : ℕ → ℕ) where
   needs_frame : (n : ℕ) → n < length blocks → 5 ≤ (block_at blocks n).need
   needs_frame n h = let is = (each n h).needs in omega (arith, is)
 
   module _ (b : ℕ) (inside : b < length blocks) where
     -- the bounds of an array are ordinals of its index type, which is one of the table
-    element_allowed : (s : Shape) (line : ℕ) → HasOrderedBounds s → ShapeFits types s → All (λ u. u < length types) (named_types s) → AreAllowed (element_code types s line)
+    element_allowed : (s : Shape) (line : ℕ) → HasOrderedBounds s → ShapeFits types s → All (λ u. u < length types) (named_types s)
+        → AreAllowed (element_code types s line)
     element_allowed int line o f k = none
     element_allowed char line o f k = none
     element_allowed bool line o f k = none
@@ -118,7 +129,8 @@ module _ (types : List Shape) (table : IsTypeTable types) (parts : HaveParts typ
         let of = shapes i (k 0 0 (omega arith)) in
         allowed_one (record {
           operands = grind (arith, o);
-          integers = both (is_integer lo) (is_integer hi) (ordinal_integer types (shape_at types i) lo of f.0) (ordinal_integer types (shape_at types i) hi of f.1);
+          integers = both (is_integer lo) (is_integer hi) (ordinal_integer types (shape_at types i) lo of f.0)
+              (ordinal_integer types (shape_at types i) hi of f.1);
         })
 
     call_allowed : (c : Callee) (line : ℕ) → CalleeFits blocks b c → AreAllowed (call_code types blocks entry b c line)
@@ -127,7 +139,8 @@ module _ (types : List Shape) (table : IsTypeTable types) (parts : HaveParts typ
 
     procedure_allowed : (c : Callee) → CalleeFits blocks b c → AreAllowed (procedure_code types blocks entry b c)
     procedure_allowed (callee.Block levels n) h = allowed_one (record { operands = le-leb levels 64 h.0; integers = refl })
-    procedure_allowed (callee.Formal levels v) h = one_then (record { operands = le-leb levels 64 h.0; integers = refl }) (allowed_one (record { operands = refl; integers = refl }))
+    procedure_allowed (callee.Formal levels v) h = one_then (record { operands = le-leb levels 64 h.0; integers = refl })
+        (allowed_one (record { operands = refl; integers = refl }))
 
     abbrev count : Expressions → ℕ
     count = known.count_of types table parts blocks headings each b inside
@@ -156,7 +169,8 @@ module _ (types : List Shape) (table : IsTypeTable types) (parts : HaveParts typ
     known_expression : (e : Expression) → ExpressionFits types blocks headings b e → expression_type types blocks b e < length types
     known_expression = known.expression_known types table parts blocks headings each b inside
 
-    row_allowed : (ws : Option (List ℕ)) (code : Code) (n : ℕ) → (n ≤ greatest_size) → 1 ≤ n → IfSome ws (λ ws. length ws ≡ n) → AreAllowed code → AreAllowed (row_code ws code)
+    row_allowed : (ws : Option (List ℕ)) (code : Code) (n : ℕ) → (n ≤ greatest_size) → 1 ≤ n → IfSome ws (λ ws. length ws ≡ n) → AreAllowed code
+        → AreAllowed (row_code ws code)
     row_allowed None code n small some long h = h
     row_allowed (Some ws) code n small some long h =
         allowed_one (record { operands = count_allowed (length ws) (omega (arith, some, long)) (omega (arith, small, long)); integers = refl })
@@ -184,27 +198,32 @@ module _ (types : List Shape) (table : IsTypeTable types) (parts : HaveParts typ
       expressions_allowed no_expression at h = none
       expressions_allowed (expression_then e es) at h = allowed_append (expression_allowed e at h.0) (expressions_allowed es _ h.1)
 
-      members_allowed : (line : ℕ) (es : Expressions) (at : ℕ) → ExpressionsFit types blocks headings b es → AreAllowed (members_code types blocks entry b at line es)
+      members_allowed : (line : ℕ) (es : Expressions) (at : ℕ) → ExpressionsFit types blocks headings b es
+          → AreAllowed (members_code types blocks entry b at line es)
       members_allowed line no_expression at h = none
       members_allowed line (expression_then e es) at h =
           allowed_append (expression_allowed e at h.0) (one_then (record { operands = refl; integers = refl }) (members_allowed line es _ h.1))
 
-      links_allowed : (t : ℕ) (ls : Links) (at : ℕ) → t < length types → LinksFit types blocks headings b t ls → AreAllowed (links_code types blocks entry b at t ls)
+      links_allowed : (t : ℕ) (ls : Links) (at : ℕ) → t < length types → LinksFit types blocks headings b t ls
+          → AreAllowed (links_code types blocks entry b at t ls)
       links_allowed t no_link at k h = none
       links_allowed t (link_then (link o e line) ls) at k h =
           allowed_append (decision_allowed o _)
           (allowed_append (expression_allowed e _ h.1)
-          (allowed_append (operation_allowed types t o line (positive t k)) (links_allowed (operator_type o t) ls _ (known.operator_known types table parts o t k) h.2)))
+          (allowed_append (operation_allowed types t o line (positive t k))
+          (links_allowed (operator_type o t) ls _ (known.operator_known types table parts o t k) h.2)))
 
       place_allowed : (p : Place) (at : ℕ) → PlaceFits types blocks headings b p → AreAllowed (place_code types blocks entry b at p)
       place_allowed (place levels v ps) at h =
           allowed_append (variable_allowed levels _ (slot_at blocks b levels v) h.0)
           (parts_allowed (slot_type (slot_at blocks b levels v)) ps _ (known.root_known types table parts blocks headings each b inside levels v h.1) h.2)
 
-      parts_allowed : (t : ℕ) (ps : Parts) (at : ℕ) → t < length types → PartsFit types blocks headings b t ps → AreAllowed (parts_code types blocks entry b at t ps)
+      parts_allowed : (t : ℕ) (ps : Parts) (at : ℕ) → t < length types → PartsFit types blocks headings b t ps
+          → AreAllowed (parts_code types blocks entry b at t ps)
       parts_allowed t no_part at k h = none
       parts_allowed t (part_then p ps) at k h =
-          allowed_append (part_allowed t p at k h.0) (parts_allowed (part_type types t p) ps _ (known.part_known types table parts blocks headings each b inside t p k) h.1)
+          allowed_append (part_allowed t p at k h.0)
+          (parts_allowed (part_type types t p) ps _ (known.part_known types table parts blocks headings each b inside t p k) h.1)
 
       part_allowed : (t : ℕ) (p : Part) (at : ℕ) → t < length types → PartFits types blocks headings b t p → AreAllowed (part_code types blocks entry b at t p)
       part_allowed t (field n) at k h = allowed_one (record { operands = refl; integers = refl })
@@ -212,11 +231,13 @@ module _ (types : List Shape) (table : IsTypeTable types) (parts : HaveParts typ
           allowed_append (expression_allowed e at h.1)
           (element_allowed (shape_at types t) line (table.declared t k).ordered (shapes t k) (known.names_known types table parts t k))
 
-      arguments_allowed : (xs : Arguments) (fs : Formals) (at : ℕ) → ArgumentsFit types blocks headings b xs fs → AreAllowed (arguments_code types blocks entry b at xs)
+      arguments_allowed : (xs : Arguments) (fs : Formals) (at : ℕ) → ArgumentsFit types blocks headings b xs fs
+          → AreAllowed (arguments_code types blocks entry b at xs)
       arguments_allowed no_argument fs at h = none
       arguments_allowed (argument_then (by_value e) xs) (value_then t fs) at h = allowed_append (expression_allowed e at h.1) (arguments_allowed xs fs _ h.2)
       arguments_allowed (argument_then (by_variable p) xs) (variable_then t fs) at h = allowed_append (place_allowed p at h.1) (arguments_allowed xs fs _ h.2)
-      arguments_allowed (argument_then (by_procedure c) xs) (procedure_then hd fs) at h = allowed_append (procedure_allowed c h.1) (arguments_allowed xs fs _ h.2)
+      arguments_allowed (argument_then (by_procedure c) xs) (procedure_then hd fs) at h = allowed_append (procedure_allowed c h.1)
+          (arguments_allowed xs fs _ h.2)
       arguments_allowed (argument_then (by_value e) xs) no_formal at h = absurd h
       arguments_allowed (argument_then (by_value e) xs) (variable_then t fs) at h = absurd h
       arguments_allowed (argument_then (by_value e) xs) (procedure_then hd fs) at h = absurd h
@@ -227,7 +248,8 @@ module _ (types : List Shape) (table : IsTypeTable types) (parts : HaveParts typ
       arguments_allowed (argument_then (by_procedure c) xs) (value_then t fs) at h = absurd h
       arguments_allowed (argument_then (by_procedure c) xs) (variable_then t fs) at h = absurd h
 
-    branches_allowed : (bs : List ℕ) → All (BranchFits types blocks headings b) bs → list_all has_frame (map (λ n. record { need = (block_at blocks n).need; address = entry n }) bs) ≡ true
+    branches_allowed : (bs : List ℕ) → All (BranchFits types blocks headings b) bs
+        → list_all has_frame (map (λ n. record { need = (block_at blocks n).need; address = entry n }) bs) ≡ true
     branches_allowed [] h = refl
     branches_allowed (n ∷ bs) h =
         both (nat_le 5 (block_at blocks n).need) _ (le-leb 5 _ (needs_frame n (h 0 n (omega arith)).0))
@@ -251,7 +273,8 @@ module _ (types : List Shape) (table : IsTypeTable types) (parts : HaveParts typ
           let some = h.0 in
           let few = h.1 in
           allowed_one (record {
-            operands = both (is_count (length (map branch bs))) _ (count_allowed (length (map branch bs)) (omega (arith, long, some)) (omega (arith, long, few))) (branches_allowed bs h.2);
+            operands = both (is_count (length (map branch bs))) _
+                (count_allowed (length (map branch bs)) (omega (arith, long, some)) (omega (arith, long, few))) (branches_allowed bs h.2);
             integers = refl;
           })
 
@@ -263,7 +286,8 @@ module _ (types : List Shape) (table : IsTypeTable types) (parts : HaveParts typ
       clause_allowed (clause e s) next at h =
           allowed_append (expression_allowed e at h.1) (one_then (record { operands = refl; integers = refl }) (acts_allowed s _ h.2))
 
-      clauses_allowed : (choice : ClauseKind) (cs : Clauses) (target at : ℕ) → ClausesFit types blocks headings b cs → AreAllowed (clauses_code types blocks entry b choice target at cs)
+      clauses_allowed : (choice : ClauseKind) (cs : Clauses) (target at : ℕ) → ClausesFit types blocks headings b cs
+          → AreAllowed (clauses_code types blocks entry b choice target at cs)
       clauses_allowed choice no_clause target at h = none
       clauses_allowed choice (clause_then c cs) target at h =
           allowed_append (clause_allowed c _ at h.0) (allowed_append (close_allowed choice target cs) (clauses_allowed choice cs target _ h.1))
@@ -274,7 +298,8 @@ flag_allowed : (r : Option ℕ) → nat_le (function_flag r) 1 ≡ true
 flag_allowed None = refl
 flag_allowed (Some t) = refl
 
-module _ (types : List Shape) (table : IsTypeTable types) (parts : HaveParts types) (shapes : ShapesFit types) (blocks : List Block) (headings : ℕ → ℕ → Heading) (each : (n : ℕ) → n < length blocks → BlockFits types blocks headings n) where
+module _ (types : List Shape) (table : IsTypeTable types) (parts : HaveParts types) (shapes : ShapesFit types) (blocks : List Block)
+    (headings : ℕ → ℕ → Heading) (each : (n : ℕ) → n < length blocks → BlockFits types blocks headings n) where
   entry_allowed : (n : ℕ) → n < length blocks → Allowed (entry_of types (block_at blocks n))
   entry_allowed n h =
       let is = (each n h).needs in
@@ -286,7 +311,8 @@ module _ (types : List Shape) (table : IsTypeTable types) (parts : HaveParts typ
       let list = acts_allowed types table parts shapes blocks headings each (entry types blocks) n h (block_at blocks n).body in
       either_allowed (is_branch (block_at blocks n).kind)
       (λ q. allowed_append (list at (each n h).statements) (allowed_one (record { operands = refl; integers = refl })))
-      (λ q. one_then (entry_allowed n h) (allowed_append (list (at + 6) (each n h).statements) (allowed_one (record { operands = flag_allowed (block_at blocks n).result; integers = refl }))))
+      (λ q. one_then (entry_allowed n h) (allowed_append (list (at + 6) (each n h).statements)
+      (allowed_one (record { operands = flag_allowed (block_at blocks n).result; integers = refl }))))
 
   pub blocks_allowed : (n : ℕ) → n ≤ length blocks → AreAllowed (blocks_code types blocks n)
   blocks_allowed zero h = none

@@ -1,5 +1,6 @@
 -- What a unit that fits names: types of at least one word and at most 65,535, and blocks that need at least five.
-use Rattle.std.proofs.Common.{◌≡◌, ℕ, zero, suc, ◌+◌, ◌<◌, ◌≤◌, ℤ, pos, negsuc, ◌+ℤ◌, ◌-ℤ◌, ◌≤ℤ◌, true, false, List, [], ◌∷◌, ◌++◌, length, map, All, Option, Some, None, IsTrue, IfSome, refl, sym, ap, ◌∙◌, arith, replicate, sum_by, slice_get, option_to_list}
+use Rattle.std.proofs.Common.{◌≡◌, ℕ, zero, suc, ◌+◌, ◌<◌, ◌≤◌, ℤ, pos, negsuc, ◌+ℤ◌, ◌-ℤ◌, ◌≤ℤ◌, true, false, List, [], ◌∷◌, ◌++◌, length, map, All, Option}
+use Rattle.std.proofs.Common.{Some, None, IsTrue, IfSome, refl, sym, ap, ◌∙◌, arith, replicate, sum_by, slice_get, option_to_list}
 use Rattle.std.specs.Prelude.{unwrap_or}
 use Rattle.std.proofs.lemmas.Bool.{false≢true}
 use Rattle.std.proofs.lemmas.List.{length-replicate}
@@ -11,9 +12,12 @@ use Rattle.edi_unit.specs.declared.expressions.Callee.{Callee}
 use Rattle.edi_unit.specs.declared.expressions.Callee.TheVariants as callee
 use Rattle.edi_unit.specs.declared.units.Parameter.{Parameter}
 use Rattle.edi_unit.specs.declared.units.Parameter.TheVariants as slot
-use Rattle.edi_unit.specs.Types.{Shape, int, char, bool, enumeration, record_of, array_of, set_of, shape_at, int_type, is_ordinal_of, natural, element_count, shape_size, size, fields_of, named_types, is_set_shape, greatest_size, IsTypeTable, HasOrderedBounds}
-use Rattle.edi_unit.specs.Tree.{Expression, constant, load, not_of, sign_of, chain, make, convert, apply_of, Expressions, no_expression, expression_then, link, Links, no_link, link_then, Place, place, Part, field, index, Parts, no_part, part_then, Block}
-use Rattle.edi_unit.specs.Need.{block_at, outer, slots, slot_at, slot_type, slot_result, slot_words, element_type, part_type, parts_type, operator_type, links_type, callee_result, place_type, expression_type, variable_words}
+use Rattle.edi_unit.specs.Types.{Shape, int, char, bool, enumeration, record_of, array_of, set_of, shape_at, int_type, is_ordinal_of, natural, element_count}
+use Rattle.edi_unit.specs.Types.{shape_size, size, fields_of, named_types, is_set_shape, greatest_size, IsTypeTable, HasOrderedBounds}
+use Rattle.edi_unit.specs.Tree.{Expression, constant, load, not_of, sign_of, chain, make, convert, apply_of, Expressions, no_expression, expression_then}
+use Rattle.edi_unit.specs.Tree.{link, Links, no_link, link_then, Place, place, Part, field, index, Parts, no_part, part_then, Block}
+use Rattle.edi_unit.specs.Need.{block_at, outer, slots, slot_at, slot_type, slot_result, slot_words, element_type, part_type, parts_type, operator_type}
+use Rattle.edi_unit.specs.Need.{links_type, callee_result, place_type, expression_type, variable_words}
 use Rattle.edi_unit.specs.Fits.{ShapeFits, Heading, is_variable, CalleeFits, HaveTypes, MakesValue, ExpressionFits, PlaceFits, SlotIsKnown, BlockFits}
 use Rattle.edi_unit.proofs.Tables.{size-is, size-small, length-before}
 use Rattle.edi_target.specs.Op.{is_integer}
@@ -138,7 +142,8 @@ module _ (types : List Shape) (table : IsTypeTable types) (parts : HaveParts typ
 
   -- ---- expressions of a block
 
-  module _ (blocks : List Block) (headings : ℕ → ℕ → Heading) (each : (n : ℕ) → n < length blocks → BlockFits types blocks headings n) (b : ℕ) (inside : b < length blocks) where
+  module _ (blocks : List Block) (headings : ℕ → ℕ → Heading) (each : (n : ℕ) → n < length blocks → BlockFits types blocks headings n) (b : ℕ)
+      (inside : b < length blocks) where
     up_inside : (n : ℕ) → n < length blocks → (block_at blocks n).up < length blocks
     up_inside zero h = let up = (each 0 h).outermost refl in omega (arith, up, h)
     up_inside (suc n) h = let up = (each (suc n) h).inner (omega arith) in omega (arith, up, h)
@@ -164,7 +169,8 @@ module _ (types : List Shape) (table : IsTypeTable types) (parts : HaveParts typ
     formal_known (Some (slot.Formal None)) k = tt
     formal_known (Some (slot.Formal (Some t))) k = k
 
-    first_known : (r : Option ℕ) (rest : List Parameter) → All (SlotIsKnown types) (map slot.Value (option_to_list r) ++ rest) → IfSome r (λ t. t < length types)
+    first_known : (r : Option ℕ) (rest : List Parameter) → All (SlotIsKnown types) (map slot.Value (option_to_list r) ++ rest)
+        → IfSome r (λ t. t < length types)
     first_known None rest k = tt
     first_known (Some t) rest k = k 0 (slot.Value t) (omega arith)
 
@@ -213,7 +219,8 @@ module _ (types : List Shape) (table : IsTypeTable types) (parts : HaveParts typ
     count_types (expression_then e es) (t ∷ ts) h = omega (arith, count_types es ts h.1)
 
     -- they are at least one, and no more than the words of the value
-    shape_count : (s : Shape) (es : Expressions) → is_set_shape s ≡ false → HasPart s → HasOrderedBounds s → All (λ u. u < length types) (named_types s) → MakesValue types blocks headings b s es → (1 ≤ count_of es) × (count_of es ≤ shape_size (size types) s)
+    shape_count : (s : Shape) (es : Expressions) → is_set_shape s ≡ false → HasPart s → HasOrderedBounds s → All (λ u. u < length types) (named_types s)
+        → MakesValue types blocks headings b s es → (1 ≤ count_of es) × (count_of es ≤ shape_size (size types) s)
     shape_count int es q p o all h = absurd h
     shape_count char es q p o all h = absurd h
     shape_count bool es q p o all h = absurd h
@@ -230,7 +237,8 @@ module _ (types : List Shape) (table : IsTypeTable types) (parts : HaveParts typ
         (omega (arith, count, long, some), omega (arith, count, long, le-mul_of_pos_right (element_count lo hi) one))
     shape_count (set_of t) es q p o all h = absurd (false≢true (sym q))
 
-    pub parts_count : (t : ℕ) (es : Expressions) → t < length types → is_set_shape (shape_at types t) ≡ false → MakesValue types blocks headings b (shape_at types t) es → (1 ≤ count_of es) × (count_of es ≤ greatest_size)
+    pub parts_count : (t : ℕ) (es : Expressions) → t < length types → is_set_shape (shape_at types t) ≡ false → MakesValue types blocks headings b
+        (shape_at types t) es → (1 ≤ count_of es) × (count_of es ≤ greatest_size)
     parts_count t es h q m =
         let n = shape_count (shape_at types t) es q (parts t h) (table.declared t h).ordered (names_known t h) m in
         let same = size-is types t table h in
@@ -241,14 +249,16 @@ module _ (types : List Shape) (table : IsTypeTable types) (parts : HaveParts typ
 
   sum_values : (ts : List ℕ) → sum_by (slot_words types) (map slot.Value ts) ≡ sum_by (size types) ts
   sum_values [] = refl
-  sum_values (t ∷ ts) = sum_by-cons (slot_words types) (slot.Value t) (map slot.Value ts) ∙ ap (λ n. size types t + n) (sum_values ts) ∙ sym (sum_by-cons (size types) t ts)
+  sum_values (t ∷ ts) = sum_by-cons (slot_words types) (slot.Value t) (map slot.Value ts) ∙ ap (λ n. size types t + n) (sum_values ts)
+      ∙ sym (sum_by-cons (size types) t ts)
 
   sum_result : (r : Option ℕ) → sum_by (slot_words types) (map slot.Value (option_to_list r)) ≡ result_words types r
   sum_result None = refl
   sum_result (Some t) = omega (arith, sum_by-cons (slot_words types) (slot.Value t) [])
 
   -- the words of the variables are those of the result, of the parameters and of the declared ones
-  pub words_sum : (block : Block) → variable_words types block ≡ result_words types block.result + sum_by (slot_words types) block.parameters + sum_by (size types) block.variables
+  pub words_sum : (block : Block) → variable_words types block ≡ result_words types block.result + sum_by (slot_words types) block.parameters + sum_by
+      (size types) block.variables
   words_sum block =
       omega (
         arith,

@@ -1,5 +1,6 @@
 -- Codes: their lengths, and instructions that stand one behind another.
-use Rattle.std.proofs.Common.{◌≡◌, ℕ, ◌+◌, ◌-◌, ◌≤◌, List, [], ◌∷◌, ◌++◌, Option, Some, None, length, drop, drop-drop, refl, sym, ap, ◌∙◌, subst, arith, append_assoc, length-append}
+use Rattle.std.proofs.Common.{◌≡◌, ℕ, ◌+◌, ◌-◌, ◌≤◌, List, [], ◌∷◌, ◌++◌, Option, Some, None, length, drop, drop-drop, refl, sym, ap, ◌∙◌, subst, arith}
+use Rattle.std.proofs.Common.{append_assoc, length-append}
 use Rattle.std.proofs.Math.Seq.{drop-append_seam}
 use Rattle.std.proofs.lemmas.List.{append-nil}
 use Rattle.std.specs.Prelude.{true}
@@ -90,12 +91,14 @@ module _ (fetched : ℕ → Option (Instruction × ℕ)) where
       (next, h.0, laid_instructions (j ∷ code) next to (record { is = omega (arith, long, g.is, up) }) (omega (arith, long, g.is, up)) h.1)
 
 -- the words of a code that stand in a list of words
-pub laid_words : (words : List ℕ) (code : Code) (at : ℕ) (rest : List ℕ) → AreAllowed code → drop at words ≡ words_of_code code ++ rest → Laid (fetch words) code at
+pub laid_words : (words : List ℕ) (code : Code) (at : ℕ) (rest : List ℕ) → AreAllowed code → drop at words ≡ words_of_code code ++ rest
+    → Laid (fetch words) code at
 laid_words words [] at rest none e = tt
 laid_words words (i ∷ code) at rest (one_then g gs) e =
     let here = e ∙ append_assoc (words_of i) (words_of_code code) rest in (
       ap (λ l. elim (decode l) as (λ _. Option (Instruction × ℕ)) [ None ↦ None | Some found ↦ Some (found.0, at + found.1) ]) here
-          ∙ ap (λ o. elim o as (λ _. Option (Instruction × ℕ)) [ None ↦ None | Some found ↦ Some (found.0, at + found.1) ]) (decode_again i (words_of_code code ++ rest) g.operands g.integers),
+          ∙ ap (λ o. elim o as (λ _. Option (Instruction × ℕ)) [ None ↦ None | Some found ↦ Some (found.0, at + found.1) ])
+          (decode_again i (words_of_code code ++ rest) g.operands g.integers),
       laid_words words code (at + length (words_of i)) rest gs (behind here),
     )
   where

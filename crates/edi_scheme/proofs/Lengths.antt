@@ -8,14 +8,21 @@ use Rattle.edi_unit.specs.declared.expressions.Callee.{Callee}
 use Rattle.edi_unit.specs.declared.expressions.Callee.TheVariants as callee
 use Rattle.edi_unit.specs.declared.units.Parameter.{Parameter}
 use Rattle.edi_unit.specs.Types.{Shape, shape_at, is_set_shape}
-use Rattle.edi_unit.specs.Tree.{Expression, constant, load, not_of, sign_of, chain, make, convert, apply_of, Expressions, no_expression, expression_then, link, Links, no_link, link_then, Place, place, Part, field, index, Parts, no_part, part_then, Argument, by_value, by_variable, by_procedure, Arguments, no_argument, argument_then, Act, skip, assign, call, halt, if_act, while_act, when_act, cobegin, Acts, no_act, act_then, Clause, clause, Clauses, no_clause, clause_then, Block}
+use Rattle.edi_unit.specs.Tree.{Expression, constant, load, not_of, sign_of, chain, make, convert, apply_of, Expressions, no_expression, expression_then}
+use Rattle.edi_unit.specs.Tree.{link, Links, no_link, link_then, Place, place, Part, field, index, Parts, no_part, part_then, Argument, by_value}
+use Rattle.edi_unit.specs.Tree.{by_variable, by_procedure, Arguments, no_argument, argument_then, Act, skip, assign, call, halt, if_act, while_act, when_act}
+use Rattle.edi_unit.specs.Tree.{cobegin, Acts, no_act, act_then, Clause, clause, Clauses, no_clause, clause_then, Block}
 use Rattle.edi_unit.specs.Need.{block_at, slot_at, slot_type, part_type, operator_type, expression_type}
 use Rattle.edi_meaning.specs.Step.{is_quiet}
 use Rattle.edi_target.specs.Op as instruction
 use Rattle.edi_target.specs.Op.{Branch, branch_words}
-use Rattle.edi_scheme.specs.Pieces.{Code, code_length, is_branch, entry_of, return_of, variable_code, element_code, operation, decision, check_code, constant_words, row_code, row_length, ClauseKind, once, repeated, released, close_code, again_code}
-use Rattle.edi_scheme.specs.Lengths.{call_length, procedure_length, expression_length, expressions_length, members_length, links_length, place_length, parts_length, part_length, argument_length, arguments_length, act_length, acts_length, clause_length, clauses_length, block_length}
-use Rattle.edi_scheme.specs.Code.{call_code, procedure_code, expression_code, expressions_code, members_code, links_code, place_code, parts_code, part_code, argument_code, arguments_code, act_code, acts_code, clause_code, clauses_code, entry, block_code, blocks_code}
+use Rattle.edi_scheme.specs.Pieces.{Code, code_length, is_branch, entry_of, return_of, variable_code, element_code, operation, decision, check_code}
+use Rattle.edi_scheme.specs.Pieces.{constant_words, row_code, row_length, ClauseKind, once, repeated, released, close_code, again_code}
+use Rattle.edi_scheme.specs.Lengths.{call_length, procedure_length, expression_length, expressions_length, members_length, links_length, place_length}
+use Rattle.edi_scheme.specs.Lengths.{parts_length, part_length, argument_length, arguments_length, act_length, acts_length, clause_length, clauses_length}
+use Rattle.edi_scheme.specs.Lengths.{block_length}
+use Rattle.edi_scheme.specs.Code.{call_code, procedure_code, expression_code, expressions_code, members_code, links_code, place_code, parts_code, part_code}
+use Rattle.edi_scheme.specs.Code.{argument_code, arguments_code, act_code, acts_code, clause_code, clauses_code, entry, block_code, blocks_code}
 use Rattle.edi_scheme.proofs.Laid.{Long, long_nothing, long_append, long_then, long_one, long_of, long_is}
 
 -- ---- codes that are as long for any address in them
@@ -147,7 +154,8 @@ module _ (types : List Shape) (blocks : List Block) (entry : ℕ → ℕ) (b : �
     clause_is_long (clause e s) next at =
         long_is (omega arith) (long_append (expression_is_long e at) (long_then (instruction.false_ next) (acts_are_long s _)))
 
-    pub clauses_are_long : (choice : ClauseKind) (cs : Clauses) (target at : ℕ) → Long (clauses_code types blocks entry b choice target at cs) (clauses_length types blocks b choice cs)
+    pub clauses_are_long : (choice : ClauseKind) (cs : Clauses) (target at : ℕ) → Long (clauses_code types blocks entry b choice target at cs)
+        (clauses_length types blocks b choice cs)
     clauses_are_long choice no_clause target at = long_nothing
     clauses_are_long choice (clause_then c cs) target at =
         long_is (omega arith) (long_append (clause_is_long c _ at) (long_append (close_length choice target cs) (clauses_are_long choice cs target _)))
@@ -158,7 +166,8 @@ pub block_is_long : (types : List Shape) (blocks : List Block) (at n : ℕ) → 
 block_is_long types blocks at n =
     chosen_length (is_branch (block_at blocks n).kind)
     (long_append (acts_are_long types blocks (entry types blocks) n (block_at blocks n).body at) (long_one instruction.exit))
-    (long_is (omega arith) (long_then (entry_of types (block_at blocks n)) (long_append (acts_are_long types blocks (entry types blocks) n (block_at blocks n).body (at + 6)) (long_one (return_of types (block_at blocks n))))))
+    (long_is (omega arith) (long_then (entry_of types (block_at blocks n))
+    (long_append (acts_are_long types blocks (entry types blocks) n (block_at blocks n).body (at + 6)) (long_one (return_of types (block_at blocks n))))))
 
 pub blocks_are_long : (types : List Shape) (blocks : List Block) (n : ℕ) → Long (blocks_code types blocks n) (entry types blocks n)
 blocks_are_long types blocks zero = long_nothing

@@ -1,5 +1,6 @@
 -- Where the instructions of a code start.
-use Rattle.std.proofs.Common.{◌≡◌, ℕ, ◌+◌, ◌-◌, ◌≤◌, ◌⊎◌, inl, inr, Bool, true, false, ◌||◌, ◌==◌, List, [], ◌∷◌, ◌++◌, Some, length, drop, drop-drop, get_or, refl, sym, ap, ◌∙◌, subst, arith, eq-eqb, length-append}
+use Rattle.std.proofs.Common.{◌≡◌, ℕ, ◌+◌, ◌-◌, ◌≤◌, ◌⊎◌, inl, inr, Bool, true, false, ◌||◌, ◌==◌, List, [], ◌∷◌, ◌++◌, Some, length, drop, drop-drop}
+use Rattle.std.proofs.Common.{get_or, refl, sym, ap, ◌∙◌, subst, arith, eq-eqb, length-append}
 use Rattle.std.proofs.Math.Seq.{drop-append_seam}
 use Rattle.edi_target.specs.Op as instruction
 use Rattle.edi_target.specs.Op.{Instruction, words_of}
@@ -22,7 +23,8 @@ abbrev pub starts : List ℕ → Code → ℕ → List Start
 starts words [] at = []
 starts words (i ∷ code) at = record { at = at; word = get_or words at 0; op = Some i } ∷ starts words code (at + length (words_of i))
 
-pub starts_are : (words : List ℕ) (code : Code) (at : ℕ) → AreAllowed code → drop at words ≡ words_of_code code → at + code_length code ≡ length words → starts_from (drop at words) at 0 ≡ starts words code at
+pub starts_are : (words : List ℕ) (code : Code) (at : ℕ) → AreAllowed code → drop at words ≡ words_of_code code → at + code_length code ≡ length words
+    → starts_from (drop at words) at 0 ≡ starts words code at
 starts_are words [] at none e l = starts_end words at (omega (arith, l))
 starts_are words (i ∷ code) at (one_then g gs) e l =
     let n : ℕ = length (words_of i) in

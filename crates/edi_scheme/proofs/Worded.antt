@@ -1,5 +1,6 @@
 -- The numbers in the code of a unit that fits are words.
-use Rattle.std.proofs.Common.{◌≡◌, ℕ, zero, suc, ◌+◌, ◌-◌, ◌^◌, ◌<◌, ◌≤◌, ℤ, pos, negsuc, Bool, true, false, if◌then◌else◌, FitsSigned, List, [], ◌∷◌, ◌++◌, length, map, take, All, Option, Some, None, IfSome, refl, arith, sum_by}
+use Rattle.std.proofs.Common.{◌≡◌, ℕ, zero, suc, ◌+◌, ◌-◌, ◌^◌, ◌<◌, ◌≤◌, ℤ, pos, negsuc, Bool, true, false, if◌then◌else◌, FitsSigned, List, [], ◌∷◌, ◌++◌}
+use Rattle.std.proofs.Common.{length, map, take, All, Option, Some, None, IfSome, refl, arith, sum_by}
 use Rattle.std.specs.Option.{option_map}
 use Rattle.std.specs.Int.{w16}
 use Rattle.std.proofs.lemmas.Bool.{ltb-true}
@@ -11,19 +12,29 @@ use Rattle.edi_unit.specs.declared.expressions.Operator.TheVariants as op
 use Rattle.edi_unit.specs.declared.expressions.Callee.{Callee}
 use Rattle.edi_unit.specs.declared.expressions.Callee.TheVariants as callee
 use Rattle.edi_unit.specs.declared.units.Parameter.{Parameter}
-use Rattle.edi_unit.specs.Types.{Shape, int, char, bool, enumeration, record_of, array_of, set_of, shape_at, fields_of, shape_size, is_set_shape, size, named_types, greatest_size, IsTypeTable, HasOrderedBounds}
-use Rattle.edi_unit.specs.Tree.{Expression, constant, load, not_of, sign_of, chain, make, convert, apply_of, Expressions, no_expression, expression_then, link, Links, no_link, link_then, Place, place, Part, field, index, Parts, no_part, part_then, by_value, by_variable, by_procedure, Arguments, no_argument, argument_then, Act, skip, assign, call, halt, if_act, while_act, when_act, cobegin, Acts, no_act, act_then, Clause, clause, Clauses, no_clause, clause_then, Block}
+use Rattle.edi_unit.specs.Types.{Shape, int, char, bool, enumeration, record_of, array_of, set_of, shape_at, fields_of, shape_size, is_set_shape, size}
+use Rattle.edi_unit.specs.Types.{named_types, greatest_size, IsTypeTable, HasOrderedBounds}
+use Rattle.edi_unit.specs.Tree.{Expression, constant, load, not_of, sign_of, chain, make, convert, apply_of, Expressions, no_expression, expression_then}
+use Rattle.edi_unit.specs.Tree.{link, Links, no_link, link_then, Place, place, Part, field, index, Parts, no_part, part_then, by_value, by_variable}
+use Rattle.edi_unit.specs.Tree.{by_procedure, Arguments, no_argument, argument_then, Act, skip, assign, call, halt, if_act, while_act, when_act, cobegin}
+use Rattle.edi_unit.specs.Tree.{Acts, no_act, act_then, Clause, clause, Clauses, no_clause, clause_then, Block}
 use Rattle.edi_unit.specs.Need.{block_at, outer, slots, slot_words, slot_at, slot_type, part_type, operator_type, expression_type}
-use Rattle.edi_unit.specs.Fits.{ShapesFit, ShapeFits, Heading, Formals, no_formal, value_then, variable_then, procedure_then, CalleeFits, ExpressionFits, ExpressionsFit, LinksFit, PlaceFits, PartFits, PartsFit, ArgumentsFit, BranchFits, ActFits, ActsFit, ClauseFits, ClausesFit, BlockFits}
+use Rattle.edi_unit.specs.Fits.{ShapesFit, ShapeFits, Heading, Formals, no_formal, value_then, variable_then, procedure_then, CalleeFits, ExpressionFits}
+use Rattle.edi_unit.specs.Fits.{ExpressionsFit, LinksFit, PlaceFits, PartFits, PartsFit, ArgumentsFit, BranchFits, ActFits, ActsFit, ClauseFits, ClausesFit}
+use Rattle.edi_unit.specs.Fits.{BlockFits}
 use Rattle.edi_meaning.specs.Step.{is_quiet}
 use Rattle.edi_target.specs.Op as instruction
 use Rattle.edi_target.specs.Op.{Instruction, Branch, words_of, branch_words, high_word, low_word, word_of_integer, is_integer}
 use Rattle.edi_unit.proofs.Tables.{size-is, size-small}
-use Rattle.edi_scheme.specs.Pieces.{Code, words_of_code, code_length, offset, field_offset, is_address, variable_code, element_code, on_sets, operation, decision, check_code, constant_words, row_code, row_length, ClauseKind, once, repeated, released, close_code, again_code}
-use Rattle.edi_scheme.specs.Lengths.{expression_length, expressions_length, members_length, links_length, place_length, parts_length, part_length, arguments_length, act_length, acts_length, clause_length, clauses_length}
-use Rattle.edi_scheme.specs.Code.{slot_offset, call_code, procedure_code, expression_code, expressions_code, members_code, links_code, place_code, parts_code, part_code, arguments_code, act_code, acts_code, clause_code, clauses_code}
+use Rattle.edi_scheme.specs.Pieces.{Code, words_of_code, code_length, offset, field_offset, is_address, variable_code, element_code, on_sets, operation}
+use Rattle.edi_scheme.specs.Pieces.{decision, check_code, constant_words, row_code, row_length, ClauseKind, once, repeated, released, close_code, again_code}
+use Rattle.edi_scheme.specs.Lengths.{expression_length, expressions_length, members_length, links_length, place_length, parts_length, part_length}
+use Rattle.edi_scheme.specs.Lengths.{arguments_length, act_length, acts_length, clause_length, clauses_length}
+use Rattle.edi_scheme.specs.Code.{slot_offset, call_code, procedure_code, expression_code, expressions_code, members_code, links_code, place_code}
+use Rattle.edi_scheme.specs.Code.{parts_code, part_code, arguments_code, act_code, acts_code, clause_code, clauses_code}
 use Rattle.edi_scheme.specs.Laws.{HaveParts}
-use Rattle.edi_scheme.specs.Lines.{IsLine, ExpressionLines, ExpressionsLines, LinksLines, PlaceLines, PartLines, PartsLines, ArgumentsLines, ActLines, ActsLines, ClauseLines, ClausesLines}
+use Rattle.edi_scheme.specs.Lines.{IsLine, ExpressionLines, ExpressionsLines, LinksLines, PlaceLines, PartLines, PartsLines, ArgumentsLines, ActLines}
+use Rattle.edi_scheme.specs.Lines.{ActsLines, ClauseLines, ClausesLines}
 use Rattle.edi_scheme.proofs.Calls.{Every}
 use Rattle.edi_scheme.proofs.Known as known
 use Rattle.edi_scheme.proofs.Known.{ordinal_integer}
@@ -150,7 +161,9 @@ again_small false target h = small_one (wt 40 target (omega arith) h)
 
 -- ---- the constructs of a block, below a limit of addresses
 
-module _ (types : List Shape) (table : IsTypeTable types) (parts : HaveParts types) (shapes : ShapesFit types) (blocks : List Block) (headings : ℕ → ℕ → Heading) (each : (n : ℕ) → n < length blocks → BlockFits types blocks headings n) (entry : ℕ → ℕ) (limit : ℕ) (limited : limit < 2 ^ 32) (entries : (n : ℕ) → n < length blocks → entry n ≤ limit) where
+module _ (types : List Shape) (table : IsTypeTable types) (parts : HaveParts types) (shapes : ShapesFit types) (blocks : List Block)
+    (headings : ℕ → ℕ → Heading) (each : (n : ℕ) → n < length blocks → BlockFits types blocks headings n) (entry : ℕ → ℕ) (limit : ℕ) (limited : limit < 2 ^ 32)
+    (entries : (n : ℕ) → n < length blocks → entry n ≤ limit) where
   pub size_word : (t : ℕ) → t < length types → size types t < 2 ^ 16
   size_word t h = let small = size-small types t table h in omega (arith, small)
 
@@ -190,7 +203,8 @@ module _ (types : List Shape) (table : IsTypeTable types) (parts : HaveParts typ
     pub slot_word : (levels v : ℕ) → slot_offset types blocks entry b levels v < 2 ^ 16
     slot_word levels v = offset_word (outer blocks b levels) v (known.outer_inside types table parts blocks headings each b inside levels b inside)
 
-    element_small : (s : Shape) (line : ℕ) → HasOrderedBounds s → ShapeFits types s → All (λ u. u < length types) (named_types s) → IsLine line → AreSmall (element_code types s line)
+    element_small : (s : Shape) (line : ℕ) → HasOrderedBounds s → ShapeFits types s → All (λ u. u < length types) (named_types s) → IsLine line
+        → AreSmall (element_code types s line)
     element_small int line o f k l = none
     element_small char line o f k l = none
     element_small bool line o f k l = none
@@ -244,19 +258,23 @@ module _ (types : List Shape) (table : IsTypeTable types) (parts : HaveParts typ
     constants_small (expression_then (convert t e line) es) h = tt
     constants_small (expression_then (apply_of c xs line) es) h = tt
 
-    row_small : (ws : Option (List ℕ)) (code : Code) (n long at : ℕ) → n ≤ greatest_size → RowWords ws n → (at + long ≤ limit → AreSmall code) → at + row_length ws long ≤ limit → AreSmall (row_code ws code)
+    row_small : (ws : Option (List ℕ)) (code : Code) (n long at : ℕ) → n ≤ greatest_size → RowWords ws n → (at + long ≤ limit → AreSmall code)
+        → at + row_length ws long ≤ limit → AreSmall (row_code ws code)
     row_small None code n long at small h f k = f k
     row_small (Some ws) code n long at small h f k =
         let same = h.1 in small_one (omega arith, (omega (arith, small, same), h.0))
 
     -- one of two codes, with their lengths
-    chosen_small : (test : Bool) {a c : Code} (m n at : ℕ) → (test ≡ true → at + m ≤ limit → AreSmall a) → (test ≡ false → at + n ≤ limit → AreSmall c) → at + (if test then m else n) ≤ limit → AreSmall (if test then a else c)
+    chosen_small : (test : Bool) {a c : Code} (m n at : ℕ) → (test ≡ true → at + m ≤ limit → AreSmall a) → (test ≡ false → at + n ≤ limit → AreSmall c)
+        → at + (if test then m else n) ≤ limit → AreSmall (if test then a else c)
     chosen_small true m n at g h k = g refl k
     chosen_small false m n at g h k = h refl k
 
     mutual
-      expression_small : (e : Expression) (at : ℕ) → ExpressionFits types blocks headings b e → ExpressionLines e → at + expression_length types blocks b e ≤ limit → AreSmall (expression_code types blocks entry b at e)
-      expression_small (constant t n) at h l k = small_one (w1 1 _ (omega arith) (integer_small n (ordinal_integer types (shape_at types t) n (shapes t h.0) h.1)))
+      expression_small : (e : Expression) (at : ℕ) → ExpressionFits types blocks headings b e → ExpressionLines e → at + expression_length types blocks b e ≤
+          limit → AreSmall (expression_code types blocks entry b at e)
+      expression_small (constant t n) at h l k = small_one
+          (w1 1 _ (omega arith) (integer_small n (ordinal_integer types (shape_at types t) n (shapes t h.0) h.1)))
       expression_small (load p) at h l k =
           small_append (place_small p at h l (omega (arith, k)))
           (small_one (w1 7 _ (omega arith) (size_word _ (known.place_known types table parts blocks headings each b inside p h))))
@@ -264,9 +282,11 @@ module _ (types : List Shape) (table : IsTypeTable types) (parts : HaveParts typ
       expression_small (sign_of e line) at h l k = small_append (expression_small e at h.1 l.1 (omega (arith, k))) (small_one (w1 14 line (omega arith) l.0))
       expression_small (chain e ls) at h l k =
           small_append (expression_small e at h.1 l.0 (omega (arith, k)))
-          (links_small (expression_type types blocks b e) ls _ (known.expression_known types table parts blocks headings each b inside e h.1) h.2 l.1 (omega (arith, k)))
+          (links_small (expression_type types blocks b e) ls _ (known.expression_known types table parts blocks headings each b inside e h.1) h.2 l.1
+          (omega (arith, k)))
       expression_small (make t es line) at h l k =
-          chosen_small (is_set_shape (shape_at types t)) (2 + members_length types blocks b es) (row_length (constant_words es) (expressions_length types blocks b es)) at
+          chosen_small (is_set_shape (shape_at types t)) (2 + members_length types blocks b es)
+          (row_length (constant_words es) (expressions_length types blocks b es)) at
           (λ q k. small_then (w1 3 8 (omega arith) (omega arith)) (members_small line es (at + 2) h.2 l.0 l.1 (omega (arith, k))))
           (λ q k.
           row_small (constant_words es) _ (count es) (expressions_length types blocks b es) at
@@ -277,18 +297,21 @@ module _ (types : List Shape) (table : IsTypeTable types) (parts : HaveParts typ
       expression_small (apply_of c xs line) at h l k =
           small_append (arguments_small xs _ at h.2 l.1 (omega (arith, k))) (call_small c line h.0 l.0)
 
-      expressions_small : (es : Expressions) (at : ℕ) → ExpressionsFit types blocks headings b es → ExpressionsLines es → at + expressions_length types blocks b es ≤ limit → AreSmall (expressions_code types blocks entry b at es)
+      expressions_small : (es : Expressions) (at : ℕ) → ExpressionsFit types blocks headings b es → ExpressionsLines es → at + expressions_length types blocks
+          b es ≤ limit → AreSmall (expressions_code types blocks entry b at es)
       expressions_small no_expression at h l k = none
       expressions_small (expression_then e es) at h l k =
           small_append (expression_small e at h.0 l.0 (omega (arith, k))) (expressions_small es _ h.1 l.1 (omega (arith, k)))
 
-      members_small : (line : ℕ) (es : Expressions) (at : ℕ) → ExpressionsFit types blocks headings b es → IsLine line → ExpressionsLines es → at + members_length types blocks b es ≤ limit → AreSmall (members_code types blocks entry b at line es)
+      members_small : (line : ℕ) (es : Expressions) (at : ℕ) → ExpressionsFit types blocks headings b es → IsLine line → ExpressionsLines es
+          → at + members_length types blocks b es ≤ limit → AreSmall (members_code types blocks entry b at line es)
       members_small line no_expression at h i l k = none
       members_small line (expression_then e es) at h i l k =
           small_append (expression_small e at h.0 l.0 (omega (arith, k)))
           (small_then (w1 26 line (omega arith) i) (members_small line es _ h.1 i l.1 (omega (arith, k))))
 
-      links_small : (t : ℕ) (ls : Links) (at : ℕ) → t < length types → LinksFit types blocks headings b t ls → LinksLines ls → at + links_length types blocks b t ls ≤ limit → AreSmall (links_code types blocks entry b at t ls)
+      links_small : (t : ℕ) (ls : Links) (at : ℕ) → t < length types → LinksFit types blocks headings b t ls → LinksLines ls → at + links_length types blocks
+          b t ls ≤ limit → AreSmall (links_code types blocks entry b at t ls)
       links_small t no_link at i h l k = none
       links_small t (link_then (link o e line) ls) at i h l k =
           let right = at + code_length (decision o 0) in
@@ -298,24 +321,29 @@ module _ (types : List Shape) (table : IsTypeTable types) (parts : HaveParts typ
           (small_append (operation_small types t o line (size_word t i) l.0)
           (links_small (operator_type o t) ls behind (known.operator_known types table parts o t i) h.2 l.2 (omega (arith, k)))))
 
-      place_small : (p : Place) (at : ℕ) → PlaceFits types blocks headings b p → PlaceLines p → at + place_length types blocks b p ≤ limit → AreSmall (place_code types blocks entry b at p)
+      place_small : (p : Place) (at : ℕ) → PlaceFits types blocks headings b p → PlaceLines p → at + place_length types blocks b p ≤ limit
+          → AreSmall (place_code types blocks entry b at p)
       place_small (place levels v ps) at h l k =
           small_append (variable_small levels _ (slot_at blocks b levels v) h.0 (slot_word levels v))
-          (parts_small (slot_type (slot_at blocks b levels v)) ps _ (known.root_known types table parts blocks headings each b inside levels v h.1) h.2 l (omega (arith, k)))
+          (parts_small (slot_type (slot_at blocks b levels v)) ps _ (known.root_known types table parts blocks headings each b inside levels v h.1) h.2 l
+          (omega (arith, k)))
 
-      parts_small : (t : ℕ) (ps : Parts) (at : ℕ) → t < length types → PartsFit types blocks headings b t ps → PartsLines ps → at + parts_length types blocks b t ps ≤ limit → AreSmall (parts_code types blocks entry b at t ps)
+      parts_small : (t : ℕ) (ps : Parts) (at : ℕ) → t < length types → PartsFit types blocks headings b t ps → PartsLines ps → at + parts_length types blocks
+          b t ps ≤ limit → AreSmall (parts_code types blocks entry b at t ps)
       parts_small t no_part at i h l k = none
       parts_small t (part_then p ps) at i h l k =
           small_append (part_small t p at i h.0 l.0 (omega (arith, k)))
           (parts_small (part_type types t p) ps _ (known.part_known types table parts blocks headings each b inside t p i) h.1 l.1 (omega (arith, k)))
 
-      part_small : (t : ℕ) (p : Part) (at : ℕ) → t < length types → PartFits types blocks headings b t p → PartLines p → at + part_length types blocks b t p ≤ limit → AreSmall (part_code types blocks entry b at t p)
+      part_small : (t : ℕ) (p : Part) (at : ℕ) → t < length types → PartFits types blocks headings b t p → PartLines p → at + part_length types blocks b t p ≤
+          limit → AreSmall (part_code types blocks entry b at t p)
       part_small t (field n) at i h l k = small_one (w1 5 _ (omega arith) (field_word t n i))
       part_small t (index e line) at i h l k =
           small_append (expression_small e at h.1 l.1 (omega (arith, k)))
           (element_small (shape_at types t) line (table.declared t i).ordered (shapes t i) (known.names_known types table parts t i) l.0)
 
-      arguments_small : (xs : Arguments) (fs : Formals) (at : ℕ) → ArgumentsFit types blocks headings b xs fs → ArgumentsLines xs → at + arguments_length types blocks b xs ≤ limit → AreSmall (arguments_code types blocks entry b at xs)
+      arguments_small : (xs : Arguments) (fs : Formals) (at : ℕ) → ArgumentsFit types blocks headings b xs fs → ArgumentsLines xs
+          → at + arguments_length types blocks b xs ≤ limit → AreSmall (arguments_code types blocks entry b at xs)
       arguments_small no_argument fs at h l k = none
       arguments_small (argument_then (by_value e) xs) (value_then t fs) at h l k =
           small_append (expression_small e at h.1 l.0 (omega (arith, k))) (arguments_small xs fs _ h.2 l.1 (omega (arith, k)))
@@ -333,7 +361,8 @@ module _ (types : List Shape) (table : IsTypeTable types) (parts : HaveParts typ
       arguments_small (argument_then (by_procedure c) xs) (value_then t fs) at h l k = absurd h
       arguments_small (argument_then (by_procedure c) xs) (variable_then t fs) at h l k = absurd h
 
-    branches_small : (bs : List ℕ) → All (BranchFits types blocks headings b) bs → Words (branch_words (map (λ n. record { need = (block_at blocks n).need; address = entry n }) bs))
+    branches_small : (bs : List ℕ) → All (BranchFits types blocks headings b) bs
+        → Words (branch_words (map (λ n. record { need = (block_at blocks n).need; address = entry n }) bs))
     branches_small [] h = tt
     branches_small (n ∷ bs) h =
         let there = (h 0 n (omega arith)).0 in
@@ -342,7 +371,8 @@ module _ (types : List Shape) (table : IsTypeTable types) (parts : HaveParts typ
         (need_word n there, (high_small (entry n) far, (low_small (entry n), branches_small bs (λ i d l. h (suc i) d (omega (arith, l))))))
 
     mutual
-      act_small : (s : Act) (at : ℕ) → ActFits types blocks headings b s → ActLines s → at + act_length types blocks b s ≤ limit → AreSmall (act_code types blocks entry b at s)
+      act_small : (s : Act) (at : ℕ) → ActFits types blocks headings b s → ActLines s → at + act_length types blocks b s ≤ limit
+          → AreSmall (act_code types blocks entry b at s)
       act_small skip at h l k = none
       act_small (assign p e) at h l k =
           small_append (place_small p at h.1 l.0 (omega (arith, k)))
@@ -354,22 +384,26 @@ module _ (types : List Shape) (table : IsTypeTable types) (parts : HaveParts typ
       act_small (while_act cs) at h l k = clauses_small repeated cs at at h l (omega (arith, k, limited)) k
       act_small (when_act cs line) at h l k =
           small_then (w1 39 line (omega arith) l.0)
-          (small_append (clauses_small released cs _ _ h l.1 (omega (arith, k, limited)) (omega (arith, k))) (again_small (is_quiet cs) _ (omega (arith, k, limited))))
+          (small_append (clauses_small released cs _ _ h l.1 (omega (arith, k, limited)) (omega (arith, k)))
+          (again_small (is_quiet cs) _ (omega (arith, k, limited))))
       act_small (cobegin bs line) at h l k =
           let branch : ℕ → Branch = λ n. record { need = (block_at blocks n).need; address = entry n } in
           let long = length-map bs branch in
           let few = h.1 in
           small_one (omega arith, (omega (arith, long, few), (l, branches_small bs h.2)))
 
-      pub acts_small : (s : Acts) (at : ℕ) → ActsFit types blocks headings b s → ActsLines s → at + acts_length types blocks b s ≤ limit → AreSmall (acts_code types blocks entry b at s)
+      pub acts_small : (s : Acts) (at : ℕ) → ActsFit types blocks headings b s → ActsLines s → at + acts_length types blocks b s ≤ limit
+          → AreSmall (acts_code types blocks entry b at s)
       acts_small no_act at h l k = none
       acts_small (act_then s ss) at h l k = small_append (act_small s at h.0 l.0 (omega (arith, k))) (acts_small ss _ h.1 l.1 (omega (arith, k)))
 
-      clause_small : (c : Clause) (next at : ℕ) → ClauseFits types blocks headings b c → ClauseLines c → next < 2 ^ 32 → at + clause_length types blocks b c ≤ limit → AreSmall (clause_code types blocks entry b at next c)
+      clause_small : (c : Clause) (next at : ℕ) → ClauseFits types blocks headings b c → ClauseLines c → next < 2 ^ 32 → at + clause_length types blocks b c ≤
+          limit → AreSmall (clause_code types blocks entry b at next c)
       clause_small (clause e s) next at h l i k =
           small_append (expression_small e at h.1 l.0 (omega (arith, k))) (small_then (wt 29 next (omega arith) i) (acts_small s _ h.2 l.1 (omega (arith, k))))
 
-      clauses_small : (choice : ClauseKind) (cs : Clauses) (target at : ℕ) → ClausesFit types blocks headings b cs → ClausesLines cs → target < 2 ^ 32 → at + clauses_length types blocks b choice cs ≤ limit → AreSmall (clauses_code types blocks entry b choice target at cs)
+      clauses_small : (choice : ClauseKind) (cs : Clauses) (target at : ℕ) → ClausesFit types blocks headings b cs → ClausesLines cs → target < 2 ^ 32
+          → at + clauses_length types blocks b choice cs ≤ limit → AreSmall (clauses_code types blocks entry b choice target at cs)
       clauses_small choice no_clause target at h l i k = none
       clauses_small choice (clause_then c cs) target at h l i k =
           small_append (clause_small c _ at h.0 l.0 (omega (arith, k, limited)) (omega (arith, k)))

@@ -1,5 +1,6 @@
 -- The numbers in the code of a whole unit that fits are words.
-use Rattle.std.proofs.Common.{◌≡◌, ℕ, zero, suc, ◌+◌, ◌<◌, ◌≤◌, ◌^◌, Bool, true, false, if◌then◌else◌, List, [], ◌∷◌, length, All, Option, Some, None, sym, subst, arith, inl, inr, ◌⊎◌, sum_by}
+use Rattle.std.proofs.Common.{◌≡◌, ℕ, zero, suc, ◌+◌, ◌<◌, ◌≤◌, ◌^◌, Bool, true, false, if◌then◌else◌, List, [], ◌∷◌, length, All, Option, Some, None, sym}
+use Rattle.std.proofs.Common.{subst, arith, inl, inr, ◌⊎◌, sum_by}
 use Rattle.std.proofs.Math.Nat.{eq-or-lt_of_le}
 use Rattle.edi_unit.specs.Types.{Shape}
 use Rattle.edi_unit.specs.Tree.{Block, ProgramUnit}
@@ -33,7 +34,8 @@ flag_small None = omega arith
 flag_small (Some t) = omega arith
 
 -- one of two codes, with their lengths
-either_small : (test : Bool) {a c : Code} (m n at limit : ℕ) → (at + m ≤ limit → AreSmall a) → (at + n ≤ limit → AreSmall c) → at + (if test then m else n) ≤ limit → AreSmall (if test then a else c)
+either_small : (test : Bool) {a c : Code} (m n at limit : ℕ) → (at + m ≤ limit → AreSmall a) → (at + n ≤ limit → AreSmall c) → at + (if test then m else n) ≤
+    limit → AreSmall (if test then a else c)
 either_small true m n at limit g h k = g k
 either_small false m n at limit g h k = h k
 
@@ -71,7 +73,8 @@ module _ (unit : ProgramUnit) (fits : Fits unit) (parts : HaveParts unit.types) 
       let at = entry types blocks n in
       let list = acts_length types blocks n (block_at blocks n).body in
       let frame = frame_words n h in
-      let body = acts_small types fits.table parts fits.shapes blocks fits.headings fits.fits_blocks (entry types blocks) limit limited entries n h (block_at blocks n).body in
+      let body = acts_small types fits.table parts fits.shapes blocks fits.headings fits.fits_blocks (entry types blocks) limit limited entries n h
+      (block_at blocks n).body in
       let last = entry_later types blocks (suc n) (length blocks) (omega (arith, h)) in
       either_small (is_branch (block_at blocks n).kind) (list + 1) (6 + list + 3) at limit
       (λ k. small_append (body at (fits.fits_blocks n h).statements (lines n h) (omega (arith, k))) (small_one (omega arith, tt)))
@@ -90,4 +93,5 @@ every_all (w ∷ ws) h (suc k) d l = every_all ws h.1 k d (omega (arith, l))
 
 pub code_is_words : CodeIsWords
 code_is_words unit fits parts lines small =
-    every_all (code_of unit) (small_words (blocks_code unit.types unit.blocks (length unit.blocks)) (blocks_small unit fits parts lines small (length unit.blocks) (omega arith)))
+    every_all (code_of unit) (small_words (blocks_code unit.types unit.blocks (length unit.blocks))
+    (blocks_small unit fits parts lines small (length unit.blocks) (omega arith)))

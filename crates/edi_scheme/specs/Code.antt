@@ -5,12 +5,16 @@ use Rattle.std.specs.Prelude.{ℕ, zero, suc, ◌+◌, if◌then◌else◌, List
 use Rattle.edi_unit.specs.declared.expressions.Callee.{Callee}
 use Rattle.edi_unit.specs.declared.expressions.Callee.TheVariants as callee
 use Rattle.edi_unit.specs.Types.{Shape, shape_at, is_set_shape, size}
-use Rattle.edi_unit.specs.Tree.{Expression, constant, load, not_of, sign_of, chain, make, convert, apply_of, Expressions, no_expression, expression_then, link, Links, no_link, link_then, Place, place, Part, field, index, Parts, no_part, part_then, Argument, by_value, by_variable, by_procedure, Arguments, no_argument, argument_then, Act, skip, assign, call, halt, if_act, while_act, when_act, cobegin, Acts, no_act, act_then, Clause, clause, Clauses, no_clause, clause_then, Block, ProgramUnit}
+use Rattle.edi_unit.specs.Tree.{Expression, constant, load, not_of, sign_of, chain, make, convert, apply_of, Expressions, no_expression, expression_then}
+use Rattle.edi_unit.specs.Tree.{link, Links, no_link, link_then, Place, place, Part, field, index, Parts, no_part, part_then, Argument, by_value}
+use Rattle.edi_unit.specs.Tree.{by_variable, by_procedure, Arguments, no_argument, argument_then, Act, skip, assign, call, halt, if_act, while_act, when_act}
+use Rattle.edi_unit.specs.Tree.{cobegin, Acts, no_act, act_then, Clause, clause, Clauses, no_clause, clause_then, Block, ProgramUnit}
 use Rattle.edi_unit.specs.Need.{block_at, outer, slot_at, slot_type, part_type, operator_type, place_type, expression_type}
 use Rattle.edi_meaning.specs.Step.{is_quiet}
 use Rattle.edi_target.specs.Op as instruction
 use Rattle.edi_target.specs.Op.{Branch, word_of_integer}
-use Rattle.edi_scheme.specs.Pieces.{Code, words_of_code, code_length, offset, field_offset, is_branch, entry_of, return_of, variable_code, element_code, operation, decision, check_code, constant_words, row_code, ClauseKind, once, repeated, released, close_code, again_code}
+use Rattle.edi_scheme.specs.Pieces.{Code, words_of_code, code_length, offset, field_offset, is_branch, entry_of, return_of, variable_code, element_code}
+use Rattle.edi_scheme.specs.Pieces.{operation, decision, check_code, constant_words, row_code, ClauseKind, once, repeated, released, close_code, again_code}
 use Rattle.edi_scheme.specs.Lengths.{expression_length, place_length, part_length, argument_length, act_length, clause_length, clauses_length, block_length}
 
 -- in the block of this number, with these types and blocks; each block stands at the address that `entry` gives

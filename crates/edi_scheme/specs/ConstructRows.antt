@@ -12,7 +12,10 @@ use Rattle.edi_unit.specs.Values.{zero_value}
 use Rattle.edi_unit.specs.Tree.{constant, sign_of, convert, ProgramUnit}
 use Rattle.edi_meaning.specs.Rows.{empty_system, number, two}
 use Rattle.edi_target.specs.Decode.{decode}
-use Rattle.edi_scheme.specs.Programs.{program_of_operators, program_that_shows_value, program_with_clauses, program_that_halts, program_of_sets, program_with_member, program_of_records, program_with_bound, program_with_string, program_that_hands_on, program_with_parts, program_of_procedures, program_of_functions, program_through_outer, program_through_levels, program_that_calls_itself}
+use Rattle.edi_scheme.specs.Programs.{program_of_operators, program_that_shows_value, program_with_clauses, program_that_halts, program_of_sets}
+use Rattle.edi_scheme.specs.Programs.{program_with_member, program_of_records, program_with_bound, program_with_string, program_that_hands_on}
+use Rattle.edi_scheme.specs.Programs.{program_with_parts, program_of_procedures, program_of_functions, program_through_outer, program_through_levels}
+use Rattle.edi_scheme.specs.Programs.{program_that_calls_itself}
 use Rattle.edi_scheme.specs.Sides.{End, both, twice, with_needs}
 
 -- with a bound of a hundred turns
@@ -31,21 +34,25 @@ row_operators = refl
 
 -- division rounds to 0, and the remainder has the sign of the dividend: -3 + 10, and -1 + 10
 
-pub row_quotient : run (program_that_shows_value [] (two (two (number (negsuc 6)) op.Div (number (pos 2)) 1) op.Plus (number (pos 10)) 1)) [] ≡ ends (7 ∷ []) outcome.done 2 0
+pub row_quotient : run (program_that_shows_value [] (two (two (number (negsuc 6)) op.Div (number (pos 2)) 1) op.Plus (number (pos 10)) 1)) [] ≡ ends (7 ∷ [])
+    outcome.done 2 0
 unfolding decode zero_words size zero_value members_where
 row_quotient = refl
 
-pub row_remainder : run (program_that_shows_value [] (two (two (number (negsuc 6)) op.Mod (number (pos 2)) 1) op.Plus (number (pos 10)) 1)) [] ≡ ends (9 ∷ []) outcome.done 2 0
+pub row_remainder : run (program_that_shows_value [] (two (two (number (negsuc 6)) op.Mod (number (pos 2)) 1) op.Plus (number (pos 10)) 1)) [] ≡ ends (9 ∷ [])
+    outcome.done 2 0
 unfolding decode zero_words size zero_value members_where
 row_remainder = refl
 
 -- what is no value of `int`, on its line
 
-pub row_difference_too_small : run (program_that_shows_value [] (two (number (negsuc 32767)) op.Minus (number (pos 1)) 3)) [] ≡ ends [] (outcome.failed cause.Range 3) 1 0
+pub row_difference_too_small : run (program_that_shows_value [] (two (number (negsuc 32767)) op.Minus (number (pos 1)) 3)) [] ≡ ends []
+    (outcome.failed cause.Range 3) 1 0
 unfolding decode zero_words size zero_value members_where
 row_difference_too_small = refl
 
-pub row_product_too_large : run (program_that_shows_value [] (two (number (pos 256)) op.Times (number (pos 128)) 3)) [] ≡ ends [] (outcome.failed cause.Range 3) 1 0
+pub row_product_too_large : run (program_that_shows_value [] (two (number (pos 256)) op.Times (number (pos 128)) 3)) [] ≡ ends []
+    (outcome.failed cause.Range 3) 1 0
 unfolding decode zero_words size zero_value members_where
 row_product_too_large = refl
 
@@ -57,7 +64,8 @@ pub row_remainder_by_zero : run (program_that_shows_value [] (two (number (pos 1
 unfolding decode zero_words size zero_value members_where
 row_remainder_by_zero = refl
 
-pub row_quotient_too_large : run (program_that_shows_value [] (two (number (negsuc 32767)) op.Div (number (negsuc 0)) 3)) [] ≡ ends [] (outcome.failed cause.Range 3) 1 0
+pub row_quotient_too_large : run (program_that_shows_value [] (two (number (negsuc 32767)) op.Div (number (negsuc 0)) 3)) [] ≡ ends []
+    (outcome.failed cause.Range 3) 1 0
 unfolding decode zero_words size zero_value members_where
 row_quotient_too_large = refl
 

@@ -3,9 +3,13 @@ use Rattle.std.specs.Prelude.{ℕ, ◌+◌, ◌*◌, if◌then◌else◌, List, 
 use Rattle.edi_unit.specs.declared.expressions.Callee.{Callee}
 use Rattle.edi_unit.specs.declared.expressions.Callee.TheVariants as callee
 use Rattle.edi_unit.specs.Types.{Shape, shape_at, is_set_shape}
-use Rattle.edi_unit.specs.Tree.{Expression, constant, load, not_of, sign_of, chain, make, convert, apply_of, Expressions, no_expression, expression_then, link, Links, no_link, link_then, Place, place, Part, field, index, Parts, no_part, part_then, Argument, by_value, by_variable, by_procedure, Arguments, no_argument, argument_then, Act, skip, assign, call, halt, if_act, while_act, when_act, cobegin, Acts, no_act, act_then, Clause, clause, Clauses, no_clause, clause_then, Block}
+use Rattle.edi_unit.specs.Tree.{Expression, constant, load, not_of, sign_of, chain, make, convert, apply_of, Expressions, no_expression, expression_then}
+use Rattle.edi_unit.specs.Tree.{link, Links, no_link, link_then, Place, place, Part, field, index, Parts, no_part, part_then, Argument, by_value}
+use Rattle.edi_unit.specs.Tree.{by_variable, by_procedure, Arguments, no_argument, argument_then, Act, skip, assign, call, halt, if_act, while_act, when_act}
+use Rattle.edi_unit.specs.Tree.{cobegin, Acts, no_act, act_then, Clause, clause, Clauses, no_clause, clause_then, Block}
 use Rattle.edi_unit.specs.Need.{block_at, slot_at, slot_type, part_type, operator_type, expression_type}
-use Rattle.edi_scheme.specs.Pieces.{code_length, is_branch, variable_code, element_code, operation, decision, check_code, constant_words, row_length, ClauseKind, once, repeated, released, close_code}
+use Rattle.edi_scheme.specs.Pieces.{code_length, is_branch, variable_code, element_code, operation, decision, check_code, constant_words, row_length}
+use Rattle.edi_scheme.specs.Pieces.{ClauseKind, once, repeated, released, close_code}
 
 -- a call, and a procedure that is passed on: by its name, or by a procedure parameter
 abbrev pub call_length : Callee → ℕ

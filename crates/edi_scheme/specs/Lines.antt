@@ -1,6 +1,9 @@
 -- Words of contracts. The lines that a program keeps: each is below 65,536, so that a word holds it.
 use Rattle.std.specs.Prelude.{ℕ, ◌<◌, ◌^◌, length}
-use Rattle.edi_unit.specs.Tree.{Expression, constant, load, not_of, sign_of, chain, make, convert, apply_of, Expressions, no_expression, expression_then, link, Links, no_link, link_then, Place, place, Part, field, index, Parts, no_part, part_then, Argument, by_value, by_variable, by_procedure, Arguments, no_argument, argument_then, Act, skip, assign, call, halt, if_act, while_act, when_act, cobegin, Acts, no_act, act_then, Clause, clause, Clauses, no_clause, clause_then, ProgramUnit}
+use Rattle.edi_unit.specs.Tree.{Expression, constant, load, not_of, sign_of, chain, make, convert, apply_of, Expressions, no_expression, expression_then}
+use Rattle.edi_unit.specs.Tree.{link, Links, no_link, link_then, Place, place, Part, field, index, Parts, no_part, part_then, Argument, by_value}
+use Rattle.edi_unit.specs.Tree.{by_variable, by_procedure, Arguments, no_argument, argument_then, Act, skip, assign, call, halt, if_act, while_act, when_act}
+use Rattle.edi_unit.specs.Tree.{cobegin, Acts, no_act, act_then, Clause, clause, Clauses, no_clause, clause_then, ProgramUnit}
 use Rattle.edi_unit.specs.Need.{block_at}
 
 abbrev pub IsLine : ℕ → Type 0

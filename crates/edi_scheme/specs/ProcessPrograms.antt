@@ -6,9 +6,11 @@ use Rattle.edi_unit.specs.declared.expressions.Callee.TheVariants as callee
 use Rattle.edi_unit.specs.declared.units.BlockKind.TheVariants as kind
 use Rattle.edi_unit.specs.declared.units.Parameter.TheVariants as parameter
 use Rattle.edi_unit.specs.Types.{Shape, array_of}
-use Rattle.edi_unit.specs.Tree.{constant, load, not_of, make, index, by_value, by_variable, by_procedure, Act, skip, assign, call, halt, when_act, cobegin, Block, ProgramUnit}
+use Rattle.edi_unit.specs.Tree.{constant, load, not_of, make, index, by_value, by_variable, by_procedure, Act, skip, assign, call, halt, when_act, cobegin}
+use Rattle.edi_unit.specs.Tree.{Block, ProgramUnit}
 use Rattle.edi_meaning.specs.Rows.{variable, value_of, true_value, false_value, two, one_clause, block_of, program_of}
-use Rattle.edi_scheme.specs.Programs.{part_of, expressions, arguments, clauses, natural, call_formal, call_block, function, show, show_if, program_with, procedure, function_of, branch}
+use Rattle.edi_scheme.specs.Programs.{part_of, expressions, arguments, clauses, natural, call_formal, call_block, function, show, show_if, program_with}
+use Rattle.edi_scheme.specs.Programs.{procedure, function_of, branch}
 
 -- ---- processes
 
@@ -20,7 +22,8 @@ program_with_phases =
     program_with [] (0 ∷ []) (cobegin (2 ∷ 3 ∷ []) 1 ∷ show 0 (natural 3) ∷ [])
     (procedure 0 [] [] (assign (variable 1 1) (two (value_of 1 1) op.Plus (natural 1) 1) ∷ [])
     ∷ branch 0
-    (when_act (clauses ((two (value_of 1 1) op.Equal (natural 5) 1, show 1 (natural 5) ∷ []) ∷ (two (value_of 1 1) op.Equal (natural 1) 1, call_block 1 1 [] ∷ show 1 (value_of 1 1) ∷ []) ∷ [])) 1
+    (when_act (clauses ((two (value_of 1 1) op.Equal (natural 5) 1, show 1 (natural 5) ∷ [])
+    ∷ (two (value_of 1 1) op.Equal (natural 1) 1, call_block 1 1 [] ∷ show 1 (value_of 1 1) ∷ []) ∷ [])) 1
     ∷ show 1 (natural 7)
     ∷ [])
     ∷ branch 0 (call_block 1 1 [] ∷ when_act (one_clause true_value (show 1 (natural 9) ∷ [])) 1 ∷ [])

@@ -12,7 +12,8 @@ use Rattle.edi_unit.specs.Tree.{skip, when_act, cobegin, ProgramUnit}
 use Rattle.edi_meaning.specs.Rows as program
 use Rattle.edi_meaning.specs.Rows.{empty_system, true_value, one_clause}
 use Rattle.edi_target.specs.Decode.{decode}
-use Rattle.edi_scheme.specs.ProcessPrograms.{program_with_phases, program_with_called_index, program_with_forks_inside, program_that_shares, program_in_phase, program_that_halts_in_branch, program_that_accepts, program_without_file, program_of_files}
+use Rattle.edi_scheme.specs.ProcessPrograms.{program_with_phases, program_with_called_index, program_with_forks_inside, program_that_shares}
+use Rattle.edi_scheme.specs.ProcessPrograms.{program_in_phase, program_that_halts_in_branch, program_that_accepts, program_without_file, program_of_files}
 use Rattle.edi_scheme.specs.Sides.{End, both, twice, with_needs}
 
 -- with a bound of a hundred turns

@@ -8,7 +8,10 @@ use Rattle.edi_unit.specs.declared.units.BlockKind.TheVariants as kind
 use Rattle.edi_unit.specs.declared.units.Parameter.{Parameter}
 use Rattle.edi_unit.specs.declared.units.Parameter.TheVariants as parameter
 use Rattle.edi_unit.specs.Types.{Shape, record_of, array_of, set_of}
-use Rattle.edi_unit.specs.Tree.{Expression, constant, load, not_of, sign_of, chain, make, convert, apply_of, Expressions, no_expression, expression_then, Links, link, no_link, link_then, Place, place, Part, field, index, Parts, no_part, part_then, Argument, by_value, by_variable, by_procedure, Arguments, no_argument, argument_then, Act, assign, call, halt, if_act, while_act, clause, Clauses, no_clause, clause_then, Block, ProgramUnit}
+use Rattle.edi_unit.specs.Tree.{Expression, constant, load, not_of, sign_of, chain, make, convert, apply_of, Expressions, no_expression, expression_then}
+use Rattle.edi_unit.specs.Tree.{Links, link, no_link, link_then, Place, place, Part, field, index, Parts, no_part, part_then, Argument, by_value}
+use Rattle.edi_unit.specs.Tree.{by_variable, by_procedure, Arguments, no_argument, argument_then, Act, assign, call, halt, if_act, while_act, clause}
+use Rattle.edi_unit.specs.Tree.{Clauses, no_clause, clause_then, Block, ProgramUnit}
 use Rattle.edi_meaning.specs.Rows.{list_of, variable, value_of, number, true_value, two, one_clause, two_clauses, block_of, program_of, head}
 
 -- ---- writing programs down
@@ -83,9 +86,13 @@ program_of_operators =
     program_with [] []
     (show 0 (chain (natural 7) (links ((op.Minus, natural 2) ∷ (op.Times, natural 3) ∷ (op.Div, natural 2) ∷ (op.Mod, natural 4) ∷ [])))
     ∷ show 0 (sign_of (number (negsuc 4)) 1)
-    ∷ show_if 0 (chain (two (natural 1) op.LessOrEqual (natural 1) 1) (links ((op.And, two (natural 2) op.Greater (natural 1) 1) ∷ (op.And, two (natural 2) op.GreaterOrEqual (natural 2) 1) ∷ (op.And, not_of (two (natural 1) op.Equal (natural 2) 1)) ∷ []))) 4
-    ∷ show_if 0 (chain (two (natural 1) op.Less (natural 1) 1) (links ((op.Or, two (natural 1) op.Greater (natural 1) 1) ∷ (op.Or, two (natural 1) op.NotEqual (natural 2) 1) ∷ []))) 6
-    ∷ if_act (two_clauses (chain (two (natural 1) op.GreaterOrEqual (natural 2) 1) (links ((op.Or, two (natural 2) op.LessOrEqual (natural 1) 1) ∷ []))) (show 0 (natural 7) ∷ []) (two (natural 3) op.Less (natural 4) 1) (show 0 (natural 8) ∷ []))
+    ∷ show_if 0 (chain (two (natural 1) op.LessOrEqual (natural 1) 1)
+    (links ((op.And, two (natural 2) op.Greater (natural 1) 1) ∷ (op.And, two (natural 2) op.GreaterOrEqual (natural 2) 1)
+    ∷ (op.And, not_of (two (natural 1) op.Equal (natural 2) 1)) ∷ []))) 4
+    ∷ show_if 0 (chain (two (natural 1) op.Less (natural 1) 1)
+    (links ((op.Or, two (natural 1) op.Greater (natural 1) 1) ∷ (op.Or, two (natural 1) op.NotEqual (natural 2) 1) ∷ []))) 6
+    ∷ if_act (two_clauses (chain (two (natural 1) op.GreaterOrEqual (natural 2) 1) (links ((op.Or, two (natural 2) op.LessOrEqual (natural 1) 1) ∷ [])))
+    (show 0 (natural 7) ∷ []) (two (natural 3) op.Less (natural 4) 1) (show 0 (natural 8) ∷ []))
     ∷ [])
     []
 
@@ -99,8 +106,14 @@ abbrev pub program_with_clauses : ProgramUnit
 program_with_clauses =
     program_with [] (0 ∷ [])
     (assign (variable 0 1) (natural 3)
-    ∷ while_act (clauses ((two (value_of 0 1) op.Greater (natural 1) 1, show 0 (value_of 0 1) ∷ assign (variable 0 1) (two (value_of 0 1) op.Minus (natural 1) 1) ∷ []) ∷ (two (value_of 0 1) op.Equal (natural 1) 1, show 0 (natural 9) ∷ assign (variable 0 1) (natural 0) ∷ []) ∷ []))
-    ∷ if_act (clauses ((two (value_of 0 1) op.Equal (natural 1) 1, show 0 (natural 1) ∷ []) ∷ (two (value_of 0 1) op.Equal (natural 2) 1, show 0 (natural 2) ∷ []) ∷ (two (value_of 0 1) op.Equal (natural 3) 1, show 0 (natural 3) ∷ []) ∷ []))
+    ∷ while_act (clauses ((
+      two (value_of 0 1) op.Greater (natural 1) 1,
+      show 0 (value_of 0 1)
+          ∷ assign (variable 0 1) (two (value_of 0 1) op.Minus (natural 1) 1) ∷ [],
+    )
+    ∷ (two (value_of 0 1) op.Equal (natural 1) 1, show 0 (natural 9) ∷ assign (variable 0 1) (natural 0) ∷ []) ∷ []))
+    ∷ if_act (clauses ((two (value_of 0 1) op.Equal (natural 1) 1, show 0 (natural 1) ∷ [])
+    ∷ (two (value_of 0 1) op.Equal (natural 2) 1, show 0 (natural 2) ∷ []) ∷ (two (value_of 0 1) op.Equal (natural 3) 1, show 0 (natural 3) ∷ []) ∷ []))
     ∷ show 0 (value_of 0 1)
     ∷ [])
     []
@@ -206,7 +219,8 @@ abbrev pub program_that_hands_on : ProgramUnit
 program_that_hands_on =
     program_with [] (0 ∷ [])
     (assign (variable 0 1) (natural 5) ∷ call_block 0 1 (by_variable (variable 0 1) ∷ []) ∷ show 0 (value_of 0 1) ∷ [])
-    (procedure 0 (parameter.Var 0 ∷ []) [] (call_block 1 2 (by_value (natural 1) ∷ by_variable (variable 0 0) ∷ []) ∷ assign (variable 0 0) (two (value_of 0 0) op.Times (natural 2) 1) ∷ [])
+    (procedure 0 (parameter.Var 0 ∷ []) [] (call_block 1 2 (by_value (natural 1) ∷ by_variable (variable 0 0) ∷ [])
+    ∷ assign (variable 0 0) (two (value_of 0 0) op.Times (natural 2) 1) ∷ [])
     ∷ procedure 0 (parameter.Value 0 ∷ parameter.Var 0 ∷ []) [] (assign (variable 0 1) (two (value_of 0 1) op.Plus (value_of 0 0) 1) ∷ [])
     ∷ [])
 
@@ -220,7 +234,8 @@ program_with_parts =
     ∷ show 0 (load (part_of 0 1 (at 2 ∷ field 0 ∷ [])))
     ∷ show 0 (load (part_of 0 1 (at 2 ∷ field 1 ∷ [])))
     ∷ [])
-    (procedure 0 (parameter.Var 4 ∷ []) [] (assign (part_of 0 0 (at 2 ∷ field 1 ∷ [])) (natural 3) ∷ call_block 1 2 (by_variable (part_of 0 0 (at 2 ∷ [])) ∷ []) ∷ [])
+    (procedure 0 (parameter.Var 4 ∷ []) [] (assign (part_of 0 0 (at 2 ∷ field 1 ∷ [])) (natural 3)
+    ∷ call_block 1 2 (by_variable (part_of 0 0 (at 2 ∷ [])) ∷ []) ∷ [])
     ∷ procedure 0 (parameter.Var 3 ∷ []) [] (assign (part_of 0 0 (field 0 ∷ [])) (two (load (part_of 0 0 (field 1 ∷ []))) op.Plus (natural 1) 1) ∷ [])
     ∷ [])
 
@@ -263,7 +278,8 @@ program_of_functions =
     ∷ assign (variable 0 0) (value_of 0 4)
     ∷ [])
     ∷ function_of 0 0 (parameter.Value 0 ∷ []) []
-    (if_act (two_clauses (two (value_of 0 1) op.Equal (natural 0) 1) (assign (variable 0 0) (natural 1) ∷ []) true_value (assign (variable 0 0) (two (value_of 0 1) op.Times (function 1 2 (by_value (two (value_of 0 1) op.Minus (natural 1) 1) ∷ [])) 1) ∷ [])) ∷ [])
+    (if_act (two_clauses (two (value_of 0 1) op.Equal (natural 0) 1) (assign (variable 0 0) (natural 1) ∷ []) true_value
+    (assign (variable 0 0) (two (value_of 0 1) op.Times (function 1 2 (by_value (two (value_of 0 1) op.Minus (natural 1) 1) ∷ [])) 1) ∷ [])) ∷ [])
     ∷ function_of 0 0 (parameter.Value 0 ∷ parameter.Formal (Some 0) ∷ []) []
     (assign (variable 0 0) (two (natural 1) op.Plus (apply_of (callee.Formal 0 2) (arguments (by_value (value_of 0 1) ∷ [])) 1) 1) ∷ [])
     ∷ [])
@@ -276,7 +292,8 @@ program_through_outer =
     (call_block 0 1 (by_value (natural 2) ∷ []) ∷ [])
     (procedure 0 (parameter.Value 0 ∷ []) [] (call_block 0 2 [] ∷ [])
     ∷ procedure 1 [] []
-    (if_act (one_clause (two (value_of 1 0) op.Greater (natural 0) 1) (call_block 2 1 (by_value (two (value_of 1 0) op.Minus (natural 1) 1) ∷ []) ∷ [])) ∷ show 2 (value_of 1 0) ∷ [])
+    (if_act (one_clause (two (value_of 1 0) op.Greater (natural 0) 1) (call_block 2 1 (by_value (two (value_of 1 0) op.Minus (natural 1) 1) ∷ []) ∷ []))
+    ∷ show 2 (value_of 1 0) ∷ [])
     ∷ [])
 
 -- array t [1:2] (int)
@@ -302,7 +319,8 @@ program_that_calls_itself =
     program_of [] (1 ∷ 2 ∷ [])
     (block_of kind.Program 0 None (parameter.Formal None ∷ parameter.Formal None ∷ []) (1 ∷ []) 0
     (call_formal 0 0 (by_variable (variable 0 2) ∷ [])
-    ∷ if_act (one_clause (two (value_of 0 2) op.Equal (constant 1 (pos 97)) 1) (call_block 0 0 (by_procedure (callee.Formal 0 0) ∷ by_procedure (callee.Formal 0 1) ∷ []) ∷ []))
+    ∷ if_act (one_clause (two (value_of 0 2) op.Equal (constant 1 (pos 97)) 1)
+    (call_block 0 0 (by_procedure (callee.Formal 0 0) ∷ by_procedure (callee.Formal 0 1) ∷ []) ∷ []))
     ∷ call_formal 0 1 (by_value (value_of 0 2) ∷ [])
     ∷ [])
     ∷ [])

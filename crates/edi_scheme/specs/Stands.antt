@@ -2,12 +2,16 @@
 -- function, as in the definition of the machine; `entry` tells where each block begins.
 use Rattle.std.specs.Prelude.{◌≡◌, ℕ, ◌<◌, Bool, true, false, List, [], ◌∷◌, length, map, Option, Some, None}
 use Rattle.edi_unit.specs.Types.{Shape, shape_at, is_set_shape, size}
-use Rattle.edi_unit.specs.Tree.{Expression, constant, load, not_of, sign_of, chain, make, convert, apply_of, Expressions, no_expression, expression_then, link, Links, no_link, link_then, Place, place, Part, field, index, Parts, no_part, part_then, Argument, by_value, by_variable, by_procedure, Arguments, no_argument, argument_then, Act, skip, assign, call, halt, if_act, while_act, when_act, cobegin, Acts, no_act, act_then, Clause, clause, Clauses, no_clause, clause_then, Block}
+use Rattle.edi_unit.specs.Tree.{Expression, constant, load, not_of, sign_of, chain, make, convert, apply_of, Expressions, no_expression, expression_then}
+use Rattle.edi_unit.specs.Tree.{link, Links, no_link, link_then, Place, place, Part, field, index, Parts, no_part, part_then, Argument, by_value}
+use Rattle.edi_unit.specs.Tree.{by_variable, by_procedure, Arguments, no_argument, argument_then, Act, skip, assign, call, halt, if_act, while_act, when_act}
+use Rattle.edi_unit.specs.Tree.{cobegin, Acts, no_act, act_then, Clause, clause, Clauses, no_clause, clause_then, Block}
 use Rattle.edi_unit.specs.Need.{block_at, slot_at, slot_type, part_type, operator_type, place_type, expression_type}
 use Rattle.edi_meaning.specs.Step.{is_quiet}
 use Rattle.edi_target.specs.Op as instruction
 use Rattle.edi_target.specs.Op.{Instruction, word_of_integer}
-use Rattle.edi_scheme.specs.Pieces.{Code, field_offset, is_branch, entry_of, return_of, variable_code, element_code, operation, decision, check_code, constant_words, ClauseKind, once, repeated, released, close_code, again_code}
+use Rattle.edi_scheme.specs.Pieces.{Code, field_offset, is_branch, entry_of, return_of, variable_code, element_code, operation, decision, check_code}
+use Rattle.edi_scheme.specs.Pieces.{constant_words, ClauseKind, once, repeated, released, close_code, again_code}
 use Rattle.edi_scheme.specs.Code.{slot_offset, call_code, procedure_code}
 
 -- one of two, as a test says

@@ -31,16 +31,20 @@ apart bs cs ks n y =
     is_eq-slice_cmp cs ks ∙ nat_list_eq_equiv.symm cs ks ∙ sym (nat_list_eq_equiv.congr bs ks cs (sym (is_eq-slice_cmp bs ks) ∙ y)) ∙ n
 
 -- a change at the name bs leaves what other names have
-others : {X : Type 0} (m n : BTreeMap (Vec ℕ Global) X) (bs cs : List ℕ) → KeepsOthers (eq_by_cmp spelling_cmp) (is_at (name_cmp bs)) m.entries n.entries → bytes_eq bs cs ≡ false → get_by (name_cmp cs) n ≡ get_by (name_cmp cs) m
+others : {X : Type 0} (m n : BTreeMap (Vec ℕ Global) X) (bs cs : List ℕ) → KeepsOthers (eq_by_cmp spelling_cmp) (is_at (name_cmp bs)) m.entries n.entries
+    → bytes_eq bs cs ≡ false → get_by (name_cmp cs) n ≡ get_by (name_cmp cs) m
 unfolding KeepsOthers
 others m n bs cs h e =
     h (is_at (name_cmp cs)) (λ x y. (eq_by_cmp_equiv nat_list_cmp_total).congr cs x.items y.items) (λ k. apart bs cs k.items e)
 
 -- the list of one name has been changed by f
-pub listed-change : (old new : Declarations) (bs : List ℕ) (list changed : Vec Declaration Global) (f : List Declaration → List Declaration) → get_by (name_cmp bs) old.lists ≡ Some list → UpdatesBy spelling_cmp (name_cmp bs) old.lists new.lists (Some changed) → changed.items ≡ f list.items → (q : List ℕ) → listed new q ≡ cond (bytes_eq bs q) (f (listed old q)) (listed old q)
+pub listed-change : (old new : Declarations) (bs : List ℕ) (list changed : Vec Declaration Global) (f : List Declaration → List Declaration)
+    → get_by (name_cmp bs) old.lists ≡ Some list → UpdatesBy spelling_cmp (name_cmp bs) old.lists new.lists (Some changed) → changed.items ≡ f list.items
+    → (q : List ℕ) → listed new q ≡ cond (bytes_eq bs q) (f (listed old q)) (listed old q)
 listed-change old new bs list changed f was h e q =
     ⊎_elim
-    (λ y. subst (λ l. listed new l ≡ f (listed old l)) ((bytes_decides bs q).0 y) (ap list_of h.1 ∙ e ∙ ap (λ o. f (list_of o)) (sym was)) ∙ sym (cond-true (bytes_eq bs q) (f (listed old q)) (listed old q) y))
+    (λ y. subst (λ l. listed new l ≡ f (listed old l)) ((bytes_decides bs q).0 y) (ap list_of h.1 ∙ e ∙ ap (λ o. f (list_of o)) (sym was))
+    ∙ sym (cond-true (bytes_eq bs q) (f (listed old q)) (listed old q) y))
     (λ n. ap list_of (others old.lists new.lists bs q h.3 n) ∙ sym (cond-false (bytes_eq bs q) (f (listed old q)) (listed old q) n))
     (cases_Bool (bytes_eq bs q))
 
@@ -49,12 +53,14 @@ cond-same true x = refl
 cond-same false x = refl
 
 -- the list of one name has been written back as it was
-pub listed-same : (old new : Declarations) (bs : List ℕ) (list changed : Vec Declaration Global) → get_by (name_cmp bs) old.lists ≡ Some list → UpdatesBy spelling_cmp (name_cmp bs) old.lists new.lists (Some changed) → changed.items ≡ list.items → (q : List ℕ) → listed new q ≡ listed old q
+pub listed-same : (old new : Declarations) (bs : List ℕ) (list changed : Vec Declaration Global) → get_by (name_cmp bs) old.lists ≡ Some list
+    → UpdatesBy spelling_cmp (name_cmp bs) old.lists new.lists (Some changed) → changed.items ≡ list.items → (q : List ℕ) → listed new q ≡ listed old q
 listed-same old new bs list changed was h e q =
     listed-change old new bs list changed (λ l. l) was h e q ∙ cond-same (bytes_eq bs q) (listed old q)
 
 -- one name has been given an empty list
-pub listed-made : (old new : Declarations) (bs : List ℕ) (made : Vec Declaration Global) → get_by (name_cmp bs) old.lists ≡ None → UpdatesBy spelling_cmp (name_cmp bs) old.lists new.lists (Some made) → made.items ≡ [] → (q : List ℕ) → listed new q ≡ listed old q
+pub listed-made : (old new : Declarations) (bs : List ℕ) (made : Vec Declaration Global) → get_by (name_cmp bs) old.lists ≡ None
+    → UpdatesBy spelling_cmp (name_cmp bs) old.lists new.lists (Some made) → made.items ≡ [] → (q : List ℕ) → listed new q ≡ listed old q
 listed-made old new bs made was h e q =
     ⊎_elim
     (λ y. subst (λ l. listed new l ≡ listed old l) ((bytes_decides bs q).0 y) (ap list_of h.1 ∙ e ∙ ap list_of (sym was)))

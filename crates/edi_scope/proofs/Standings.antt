@@ -1,5 +1,6 @@
 -- The declarations of each name, after a change of the scopes.
-use Rattle.std.proofs.Common.{◌≡◌, ℕ, ◌+◌, ◌-◌, ◌<◌, ◌≤◌, zero, suc, Bool, true, false, cond, eqb, List, [], ◌∷◌, ◌++◌, Option, Some, None, length, drop, insert, remove, refl, sym, ap, subst, inl, inr, ◌⊎◌, ◌∙◌, ⊎_elim, arith, ◌||◌, is_some, IsTrue}
+use Rattle.std.proofs.Common.{◌≡◌, ℕ, ◌+◌, ◌-◌, ◌<◌, ◌≤◌, zero, suc, Bool, true, false, cond, eqb, List, [], ◌∷◌, ◌++◌, Option, Some, None, length, drop}
+use Rattle.std.proofs.Common.{insert, remove, refl, sym, ap, subst, inl, inr, ◌⊎◌, ◌∙◌, ⊎_elim, arith, ◌||◌, is_some, IsTrue}
 use Rattle.std.proofs.lemmas.List.{append-nil, length-append}
 use Rattle.std.proofs.lemmas.List.Edits.{insert_end, insert-append_left, remove-append_right}
 use Rattle.std.proofs.lemmas.List.Folds.{list_any-append}
@@ -29,13 +30,15 @@ slice_get-end (y ∷ xs) x (suc k) e = slice_get-end xs x k (omega arith)
 last_entity-here : (xs : List Declaration) (depth : ℕ) (entity : Option Entity) → last_entity (xs ++ here depth entity) ≡ option_or entity (last_entity xs)
 last_entity-here xs depth None = ap last_entity (append-nil xs)
 last_entity-here xs depth (Some entity) =
-    ap (λ o. option_map (λ d. d.entity) o) (slice_get-end xs (record { depth = depth; entity = entity }) (length (xs ++ record { depth = depth; entity = entity } ∷ []) - 1) (omega (arith, length-append xs (record { depth = depth; entity = entity } ∷ []))))
+    ap (λ o. option_map (λ d. d.entity) o) (slice_get-end xs (record { depth = depth; entity = entity })
+    (length (xs ++ record { depth = depth; entity = entity } ∷ []) - 1) (omega (arith, length-append xs (record { depth = depth; entity = entity } ∷ []))))
 
 -- what a name means is what its last declaration says
 pub last_entity-standing : (scopes : List Scope) (name : List ℕ) → last_entity (standing scopes name) ≡ visible scopes name
 last_entity-standing [] name = refl
 last_entity-standing (scope ∷ outer) name =
-    last_entity-here (standing outer name) (length outer) (meaning scope.names name) ∙ ap (option_or (meaning scope.names name)) (last_entity-standing outer name)
+    last_entity-here (standing outer name) (length outer) (meaning scope.names name) ∙ ap (option_or (meaning scope.names name))
+    (last_entity-standing outer name)
 
 -- whether a declaration has this depth
 abbrev is_at : ℕ → Declaration → Bool
@@ -49,7 +52,8 @@ none_above : (scopes : List Scope) (name : List ℕ) (depth : ℕ) → length sc
 none_above [] name depth le = refl
 none_above (scope ∷ outer) name depth le =
     let apart : eqb (length outer) depth ≡ false = grind arith in
-    list_any-append (is_at depth) (standing outer name) (here (length outer) (meaning scope.names name)) ∙ ap (λ b. b || list_any (is_at depth) (here (length outer) (meaning scope.names name))) (none_above outer name depth (omega arith))
+    list_any-append (is_at depth) (standing outer name) (here (length outer) (meaning scope.names name))
+    ∙ ap (λ b. b || list_any (is_at depth) (here (length outer) (meaning scope.names name))) (none_above outer name depth (omega arith))
     ∙ not_here depth (length outer) (meaning scope.names name) apart
 
 is_here : (depth : ℕ) (entity : Option Entity) → list_any (is_at depth) (here depth entity) ≡ is_some entity
@@ -57,13 +61,15 @@ is_here depth None = refl
 is_here depth (Some entity) = grind arith
 
 -- a scope has a name exactly where one of the name's declarations has its depth
-pub has_depth : (scopes : List Scope) (name : List ℕ) (outward depth : ℕ) → depth + outward + 1 ≡ length scopes → list_any (is_at depth) (standing scopes name) ≡ is_some (declared (drop outward scopes) name)
+pub has_depth : (scopes : List Scope) (name : List ℕ) (outward depth : ℕ) → depth + outward + 1 ≡ length scopes
+    → list_any (is_at depth) (standing scopes name) ≡ is_some (declared (drop outward scopes) name)
 has_depth [] name outward depth e = absurd (omega arith)
 has_depth (scope ∷ outer) name zero depth e =
     let same : depth ≡ length outer = omega arith in
     list_any-append (is_at depth) (standing outer name) (here (length outer) (meaning scope.names name))
     ∙ ap (λ b. b || list_any (is_at depth) (here (length outer) (meaning scope.names name))) (none_above outer name depth (omega arith))
-    ∙ subst (λ n. list_any (is_at depth) (here n (meaning scope.names name)) ≡ is_some (meaning scope.names name)) same (is_here depth (meaning scope.names name))
+    ∙ subst (λ n. list_any (is_at depth) (here n (meaning scope.names name)) ≡ is_some (meaning scope.names name)) same
+    (is_here depth (meaning scope.names name))
 has_depth (scope ∷ outer) name (suc outward) depth e =
     let apart : eqb (length outer) depth ≡ false = grind arith in
     list_any-append (is_at depth) (standing outer name) (here (length outer) (meaning scope.names name))
@@ -81,7 +87,8 @@ itself name = (bytes_decides name name).1 refl
 meaning-same : (name : List ℕ) (entity : Entity) (names : List (List ℕ × Entity)) → meaning ((name, entity) ∷ names) name ≡ Some entity
 meaning-same name entity names = ap (λ b. cond b (Some entity) (meaning names name)) (itself name)
 
-meaning-other : (name q : List ℕ) (entity : Entity) (names : List (List ℕ × Entity)) → bytes_eq q name ≡ false → meaning ((name, entity) ∷ names) q ≡ meaning names q
+meaning-other : (name q : List ℕ) (entity : Entity) (names : List (List ℕ × Entity)) → bytes_eq q name ≡ false → meaning ((name, entity) ∷ names) q ≡ meaning
+    names q
 meaning-other name q entity names e = ap (λ b. cond b (Some entity) (meaning names q)) e
 
 -- the lists after a change of one name's list
@@ -89,7 +96,8 @@ abbrev pub Changed : (List ℕ → List Declaration) → (List ℕ → List Decl
 Changed old new name f = (q : List ℕ) → new q ≡ cond (bytes_eq name q) (f (old q)) (old q)
 
 -- the lists are those of other scopes, where the one that changed is, and the others are the same
-pub changed : (old new a b : List ℕ → List Declaration) (name : List ℕ) (f : List Declaration → List Declaration) → Changed old new name f → ((q : List ℕ) → old q ≡ a q) → f (a name) ≡ b name → ((q : List ℕ) → bytes_eq q name ≡ false → a q ≡ b q) → (q : List ℕ) → new q ≡ b q
+pub changed : (old new a b : List ℕ → List Declaration) (name : List ℕ) (f : List Declaration → List Declaration) → Changed old new name f
+    → ((q : List ℕ) → old q ≡ a q) → f (a name) ≡ b name → ((q : List ℕ) → bytes_eq q name ≡ false → a q ≡ b q) → (q : List ℕ) → new q ≡ b q
 changed old new a b name f h was here others q =
     ⊎_elim
     (λ e. subst (λ l. new l ≡ b l) e (h name ∙ ap (λ v. cond v (f (old name)) (old name)) (itself name) ∙ ap f (was name) ∙ here))
@@ -111,11 +119,13 @@ outermost-without_newest [] h = h
 outermost-without_newest (scope ∷ []) h = h
 outermost-without_newest (scope ∷ around ∷ outer) h = h
 
-pub once-with_name : (scopes : List Scope) (name : List ℕ) (entity : Entity) → declared scopes name ≡ None → EachOnce scopes → EachOnce (with_name name entity scopes)
+pub once-with_name : (scopes : List Scope) (name : List ℕ) (entity : Entity) → declared scopes name ≡ None → EachOnce scopes
+    → EachOnce (with_name name entity scopes)
 once-with_name [] name entity free h = h
 once-with_name (scope ∷ outer) name entity free h = ((free, h.0), h.1)
 
-once-exported : (scopes : List Scope) (name : List ℕ) (entity : Entity) → declared (drop 1 scopes) name ≡ None → EachOnce scopes → EachOnce (exported name entity scopes)
+once-exported : (scopes : List Scope) (name : List ℕ) (entity : Entity) → declared (drop 1 scopes) name ≡ None → EachOnce scopes
+    → EachOnce (exported name entity scopes)
 once-exported [] name entity free h = h
 once-exported (scope ∷ outer) name entity free h = (h.0, once-with_name outer name entity free h.1)
 
@@ -128,10 +138,13 @@ once-without_newest [] h = h
 once-without_newest (scope ∷ outer) h = (once-shorter scope.names h.0, h.1)
 
 -- the innermost scope has got a name
-pub standing-with_name : (scopes : List Scope) (name : List ℕ) (entity : Entity) (depth at : ℕ) → declared scopes name ≡ None → depth + 1 ≡ length scopes → at ≡ length (standing scopes name) → insert (standing scopes name) at (record { depth = depth; entity = entity }) ≡ standing (with_name name entity scopes) name
+pub standing-with_name : (scopes : List Scope) (name : List ℕ) (entity : Entity) (depth at : ℕ) → declared scopes name ≡ None → depth + 1 ≡ length scopes
+    → at ≡ length (standing scopes name) → insert (standing scopes name) at (record { depth = depth; entity = entity }) ≡ standing
+    (with_name name entity scopes) name
 standing-with_name [] name entity depth at free e f = absurd (omega arith)
 standing-with_name (scope ∷ outer) name entity depth at free e f =
-    let here_none : standing (scope ∷ outer) name ≡ standing outer name = ap (λ o. standing outer name ++ here (length outer) o) free ∙ append-nil (standing outer name) in
+    let here_none : standing (scope ∷ outer) name ≡ standing outer name = ap (λ o. standing outer name ++ here (length outer) o) free
+    ∙ append-nil (standing outer name) in
     let end : at ≡ length (standing outer name) = f ∙ ap length here_none in
     let deep : depth ≡ length outer = omega arith in
     ap (λ xs. insert xs at (record { depth = depth; entity = entity })) here_none
@@ -140,14 +153,19 @@ standing-with_name (scope ∷ outer) name entity depth at free e f =
     ∙ ap (λ n. standing outer name ++ record { depth = n; entity = entity } ∷ []) deep
     ∙ ap (λ o. standing outer name ++ here (length outer) o) (sym (meaning-same name entity scope.names))
 
-pub standing-with_name_other : (scopes : List Scope) (name q : List ℕ) (entity : Entity) → bytes_eq q name ≡ false → standing scopes q ≡ standing (with_name name entity scopes) q
+pub standing-with_name_other : (scopes : List Scope) (name q : List ℕ) (entity : Entity) → bytes_eq q name ≡ false → standing scopes q ≡ standing
+    (with_name name entity scopes) q
 standing-with_name_other [] name q entity n = refl
 standing-with_name_other (scope ∷ outer) name q entity n =
     ap (λ o. standing outer q ++ here (length outer) o) (sym (meaning-other name q entity scope.names n))
 
-pub kept-with_name : (old new : Declarations) (scopes : List Scope) (name : List ℕ) (entity : Entity) (depth at : ℕ) → ScopesAreKept old scopes → Changed (listed old) (listed new) name (λ l. insert l at (record { depth = depth; entity = entity })) → declared scopes name ≡ None → depth + 1 ≡ length scopes → at ≡ length (listed old name) → ScopesAreKept new (with_name name entity scopes)
+pub kept-with_name : (old new : Declarations) (scopes : List Scope) (name : List ℕ) (entity : Entity) (depth at : ℕ) → ScopesAreKept old scopes
+    → Changed (listed old) (listed new) name (λ l. insert l at (record { depth = depth; entity = entity })) → declared scopes name ≡ None
+    → depth + 1 ≡ length scopes → at ≡ length (listed old name) → ScopesAreKept new (with_name name entity scopes)
 kept-with_name old new scopes name entity depth at k h free e f = record {
-  stands = changed (listed old) (listed new) (standing scopes) (standing (with_name name entity scopes)) name (λ l. insert l at (record { depth = depth; entity = entity })) h k.stands (standing-with_name scopes name entity depth at free e (f ∙ ap length (k.stands name))) (λ q n. standing-with_name_other scopes name q entity n);
+  stands = changed (listed old) (listed new) (standing scopes) (standing (with_name name entity scopes)) name
+      (λ l. insert l at (record { depth = depth; entity = entity })) h k.stands
+      (standing-with_name scopes name entity depth at free e (f ∙ ap length (k.stands name))) (λ q n. standing-with_name_other scopes name q entity n);
   once = once-with_name scopes name entity free k.once;
   outermost = outermost-with_name scopes name entity k.outermost;
 }
@@ -157,12 +175,17 @@ insert_before_last xs x y at e =
     insert-append_left xs (x ∷ []) at y (omega arith) ∙ ap (λ l. l ++ x ∷ []) (ap (λ n. insert xs n y) e ∙ insert_end xs y)
 
 -- the scope round the innermost has got a name that the innermost has
-standing-exported : (scope around : Scope) (outer : List Scope) (name : List ℕ) (entity : Entity) (depth at : ℕ) (inner : Option Entity) → meaning scope.names name ≡ inner → IsTrue (is_some inner) → meaning around.names name ≡ None → depth ≡ length outer → at + 1 ≡ length (standing (scope ∷ around ∷ outer) name) → insert (standing (scope ∷ around ∷ outer) name) at (record { depth = depth; entity = entity }) ≡ standing (exported name entity (scope ∷ around ∷ outer)) name
+standing-exported : (scope around : Scope) (outer : List Scope) (name : List ℕ) (entity : Entity) (depth at : ℕ) (inner : Option Entity)
+    → meaning scope.names name ≡ inner → IsTrue (is_some inner) → meaning around.names name ≡ None → depth ≡ length outer
+    → at + 1 ≡ length (standing (scope ∷ around ∷ outer) name) → insert (standing (scope ∷ around ∷ outer) name) at (record { depth = depth; entity = entity })
+    ≡ standing (exported name entity (scope ∷ around ∷ outer)) name
 standing-exported scope around outer name entity depth at None has some free deep f = cc
 standing-exported scope around outer name entity depth at (Some inner) has some free deep f =
     let D : Declaration = record { depth = depth; entity = entity } in
     let x : Declaration = record { depth = length (around ∷ outer); entity = inner } in
-    let lists : standing (scope ∷ around ∷ outer) name ≡ standing outer name ++ x ∷ [] = ap (λ o. standing (around ∷ outer) name ++ here (length (around ∷ outer)) o) has ∙ ap (λ l. l ++ x ∷ []) (ap (λ o. standing outer name ++ here (length outer) o) free ∙ append-nil (standing outer name)) in
+    let lists : standing (scope ∷ around ∷ outer) name ≡ standing outer name ++ x
+    ∷ [] = ap (λ o. standing (around ∷ outer) name ++ here (length (around ∷ outer)) o) has
+    ∙ ap (λ l. l ++ x ∷ []) (ap (λ o. standing outer name ++ here (length outer) o) free ∙ append-nil (standing outer name)) in
     let end : at ≡ length (standing outer name) = omega (arith, ap length lists, length-append (standing outer name) (x ∷ [])) in
     ap (λ l. insert l at D) lists
     ∙ insert_before_last (standing outer name) x D at end
@@ -170,32 +193,42 @@ standing-exported scope around outer name entity depth at (Some inner) has some 
     ∙ ap (λ o. (standing outer name ++ here (length outer) o) ++ x ∷ []) (sym (meaning-same name entity around.names))
     ∙ ap (λ o. standing (with_name name entity (around ∷ outer)) name ++ here (length (around ∷ outer)) o) (sym has)
 
-standing-exported_other : (scopes : List Scope) (name q : List ℕ) (entity : Entity) → bytes_eq q name ≡ false → standing scopes q ≡ standing (exported name entity scopes) q
+standing-exported_other : (scopes : List Scope) (name q : List ℕ) (entity : Entity) → bytes_eq q name ≡ false → standing scopes q ≡ standing
+    (exported name entity scopes) q
 standing-exported_other [] name q entity n = refl
 standing-exported_other (scope ∷ []) name q entity n = refl
 standing-exported_other (scope ∷ around ∷ outer) name q entity n =
     ap (λ l. l ++ here (length (around ∷ outer)) (meaning scope.names q)) (standing-with_name_other (around ∷ outer) name q entity n)
 
-pub kept-exported : (old new : Declarations) (scopes : List Scope) (name : List ℕ) (entity : Entity) (depth at : ℕ) → ScopesAreKept old scopes → Changed (listed old) (listed new) name (λ l. insert l at (record { depth = depth; entity = entity })) → IsTrue (is_some (declared scopes name)) → declared (drop 1 scopes) name ≡ None → depth + 2 ≡ length scopes → at + 1 ≡ length (listed old name) → ScopesAreKept new (exported name entity scopes)
+pub kept-exported : (old new : Declarations) (scopes : List Scope) (name : List ℕ) (entity : Entity) (depth at : ℕ) → ScopesAreKept old scopes
+    → Changed (listed old) (listed new) name (λ l. insert l at (record { depth = depth; entity = entity })) → IsTrue (is_some (declared scopes name))
+    → declared (drop 1 scopes) name ≡ None → depth + 2 ≡ length scopes → at + 1 ≡ length (listed old name) → ScopesAreKept new (exported name entity scopes)
 kept-exported old new [] name entity depth at k h has free e f = absurd (omega arith)
 kept-exported old new (scope ∷ []) name entity depth at k h has free e f = absurd (omega arith)
 kept-exported old new (scope ∷ around ∷ outer) name entity depth at k h has free e f =
     let scopes : List Scope = scope ∷ around ∷ outer in
     record {
-      stands = changed (listed old) (listed new) (standing scopes) (standing (exported name entity scopes)) name (λ l. insert l at (record { depth = depth; entity = entity })) h k.stands (standing-exported scope around outer name entity depth at (meaning scope.names name) refl has free (omega arith) (f ∙ ap length (k.stands name))) (λ q n. standing-exported_other scopes name q entity n);
+      stands = changed (listed old) (listed new) (standing scopes) (standing (exported name entity scopes)) name
+          (λ l. insert l at (record { depth = depth; entity = entity })) h k.stands
+          (standing-exported scope around outer name entity depth at (meaning scope.names name) refl has free (omega arith) (f ∙ ap length (k.stands name)))
+          (λ q n. standing-exported_other scopes name q entity n);
       once = once-exported scopes name entity free k.once;
       outermost = outermost-exported scopes name entity k.outermost;
     }
 
 remove_last : {A : Type 0} (xs : List A) (x : A) (at : ℕ) → at ≡ length xs → remove (xs ++ x ∷ []) at ≡ xs
 remove_last xs x at e =
-    remove-append_right xs (x ∷ []) at at (sym e) (omega arith) ∙ ap (λ n. xs ++ remove (x ∷ []) n) (let none : at - at ≡ 0 = omega arith in none) ∙ append-nil xs
+    remove-append_right xs (x ∷ []) at at (sym e) (omega arith) ∙ ap (λ n. xs ++ remove (x ∷ []) n) (let none : at - at ≡ 0 = omega arith in
+    none) ∙ append-nil xs
 
 -- the innermost scope has lost its newest name
-standing-without_newest : (scope : Scope) (outer : List Scope) (name : List ℕ) (entity : Entity) (names : List (List ℕ × Entity)) (at : ℕ) → scope.names ≡ (name, entity) ∷ names → NoneTwice scope.names → at + 1 ≡ length (standing (scope ∷ outer) name) → remove (standing (scope ∷ outer) name) at ≡ standing (without_newest (scope ∷ outer)) name
+standing-without_newest : (scope : Scope) (outer : List Scope) (name : List ℕ) (entity : Entity) (names : List (List ℕ × Entity)) (at : ℕ)
+    → scope.names ≡ (name, entity) ∷ names → NoneTwice scope.names → at + 1 ≡ length (standing (scope ∷ outer) name) → remove (standing (scope ∷ outer) name) at
+    ≡ standing (without_newest (scope ∷ outer)) name
 standing-without_newest scope outer name entity names at is once f =
     let x : Declaration = record { depth = length outer; entity = entity } in
-    let lists : standing (scope ∷ outer) name ≡ standing outer name ++ x ∷ [] = ap (λ l. standing outer name ++ here (length outer) (meaning l name)) is ∙ ap (λ o. standing outer name ++ here (length outer) o) (meaning-same name entity names) in
+    let lists : standing (scope ∷ outer) name ≡ standing outer name ++ x ∷ [] = ap (λ l. standing outer name ++ here (length outer) (meaning l name)) is
+    ∙ ap (λ o. standing outer name ++ here (length outer) o) (meaning-same name entity names) in
     let end : at ≡ length (standing outer name) = omega (arith, ap length lists, length-append (standing outer name) (x ∷ [])) in
     let free : NoneTwice ((name, entity) ∷ names) = subst NoneTwice is once in
     ap (λ l. remove l at) lists
@@ -204,29 +237,38 @@ standing-without_newest scope outer name entity names at is once f =
     ∙ ap (λ o. standing outer name ++ here (length outer) o) (sym free.0)
     ∙ ap (λ l. standing outer name ++ here (length outer) (meaning (drop 1 l) name)) (sym is)
 
-standing-without_newest_other : (scope : Scope) (outer : List Scope) (name q : List ℕ) (entity : Entity) (names : List (List ℕ × Entity)) → scope.names ≡ (name, entity) ∷ names → bytes_eq q name ≡ false → standing (scope ∷ outer) q ≡ standing (without_newest (scope ∷ outer)) q
+standing-without_newest_other : (scope : Scope) (outer : List Scope) (name q : List ℕ) (entity : Entity) (names : List (List ℕ × Entity))
+    → scope.names ≡ (name, entity) ∷ names → bytes_eq q name ≡ false → standing (scope ∷ outer) q ≡ standing (without_newest (scope ∷ outer)) q
 standing-without_newest_other scope outer name q entity names is n =
-    ap (λ o. standing outer q ++ here (length outer) o) (ap (λ l. meaning l q) is ∙ meaning-other name q entity names n ∙ ap (λ l. meaning (drop 1 l) q) (sym is))
+    ap (λ o. standing outer q ++ here (length outer) o)
+    (ap (λ l. meaning l q) is ∙ meaning-other name q entity names n ∙ ap (λ l. meaning (drop 1 l) q) (sym is))
 
 newest-is : (names : List (List ℕ × Entity)) (named : List ℕ × Entity) → Some named ≡ newest names → (rest : List (List ℕ × Entity)) × (names ≡ named ∷ rest)
 newest-is [] named e = cc
 newest-is (other ∷ names) named e = (names, ap (λ x. x ∷ names) (sym (same_Some named other e)))
 
 -- so its lists have a last declaration
-pub listed-newest : (old : Declarations) (scopes : List Scope) (name : List ℕ) (entity : Entity) → ScopesAreKept old scopes → Some (name, entity) ≡ newest (innermost_names scopes) → 0 < length (listed old name)
+pub listed-newest : (old : Declarations) (scopes : List Scope) (name : List ℕ) (entity : Entity) → ScopesAreKept old scopes → Some (name, entity) ≡ newest
+    (innermost_names scopes) → 0 < length (listed old name)
 listed-newest old [] name entity k e = cc
 listed-newest old (scope ∷ outer) name entity k e =
     let is = newest-is scope.names (name, entity) e in
-    let lists : listed old name ≡ standing outer name ++ record { depth = length outer; entity = entity } ∷ [] = k.stands name ∙ ap (λ l. standing outer name ++ here (length outer) (meaning l name)) is.1 ∙ ap (λ o. standing outer name ++ here (length outer) o) (meaning-same name entity is.0) in
+    let lists : listed old name ≡ standing outer name ++ record { depth = length outer; entity = entity } ∷ [] = k.stands name
+    ∙ ap (λ l. standing outer name ++ here (length outer) (meaning l name)) is.1 ∙ ap (λ o. standing outer name ++ here (length outer) o)
+    (meaning-same name entity is.0) in
     omega (arith, ap length lists, length-append (standing outer name) (record { depth = length outer; entity = entity } ∷ []))
 
-pub kept-without_newest : (old new : Declarations) (scopes : List Scope) (name : List ℕ) (entity : Entity) (at : ℕ) → ScopesAreKept old scopes → Changed (listed old) (listed new) name (λ l. remove l at) → Some (name, entity) ≡ newest (innermost_names scopes) → at + 1 ≡ length (listed old name) → ScopesAreKept new (without_newest scopes)
+pub kept-without_newest : (old new : Declarations) (scopes : List Scope) (name : List ℕ) (entity : Entity) (at : ℕ) → ScopesAreKept old scopes
+    → Changed (listed old) (listed new) name (λ l. remove l at) → Some (name, entity) ≡ newest (innermost_names scopes) → at + 1 ≡ length (listed old name)
+    → ScopesAreKept new (without_newest scopes)
 kept-without_newest old new [] name entity at k h e f = cc
 kept-without_newest old new (scope ∷ outer) name entity at k h e f =
     let is = newest-is scope.names (name, entity) e in
     let scopes : List Scope = scope ∷ outer in
     record {
-      stands = changed (listed old) (listed new) (standing scopes) (standing (without_newest scopes)) name (λ l. remove l at) h k.stands (standing-without_newest scope outer name entity is.0 at is.1 k.once.0 (f ∙ ap length (k.stands name))) (λ q n. standing-without_newest_other scope outer name q entity is.0 is.1 n);
+      stands = changed (listed old) (listed new) (standing scopes) (standing (without_newest scopes)) name (λ l. remove l at) h k.stands
+          (standing-without_newest scope outer name entity is.0 at is.1 k.once.0 (f ∙ ap length (k.stands name)))
+          (λ q n. standing-without_newest_other scope outer name q entity is.0 is.1 n);
       once = once-without_newest scopes k.once;
       outermost = outermost-without_newest scopes k.outermost;
     }
@@ -243,7 +285,8 @@ round_module (scope ∷ []) h m = cc
 round_module (scope ∷ around ∷ outer) h m = omega arith
 
 -- without the innermost scope, which has no names, the declarations are the same
-pub kept-outside : (old : Declarations) (scopes : List Scope) → ScopesAreKept old scopes → innermost_names scopes ≡ [] → 1 < length scopes → ScopesAreKept old (drop 1 scopes)
+pub kept-outside : (old : Declarations) (scopes : List Scope) → ScopesAreKept old scopes → innermost_names scopes ≡ [] → 1 < length scopes
+    → ScopesAreKept old (drop 1 scopes)
 kept-outside old [] k e lt = absurd (omega arith)
 kept-outside old (scope ∷ []) k e lt = absurd (omega arith)
 kept-outside old (scope ∷ around ∷ outer) k e lt = record {
@@ -253,7 +296,8 @@ kept-outside old (scope ∷ around ∷ outer) k e lt = record {
 }
 
 -- the same lists serve the same scopes
-pub kept-same : (old new : Declarations) (scopes : List Scope) → ScopesAreKept old scopes → ((q : List ℕ) → listed new q ≡ listed old q) → ScopesAreKept new scopes
+pub kept-same : (old new : Declarations) (scopes : List Scope) → ScopesAreKept old scopes → ((q : List ℕ) → listed new q ≡ listed old q)
+    → ScopesAreKept new scopes
 kept-same old new scopes k same = record {
   stands = λ q. same q ∙ k.stands q;
   once = k.once;
@@ -270,5 +314,6 @@ standing-declared [] name has = cc
 standing-declared (scope ∷ outer) name has = here-some (standing outer name) (length outer) (meaning scope.names name) has
 
 -- a name of the innermost scope has a declaration
-pub listed-declared : (old : Declarations) (scopes : List Scope) (name : List ℕ) → ScopesAreKept old scopes → IsTrue (is_some (declared scopes name)) → 0 < length (listed old name)
+pub listed-declared : (old : Declarations) (scopes : List Scope) (name : List ℕ) → ScopesAreKept old scopes → IsTrue (is_some (declared scopes name))
+    → 0 < length (listed old name)
 listed-declared old scopes name k has = subst (λ l. 0 < length l) (sym (k.stands name)) (standing-declared scopes name has)

@@ -1,6 +1,8 @@
 -- The scopes, which are kept with the outermost first, after a change of one of them.
-use Rattle.std.proofs.Common.{◌≡◌, ℕ, ◌+◌, ◌<◌, List, [], ◌∷◌, ◌++◌, Option, Some, None, length, get_or, set, map, reverse, drop, refl, sym, ap, ◌∙◌, arith, Vec, Bool}
-use Rattle.std.proofs.lemmas.List.{reverse-append, reverse-reverse, length-reverse, length-map, map-append, append-nil, get_or_at, set_at, set-append_left, get_or_append_left, get_or-set_same, set-set, set-get_or, map-set, get_or-map}
+use Rattle.std.proofs.Common.{◌≡◌, ℕ, ◌+◌, ◌<◌, List, [], ◌∷◌, ◌++◌, Option, Some, None, length, get_or, set, map, reverse, drop, refl, sym, ap, ◌∙◌, arith}
+use Rattle.std.proofs.Common.{Vec, Bool}
+use Rattle.std.proofs.lemmas.List.{reverse-append, reverse-reverse, length-reverse, length-map, map-append, append-nil, get_or_at, set_at, set-append_left}
+use Rattle.std.proofs.lemmas.List.{get_or_append_left, get_or-set_same, set-set, set-get_or, map-set, get_or-map}
 use Rattle.std.specs.Option.{option_to_list}
 use Rattle.edi_scope.specs.declared.entity.Entity.{Entity}
 use Rattle.edi_scope.specs.declared.scopes.Named.{Named}
@@ -14,7 +16,8 @@ reverse-cons x xs = reverse-append (x ∷ []) xs
 
 module _ (f : Scope → Scope) where
   -- a change of the last element of a reversed list is one of the first
-  pub first : (scope : Scope) (outer : List Scope) (at : ℕ) → at ≡ length outer → set (reverse (scope ∷ outer)) at (f (get_or (reverse (scope ∷ outer)) at standard)) ≡ reverse (f scope ∷ outer)
+  pub first : (scope : Scope) (outer : List Scope) (at : ℕ) → at ≡ length outer → set (reverse (scope ∷ outer)) at
+      (f (get_or (reverse (scope ∷ outer)) at standard)) ≡ reverse (f scope ∷ outer)
   first scope outer at e =
       let len : length (reverse outer) ≡ at = length-reverse outer ∙ sym e in
       ap (λ xs. set xs at (f (get_or xs at standard))) (reverse-cons scope outer)
@@ -23,7 +26,8 @@ module _ (f : Scope → Scope) where
       ∙ sym (reverse-cons (f scope) outer)
 
   -- and one of the last but one is one of the second
-  second : (scope around : Scope) (outer : List Scope) (at : ℕ) → at ≡ length outer → set (reverse (scope ∷ around ∷ outer)) at (f (get_or (reverse (scope ∷ around ∷ outer)) at standard)) ≡ reverse (scope ∷ f around ∷ outer)
+  second : (scope around : Scope) (outer : List Scope) (at : ℕ) → at ≡ length outer → set (reverse (scope ∷ around ∷ outer)) at
+      (f (get_or (reverse (scope ∷ around ∷ outer)) at standard)) ≡ reverse (scope ∷ f around ∷ outer)
   second scope around outer at e =
       let within : at < length (reverse (around ∷ outer)) = rw length-reverse (omega arith) in
       ap (λ xs. set xs at (f (get_or xs at standard))) (reverse-cons scope (around ∷ outer))
@@ -33,35 +37,42 @@ module _ (f : Scope → Scope) where
       ∙ sym (reverse-cons scope (f around ∷ outer))
 
 -- a change that is stated of kept scopes, from what holds of them in reverse
-pub turned : (f : Scope → Scope) (g : List Scope → List Scope) (old new : List Scope) (at : ℕ) → new ≡ set old at (f (get_or old at standard)) → set (reverse (reverse old)) at (f (get_or (reverse (reverse old)) at standard)) ≡ reverse (g (reverse old)) → reverse new ≡ g (reverse old)
+pub turned : (f : Scope → Scope) (g : List Scope → List Scope) (old new : List Scope) (at : ℕ) → new ≡ set old at (f (get_or old at standard))
+    → set (reverse (reverse old)) at (f (get_or (reverse (reverse old)) at standard)) ≡ reverse (g (reverse old)) → reverse new ≡ g (reverse old)
 turned f g old new at e h =
     ap reverse (e ∙ ap (λ xs. set xs at (f (get_or xs at standard))) (sym (reverse-reverse old)) ∙ h) ∙ reverse-reverse (g (reverse old))
 
-with_name-kept : (n : List ℕ) (x : Entity) (scopes : List Scope) (at : ℕ) → at + 1 ≡ length scopes → set (reverse scopes) at (with_one n x (get_or (reverse scopes) at standard)) ≡ reverse (with_name n x scopes)
+with_name-kept : (n : List ℕ) (x : Entity) (scopes : List Scope) (at : ℕ) → at + 1 ≡ length scopes
+    → set (reverse scopes) at (with_one n x (get_or (reverse scopes) at standard)) ≡ reverse (with_name n x scopes)
 with_name-kept n x [] at e = absurd (omega arith)
 with_name-kept n x (scope ∷ outer) at e = first (with_one n x) scope outer at (omega arith)
 
-exported-kept : (n : List ℕ) (x : Entity) (scopes : List Scope) (at : ℕ) → at + 2 ≡ length scopes → set (reverse scopes) at (with_one n x (get_or (reverse scopes) at standard)) ≡ reverse (exported n x scopes)
+exported-kept : (n : List ℕ) (x : Entity) (scopes : List Scope) (at : ℕ) → at + 2 ≡ length scopes
+    → set (reverse scopes) at (with_one n x (get_or (reverse scopes) at standard)) ≡ reverse (exported n x scopes)
 exported-kept n x [] at e = absurd (omega arith)
 exported-kept n x (scope ∷ []) at e = absurd (omega arith)
 exported-kept n x (scope ∷ around ∷ outer) at e = second (with_one n x) scope around outer at (omega arith)
 
-without_newest-kept : (scopes : List Scope) (at : ℕ) → at + 1 ≡ length scopes → set (reverse scopes) at (without_one (get_or (reverse scopes) at standard)) ≡ reverse (without_newest scopes)
+without_newest-kept : (scopes : List Scope) (at : ℕ) → at + 1 ≡ length scopes → set (reverse scopes) at (without_one (get_or (reverse scopes) at standard))
+    ≡ reverse (without_newest scopes)
 without_newest-kept [] at e = absurd (omega arith)
 without_newest-kept (scope ∷ outer) at e = first without_one scope outer at (omega arith)
 
 -- the innermost scope has got a name
-pub view-with_name : (n : List ℕ) (x : Entity) (old new : List Scope) (at : ℕ) → new ≡ set old at (with_one n x (get_or old at standard)) → at + 1 ≡ length old → reverse new ≡ with_name n x (reverse old)
+pub view-with_name : (n : List ℕ) (x : Entity) (old new : List Scope) (at : ℕ) → new ≡ set old at (with_one n x (get_or old at standard))
+    → at + 1 ≡ length old → reverse new ≡ with_name n x (reverse old)
 view-with_name n x old new at h e =
     turned (with_one n x) (with_name n x) old new at h (with_name-kept n x (reverse old) at (e ∙ sym (length-reverse old)))
 
 -- the scope round it has got a name
-pub view-exported : (n : List ℕ) (x : Entity) (old new : List Scope) (at : ℕ) → new ≡ set old at (with_one n x (get_or old at standard)) → at + 2 ≡ length old → reverse new ≡ exported n x (reverse old)
+pub view-exported : (n : List ℕ) (x : Entity) (old new : List Scope) (at : ℕ) → new ≡ set old at (with_one n x (get_or old at standard)) → at + 2 ≡ length old
+    → reverse new ≡ exported n x (reverse old)
 view-exported n x old new at h e =
     turned (with_one n x) (exported n x) old new at h (exported-kept n x (reverse old) at (e ∙ sym (length-reverse old)))
 
 -- the innermost scope has lost its newest name
-pub view-without_newest : (old new : List Scope) (at : ℕ) → new ≡ set old at (without_one (get_or old at standard)) → at + 1 ≡ length old → reverse new ≡ without_newest (reverse old)
+pub view-without_newest : (old new : List Scope) (at : ℕ) → new ≡ set old at (without_one (get_or old at standard)) → at + 1 ≡ length old
+    → reverse new ≡ without_newest (reverse old)
 view-without_newest old new at h e =
     turned without_one without_newest old new at h (without_newest-kept (reverse old) at (e ∙ sym (length-reverse old)))
 
@@ -77,19 +88,23 @@ innermost-kept old at e =
     ap (λ xs. (get_or xs at standard).names) (sym (reverse-reverse old)) ∙ innermost-first (reverse old) at (e ∙ sym (length-reverse old))
 
 -- a name that is put and taken away again leaves the scopes as they were
-pub put_and_taken : (n : List ℕ) (x : Entity) (old put new : List Scope) (at : ℕ) → at < length old → put ≡ set old at (with_one n x (get_or old at standard)) → new ≡ set put at (without_one (get_or put at standard)) → new ≡ old
+pub put_and_taken : (n : List ℕ) (x : Entity) (old put new : List Scope) (at : ℕ) → at < length old → put ≡ set old at (with_one n x (get_or old at standard))
+    → new ≡ set put at (without_one (get_or put at standard)) → new ≡ old
 put_and_taken n x old put new at lt e h =
     h ∙ ap (λ xs. set xs at (without_one (get_or xs at standard))) e
-    ∙ ap (λ y. set (set old at (with_one n x (get_or old at standard))) at (without_one y)) (get_or-set_same old at (with_one n x (get_or old at standard)) standard lt)
+    ∙ ap (λ y. set (set old at (with_one n x (get_or old at standard))) at (without_one y))
+    (get_or-set_same old at (with_one n x (get_or old at standard)) standard lt)
     ∙ set-set old at (with_one n x (get_or old at standard)) (get_or old at standard)
     ∙ set-get_or old at standard
 
 -- what is seen of a list, the last element first, after the last has been taken
-pub view-taken : {A B : Type 0} (f : A → B) (old new : List A) (taken : Option A) → old ≡ new ++ option_to_list taken → (taken ≡ None → old ≡ []) → reverse (map f new) ≡ drop 1 (reverse (map f old))
+pub view-taken : {A B : Type 0} (f : A → B) (old new : List A) (taken : Option A) → old ≡ new ++ option_to_list taken → (taken ≡ None → old ≡ [])
+    → reverse (map f new) ≡ drop 1 (reverse (map f old))
 view-taken f old new None e empty =
     ap (λ xs. reverse (map f xs)) (sym (append-nil new) ∙ sym e ∙ empty refl) ∙ ap (λ xs. drop 1 (reverse (map f xs))) (sym (empty refl))
 view-taken f old new (Some x) e empty =
-    sym (ap (λ xs. drop 1 (reverse (map f xs))) e ∙ ap (λ xs. drop 1 (reverse xs)) (map-append f new (x ∷ [])) ∙ ap (drop 1) (reverse-append (map f new) (f x ∷ [])))
+    sym (ap (λ xs. drop 1 (reverse (map f xs))) e ∙ ap (λ xs. drop 1 (reverse xs)) (map-append f new (x ∷ []))
+    ∙ ap (drop 1) (reverse-append (map f new) (f x ∷ [])))
 
 -- the names of a kept scope after one has been put
 pub names-put : (old : List Named) (named : Named) → reverse (map name_of (old ++ named ∷ [])) ≡ name_of named ∷ reverse (map name_of old)
@@ -103,14 +118,16 @@ pub length-scopes_of : (scopes : Vec OpenScope Global) → length (scopes_of sco
 length-scopes_of scopes = length-reverse (kept scopes) ∙ length-kept scopes
 
 -- a kept scope is replaced
-pub kept-set : (scopes : Vec OpenScope Global) (at : ℕ) (x y : OpenScope) (f : Scope → Scope) → at < scopes.len → x ≡ get_or scopes.items at x → scope_of y ≡ f (scope_of x) → map scope_of (set scopes.items at y) ≡ set (kept scopes) at (f (get_or (kept scopes) at standard))
+pub kept-set : (scopes : Vec OpenScope Global) (at : ℕ) (x y : OpenScope) (f : Scope → Scope) → at < scopes.len → x ≡ get_or scopes.items at x
+    → scope_of y ≡ f (scope_of x) → map scope_of (set scopes.items at y) ≡ set (kept scopes) at (f (get_or (kept scopes) at standard))
 kept-set scopes at x y f lt read e =
     let within : at < length scopes.items = omega (arith, scopes.ok.0) in
     map-set scope_of scopes.items at y
     ∙ ap (set (kept scopes) at) (e ∙ ap f (ap scope_of read ∙ sym (get_or-map scope_of scopes.items at x standard within)))
 
 -- and by one that is seen as it was
-pub kept-set_same : (scopes : Vec OpenScope Global) (at : ℕ) (x y : OpenScope) → at < scopes.len → x ≡ get_or scopes.items at x → scope_of y ≡ scope_of x → map scope_of (set scopes.items at y) ≡ kept scopes
+pub kept-set_same : (scopes : Vec OpenScope Global) (at : ℕ) (x y : OpenScope) → at < scopes.len → x ≡ get_or scopes.items at x → scope_of y ≡ scope_of x
+    → map scope_of (set scopes.items at y) ≡ kept scopes
 kept-set_same scopes at x y lt read e =
     kept-set scopes at x y (λ s. s) lt read e ∙ set-get_or (kept scopes) at standard
 

@@ -81,7 +81,8 @@ impl Declarations {
         declaration: Declaration,
     ) -> Result<(), AllocError>
         requires { at ≤ length (listed self.old name.now) }
-        ensures ok { OnOk result ((q : List ℕ) → listed self.new q ≡ (if bytes_eq name.now q then insert (listed self.old q) at declaration else listed self.old q)) }
+        ensures ok { OnOk result ((q : List ℕ) → listed self.new q
+            ≡ (if bytes_eq name.now q then insert (listed self.old q) at declaration else listed self.old q)) }
         ensures err { OnErr result ((q : List ℕ) → listed self.new q ≡ listed self.old q) }
     {
         self.make_list(alloc, name)?;

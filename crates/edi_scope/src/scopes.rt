@@ -1,6 +1,7 @@
 //! The open scopes at a place of the text.
 
-ghost use Rattle.std.specs.Prelude.{◌≡◌, ◌<◌, ◌||◌, ◌&&◌, ◌∷◌, ◌++◌, [], ◌↔◌, length, take, drop, vec_len, option_map, slice_set, slice_index_or, false, None, OnOk, OnErr, IfOk, IfSome, IsTrue, is_some, if◌then◌else◌};
+ghost use Rattle.std.specs.Prelude.{◌≡◌, ◌<◌, ◌||◌, ◌&&◌, ◌∷◌, ◌++◌, [], ◌↔◌, length, take, drop, vec_len, option_map, slice_set, slice_index_or, false};
+ghost use Rattle.std.specs.Prelude.{None, OnOk, OnErr, IfOk, IfSome, IsTrue, is_some, if◌then◌else◌};
 ghost use Rattle.edi_scope.specs.Scope.{standard, visible, outside, in_module, entered, declared, with_name, exported as exported_name, with_one, with_name_at};
 ghost use Rattle.edi_scope.specs.Standing.{kept, name_of, without_one, without_newest, newest, innermost_names};
 
@@ -104,8 +105,10 @@ impl Scopes {
         exported: bool,
     ) -> Result<(), ScopeFault>
         requires module { IsTrue exported → IsTrue (in_module self.old) }
-        ensures ok { OnOk result (self.new ≡ (if exported then exported_name name.now entity (with_name name.now entity self.old) else with_name name.now entity self.old)) }
-        ensures ambiguous { (result ≡ Err ScopeFault.Ambiguous) ↔ IsTrue (is_some (declared self.old name.now) || (exported && is_some (declared (outside self.old) name.now))) }
+        ensures ok { OnOk result (self.new ≡ (if exported then exported_name name.now entity (with_name name.now entity self.old) else with_name name.now
+            entity self.old)) }
+        ensures ambiguous { (result ≡ Err ScopeFault.Ambiguous) ↔ IsTrue
+            (is_some (declared self.old name.now) || (exported && is_some (declared (outside self.old) name.now))) }
         ensures err { OnErr result (self.new ≡ self.old) }
     {
         if self.has(name) || exported && self.has_outside(name) {
@@ -159,8 +162,11 @@ impl Scopes {
     ) -> Result<(), ScopeFault>
         requires round { 1 < length self.old }
         requires module { IsTrue exported → IsTrue (in_module (outside self.old)) }
-        ensures ok { OnOk result (self.new ≡ take 1 self.old ++ (if exported then exported_name name.now entity (with_name name.now entity (outside self.old)) else with_name name.now entity (outside self.old))) }
-        ensures ambiguous { (result ≡ Err ScopeFault.Ambiguous) ↔ IsTrue (is_some (declared (outside self.old) name.now) || (exported && is_some (declared (outside (outside self.old)) name.now))) }
+        ensures ok { OnOk result (self.new ≡ take 1 self.old
+            ++ (if exported then exported_name name.now entity (with_name name.now entity (outside self.old)) else with_name name.now entity
+            (outside self.old))) }
+        ensures ambiguous { (result ≡ Err ScopeFault.Ambiguous) ↔ IsTrue
+            (is_some (declared (outside self.old) name.now) || (exported && is_some (declared (outside (outside self.old)) name.now))) }
         ensures same { result ≡ Err ScopeFault.Ambiguous → self.new ≡ self.old }
     {
         if self.has_round(name) {

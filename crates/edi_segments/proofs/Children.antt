@@ -1,5 +1,6 @@
 -- A parent that waits for one child less, and the children of a fork.
-use Rattle.std.proofs.Common.{◌≡◌, ℕ, zero, suc, ◌+◌, ◌-◌, ◌*◌, ◌<◌, ◌≤◌, ◌⊎◌, inl, inr, Bool, true, false, ◌||◌, if◌then◌else◌, List, [], ◌∷◌, length, Some, refl, sym, subst, ap, ◌∙◌, arith}
+use Rattle.std.proofs.Common.{◌≡◌, ℕ, zero, suc, ◌+◌, ◌-◌, ◌*◌, ◌<◌, ◌≤◌, ◌⊎◌, inl, inr, Bool, true, false, ◌||◌, if◌then◌else◌, List, [], ◌∷◌, length, Some}
+use Rattle.std.proofs.Common.{refl, sym, subst, ap, ◌∙◌, arith}
 use Rattle.edi_calls.specs.Names.{Name, Table, same, find, with_at, without}
 use Rattle.edi_calls.specs.Ready.{child, parent_of, has}
 use Rattle.edi_calls.proofs.Tables.{same-refl, same-equal, same-or-other, find-with_at-same, find-with_at-other}
@@ -7,7 +8,8 @@ use Rattle.edi_target.specs.Op.{Branch}
 use Rattle.edi_target.specs.Mach.{waiting, Activity, Machine, awaits, with_child, with_children}
 use Rattle.edi_segments.specs.Nested.{InOrder, IsInOrder, IsBehind, IsInParent, AreApart}
 use Rattle.edi_segments.proofs.Keeping.{HaveRoom}
-use Rattle.edi_segments.proofs.Families.{some_is, parent_is, child_some, parent_apart, IsFree, Few, Sound, Alike, behind_alike, apart_alike, apart_swapped, left_apart, left_was, left}
+use Rattle.edi_segments.proofs.Families.{some_is, parent_is, child_some, parent_apart, IsFree, Few, Sound, Alike, behind_alike, apart_alike, apart_swapped}
+use Rattle.edi_segments.proofs.Families.{left_apart, left_was, left}
 
 -- ---- a list without one of its names
 
@@ -20,7 +22,8 @@ unfolding minus
 length-minus p [] h = absurd (cc)
 length-minus p (q ∷ qs) h = go (same p q) h (length-minus p qs)
   where
-    go : (b : Bool) → (b || has qs p) ≡ true → (has qs p ≡ true → length (minus p qs) + 1 ≡ length qs) → length (if b then qs else q ∷ minus p qs) + 1 ≡ suc (length qs)
+    go : (b : Bool) → (b || has qs p) ≡ true → (has qs p ≡ true → length (minus p qs) + 1 ≡ length qs) → length (if b then qs else q ∷ minus p qs) + 1 ≡ suc
+        (length qs)
     go true h ih = omega arith
     go false h ih = omega (arith, ih h)
 
@@ -29,7 +32,8 @@ unfolding minus
 has-minus p r [] n h = h
 has-minus p r (q ∷ qs) n h = go (same p q) refl (same r q) refl h (has-minus p r qs n)
   where
-    go : (b : Bool) → same p q ≡ b → (c : Bool) → same r q ≡ c → (c || has qs r) ≡ true → (has qs r ≡ true → has (minus p qs) r ≡ true) → has (if b then qs else q ∷ minus p qs) r ≡ true
+    go : (b : Bool) → same p q ≡ b → (c : Bool) → same r q ≡ c → (c || has qs r) ≡ true → (has qs r ≡ true → has (minus p qs) r ≡ true)
+        → has (if b then qs else q ∷ minus p qs) r ≡ true
     go true e true f h ih =
         let yes : same r p ≡ true = ap (same r) (same-equal p q e) ∙ f in
         let no : true ≡ false = sym yes ∙ n in
@@ -49,7 +53,8 @@ of_awaits zero k h = absurd (cc)
 of_awaits (suc m) k h = cc
 
 -- a parent waits for so many children as still live at most
-module _ (t : Table Activity) (p : Name) (y y' : Activity) (m : ℕ) (s : Sound t) (found : find t p ≡ Some y) (few : Few t p m) (is : y' ≡ record y { standing = awaits m }) where
+module _ (t : Table Activity) (p : Name) (y y' : Activity) (m : ℕ) (s : Sound t) (found : find t p ≡ Some y) (few : Few t p m)
+    (is : y' ≡ record y { standing = awaits m }) where
   same_there : (q : Name) (b : Activity) → find (with_at t p y') q ≡ Some b → (c : Activity) × (find t q ≡ Some c) × Alike c b
   same_there q b e = go (same-or-other q p)
     where
@@ -69,7 +74,8 @@ module _ (t : Table Activity) (p : Name) (y y' : Activity) (m : ℕ) (s : Sound 
   still zero e h = absurd (omega (arith, h))
   still (suc k) e h = (suc k, ap (λ x. x.standing) is ∙ ap awaits e)
 
-  inside : (q : Name) (b c : Activity) → 0 < length q → find t q ≡ Some c → Alike c b → IsInParent t q c → (parent_of q ≡ p) ⊎ (same (parent_of q) p ≡ false) → IsInParent (with_at t p y') q b
+  inside : (q : Name) (b c : Activity) → 0 < length q → find t q ≡ Some c → Alike c b → IsInParent t q c → (parent_of q ≡ p) ⊎ (same (parent_of q) p ≡ false)
+      → IsInParent (with_at t p y') q b
   inside q b c some e alike h (inr n) = record {
     parent = h.parent;
     lives = find-with_at-other t p (parent_of q) y' n ∙ h.lives;
@@ -89,7 +95,8 @@ module _ (t : Table Activity) (p : Name) (y y' : Activity) (m : ℕ) (s : Sound 
         lies = subst (IsBehind b) (sym is) (record { behind = lies.behind; within = lies.within });
       }
 
-  fewer : (q : Name) (b : Activity) (n : ℕ) → find (with_at t p y') q ≡ Some b → b.standing ≡ waiting n → (q ≡ p) ⊎ (same q p ≡ false) → Few (with_at t p y') q n
+  fewer : (q : Name) (b : Activity) (n : ℕ) → find (with_at t p y') q ≡ Some b → b.standing ≡ waiting n → (q ≡ p) ⊎ (same q p ≡ false)
+      → Few (with_at t p y') q n
   fewer q b n e w (inr k) =
       let old : Few t q n = s.few q b n (sym (find-with_at-other t p q y' k) ∙ e) w in
       record {
@@ -118,7 +125,8 @@ module _ (t : Table Activity) (p : Name) (y y' : Activity) (m : ℕ) (s : Sound 
   }
 
 -- a child ends
-module _ (t : Table Activity) (p : Name) (a : Activity) (lives : find t p ≡ Some a) (free : IsFree a) (s : Sound t) (y : Activity) (n : ℕ) (found : find (without t p) (parent_of p) ≡ Some y) (waits : y.standing ≡ waiting n) where
+module _ (t : Table Activity) (p : Name) (a : Activity) (lives : find t p ≡ Some a) (free : IsFree a) (s : Sound t) (y : Activity) (n : ℕ)
+    (found : find (without t p) (parent_of p) ≡ Some y) (waits : y.standing ≡ waiting n) where
   some : 0 < length p
   some = go p (left_apart t p a lives free s (parent_of p) y found)
     where
@@ -151,7 +159,9 @@ pub record Stage (t : Table Activity) (p : Name) (a : Activity) (at more : ℕ) 
   pub size : (n : ℕ) → a.standing ≡ waiting n → length list + more ≤ n
   pub all : (r : Name) (b : Activity) → 0 < length r → parent_of r ≡ p → find t r ≡ Some b → has list r ≡ true
 
-module _ (t : Table Activity) (p : Name) (a : Activity) (n at more share : ℕ) (waits : a.standing ≡ waiting n) (s : Stage t p a at (suc more)) (c : Name) (some : 0 < length c) (own : parent_of c ≡ p) (x : Activity) (from : x.first ≡ at) (upto : x.last ≡ at + share) (fits : at + share ≤ a.last) (order : IsInOrder x) (idle : IsFree x) where
+module _ (t : Table Activity) (p : Name) (a : Activity) (n at more share : ℕ) (waits : a.standing ≡ waiting n) (s : Stage t p a at (suc more)) (c : Name)
+    (some : 0 < length c) (own : parent_of c ≡ p) (x : Activity) (from : x.first ≡ at) (upto : x.last ≡ at + share) (fits : at + share ≤ a.last)
+    (order : IsInOrder x) (idle : IsFree x) where
   apart_from_parent : same p c ≡ false
   apart_from_parent = ap (λ y. same y c) (sym own) ∙ parent_apart c some
 
@@ -212,11 +222,13 @@ module _ (t : Table Activity) (p : Name) (a : Activity) (n at more share : ℕ) 
   siblings q r b d more more' k m (inr h) (inr g) = s.sound.siblings q r b d more more' k m h.1 g.1
 
   -- the list of the children, with the new one
-  listed : (r : Name) (b : Activity) → 0 < length r → parent_of r ≡ p → ((r ≡ c) × (x ≡ b)) ⊎ ((same r c ≡ false) × (find t r ≡ Some b)) → has (c ∷ s.list) r ≡ true
+  listed : (r : Name) (b : Activity) → 0 < length r → parent_of r ≡ p → ((r ≡ c) × (x ≡ b)) ⊎ ((same r c ≡ false) × (find t r ≡ Some b))
+      → has (c ∷ s.list) r ≡ true
   listed r b more k (inl h) = ap (λ y. y || has s.list r) (ap (λ y. same y c) h.0 ∙ same-refl c)
   listed r b more k (inr h) = ap (λ y. y || has s.list r) h.0 ∙ s.all r b more k h.1
 
-  few : (q : Name) (b : Activity) (k : ℕ) → find (with_at t c x) q ≡ Some b → b.standing ≡ waiting k → (q ≡ p) ⊎ (same q p ≡ false) → ((q ≡ c) × (x ≡ b)) ⊎ ((same q c ≡ false) × (find t q ≡ Some b)) → Few (with_at t c x) q k
+  few : (q : Name) (b : Activity) (k : ℕ) → find (with_at t c x) q ≡ Some b → b.standing ≡ waiting k → (q ≡ p) ⊎ (same q p ≡ false) → ((q ≡ c) × (x ≡ b))
+      ⊎ ((same q c ≡ false) × (find t q ≡ Some b)) → Few (with_at t c x) q k
   few q b k e w g (inl h) = absurd (idle k (ap (λ y. y.standing) h.1 ∙ w))
   few q b k e w (inl g) (inr h) =
       let one : a ≡ b = some_is (sym still_lives ∙ sym (ap (find (with_at t c x)) g) ∙ e) in
@@ -258,7 +270,8 @@ module _ (t : Table Activity) (p : Name) (a : Activity) (n at more share : ℕ) 
 
 module _ (p : Name) (f base share : ℕ) (a : Activity) (n : ℕ) (waits : a.standing ≡ waiting n) where
   -- all children are born in their shares
-  pub born : (branches : List Branch) (i at : ℕ) (m : Machine) → Stage m.activities p a at (length branches) → HaveRoom share branches → at + share * length branches ≤ a.last →
+  pub born : (branches : List Branch) (i at : ℕ) (m : Machine) → Stage m.activities p a at (length branches) → HaveRoom share branches
+      → at + share * length branches ≤ a.last →
       Sound (with_children p f i base at share branches m).activities
   born [] i at m s room fits = s.sound
   born (branch ∷ branches) i at m s room fits =
@@ -274,7 +287,8 @@ module _ (p : Name) (f base share : ℕ) (a : Activity) (n : ℕ) (waits : a.sta
       room.2 (omega (arith, fits))
 
 -- nobody else changes
-pub others_stay : (p : Name) (f base share : ℕ) (q : Name) → ((i : ℕ) → same q (child p f i) ≡ false) → (branches : List Branch) (i at : ℕ) (m : Machine) → find (with_children p f i base at share branches m).activities q ≡ find m.activities q
+pub others_stay : (p : Name) (f base share : ℕ) (q : Name) → ((i : ℕ) → same q (child p f i) ≡ false) → (branches : List Branch) (i at : ℕ) (m : Machine)
+    → find (with_children p f i base at share branches m).activities q ≡ find m.activities q
 others_stay p f base share q other [] i at m = refl
 others_stay p f base share q other (branch ∷ branches) i at m =
     others_stay p f base share q other branches (suc i) (at + share) (with_child (child p f i) base at share branch m)

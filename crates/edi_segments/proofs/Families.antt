@@ -1,5 +1,6 @@
 -- Tables of activities whose segments are nested as their processes are, and what changes leave them so.
-use Rattle.std.proofs.Common.{◌≡◌, ℕ, ◌-◌, ◌<◌, ◌≤◌, ◌⊎◌, inl, inr, true, false, List, [], ◌∷◌, length, take, length-append, Option, Some, None, refl, sym, subst, ap, ◌∙◌, arith}
+use Rattle.std.proofs.Common.{◌≡◌, ℕ, ◌-◌, ◌<◌, ◌≤◌, ◌⊎◌, inl, inr, true, false, List, [], ◌∷◌, length, take, length-append, Option, Some, None, refl, sym}
+use Rattle.std.proofs.Common.{subst, ap, ◌∙◌, arith}
 use Rattle.std.proofs.lemmas.List.{length-take}
 use Rattle.std.proofs.Math.Seq.{take-append_seam}
 use Rattle.edi_calls.specs.Names.{Name, Table, same, find, with_at, without}
@@ -113,7 +114,8 @@ module _ (t : Table Activity) (p : Name) (a : Activity) (lives : find t p ≡ So
         in_order q b e (inr n) = s.ordered q b (sym (find-with_at-other t p q a' n) ∙ e)
         in_order q b e (inl k) = subst IsInOrder (some_is (sym (find-with_at-same t p a') ∙ sym (ap (find (with_at t p a')) k) ∙ e)) order
 
-        fewer : (q : Name) (b : Activity) (n : ℕ) → find (with_at t p a') q ≡ Some b → b.standing ≡ waiting n → (q ≡ p) ⊎ (same q p ≡ false) → Few (with_at t p a') q n
+        fewer : (q : Name) (b : Activity) (n : ℕ) → find (with_at t p a') q ≡ Some b → b.standing ≡ waiting n → (q ≡ p) ⊎ (same q p ≡ false)
+            → Few (with_at t p a') q n
         fewer q b n e w (inl k) = record {
           list = [];
           size = omega arith;

@@ -1,5 +1,6 @@
 -- An instruction keeps its activity in order and in its segment.
-use Rattle.std.proofs.Common.{◌≡◌, ℕ, zero, suc, ◌+◌, ◌-◌, ◌^◌, ◌≤◌, Bool, true, false, ◌&&◌, ◌||◌, nat_lt, if◌then◌else◌, List, [], ◌∷◌, Option, Some, None, length, refl, arith}
+use Rattle.std.proofs.Common.{◌≡◌, ℕ, zero, suc, ◌+◌, ◌-◌, ◌^◌, ◌≤◌, Bool, true, false, ◌&&◌, ◌||◌, nat_lt, if◌then◌else◌, List, [], ◌∷◌, Option, Some, None}
+use Rattle.std.proofs.Common.{length, refl, arith}
 use Rattle.std.specs.Prelude.{nat_le, ⊤}
 use Rattle.std.specs.List.{list_any, list_all}
 use Rattle.std.proofs.lemmas.Bool.{cond_both, leb-true, ltb-false, and_parts}
@@ -8,7 +9,8 @@ use Rattle.edi_calls.specs.declared.kinds.Cause.TheVariants as cause
 use Rattle.edi_calls.specs.Calls.{answer_words}
 use Rattle.edi_target.specs.Op as op
 use Rattle.edi_target.specs.Op.{Instruction, Branch, is_allowed, is_count, has_frame}
-use Rattle.edi_target.specs.Effect.{Local, entering, leaving, looping, arriving, again, forking, exiting, finishing, Effect, goes, released, asks, due, fails, bad, in_range, push, pop, pop_word, look, within, to, enter}
+use Rattle.edi_target.specs.Effect.{Local, entering, leaving, looping, arriving, again, forking, exiting, finishing, Effect, goes, released, asks, due}
+use Rattle.edi_target.specs.Effect.{fails, bad, in_range, push, pop, pop_word, look, within, to, enter}
 use Rattle.edi_target.specs.Perform.{short_cut, with_answer_address, system_call, leave, perform, exceeds, share_of, most_processes}
 use Rattle.edi_segments.specs.Nested.{InOrder}
 
@@ -134,7 +136,8 @@ module _ (first last : ℕ) where
   Allows None = ⊤
   Allows (Some x) = is_allowed x.0 ≡ true
 
-  new_frame : (need r p v f : ℕ) (l : Local) → is_allowed (op.entry need r p v f) ≡ true → Is l → need ≤ l.last - l.end → Kept l.first l.end (l.end + (5 + r + p + v)) (l.end + need) l.last
+  new_frame : (need r p v f : ℕ) (l : Local) → is_allowed (op.entry need r p v f) ≡ true → Is l → need ≤ l.last - l.end
+      → Kept l.first l.end (l.end + (5 + r + p + v)) (l.end + need) l.last
   new_frame need r p v f l allowed h room =
       let enough : 5 + r + p + v ≤ need = leb-true (5 + r + p + v) need (and_parts (nat_le (5 + r + p + v) need) _ allowed).0 in
       record {
@@ -150,7 +153,16 @@ module _ (first last : ℕ) where
       }
 
   opened : (m : Local) (need r p v f : ℕ) → is_allowed (op.entry need r p v f) ≡ true → Is m → need ≤ m.last - m.end → {memory : List ℕ} {pc held : ℕ} →
-      Keeps (due entering (record { memory = memory; base = m.end; end = m.end + need; top = m.end + (5 + r + p + v); pc = pc; first = m.first; last = m.last; held = held }))
+      Keeps (due entering (record {
+        memory = memory;
+        base = m.end;
+        end = m.end + need;
+        top = m.end + (5 + r + p + v);
+        pc = pc;
+        first = m.first;
+        last = m.last;
+        held = held;
+      }))
   opened m need r p v f allowed h room = record { keeping = new_frame need r p v f m allowed h room }
 
   entered : (found : Option (Instruction × ℕ)) (link back line : ℕ) (l : Local) → Is l → Allows found → Keeps (enter found link back line l)
@@ -159,7 +171,8 @@ module _ (first last : ℕ) where
   entered None link back line l h allowed = bad_keeps
   entered (Some x) link back line l h allowed = bad_keeps
 
-  addressed : {go : Option ℕ → Local → Effect} (n : ℕ) (l : Local) → Is l → ((address : Option ℕ) (m : Local) → Is m → Keeps (go address m)) → Keeps (with_answer_address n l go)
+  addressed : {go : Option ℕ → Local → Effect} (n : ℕ) (l : Local) → Is l → ((address : Option ℕ) (m : Local) → Is m → Keeps (go address m))
+      → Keeps (with_answer_address n l go)
   addressed zero l h go = go None l h
   addressed (suc n) l h go = popped_one l h (λ x m k. go (Some x) m k)
 
@@ -174,7 +187,8 @@ module _ (first last : ℕ) where
     where
       old_frame : (nat_le l.first base && nat_le (base + 5) top && nat_le (top + results) l.base) ≡ true → Kept l.first base (top + results) l.base l.last
       old_frame e =
-          let both : ((nat_le l.first base && nat_le (base + 5) top) ≡ true) × (nat_le (top + results) l.base ≡ true) = and_parts (nat_le l.first base && nat_le (base + 5) top) (nat_le (top + results) l.base) e in
+          let both : ((nat_le l.first base && nat_le (base + 5) top) ≡ true) × (nat_le (top + results) l.base ≡ true) = and_parts
+          (nat_le l.first base && nat_le (base + 5) top) (nat_le (top + results) l.base) e in
           let parts : (nat_le l.first base ≡ true) × (nat_le (base + 5) top ≡ true) = and_parts (nat_le l.first base) (nat_le (base + 5) top) both.0 in
           record {
             from_is = h.from_is;
@@ -194,21 +208,24 @@ module _ (first last : ℕ) where
   rooms share [] frames fit = tt
   rooms share (branch ∷ branches) frames fit =
       let here : (nat_le 5 branch.need ≡ true) × (list_all has_frame branches ≡ true) = and_parts (nat_le 5 branch.need) (list_all has_frame branches) frames in
-      let neither : (nat_lt share branch.need ≡ false) × (list_any (exceeds share) branches ≡ false) = or_parts (nat_lt share branch.need) (list_any (exceeds share) branches) fit in
+      let neither : (nat_lt share branch.need ≡ false) × (list_any (exceeds share) branches ≡ false) = or_parts (nat_lt share branch.need)
+      (list_any (exceeds share) branches) fit in
       (leb-true 5 branch.need here.0, ltb-false share branch.need neither.0, rooms share branches here.1 neither.1)
     where
       or_parts : (x y : Bool) → (x || y) ≡ false → (x ≡ false) × (y ≡ false)
       or_parts true y e = absurd (cc)
       or_parts false y e = (refl, e)
 
-  forked : (fetch : ℕ → Option (Instruction × ℕ)) (live : ℕ) (is_first : Bool) (line next : ℕ) (branches : List Branch) (l : Local) → Is l → is_allowed (op.cobegin line branches) ≡ true →
+  forked : (fetch : ℕ → Option (Instruction × ℕ)) (live : ℕ) (is_first : Bool) (line next : ℕ) (branches : List Branch) (l : Local) → Is l
+      → is_allowed (op.cobegin line branches) ≡ true →
       Keeps (perform fetch live is_first (op.cobegin line branches) next l)
   forked fetch live is_first line next branches l h allowed =
       either (nat_lt 0 l.held) (fails_keeps {c = cause.Held} {line = line})
       (either (nat_lt most_processes (live + length branches)) (fails_keeps {c = cause.ProcessLimit} {line = line})
       (fitting (list_any (exceeds (share_of l (length branches))) branches) refl))
     where
-      fitting : (b : Bool) → list_any (exceeds (share_of l (length branches))) branches ≡ b → Keeps (if b then fails cause.VariableLimit line else due (forking branches) (record l { pc = next }))
+      fitting : (b : Bool) → list_any (exceeds (share_of l (length branches))) branches ≡ b
+          → Keeps (if b then fails cause.VariableLimit line else due (forking branches) (record l { pc = next }))
       fitting true e = record { keeping = tt }
       fitting false e = record { keeping = (h, rooms (share_of l (length branches)) branches (and_parts (is_count (length branches)) _ allowed).1 e) }
 
@@ -225,9 +242,11 @@ module _ (first last : ℕ) where
     each (op.const value) next h allowed = search (test, either, ranged, popped, popped_one, looked, inside, pushed, to_next, goes_keeps, fails_keeps) depth 12
     each (op.text words) next h allowed = search (test, either, ranged, popped, popped_one, looked, inside, pushed, to_next, goes_keeps, fails_keeps) depth 12
     each (op.zeros count) next h allowed = search (test, either, ranged, popped, popped_one, looked, inside, pushed, to_next, goes_keeps, fails_keeps) depth 12
-    each (op.address k offset) next h allowed = search (test, either, ranged, popped, popped_one, looked, inside, pushed, to_next, goes_keeps, fails_keeps) depth 12
+    each (op.address k offset) next h allowed = search (test, either, ranged, popped, popped_one, looked, inside, pushed, to_next, goes_keeps, fails_keeps)
+        depth 12
     each (op.field offset) next h allowed = search (test, either, ranged, popped, popped_one, looked, inside, pushed, to_next, goes_keeps, fails_keeps) depth 12
-    each (op.index low high size line) next h allowed = search (test, either, ranged, popped, popped_one, looked, inside, pushed, to_next, goes_keeps, fails_keeps) depth 12
+    each (op.index low high size line) next h allowed =
+        search (test, either, ranged, popped, popped_one, looked, inside, pushed, to_next, goes_keeps, fails_keeps) depth 12
     each (op.load count) next h allowed = search (test, either, ranged, popped, popped_one, looked, inside, pushed, to_next, goes_keeps, fails_keeps) depth 12
     each (op.store count) next h allowed = search (test, either, ranged, popped, popped_one, looked, inside, pushed, to_next, goes_keeps, fails_keeps) depth 12
     each (op.add line) next h allowed = search (test, either, ranged, popped, popped_one, looked, inside, pushed, to_next, goes_keeps, fails_keeps) depth 12
@@ -248,16 +267,19 @@ module _ (first last : ℕ) where
     each op.meet next h allowed = search (test, either, ranged, popped, popped_one, looked, inside, pushed, to_next, goes_keeps, fails_keeps) depth 12
     each op.in_ next h allowed = search (test, either, ranged, popped, popped_one, looked, inside, pushed, to_next, goes_keeps, fails_keeps) depth 12
     each (op.member line) next h allowed = search (test, either, ranged, popped, popped_one, looked, inside, pushed, to_next, goes_keeps, fails_keeps) depth 12
-    each (op.check low high line) next h allowed = search (test, either, ranged, popped, popped_one, looked, inside, pushed, to_next, goes_keeps, fails_keeps) depth 12
+    each (op.check low high line) next h allowed = search (test, either, ranged, popped, popped_one, looked, inside, pushed, to_next, goes_keeps, fails_keeps)
+        depth 12
     each (op.jump target) next h allowed = search (test, either, ranged, popped, popped_one, looked, inside, pushed, to_next, goes_keeps, fails_keeps) depth 12
-    each (op.false_ target) next h allowed = search (test, either, ranged, popped, popped_one, looked, inside, pushed, to_next, goes_keeps, fails_keeps) depth 12
+    each (op.false_ target) next h allowed = search (test, either, ranged, popped, popped_one, looked, inside, pushed, to_next, goes_keeps, fails_keeps) depth
+        12
     each (op.and target) next h allowed = search (test, looked, cut) depth 12
     each (op.or target) next h allowed = search (test, looked, cut) depth 12
     each (op.loop target) next h allowed = looping_keeps h
     each (op.entry need r p v f) next h allowed = bad_keeps
     each (op.call k target line) next h allowed = at_entry target _ _ line l h
     each (op.call_p k offset line) next h allowed = search (inside, either, asked, at_entry) depth 12
-    each (op.proc k target) next h allowed = search (test, either, ranged, popped, popped_one, looked, inside, pushed, to_next, goes_keeps, fails_keeps) depth 12
+    each (op.proc k target) next h allowed = search (test, either, ranged, popped, popped_one, looked, inside, pushed, to_next, goes_keeps, fails_keeps) depth
+        12
     each (op.return results function) next h allowed = returned results function next h
     each (op.halt line) next h allowed = fails_keeps
     each (op.when line) next h allowed = either _ fails_keeps (arriving_keeps h)

@@ -1,5 +1,6 @@
 -- Of two different processes one is a descendant of the other, or their segments have no word in common.
-use Rattle.std.proofs.Common.{◌≡◌, ℕ, zero, suc, ◌+◌, ◌-◌, ◌<◌, ◌⊎◌, inl, inr, false, [], ◌∷◌, ◌++◌, length, drop, Some, sym, subst, ap, ◌∙◌, arith, append_assoc, length-drop, length-append}
+use Rattle.std.proofs.Common.{◌≡◌, ℕ, zero, suc, ◌+◌, ◌-◌, ◌<◌, ◌⊎◌, inl, inr, false, [], ◌∷◌, ◌++◌, length, drop, Some, sym, subst, ap, ◌∙◌, arith}
+use Rattle.std.proofs.Common.{append_assoc, length-drop, length-append}
 use Rattle.std.proofs.lemmas.List.{take-append-drop}
 use Rattle.edi_calls.specs.Names.{Name, Table, same, find}
 use Rattle.edi_calls.specs.Ready.{parent_of}
@@ -58,19 +59,22 @@ module _ (t : Table Activity) (s : Sound t) where
   half p q a b c some o h (over u k) = settled (over (deeper q some u) (deeper_behind b c a o h k))
 
   half_of : (p q : Name) (a b : Activity) → find t p ≡ Some a → 0 < length q → IsInParent t q b →
-      ((c : Activity) → same p (parent_of q) ≡ false → find t (parent_of q) ≡ Some c → Lying p a (parent_of q) c) → (p ≡ parent_of q) ⊎ (same p (parent_of q) ≡ false) → Half p a q b
+      ((c : Activity) → same p (parent_of q) ≡ false → find t (parent_of q) ≡ Some c → Lying p a (parent_of q) c) → (p ≡ parent_of q)
+      ⊎ (same p (parent_of q) ≡ false) → Half p a q b
   half_of p q a b e some h ih (inl k) =
       settled (over (child_of q some (sym k)) (subst (IsBehind b) (some_is (sym h.lives ∙ sym (ap (find t) k) ∙ e)) h.lies))
   half_of p q a b e some h ih (inr n) = half p q a b h.parent some (s.ordered (parent_of q) h.parent h.lives) h.lies (ih h.parent n h.lives)
 
   -- neither is below the parent of the other but where they are siblings
-  both_open : (p q : Name) (a b : Activity) → same p q ≡ false → find t p ≡ Some a → find t q ≡ Some b → 0 < length p → 0 < length q → Under (parent_of q) p → Under (parent_of p) q → Lying p a q b
+  both_open : (p q : Name) (a b : Activity) → same p q ≡ false → find t p ≡ Some a → find t q ≡ Some b → 0 < length p → 0 < length q → Under (parent_of q) p
+      → Under (parent_of p) q → Lying p a q b
   both_open _ q a b n e f some some' (child_of p more k) v = apart_from (s.siblings p q a b some some' k n e f)
   both_open _ _ a b n e f some some' (deeper p more u) (child_of q more' k) = apart_from (s.siblings p q a b some some' (sym k) n e f)
   both_open _ _ a b n e f some some' (deeper p more u) (deeper q more' v) =
       absurd (omega (arith, under_longer (parent_of q) (parent_of p) u, under_longer (parent_of p) (parent_of q) v))
 
-  joined : (p q : Name) (a b : Activity) → same p q ≡ false → find t p ≡ Some a → find t q ≡ Some b → 0 < length p → 0 < length q → Half p a q b → Half q b p a → Lying p a q b
+  joined : (p q : Name) (a b : Activity) → same p q ≡ false → find t p ≡ Some a → find t q ≡ Some b → 0 < length p → 0 < length q → Half p a q b
+      → Half q b p a → Lying p a q b
   joined p q a b n e f some some' (settled h) k = h
   joined p q a b n e f some some' (still_open u) (settled k) = swapped q p b a k
   joined p q a b n e f some some' (still_open u) (still_open v) = both_open p q a b n e f some some' u v
@@ -91,9 +95,11 @@ module _ (t : Table Activity) (s : Sound t) where
   lying (suc k) (x ∷ p) (y ∷ q) a b h n e f =
       joined (x ∷ p) (y ∷ q) a b n e f (omega arith) (omega arith)
       (half_of (x ∷ p) (y ∷ q) a b e (omega arith) (s.nested (y ∷ q) b (omega arith) f)
-      (λ c m g. lying k (x ∷ p) (parent_of (y ∷ q)) a c (omega (arith, h, parent_shorter (y ∷ q) (omega arith))) m e g) (same-or-other (x ∷ p) (parent_of (y ∷ q))))
+      (λ c m g. lying k (x ∷ p) (parent_of (y ∷ q)) a c (omega (arith, h, parent_shorter (y ∷ q) (omega arith))) m e g)
+      (same-or-other (x ∷ p) (parent_of (y ∷ q))))
       (half_of (y ∷ q) (x ∷ p) b a f (omega arith) (s.nested (x ∷ p) a (omega arith) e)
-      (λ c m g. lying k (y ∷ q) (parent_of (x ∷ p)) b c (omega (arith, h, parent_shorter (x ∷ p) (omega arith))) m f g) (same-or-other (y ∷ q) (parent_of (x ∷ p))))
+      (λ c m g. lying k (y ∷ q) (parent_of (x ∷ p)) b c (omega (arith, h, parent_shorter (x ∷ p) (omega arith))) m f g)
+      (same-or-other (y ∷ q) (parent_of (x ∷ p))))
 
   by_names : (p q : Name) (a b : Activity) → Lying p a q b → Lie p a q b
   by_names p q a b (apart_from h) = apart h

@@ -1,5 +1,6 @@
 -- Whoever joins the ready processes after a step lives and does not wait, once, and was not among them.
-use Rattle.std.proofs.Common.{◌≡◌, ℕ, zero, suc, ◌+◌, ◌-◌, ◌/◌, ◌<◌, ◌≤◌, ◌⊎◌, inl, inr, Bool, true, false, ◌||◌, if◌then◌else◌, List, [], ◌∷◌, length, get_or, Option, Some, None, refl, sym, subst, ap, ◌∙◌, arith}
+use Rattle.std.proofs.Common.{◌≡◌, ℕ, zero, suc, ◌+◌, ◌-◌, ◌/◌, ◌<◌, ◌≤◌, ◌⊎◌, inl, inr, Bool, true, false, ◌||◌, if◌then◌else◌, List, [], ◌∷◌, length}
+use Rattle.std.proofs.Common.{get_or, Option, Some, None, refl, sym, subst, ap, ◌∙◌, arith}
 use Rattle.std.specs.Prelude.{⊤}
 use Rattle.std.proofs.lemmas.List.{get_or-append_right}
 use Rattle.edi_calls.specs.Names.{Name, same, find, with_at, without}
@@ -8,7 +9,9 @@ use Rattle.edi_calls.proofs.Tables.{same-refl, same-or-other, find-with_at-same,
 use Rattle.edi_calls.specs.Outcome.{standstill}
 use Rattle.edi_target.specs.Op.{Instruction, Branch}
 use Rattle.edi_target.specs.Effect.{Turn, entering, leaving, looping, arriving, again, forking, exiting, finishing}
-use Rattle.edi_target.specs.Mach.{Running, Answer, on, behind, turned, over, Standing, ready, at_when, waiting, Activity, Machine, Stepped, went, ended, running_of, activity_of, back, with_child, with_children, awaits, freed, one_less, notified, attempted, at_turn, kernel, is_first, local_step, step_of, step}
+use Rattle.edi_target.specs.Mach.{Running, Answer, on, behind, turned, over, Standing, ready, at_when, waiting, Activity, Machine, Stepped, went, ended}
+use Rattle.edi_target.specs.Mach.{running_of, activity_of, back, with_child, with_children, awaits, freed, one_less, notified, attempted, at_turn, kernel}
+use Rattle.edi_target.specs.Mach.{is_first, local_step, step_of, step}
 use Rattle.edi_segments.specs.Nested.{MayGoOn}
 use Rattle.edi_segments.proofs.Families.{some_is, no_some, IsFree, Sound}
 use Rattle.edi_segments.proofs.Steps.{no_child}
@@ -64,7 +67,8 @@ children_apart p f i j h = go (same-or-other (child p f i) (child p f j))
 
 not_later : (p : Name) (f i j n : ℕ) → i < j → has (children p f j n) (child p f i) ≡ false
 not_later p f i j zero h = refl
-not_later p f i j (suc n) h = ap (λ b. b || has (children p f (suc j) n) (child p f i)) (children_apart p f i j h) ∙ not_later p f i (suc j) n (omega (arith, h))
+not_later p f i j (suc n) h = ap (λ b. b || has (children p f (suc j) n) (child p f i)) (children_apart p f i j h)
+    ∙ not_later p f i (suc j) n (omega (arith, h))
 
 children_once : (p : Name) (f i n : ℕ) → Once (children p f i n)
 children_once p f i zero = tt
@@ -75,7 +79,8 @@ named : (p : Name) (f i n : ℕ) (q : Name) → has (children p f i n) q ≡ tru
 named p f i zero q h = absurd (cc)
 named p f i (suc n) q h = go (named p f (suc i) n q) (same-or-other q (child p f i))
   where
-    go : (has (children p f (suc i) n) q ≡ true → (j : ℕ) × (suc i ≤ j) × (j < suc i + n) × (q ≡ child p f j)) → (q ≡ child p f i) ⊎ (same q (child p f i) ≡ false) →
+    go : (has (children p f (suc i) n) q ≡ true → (j : ℕ) × (suc i ≤ j) × (j < suc i + n) × (q ≡ child p f j)) → (q ≡ child p f i)
+        ⊎ (same q (child p f i) ≡ false) →
         (j : ℕ) × (i ≤ j) × (j < i + suc n) × (q ≡ child p f j)
     go ih (inl e) = (i, omega arith, omega arith, e)
     go ih (inr d) =
@@ -83,7 +88,8 @@ named p f i (suc n) q h = go (named p f (suc i) n q) (same-or-other q (child p f
         (r.0, omega (arith, r.1), omega (arith, r.2), r.3)
 
 module _ (p : Name) (f base share : ℕ) where
-  earlier_stays : (j : ℕ) (branches : List Branch) (i at : ℕ) (m : Machine) → j < i → MayGoOn m (child p f j) → MayGoOn (with_children p f i base at share branches m) (child p f j)
+  earlier_stays : (j : ℕ) (branches : List Branch) (i at : ℕ) (m : Machine) → j < i → MayGoOn m (child p f j)
+      → MayGoOn (with_children p f i base at share branches m) (child p f j)
   earlier_stays j [] i at m h g = g
   earlier_stays j (branch ∷ branches) i at m h g =
       earlier_stays j branches (suc i) (at + share) (with_child (child p f i) base at share branch m) (omega (arith, h)) (record {
@@ -92,7 +98,8 @@ module _ (p : Name) (f base share : ℕ) where
         free = g.free;
       })
 
-  each_may_go_on : (branches : List Branch) (i at : ℕ) (m : Machine) (j : ℕ) → i ≤ j → j < i + length branches → MayGoOn (with_children p f i base at share branches m) (child p f j)
+  each_may_go_on : (branches : List Branch) (i at : ℕ) (m : Machine) (j : ℕ) → i ≤ j → j < i + length branches
+      → MayGoOn (with_children p f i base at share branches m) (child p f j)
   each_may_go_on [] i at m j h k = absurd (omega (arith, h, k))
   each_may_go_on (branch ∷ branches) i at m j h k =
       go (λ l. each_may_go_on branches (suc i) (at + share) (with_child (child p f i) base at share branch m) j l (omega (arith, k))) (either_order i j h)
@@ -123,13 +130,15 @@ module _ (m : Machine) (p : Name) (a : Activity) (lives : find m.activities p �
   is_at_when n e = cc
 
   stands : (forks : ℕ) (marks : List Name) (r : Running) → Join m p (back m p (activity_of r.local forks at_when) marks r) (p ∷ [])
-  stands forks marks r = one_joins m (back m p (activity_of r.local forks at_when) marks r) p p (goes_on (activity_of r.local forks at_when) marks r is_at_when) (inl refl)
+  stands forks marks r = one_joins m (back m p (activity_of r.local forks at_when) marks r) p p
+      (goes_on (activity_of r.local forks at_when) marks r is_at_when) (inl refl)
 
   tried : (others : List Name) (marks : Bool) (r : Running) → Queues m p (attempted m p others a marks r)
   tried others false r = stands a.forks [] r
   tried others true r = go (all_marked (p ∷ m.marks) (p ∷ others))
     where
-      go : (b : Bool) → Queues m p (if b then ended standstill (back m p (activity_of r.local a.forks at_when) (p ∷ m.marks) r) else went (back m p (activity_of r.local a.forks at_when) (p ∷ m.marks) r) (joins (p ∷ [])))
+      go : (b : Bool) → Queues m p (if b then ended standstill (back m p (activity_of r.local a.forks at_when) (p ∷ m.marks) r) else went
+          (back m p (activity_of r.local a.forks at_when) (p ∷ m.marks) r) (joins (p ∷ [])))
       go true = tt
       go false = stands a.forks (p ∷ m.marks) r
 
@@ -155,18 +164,26 @@ module _ (m : Machine) (p : Name) (a : Activity) (lives : find m.activities p �
 
   -- the parent waited before
   joined : (r : Running) (y : Activity) (n k : ℕ) → find (without m.activities p) (parent_of p) ≡ Some y → y.standing ≡ waiting n →
-      Queues m p (went (record (without_it r) { activities = with_at (without m.activities p) (parent_of p) (record y { standing = awaits k }) }) (freed k (parent_of p)))
+      Queues m p (went (record (without_it r) { activities = with_at (without m.activities p) (parent_of p) (record y { standing = awaits k }) })
+      (freed k (parent_of p)))
   joined r y n (suc k) found waits = nobody_joins m _ p
   joined r y n zero found waits =
       one_joins m _ p (parent_of p)
-      (record { activity = record y { standing = ready }; lives = find-with_at-same (without m.activities p) (parent_of p) (record y { standing = ready }); free = is_ready })
-      (inr (λ g. g.free n (ap (λ x. x.standing) (some_is (sym g.lives ∙ sym (find-without-other m.activities p (parent_of p) (other (same-or-other (parent_of p) p))) ∙ found)) ∙ waits)))
+      (record {
+        activity = record y { standing = ready };
+        lives = find-with_at-same (without m.activities p) (parent_of p) (record y { standing = ready });
+        free = is_ready;
+      })
+      (inr (λ g. g.free n (ap (λ x. x.standing)
+      (some_is (sym g.lives ∙ sym (find-without-other m.activities p (parent_of p) (other (same-or-other (parent_of p) p))) ∙ found)) ∙ waits)))
     where
       other : (parent_of p ≡ p) ⊎ (same (parent_of p) p ≡ false) → same (parent_of p) p ≡ false
       other (inr n) = n
-      other (inl e) = absurd (no_some (find (without m.activities p) (parent_of p)) y (ap (find (without m.activities p)) e ∙ find-without-same m.activities p) found)
+      other (inl e) = absurd (no_some (find (without m.activities p) (parent_of p)) y
+          (ap (find (without m.activities p)) e ∙ find-without-same m.activities p) found)
 
-  lessening : (r : Running) (y : Activity) (standing : Standing) → find (without m.activities p) (parent_of p) ≡ Some y → y.standing ≡ standing → Queues m p (one_less (without_it r) (parent_of p) y standing)
+  lessening : (r : Running) (y : Activity) (standing : Standing) → find (without m.activities p) (parent_of p) ≡ Some y → y.standing ≡ standing
+      → Queues m p (one_less (without_it r) (parent_of p) y standing)
   lessening r y ready found e = nobody_joins m _ p
   lessening r y at_when found e = nobody_joins m _ p
   lessening r y (waiting n) found e = joined r y n (n - 1) found e
@@ -182,7 +199,8 @@ module _ (m : Machine) (p : Name) (a : Activity) (lives : find m.activities p �
   turn_queues others arriving r = stands a.forks [] r
   turn_queues others (again marks) r = tried others marks r
   turn_queues others (forking branches) r =
-      forked branches r ((r.local.last - r.local.end) / length branches) (length branches) (suc a.forks) (back m p (activity_of r.local (suc a.forks) (waiting (length branches))) [] r) refl
+      forked branches r ((r.local.last - r.local.end) / length branches) (length branches) (suc a.forks)
+      (back m p (activity_of r.local (suc a.forks) (waiting (length branches))) [] r) refl
   turn_queues others exiting r = telling r (find (without m.activities p) (parent_of p)) refl
   turn_queues others finishing r = tt
 
@@ -194,4 +212,5 @@ module _ (m : Machine) (p : Name) (a : Activity) (lives : find m.activities p �
 
   pub step_queues : (code : ℕ → Option (Instruction × ℕ)) (others : List Name) → Queues m p (step code m p others)
   step_queues code others =
-      subst (λ x. Queues m p (step_of code m p others x)) (sym lives) (kernel_queues others (local_step code (length m.activities) (is_first p) (running_of m a)))
+      subst (λ x. Queues m p (step_of code m p others x)) (sym lives)
+      (kernel_queues others (local_step code (length m.activities) (is_first p) (running_of m a)))

@@ -1,5 +1,6 @@
 -- The segments are nested at the start, and so in every machine that is reached.
-use Rattle.std.proofs.Common.{◌≡◌, ℕ, zero, suc, ◌+◌, ◌^◌, ◌<◌, ◌≤◌, true, List, [], ◌∷◌, ◌++◌, length, drop, Option, Some, None, refl, sym, subst, ap, ◌∙◌, arith}
+use Rattle.std.proofs.Common.{◌≡◌, ℕ, zero, suc, ◌+◌, ◌^◌, ◌<◌, ◌≤◌, true, List, [], ◌∷◌, ◌++◌, length, drop, Option, Some, None, refl, sym, subst, ap, ◌∙◌}
+use Rattle.std.proofs.Common.{arith}
 use Rattle.std.specs.Prelude.{nat_le}
 use Rattle.std.specs.List.{All}
 use Rattle.std.proofs.lemmas.Bool.{leb-true, and_parts}
@@ -33,7 +34,8 @@ module _ (words : List ℕ) (are : AreWords words) where
   need_is_word : (at need r p v f n : ℕ) → decode (drop at words) ≡ Some (op.entry need r p v f, n) → need < 2 ^ 16
   need_is_word at need r p v f n e =
       let reads : Reads words at (op.entry need r p v f) (at + n) = decode_reads words at (op.entry need r p v f) n are e in
-      let all : All (λ word. word < 2 ^ 16) (words_of (op.entry need r p v f) ++ drop (at + n) words) = subst (All (λ word. word < 2 ^ 16)) reads.stands (All-drop (λ word. word < 2 ^ 16) at words are) in
+      let all : All (λ word. word < 2 ^ 16) (words_of (op.entry need r p v f) ++ drop (at + n) words) = subst (All (λ word. word < 2 ^ 16)) reads.stands
+      (All-drop (λ word. word < 2 ^ 16) at words are) in
       All-get_or (λ word. word < 2 ^ 16) (words_of (op.entry need r p v f) ++ drop (at + n) words) 1 0 (omega arith) all
 
 -- ---- the start
@@ -82,11 +84,15 @@ module _ (words : List ℕ) (are : AreWords words) (entry : ℕ) (calls : List �
   pub starts : (bound : ℕ) → Starts (entered (fetch words entry) entry calls bound system)
   starts bound = go (decode (drop entry words)) refl bound
     where
-      first : (need r p v f n : ℕ) → decode (drop entry words) ≡ Some (op.entry need r p v f, n) → Sound (([], first_activity need (5 + p + v) (entry + n)) ∷ [])
+      first : (need r p v f n : ℕ) → decode (drop entry words) ≡ Some (op.entry need r p v f, n)
+          → Sound (([], first_activity need (5 + p + v) (entry + n)) ∷ [])
       first need r p v f n e =
-          alone (first_activity need (5 + p + v) (entry + n)) (first_order need r p v f (entry + n) (decode_reads words entry (op.entry need r p v f) n are e).allowed (need_is_word words are entry need r p v f n e)) refl
+          alone (first_activity need (5 + p + v) (entry + n))
+          (first_order need r p v f (entry + n) (decode_reads words entry (op.entry need r p v f) n are e).allowed
+          (need_is_word words are entry need r p v f n e)) refl
 
-      go : (d : Option (Instruction × ℕ)) → decode (drop entry words) ≡ d → (bound : ℕ) → Starts (entered (elim d [ None ↦ None | Some found ↦ Some (found.0, entry + found.1) ]) entry calls bound system)
+      go : (d : Option (Instruction × ℕ)) → decode (drop entry words) ≡ d → (bound : ℕ)
+          → Starts (entered (elim d [ None ↦ None | Some found ↦ Some (found.0, entry + found.1) ]) entry calls bound system)
       go None e bound = empty
       go (Some (op.entry need r p v f, n)) e zero = first need r p v f n e
       go (Some (op.entry need r p v f, n)) e (suc k) =
@@ -113,6 +119,7 @@ segments_are_nested words entry calls system bound m are r =
     let s : Sound m.activities = reached words are entry calls system bound m r in (
       nested_of m.activities s,
       λ p others g.
-          let l : Left m.activities p (machine_after (step (fetch words) m p others)).activities = step_leaves m p g.activity g.lives g.free s (fetch words) (allowed_at words are g.activity.first g.activity.last) others in
+          let l : Left m.activities p (machine_after (step (fetch words) m p others)).activities = step_leaves m p g.activity g.lives g.free s (fetch words)
+          (allowed_at words are g.activity.first g.activity.last) others in
           (nested_of (machine_after (step (fetch words) m p others)).activities l.sound, l.others),
     )

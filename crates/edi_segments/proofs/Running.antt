@@ -1,5 +1,6 @@
 -- A run takes only processes that may go on, so that it ends with segments nested.
-use Rattle.std.proofs.Common.{◌≡◌, ℕ, zero, suc, ◌+◌, ◌%◌, ◌<◌, ◌⊎◌, inl, inr, Bool, true, false, ◌||◌, List, [], ◌∷◌, ◌++◌, length, mod-lt, Some, refl, sym, subst, ap, ◌∙◌, arith}
+use Rattle.std.proofs.Common.{◌≡◌, ℕ, zero, suc, ◌+◌, ◌%◌, ◌<◌, ◌⊎◌, inl, inr, Bool, true, false, ◌||◌, List, [], ◌∷◌, ◌++◌, length, mod-lt, Some, refl, sym}
+use Rattle.std.proofs.Common.{subst, ap, ◌∙◌, arith}
 use Rattle.std.specs.Prelude.{⊤}
 use Rattle.edi_calls.specs.Choice.{Choices, choice}
 use Rattle.edi_calls.specs.Names.{Name, same, find}
@@ -73,7 +74,8 @@ once_at [] k h o = absurd (omega (arith, h))
 once_at (p ∷ ps) zero h o = o
 once_at (p ∷ ps) (suc k) h o =
     let ih : Once (name_at ps k ∷ without_index ps k) = once_at ps k (omega (arith, h)) o.1 in
-    let other : same (name_at ps k) p ≡ false = false_where (same (name_at ps k) p) (λ e. not_both (has ps p) (subst (λ x. has ps x ≡ true) (same-equal (name_at ps k) p e) (name_in ps k (omega (arith, h)))) o.0) in (
+    let other : same (name_at ps k) p ≡ false = false_where (same (name_at ps k) p)
+    (λ e. not_both (has ps p) (subst (λ x. has ps x ≡ true) (same-equal (name_at ps k) p e) (name_in ps k (omega (arith, h)))) o.0) in (
       ap (λ b. b || has (without_index ps k) (name_at ps k)) other ∙ ih.0,
       (false_where (has (without_index ps k) p) (λ e. not_both (has ps p) (others_in ps k p e) o.0), ih.1),
     )
@@ -99,7 +101,8 @@ taken_free m choices drawn (p ∷ q ∷ ps) a =
 
 -- ---- after a step
 
-module _ (m : Machine) (p : Name) (others : List Name) (a : AllFree m (p ∷ others)) (t : Machine) (stay : (q : Name) (b : Activity) → same q p ≡ false → find m.activities q ≡ Some b → Stays t.activities q b) where
+module _ (m : Machine) (p : Name) (others : List Name) (a : AllFree m (p ∷ others)) (t : Machine)
+    (stay : (q : Name) (b : Activity) → same q p ≡ false → find m.activities q ≡ Some b → Stays t.activities q b) where
   -- who is ready beside p is so still
   still_free : (q : Name) → has others q ≡ true → MayGoOn t q
   still_free q h = go (stay q g.activity other g.lives)
@@ -140,16 +143,19 @@ module _ (words : List ℕ) (are : AreWords words) (choices : Choices) where
   the_machine : {x y : Ending} {m t : Machine} {c d : ℕ} → finished x m c ≡ finished y t d → m ≡ t
   the_machine e = cc
 
-  go_on_keeps : (n : ℕ) → Keeps n → (m : Machine) → Sound m.activities → (next : Taking) → TakesFree m next → (drawn : ℕ) (ending : Ending) (t : Machine) (d : ℕ) → go_on next (run (fetch words) choices n m) m drawn ≡ finished ending t d → Sound t.activities
+  go_on_keeps : (n : ℕ) → Keeps n → (m : Machine) → Sound m.activities → (next : Taking) → TakesFree m next → (drawn : ℕ) (ending : Ending) (t : Machine)
+      (d : ℕ) → go_on next (run (fetch words) choices n m) m drawn ≡ finished ending t d → Sound t.activities
   go_on_keeps n ih m s nobody f drawn ending t d e = subst Sound (ap (λ x. x.activities) (the_machine e)) s
   go_on_keeps n ih m s (taking p others drawn') f drawn ending t d e = ih m p others drawn' s f ending t d e
 
-  after_step_keeps : (n : ℕ) → Keeps n → (m : Machine) (p : Name) (others : List Name) (drawn : ℕ) → AllFree m (p ∷ others) → (x : Stepped) → Left m.activities p (machine_after x).activities → Queues m p x →
+  after_step_keeps : (n : ℕ) → Keeps n → (m : Machine) (p : Name) (others : List Name) (drawn : ℕ) → AllFree m (p ∷ others) → (x : Stepped)
+      → Left m.activities p (machine_after x).activities → Queues m p x →
       (ending : Ending) (t : Machine) (d : ℕ) → after_step choices (run (fetch words) choices n) p others drawn x ≡ finished ending t d → Sound t.activities
   after_step_keeps n ih m p others drawn a (ended last u) l q ending t d e = subst Sound (ap (λ x. x.activities) (the_machine e)) l.sound
   after_step_keeps n ih m p others drawn a (went u stays) l q ending t d e = ih u p others drawn l.sound (goes_on m p others a u l.others q) ending t d e
   after_step_keeps n ih m p others drawn a (went u (joins ps)) l q ending t d e =
-      go_on_keeps n ih u l.sound (take_next choices drawn (others ++ ps)) (taken_free u choices drawn (others ++ ps) (joined m p others a u l.others ps q)) drawn ending t d e
+      go_on_keeps n ih u l.sound (take_next choices drawn (others ++ ps)) (taken_free u choices drawn (others ++ ps) (joined m p others a u l.others ps q))
+      drawn ending t d e
 
   runs_keep : (n : ℕ) → Keeps n
   runs_keep zero m p others drawn s a ending t d e = absurd (cc)
@@ -162,11 +168,13 @@ module _ (words : List ℕ) (are : AreWords words) (choices : Choices) where
   alone_free : (m : Machine) → MayGoOn m [] → AllFree m ([] ∷ [])
   alone_free m g = record { once = (refl, tt); free = λ q h. subst (MayGoOn m) (sym (in_one [] q h)) g }
 
-  from_start : (n : ℕ) (x : Stepped) → Starts x → (ending : Ending) (t : Machine) (d : ℕ) → after_step choices (run (fetch words) choices n) [] [] 0 x ≡ finished ending t d → Sound t.activities
+  from_start : (n : ℕ) (x : Stepped) → Starts x → (ending : Ending) (t : Machine) (d : ℕ) → after_step choices (run (fetch words) choices n) [] [] 0 x
+      ≡ finished ending t d → Sound t.activities
   from_start n (ended last u) s ending t d e = subst Sound (ap (λ x. x.activities) (the_machine e)) s
   from_start n (went u stays) s ending t d e = runs_keep n u [] [] 0 s.0 (alone_free u s.1) ending t d e
   from_start n (went u (joins ps)) s ending t d e = absurd s
 
 pub every_end_is_nested : EveryEndIsNested
 every_end_is_nested words entry calls system bound choices ending m drawn are ends =
-    nested_of m.activities (from_start words are choices ends.0 (entered (fetch words entry) entry calls bound system) (starts words are entry calls system bound) ending m drawn ends.1)
+    nested_of m.activities (from_start words are choices ends.0 (entered (fetch words entry) entry calls bound system)
+    (starts words are entry calls system bound) ending m drawn ends.1)

@@ -12,7 +12,8 @@ use Rattle.edi_segments.proofs.Queues.{children_apart}
 
 module _ (p : Name) (f base share : ℕ) where
   -- later children leave it as it is
-  stays_there : (j : ℕ) (x : Activity) (branches : List Branch) (k at : ℕ) (m : Machine) → j < k → find m.activities (child p f j) ≡ Some x → find (with_children p f k base at share branches m).activities (child p f j) ≡ Some x
+  stays_there : (j : ℕ) (x : Activity) (branches : List Branch) (k at : ℕ) (m : Machine) → j < k → find m.activities (child p f j) ≡ Some x
+      → find (with_children p f k base at share branches m).activities (child p f j) ≡ Some x
   stays_there j x [] k at m less e = e
   stays_there j x (b ∷ branches) k at m less e =
       stays_there j x branches (suc k) (at + share) (with_child (child p f k) base at share b m) (omega (arith, less))
@@ -26,7 +27,8 @@ module _ (p : Name) (f base share : ℕ) where
       let here : k + 0 ≡ k = omega arith in
       let place : at ≡ at + 0 * share = omega arith in
       ap (λ n. find (with_children p f k base at share (c ∷ branches) m).activities (child p f n)) here
-      ∙ stays_there k (first_of_branch at share c) branches (suc k) (at + share) (with_child (child p f k) base at share c m) (omega arith) (find-with_at-same m.activities (child p f k) _)
+      ∙ stays_there k (first_of_branch at share c) branches (suc k) (at + share) (with_child (child p f k) base at share c m) (omega arith)
+      (find-with_at-same m.activities (child p f k) _)
       ∙ (λ j. Some (first_of_branch (place j) share (is j)))
   lies_there (c ∷ branches) k at m (suc i) b e =
       let there : k + suc i ≡ suc k + i = omega arith in

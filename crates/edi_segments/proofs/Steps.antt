@@ -1,5 +1,6 @@
 -- A step leaves the segments nested, and the frames and segments of all other processes as they were.
-use Rattle.std.proofs.Common.{◌≡◌, ℕ, zero, suc, ◌+◌, ◌-◌, ◌*◌, ◌/◌, ◌<◌, ◌≤◌, ◌⊎◌, inl, inr, Bool, true, false, if◌then◌else◌, List, [], ◌∷◌, length, Option, Some, None, refl, sym, subst, ap, ◌∙◌, arith}
+use Rattle.std.proofs.Common.{◌≡◌, ℕ, zero, suc, ◌+◌, ◌-◌, ◌*◌, ◌/◌, ◌<◌, ◌≤◌, ◌⊎◌, inl, inr, Bool, true, false, if◌then◌else◌, List, [], ◌∷◌, length}
+use Rattle.std.proofs.Common.{Option, Some, None, refl, sym, subst, ap, ◌∙◌, arith}
 use Rattle.std.specs.Prelude.{⊤}
 use Rattle.std.proofs.lemmas.Nat.{div-add-mod'}
 use Rattle.edi_calls.specs.Names.{Name, Table, same, find, with_at, without}
@@ -7,9 +8,12 @@ use Rattle.edi_calls.specs.Ready.{child, parent_of, all_marked}
 use Rattle.edi_calls.specs.Calls.{CallResult, answered, no_file, file_limit, call}
 use Rattle.edi_calls.proofs.Tables.{same-refl, same-or-other, find-with_at-same, find-with_at-other, find-without-other}
 use Rattle.edi_target.specs.Op.{Instruction, Branch}
-use Rattle.edi_target.specs.Effect.{Local, Turn, entering, leaving, looping, arriving, again, forking, exiting, finishing, Effect, goes, released, asks, due, fails, bad}
+use Rattle.edi_target.specs.Effect.{Local, Turn, entering, leaving, looping, arriving, again, forking, exiting, finishing, Effect, goes, released, asks, due}
+use Rattle.edi_target.specs.Effect.{fails, bad}
 use Rattle.edi_target.specs.Perform.{share_of}
-use Rattle.edi_target.specs.Mach.{Running, Answer, on, behind, turned, over, answer_at, called, turn_from, settled, effect_at, local_step, Standing, ready, at_when, waiting, Activity, Machine, Stepped, running_of, activity_of, back, with_children, awaits, one_less, notified, exited, attempted, at_turn, kernel, is_first, step_of, step}
+use Rattle.edi_target.specs.Mach.{Running, Answer, on, behind, turned, over, answer_at, called, turn_from, settled, effect_at, local_step, Standing, ready}
+use Rattle.edi_target.specs.Mach.{at_when, waiting, Activity, Machine, Stepped, running_of, activity_of, back, with_children, awaits, one_less, notified}
+use Rattle.edi_target.specs.Mach.{exited, attempted, at_turn, kernel, is_first, step_of, step}
 use Rattle.edi_segments.specs.Nested.{machine_after, IsInOrder, Stays, unchanged, awaited}
 use Rattle.edi_segments.proofs.Keeping.{HaveRoom, Is, Keeping, Allows, each}
 use Rattle.edi_segments.proofs.Families.{some_is, parent_is, child_some, IsFree, Sound, Alike, no_children, was, replaced, left}
@@ -104,7 +108,8 @@ module _ (m : Machine) (p : Name) (a : Activity) (lives : find m.activities p �
       other : (q : Name) (b : Activity) → same q p ≡ false → find m.activities q ≡ Some b → (q ≡ parent_of p) ⊎ (same q (parent_of p) ≡ false) →
           Stays (with_at (without m.activities p) (parent_of p) (record y { standing = awaits (n - 1) })) q b
       other q b k e (inr d) =
-          unchanged (find-with_at-other (without m.activities p) (parent_of p) q (record y { standing = awaits (n - 1) }) d ∙ find-without-other m.activities p q k ∙ e)
+          unchanged (find-with_at-other (without m.activities p) (parent_of p) q (record y { standing = awaits (n - 1) }) d ∙ find-without-other m.activities
+          p q k ∙ e)
       other q b k e (inl i) =
           let one : y ≡ b = some_is (sym found ∙ sym (ap (find (without m.activities p)) i) ∙ find-without-other m.activities p q k ∙ e) in
           awaited n (sym (ap (λ x. x.standing) one) ∙ waits)
@@ -115,7 +120,8 @@ module _ (m : Machine) (p : Name) (a : Activity) (lives : find m.activities p �
   abbrev without_it : Running → Machine
   without_it r = record { memory = r.local.memory; activities = without m.activities p; marks = []; turns = r.turns; system = r.system }
 
-  lessening : (r : Running) (y : Activity) (standing : Standing) → find (without m.activities p) (parent_of p) ≡ Some y → y.standing ≡ standing → Leaves (one_less (without_it r) (parent_of p) y standing)
+  lessening : (r : Running) (y : Activity) (standing : Standing) → find (without m.activities p) (parent_of p) ≡ Some y → y.standing ≡ standing
+      → Leaves (one_less (without_it r) (parent_of p) y standing)
   lessening r y ready found e = rest
   lessening r y at_when found e = rest
   lessening r y (waiting n) found e = less y n found e
@@ -134,7 +140,8 @@ module _ (m : Machine) (p : Name) (a : Activity) (lives : find m.activities p �
 
     nobody : (r : Name) (b : Activity) → 0 < length r → parent_of r ≡ p → find (with_at m.activities p parent) r ≡ Some b → ⊥
     nobody r b some own e =
-        let c : (c : Activity) × (find m.activities r ≡ Some c) × Alike c b = was m.activities p a lives free s parent (sym h.from_is, sym h.upto_is) h.order r b e in
+        let c : (c : Activity) × (find m.activities r ≡ Some c) × Alike c b = was m.activities p a lives free s parent (sym h.from_is, sym h.upto_is) h.order
+        r b e in
         let yes : same (parent_of r) p ≡ true = ap (λ y. same y p) own ∙ same-refl p in
         let no : true ≡ false = sym yes ∙ no_children m.activities p a lives free s r c.0 some c.1 in
         absurd (cc)
@@ -169,15 +176,20 @@ module _ (m : Machine) (p : Name) (a : Activity) (lives : find m.activities p �
   waiting_now r n = back m p (activity_of r.local (suc a.forks) (waiting n)) [] r
 
   -- the children of a fork are born, n of them
-  forked : (branches : List Branch) (n : ℕ) (r : Running) → length branches ≡ n → Is a.first a.last r.local → HaveRoom ((r.local.last - r.local.end) / n) branches →
+  forked : (branches : List Branch) (n : ℕ) (r : Running) → length branches ≡ n → Is a.first a.last r.local → HaveRoom ((r.local.last - r.local.end) / n)
+      branches →
       Left m.activities p (with_children p (suc a.forks) 0 r.local.base r.local.end ((r.local.last - r.local.end) / n) branches (waiting_now r n)).activities
   forked branches n r count h room = record {
-    sound = born p (suc a.forks) r.local.base ((r.local.last - r.local.end) / n) (activity_of r.local (suc a.forks) (waiting n)) n refl branches 0 r.local.end (waiting_now r n)
-        (subst (Stage (with_at m.activities p (activity_of r.local (suc a.forks) (waiting n))) p (activity_of r.local (suc a.forks) (waiting n)) r.local.end) (sym count) (stage r.local (suc a.forks) n h))
+    sound = born p (suc a.forks) r.local.base ((r.local.last - r.local.end) / n) (activity_of r.local (suc a.forks) (waiting n)) n refl branches 0 r.local.end
+        (waiting_now r n)
+        (subst (Stage (with_at m.activities p (activity_of r.local (suc a.forks) (waiting n))) p (activity_of r.local (suc a.forks) (waiting n)) r.local.end)
+        (sym count) (stage r.local (suc a.forks) n h))
         room
-        (subst (λ k. r.local.end + (r.local.last - r.local.end) / n * k ≤ r.local.last) (sym count) (omega (arith, div-add-mod' (r.local.last - r.local.end) n, h.order.ends)));
+        (subst (λ k. r.local.end + (r.local.last - r.local.end) / n * k ≤ r.local.last) (sym count)
+        (omega (arith, div-add-mod' (r.local.last - r.local.end) n, h.order.ends)));
     others = λ q b d e.
-        unchanged (others_stay p (suc a.forks) r.local.base ((r.local.last - r.local.end) / n) q (λ i. no_child q b (suc a.forks) i e) branches 0 r.local.end (waiting_now r n)
+        unchanged (others_stay p (suc a.forks) r.local.base ((r.local.last - r.local.end) / n) q (λ i. no_child q b (suc a.forks) i e) branches 0 r.local.end
+        (waiting_now r n)
         ∙ find-with_at-other m.activities p q (activity_of r.local (suc a.forks) (waiting n)) d ∙ e);
   }
 
@@ -199,7 +211,8 @@ module _ (m : Machine) (p : Name) (a : Activity) (lives : find m.activities p �
 
   -- the instruction that stands there
   module _ (code : ℕ → Option (Instruction × ℕ)) (allows : (at : ℕ) → Allows a.first a.last (code at)) where
-    effect_keeps : (found : Option (Instruction × ℕ)) → Allows a.first a.last found → (live : ℕ) (first : Bool) (l : Local) → Is a.first a.last l → Keeping a.first a.last (effect_at code found live first l)
+    effect_keeps : (found : Option (Instruction × ℕ)) → Allows a.first a.last found → (live : ℕ) (first : Bool) (l : Local) → Is a.first a.last l
+        → Keeping a.first a.last (effect_at code found live first l)
     effect_keeps None allowed live first l h = tt
     effect_keeps (Some x) allowed live first l h = (each a.first a.last code allows live first l x.0 x.1 h allowed).keeping
 
@@ -210,4 +223,5 @@ module _ (m : Machine) (p : Name) (a : Activity) (lives : find m.activities p �
     step_leaves others =
         subst (λ x. Leaves (step_of code m p others x)) (sym lives)
         (kernel_leaves others (local_step code (length m.activities) (is_first p) (running_of m a))
-        (settled_fine a.first a.last _ (running_of m a) (effect_keeps (code a.pc) (allows a.pc) (length m.activities) (is_first p) (running_of m a).local taken_is)))
+        (settled_fine a.first a.last _ (running_of m a)
+        (effect_keeps (code a.pc) (allows a.pc) (length m.activities) (is_first p) (running_of m a).local taken_is)))

@@ -96,5 +96,6 @@ SegmentsAreNested =
 -- and every run ends so, whatever its choices
 abbrev pub EveryEndIsNested : Type 0
 EveryEndIsNested =
-    (words : List ℕ) (entry : ℕ) (calls : List ℕ) (system : State) (bound : ℕ) (choices : Choices) (ending : Ending) (m : Machine) (drawn : ℕ) → AreWords words →
+    (words : List ℕ) (entry : ℕ) (calls : List ℕ) (system : State) (bound : ℕ) (choices : Choices) (ending : Ending) (m : Machine) (drawn : ℕ)
+    → AreWords words →
     Ends (fetch words) entry calls system bound choices ending m drawn → AreNested m.activities

@@ -21,7 +21,8 @@ Faulted (fault.At why line) m = m ≡ faults why line
 Faulted fault.NoMemory m = ⊤
 
 -- a part has a fault, and then the whole has it
-pub part_faults : {A A' : Type 0} (f : StaticFault) (m : Judged A) (part : Judged A') → Faulted f part → ((why : StaticKind) (line : ℕ) → part ≡ faults why line → m ≡ faults why line) → Faulted f m
+pub part_faults : {A A' : Type 0} (f : StaticFault) (m : Judged A) (part : Judged A') → Faulted f part
+    → ((why : StaticKind) (line : ℕ) → part ≡ faults why line → m ≡ faults why line) → Faulted f m
 part_faults (fault.At why line) m part e h = h why line e
 part_faults fault.NoMemory m part e h = tt
 
@@ -33,7 +34,8 @@ on_ok (Err f) p = tt
 chain : {A B C D E : Type 0} (m : Judged A) (f : A → Judged B) (g : A → B → Judged C) (pair : B → C → D) (k : D → Judged E) →
     (m >>= λ a. f a >>= λ b. g a b >>= λ c. k (pair b c)) ≡ ((m >>= λ a. f a >>= λ b. g a b >>= λ c. gives (pair b c)) >>= k)
 chain m f g pair k =
-    same_behind m _ _ (λ a. same_behind (f a) _ _ (λ b. sym (assoc (g a b) (λ c. gives (pair b c)) k)) ∙ sym (assoc (f a) (λ b. g a b >>= λ c. gives (pair b c)) k))
+    same_behind m _ _ (λ a. same_behind (f a) _ _ (λ b. sym (assoc (g a b) (λ c. gives (pair b c)) k))
+    ∙ sym (assoc (f a) (λ b. g a b >>= λ c. gives (pair b c)) k))
     ∙ sym (assoc m (λ a. f a >>= λ b. g a b >>= λ c. gives (pair b c)) k)
 
 -- a program by its heading and the rest of its procedure
@@ -48,4 +50,5 @@ program_is h ds s end env =
 pub program_faults : (h : text.Heading) (ds : text.Declarations) (s : text.StatementList) (end : ℕ) (env : Environment) (why : StaticKind) (line : ℕ) →
     begun_program h env ≡ faults why line → program_procedure (text.procedure h ds s end) env ≡ faults why line
 program_faults h ds s end env why line e =
-    program_is h ds s end env ∙ ap (λ m. m >>= λ heads. procedure_rest 0 (text.procedure h ds s end) heads.env >>= λ after. gives (program_unit heads.calls after)) e
+    program_is h ds s end env ∙ ap (λ m. m >>= λ heads. procedure_rest 0 (text.procedure h ds s end) heads.env >>= λ after. gives
+    (program_unit heads.calls after)) e

@@ -1,5 +1,6 @@
 -- The headings of procedures, also of split ones.
-use Rattle.std.proofs.Common.{◌≡◌, ℕ, suc, ◌<◌, Bool, true, false, List, [], ◌∷◌, ◌++◌, length, drop, if◌then◌else◌, Option, Some, None, option_map, unwrap_or, IfSome, Result, Ok, Err, OnOk, refl, ap, sym, ◌∙◌, subst, arith}
+use Rattle.std.proofs.Common.{◌≡◌, ℕ, suc, ◌<◌, Bool, true, false, List, [], ◌∷◌, ◌++◌, length, drop, if◌then◌else◌, Option, Some, None, option_map}
+use Rattle.std.proofs.Common.{unwrap_or, IfSome, Result, Ok, Err, OnOk, refl, ap, sym, ◌∙◌, subst, arith}
 use Rattle.std.proofs.lemmas.List.{length-append}
 use Rattle.std.proofs.lemmas.List.Elements.{All-push}
 use Rattle.std.specs.Str.{bytes_eq}
@@ -44,11 +45,13 @@ pub inner_answer : {B : Type 0} (env after : Environment) (r : Result B StaticFa
 inner_answer env after (Ok b) m e g p = begins env after (subst (Gives (Inner env)) e g) p
 inner_answer env after (Err f) m e g p = tt
 
-pub begin_stated : (m : Bool) (h : text.Heading) (name : Name) (env : Environment) (headed : Headed) (kind : BlockKind) (n : ℕ) → n ≡ length env.blocks → name ≡ own_name h →
+pub begin_stated : (m : Bool) (h : text.Heading) (name : Name) (env : Environment) (headed : Headed) (kind : BlockKind) (n : ℕ) → n ≡ length env.blocks
+    → name ≡ own_name h →
     heading_parts n h env ≡ gives headed → kind ≡ kind_of (heading_result headed.asks) →
     begin_procedure m h env ≡ round (declare m name (entity.Procedure n)) (with_heading kind headed)
 begin_stated m h name env headed kind n e i stated k =
-    ap (λ n. heading_parts n h env >>= λ headed. round (declare m (own_name h) (entity.Procedure n)) (with_heading (kind_of (heading_result headed.asks)) headed)) (sym e)
+    ap (λ n. heading_parts n h env >>= λ headed. round (declare m (own_name h) (entity.Procedure n))
+    (with_heading (kind_of (heading_result headed.asks)) headed)) (sym e)
     ∙ (ap (λ j. j >>= λ headed. round (declare m (own_name h) (entity.Procedure n)) (with_heading (kind_of (heading_result headed.asks)) headed)) stated
     ∙ (ap (λ k. round (declare m (own_name h) (entity.Procedure n)) (with_heading k headed)) (sym k)
     ∙ ap (λ name. round (declare m name (entity.Procedure n)) (with_heading kind headed)) (sym i)))
@@ -84,7 +87,8 @@ post_number h name env found n i f e =
     e ∙ (ap (λ found. unwrap_or found (length env.blocks)) (f ∙ ap (λ name. block_named env.begun name.text) i)
     ∙ found_block (begun_named env.begun (own_name h).text) env)
 
-completes_same : (found : Option Begun) (name : Name) (headed : Headed) → completes found name headed ≡ completes_block (option_map (λ b. b.block) found) name headed.env headed.asks
+completes_same : (found : Option Begun) (name : Name) (headed : Headed) → completes found name headed ≡ completes_block (option_map (λ b. b.block) found) name
+    headed.env headed.asks
 completes_same None name headed = refl
 completes_same (Some b) name headed = refl
 
@@ -93,7 +97,8 @@ pub post_stated : (m : Bool) (h : text.Heading) (name : Name) (env : Environment
     begin_post m h env ≡ (completes_block found name headed.env headed.asks >>= λ _. post_marked m name n headed.env)
 post_stated m h name env headed found n i f e stated =
     let b : block_of env (begun_named env.begun (own_name h).text) ≡ n = sym (post_number h name env found n i f e) in
-    ap (λ n. heading_parts n h env >>= λ headed. completes (begun_named env.begun (own_name h).text) (own_name h) headed >>= λ _. post_marked m (own_name h) n headed.env) b
+    ap (λ n. heading_parts n h env >>= λ headed. completes (begun_named env.begun (own_name h).text) (own_name h) headed >>= λ _. post_marked m (own_name h) n
+    headed.env) b
     ∙ (ap (λ j. j >>= λ headed. completes (begun_named env.begun (own_name h).text) (own_name h) headed >>= λ _. post_marked m (own_name h) n headed.env) stated
     ∙ (ap (λ j. j >>= λ _. post_marked m (own_name h) n headed.env) (completes_same (begun_named env.begun (own_name h).text) (own_name h) headed
     ∙ ap (λ found. completes_block found (own_name h) headed.env headed.asks) (sym (f ∙ ap (λ name. block_named env.begun name.text) i)))
@@ -110,15 +115,18 @@ begin_more m h env =
     (declare_framed m (own_name h) (entity.Procedure (length env.blocks)) _ (leave inside) refl)
     (λ outer e. omega (arith, ap (λ f. length f.headings_known) e, ap (λ f. length f.headings_known) k, length-append headed.env.headings)))
 
-pub begun_block : (m : Bool) (h : text.Heading) (env after : Environment) (n : ℕ) → begin_procedure m h env ≡ gives after → Proper env → n ≡ length env.blocks → n < length after.headings
+pub begun_block : (m : Bool) (h : text.Heading) (env after : Environment) (n : ℕ) → begin_procedure m h env ≡ gives after → Proper env → n ≡ length env.blocks
+    → n < length after.headings
 begun_block m h env after n stated p e = omega (arith, subst (Gives (λ e. length env.headings < length e.headings)) stated (begin_more m h env), p.headings, e)
 
-pub pre_comes : (env inside : Environment) (b : Begun) → EnvironmentStands env → HeadingBegins env inside → Proper (leave inside) → b.block < length inside.headings →
+pub pre_comes : (env inside : Environment) (b : Begun) → EnvironmentStands env → HeadingBegins env inside → Proper (leave inside)
+    → b.block < length inside.headings →
     Comes env (with_begun (inside.begun ++ b ∷ []) (leave inside))
 pre_comes env inside b s h p lt =
     let ks : kinds (outside inside.scopes) ≡ kinds env.scopes = outside_kinds inside.scopes ∙ ap (drop 1) h.kinds_inside in
     record {
-      same_setting = ap (λ ks. record { kinds_of = ks; blocks_round = inside.around }) ks ∙ ap (λ r. record { kinds_of = kinds env.scopes; blocks_round = r }) h.around_same;
+      same_setting = ap (λ ks. record { kinds_of = ks; blocks_round = inside.around }) ks ∙ ap (λ r. record { kinds_of = kinds env.scopes; blocks_round = r })
+          h.around_same;
       grows = h.grows;
       stands = record {
         proper = around_proper inside.around (inside.begun ++ b ∷ []) (leave inside) p;
@@ -129,7 +137,8 @@ pre_comes env inside b s h p lt =
       };
     }
 
-pub pre_stated : (m : Bool) (h : text.Heading) (name : Name) (env inside : Environment) (n : ℕ) → begin_procedure m h env ≡ gives inside → name ≡ own_name h → n ≡ length env.blocks →
+pub pre_stated : (m : Bool) (h : text.Heading) (name : Name) (env inside : Environment) (n : ℕ) → begin_procedure m h env ≡ gives inside → name ≡ own_name h
+    → n ≡ length env.blocks →
     inside.begun ≡ env.begun → pre_decl m h env ≡ gives (with_begun (inside.begun ++ record { name = name; block = n } ∷ []) (leave inside))
 pre_stated m h name env inside n stated i e b =
     ap (λ j. j >>= λ after. gives (record (leave after) { begun = env.begun ++ record { name = own_name h; block = length env.blocks } ∷ [] })) stated

@@ -1,5 +1,6 @@
 -- The begin and the end of procedures and modules.
-use Rattle.std.proofs.Common.{◌≡◌, ℕ, ◌<◌, ◌≤◌, Bool, true, false, List, [], ◌∷◌, ◌++◌, length, drop, take, slice_index_or, is_some, refl, ap, sym, ◌∙◌, subst, arith}
+use Rattle.std.proofs.Common.{◌≡◌, ℕ, ◌<◌, ◌≤◌, Bool, true, false, List, [], ◌∷◌, ◌++◌, length, drop, take, slice_index_or, is_some, refl, ap, sym, ◌∙◌}
+use Rattle.std.proofs.Common.{subst, arith}
 use Rattle.std.proofs.lemmas.List.{length-append}
 use Rattle.edi_scope.specs.declared.entity.Entity.{Entity}
 use Rattle.edi_scope.specs.declared.entity.Entity.TheVariants as entity
@@ -14,7 +15,9 @@ use Rattle.edi_static.specs.Judged.{Judged, gives, faults, ◌>>=◌}
 use Rattle.edi_static.specs.Environment.{Begun, Environment, declare, give_outside, enter, here}
 use Rattle.edi_static.specs.Headings.{Headed, leave, round, own_name, heading_parts}
 use Rattle.edi_static.specs.Statements.{After, add_statements, statement_list}
-use Rattle.edi_static.specs.Declarations.{kind_of, with_heading, begun_named, without_begun, completes, post_marked, all_completed, enter_block, leave_to, leave_module, heading_of, begin_procedure, begin_post, block_of, procedure_rest, item, module_decl, members, declarations}
+use Rattle.edi_static.specs.Declarations.{kind_of, with_heading, begun_named, without_begun, completes, post_marked, all_completed, enter_block, leave_to}
+use Rattle.edi_static.specs.Declarations.{leave_module, heading_of, begin_procedure, begin_post, block_of, procedure_rest, item, module_decl, members}
+use Rattle.edi_static.specs.Declarations.{declarations}
 use Rattle.edi_static.specs.Proper.{Proper}
 use Rattle.edi_static.proofs.Proper.{around_proper, enter_proper}
 use Rattle.edi_static.proofs.Judging.{Gives, bind, behind, choose}
@@ -80,18 +83,22 @@ block_inner env kind headed h = record {
 
 pub begin_inner : (m : Bool) (h : text.Heading) (env : Environment) → Gives (Inner env) (begin_procedure m h env)
 begin_inner m h env =
-    bind (FramedHeaded (frame env)) (Inner env) (heading_parts (length env.blocks) h env) _ (heading_framed (length env.blocks) h (frame env) env refl) (λ headed k.
+    bind (FramedHeaded (frame env)) (Inner env) (heading_parts (length env.blocks) h env) _ (heading_framed (length env.blocks) h (frame env) env refl)
+    (λ headed k.
     round_inner env (declare m (own_name h) (entity.Procedure (length env.blocks))) (with_heading (kind_of (heading_result headed.asks)) headed)
     (block_inner env (kind_of (heading_result headed.asks)) headed (headed_inner env headed k))
     (declare_framed m (own_name h) (entity.Procedure (length env.blocks)) _ (leave (with_heading (kind_of (heading_result headed.asks)) headed)) refl))
 
-outside_framed : (name : Name) (means : Entity) (f : DeclarationFrame) (env : Environment) → frame env ≡ f → Gives (λ e. frame e ≡ f) (give_outside name means env)
+outside_framed : (name : Name) (means : Entity) (f : DeclarationFrame) (env : Environment) → frame env ≡ f
+    → Gives (λ e. frame e ≡ f) (give_outside name means env)
 outside_framed name means f env h =
     choose (λ e. frame e ≡ f) (is_some (declared (outside env.scopes) name.text)) _ _ tt
-    (ap (λ ks. record { kinds_of = ks; blocks_round = env.around; begun_here = env.begun; headings_known = env.headings }) (exported_kinds name.text means env.scopes) ∙ h)
+    (ap (λ ks. record { kinds_of = ks; blocks_round = env.around; begun_here = env.begun; headings_known = env.headings })
+    (exported_kinds name.text means env.scopes) ∙ h)
 
 marked_inner : (m : Bool) (name : Name) (block : ℕ) (env inside : Environment) → Inner env inside → Gives (Inner env) (post_marked m name block inside)
-marked_inner true name block env inside h = round_inner env (give_outside name (entity.Procedure block)) inside h (outside_framed name (entity.Procedure block) _ (leave inside) refl)
+marked_inner true name block env inside h = round_inner env (give_outside name (entity.Procedure block)) inside h
+    (outside_framed name (entity.Procedure block) _ (leave inside) refl)
 marked_inner false name block env inside h = h
 
 pub post_inner : (m : Bool) (h : text.Heading) (env : Environment) → Gives (Inner env) (begin_post m h env)
@@ -129,7 +136,8 @@ pub procedure_comes : (env inside after : Environment) → EnvironmentStands env
 procedure_comes env inside after s h k =
     let ks : kinds after.scopes ≡ kinds env.scopes = k.kinds_outside ∙ (outside_kinds inside.scopes ∙ ap (drop 1) h.kinds_inside) in
     record {
-      same_setting = ap (λ ks. record { kinds_of = ks; blocks_round = after.around }) ks ∙ ap (λ r. record { kinds_of = kinds env.scopes; blocks_round = r }) (k.around_same ∙ h.around_same);
+      same_setting = ap (λ ks. record { kinds_of = ks; blocks_round = after.around }) ks ∙ ap (λ r. record { kinds_of = kinds env.scopes; blocks_round = r })
+          (k.around_same ∙ h.around_same);
       grows = omega (arith, h.grows, k.grows);
       stands = record {
         proper = k.proper;
@@ -177,23 +185,27 @@ posted env inside h name begun e (faults why line) = refl
 
 pub post_item_stated : (m : Bool) (p : text.Procedure) (n : ℕ) (env inside : Environment) → begin_post m (heading_of p) env ≡ gives inside →
     n ≡ block_of env (begun_named env.begun (own_name (heading_of p)).text) → HeadingBegins env inside →
-    item m (text.post_item p) env ≡ (whole_procedure n p inside >>= λ after. gives (with_begun (without_begun (own_name (heading_of p)).text after.begun) after))
+    item m (text.post_item p) env ≡ (whole_procedure n p inside >>= λ after. gives
+    (with_begun (without_begun (own_name (heading_of p)).text after.begun) after))
 post_item_stated m (text.procedure h ds s end) n env inside stated e k =
     let p : text.Procedure = text.procedure h ds s end in
-    ap (λ j. j >>= procedure_rest (block_of env (begun_named env.begun (own_name h).text)) p >>= λ after. gives (leave_to env (without_begun (own_name h).text env.begun) after)) stated
+    ap (λ j. j >>= procedure_rest (block_of env (begun_named env.begun (own_name h).text)) p >>= λ after. gives
+    (leave_to env (without_begun (own_name h).text env.begun) after)) stated
     ∙ (ap (λ n. procedure_rest n p inside >>= λ after. gives (leave_to env (without_begun (own_name h).text env.begun) after)) (sym e)
     ∙ posted env inside k (own_name h).text inside.begun k.begun_same (procedure_rest n p inside))
 
 -- ---- modules
 
 left_module : (env : Environment) (m : Judged (After Acts)) →
-    (m >>= λ done. gives (leave_module env done)) ≡ ((m >>= λ done. gives (add_statements (here env) done.what done.env)) >>= λ after. gives (leave_to env env.begun after))
+    (m >>= λ done. gives (leave_module env done))
+    ≡ ((m >>= λ done. gives (add_statements (here env) done.what done.env)) >>= λ after. gives (leave_to env env.begun after))
 left_module env (gives done) = refl
 left_module env (faults why line) = refl
 
 module_rest : (env inner : Environment) (s : text.StatementList) (first : Judged (Unit {0})) →
     (first >>= λ _. statement_list s inner >>= λ done. gives (leave_module env done))
-    ≡ ((first >>= λ _. statement_list s inner >>= λ done. gives (add_statements (here env) done.what done.env)) >>= λ after. gives (leave_to env env.begun after))
+    ≡ ((first >>= λ _. statement_list s inner >>= λ done. gives (add_statements (here env) done.what done.env)) >>= λ after. gives
+    (leave_to env env.begun after))
 module_rest env inner s (faults why line) = refl
 module_rest env inner s (gives u) = left_module env (statement_list s inner)
 
@@ -215,7 +227,8 @@ pub module_comes : (env b c : Environment) (begun : List Begun) → begun ≡ en
 module_comes env b c begun e s hb hc p =
     let ks : kinds (outside c.scopes) ≡ kinds env.scopes = outside_kinds c.scopes ∙ ap (λ p. drop 1 p.kinds_of) (hc.same_setting ∙ hb.same_setting) in
     record {
-      same_setting = ap (λ ks. record { kinds_of = ks; blocks_round = c.around }) ks ∙ ap (λ p. record { kinds_of = kinds env.scopes; blocks_round = p.blocks_round }) (hc.same_setting ∙ hb.same_setting);
+      same_setting = ap (λ ks. record { kinds_of = ks; blocks_round = c.around }) ks
+          ∙ ap (λ p. record { kinds_of = kinds env.scopes; blocks_round = p.blocks_round }) (hc.same_setting ∙ hb.same_setting);
       grows = omega (arith, hb.grows, hc.grows);
       stands = record {
         proper = p;
@@ -245,10 +258,13 @@ pub rest_faults : (block : ℕ) (h : text.Heading) (ds : text.Declarations) (s :
     declarations ds (enter_block block env) ≡ faults why line → whole_procedure block (text.procedure h ds s end) env ≡ faults why line
 rest_faults block h ds s end env why line e = ap (λ m. m >>= finished block s end >>= λ after. gives (leave_to env env.begun after)) e
 
-pub end_faults : (block : ℕ) (h : text.Heading) (ds : text.Declarations) (s : text.StatementList) (end : ℕ) (env b : Environment) (why : StaticKind) (line : ℕ) →
-    declarations ds (enter_block block env) ≡ gives b → finished block s end b ≡ faults why line → whole_procedure block (text.procedure h ds s end) env ≡ faults why line
+pub end_faults : (block : ℕ) (h : text.Heading) (ds : text.Declarations) (s : text.StatementList) (end : ℕ) (env b : Environment) (why : StaticKind)
+    (line : ℕ) →
+    declarations ds (enter_block block env) ≡ gives b → finished block s end b ≡ faults why line → whole_procedure block (text.procedure h ds s end) env
+    ≡ faults why line
 end_faults block h ds s end env b why line stated e =
-    ap (λ m. m >>= finished block s end >>= λ after. gives (leave_to env env.begun after)) stated ∙ ap (λ m. m >>= λ after. gives (leave_to env env.begun after)) e
+    ap (λ m. m >>= finished block s end >>= λ after. gives (leave_to env env.begun after)) stated
+    ∙ ap (λ m. m >>= λ after. gives (leave_to env env.begun after)) e
 
 -- inside a module
 pub module_stands : (env : Environment) → EnvironmentStands env → EnvironmentStands (inside_module env)

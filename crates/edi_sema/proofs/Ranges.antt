@@ -2,12 +2,22 @@
 -- 65,536 branches, since each branch has four marks or more.
 use Rattle.std.proofs.Common.{ℕ, suc, ◌+◌, ◌*◌, ◌<◌, ◌^◌, List, [], ◌∷◌, arith}
 use Rattle.edi_lex.specs.declared.symbol.Symbol.TheVariants as is
-use Rattle.edi_tree.specs.Tree.{StatementList, list, Statements, no_statement, next_statement, Statement, skip, assignment, call, if_statement, while_statement, when_statement, cobegin, Conditions, conditions, Condition, condition, Else, no_else, next_else, Branch, branch, Branches, no_branch, next_branch, Procedure, procedure, Item, const_item, type_item, var_item, procedure_item, pre_item, post_item, Module, module_with, Member, item_member, exported_member, module_member, Members, no_member, next_member, Declaration, item_declaration, module_declaration, Declarations, no_declaration, next_declaration, Global, const_global, type_global, Globals, no_global, next_global, Program, program}
-use Rattle.edi_tree.specs.Spelled.{Spelled, just, on, list_then, statements_then, statement_then, conditions_then, condition_then, else_then, branch_then, branches_then, expr_then, procedure_then, item_then, module_then, member_then, members_then, declaration_then, declarations_then, global_then, globals_then, program_then}
+use Rattle.edi_tree.specs.Tree.{StatementList, list, Statements, no_statement, next_statement, Statement, skip, assignment, call, if_statement}
+use Rattle.edi_tree.specs.Tree.{while_statement, when_statement, cobegin, Conditions, conditions, Condition, condition, Else, no_else, next_else, Branch}
+use Rattle.edi_tree.specs.Tree.{branch, Branches, no_branch, next_branch, Procedure, procedure, Item, const_item, type_item, var_item, procedure_item}
+use Rattle.edi_tree.specs.Tree.{pre_item, post_item, Module, module_with, Member, item_member, exported_member, module_member, Members, no_member}
+use Rattle.edi_tree.specs.Tree.{next_member, Declaration, item_declaration, module_declaration, Declarations, no_declaration, next_declaration, Global}
+use Rattle.edi_tree.specs.Tree.{const_global, type_global, Globals, no_global, next_global, Program, program}
+use Rattle.edi_tree.specs.Spelled.{Spelled, just, on, list_then, statements_then, statement_then, conditions_then, condition_then, else_then, branch_then}
+use Rattle.edi_tree.specs.Spelled.{branches_then, expr_then, procedure_then, item_then, module_then, member_then, members_then, declaration_then}
+use Rattle.edi_tree.specs.Spelled.{declarations_then, global_then, globals_then, program_then}
 use Rattle.edi_tree.specs.Spells.{IsBounded}
-use Rattle.edi_static.specs.InRange.{branches_count, ListInRange, StatementsInRange, StatementInRange, ConditionsInRange, ConditionInRange, ElseInRange, BranchInRange, BranchesInRange, ProcedureInRange, ItemInRange, ModuleInRange, MemberInRange, MembersInRange, DeclarationInRange, DeclarationsInRange, GlobalInRange, GlobalsInRange, ProgramInRange}
+use Rattle.edi_static.specs.InRange.{branches_count, ListInRange, StatementsInRange, StatementInRange, ConditionsInRange, ConditionInRange, ElseInRange}
+use Rattle.edi_static.specs.InRange.{BranchInRange, BranchesInRange, ProcedureInRange, ItemInRange, ModuleInRange, MemberInRange, MembersInRange}
+use Rattle.edi_static.specs.InRange.{DeclarationInRange, DeclarationsInRange, GlobalInRange, GlobalsInRange, ProgramInRange}
 use Rattle.edi_sema.proofs.Bounded.{Bounded, rest, tree_bounded, Passed, nothing, mark, then_mark, two, over, loose}
-use Rattle.edi_sema.proofs.RangesParts.{constant_passed, const_list_passed, type_decl_passed, var_list_passed, heading_passed, expr_passed, variable_passed, optional_args_passed}
+use Rattle.edi_sema.proofs.RangesParts.{constant_passed, const_list_passed, type_decl_passed, var_list_passed, heading_passed, expr_passed, variable_passed}
+use Rattle.edi_sema.proofs.RangesParts.{optional_args_passed}
 
 -- ---- statements
 
@@ -18,7 +28,8 @@ branch_of x y = record { part = (x.part, y.part); behind_it = y.behind_it; fewer
 branches_of : (n : ℕ) {P Q : Type 0} {s : Spelled} {a b c : List Spelled} → Passed 3 P a b → Passed (4 * n + 1) Q b c → Passed (4 * suc n + 1) (P × Q) (s ∷ a) c
 branches_of n x y = record { part = (x.part, y.part); behind_it = y.behind_it; fewer = omega (arith, x.fewer, y.fewer) }
 
-cobegin_of : (n : ℕ) {P Q : Type 0} {s : Spelled} {a b c : List Spelled} → Bounded (s ∷ a) → Passed 3 P a b → Passed (4 * n + 1) Q b c → Passed 1 ((suc n < 2 ^ 16) × P × Q) (s ∷ a) c
+cobegin_of : (n : ℕ) {P Q : Type 0} {s : Spelled} {a b c : List Spelled} → Bounded (s ∷ a) → Passed 3 P a b → Passed (4 * n + 1) Q b c
+    → Passed 1 ((suc n < 2 ^ 16) × P × Q) (s ∷ a) c
 cobegin_of n h x y = record {
   part = (omega (arith, h.few, x.fewer, y.fewer), x.part, y.part);
   behind_it = y.behind_it;
@@ -72,7 +83,8 @@ mutual
       let x = constant_passed c (on is.Do line ∷ list_then l more) h in
       branch_of x (list_passed l more (rest x.behind_it))
 
-  branches_passed : (x : Branches) (more : List Spelled) → Bounded (branches_then x more) → Passed (4 * branches_count x + 1) (BranchesInRange x) (branches_then x more) more
+  branches_passed : (x : Branches) (more : List Spelled) → Bounded (branches_then x more) → Passed (4 * branches_count x + 1) (BranchesInRange x)
+      (branches_then x more) more
   branches_passed (no_branch end) more h = mark (nothing (rest h))
   branches_passed (next_branch also b bs) more h =
       let x = branch_passed b (branches_then bs more) (rest h) in
@@ -112,11 +124,13 @@ mutual
       let x = member_passed m (members_then ms more) h in
       two x (members_passed ms more x.behind_it)
 
-  declaration_passed : (x : Declaration) (more : List Spelled) → Bounded (declaration_then x more) → Passed 0 (DeclarationInRange x) (declaration_then x more) more
+  declaration_passed : (x : Declaration) (more : List Spelled) → Bounded (declaration_then x more) → Passed 0 (DeclarationInRange x) (declaration_then x more)
+      more
   declaration_passed (item_declaration i) more h = item_passed i more h
   declaration_passed (module_declaration m) more h = module_passed m more h
 
-  declarations_passed : (x : Declarations) (more : List Spelled) → Bounded (declarations_then x more) → Passed 0 (DeclarationsInRange x) (declarations_then x more) more
+  declarations_passed : (x : Declarations) (more : List Spelled) → Bounded (declarations_then x more) → Passed 0 (DeclarationsInRange x)
+      (declarations_then x more) more
   declarations_passed no_declaration more h = nothing h
   declarations_passed (next_declaration d ds) more h =
       let x = declaration_passed d (declarations_then ds more) h in

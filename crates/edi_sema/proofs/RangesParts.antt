@@ -9,10 +9,23 @@ use Rattle.edi_tree.specs.declared.expressions.Sign.{Sign}
 use Rattle.edi_tree.specs.declared.expressions.Sign.TheVariants as sign
 use Rattle.edi_tree.specs.declared.expressions.Root.{Root}
 use Rattle.edi_tree.specs.declared.expressions.Root.TheVariants as root
-use Rattle.edi_tree.specs.Tree.{Names, no_name, next_name, ConstDecls, no_const_decl, next_const_decl, ConstList, const_list, Group, group, Groups, no_group, next_group, TypeDecl, enum_decl, record_decl, array_decl, set_decl, VarList, var_list, Heading, heading, Params, no_params, params, MoreParams, no_param, next_param, Param, value_param, var_param, procedure_param, Expr, expr, Comparison, no_comparison, compared, Exprs, no_expr, next_expr, Simple, simple, Addend, addend, Addends, no_addend, next_addend, Term, term, Multiplier, multiplier, Multipliers, no_multiplier, next_multiplier, Factor, numeral, string, not_factor, parenthesized, call_factor, variable_factor, Args, args, Variable, variable, Selector, field, index, Selectors, no_selector, next_selector}
-use Rattle.edi_tree.specs.Spelled.{Spelled, just, char_mark, chars_mark, name_mark, names_then, constant_then, const_decl_then, const_decls_then, const_list_then, group_then, groups_then, type_decl_then, var_list_then, result_then, heading_then, params_then, more_params_then, param_then, sign_then, root_then, expr_then, comparison_then, exprs_then, simple_then, addend_then, addends_then, term_then, multiplier_then, multipliers_then, factor_then, args_then, variable_then, selector_then, selectors_then, optional_args_then}
-use Rattle.edi_static.specs.InRange.{ConstantInRange, ConstDeclsInRange, ConstListInRange, TypeDeclInRange, ExprInRange, ComparisonInRange, ExprsInRange, SimpleInRange, AddendInRange, AddendsInRange, TermInRange, MultiplierInRange, MultipliersInRange, FactorInRange, ArgsInRange, VariableInRange, SelectorInRange, SelectorsInRange, OptionalArgsInRange}
-use Rattle.edi_sema.proofs.Bounded.{numeral_in_range, numeral_not_negative, string_in_range, Bounded, first_of, rest, Passed, nothing, mark, then_mark, two, over, loose}
+use Rattle.edi_tree.specs.Tree.{Names, no_name, next_name, ConstDecls, no_const_decl, next_const_decl, ConstList, const_list, Group, group, Groups, no_group}
+use Rattle.edi_tree.specs.Tree.{next_group, TypeDecl, enum_decl, record_decl, array_decl, set_decl, VarList, var_list, Heading, heading, Params, no_params}
+use Rattle.edi_tree.specs.Tree.{params, MoreParams, no_param, next_param, Param, value_param, var_param, procedure_param, Expr, expr, Comparison}
+use Rattle.edi_tree.specs.Tree.{no_comparison, compared, Exprs, no_expr, next_expr, Simple, simple, Addend, addend, Addends, no_addend, next_addend, Term}
+use Rattle.edi_tree.specs.Tree.{term, Multiplier, multiplier, Multipliers, no_multiplier, next_multiplier, Factor, numeral, string, not_factor}
+use Rattle.edi_tree.specs.Tree.{parenthesized, call_factor, variable_factor, Args, args, Variable, variable, Selector, field, index, Selectors, no_selector}
+use Rattle.edi_tree.specs.Tree.{next_selector}
+use Rattle.edi_tree.specs.Spelled.{Spelled, just, char_mark, chars_mark, name_mark, names_then, constant_then, const_decl_then, const_decls_then}
+use Rattle.edi_tree.specs.Spelled.{const_list_then, group_then, groups_then, type_decl_then, var_list_then, result_then, heading_then, params_then}
+use Rattle.edi_tree.specs.Spelled.{more_params_then, param_then, sign_then, root_then, expr_then, comparison_then, exprs_then, simple_then, addend_then}
+use Rattle.edi_tree.specs.Spelled.{addends_then, term_then, multiplier_then, multipliers_then, factor_then, args_then, variable_then, selector_then}
+use Rattle.edi_tree.specs.Spelled.{selectors_then, optional_args_then}
+use Rattle.edi_static.specs.InRange.{ConstantInRange, ConstDeclsInRange, ConstListInRange, TypeDeclInRange, ExprInRange, ComparisonInRange, ExprsInRange}
+use Rattle.edi_static.specs.InRange.{SimpleInRange, AddendInRange, AddendsInRange, TermInRange, MultiplierInRange, MultipliersInRange, FactorInRange}
+use Rattle.edi_static.specs.InRange.{ArgsInRange, VariableInRange, SelectorInRange, SelectorsInRange, OptionalArgsInRange}
+use Rattle.edi_sema.proofs.Bounded.{numeral_in_range, numeral_not_negative, string_in_range, Bounded, first_of, rest, Passed, nothing, mark, then_mark, two}
+use Rattle.edi_sema.proofs.Bounded.{over, loose}
 
 -- ---- names, constants, types, variables
 
@@ -32,7 +45,8 @@ constant_passed (constant.Name n (Some v)) more h =
     let inner = rest (rest h) in
     mark (mark (then_mark (one inner (numeral_not_negative v (first_of (just (is.Numeral v)) (just is.Close ∷ more) inner)))))
 
-const_decl_passed : (x : ConstDecl) (more : List Spelled) → Bounded (const_decl_then x more) → Passed 1 (ConstantInRange x.constant) (const_decl_then x more) more
+const_decl_passed : (x : ConstDecl) (more : List Spelled) → Bounded (const_decl_then x more) → Passed 1 (ConstantInRange x.constant) (const_decl_then x more)
+    more
 const_decl_passed d more h = mark (mark (constant_passed d.constant more (rest (rest h))))
 
 const_decls_passed : (x : ConstDecls) (more : List Spelled) → Bounded (const_decls_then x more) → Passed 0 (ConstDeclsInRange x) (const_decls_then x more) more
@@ -152,7 +166,8 @@ mutual
   multiplier_passed : (x : Multiplier) (more : List Spelled) → Bounded (multiplier_then x more) → Passed 0 (MultiplierInRange x) (multiplier_then x more) more
   multiplier_passed (multiplier o line f) more h = loose (mark (factor_passed f more (rest h)))
 
-  multipliers_passed : (x : Multipliers) (more : List Spelled) → Bounded (multipliers_then x more) → Passed 0 (MultipliersInRange x) (multipliers_then x more) more
+  multipliers_passed : (x : Multipliers) (more : List Spelled) → Bounded (multipliers_then x more) → Passed 0 (MultipliersInRange x) (multipliers_then x more)
+      more
   multipliers_passed no_multiplier more h = nothing h
   multipliers_passed (next_multiplier f fs) more h =
       let x = multiplier_passed f (multipliers_then fs more) h in
@@ -186,6 +201,7 @@ mutual
       let x = selector_passed s (selectors_then ss more) h in
       two x (selectors_passed ss more x.behind_it)
 
-pub optional_args_passed : (x : Option Args) (more : List Spelled) → Bounded (optional_args_then x more) → Passed 0 (OptionalArgsInRange x) (optional_args_then x more) more
+pub optional_args_passed : (x : Option Args) (more : List Spelled) → Bounded (optional_args_then x more) → Passed 0 (OptionalArgsInRange x)
+    (optional_args_then x more) more
 optional_args_passed None more h = nothing h
 optional_args_passed (Some a) more h = args_passed a more h

@@ -1,5 +1,6 @@
 -- Headings of one and of two parameters.
-use Rattle.std.proofs.Common.{◌≡◌, ◌≢◌, ℕ, suc, Bool, true, false, ◌&&◌, ◌==◌, List, [], ◌∷◌, length, map, get_or, Option, Some, None, refl, ap, sym, ◌∙◌, arith}
+use Rattle.std.proofs.Common.{◌≡◌, ◌≢◌, ℕ, suc, Bool, true, false, ◌&&◌, ◌==◌, List, [], ◌∷◌, length, map, get_or, Option, Some, None, refl, ap, sym, ◌∙◌}
+use Rattle.std.proofs.Common.{arith}
 use Rattle.std.proofs.lemmas.List.{length-map}
 use Rattle.edi_unit.specs.Types.{Shape, bool_type}
 use Rattle.edi_unit.specs.Fits.{Heading, heading, heading_formals, heading_result, Formals, no_formal, value_then, variable_then, procedure_then}
@@ -42,7 +43,8 @@ only_one (variable s) (procedure t) = refl
 only_one (procedure s) (value t) = refl
 only_one (procedure s) (variable t) = refl
 
-in_one : (h : Heading) (f g : One) → formals (f ∷ []) ≡ heading_formals h → same_heading h (heading (formals (g ∷ [])) None) ≡ (same_one f g && same_result (heading_result h) None)
+in_one : (h : Heading) (f g : One) → formals (f ∷ []) ≡ heading_formals h → same_heading h (heading (formals (g ∷ [])) None)
+    ≡ (same_one f g && same_result (heading_result h) None)
 in_one (heading gs r) f g e =
     ap (λ gs. same_formals gs (formals (g ∷ [])) && same_result r None) (sym e) ∙ ap (λ b. b && same_result r None) (only_one f g)
 
@@ -87,7 +89,8 @@ with_result (heading fs r) (heading gs s) e = ap (λ b. same_formals fs gs && b)
 pub bare_stated : (h : Heading) (fs : List code_formal.Formal) → formals (map formal_of fs) ≡ heading_formals h → same_result (heading_result h) None ≡ true →
     same_heading h no_heading ≡ (length fs == 0)
 bare_stated h fs e n =
-    nothing h (map formal_of fs) e ∙ (ap (λ b. (length (map formal_of fs) == 0) && b) n ∙ (and_true (length (map formal_of fs) == 0) ∙ ap (λ n. n == 0) (length-map fs formal_of)))
+    nothing h (map formal_of fs) e ∙ (ap (λ b. (length (map formal_of fs) == 0) && b) n
+    ∙ (and_true (length (map formal_of fs) == 0) ∙ ap (λ n. n == 0) (length-map fs formal_of)))
 
 -- ---- a title and a variable
 
@@ -100,7 +103,8 @@ two types (value t) (procedure b) r = sym (ap (λ b. b && same_result r None) (a
 two types (variable t) g r = refl
 two types (procedure t) g r = refl
 
-pub titled_stated : (types : List Shape) (h : Heading) (fs : List code_formal.Formal) (x y : code_formal.Formal) → formals (map formal_of fs) ≡ heading_formals h →
+pub titled_stated : (types : List Shape) (h : Heading) (fs : List code_formal.Formal) (x y : code_formal.Formal)
+    → formals (map formal_of fs) ≡ heading_formals h →
     length fs ≡ 2 → x ≡ get_or fs 0 x → y ≡ get_or fs 1 y →
     is_titled types h ≡ ((takes_title types (formal_of x) && same_one (formal_of y) (variable bool_type)) && same_result (heading_result h) None)
 titled_stated types h [] x y e n i j = absurd (omega arith)
@@ -124,7 +128,8 @@ not_two_of types (value t ∷ variable u ∷ procedure v ∷ fs) r n = refl
 not_two_of types (variable t ∷ fs) r n = refl
 not_two_of types (procedure t ∷ fs) r n = refl
 
-pub not_two : (types : List Shape) (h : Heading) (fs : List code_formal.Formal) → formals (map formal_of fs) ≡ heading_formals h → length fs ≢ 2 → is_titled types h ≡ false
+pub not_two : (types : List Shape) (h : Heading) (fs : List code_formal.Formal) → formals (map formal_of fs) ≡ heading_formals h → length fs ≢ 2
+    → is_titled types h ≡ false
 not_two types (heading gs r) fs e n =
     ap (λ gs. is_titled types (heading gs r)) (sym e) ∙ not_two_of types (map formal_of fs) r (λ e. n (grind (arith, e, length-map fs formal_of)))
 
@@ -147,7 +152,8 @@ titled_result types (value_then t (variable_then u (procedure_then v gs))) r e =
 pub not_titled : (types : List Shape) (h : Heading) → same_result (heading_result h) None ≡ false → is_titled types h ≡ false
 not_titled types (heading gs r) e = titled_result types gs r e
 
-no_title_of : (types : List Shape) (f : One) (fs : List One) (r : Option ℕ) → takes_title types f ≡ false → is_titled types (heading (formals (f ∷ fs)) r) ≡ false
+no_title_of : (types : List Shape) (f : One) (fs : List One) (r : Option ℕ) → takes_title types f ≡ false → is_titled types (heading (formals (f ∷ fs)) r)
+    ≡ false
 no_title_of types (variable t) fs r e = refl
 no_title_of types (procedure t) fs r e = refl
 no_title_of types (value t) [] r e = refl
@@ -163,4 +169,5 @@ pub no_title : (types : List Shape) (h : Heading) (fs : List code_formal.Formal)
     x ≡ get_or fs 0 x → takes_title types (formal_of x) ≡ false → is_titled types h ≡ false
 no_title types (heading gs r) [] x e i n = ap (λ gs. is_titled types (heading gs r)) (sym e)
 no_title types (heading gs r) (a ∷ fs) x e i n =
-    ap (λ gs. is_titled types (heading gs r)) (sym e) ∙ no_title_of types (formal_of a) (map formal_of fs) r (ap (λ f. takes_title types (formal_of f)) (sym i) ∙ n)
+    ap (λ gs. is_titled types (heading gs r)) (sym e) ∙ no_title_of types (formal_of a) (map formal_of fs) r
+    (ap (λ f. takes_title types (formal_of f)) (sym i) ∙ n)

@@ -11,7 +11,8 @@ use Rattle.edi_static.specs.Answers.{JudgedAnswers}
 use Rattle.edi_static.specs.Programs.{resolve_tree, Sound, Refuses}
 use Rattle.edi_static.proofs.Refusing.{unsound}
 
-pub sound_if_given : (tree : Program) (r : Result code_unit.Unit StaticFault) → ∥ IsBounded tree ∥₁ → depth tree ≤ 64 → JudgedAnswers unit_of r (resolve_tree tree) → IfOk r (λ _. Sound tree)
+pub sound_if_given : (tree : Program) (r : Result code_unit.Unit StaticFault) → ∥ IsBounded tree ∥₁ → depth tree ≤ 64
+    → JudgedAnswers unit_of r (resolve_tree tree) → IfOk r (λ _. Sound tree)
 sound_if_given tree (Ok unit) is_bounded shallow e = record { is_bounded = is_bounded; shallow = shallow; resolved = (unit_of unit, e) }
 sound_if_given tree (Err f) is_bounded shallow e = tt
 

@@ -34,8 +34,10 @@ pub walk_first : {X Y : Type 0} (step : X → Environment → Judged (After Y)) 
 walk_first step x xs env y after e =
     sym (ap (λ m. m >>= λ one. walk step xs one.env >>= λ others. gives (record { what = one.what ∷ others.what; env = others.env })) e)
 
-pub walk_next : {X Y : Type 0} (step : X → Environment → Judged (After Y)) (ys : List Y) (x : X) (xs : List X) (env : Environment) (y : Y) (after : Environment) (whole : Judged (After (List Y))) →
-    behind_these ys (walk step (x ∷ xs) env) ≡ whole → step x env ≡ gives (record { what = y; env = after }) → behind_these (ys ++ y ∷ []) (walk step xs after) ≡ whole
+pub walk_next : {X Y : Type 0} (step : X → Environment → Judged (After Y)) (ys : List Y) (x : X) (xs : List X) (env : Environment) (y : Y)
+    (after : Environment) (whole : Judged (After (List Y))) →
+    behind_these ys (walk step (x ∷ xs) env) ≡ whole → step x env ≡ gives (record { what = y; env = after })
+    → behind_these (ys ++ y ∷ []) (walk step xs after) ≡ whole
 walk_next step ys x xs env y after whole h e =
     sym (behind_both ys y (walk step xs after)) ∙ (ap (behind_these ys) (walk_first step x xs env y after e) ∙ h)
 
@@ -43,7 +45,8 @@ pub walk_done : {X Y : Type 0} (step : X → Environment → Judged (After Y)) (
     behind_these ys (walk step [] env) ≡ whole → whole ≡ gives (record { what = ys; env = env })
 walk_done step ys env whole h = sym h ∙ ap (λ zs. gives (record { what = zs; env = env })) (append-nil ys)
 
-pub walk_faults : {X Y : Type 0} (step : X → Environment → Judged (After Y)) (ys : List Y) (x : X) (xs : List X) (env : Environment) (why : StaticKind) (line : ℕ) (whole : Judged (After (List Y))) →
+pub walk_faults : {X Y : Type 0} (step : X → Environment → Judged (After Y)) (ys : List Y) (x : X) (xs : List X) (env : Environment) (why : StaticKind)
+    (line : ℕ) (whole : Judged (After (List Y))) →
     behind_these ys (walk step (x ∷ xs) env) ≡ whole → step x env ≡ faults why line → whole ≡ faults why line
 walk_faults step ys x xs env why line whole h e =
     sym h ∙ ap (λ m. behind_these ys (m >>= λ one. walk step xs one.env >>= λ others. gives (record { what = one.what ∷ others.what; env = others.env }))) e
@@ -56,18 +59,21 @@ pub looped : {X Y : Type 0} (step : X → Environment → Judged (After Y)) (x :
 looped step x xs rest y ys begun env first now b e h =
     h ∙ (ap (λ ys. behind_these ys (walk step xs first)) b ∙ walk_first step x xs env y first e)
 
-pub looped_done : {X Y : Type 0} (step : X → Environment → Judged (After Y)) (rest : List X) (ys : List Y) (now : Environment) (whole : Judged (After (List Y))) →
+pub looped_done : {X Y : Type 0} (step : X → Environment → Judged (After Y)) (rest : List X) (ys : List Y) (now : Environment)
+    (whole : Judged (After (List Y))) →
     behind_these ys (walk step rest now) ≡ whole → rest ≡ [] → whole ≡ gives (record { what = ys; env = now })
 looped_done step rest ys now whole h e = walk_done step ys now whole (ap (λ rest. behind_these ys (walk step rest now)) (sym e) ∙ h)
 
-pub looped_next : {X Y : Type 0} (step : X → Environment → Judged (After Y)) (rest zs : List X) (z : X) (w : Y) (ys more : List Y) (now after : Environment) (whole : Judged (After (List Y))) →
+pub looped_next : {X Y : Type 0} (step : X → Environment → Judged (After Y)) (rest zs : List X) (z : X) (w : Y) (ys more : List Y) (now after : Environment)
+    (whole : Judged (After (List Y))) →
     behind_these ys (walk step rest now) ≡ whole → rest ≡ z ∷ zs → step z now ≡ gives (record { what = w; env = after }) → more ≡ ys ++ w ∷ [] →
     behind_these more (walk step zs after) ≡ whole
 looped_next step rest zs z w ys more now after whole h r e m =
     ap (λ more. behind_these more (walk step zs after)) m
     ∙ walk_next step ys z zs now w after whole (ap (λ rest. behind_these ys (walk step rest now)) (sym r) ∙ h) e
 
-pub looped_faults : {X Y : Type 0} (step : X → Environment → Judged (After Y)) (rest zs : List X) (z : X) (ys : List Y) (now : Environment) (whole : Judged (After (List Y))) →
+pub looped_faults : {X Y : Type 0} (step : X → Environment → Judged (After Y)) (rest zs : List X) (z : X) (ys : List Y) (now : Environment)
+    (whole : Judged (After (List Y))) →
     behind_these ys (walk step rest now) ≡ whole → rest ≡ z ∷ zs → (why : StaticKind) (line : ℕ) → step z now ≡ faults why line → whole ≡ faults why line
 looped_faults step rest zs z ys now whole h r why line e =
     walk_faults step ys z zs now why line whole (ap (λ rest. behind_these ys (walk step rest now)) (sym r) ∙ h) e
@@ -97,7 +103,8 @@ statements_are : (ss : List text.Statement) (env : Environment) → statements (
 statements_are [] env = refl
 statements_are (s ∷ ss) env = act_step ss (statements_are ss) (statement s env)
 
-pub list_is : (s : text.Statement) (ss : List text.Statement) (env : Environment) → statement_list (text.list s (tree.statements ss)) env ≡ statements_walk (s ∷ ss) env
+pub list_is : (s : text.Statement) (ss : List text.Statement) (env : Environment) → statement_list (text.list s (tree.statements ss)) env ≡ statements_walk
+    (s ∷ ss) env
 list_is s ss env = act_step ss (statements_are ss) (statement s env)
 
 -- ---- conditions
@@ -120,7 +127,8 @@ elses_are : (cs : List text.Condition) (env : Environment) → elses (else_list 
 elses_are [] env = refl
 elses_are (c ∷ cs) env = clause_step cs (elses_are cs) (condition c env)
 
-pub conditions_are : (c : text.Condition) (cs : List text.Condition) (env : Environment) → conditions (text.conditions c (else_list cs)) env ≡ conditions_walk (c ∷ cs) env
+pub conditions_are : (c : text.Condition) (cs : List text.Condition) (env : Environment) → conditions (text.conditions c (else_list cs)) env ≡ conditions_walk
+    (c ∷ cs) env
 conditions_are c cs env = clause_step cs (elses_are cs) (condition c env)
 
 -- ---- branches

@@ -51,7 +51,8 @@ pub(crate) fn begin_block_of(
     requires proper { Proper (environment known.old) }
     requires fits { block ≤ length (environment known.old).headings }
     ensures exact { JudgedAnswers (λ _. environment known.new) result
-        (round (environments.declare marked name.now (entity.Procedure block)) (spec.with_heading kind (record { env = environment known.old; asks = asked_of asked }))) }
+        (round (environments.declare marked name.now (entity.Procedure block))
+        (spec.with_heading kind (record { env = environment known.old; asks = asked_of asked }))) }
     ensures number { IfOk result (λ n. n ≡ block) }
     ensures proper { OnOk result (Proper (environment known.new)) }
 {

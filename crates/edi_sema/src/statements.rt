@@ -73,7 +73,8 @@ fn called(
     used: Use,
     args: Option<&text::Args>,
 ) -> Result<Act, StaticFault>
-    ensures exact { JudgedAnswers act_of result (spec.called (environment known.now) line (used_of used.entry) (option_map args_of (option_copied args.entry))) }
+    ensures exact { JudgedAnswers act_of result
+        (spec.called (environment known.now) line (used_of used.entry) (option_map args_of (option_copied args.entry))) }
 {
     match used {
         Use::Calls(called) => match args {

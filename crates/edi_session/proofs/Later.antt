@@ -8,7 +8,8 @@ use Rattle.edi_session.specs.Course.{Course, states_of, becomes, shows, prints}
 use Rattle.edi_session.specs.Files.{why_line, answered, with_file}
 use Rattle.edi_session.specs.Texts.{about, line_end}
 use Rattle.edi_session.specs.Session.{behind, ends_with}
-use Rattle.edi_session.specs.Shell.{Shell, Taken, took, ended, limited, shell_of, limit, shown_by, shown_in, printed_by, on_fresh_line, says, took_byte, echoed, last_line, take_line, take_text, is_end, text_with, line_with}
+use Rattle.edi_session.specs.Shell.{Shell, Taken, took, ended, limited, shell_of, limit, shown_by, shown_in, printed_by, on_fresh_line, says, took_byte}
+use Rattle.edi_session.specs.Shell.{echoed, last_line, take_line, take_text, is_end, text_with, line_with}
 
 -- one shell comes behind another
 abbrev pub Later : Shell → Shell → Type 0
@@ -47,7 +48,8 @@ pub answered_on : (refusal : Option CatEnd) (f g : List ℕ) (slots : List (Opti
 answered_on None f g slots s m h = becomes_on (record (fresh s.system.now) { slots = slots }) s.system m h
 answered_on (Some why) f g slots s m h = says_on (why_line f g why) s m h
 
-pub with_file_on : (file : Option File) (f : List ℕ) (act : File → Shell → Shell) (s : Shell) → ((file : File) → Later s (act file s)) → Later s (with_file file f act s)
+pub with_file_on : (file : Option File) (f : List ℕ) (act : File → Shell → Shell) (s : Shell) → ((file : File) → Later s (act file s))
+    → Later s (with_file file f act s)
 with_file_on None f act s on m h = says_on (about (codes "no file") f) s m h
 with_file_on (Some file) f act s on m h = on file m h
 
@@ -84,9 +86,11 @@ pub take_line_on : (echo : Bool) (input line : List ℕ) (s : Shell) → Later s
 take_line_on echo [] line s = one_on (nat_le limit s.taken) s (limited s) (last_line echo line s) (λ m h. h) (last_on echo line s)
 take_line_on echo (b ∷ input) line s =
     one_on (nat_le limit s.taken) s (limited s) _ (λ m h. h)
-    (one_on (b == 10) s (took line (echoed echo (10 ∷ []) (took_byte input s))) (take_line echo input (line ++ b ∷ []) (echoed echo (b ∷ []) (took_byte input s)))
+    (one_on (b == 10) s (took line (echoed echo (10 ∷ []) (took_byte input s)))
+    (take_line echo input (line ++ b ∷ []) (echoed echo (b ∷ []) (took_byte input s)))
     (λ m h. echoed_on echo (10 ∷ []) (took_byte input s) m (took_on input s m h))
-    (λ m h. take_line_on echo input (line ++ b ∷ []) (echoed echo (b ∷ []) (took_byte input s)) m (echoed_on echo (b ∷ []) (took_byte input s) m (took_on input s m h))))
+    (λ m h. take_line_on echo input (line ++ b ∷ []) (echoed echo (b ∷ []) (took_byte input s)) m
+    (echoed_on echo (b ∷ []) (took_byte input s) m (took_on input s m h))))
 
 pub take_text_on : (input text line : List ℕ) (s : Shell) → Later s (shell_of (take_text input text line s))
 take_text_on [] text line s =

@@ -19,8 +19,11 @@ use Rattle.edi_session.specs.declared.line.EditLine.{EditLine}
 use Rattle.edi_session.specs.declared.line.EditLine.TheVariants as edit
 use Rattle.edi_session.specs.declared.end.SessionEnd.TheVariants.{Halted, InputEnd, Limit}
 use Rattle.edi_session.specs.Files.{file_in, with_text, copies_to}
-use Rattle.edi_session.specs.Session.{Next, goes, closes, leaves, says_no_memory, edit_refusal, shell_in, Taking, Acts, ActsOn, CompilesFile, ExecutesFile, EditsFile, EditsBy, EditsLine, ChangesLine, Inserts, Replaces, Undoes, StoresText, Goes, GoesIn, prompted, looked_at, edits_on}
-use Rattle.edi_session.specs.Shell.{Shell, Mode, commanding, editing, state_in, Taken, took, ended, limited, shell_of, shown_by, printed_by, on_fresh_line, says, next_line, next_text}
+use Rattle.edi_session.specs.Session.{Next, goes, closes, leaves, says_no_memory, edit_refusal, shell_in, Taking, Acts, ActsOn, CompilesFile, ExecutesFile}
+use Rattle.edi_session.specs.Session.{EditsFile, EditsBy, EditsLine, ChangesLine, Inserts, Replaces, Undoes, StoresText, Goes, GoesIn, prompted, looked_at}
+use Rattle.edi_session.specs.Session.{edits_on}
+use Rattle.edi_session.specs.Shell.{Shell, Mode, commanding, editing, state_in, Taken, took, ended, limited, shell_of, shown_by, printed_by, on_fresh_line}
+use Rattle.edi_session.specs.Shell.{says, next_line, next_text}
 use Rattle.edi_session.specs.Words.{command_line, edit_line, kept_line}
 use Rattle.edi_session.specs.Texts.{about, catalogue_text}
 use Rattle.edi_session.proofs.Later.{Later, shown_on, says_on, fresh_on, printed_on, answered_on, with_file_on, if_on, take_line_on, take_text_on}
@@ -32,7 +35,8 @@ Comes Row s = (next : Next) × Row s next × Later s (shell_in next)
 no_memory_on : (s : Shell) → Later s (says (codes "no memory") s)
 no_memory_on s = says_on (codes "no memory") s
 
-compiles_kind : (kind : FileKind) (f g bytes : List ℕ) (s : Shell) → Comes (CompilesFile f g (Some (record { title = f; kind = kind; protected = false; bytes = bytes }))) s
+compiles_kind : (kind : FileKind) (f g bytes : List ℕ) (s : Shell)
+    → Comes (CompilesFile f g (Some (record { title = f; kind = kind; protected = false; bytes = bytes }))) s
 compiles_kind file_kind.Text f g bytes s = (goes (says_no_memory s), inr (inr refl), no_memory_on s)
 compiles_kind file_kind.Code f g bytes s = (_, refl, says_on (about (codes "not text") f) s)
 
@@ -41,7 +45,8 @@ compiles f g None s = (_, refl, says_on (about (codes "no file") f) s)
 compiles f g (Some file) s = compiles_kind file.kind f g file.bytes s
 
 module _ (bound : ℕ) (choices : Choices) where
-  executes_kind : (kind : FileKind) (f bytes : List ℕ) (s : Shell) → Comes (ExecutesFile bound choices f (Some (record { title = f; kind = kind; protected = false; bytes = bytes }))) s
+  executes_kind : (kind : FileKind) (f bytes : List ℕ) (s : Shell)
+      → Comes (ExecutesFile bound choices f (Some (record { title = f; kind = kind; protected = false; bytes = bytes }))) s
   executes_kind file_kind.Text f bytes s = (_, refl, says_on (about (codes "not code") f) s)
   executes_kind file_kind.Code f bytes s = (goes (says_no_memory s), inr refl, no_memory_on s)
 
@@ -49,7 +54,8 @@ module _ (bound : ℕ) (choices : Choices) where
   executes f None s = (_, refl, says_on (about (codes "no file") f) s)
   executes f (Some file) s = executes_kind file.kind f file.bytes s
 
-edits_kind : (kind : FileKind) (f bytes : List ℕ) (s : Shell) → Comes (EditsFile f (Some (record { title = f; kind = kind; protected = false; bytes = bytes }))) s
+edits_kind : (kind : FileKind) (f bytes : List ℕ) (s : Shell)
+    → Comes (EditsFile f (Some (record { title = f; kind = kind; protected = false; bytes = bytes }))) s
 edits_kind file_kind.Text f bytes s = (goes (says_no_memory s), inr refl, no_memory_on s)
 edits_kind file_kind.Code f bytes s = (_, refl, says_on (about (codes "not text") f) s)
 
@@ -64,8 +70,10 @@ taking (took bytes t) P s later on = let n = on bytes t in (n.0, n.1, λ m h. n.
 taking (ended t) P s later on = (closes InputEnd t, refl, λ m h. fresh_on t m (later m h))
 taking (limited t) P s later on = (closes Limit t, refl, λ m h. fresh_on t m (later m h))
 
-with_text_on : (f : List ℕ) (act : List ℕ → Shell → Shell) (s : Shell) → ((bytes : List ℕ) → Later s (act bytes s)) → (file : File) → Later s (with_text f act file s)
-with_text_on f act s on file = if_on (is_text file.kind) s (act file.bytes s) (says (about (codes "not text") f) s) (on file.bytes) (says_on (about (codes "not text") f) s)
+with_text_on : (f : List ℕ) (act : List ℕ → Shell → Shell) (s : Shell) → ((bytes : List ℕ) → Later s (act bytes s)) → (file : File)
+    → Later s (with_text f act file s)
+with_text_on f act s on file = if_on (is_text file.kind) s (act file.bytes s) (says (about (codes "not text") f) s) (on file.bytes)
+    (says_on (about (codes "not text") f) s)
 
 -- ---- the lines of an editing
 
@@ -84,10 +92,12 @@ undoes title (text ∷ texts) e s = (edits_on title e (says_no_memory s), inr re
 pub edits_by : (l : EditLine) (title : List ℕ) (e : Editing) (s : Shell) → Comes (EditsBy l title e) s
 edits_by (edit.Insert n) title e s =
     taking (next_line false s) (Inserts n title e) s (take_line_on false (state_in s).input [] s)
-    (λ text t. let after = insert e.lines (n - 1) (kept_line text) in changes_line (refusal (is_index n (length e.lines + 1)) after) n title e (changed e after) t)
+    (λ text t. let after = insert e.lines (n - 1) (kept_line text) in
+    changes_line (refusal (is_index n (length e.lines + 1)) after) n title e (changed e after) t)
 edits_by (edit.Replace n) title e s =
     taking (next_line false s) (Replaces n title e) s (take_line_on false (state_in s).input [] s)
-    (λ text t. let after = slice_set e.lines (n - 1) (kept_line text) in changes_line (refusal (is_index n (length e.lines)) after) n title e (changed e after) t)
+    (λ text t. let after = slice_set e.lines (n - 1) (kept_line text) in
+    changes_line (refusal (is_index n (length e.lines)) after) n title e (changed e after) t)
 edits_by (edit.Delete n) title e s = changes_line (missing (is_index n (length e.lines))) n title e (changed e (remove e.lines (n - 1))) s
 edits_by (edit.Look n) title e s = (edits_on title e (looked_at n (lines.line_at e.lines n) s), refl, looked_on n (lines.line_at e.lines n) s)
 edits_by edit.Undo title e s = undoes title e.earlier e s
@@ -114,12 +124,18 @@ module _ (bound : ℕ) (choices : Choices) where
   acts (line.Print f) s = (_, refl, with_file_on (file_in s f) f (with_text f printed_by) s (with_text_on f printed_by s (λ bytes. printed_on bytes s)))
   acts (line.Enter f) s =
       taking (next_text s) (StoresText f) s (take_text_on (state_in s).input [] [] s)
-      (λ text t. (_, refl, answered_on (no_room f (length text) (free (state_in t)) (state_in t).slots) f f (slots_stored f file_kind.Text text (state_in t).slots) t))
+      (λ text t. (
+        _,
+        refl,
+        answered_on (no_room f (length text) (free (state_in t)) (state_in t).slots) f f
+            (slots_stored f file_kind.Text text (state_in t).slots) t,
+      ))
   acts (line.Copy f g) s = (
     _,
     refl,
     with_file_on (file_in s f) f (copies_to g) s
-        (λ file. answered_on (no_room g (length file.bytes) (free (state_in s)) (state_in s).slots) g g (slots_stored g file.kind file.bytes (state_in s).slots) s),
+        (λ file. answered_on (no_room g (length file.bytes) (free (state_in s)) (state_in s).slots) g g
+        (slots_stored g file.kind file.bytes (state_in s).slots) s),
   )
   acts (line.Rename f g) s = (_, refl, answered_on (no_renaming (file_in s f) (file_in s g)) f g (slots_changed (file_renamed g) f (state_in s).slots) s)
   acts (line.Delete f) s = (_, refl, answered_on (no_deletion (file_in s f)) f f (slots_changed deleted f (state_in s).slots) s)
@@ -133,7 +149,8 @@ module _ (bound : ℕ) (choices : Choices) where
   goes_in : (mode : Mode) (s : Shell) → Comes (GoesIn bound choices mode) s
   goes_in commanding s =
       taking (next_line true (prompted bound choices s)) (ActsOn bound choices) s
-      (λ m h. take_line_on true (state_in (prompted bound choices s)).input [] (prompted bound choices s) m (shown_on (codes "> ") (on_fresh_line s) m (fresh_on s m h)))
+      (λ m h. take_line_on true (state_in (prompted bound choices s)).input [] (prompted bound choices s) m
+      (shown_on (codes "> ") (on_fresh_line s) m (fresh_on s m h)))
       (λ bytes t. acts (command_line bytes) t)
   goes_in (editing title e) s = taking (next_line false s) (EditsLine title e) s (take_line_on false (state_in s).input [] s) (edits_line title e)
 

@@ -43,7 +43,8 @@ a_line_of_blanks = record {
   is = refl;
 }
 
-pub bad_commands : Shows (codes "list a\nenter 1\nhalt now\nhalt\n") Halted (codes "> list a\nbad command\n> enter 1\nbad command\n> halt now\nbad command\n> halt\n")
+pub bad_commands : Shows (codes "list a\nenter 1\nhalt now\nhalt\n") Halted
+    (codes "> list a\nbad command\n> enter 1\nbad command\n> halt now\nbad command\n> halt\n")
 bad_commands = record {
   after = _;
   session = record { lines_ = 3; last = _; comes = (_, refl, (_, refl, (_, refl, refl))); stops_ = refl };

@@ -3,7 +3,8 @@
 -- A line has one effect, but for two points. Any code that may be made of a text may be stored by `compile`. And the line
 -- `no memory` may stand in place of the effect of `compile` behind `no file` and `not text`, of an execution behind `no file` and
 -- `not code`, of `edit` behind `not text`, and of a change that is not refused, an undo with something to undo, and `w`.
-use Rattle.std.specs.Prelude.{◌≡◌, ◌⊎◌, ℕ, zero, suc, ◌+◌, ◌-◌, true, false, nat_lt, if◌then◌else◌, List, [], ◌∷◌, length, insert, remove, slice_set, Option, Some, None, codes, Contains}
+use Rattle.std.specs.Prelude.{◌≡◌, ◌⊎◌, ℕ, zero, suc, ◌+◌, ◌-◌, true, false, nat_lt, if◌then◌else◌, List, [], ◌∷◌, length, insert, remove, slice_set, Option}
+use Rattle.std.specs.Prelude.{Some, None, codes, Contains}
 use Rattle.edi_calls.specs.declared.kinds.FileKind.{FileKind}
 use Rattle.edi_calls.specs.declared.kinds.FileKind.TheVariants as file_kind
 use Rattle.edi_calls.specs.Choice.{Choices}
@@ -33,7 +34,8 @@ use Rattle.edi_session.specs.declared.line.EditLine.{EditLine}
 use Rattle.edi_session.specs.declared.line.EditLine.TheVariants as edit
 use Rattle.edi_session.specs.Course.{executed, states_of}
 use Rattle.edi_session.specs.Files.{file_in, with_file, with_text, why_line, stores, deletes, renames, protects, copies_to}
-use Rattle.edi_session.specs.Shell.{Shell, Mode, commanding, editing, state_in, shown_by, printed_by, on_fresh_line, says, Taken, took, ended, limited, next_line, next_text}
+use Rattle.edi_session.specs.Shell.{Shell, Mode, commanding, editing, state_in, shown_by, printed_by, on_fresh_line, says, Taken, took, ended, limited}
+use Rattle.edi_session.specs.Shell.{next_line, next_text}
 use Rattle.edi_session.specs.Texts.{on_line, about, with_number, catalogue_text, ending_line}
 use Rattle.edi_session.specs.Words.{command_line, edit_line, kept_line}
 

@@ -32,7 +32,8 @@ ended_line : (echo : Bool) (input line : List ℕ) (s : Shell) → nat_le limit 
 ended_line echo input line s open_ none = ap (λ i. take_line echo i line s) none ∙ rw open_ refl
 
 next_in_line : (echo : Bool) (input line left : List ℕ) (b : ℕ) (s : Shell) → nat_le limit s.taken ≡ false → input ≡ b ∷ left
-    → take_line echo input line s ≡ (if b == 10 then took line (echoed echo (10 ∷ []) (took_byte left s)) else take_line echo left (line ++ b ∷ []) (echoed echo (b ∷ []) (took_byte left s)))
+    → take_line echo input line s ≡ (if b == 10 then took line (echoed echo (10 ∷ []) (took_byte left s)) else take_line echo left (line ++ b ∷ [])
+    (echoed echo (b ∷ []) (took_byte left s)))
 next_in_line echo input line left b s open_ some = ap (λ i. take_line echo i line s) some ∙ rw open_ refl
 
 -- a line of which nothing is kept has no bytes
@@ -132,8 +133,10 @@ module _ {C : Type 0} (ready : C → Type 0) (failed : C → Option Outside) (at
       fault_stops at stands e result c fault
       (subst (λ r. StandsIn stands (shell_of r) c) (sym (next_in_line echo (state_in s).input line left b s open_ some) ∙ is) (go (b == 10) refl)) where
         go : (q : Bool) → (b == 10) ≡ q
-            → StandsIn stands (shell_of (if q then took line (echoed echo (10 ∷ []) (took_byte left s)) else take_line echo left (line ++ b ∷ []) (echoed echo (b ∷ []) (took_byte left s)))) c
+            → StandsIn stands (shell_of (if q then took line (echoed echo (10 ∷ []) (took_byte left s)) else take_line echo left (line ++ b ∷ [])
+            (echoed echo (b ∷ []) (took_byte left s)))) c
         go true h = subst (λ n. StandsIn stands (echoed echo (n ∷ []) (took_byte left s)) c) (eqb-true b 10 h) st
         go false h =
-            stands_later stands (echoed echo (b ∷ []) (took_byte left s)) (shell_of (take_line echo left (line ++ b ∷ []) (echoed echo (b ∷ []) (took_byte left s)))) c
+            stands_later stands (echoed echo (b ∷ []) (took_byte left s))
+            (shell_of (take_line echo left (line ++ b ∷ []) (echoed echo (b ∷ []) (took_byte left s)))) c
             (take_line_on echo left (line ++ b ∷ []) (echoed echo (b ∷ []) (took_byte left s))) st

@@ -25,7 +25,8 @@ some_same {A} {x} {y} e = ap (λ o. given o) e where
 
 -- ---- a text
 
-text_kind : (f : List ℕ) (act : List ℕ → Shell → Shell) (file : File) (s t : Shell) (kind : FileKind) → refused_kind (wrong (Some file_kind.Text) kind) f s ≡ Some t
+text_kind : (f : List ℕ) (act : List ℕ → Shell → Shell) (file : File) (s t : Shell) (kind : FileKind) → refused_kind (wrong (Some file_kind.Text) kind) f s
+    ≡ Some t
     → (if is_text kind then act file.bytes s else says (about (codes "not text") f) s) ≡ t
 text_kind f act file s t file_kind.Text e = absurd cc
 text_kind f act file s t file_kind.Code e = some_same e
@@ -58,15 +59,18 @@ any_opened f act file opened s o = ap (λ x. with_file x f act s) o.is
 -- ---- where the object stands then
 
 module _ {C : Type 0} (at : C → State → ℕ → Type 0) (stands : C → State → Type 0) where
-  pub text_was_refused : (f : List ℕ) (act : List ℕ → Shell → Shell) (file : Option File) (s : Shell) (c : C) → WasRefused at stands (Some file_kind.Text) file f s c
+  pub text_was_refused : (f : List ℕ) (act : List ℕ → Shell → Shell) (file : Option File) (s : Shell) (c : C) → WasRefused at stands (Some file_kind.Text)
+      file f s c
       → At at c (with_file file f (with_text f act) s)
   text_was_refused f act file s c r = subst (λ t. At at c t) (sym (text_refused f act file s r.after r.is)) r.at_
 
-  pub any_was_refused : (f : List ℕ) (act : File → Shell → Shell) (file : Option File) (s : Shell) (c : C) → WasRefused at stands None file f s c → At at c (with_file file f act s)
+  pub any_was_refused : (f : List ℕ) (act : File → Shell → Shell) (file : Option File) (s : Shell) (c : C) → WasRefused at stands None file f s c
+      → At at c (with_file file f act s)
   any_was_refused f act file s c r = subst (λ t. At at c t) (sym (any_refused f act file s r.after r.is)) r.at_
 
   pub text_reading_broke : (f into : List ℕ) (act : List ℕ → Shell → Shell) (file : Option File) (s : Shell) (c : C) (e : SessionEnd)
-      → ((bytes : List ℕ) → Later s (act bytes s)) → Reads at stands (Err e) (Some file_kind.Text) file f into s c → StandsIn stands (with_file file f (with_text f act) s) c
+      → ((bytes : List ℕ) → Later s (act bytes s)) → Reads at stands (Err e) (Some file_kind.Text) file f into s c
+      → StandsIn stands (with_file file f (with_text f act) s) c
   text_reading_broke f into act file s c e on (inl r) = subst (λ t. StandsIn stands t c) (sym (text_refused f act file s r.after r.is)) r.in_
   text_reading_broke f into act file s c e on (inr r) =
       subst (λ t. StandsIn stands t c) (sym (text_opened f act file r.0 s r.1)) (stands_later stands s (act r.0.bytes s) c (on r.0.bytes) r.2)
@@ -99,7 +103,8 @@ module _ {C : Type 0} (at : C → State → ℕ → Type 0) (stands : C → Stat
     at_ = subst (λ b. At at c (shown_by b s)) is a;
   }
 
-  pub wrong_file_at : (wanted : Option FileKind) (file : Option File) (entry : Entry) (f text items : List ℕ) (s : Shell) (c : C) → Some entry ≡ option_map entry_told file
+  pub wrong_file_at : (wanted : Option FileKind) (file : Option File) (entry : Entry) (f text items : List ℕ) (s : Shell) (c : C)
+      → Some entry ≡ option_map entry_told file
       → wrong wanted entry.kind ≡ Some text → items ≡ about text f ++ 10 ∷ [] → At at c (shown_by items s) → WasRefused at stands wanted file f s c
   wrong_file_at wanted file entry f text items s c e w is a = record {
     after = says (about text f) s;
@@ -111,7 +116,8 @@ module _ {C : Type 0} (at : C → State → ℕ → Type 0) (stands : C → Stat
 
 module _ {C : Type 0} (at : C → State → ℕ → Type 0) (stands : C → State → Type 0) where
   -- `read` is what was read, and `front` the part of the room that was used
-  pub text_leads : (f into front : List ℕ) (act : List ℕ → Shell → Shell) (file : Option File) (read : FileKind × ℕ) (s : Shell) (c d : C) (result : Result (Unit {0}) SessionEnd)
+  pub text_leads : (f into front : List ℕ) (act : List ℕ → Shell → Shell) (file : Option File) (read : FileKind × ℕ) (s : Shell) (c d : C)
+      (result : Result (Unit {0}) SessionEnd)
       → front ≡ take read.1 into → Reads at stands (Ok (Some read)) (Some file_kind.Text) file f into s c → Leads at stands result (act front s) d
       → Leads at stands result (with_file file f (with_text f act) s) d
   text_leads f into front act file read s c d result part r l =
@@ -123,7 +129,8 @@ module _ {C : Type 0} (at : C → State → ℕ → Type 0) (stands : C → Stat
   text_breaks f into front act file read s t c d part r on st =
       subst (λ u. StandsIn stands u d) (ap (λ b. act b s) (part ∙ r.3) ∙ sym (text_opened f act file r.0 s r.1)) (stands_later stands t (act front s) d on st)
 
-  pub file_leads : (f into front : List ℕ) (act : FileKind → List ℕ → Shell → Shell) (file : Option File) (read : FileKind × ℕ) (s : Shell) (c d : C) (result : Result (Unit {0}) SessionEnd)
+  pub file_leads : (f into front : List ℕ) (act : FileKind → List ℕ → Shell → Shell) (file : Option File) (read : FileKind × ℕ) (s : Shell) (c d : C)
+      (result : Result (Unit {0}) SessionEnd)
       → front ≡ take read.1 into → Reads at stands (Ok (Some read)) None file f into s c → Leads at stands result (act read.0 front s) d
       → Leads at stands result (with_file file f (λ file s. act file.kind file.bytes s) s) d
   file_leads f into front act file read s c d result part r l =

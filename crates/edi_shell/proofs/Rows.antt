@@ -45,7 +45,8 @@ module _ {C : Type 0} (at : C → State → ℕ → Type 0) (stands : C → Stat
   leads_does Row s t (Ok x) c row like draws l = record { after = t; row = row; like = like; draws = draws; at_ = l }
   leads_does Row s t (Err e) c row like draws l = record { next = goes t; row = row; in_ = l }
 
-  pub breaks_does : (Row : Shell → Next → Type 0) (s t : Shell) (e : SessionEnd) (drawn : ℕ) (c : C) → Row s (goes t) → StandsIn stands t c → Does at stands Row (Err e) drawn s c
+  pub breaks_does : (Row : Shell → Next → Type 0) (s t : Shell) (e : SessionEnd) (drawn : ℕ) (c : C) → Row s (goes t) → StandsIn stands t c
+      → Does at stands Row (Err e) drawn s c
   breaks_does Row s t e drawn c row l = record { next = goes t; row = row; in_ = l }
 
 -- ---- `compile f g`
@@ -68,13 +69,17 @@ pub compile_opened : (f g : List ℕ) (file : Option File) (opened : File) (s : 
     → CompilesText opened.bytes g s next → CompilesFile f g file s next
 compile_opened f g file opened s next o row = subst (λ x. CompilesFile f g x s next) (sym o.is) (opened_kind f g opened s next opened.kind o.right row)
 
-stored_code_by : (b : Bool) (g bytes : List ℕ) (s : Shell) → IsLike s (if b then says (with_number (codes "code too large") (length bytes)) s else stores g file_kind.Code bytes s)
+stored_code_by : (b : Bool) (g bytes : List ℕ) (s : Shell)
+    → IsLike s (if b then says (with_number (codes "code too large") (length bytes)) s else stores g file_kind.Code bytes s)
 stored_code_by true g bytes s = like_says (with_number (codes "code too large") (length bytes)) s
-stored_code_by false g bytes s = like_answered (no_room g (length bytes) (free (state_in s)) (state_in s).slots) g g (slots_stored g file_kind.Code bytes (state_in s).slots) s
+stored_code_by false g bytes s = like_answered (no_room g (length bytes) (free (state_in s)) (state_in s).slots) g g
+    (slots_stored g file_kind.Code bytes (state_in s).slots) s
 
-drawn_code_by : (b : Bool) (g bytes : List ℕ) (s : Shell) → (if b then says (with_number (codes "code too large") (length bytes)) s else stores g file_kind.Code bytes s).drawn ≡ s.drawn
+drawn_code_by : (b : Bool) (g bytes : List ℕ) (s : Shell)
+    → (if b then says (with_number (codes "code too large") (length bytes)) s else stores g file_kind.Code bytes s).drawn ≡ s.drawn
 drawn_code_by true g bytes s = refl
-drawn_code_by false g bytes s = drawn_answered (no_room g (length bytes) (free (state_in s)) (state_in s).slots) g g (slots_stored g file_kind.Code bytes (state_in s).slots) s
+drawn_code_by false g bytes s = drawn_answered (no_room g (length bytes) (free (state_in s)) (state_in s).slots) g g
+    (slots_stored g file_kind.Code bytes (state_in s).slots) s
 
 pub like_code : (g bytes : List ℕ) (s : Shell) → IsLike s (stores_code g bytes s)
 like_code g bytes s = stored_code_by (nat_lt most_bytes (length bytes)) g bytes s
@@ -84,7 +89,8 @@ drawn_code g bytes s = drawn_code_by (nat_lt most_bytes (length bytes)) g bytes 
 
 -- ---- the execution of a file
 
-execute_kind : (bound : ℕ) (choices : Choices) (f : List ℕ) (file : File) (s t : Shell) (kind : FileKind) → refused_kind (wrong (Some file_kind.Code) kind) f s ≡ Some t
+execute_kind : (bound : ℕ) (choices : Choices) (f : List ℕ) (file : File) (s t : Shell) (kind : FileKind) → refused_kind (wrong (Some file_kind.Code) kind) f
+    s ≡ Some t
     → ExecutesFile bound choices f (Some (record file { kind = kind })) s (goes t)
 execute_kind bound choices f file s t file_kind.Text e = ap goes (sym (some_same e))
 execute_kind bound choices f file s t file_kind.Code e = absurd cc
@@ -95,12 +101,15 @@ execute_refused bound choices f None s t e = ap goes (sym (some_same e))
 execute_refused bound choices f (Some file) s t e = execute_kind bound choices f file s t file.kind e
 
 opened_code : (bound : ℕ) (choices : Choices) (f : List ℕ) (file : File) (s : Shell) (next : Next) (kind : FileKind) → wrong (Some file_kind.Code) kind ≡ None
-    → ExecutesBytes bound choices f file.bytes (code_fault_of file.bytes) s next ⊎ (next ≡ goes (says_no_memory s)) → ExecutesFile bound choices f (Some (record file { kind = kind })) s next
+    → ExecutesBytes bound choices f file.bytes (code_fault_of file.bytes) s next ⊎ (next ≡ goes (says_no_memory s)) → ExecutesFile bound choices f
+    (Some (record file { kind = kind })) s next
 opened_code bound choices f file s next file_kind.Code e row = row
 opened_code bound choices f file s next file_kind.Text e row = absurd cc
 
-pub execute_opened : (bound : ℕ) (choices : Choices) (f : List ℕ) (file : Option File) (opened : File) (s : Shell) (next : Next) → IsOpened (Some file_kind.Code) file opened
-    → ExecutesBytes bound choices f opened.bytes (code_fault_of opened.bytes) s next ⊎ (next ≡ goes (says_no_memory s)) → ExecutesFile bound choices f file s next
+pub execute_opened : (bound : ℕ) (choices : Choices) (f : List ℕ) (file : Option File) (opened : File) (s : Shell) (next : Next)
+    → IsOpened (Some file_kind.Code) file opened
+    → ExecutesBytes bound choices f opened.bytes (code_fault_of opened.bytes) s next ⊎ (next ≡ goes (says_no_memory s)) → ExecutesFile bound choices f file s
+    next
 execute_opened bound choices f file opened s next o row =
     subst (λ x. ExecutesFile bound choices f x s next) (sym o.is) (opened_code bound choices f opened s next opened.kind o.right row)
 

@@ -33,8 +33,10 @@ pub feed_none : (line : Option (List ℕ)) → None ≡ with_feed line → line 
 feed_none None e = refl
 feed_none (Some text) e = absurd cc
 
-like_behind : (code : CodeParts) (bound : ℕ) (choices : Choices) (end : outcome.Ending) (drawn : ℕ) (s after : Shell) → HasRun code bound choices end drawn s after → IsLike s after
-like_behind code bound choices end drawn s after r = record { taken = ap (λ (u : Shell). u.taken) r.is; mode = ap (λ (u : Shell). u.mode) r.is; shown_before = ap (λ (u : Shell). u.shown_before) r.is }
+like_behind : (code : CodeParts) (bound : ℕ) (choices : Choices) (end : outcome.Ending) (drawn : ℕ) (s after : Shell) → HasRun code bound choices end drawn s
+    after → IsLike s after
+like_behind code bound choices end drawn s after r =
+    record { taken = ap (λ (u : Shell). u.taken) r.is; mode = ap (λ (u : Shell). u.mode) r.is; shown_before = ap (λ (u : Shell). u.shown_before) r.is }
 
 module _ {C : Type 0} (at : C → State → ℕ → Type 0) (stands : C → State → Type 0) (f : List ℕ) (code : CodeParts) (bound : ℕ) (choices : Choices) where
   -- where the line of the ending leads
@@ -57,16 +59,19 @@ module _ {C : Type 0} (at : C → State → ℕ → Type 0) (stands : C → Stat
   }
 
   -- the line of the ending could not be begun
-  pub fresh_broke : (e : Ending) (drawn : ℕ) (s : Shell) (c d : C) (r : RunsTo at stands code bound choices e drawn s c) (text : List ℕ) → ending_line f r.ending_ ≡ Some text
+  pub fresh_broke : (e : Ending) (drawn : ℕ) (s : Shell) (c d : C) (r : RunsTo at stands code bound choices e drawn s c) (text : List ℕ)
+      → ending_line f r.ending_ ≡ Some text
       → StandsIn stands (on_fresh_line r.after) d → Breaks at stands (ExecutesCode bound choices f code) s d
   fresh_broke e drawn s c d r text is st = record {
     next = goes (ends_with (ending_line f r.ending_) r.after);
     row = row_of r.ending_ drawn s r.after r.runs;
-    in_ = subst (λ l. StandsIn stands (ends_with l r.after) d) (sym is) (stands_later stands (on_fresh_line r.after) (says text (on_fresh_line r.after)) d (says_on text (on_fresh_line r.after)) st);
+    in_ = subst (λ l. StandsIn stands (ends_with l r.after) d) (sym is)
+        (stands_later stands (on_fresh_line r.after) (says text (on_fresh_line r.after)) d (says_on text (on_fresh_line r.after)) st);
   }
 
   -- the line of the ending is shown
-  pub run_says : (e : Ending) (drawn : ℕ) (s : Shell) (c d : C) (r : RunsTo at stands code bound choices e drawn s c) (text items : List ℕ) (result : Result (Unit {0}) SessionEnd)
+  pub run_says : (e : Ending) (drawn : ℕ) (s : Shell) (c d : C) (r : RunsTo at stands code bound choices e drawn s c) (text items : List ℕ)
+      (result : Result (Unit {0}) SessionEnd)
       → ending_line f r.ending_ ≡ Some text → items ≡ text ++ 10 ∷ [] → Leads at stands result (shown_by items (on_fresh_line r.after)) d
       → Does at stands (ExecutesCode bound choices f code) result drawn s d
   run_says e drawn s c d r text items (Ok x) is line l = record {
@@ -99,14 +104,20 @@ module _ {C : Type 0} (at : C → State → ℕ → Type 0) (stands : C → Stat
 refused_bytes : (bound : ℕ) (choices : Choices) (f bytes : List ℕ) (known : Option CodeFault) (s : Shell) (why : CodeFault) → IsFault why known
     → ExecutesBytes bound choices f bytes known s (goes (says (code_refusal f why) s)) ⊎ (goes (says (code_refusal f why) s) ≡ goes (says_no_memory s))
 refused_bytes bound choices f bytes known s fault.NoMemory h = inr refl
-refused_bytes bound choices f bytes known s (fault.Short at) h = inl (subst (λ k. ExecutesBytes bound choices f bytes k s (goes (says (code_refusal f (fault.Short at)) s))) (sym h) refl)
-refused_bytes bound choices f bytes known s (fault.Over at) h = inl (subst (λ k. ExecutesBytes bound choices f bytes k s (goes (says (code_refusal f (fault.Over at)) s))) (sym h) refl)
-refused_bytes bound choices f bytes known s (fault.Header at found) h = inl (subst (λ k. ExecutesBytes bound choices f bytes k s (goes (says (code_refusal f (fault.Header at found)) s))) (sym h) refl)
-refused_bytes bound choices f bytes known s (fault.Operation at found) h = inl (subst (λ k. ExecutesBytes bound choices f bytes k s (goes (says (code_refusal f (fault.Operation at found)) s))) (sym h) refl)
-refused_bytes bound choices f bytes known s (fault.Jump at target) h = inl (subst (λ k. ExecutesBytes bound choices f bytes k s (goes (says (code_refusal f (fault.Jump at target)) s))) (sym h) refl)
+refused_bytes bound choices f bytes known s (fault.Short at) h = inl
+    (subst (λ k. ExecutesBytes bound choices f bytes k s (goes (says (code_refusal f (fault.Short at)) s))) (sym h) refl)
+refused_bytes bound choices f bytes known s (fault.Over at) h = inl
+    (subst (λ k. ExecutesBytes bound choices f bytes k s (goes (says (code_refusal f (fault.Over at)) s))) (sym h) refl)
+refused_bytes bound choices f bytes known s (fault.Header at found) h = inl
+    (subst (λ k. ExecutesBytes bound choices f bytes k s (goes (says (code_refusal f (fault.Header at found)) s))) (sym h) refl)
+refused_bytes bound choices f bytes known s (fault.Operation at found) h = inl
+    (subst (λ k. ExecutesBytes bound choices f bytes k s (goes (says (code_refusal f (fault.Operation at found)) s))) (sym h) refl)
+refused_bytes bound choices f bytes known s (fault.Jump at target) h = inl
+    (subst (λ k. ExecutesBytes bound choices f bytes k s (goes (says (code_refusal f (fault.Jump at target)) s))) (sym h) refl)
 
 module _ {C : Type 0} (at : C → State → ℕ → Type 0) (stands : C → State → Type 0) (f : List ℕ) (bound : ℕ) (choices : Choices) where
-  pub execute_reading_broke : (into : List ℕ) (file : Option File) (s : Shell) (c : C) (e : SessionEnd) → Reads at stands (Err e) (Some file_kind.Code) file f into s c
+  pub execute_reading_broke : (into : List ℕ) (file : Option File) (s : Shell) (c : C) (e : SessionEnd) → Reads at stands (Err e) (Some file_kind.Code) file f
+      into s c
       → Breaks at stands (ExecutesFile bound choices f file) s c
   execute_reading_broke into file s c e (inl r) = record { next = goes r.after; row = execute_refused bound choices f file s r.after r.is; in_ = r.in_ }
   execute_reading_broke into file s c e (inr r) = record {
@@ -116,7 +127,8 @@ module _ {C : Type 0} (at : C → State → ℕ → Type 0) (stands : C → Stat
   }
 
   -- the code was not loaded
-  pub execute_not_loaded : (into front : List ℕ) (file : Option File) (kind : FileKind) (n drawn : ℕ) (s : Shell) (c d : C) (why : CodeFault) (result : Result (Unit {0}) SessionEnd) → front ≡ take n into
+  pub execute_not_loaded : (into front : List ℕ) (file : Option File) (kind : FileKind) (n drawn : ℕ) (s : Shell) (c d : C) (why : CodeFault)
+      (result : Result (Unit {0}) SessionEnd) → front ≡ take n into
       → Reads at stands (Ok (Some (kind, n))) (Some file_kind.Code) file f into s c → IsFault why (code_fault_of front) → s.drawn ≡ drawn
       → Leads at stands result (says (code_refusal f why) s) d → Does at stands (ExecutesFile bound choices f file) result drawn s d
   execute_not_loaded into front file kind n drawn s c d why result part r h e l =
@@ -127,7 +139,8 @@ module _ {C : Type 0} (at : C → State → ℕ → Type 0) (stands : C → Stat
       (like_says (code_refusal f why) s) refl l)
 
   -- the code was loaded, and run
-  pub execute_loaded : (into front : List ℕ) (file : Option File) (kind : FileKind) (n drawn : ℕ) (s : Shell) (c d : C) (code : CodeParts) (result : Result (Unit {0}) SessionEnd) → front ≡ take n into
+  pub execute_loaded : (into front : List ℕ) (file : Option File) (kind : FileKind) (n drawn : ℕ) (s : Shell) (c d : C) (code : CodeParts)
+      (result : Result (Unit {0}) SessionEnd) → front ≡ take n into
       → Reads at stands (Ok (Some (kind, n))) (Some file_kind.Code) file f into s c → code_fault_of front ≡ None → code ≡ code_of front
       → Does at stands (ExecutesCode bound choices f code) result drawn s d → Does at stands (ExecutesFile bound choices f file) result drawn s d
   execute_loaded into front file kind n drawn s c d code result part r sound is does = go result does where
@@ -137,6 +150,7 @@ module _ {C : Type 0} (at : C → State → ℕ → Type 0) (stands : C → Stat
         (inl (subst (λ k. ExecutesBytes bound choices f r.0.bytes k s next) (sym sound ∙ ap code_fault_of (part ∙ r.3))
         (subst (λ p. ExecutesCode bound choices f p s next) (is ∙ ap code_of (part ∙ r.3)) ran)))
 
-    go : (result : Result (Unit {0}) SessionEnd) → Does at stands (ExecutesCode bound choices f code) result drawn s d → Does at stands (ExecutesFile bound choices f file) result drawn s d
+    go : (result : Result (Unit {0}) SessionEnd) → Does at stands (ExecutesCode bound choices f code) result drawn s d
+        → Does at stands (ExecutesFile bound choices f file) result drawn s d
     go (Ok x) g = record { after = g.after; row = row (goes g.after) g.row; like = g.like; draws = g.draws; at_ = g.at_ }
     go (Err e) b = record { next = b.next; row = row b.next b.row; in_ = b.in_ }

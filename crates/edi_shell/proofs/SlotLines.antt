@@ -1,5 +1,6 @@
 -- The list of the files, line by line.
-use Rattle.std.proofs.Common.{◌≡◌, ℕ, zero, suc, ◌+◌, ◌<◌, List, [], ◌∷◌, ◌++◌, length, take, drop, Option, Some, None, refl, sym, ap, subst, ◌∙◌, append_assoc, arith}
+use Rattle.std.proofs.Common.{◌≡◌, ℕ, zero, suc, ◌+◌, ◌<◌, List, [], ◌∷◌, ◌++◌, length, take, drop, Option, Some, None, refl, sym, ap, subst, ◌∙◌}
+use Rattle.std.proofs.Common.{append_assoc, arith}
 use Rattle.std.specs.Prelude.{codes, Contains}
 use Rattle.std.specs.Fmt.{decimal}
 use Rattle.std.specs.Option.{option_map}
@@ -48,7 +49,8 @@ part_on n s m h =
     let last = decimal (free (state_in s)) ++ codes " blocks free\n" in
     let whole : catalogue_text (state_in s) ≡ first_lines n slots ++ (file_lines (drop n slots) ++ last) =
     ap (λ ys. ys ++ last) (rest_of n slots) ∙ append_assoc (first_lines n slots) (file_lines (drop n slots)) last in
-    subst (λ c. Contains (c.now ∷ c.past) m) (sym (ap (λ ys. shows ys s.system) whole ∙ shows_more (first_lines n slots) (file_lines (drop n slots) ++ last) s.system))
+    subst (λ c. Contains (c.now ∷ c.past) m)
+    (sym (ap (λ ys. shows ys s.system) whole ∙ shows_more (first_lines n slots) (file_lines (drop n slots) ++ last) s.system))
     (shows_on (file_lines (drop n slots) ++ last) (shows (first_lines n slots) s.system) m h)
 
 -- ---- a line that is shown
@@ -75,7 +77,8 @@ pub behind_slot : (n : ℕ) (s : Shell) → n < length (state_in s).slots
     ≡ shown_by (first_lines (n + 1) (state_in s).slots) s
 behind_slot n s lt =
     let more : suc n ≡ n + 1 = omega arith in
-    ap (λ slots. shown_by (slot_line (slot_at slots n)) (shown_by (first_lines n (state_in s).slots) s)) (slots_shown (first_lines n (state_in s).slots) s.system)
+    ap (λ slots. shown_by (slot_line (slot_at slots n)) (shown_by (first_lines n (state_in s).slots) s))
+    (slots_shown (first_lines n (state_in s).slots) s.system)
     ∙ shown_more (first_lines n (state_in s).slots) (slot_line (slot_at (state_in s).slots n)) s
     ∙ ap (λ b. shown_by b s) (sym (next_line_of n (state_in s).slots lt) ∙ ap (λ k. first_lines k (state_in s).slots) more)
 
@@ -87,7 +90,8 @@ pub all_lines : (n : ℕ) (slots : List (Option File)) → length slots ≡ n �
 all_lines n slots e = ap (λ k. file_lines (take k slots)) (sym e) ∙ ap file_lines (take_whole slots)
 
 -- behind the last line
-pub behind_all : (n free_ : ℕ) (items : List ℕ) (s : Shell) → length (state_in s).slots ≡ n → free_ ≡ free (state_in s) → items ≡ decimal free_ ++ codes " blocks free\n"
+pub behind_all : (n free_ : ℕ) (items : List ℕ) (s : Shell) → length (state_in s).slots ≡ n → free_ ≡ free (state_in s) → items ≡ decimal free_
+    ++ codes " blocks free\n"
     → shown_by items (shown_by (first_lines n (state_in s).slots) s) ≡ shown_by (catalogue_text (state_in s)) s
 behind_all n free_ items s wide is line =
     shown_more (first_lines n (state_in s).slots) items s

@@ -18,7 +18,8 @@ const SLOTS: usize = 256;
 // The line of slot `i`, where it has a file.
 fn list_slot<C: ShellCalls>(calls: &mut C, i: usize) -> Result<(), SessionEnd>
     requires ready { C.ready calls.old }
-    ensures exact { (s : Shell) → At C.at calls.old s → C.tells calls.new → Leads C.at C.stands result (shown_by (slot_line (slot_at (state_in s).slots i)) s) calls.new }
+    ensures exact { (s : Shell) → At C.at calls.old s → C.tells calls.new → Leads C.at C.stands result (shown_by (slot_line (slot_at (state_in s).slots i)) s)
+        calls.new }
     ensures left { IsLeft C.ready C.failed result calls.new }
     ensures lasts { C.lasts calls.old calls.new }
 {

@@ -32,7 +32,8 @@ pub(crate) fn answer<C: ShellCalls>(
     answer: Result<(), CatEnd>,
 ) -> Result<(), SessionEnd>
     requires left { IsLeftBy C.ready C.failed answer calls.old }
-    ensures exact { (s : Shell) (refusal : Option CatEnd) (wanted : List (Option File)) → Answers C.at C.stands answer refusal wanted s calls.old → C.tells calls.new →
+    ensures exact { (s : Shell) (refusal : Option CatEnd) (wanted : List (Option File)) → Answers C.at C.stands answer refusal wanted s calls.old
+        → C.tells calls.new →
         Leads C.at C.stands result (answered refusal f.now g.now wanted s) calls.new }
     ensures left { IsLeft C.ready C.failed result calls.new }
     ensures lasts { C.lasts calls.old calls.new }

@@ -28,7 +28,8 @@ use Rattle.edi_shell_calls.proofs.Told.{at, pair, stands, stands_at, stands_in, 
 
 -- where no object has failed, the ending is none of a fault
 pub no_fault : (failed : Option Outside) (e : Ending) → IsSome failed ↔ (e ≡ ending.Fault) → failed ≡ None → is_fault e ≡ false
-no_fault failed ending.Fault same none = absurd (let some : IsSome failed = same.1 refl in let wrong : IsSome {T = Outside} None = subst IsSome none some in let so : false ≡ true = wrong in cc)
+no_fault failed ending.Fault same none = absurd (let some : IsSome failed = same.1 refl in let wrong : IsSome {T = Outside} None = subst IsSome none some in
+    let so : false ≡ true = wrong in cc)
 no_fault failed ending.Done same none = refl
 no_fault failed (ending.Halted line) same none = refl
 no_fault failed (ending.Failed cause line) same none = refl
@@ -73,7 +74,8 @@ module _ {D S T P : Type 0} (contents : D → Option (List (List ℕ))) (left : 
       (subst (λ z. EndsThrough (fetch code.words) code.entry code.calls z bound before.source before.drawn end machine after.drawn past) alike ends)
 
   pub runs_to : (e : Ending) (words : List ℕ) (used : ℕ) → is_fault e ≡ false
-      → WhereTold (told contents left shown printed old) (told contents left shown printed new) (λ x y. kernel.RunsTo code (fresh x) bound before e words used y after)
+      → WhereTold (told contents left shown printed old) (told contents left shown printed new)
+      (λ x y. kernel.RunsTo code (fresh x) bound before e words used y after)
       → RunsTo (at contents left shown printed) (stands contents left shown printed) code bound before.source e after.drawn s new
   runs_to e words used fine so =
       let p = pair contents left shown printed old new s at_old tells keeps (λ x y. kernel.RunsTo code (fresh x) bound before e words used y after) so in
@@ -102,7 +104,8 @@ module _ {D S T P : Type 0} (contents : D → Option (List (List ℕ))) (left : 
       let whole = every_run_ends_through code.words code.entry code.calls (fresh (state_in s)) bound before.source s.drawn in
       let past : List State = whole.3 in
       let there : Contains (moments_of (fresh (state_in s)) past) p.so.moment =
-      (comes_through_its_past (fetch code.words) code.entry code.calls (fresh (state_in s)) bound before.source s.drawn whole.0 whole.1 whole.2 past p.so.moment whole.4).0
+      (comes_through_its_past (fetch code.words) code.entry code.calls (fresh (state_in s)) bound before.source s.drawn whole.0 whole.1 whole.2 past
+      p.so.moment whole.4).0
       (comes_moved p.before p.so.moment p.alike p.so.comes) in
       let after_all : Shell = behind whole.1.system past whole.2 s in
       record {

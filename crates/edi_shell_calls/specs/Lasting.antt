@@ -58,7 +58,8 @@ front_of_front (a ∷ x) (b ∷ y) (c ∷ z) one two =
     let other : take (length y) z ≡ y = cc in
     ap (λ n. n ∷ take (length x) z) head ∙ ap (λ ns. a ∷ ns) (front_of_front x y z rest other)
 
-module _ {D S T P : Type 0} (contents : D → Option (List (List ℕ))) (left : S → Option (List ℕ)) (shown : T → Option (List ℕ)) (printed : P → Option (List ℕ)) (drive : D → ℕ) (input : S → ℕ) (terminal : T → ℕ) (printer : P → ℕ) where
+module _ {D S T P : Type 0} (contents : D → Option (List (List ℕ))) (left : S → Option (List ℕ)) (shown : T → Option (List ℕ)) (printed : P → Option (List ℕ))
+    (drive : D → ℕ) (input : S → ℕ) (terminal : T → ℕ) (printer : P → ℕ) where
   abbrev Lasts : System D S T P → System D S T P → Type 0
   Lasts a b = SystemLasts contents left shown printed drive input terminal printer a b
 

@@ -23,7 +23,8 @@ abbrev pub HasState : Option State → State → Type 0
 HasState told state = IfSome told (λ now. fresh now ≡ fresh state)
 
 -- Besides, the bytes behind so many, which were shown before the session, tell whether a line is due.
-pub record StandsAt {D S T P : Type 0} (contents : D → Option (List (List ℕ))) (left : S → Option (List ℕ)) (shown : T → Option (List ℕ)) (printed : P → Option (List ℕ)) (system : System D S T P) (state : State) (shown_before : ℕ) : Type 0 where
+pub record StandsAt {D S T P : Type 0} (contents : D → Option (List (List ℕ))) (left : S → Option (List ℕ)) (shown : T → Option (List ℕ))
+    (printed : P → Option (List ℕ)) (system : System D S T P) (state : State) (shown_before : ℕ) : Type 0 where
   pub has : HasState (state_of contents left shown printed system) state
   pub due : IsDueSince shown system shown_before
 
@@ -32,7 +33,8 @@ pub record StandsAt {D S T P : Type 0} (contents : D → Option (List (List ℕ)
 -- What an object does not tell it never tells, a valid image stays one, what the terminal has taken only grows, and the bytes
 -- shown still tell whether a line is due. The objects are the same ones, no count of faults falls, and an object that has failed
 -- now had failed before, or its count rose.
-pub record SystemLasts {D S T P : Type 0} (contents : D → Option (List (List ℕ))) (left : S → Option (List ℕ)) (shown : T → Option (List ℕ)) (printed : P → Option (List ℕ)) (drive : D → ℕ) (input : S → ℕ) (terminal : T → ℕ) (printer : P → ℕ) (before after : System D S T P) : Type 0 where
+pub record SystemLasts {D S T P : Type 0} (contents : D → Option (List (List ℕ))) (left : S → Option (List ℕ)) (shown : T → Option (List ℕ))
+    (printed : P → Option (List ℕ)) (drive : D → ℕ) (input : S → ℕ) (terminal : T → ℕ) (printer : P → ℕ) (before after : System D S T P) : Type 0 where
   pub drive_told : contents (drive_in before) ≡ None → contents (drive_in after) ≡ None
   pub input_told : left (input_in before) ≡ None → left (input_in after) ≡ None
   pub terminal_told : shown (terminal_in before) ≡ None → shown (terminal_in after) ≡ None
@@ -43,7 +45,8 @@ pub record SystemLasts {D S T P : Type 0} (contents : D → Option (List (List �
   pub references : references_in after ≡ references_in before
   pub later : (outside : Outside) → faults_of drive input terminal printer before outside ≤ faults_of drive input terminal printer after outside
   pub blame : (outside : Outside) → failed_in after ≡ Some outside →
-      (failed_in before ≡ Some outside) ⊎ CountRose (faults_of drive input terminal printer before outside) (faults_of drive input terminal printer after outside)
+      (failed_in before ≡ Some outside) ⊎ CountRose (faults_of drive input terminal printer before outside)
+      (faults_of drive input terminal printer after outside)
 
 -- ---- how its answers are told
 

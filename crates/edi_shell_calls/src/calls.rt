@@ -116,7 +116,8 @@ pub trait ShellCalls {
         requires ready { ready self.old }
         requires size { length bytes.now < 2 ^ 32 }
         ensures exact { (s : Shell) → At at self.old s → tells self.new →
-            Answers at stands result (no_room title.now (length bytes.now) (free (state_in s)) (state_in s).slots) (slots_stored title.now kind bytes.now (state_in s).slots) s self.new }
+            Answers at stands result (no_room title.now (length bytes.now) (free (state_in s)) (state_in s).slots)
+            (slots_stored title.now kind bytes.now (state_in s).slots) s self.new }
         ensures left { IsLeftBy ready failed result self.new }
         ensures lasts { lasts self.old self.new };
 
@@ -132,7 +133,8 @@ pub trait ShellCalls {
     fn rename(&mut self, old: &Title, new: &Title) -> Result<(), CatEnd>
         requires ready { ready self.old }
         ensures exact { (s : Shell) → At at self.old s → tells self.new →
-            Answers at stands result (no_renaming (file_in s old.now) (file_in s new.now)) (slots_changed (file_renamed new.now) old.now (state_in s).slots) s self.new }
+            Answers at stands result (no_renaming (file_in s old.now) (file_in s new.now)) (slots_changed (file_renamed new.now) old.now (state_in s).slots) s
+            self.new }
         ensures left { IsLeftBy ready failed result self.new }
         ensures lasts { lasts self.old self.new };
 

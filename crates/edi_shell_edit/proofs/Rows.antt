@@ -1,5 +1,6 @@
 -- The rows of an editing, from what the calls on the text and on the object say.
-use Rattle.std.proofs.Common.{◌≡◌, ℕ, ◌+◌, ◌<◌, Bool, true, false, List, [], ◌∷◌, ◌++◌, length, length-append, Option, Some, None, Result, Ok, Err, refl, sym, ap, subst, ◌∙◌, arith, inl, inr}
+use Rattle.std.proofs.Common.{◌≡◌, ℕ, ◌+◌, ◌<◌, Bool, true, false, List, [], ◌∷◌, ◌++◌, length, length-append, Option, Some, None, Result, Ok, Err, refl}
+use Rattle.std.proofs.Common.{sym, ap, subst, ◌∙◌, arith, inl, inr}
 use Rattle.std.specs.Prelude.{codes, Contains, ◌-◌, insert, slice_set}
 use Rattle.edi_calls.specs.declared.kinds.FileKind.TheVariants as file_kind
 use Rattle.edi_calls.specs.State.{File, State, free}
@@ -43,7 +44,8 @@ module _ {C : Type 0} (at : C → State → ℕ → Type 0) (stands : C → Stat
   shown_on_row Row title e t (Ok x) c row there = (t, row, there)
   shown_on_row Row title e t (Err fault) c row there = breaks Row title e t c row there
 
-  refused : (why : EditEnd) (cause : Option EditEnd) (before after now : Editing) (n : ℕ) (title : List ℕ) (s : Shell) (result : Result (Unit {0}) SessionEnd) (c : C)
+  refused : (why : EditEnd) (cause : Option EditEnd) (before after now : Editing) (n : ℕ) (title : List ℕ) (s : Shell) (result : Result (Unit {0}) SessionEnd)
+      (c : C)
       → cause ≡ Some why → now ≡ before → Leads at stands result (says (edit_refusal n why) s) c
       → GoesOn at stands result (ChangesLine cause n title before after s) title now c
   refused why cause before after now n title s result c e same there =
@@ -65,20 +67,26 @@ module _ {C : Type 0} (at : C → State → ℕ → Type 0) (stands : C → Stat
   change_row (Err (edit_end.Full size)) cause before after now n title s result c e w =
       refused (edit_end.Full size) cause before after now n title s result c e.0 e.1 w
 
-  pub insert_row : (answer : Result (Unit {0}) EditEnd) (before now : Editing) (n : ℕ) (title line whole : List ℕ) (s : Shell) (result : Result (Unit {0}) SessionEnd) (c : C)
+  pub insert_row : (answer : Result (Unit {0}) EditEnd) (before now : Editing) (n : ℕ) (title line whole : List ℕ) (s : Shell)
+      (result : Result (Unit {0}) SessionEnd) (c : C)
       → line ≡ kept_line whole
-      → EndsBy answer (edit.refusal (edit.is_index n (length before.lines + 1)) (insert before.lines (n - 1) line)) (edit.changed before (insert before.lines (n - 1) line)) before now
+      → EndsBy answer (edit.refusal (edit.is_index n (length before.lines + 1)) (insert before.lines (n - 1) line))
+      (edit.changed before (insert before.lines (n - 1) line)) before now
       → SaysWhy at stands answer result n s c → GoesOn at stands result (Inserts n title before whole s) title now c
   insert_row answer before now n title line whole s result c is e w =
-      let kept = subst (λ l. EndsBy answer (edit.refusal (edit.is_index n (length before.lines + 1)) (insert before.lines (n - 1) l)) (edit.changed before (insert before.lines (n - 1) l)) before now) is e in
+      let kept = subst (λ l. EndsBy answer (edit.refusal (edit.is_index n (length before.lines + 1)) (insert before.lines (n - 1) l))
+      (edit.changed before (insert before.lines (n - 1) l)) before now) is e in
       change_row answer _ before _ now n title s result c kept w
 
-  pub replace_row : (answer : Result (Unit {0}) EditEnd) (before now : Editing) (n : ℕ) (title line whole : List ℕ) (s : Shell) (result : Result (Unit {0}) SessionEnd) (c : C)
+  pub replace_row : (answer : Result (Unit {0}) EditEnd) (before now : Editing) (n : ℕ) (title line whole : List ℕ) (s : Shell)
+      (result : Result (Unit {0}) SessionEnd) (c : C)
       → line ≡ kept_line whole
-      → EndsBy answer (edit.refusal (edit.is_index n (length before.lines)) (slice_set before.lines (n - 1) line)) (edit.changed before (slice_set before.lines (n - 1) line)) before now
+      → EndsBy answer (edit.refusal (edit.is_index n (length before.lines)) (slice_set before.lines (n - 1) line))
+      (edit.changed before (slice_set before.lines (n - 1) line)) before now
       → SaysWhy at stands answer result n s c → GoesOn at stands result (Replaces n title before whole s) title now c
   replace_row answer before now n title line whole s result c is e w =
-      let kept = subst (λ l. EndsBy answer (edit.refusal (edit.is_index n (length before.lines)) (slice_set before.lines (n - 1) l)) (edit.changed before (slice_set before.lines (n - 1) l)) before now) is e in
+      let kept = subst (λ l. EndsBy answer (edit.refusal (edit.is_index n (length before.lines)) (slice_set before.lines (n - 1) l))
+      (edit.changed before (slice_set before.lines (n - 1) l)) before now) is e in
       change_row answer _ before _ now n title s result c kept w
 
   pub undo_none : (before now : Editing) (title : List ℕ) (s : Shell) (result : Result (Unit {0}) SessionEnd) (c : C) → before.earlier ≡ [] → now ≡ before
@@ -88,7 +96,8 @@ module _ {C : Type 0} (at : C → State → ℕ → Type 0) (stands : C → Stat
       (subst (λ texts. Undoes title texts before s (edits_on title now (says (codes "no undo") s))) (sym none)
       (ap (λ x. edits_on title x (says (codes "no undo") s)) same)) there
 
-  pub undo_wants : (before now : Editing) (title : List ℕ) (s : Shell) (result : Result (Unit {0}) SessionEnd) (c : C) → 0 < length before.earlier → now ≡ before
+  pub undo_wants : (before now : Editing) (title : List ℕ) (s : Shell) (result : Result (Unit {0}) SessionEnd) (c : C) → 0 < length before.earlier
+      → now ≡ before
       → Leads at stands result (says_no_memory s) c → GoesOn at stands result (Undoes title before.earlier before s) title now c
   undo_wants before now title s result c some same there =
       shown_on_row (Undoes title before.earlier before s) title now (says_no_memory s) result c (row before.earlier some) there where

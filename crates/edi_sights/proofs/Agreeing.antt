@@ -14,7 +14,8 @@ use Rattle.edi_static.specs.Environment.{Environment, look_up}
 use Rattle.edi_static.specs.Types.{constant}
 use Rattle.edi_static.specs.Fitting.{use_of}
 use Rattle.edi_static.specs.Expressions.{expression}
-use Rattle.edi_static.specs.Statements.{After, assigned, called, add_statements, close_block, enter_branch, leave_branch, statement_list, statements, statement, conditions, elses, condition, branch, branches}
+use Rattle.edi_static.specs.Statements.{After, assigned, called, add_statements, close_block, enter_branch, leave_branch, statement_list, statements}
+use Rattle.edi_static.specs.Statements.{statement, conditions, elses, condition, branch, branches}
 use Rattle.edi_static.specs.Declarations.{all_completed}
 use Rattle.edi_static.proofs.Judging.{Gives, bind, behind as unknown_before, ruled}
 use Rattle.edi_sema.specs.Blocks.{inside_block}
@@ -45,7 +46,8 @@ awaited name line at env m awaits h = record {
 
 -- ---- branches
 
-entered : (at env : Environment) (m : Met) (awaits : List Await) → Agrees at env m awaits → Agrees (inside_block m.next at) (enter_branch env) (with_block m) awaits
+entered : (at env : Environment) (m : Met) (awaits : List Await) → Agrees at env m awaits → Agrees (inside_block m.next at) (enter_branch env) (with_block m)
+    awaits
 entered at env m awaits h = record {
   same = ap (λ n. without_blocks (inside_block n env)) (sym h.next) ∙ ap (inside_block m.next) h.same;
   next = omega (arith, h.next, length-append env.blocks);
@@ -77,25 +79,29 @@ left n at before line done m awaits e h =
 
 -- ---- constructs one after another
 
-in_turn : {A B C : Type 0} (at : Environment) (c : Judged (After A)) (rest : Environment → Judged (After B)) (make : A → B → C) (m n : Met) (awaits : List Await)
+in_turn : {A B C : Type 0} (at : Environment) (c : Judged (After A)) (rest : Environment → Judged (After B)) (make : A → B → C) (m n : Met)
+    (awaits : List Await)
     (more : Environment → List Await → List Await) → Gives (λ (one : After A). Agrees at one.env m awaits) c →
     ((e : Environment) → Agrees at e m awaits → Gives (λ (others : After B). Agrees at others.env n (more e awaits)) (rest e)) →
     Gives (λ (done : After C). Agrees at done.env n (behind c (λ one. more one.env) awaits))
     (c >>= λ one. rest one.env >>= λ others. gives (record { what = make one.what others.what; env = others.env }))
 in_turn {B = B} {C = C} at (gives one) rest make m n awaits more h k =
-    bind (λ (others : After B). Agrees at others.env n (more one.env awaits)) (λ (done : After C). Agrees at done.env n (more one.env awaits)) (rest one.env) _ (k one.env h) (λ others j. j)
+    bind (λ (others : After B). Agrees at others.env n (more one.env awaits)) (λ (done : After C). Agrees at done.env n (more one.env awaits)) (rest one.env)
+    _ (k one.env h) (λ others j. j)
 in_turn at (faults why line) rest make m n awaits more h k = tt
 
 -- a branch, and those behind it
 joined : (name : List ℕ) (bs : text.Branches) (inside : Environment) (at env : Environment) (c : Judged (After Acts)) (m n : Met) (awaits : List Await) →
     Gives (λ (done : After Acts). Agrees inside done.env m awaits) c →
-    ((done : After Acts) → Agrees inside done.env m awaits → Gives (λ (others : After (List ℕ)). Agrees at others.env n (met.branches_met name bs env done awaits)) (branches bs env done)) →
+    ((done : After Acts) → Agrees inside done.env m awaits
+    → Gives (λ (others : After (List ℕ)). Agrees at others.env n (met.branches_met name bs env done awaits)) (branches bs env done)) →
     Gives (λ (others : After (List ℕ)). Agrees at others.env n (behind c (met.branches_met name bs env) awaits)) (c >>= branches bs env)
 joined name bs inside at env (gives done) m n awaits h k = k done h
 joined name bs inside at env (faults why line) m n awaits h k = tt
 
 -- the same construct, seen otherwise
-renamed : {A C : Type 0} (at : Environment) (c : Judged (After A)) (make : A → C) (m : Met) (awaits : List Await) → Gives (λ (one : After A). Agrees at one.env m awaits) c →
+renamed : {A C : Type 0} (at : Environment) (c : Judged (After A)) (make : A → C) (m : Met) (awaits : List Await)
+    → Gives (λ (one : After A). Agrees at one.env m awaits) c →
     Gives (λ (done : After C). Agrees at done.env m awaits) (c >>= λ one. gives (record { what = make one.what; env = one.env }))
 renamed at (gives one) make m awaits h = h
 renamed at (faults why line) make m awaits h = tt
@@ -121,18 +127,21 @@ mutual
       Gives (λ (done : After Acts). Agrees at done.env (counted.statements_counted name ss at m) (met.statements_met name ss env awaits)) (statements ss env)
   statements_agrees name text.no_statement at env m awaits h = h
   statements_agrees name (text.next_statement s more) at env m awaits h =
-      in_turn at (statement s env) (statements more) unit.act_then _ (counted.statements_counted name (text.next_statement s more) at m) _ (met.statements_met name more)
+      in_turn at (statement s env) (statements more) unit.act_then _ (counted.statements_counted name (text.next_statement s more) at m) _
+      (met.statements_met name more)
       (statement_agrees name s at env m awaits h) (λ e k. statements_agrees name more at e _ _ k)
 
   statement_agrees : (name : List ℕ) (s : text.Statement) (at env : Environment) (m : Met) (awaits : List Await) → Agrees at env m awaits →
       Gives (λ (done : After unit.Act). Agrees at done.env (counted.statement_counted name s at m) (met.statement_met name s env awaits)) (statement s env)
   statement_agrees name text.skip at env m awaits h = h
-  statement_agrees name (text.assignment v line x) at env m awaits h = unknown_before (λ (done : After unit.Act). Agrees at done.env m awaits) (assigned env v line x) _ (λ a. h)
+  statement_agrees name (text.assignment v line x) at env m awaits h = unknown_before (λ (done : After unit.Act). Agrees at done.env m awaits)
+      (assigned env v line x) _ (λ a. h)
   statement_agrees name (text.call called_name xs) at env m awaits h =
       unknown_before (λ (done : After unit.Act). Agrees at done.env m awaits) (look_up env called_name) _ (λ means.
       unknown_before (λ (done : After unit.Act). Agrees at done.env m awaits) (called env called_name.line (use_of env means) xs) _ (λ a. h))
   statement_agrees name (text.if_statement cs) at env m awaits h = renamed at (conditions cs env) unit.if_act _ _ (conditions_agrees name cs at env m awaits h)
-  statement_agrees name (text.while_statement cs) at env m awaits h = renamed at (conditions cs env) unit.while_act _ _ (conditions_agrees name cs at env m awaits h)
+  statement_agrees name (text.while_statement cs) at env m awaits h = renamed at (conditions cs env) unit.while_act _ _
+      (conditions_agrees name cs at env m awaits h)
   statement_agrees name (text.when_statement line cs) at env m awaits h =
       renamed at (conditions cs env) (λ done. unit.when_act done line) _ _
       (conditions_agrees name cs at env (with_await (await_at name line at) m) (awaits ++ await_at name line env ∷ []) (awaited name line at env m awaits h))
@@ -142,7 +151,8 @@ mutual
       branches_agree name bs m.next at env done _ _ h.same k))
 
   conditions_agrees : (name : List ℕ) (cs : text.Conditions) (at env : Environment) (m : Met) (awaits : List Await) → Agrees at env m awaits →
-      Gives (λ (done : After unit.Clauses). Agrees at done.env (counted.conditions_counted name cs at m) (met.conditions_met name cs env awaits)) (conditions cs env)
+      Gives (λ (done : After unit.Clauses). Agrees at done.env (counted.conditions_counted name cs at m) (met.conditions_met name cs env awaits))
+      (conditions cs env)
   conditions_agrees name (text.conditions c more) at env m awaits h =
       in_turn at (condition c env) (elses more) unit.clause_then _ (counted.conditions_counted name (text.conditions c more) at m) _ (met.elses_met name more)
       (condition_agrees name c at env m awaits h) (λ e k. elses_agrees name more at e _ _ k)
@@ -157,13 +167,16 @@ mutual
   condition_agrees : (name : List ℕ) (c : text.Condition) (at env : Environment) (m : Met) (awaits : List Await) → Agrees at env m awaits →
       Gives (λ (done : After unit.Clause). Agrees at done.env (counted.condition_counted name c at m) (met.condition_met name c env awaits)) (condition c env)
   condition_agrees name (text.condition x line s) at env m awaits h =
-      unknown_before (λ (done : After unit.Clause). Agrees at done.env (counted.list_counted name s at m) (met.list_met name s env awaits)) (expression env x) _ (λ v.
-      ruled (λ (done : After unit.Clause). Agrees at done.env (counted.list_counted name s at m) (met.list_met name s env awaits)) (v.of == bool_type) kind.Types line _ (λ _.
+      unknown_before (λ (done : After unit.Clause). Agrees at done.env (counted.list_counted name s at m) (met.list_met name s env awaits)) (expression env x)
+      _ (λ v.
+      ruled (λ (done : After unit.Clause). Agrees at done.env (counted.list_counted name s at m) (met.list_met name s env awaits)) (v.of == bool_type)
+      kind.Types line _ (λ _.
       renamed at (statement_list s env) (unit.clause v.what) _ _ (list_agrees name s at env m awaits h)))
 
   -- inside a branch
   branch_agrees : (name : List ℕ) (b : text.Branch) (at env : Environment) (m : Met) (awaits : List Await) → Agrees at env m awaits →
-      Gives (λ (done : After Acts). Agrees (inside_block m.next at) done.env (counted.branch_counted name b at m) (met.branch_met name b env awaits)) (branch b env)
+      Gives (λ (done : After Acts). Agrees (inside_block m.next at) done.env (counted.branch_counted name b at m) (met.branch_met name b env awaits))
+      (branch b env)
   branch_agrees name (text.branch c line s) at env m awaits h =
       unknown_before _ (constant env c) _ (λ k.
       ruled _ (k.of == int_type) kind.Types line _ (λ _.
@@ -172,11 +185,13 @@ mutual
   -- behind the statements of a branch that began in an environment
   branches_agree : (name : List ℕ) (bs : text.Branches) (n : ℕ) (at before : Environment) (done : After Acts) (m : Met) (awaits : List Await) →
       without_blocks before ≡ without_blocks at → Agrees (inside_block n at) done.env m awaits →
-      Gives (λ (others : After (List ℕ)). Agrees at others.env (counted.branches_counted name bs at m) (met.branches_met name bs before done awaits)) (branches bs before done)
+      Gives (λ (others : After (List ℕ)). Agrees at others.env (counted.branches_counted name bs at m) (met.branches_met name bs before done awaits))
+      (branches bs before done)
   branches_agree name (text.no_branch end) n at before done m awaits e h =
       renamed at (leave_branch before end done) (λ one. one ∷ []) m awaits (left n at before end done m awaits e h)
   branches_agree name (text.next_branch also b bs) n at before done m awaits e h =
-      behind_branch at (leave_branch before also done) (λ env. branch b env >>= branches bs env) m (counted.branches_counted name (text.next_branch also b bs) at m) awaits
+      behind_branch at (leave_branch before also done) (λ env. branch b env >>= branches bs env) m
+      (counted.branches_counted name (text.next_branch also b bs) at m) awaits
       (λ env awaits. behind (branch b env) (met.branches_met name bs env) (met.branch_met name b env awaits))
       (left n at before also done m awaits e h) (λ env k.
       joined name bs (inside_block m.next at) at env (branch b env) _ _ _ (branch_agrees name b at env m awaits k) (λ inner j.
@@ -199,26 +214,34 @@ sound_before P (gives u) (gives done) f after e k = k done refl
 sound_before P (gives u) (faults why line) f after e k = absurd (cc)
 sound_before P (faults why line) m f after e k = absurd (cc)
 
-pub finished_agrees : (name : List ℕ) (block : ℕ) (s : text.StatementList) (end : ℕ) (env after : Environment) (awaits : List Await) → finished block s end env ≡ gives after →
+pub finished_agrees : (name : List ℕ) (block : ℕ) (s : text.StatementList) (end : ℕ) (env after : Environment) (awaits : List Await)
+    → finished block s end env ≡ gives after →
     counted.body_counted name s env awaits ≡ met.list_met name s env awaits
 finished_agrees name block s end env after awaits e =
-    sound_before _ (all_completed env.begun) (statement_list s env) (λ done. close_block block done.what end done.env) after e (λ done stated. body_agrees name s env done awaits stated)
+    sound_before _ (all_completed env.begun) (statement_list s env) (λ done. close_block block done.what end done.env) after e
+    (λ done stated. body_agrees name s env done awaits stated)
 
-pub module_agrees : (name : List ℕ) (block : ℕ) (s : text.StatementList) (env after : Environment) (awaits : List Await) → finished_module block s env ≡ gives after →
+pub module_agrees : (name : List ℕ) (block : ℕ) (s : text.StatementList) (env after : Environment) (awaits : List Await) → finished_module block s env ≡ gives
+    after →
     counted.body_counted name s env awaits ≡ met.list_met name s env awaits
 module_agrees name block s env after awaits e =
-    sound_before _ (all_completed env.begun) (statement_list s env) (λ done. gives (add_statements block done.what done.env)) after e (λ done stated. body_agrees name s env done awaits stated)
+    sound_before _ (all_completed env.begun) (statement_list s env) (λ done. gives (add_statements block done.what done.env)) after e
+    (λ done stated. body_agrees name s env done awaits stated)
 
 -- ---- what is answered at the end of a body
 
-pub finished_answer : {B : Type 0} (name : List ℕ) (block : ℕ) (s : text.StatementList) (end : ℕ) (env now after : Environment) (awaits more : List Await) (r : Result B StaticFault) →
-    JudgedAnswers (λ _. after) r (finished block s end now) → now ≡ env → more ≡ counted.body_counted name s env awaits → OnOk r (more ≡ met.list_met name s env awaits)
+pub finished_answer : {B : Type 0} (name : List ℕ) (block : ℕ) (s : text.StatementList) (end : ℕ) (env now after : Environment) (awaits more : List Await)
+    (r : Result B StaticFault) →
+    JudgedAnswers (λ _. after) r (finished block s end now) → now ≡ env → more ≡ counted.body_counted name s env awaits
+    → OnOk r (more ≡ met.list_met name s env awaits)
 finished_answer name block s end env now after awaits more (Ok b) e i m =
     m ∙ finished_agrees name block s end env after awaits (ap (finished block s end) (sym i) ∙ e)
 finished_answer name block s end env now after awaits more (Err f) e i m = tt
 
-pub module_answer : {B : Type 0} (name : List ℕ) (block : ℕ) (s : text.StatementList) (env now after : Environment) (awaits more : List Await) (r : Result B StaticFault) →
-    JudgedAnswers (λ _. after) r (finished_module block s now) → now ≡ env → more ≡ counted.body_counted name s env awaits → OnOk r (more ≡ met.list_met name s env awaits)
+pub module_answer : {B : Type 0} (name : List ℕ) (block : ℕ) (s : text.StatementList) (env now after : Environment) (awaits more : List Await)
+    (r : Result B StaticFault) →
+    JudgedAnswers (λ _. after) r (finished_module block s now) → now ≡ env → more ≡ counted.body_counted name s env awaits
+    → OnOk r (more ≡ met.list_met name s env awaits)
 module_answer name block s env now after awaits more (Ok b) e i m =
     m ∙ module_agrees name block s env after awaits (ap (finished_module block s) (sym i) ∙ e)
 module_answer name block s env now after awaits more (Err f) e i m = tt

@@ -1,5 +1,6 @@
 -- Counts of blocks, and the `when`s that are put behind others.
-use Rattle.std.proofs.Common.{◌≡◌, ℕ, zero, suc, ◌+◌, ◌<◌, ◌≤◌, ◌==◌, Bool, true, false, if◌then◌else◌, List, [], ◌∷◌, ◌++◌, length, take, get_or, refl, ap, sym, ◌∙◌, arith}
+use Rattle.std.proofs.Common.{◌≡◌, ℕ, zero, suc, ◌+◌, ◌<◌, ◌≤◌, ◌==◌, Bool, true, false, if◌then◌else◌, List, [], ◌∷◌, ◌++◌, length, take, get_or, refl, ap}
+use Rattle.std.proofs.Common.{sym, ◌∙◌, arith}
 use Rattle.std.proofs.Math.ListN.{drop_of_length-le}
 use Rattle.std.proofs.Math.Seq.{take-suc}
 use Rattle.std.proofs.lemmas.Bool.{false≢true, eqb-true, eq-eqb}
@@ -30,7 +31,8 @@ pub roomy : (xs ys : List ℕ) (n k : ℕ) → length xs ≤ n → ys ≡ take n
 roomy xs ys n k le e b =
     ap (λ zs. slice_index_or zs b zero) (e ∙ ap (λ zs. zs ++ replicate k zero) (all_taken xs n le)) ∙ padded xs k b
 
-set_case : (same : Bool) (xs : List ℕ) (i b y : ℕ) → i < length xs → (i == b) ≡ same → slice_index_or (slice_set xs i y) b zero ≡ (if same then y else slice_index_or xs b zero)
+set_case : (same : Bool) (xs : List ℕ) (i b y : ℕ) → i < length xs → (i == b) ≡ same → slice_index_or (slice_set xs i y) b zero
+    ≡ (if same then y else slice_index_or xs b zero)
 set_case true xs i b y lt e = ap (λ b. slice_index_or (slice_set xs i y) b zero) (sym (eqb-true i b e)) ∙ get_or-set_same xs i y zero lt
 set_case false xs i b y lt e = get_or-set_other xs i b y zero (λ same. false≢true (sym e ∙ eq-eqb i b (sym same)))
 
@@ -53,7 +55,8 @@ last_counted : (same : Bool) (n : ℕ) (a : Await) → n + length (if same then 
 last_counted true n a = refl
 last_counted false n a = omega arith
 
-pub count_pushed : (b : ℕ) (awaits : List Await) (a : Await) → count_in b (awaits ++ a ∷ []) ≡ (if a.block == b then count_in b awaits + 1 else count_in b awaits)
+pub count_pushed : (b : ℕ) (awaits : List Await) (a : Await) → count_in b (awaits ++ a ∷ [])
+    ≡ (if a.block == b then count_in b awaits + 1 else count_in b awaits)
 count_pushed b awaits a =
     ap length (filter-append (λ a. a.block == b) awaits (a ∷ []))
     ∙ (length-append (filter (λ a. a.block == b) awaits) (filter (λ a. a.block == b) (a ∷ []))

@@ -31,15 +31,18 @@ member_next name rest ms m now after awaits more whole h r stated e =
     ∙ (ap (λ rest. members_met name (tree.members rest) now awaits) (sym r) ∙ h))
 
 -- all declarations of a procedure, and then its statements
-pub procedure_done : (name : List ℕ) (block : ℕ) (h : text.Heading) (ds : text.Declarations) (s : text.StatementList) (end : ℕ) (env now : Environment) (start awaits more : List Await) →
+pub procedure_done : (name : List ℕ) (block : ℕ) (h : text.Heading) (ds : text.Declarations) (s : text.StatementList) (end : ℕ) (env now : Environment)
+    (start awaits more : List Await) →
     declarations ds (enter_block block env) ≡ gives now → awaits ≡ declarations_met name ds (enter_block block env) start →
     more ≡ list_met name s now awaits → more ≡ procedure_met name block (text.procedure h ds s end) env start
 procedure_done name block h ds s end env now start awaits more stated e m =
-    m ∙ (ap (list_met name s now) e ∙ sym (behind_given (declarations ds (enter_block block env)) now (list_met name s) (declarations_met name ds (enter_block block env) start) stated))
+    m ∙ (ap (list_met name s now) e ∙ sym (behind_given (declarations ds (enter_block block env)) now (list_met name s)
+    (declarations_met name ds (enter_block block env) start) stated))
 
 -- all members of a module, and then its statements
 pub module_done : (name : List ℕ) (ms : text.Members) (s : text.StatementList) (env now : Environment) (start awaits more : List Await) →
     members ms (inside_module env) ≡ gives now → awaits ≡ members_met name ms (inside_module env) start →
     more ≡ list_met name s now awaits → more ≡ module_met name (text.module_with ms s) env start
 module_done name ms s env now start awaits more stated e m =
-    m ∙ (ap (list_met name s now) e ∙ sym (behind_given (members ms (inside_module env)) now (list_met name s) (members_met name ms (inside_module env) start) stated))
+    m ∙ (ap (list_met name s now) e ∙ sym (behind_given (members ms (inside_module env)) now (list_met name s) (members_met name ms (inside_module env) start)
+    stated))

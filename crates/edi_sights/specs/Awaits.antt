@@ -9,7 +9,8 @@ use Rattle.edi_unit.specs.Tree.{Acts}
 use Rattle.edi_static.specs.Judged.{Judged, gives, faults, ◌>>=◌}
 use Rattle.edi_static.specs.Environment.{Environment, here, steps_to}
 use Rattle.edi_static.specs.Statements.{After, enter_branch, leave_branch, statement, condition, branch}
-use Rattle.edi_static.specs.Declarations.{begun_named, heading_of, procedure_name, begin_procedure, begin_post, block_of, enter_block, members, member, declarations, declaration}
+use Rattle.edi_static.specs.Declarations.{begun_named, heading_of, procedure_name, begin_procedure, begin_post, block_of, enter_block, members, member}
+use Rattle.edi_static.specs.Declarations.{declarations, declaration}
 use Rattle.edi_static.specs.Programs.{global_decls}
 use Rattle.edi_sema.specs.Bodies.{inside_module}
 use Rattle.edi_sema.specs.Whole.{first_place, begun_program}

@@ -2,7 +2,12 @@
 use Rattle.std.specs.Prelude.{◌≡◌, ℕ, pos, [], ◌∷◌, Option, Some, None, codes, refl}
 use Prim.Native.String.{String}
 use Rattle.edi_tree.specs.declared.constants.Constant.TheVariants as constant
-use Rattle.edi_tree.specs.Tree.{Program, program, no_global, Declarations, procedure, Heading, heading, no_params, params, no_param, next_param, value_param, var_param, group, Group, no_name, no_group, record_decl, var_list, Item, item_declaration, module_declaration, module_with, Members, item_member, exported_member, module_member, no_member, next_member, type_item, var_item, procedure_item, pre_item, post_item, no_declaration, next_declaration, StatementList, list, no_statement, next_statement, Statement, skip, when_statement, if_statement, while_statement, cobegin, Branch, branch, no_branch, next_branch, conditions, condition, no_else, next_else}
+use Rattle.edi_tree.specs.Tree.{Program, program, no_global, Declarations, procedure, Heading, heading, no_params, params, no_param, next_param, value_param}
+use Rattle.edi_tree.specs.Tree.{var_param, group, Group, no_name, no_group, record_decl, var_list, Item, item_declaration, module_declaration, module_with}
+use Rattle.edi_tree.specs.Tree.{Members, item_member, exported_member, module_member, no_member, next_member, type_item, var_item, procedure_item, pre_item}
+use Rattle.edi_tree.specs.Tree.{post_item, no_declaration, next_declaration, StatementList, list, no_statement, next_statement, Statement, skip}
+use Rattle.edi_tree.specs.Tree.{when_statement, if_statement, while_statement, cobegin, Branch, branch, no_branch, next_branch, conditions, condition}
+use Rattle.edi_tree.specs.Tree.{no_else, next_else}
 use Rattle.edi_unit.specs.Types.{size}
 use Rattle.edi_static.specs.Written.{id, only, named}
 use Rattle.edi_sights.specs.declared.answer.Sight.{Sight}
@@ -99,7 +104,8 @@ abbrev together : Branch → Branch → Statement
 together a b = cobegin 8 a (next_branch 8 b (no_branch 8))
 
 pub row_branches : sights_of
-    (with_x (two (together (do_branch (one (together (do_branch (one (await 3))) (do_branch (one (await 3)))))) (do_branch (two (await 3) (await 3)))) (await 3)))
+    (with_x (two (together (do_branch (one (together (do_branch (one (await 3))) (do_branch (one (await 3)))))) (do_branch (two (await 3) (await 3))))
+    (await 3)))
     3 (codes "x")
     ≡ sight 2 0 (slot 2 0) ∷ sight 3 0 (slot 2 0) ∷ sight 4 0 (slot 1 0) ∷ sight 4 1 (slot 1 0) ∷ sight 0 0 (slot 0 0) ∷ []
 unfolding size
@@ -127,7 +133,8 @@ abbrev waits : Item
 waits = procedure_of (plain "p") no_declaration (one (await 3))
 
 pub row_module : sights_of
-    (main (module_then (next_member (item_member (variable_of "x" "int")) (next_member (item_member waits) no_member)) (one (await 3)) no_declaration) (one (await 3)))
+    (main (module_then (next_member (item_member (variable_of "x" "int")) (next_member (item_member waits) no_member)) (one (await 3)) no_declaration)
+    (one (await 3)))
     3 (codes "x")
     ≡ sight 1 0 (slot 1 0) ∷ sight 0 0 (slot 0 0) ∷ sight 0 1 None ∷ []
 unfolding size
@@ -175,7 +182,8 @@ row_after = refl
 -- proc main / proc p(a: char; var b: bool): int var c: int begin when true do skip end end begin skip end
 abbrev with_parameters : Program
 with_parameters =
-    main (then (procedure_of (heading (id "p" 1) (params (value_param (grouped "a" "char")) (next_param (var_param (grouped "b" "bool")) no_param)) (Some (id "int" 1)))
+    main (then (procedure_of (heading (id "p" 1) (params (value_param (grouped "a" "char")) (next_param (var_param (grouped "b" "bool")) no_param))
+    (Some (id "int" 1)))
     (then (variable_of "c" "int") no_declaration) (one (await 3))) no_declaration) (one skip)
 
 pub row_parameter : sights_of with_parameters 3 (codes "a") ≡ sight 1 0 (slot 0 1) ∷ []

@@ -1,5 +1,6 @@
 -- The variables of a frame stand one behind another: so the words of a row of cells, where they stand, are those of each.
-use Rattle.std.proofs.Common.{◌≡◌, ℕ, zero, suc, ◌+◌, ◌<◌, ◌≤◌, List, [], ◌∷◌, ◌++◌, take, drop, length, get_or, drop-drop, refl, sym, ap, ◌∙◌, arith, length-append}
+use Rattle.std.proofs.Common.{◌≡◌, ℕ, zero, suc, ◌+◌, ◌<◌, ◌≤◌, List, [], ◌∷◌, ◌++◌, take, drop, length, get_or, drop-drop, refl, sym, ap, ◌∙◌, arith}
+use Rattle.std.proofs.Common.{length-append}
 use Rattle.std.specs.Prelude.{sum_by, slice_get, slice_index_or}
 use Rattle.std.proofs.Math.Seq.{take-append_seam, drop-append_seam}
 use Rattle.std.proofs.lemmas.Grind.{same_number_lists}
@@ -40,7 +41,13 @@ module _ (g : Coded) (first : Name → ℕ) (F : Shape) where
   aligned_length [] (c ∷ cs) h = absurd h
   aligned_length (p ∷ ps) [] h = absurd h
   aligned_length (p ∷ ps) (c ∷ cs) h =
-      omega (arith, length-append (cell_words g first F c) (cells_words g first F cs), h.0, aligned_length ps cs h.1, sum_by-cons (slot_words g.unit.types) p ps)
+      omega (
+        arith,
+        length-append (cell_words g first F c) (cells_words g first F cs),
+        h.0,
+        aligned_length ps cs h.1,
+        sum_by-cons (slot_words g.unit.types) p ps,
+      )
 
   pub aligned_count : (ps : List Parameter) (cs : List Cell) → Aligned ps cs → length cs ≡ length ps
   aligned_count [] [] h = refl

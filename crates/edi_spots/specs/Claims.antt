@@ -8,12 +8,16 @@ use Rattle.edi_unit.specs.declared.units.Parameter.TheVariants as slot
 use Rattle.edi_unit.specs.Types.{is_elementary, size}
 use Rattle.edi_unit.specs.Values.{Value, values, IsOf, AreOf}
 use Rattle.edi_unit.specs.Tree.{Expression, Expressions, Links, Place, Parts, Arguments, Act, assign, Acts, Clauses}
-use Rattle.edi_unit.specs.Need.{place_type, expression_type, parts_type, links_type, expression_height, members_height, compound_height, links_height, place_height, parts_height, arguments_height, act_height, acts_height, clauses_height, callee_result, result_words}
+use Rattle.edi_unit.specs.Need.{place_type, expression_type, parts_type, links_type, expression_height, members_height, compound_height, links_height}
+use Rattle.edi_unit.specs.Need.{place_height, parts_height, arguments_height, act_height, acts_height, clauses_height, callee_result, result_words}
 use Rattle.edi_unit.specs.Fits as fits
-use Rattle.edi_unit.specs.Fits.{Heading, Formals, no_formal, value_then, variable_then, procedure_then, heading_formals, heading_result, callee_heading, ExpressionFits, ExpressionsFit, LinksFit, PlaceFits, PartsFit, ArgumentsFit, CalleeFits, ActFits, ActsFit, ClausesFit, HaveTypes, AllHaveType}
+use Rattle.edi_unit.specs.Fits.{Heading, Formals, no_formal, value_then, variable_then, procedure_then, heading_formals, heading_result, callee_heading}
+use Rattle.edi_unit.specs.Fits.{ExpressionFits, ExpressionsFit, LinksFit, PlaceFits, PartsFit, ArgumentsFit, CalleeFits, ActFits, ActsFit, ClausesFit}
+use Rattle.edi_unit.specs.Fits.{HaveTypes, AllHaveType}
 use Rattle.edi_meaning.specs.Store.{Spot, system_procedure, Cell, Shape, now, Older}
 use Rattle.edi_meaning.specs.Evaluation.{World, Evaluation}
-use Rattle.edi_meaning.specs.Whole.{Designated, meant, function_call, procedure_call, system_call, expression, expressions, members_of, linked, designated, parts, arguments, assigned, act, acts, first, levels_of}
+use Rattle.edi_meaning.specs.Whole.{Designated, meant, function_call, procedure_call, system_call, expression, expressions, members_of, linked, designated}
+use Rattle.edi_meaning.specs.Whole.{parts, arguments, assigned, act, acts, first, levels_of}
 use Rattle.edi_target.specs.Memory.{word}
 use Rattle.edi_scheme.specs.Pieces.{ClauseKind, close_code}
 use Rattle.edi_scheme.specs.Code.{call_code}

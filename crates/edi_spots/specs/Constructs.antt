@@ -11,7 +11,8 @@ use Rattle.edi_meaning.specs.Whole.{Designated}
 use Rattle.edi_scheme.specs.Pieces.{ClauseKind}
 use Rattle.edi_spots.specs.Coded.{Coded}
 use Rattle.edi_spots.specs.Scene.{Scene}
-use Rattle.edi_spots.specs.Claims.{ExpressionAt, ExpressionsAt, MembersAt, LinksAt, PlaceAt, PartsAt, ArgumentsAt, FunctionClaim, ProcedureClaim, AssignAt, ActAt, ActsAt, FirstAt, DeeperClaim}
+use Rattle.edi_spots.specs.Claims.{ExpressionAt, ExpressionsAt, MembersAt, LinksAt, PlaceAt, PartsAt, ArgumentsAt, FunctionClaim, ProcedureClaim, AssignAt}
+use Rattle.edi_spots.specs.Claims.{ActAt, ActsAt, FirstAt, DeeperClaim}
 
 module _ (g : Coded) (s : Scene) (deeper : Acts → World → Evaluation (Unit {0})) (bound : ℕ) where
   abbrev pub E : Expression → Type 0

@@ -7,7 +7,8 @@ use Rattle.edi_unit.specs.declared.units.Parameter.TheVariants as slot
 use Rattle.edi_unit.specs.Need.{slot_type}
 use Rattle.edi_unit.specs.Values.{IsOf}
 use Rattle.edi_unit.specs.Fits.{Heading, heading_formals, heading_result, block_heading, is_called, IsCall}
-use Rattle.edi_meaning.specs.Store.{Spot, Location, Closure, system_procedure, block_procedure, Cell, value, location, procedure, Frame, Store, Shape, instances, frame_at, now, used, cells_in, cell, IsLive, Older}
+use Rattle.edi_meaning.specs.Store.{Spot, Location, Closure, system_procedure, block_procedure, Cell, value, location, procedure, Frame, Store, Shape}
+use Rattle.edi_meaning.specs.Store.{instances, frame_at, now, used, cells_in, cell, IsLive, Older}
 use Rattle.edi_target.specs.Memory.{word}
 use Rattle.edi_target.specs.Op.{high_word, low_word}
 use Rattle.edi_target.specs.Mach.{IsAncestor}

@@ -22,12 +22,14 @@ abbrev pub last_end : ℕ → List ClosedBranch → ℕ
 last_end end [] = end
 last_end end (x ∷ xs) = last_end x.end xs
 
-also_more : {A : Type 0} (f : A → ClosedBranch) (end line : ℕ) (items : List A) (x : A) → last_end end (map f items) ≡ line → (es : List Element) → also_branches end (map f items) (kept is.Also line ∷ branch_elements (f x).opened es) ≡ also_branches end (map f (items ++ x ∷ [])) es
+also_more : {A : Type 0} (f : A → ClosedBranch) (end line : ℕ) (items : List A) (x : A) → last_end end (map f items) ≡ line → (es : List Element)
+    → also_branches end (map f items) (kept is.Also line ∷ branch_elements (f x).opened es) ≡ also_branches end (map f (items ++ x ∷ [])) es
 also_more f end line [] x e es = ap (λ l. kept is.Also l ∷ branch_elements (f x).opened es) (sym e)
 also_more f end line (y ∷ items) x e es = ap (λ l. kept is.Also end ∷ branch_elements (f y).opened l) (also_more f (f y).end line items x e es)
 
 -- one more branch
-pub also_push : {A : Type 0} (f : A → ClosedBranch) (end line : ℕ) (items more : List A) (x : A) → last_end end (map f items) ≡ line → more ≡ items ++ x ∷ [] → (es : List Element) → also_branches end (map f items) (kept is.Also line ∷ branch_elements (f x).opened es) ≡ also_branches end (map f more) es
+pub also_push : {A : Type 0} (f : A → ClosedBranch) (end line : ℕ) (items more : List A) (x : A) → last_end end (map f items) ≡ line → more ≡ items ++ x ∷ []
+    → (es : List Element) → also_branches end (map f items) (kept is.Also line ∷ branch_elements (f x).opened es) ≡ also_branches end (map f more) es
 also_push f end line items more x l e es = also_more f end line items x l es ∙ ap (λ m. also_branches end (map f m) es) (sym e)
 
 last_more : {A : Type 0} (f : A → ClosedBranch) (end : ℕ) (items : List A) (x : A) → last_end end (map f (items ++ x ∷ [])) ≡ (f x).end
@@ -38,6 +40,7 @@ pub last_push : {A : Type 0} (f : A → ClosedBranch) (end : ℕ) (items more : 
 last_push f end items more x e = ap (λ m. last_end end (map f m)) e ∙ last_more f end items x
 
 -- all branches, and the end
-pub ended : (end line : ℕ) (xs : List ClosedBranch) → last_end end xs ≡ line → (es : List Element) → also_branches end xs (kept is.End line ∷ level_end ∷ es) ≡ branches_elements (branches end xs) es
+pub ended : (end line : ℕ) (xs : List ClosedBranch) → last_end end xs ≡ line → (es : List Element) → also_branches end xs (kept is.End line ∷ level_end ∷ es)
+    ≡ branches_elements (branches end xs) es
 ended end line [] e es = ap (λ l. kept is.End l ∷ level_end ∷ es) (sym e)
 ended end line (x ∷ xs) e es = ap (λ l. kept is.Also end ∷ branch_elements x.opened l) (ended x.end line xs e es)

@@ -7,8 +7,13 @@ use Rattle.edi_grammar.specs.Kinds as kind
 use Rattle.edi_grammar.specs.Rules as g
 use Rattle.edi_grammar.specs.Edison.{edison}
 
-pub assigned : (a : ℕ) → nat_eq a kind.Open ≡ false → has a (kind.Period ∷ kind.OpenBracket ∷ kind.Becomes ∷ []) ≡ true → rule_at edison g.After a ≡ Some (part g.Selectors ∷ token kind.Becomes ∷ part g.Expr ∷ [])
-assigned a o h = ap (λ b. rule_no (edison.rules g.After) (if (if b then true else false) then 0 else suc (if has a (kind.Period ∷ kind.OpenBracket ∷ kind.Becomes ∷ []) then 0 else 1))) o ∙ ap (λ b. rule_no (edison.rules g.After) (suc (if b then 0 else 1))) h
+pub assigned : (a : ℕ) → nat_eq a kind.Open ≡ false → has a (kind.Period ∷ kind.OpenBracket ∷ kind.Becomes ∷ []) ≡ true → rule_at edison g.After a ≡ Some
+    (part g.Selectors ∷ token kind.Becomes ∷ part g.Expr ∷ [])
+assigned a o h = ap (λ b. rule_no (edison.rules g.After)
+    (if (if b then true else false) then 0 else suc (if has a (kind.Period ∷ kind.OpenBracket ∷ kind.Becomes ∷ []) then 0 else 1))) o
+    ∙ ap (λ b. rule_no (edison.rules g.After) (suc (if b then 0 else 1))) h
 
 pub alone : (a : ℕ) → nat_eq a kind.Open ≡ false → has a (kind.Period ∷ kind.OpenBracket ∷ kind.Becomes ∷ []) ≡ false → rule_at edison g.After a ≡ Some []
-alone a o h = ap (λ b. rule_no (edison.rules g.After) (if (if b then true else false) then 0 else suc (if has a (kind.Period ∷ kind.OpenBracket ∷ kind.Becomes ∷ []) then 0 else 1))) o ∙ ap (λ b. rule_no (edison.rules g.After) (suc (if b then 0 else 1))) h
+alone a o h = ap (λ b. rule_no (edison.rules g.After)
+    (if (if b then true else false) then 0 else suc (if has a (kind.Period ∷ kind.OpenBracket ∷ kind.Becomes ∷ []) then 0 else 1))) o
+    ∙ ap (λ b. rule_no (edison.rules g.After) (suc (if b then 0 else 1))) h

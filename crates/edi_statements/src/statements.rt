@@ -2,7 +2,8 @@
 
 ghost use Rattle.std.specs.Prelude.{◌≡◌, [], ◌∷◌, ◌<◌, ◌≤◌, false, length, IfOk, IfErr};
 ghost use Rattle.edi_tree.specs.View.{branch_of, condition_of, conditions_of, else_of, list_of, statement_of, statements_of};
-ghost use Rattle.edi_tree.specs.Levels.{branch_elements, condition_elements, conditions_elements, else_elements, list_elements, statement_elements, statements_elements};
+ghost use Rattle.edi_tree.specs.Levels.{branch_elements, condition_elements, conditions_elements, else_elements, list_elements, statement_elements};
+ghost use Rattle.edi_tree.specs.Levels.{statements_elements};
 ghost use Rattle.edi_grammar.specs.Kinds as kind;
 ghost use Rattle.edi_grammar.specs.Kind.{front};
 ghost use Rattle.edi_grammar.specs.Parser.{has};

@@ -38,5 +38,6 @@ counted (procedure h ∷ fs) = ap suc (counted fs)
 pub parameters_counted : (fs : List code_formal.Formal) → formals_count (formals (map formal_of fs)) ≡ length fs
 parameters_counted fs = counted (map formal_of fs) ∙ length-map fs formal_of
 
-pub more_formals : (fs : List code_formal.Formal) (f : code_formal.Formal) → formals (map formal_of (fs ++ f ∷ [])) ≡ formals_append (formals (map formal_of fs)) (formals (formal_of f ∷ []))
+pub more_formals : (fs : List code_formal.Formal) (f : code_formal.Formal) → formals (map formal_of (fs ++ f ∷ [])) ≡ formals_append
+    (formals (map formal_of fs)) (formals (formal_of f ∷ []))
 more_formals fs f = ap formals (map-append formal_of fs (f ∷ [])) ∙ one_more (map formal_of fs) (formal_of f)

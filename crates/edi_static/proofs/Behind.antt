@@ -19,7 +19,8 @@ pub given : {A : Type 0} {a b : A} → gives a ≡ gives b → a ≡ b
 given {A} {a} {b} e = ap (given_or a) e
 
 -- an enumeration whose type stands behind the others already
-pub enum_behind : (m : Bool) (name : Name) (ns : text.Names) (env next : Environment) (fields : List (List ℕ)) (n of : ℕ) → n ≡ names_count ns → of ≡ length env.types →
+pub enum_behind : (m : Bool) (name : Name) (ns : text.Names) (env next : Environment) (fields : List (List ℕ)) (n of : ℕ) → n ≡ names_count ns
+    → of ≡ length env.types →
     fields ≡ [] → gives (with_type (enumeration n) fields env) ≡ gives next →
     enum_decl m name ns env ≡ (declare m name (entity.Types of) next >>= enum_constants m of 0 ns)
 enum_behind m name ns env next fields n of count is none behind =
@@ -31,7 +32,8 @@ enum_behind m name ns env next fields n of count is none behind =
 
 -- a value or a `var` parameter
 pub param_given : (block before of : ℕ) (one : Formals) (name : Name) (env last : Environment) (fs more : Formals) (variable : ℕ) →
-    gives (next_parameter block before fs) ≡ gives variable → declare false name (entity.Variable block variable of) env ≡ gives last → more ≡ formals_append fs one →
+    gives (next_parameter block before fs) ≡ gives variable → declare false name (entity.Variable block variable of) env ≡ gives last
+    → more ≡ formals_append fs one →
     param_named block before of one name (record { env = env; formals = fs }) ≡ gives (record { env = last; formals = more })
 param_given block before of one name env last fs more variable numbered declared is =
     let g : Environment → Judged Listed = λ env. gives (record { env = env; formals = formals_append fs one }) in

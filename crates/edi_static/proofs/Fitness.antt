@@ -7,7 +7,9 @@ use Rattle.edi_unit.specs.declared.units.Parameter.{Parameter}
 use Rattle.edi_unit.specs.Types.{Shape, shape_at, fields_of, is_ordinal_of, standard_types, AreDeclared}
 use Rattle.edi_unit.specs.Tree.{Block}
 use Rattle.edi_unit.specs.Need.{block_at, slots, slot_type, slot_result, callee_result, expression_type, place_type}
-use Rattle.edi_unit.specs.Fits.{ShapesFit, Heading, heading, Formals, no_formal, value_then, variable_then, procedure_then, heading_result, heading_formals, callee_heading, is_variable, is_procedure, greatest_levels, is_called, CalleeFits, ExpressionFits, PlaceFits, ActsFit, SlotIsKnown, KindFits}
+use Rattle.edi_unit.specs.Fits.{ShapesFit, Heading, heading, Formals, no_formal, value_then, variable_then, procedure_then, heading_result, heading_formals}
+use Rattle.edi_unit.specs.Fits.{callee_heading, is_variable, is_procedure, greatest_levels, is_called, CalleeFits, ExpressionFits, PlaceFits, ActsFit}
+use Rattle.edi_unit.specs.Fits.{SlotIsKnown, KindFits}
 use Rattle.edi_static.specs.Environment.{Environment, here, no_heading, heading_at, parameters_of}
 use Rattle.edi_static.specs.Operators.{Typed}
 use Rattle.edi_static.specs.Fitting.{Called, Use, constructs, calls, halts, neither}

@@ -1,5 +1,7 @@
 -- Procedures that begin: their parameters are names in their own scope, and the block is open.
-use Rattle.std.proofs.Common.{◌≡◌, ◌≢◌, ℕ, zero, suc, ◌+◌, ◌<◌, ◌≤◌, Bool, true, false, ◌||◌, ◌&&◌, ◌==◌, if◌then◌else◌, nat_lt, List, [], ◌∷◌, ◌++◌, length, get_or, map, All, Option, Some, None, IsTrue, IsSome, IfSome, is_some, refl, sym, ap, ◌∙◌, subst, arith, inl, inr, length-append}
+use Rattle.std.proofs.Common.{◌≡◌, ◌≢◌, ℕ, zero, suc, ◌+◌, ◌<◌, ◌≤◌, Bool, true, false, ◌||◌, ◌&&◌, ◌==◌, if◌then◌else◌, nat_lt, List, [], ◌∷◌, ◌++◌, length}
+use Rattle.std.proofs.Common.{get_or, map, All, Option, Some, None, IsTrue, IsSome, IfSome, is_some, refl, sym, ap, ◌∙◌, subst, arith, inl, inr}
+use Rattle.std.proofs.Common.{length-append}
 use Rattle.std.specs.Prelude.{slice_get, option_to_list}
 use Rattle.std.specs.Str.{bytes_eq}
 use Rattle.std.proofs.lemmas.Bool.{false≢true, cases_eq}
@@ -31,7 +33,8 @@ use Rattle.edi_static.proofs.Fitness.{asked_at, variable_heading, is_round, slot
 use Rattle.edi_static.proofs.FitnessCalls.{same_heading_is}
 use Rattle.edi_static.proofs.FitnessGrowth.{get_more, some_variable, some_procedure}
 use Rattle.edi_static.proofs.FitnessLater.{Later, later_then, names_later, chain_later}
-use Rattle.edi_static.proofs.FitnessOnward.{BegunFits, AllBegun, begun_later, Tidy, is_open, is_begun, closed_later, Onward, declare_onward, declare_means, exported_fits, with_name_keeps, exported_length, new_gives}
+use Rattle.edi_static.proofs.FitnessOnward.{BegunFits, AllBegun, begun_later, Tidy, is_open, is_begun, closed_later, Onward, declare_onward, declare_means}
+use Rattle.edi_static.proofs.FitnessOnward.{exported_fits, with_name_keeps, exported_length, new_gives}
 use Rattle.edi_static.proofs.FitnessChanges.{scopes_sit, scopes_later_same}
 use Rattle.edi_static.proofs.FitnessVariables.{Ready, here_inside, here_round}
 use Rattle.edi_static.proofs.FitnessHeadings.{Given, TypeKnown, TypesKnown, headed_env, Heads, heading_heads}
@@ -40,16 +43,19 @@ use Rattle.edi_static.proofs.FitnessStatements.{stands_here}
 
 -- ---- parameters as variables of their block
 
-parameter_slot : (r : Option ℕ) (ps more : List Parameter) (place : ℕ) → IsSome (slice_get ps place) → slice_get (map slot.Value (option_to_list r) ++ (ps ++ more)) (first_parameter r + place) ≡ slice_get ps place
+parameter_slot : (r : Option ℕ) (ps more : List Parameter) (place : ℕ) → IsSome (slice_get ps place)
+    → slice_get (map slot.Value (option_to_list r) ++ (ps ++ more)) (first_parameter r + place) ≡ slice_get ps place
 parameter_slot None ps more place h = let e : 0 + place ≡ place = omega arith in ap (slice_get (ps ++ more)) e ∙ get_more ps more place h
-parameter_slot (Some t) ps more place h = let e : 1 + place ≡ suc place = omega arith in ap (slice_get (slot.Value t ∷ (ps ++ more))) e ∙ get_more ps more place h
+parameter_slot (Some t) ps more place h = let e : 1 + place ≡ suc place = omega arith in
+    ap (slice_get (slot.Value t ∷ (ps ++ more))) e ∙ get_more ps more place h
 
 parameter_heading : (asks : Heading) (place : ℕ) → variable_heading asks (first_parameter (heading_result asks) + place) ≡ asked_at (heading_formals asks) place
 parameter_heading (heading fs None) place = let e : 0 + place ≡ place = omega arith in ap (asked_at fs) e
 parameter_heading (heading fs (Some t)) place = let e : 1 + place ≡ suc place = omega arith in ap (variable_heading (heading fs (Some t))) e
 
 module _ (types : List Shape) (blocks : List Block) (headings shapes : List Heading) (n : ℕ) (asks : Heading) (around : List ℕ)
-    (round : IsTrue (is_round n around)) (same : heading_at headings n ≡ asks) (parameters : (block_at blocks n).parameters ≡ parameters_of (heading_formals asks)) (result : (block_at blocks n).result ≡ heading_result asks) where
+    (round : IsTrue (is_round n around)) (same : heading_at headings n ≡ asks)
+    (parameters : (block_at blocks n).parameters ≡ parameters_of (heading_formals asks)) (result : (block_at blocks n).result ≡ heading_result asks) where
   slot_given : (b v place : ℕ) → b ≡ n → v ≡ first_parameter (heading_result asks) + place → IsSome (slice_get (parameters_of (heading_formals asks)) place) →
       slot_of blocks b v ≡ slice_get (parameters_of (heading_formals asks)) place
   slot_given b v place e at is =
@@ -78,8 +84,10 @@ module _ (types : List Shape) (blocks : List Block) (headings shapes : List Head
   given_names (entity.Procedure b) h = absurd h
   given_names entity.Halt h = absurd h
 
-  pub scope_given : (names : List (List ℕ × Entity)) → NamesFit (Given n (first_parameter (heading_result asks)) (heading_formals asks) shapes) names → NamesFit (Names types blocks headings shapes around) names
-  scope_given names h = names_fit (Given n (first_parameter (heading_result asks)) (heading_formals asks) shapes) (Names types blocks headings shapes around) given_names names h
+  pub scope_given : (names : List (List ℕ × Entity)) → NamesFit (Given n (first_parameter (heading_result asks)) (heading_formals asks) shapes) names
+      → NamesFit (Names types blocks headings shapes around) names
+  scope_given names h = names_fit (Given n (first_parameter (heading_result asks)) (heading_formals asks) shapes) (Names types blocks headings shapes around)
+      given_names names h
 
 -- ---- what a beginning gives
 
@@ -125,13 +133,15 @@ kind_called (Some t) = refl
 abbrev procedure_block : Environment → Heading → Block
 procedure_block env asks = begun_block (kind_of (heading_result asks)) (here env) (heading_result asks) (parameters_of (heading_formals asks))
 
-procedure_begins : (env : Environment) (asks : Heading) → here env < length env.blocks → All (SlotIsKnown env.types) (map slot.Value (option_to_list (heading_result asks)) ++ parameters_of (heading_formals asks)) →
+procedure_begins : (env : Environment) (asks : Heading) → here env < length env.blocks
+    → All (SlotIsKnown env.types) (map slot.Value (option_to_list (heading_result asks)) ++ parameters_of (heading_formals asks)) →
     BlockBegins env.types (length env.blocks) (procedure_block env asks) asks
 procedure_begins env asks at known = record {
   fits_kind = kind_fits (heading_result asks);
   outermost = λ e. absurd (omega (arith, at, e));
   inner = λ h. at;
-  known = subst (λ ps. All (SlotIsKnown env.types) (map slot.Value (option_to_list (heading_result asks)) ++ ps)) (sym (append-nil (parameters_of (heading_formals asks)))) known;
+  known = subst (λ ps. All (SlotIsKnown env.types) (map slot.Value (option_to_list (heading_result asks)) ++ ps))
+      (sym (append-nil (parameters_of (heading_formals asks)))) known;
   parameters = refl;
   result = refl;
   nothing = refl;
@@ -149,7 +159,8 @@ first_open : (a b : Bool) → a ≡ true → (a || b) ≡ false → ⊥
 first_open true b e h = false≢true (sym h)
 first_open false b e h = false≢true e
 
-put_tidy : (env : Environment) (more : List Heading) (asks : Heading) → Sits env → Later env (put_block env more asks) → (further : ℕ → Bool) → further (length env.blocks) ≡ true →
+put_tidy : (env : Environment) (more : List Heading) (asks : Heading) → Sits env → Later env (put_block env more asks) → (further : ℕ → Bool)
+    → further (length env.blocks) ≡ true →
     Tidy (is_open further env) env → Tidy (is_open further env) (put_block env more asks)
 put_tidy env more asks s l further opened k n h o =
     elim (cases_eq n (length env.blocks)) [
@@ -164,7 +175,8 @@ entered_at : (marked : Bool) (name : Name) (env : Environment) (scope : Scope) (
     NamesFit (Given (length env.blocks) (first_parameter (heading_result asks)) (heading_formals asks) (env.shapes ++ more)) scope.names →
     All (SlotIsKnown env.types) (map slot.Value (option_to_list (heading_result asks)) ++ parameters_of (heading_formals asks)) →
     Gives (Entered (length env.blocks) marked name env)
-    (round (declare marked name (entity.Procedure (length env.blocks))) (with_heading (kind_of (heading_result asks)) (record { env = headed_env env scope more; asks = asks })))
+    (round (declare marked name (entity.Procedure (length env.blocks)))
+    (with_heading (kind_of (heading_result asks)) (record { env = headed_env env scope more; asks = asks })))
 entered_at marked name env scope more asks s r names known =
     let n : ℕ = length env.blocks in
     let at : here env < n = here_inside env s r.inside in
@@ -179,8 +191,10 @@ entered_at marked name env scope more asks s r names known =
     let called : is_called (block_at next.blocks n).kind ≡ true = ap (λ b. is_called b.kind) new ∙ kind_called (heading_result asks) in
     let there : n < length next.blocks = omega (arith, length-append env.blocks (block ∷ [])) in
     let round_it : IsTrue (is_round (block_at next.blocks n).up env.around) = ap (λ k. is_round k env.around) up ∙ here_round env.around r.inside in
-    bind (λ e. Onward marked next e × ((declared e.scopes name.text ≡ Some (entity.Procedure n)) × (e.begun ≡ env.begun))) (Entered n marked name env) (declare marked name (entity.Procedure n) next) _
-    (also (Onward marked next) (λ e. (declared e.scopes name.text ≡ Some (entity.Procedure n)) × (e.begun ≡ env.begun)) (declare marked name (entity.Procedure n) next)
+    bind (λ e. Onward marked next e × ((declared e.scopes name.text ≡ Some (entity.Procedure n)) × (e.begun ≡ env.begun))) (Entered n marked name env)
+    (declare marked name (entity.Procedure n) next) _
+    (also (Onward marked next) (λ e. (declared e.scopes name.text ≡ Some (entity.Procedure n)) × (e.begun ≡ env.begun))
+    (declare marked name (entity.Procedure n) next)
     (declare_onward marked name (entity.Procedure n) next u (there, called, round_it))
     (declare_means marked name (entity.Procedure n) next r.scoped))
     (λ outer both.
@@ -198,7 +212,8 @@ entered_at marked name env scope more asks s r names known =
       is = refl;
       names =
           subst (λ a. NamesFit (Names outer.types outer.blocks outer.headings outer.shapes (n ∷ a)) scope.names) (sym o.around)
-          (names_fit (Names next.types next.blocks next.headings next.shapes (n ∷ env.around)) (Names outer.types outer.blocks outer.headings outer.shapes (n ∷ env.around))
+          (names_fit (Names next.types next.blocks next.headings next.shapes (n ∷ env.around))
+          (Names outer.types outer.blocks outer.headings outer.shapes (n ∷ env.around))
           (names_later next outer u m (n ∷ env.around) chain) scope.names inner);
       sits = o.sits;
       later = later_then env next outer l m;
@@ -217,13 +232,16 @@ entered_at marked name env scope more asks s r names known =
       means = both.1.0;
     })
 
-pub begin_entered : (marked : Bool) (h : text.Heading) (env : Environment) → Sits env → Ready env → Gives (Entered (length env.blocks) marked (own_name h) env) (begin_procedure marked h env)
+pub begin_entered : (marked : Bool) (h : text.Heading) (env : Environment) → Sits env → Ready env
+    → Gives (Entered (length env.blocks) marked (own_name h) env) (begin_procedure marked h env)
 begin_entered marked h env s r =
     let n : ℕ = length env.blocks in
-    let end : Headed → Judged Environment = λ headed. round (declare marked (own_name h) (entity.Procedure n)) (with_heading (kind_of (heading_result headed.asks)) headed) in
+    let end : Headed → Judged Environment = λ headed. round (declare marked (own_name h) (entity.Procedure n))
+    (with_heading (kind_of (heading_result headed.asks)) headed) in
     bind (Heads env n) (Entered n marked (own_name h) env) (heading_parts n h env) end
     (heading_heads n h env (types_known env s))
-    (λ headed k. subst (λ x. Gives (Entered n marked (own_name h) env) (end x)) (sym k.is) (entered_at marked (own_name h) env k.scope k.more headed.asks s r k.names k.known))
+    (λ headed k. subst (λ x. Gives (Entered n marked (own_name h) env) (end x)) (sym k.is)
+    (entered_at marked (own_name h) env k.scope k.more headed.asks s r k.names k.known))
 
 -- ---- a procedure that was begun
 
@@ -248,11 +266,13 @@ given_out name means env = record env { scopes = exported name.text means env.sc
 abbrev with_scope : Scope → Environment → Environment
 with_scope scope env = record env { scopes = scope ∷ env.scopes }
 
-outside_gives : (name : Name) (means : Entity) (env : Environment) → Gives (λ e. (e ≡ given_out name means env) × (is_some (declared (outside env.scopes) name.text) ≡ false)) (give_outside name means env)
+outside_gives : (name : Name) (means : Entity) (env : Environment)
+    → Gives (λ e. (e ≡ given_out name means env) × (is_some (declared (outside env.scopes) name.text) ≡ false)) (give_outside name means env)
 outside_gives name means env = stated (is_some (declared (outside env.scopes) name.text)) refl
   where
     stated : (b : Bool) → is_some (declared (outside env.scopes) name.text) ≡ b →
-        Gives (λ e. (e ≡ given_out name means env) × (is_some (declared (outside env.scopes) name.text) ≡ false)) (if b then faults kind.Ambiguous name.line else gives (given_out name means env))
+        Gives (λ e. (e ≡ given_out name means env) × (is_some (declared (outside env.scopes) name.text) ≡ false))
+        (if b then faults kind.Ambiguous name.line else gives (given_out name means env))
     stated true e = tt
     stated false e = (refl, e)
 
@@ -268,7 +288,8 @@ module _ (env : Environment) (scope : Scope) (more : List Heading) (asks : Headi
   inner_names : NamesFit (Names env.types env.blocks env.headings (env.shapes ++ more) (b.block ∷ env.around)) scope.names
   inner_names =
       let stands = s.stand b.block f.there in
-      scope_given env.types env.blocks env.headings (env.shapes ++ more) b.block asks (b.block ∷ env.around) (here_round (b.block ∷ env.around) (omega arith)) same
+      scope_given env.types env.blocks env.headings (env.shapes ++ more) b.block asks (b.block ∷ env.around) (here_round (b.block ∷ env.around) (omega arith))
+      same
       (stands.parameters ∙ ap (λ x. parameters_of (heading_formals x)) same) (stands.result ∙ ap heading_result same) scope.names names
 
   post_at : (marked : Bool) → Gives (Entered b.block marked name env) (post_marked marked name b.block (headed_env env scope more))
@@ -297,8 +318,10 @@ module _ (env : Environment) (scope : Scope) (more : List Heading) (asks : Headi
   post_at true =
       let means : Entity = entity.Procedure b.block in
       let t : Sits shaped = shapes_sit more env s in
-      let round_it : IsTrue (is_round (block_at env.blocks b.block).up env.around) = ap (λ k. is_round k env.around) f.inside ∙ here_round env.around r.inside in
-      bind (λ e. (e ≡ given_out name means shaped) × (is_some (declared (outside env.scopes) name.text) ≡ false)) (Entered b.block true name env) (give_outside name means shaped) _
+      let round_it : IsTrue (is_round (block_at env.blocks b.block).up env.around) = ap (λ k. is_round k env.around) f.inside
+      ∙ here_round env.around r.inside in
+      bind (λ e. (e ≡ given_out name means shaped) × (is_some (declared (outside env.scopes) name.text) ≡ false)) (Entered b.block true name env)
+      (give_outside name means shaped) _
       (outside_gives name means shaped)
       (λ e is.
       record {
@@ -306,7 +329,8 @@ module _ (env : Environment) (scope : Scope) (more : List Heading) (asks : Headi
         scope = scope;
         is = ap (with_scope scope) is.0;
         names = inner_names;
-        sits = scopes_sit (exported name.text means env.scopes) shaped t (exported_fits (EntitySits shaped) name.text means env.scopes (f.there, f.called, round_it) t.names);
+        sits = scopes_sit (exported name.text means env.scopes) shaped t
+            (exported_fits (EntitySits shaped) name.text means env.scopes (f.there, f.called, round_it) t.names);
         later = later_then env shaped (given_out name means shaped) (shapes_later more env) (scopes_later_same (exported name.text means env.scopes) shaped);
         around = refl;
         begun = refl;
@@ -328,17 +352,20 @@ pub found_begun : (P : Begun → Type 0) (begun : List Begun) (name : List ℕ) 
 found_begun P [] name all = tt
 found_begun P (b ∷ bs) name all = stated (found_begun P bs name (λ k d h. all (suc k) d (omega (arith, h)))) (bytes_eq b.name.text name) refl
   where
-    stated : IfSome (begun_named bs name) (λ b. P b × (b.name.text ≡ name)) → (same : Bool) → bytes_eq b.name.text name ≡ same → IfSome (if same then Some b else begun_named bs name) (λ b. P b × (b.name.text ≡ name))
+    stated : IfSome (begun_named bs name) (λ b. P b × (b.name.text ≡ name)) → (same : Bool) → bytes_eq b.name.text name ≡ same
+        → IfSome (if same then Some b else begun_named bs name) (λ b. P b × (b.name.text ≡ name))
     stated rest true e = (all 0 b (omega arith), (bytes_eq-Decides b.name.text name).0 e)
     stated rest false e = rest
 
 post_found : (marked : Bool) (h : text.Heading) (env : Environment) → Sits env → Ready env → (found : Option Begun) →
     IfSome found (λ b. BegunFits env.scopes env.blocks (here env) b × (b.name.text ≡ (own_name h).text)) →
     Gives (Entered (block_of env found) marked (own_name h) env)
-    (heading_parts (block_of env found) h env >>= λ headed. completes found (own_name h) headed >>= λ _. post_marked marked (own_name h) (block_of env found) headed.env)
+    (heading_parts (block_of env found) h env >>= λ headed. completes found (own_name h) headed >>= λ _. post_marked marked (own_name h) (block_of env found)
+    headed.env)
 post_found marked h env s r None f = behind (Entered (length env.blocks) marked (own_name h) env) (heading_parts (length env.blocks) h env) _ (λ headed. tt)
 post_found marked h env s r (Some b) f =
-    bind (Heads env b.block) (Entered b.block marked (own_name h) env) (heading_parts b.block h env) _ (heading_heads b.block h env (types_known env s)) (λ headed k.
+    bind (Heads env b.block) (Entered b.block marked (own_name h) env) (heading_parts b.block h env) _ (heading_heads b.block h env (types_known env s))
+    (λ headed k.
     ruled (Entered b.block marked (own_name h) env) (same_heading (heading_at headed.env.headings b.block) headed.asks) kind.Split (own_name h).line _ (λ same.
     subst (λ x. Gives (Entered b.block marked (own_name h) env) (post_marked marked (own_name h) b.block x.env)) (sym k.is)
     (post_at env k.scope k.more headed.asks (own_name h) b s r f.0
@@ -348,4 +375,5 @@ post_found marked h env s r (Some b) f =
 pub post_entered : (marked : Bool) (h : text.Heading) (env : Environment) → Sits env → Ready env → AllBegun env →
     Gives (Entered (block_of env (begun_named env.begun (own_name h).text)) marked (own_name h) env) (begin_post marked h env)
 post_entered marked h env s r all =
-    post_found marked h env s r (begun_named env.begun (own_name h).text) (found_begun (BegunFits env.scopes env.blocks (here env)) env.begun (own_name h).text all)
+    post_found marked h env s r (begun_named env.begun (own_name h).text)
+    (found_begun (BegunFits env.scopes env.blocks (here env)) env.begun (own_name h).text all)

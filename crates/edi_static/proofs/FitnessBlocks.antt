@@ -1,5 +1,6 @@
 -- Blocks that begin and that end, and places that are entered and left.
-use Rattle.std.proofs.Common.{◌≡◌, ◌≢◌, ℕ, zero, suc, ◌+◌, ◌<◌, ◌≤◌, Bool, true, false, nat_le, List, [], ◌∷◌, ◌++◌, length, get_or, set, All, is_some, refl, sym, ap, ◌∙◌, subst, arith, inl, inr, length-append}
+use Rattle.std.proofs.Common.{◌≡◌, ◌≢◌, ℕ, zero, suc, ◌+◌, ◌<◌, ◌≤◌, Bool, true, false, nat_le, List, [], ◌∷◌, ◌++◌, length, get_or, set, All, is_some, refl}
+use Rattle.std.proofs.Common.{sym, ap, ◌∙◌, subst, arith, inl, inr, length-append}
 use Rattle.std.proofs.lemmas.Bool.{cases_eq}
 use Rattle.std.proofs.lemmas.List.{append-nil, length-set, get_or-set_same, get_or-set_other}
 use Rattle.std.proofs.Math.ListN.{get_or-append}
@@ -26,7 +27,8 @@ use Rattle.edi_static.proofs.FitnessOnward.{Closed}
 
 -- ---- another place
 
-pub placed_sits : (scopes : List Scope) (around : List ℕ) (begun : List Begun) (env : Environment) → Sits env → IsChain env.blocks around → length around ≤ greatest_levels →
+pub placed_sits : (scopes : List Scope) (around : List ℕ) (begun : List Begun) (env : Environment) → Sits env → IsChain env.blocks around
+    → length around ≤ greatest_levels →
     ScopesFit (Names env.types env.blocks env.headings env.shapes around) scopes → Sits (record env { scopes = scopes; around = around; begun = begun })
 placed_sits scopes around begun env s chain near names = record {
   table = s.table;
@@ -40,7 +42,8 @@ placed_sits scopes around begun env s chain near names = record {
   names = names;
 }
 
-pub placed_later : (scopes : List Scope) (around : List ℕ) (begun : List Begun) (env next : Environment) → Later env next → Later env (record next { scopes = scopes; around = around; begun = begun })
+pub placed_later : (scopes : List Scope) (around : List ℕ) (begun : List Begun) (env next : Environment) → Later env next
+    → Later env (record next { scopes = scopes; around = around; begun = begun })
 placed_later scopes around begun env next l = record {
   more = l.more;
   types = l.types;
@@ -107,7 +110,8 @@ module _ (block : Block) (asks : Heading) (env : Environment) (s : Sits env) whe
   pub new_heading : heading_at (env.headings ++ asks ∷ []) (length env.blocks) ≡ asks
   new_heading = ap (heading_at (env.headings ++ asks ∷ [])) (sym s.as_many) ∙ get_or-append_seam env.headings asks [] no_heading
 
-  new_stands : BlockBegins env.types (length env.blocks) block asks → BlockStands env.types (env.blocks ++ block ∷ []) (env.headings ++ asks ∷ []) (length env.blocks)
+  new_stands : BlockBegins env.types (length env.blocks) block asks → BlockStands env.types (env.blocks ++ block ∷ []) (env.headings ++ asks ∷ [])
+      (length env.blocks)
   new_stands b = record {
     fits_kind = subst (λ x. KindFits x.kind (length env.blocks) x) (sym new_block) b.fits_kind;
     outermost = λ e. ap (λ x. x.up) new_block ∙ b.outermost e;
@@ -171,7 +175,8 @@ kind_same block_kind.Function n old new r e h = (h.0, ap is_some r ∙ h.1)
 kind_same block_kind.Branch n old new r e h = (h.0, e ∙ h.1)
 
 -- statements come behind those of a block
-pub more_change : (n : ℕ) (s : Acts) (env : Environment) → Sits env → n < length env.blocks → ActsFit env.types env.blocks (headings_of env.headings) n s → Changes n env (add_statements n s env)
+pub more_change : (n : ℕ) (s : Acts) (env : Environment) → Sits env → n < length env.blocks → ActsFit env.types env.blocks (headings_of env.headings) n s
+    → Changes n env (add_statements n s env)
 more_change n s env sits inside fits =
     let b : Block = block_at env.blocks n in
     let stands = sits.stand n inside in
@@ -194,7 +199,14 @@ pub record Closes (n : ℕ) (env next : Environment) : Type 0 where
   pub closed : Closed next.types next.blocks n
 
 needing : (n words : ℕ) (env : Environment) → BlockGrows (block_at env.blocks n) (record (block_at env.blocks n) { need = words })
-needing n words env = record { kind = refl; up = refl; result = refl; parameters = refl; more = []; variables = sym (append-nil (block_at env.blocks n).variables) }
+needing n words env = record {
+  kind = refl;
+  up = refl;
+  result = refl;
+  parameters = refl;
+  more = [];
+  variables = sym (append-nil (block_at env.blocks n).variables);
+}
 
 need_closes : (n line : ℕ) (env : Environment) → Sits env → n < length env.blocks → Gives (Closes n env) (with_need n line env)
 need_closes n line env s inside =
@@ -222,8 +234,10 @@ need_closes n line env s inside =
       };
     })
 
-pub block_closes : (n : ℕ) (s : Acts) (line : ℕ) (env : Environment) → Sits env → n < length env.blocks → ActsFit env.types env.blocks (headings_of env.headings) n s → Gives (Closes n env) (close_block n s line env)
+pub block_closes : (n : ℕ) (s : Acts) (line : ℕ) (env : Environment) → Sits env → n < length env.blocks → ActsFit env.types env.blocks
+    (headings_of env.headings) n s → Gives (Closes n env) (close_block n s line env)
 block_closes n s line env sits inside fits =
     let c : Changes n env (add_statements n s env) = more_change n s env sits inside fits in
-    weaker (Closes n (add_statements n s env)) (Closes n env) (close_block n s line env) (λ next k. record { changes = changes_then n env (add_statements n s env) next c k.changes; closed = k.closed })
+    weaker (Closes n (add_statements n s env)) (Closes n env) (close_block n s line env)
+    (λ next k. record { changes = changes_then n env (add_statements n s env) next c k.changes; closed = k.closed })
     (need_closes n line (add_statements n s env) c.sits (subst (λ m. n < m) (sym c.many) inside))

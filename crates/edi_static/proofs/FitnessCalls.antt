@@ -10,12 +10,14 @@ use Rattle.edi_tree.specs.Tree as text
 use Rattle.edi_unit.specs.Types.{int_type}
 use Rattle.edi_unit.specs.Tree as unit
 use Rattle.edi_unit.specs.Need.{block_at, slot_result, expression_type}
-use Rattle.edi_unit.specs.Fits.{Heading, heading, Formals, no_formal, value_then, variable_then, procedure_then, heading_formals, is_procedure, ExpressionFits, ArgumentsFit}
+use Rattle.edi_unit.specs.Fits.{Heading, heading, Formals, no_formal, value_then, variable_then, procedure_then, heading_formals, is_procedure}
+use Rattle.edi_unit.specs.Fits.{ExpressionFits, ArgumentsFit}
 use Rattle.edi_static.specs.declared.faults.StaticKind.TheVariants as kind
 use Rattle.edi_static.specs.Judged.{Judged, gives}
 use Rattle.edi_static.specs.Environment.{Environment, here, look_up, same_result, same_heading, same_formals, formals_count}
 use Rattle.edi_static.specs.Operators.{Typed}
-use Rattle.edi_static.specs.Fitting.{Called, Use, constructs, calls, halts, neither, use_of, is_function, takes_so_many, rest_of, variable_argument, is_variable_alone, name_alone, passed, invoked, as_variable, rooted_value}
+use Rattle.edi_static.specs.Fitting.{Called, Use, constructs, calls, halts, neither, use_of, is_function, takes_so_many, rest_of, variable_argument}
+use Rattle.edi_static.specs.Fitting.{is_variable_alone, name_alone, passed, invoked, as_variable, rooted_value}
 use Rattle.edi_static.specs.Expressions.{used_alone, alone, procedure_argument, argument}
 use Rattle.edi_static.proofs.Judging.{Gives, bind, behind, ruled}
 use Rattle.edi_static.proofs.Fitness.{headings_of, slot_of, EntitySits, Sits, TypedFits, CalledFits, UseFits}
@@ -92,7 +94,8 @@ none_fit env (value_then t fs) e = absurd (omega (arith, e))
 none_fit env (variable_then t fs) e = absurd (omega (arith, e))
 none_fit env (procedure_then h fs) e = absurd (omega (arith, e))
 
-pub invoked_fits : (env : Environment) (line : ℕ) (c : Called) (xs : unit.Arguments) → CalledFits env c → is_function c.asks ≡ true → ListFits env (heading_formals c.asks) xs
+pub invoked_fits : (env : Environment) (line : ℕ) (c : Called) (xs : unit.Arguments) → CalledFits env c → is_function c.asks ≡ true
+    → ListFits env (heading_formals c.asks) xs
     → TypedFits env (invoked line c xs)
 invoked_fits env line c xs k f h = record {
   has_type = ap (λ r. unwrap_or r int_type) k.result;
@@ -101,7 +104,8 @@ invoked_fits env line c xs k f h = record {
 
 -- ---- a name alone
 
-used_alone_fits : (env : Environment) → Sits env → (line : ℕ) (u : Use) (means : Entity) → UseFits env u → EntitySits env means → Gives (TypedFits env) (used_alone env line u means)
+used_alone_fits : (env : Environment) → Sits env → (line : ℕ) (u : Use) (means : Entity) → UseFits env u → EntitySits env means
+    → Gives (TypedFits env) (used_alone env line u means)
 used_alone_fits env s line (constructs of) means u h = empty_fits env line of u
 used_alone_fits env s line (calls c) means u h =
     ruled (TypedFits env) (is_function c.asks && takes_so_many c.asks 0) kind.Call line _ (λ e.
@@ -110,7 +114,8 @@ used_alone_fits env s line (calls c) means u h =
 used_alone_fits env s line halts means u h = tt
 used_alone_fits env s line neither (entity.Constant of n) u h = record { has_type = refl; fits = h }
 used_alone_fits env s line neither (entity.Variable b v of) u h =
-    bind (RootedFits env) (TypedFits env) (as_variable env line (entity.Variable b v of)) (λ r. gives (rooted_value r)) (as_variable_fits env s line (entity.Variable b v of) h) (λ r k. rooted_value_fits env r k)
+    bind (RootedFits env) (TypedFits env) (as_variable env line (entity.Variable b v of)) (λ r. gives (rooted_value r))
+    (as_variable_fits env s line (entity.Variable b v of) h) (λ r k. rooted_value_fits env r k)
 used_alone_fits env s line neither (entity.Types t) u h = tt
 used_alone_fits env s line neither (entity.Procedure b) u h = tt
 used_alone_fits env s line neither (entity.Formal b v shape) u h = tt
@@ -127,7 +132,8 @@ alone_fits env s name =
 abbrev pub ArgumentFits : Environment → Formals → unit.Argument → Type 0
 ArgumentFits env fs a = (xs : unit.Arguments) → ListFits env (rest_of fs) xs → ListFits env fs (unit.argument_then a xs)
 
-variable_argument_fits : (env : Environment) (line of : ℕ) (fs : Formals) (is_alone : Bool) (x : unit.Expression) (has : ℕ) → expression_type env.types env.blocks (here env) x ≡ has
+variable_argument_fits : (env : Environment) (line of : ℕ) (fs : Formals) (is_alone : Bool) (x : unit.Expression) (has : ℕ)
+    → expression_type env.types env.blocks (here env) x ≡ has
     → ExpressionFits env.types env.blocks (headings_of env.headings) (here env) x
     → Gives (ArgumentFits env (variable_then of fs)) (variable_argument line of is_alone x has)
 variable_argument_fits env line of fs true (unit.load p) has t f =
@@ -141,7 +147,8 @@ variable_argument_fits env line of fs true (unit.convert u x l) has t f = tt
 variable_argument_fits env line of fs true (unit.apply_of c xs l) has t f = tt
 variable_argument_fits env line of fs false x has t f = tt
 
-passed_fits : (env : Environment) (line : ℕ) (asked : Heading) (fs : Formals) (u : Use) → UseFits env u → Gives (ArgumentFits env (procedure_then asked fs)) (passed line asked u)
+passed_fits : (env : Environment) (line : ℕ) (asked : Heading) (fs : Formals) (u : Use) → UseFits env u → Gives (ArgumentFits env (procedure_then asked fs))
+    (passed line asked u)
 passed_fits env line asked fs (calls c) u =
     ruled (ArgumentFits env (procedure_then asked fs)) (same_heading c.asks asked) kind.Call line _
     (λ e xs rest. (u.asks ∙ same_heading_is c.asks asked e, u.callee, rest))
@@ -149,13 +156,15 @@ passed_fits env line asked fs (constructs of) u = tt
 passed_fits env line asked fs halts u = tt
 passed_fits env line asked fs neither u = tt
 
-procedure_argument_fits : (env : Environment) → Sits env → (line : ℕ) (asked : Heading) (fs : Formals) (o : Option Name) (judged : Judged Typed) → Gives (ArgumentFits env (procedure_then asked fs)) (procedure_argument env line asked o judged)
+procedure_argument_fits : (env : Environment) → Sits env → (line : ℕ) (asked : Heading) (fs : Formals) (o : Option Name) (judged : Judged Typed)
+    → Gives (ArgumentFits env (procedure_then asked fs)) (procedure_argument env line asked o judged)
 procedure_argument_fits env s line asked fs (Some name) judged =
     bind (EntitySits env) (ArgumentFits env (procedure_then asked fs)) (look_up env name) _ (look_up_sits env s name) (λ means h.
     passed_fits env line asked fs (use_of env means) (use_fits env s means h))
 procedure_argument_fits env s line asked fs None judged = behind (ArgumentFits env (procedure_then asked fs)) judged _ (λ _. tt)
 
-pub argument_fits : (env : Environment) → Sits env → (line : ℕ) (e : text.Expr) (judged : Judged Typed) (fs : Formals) → Gives (TypedFits env) judged → Gives (ArgumentFits env fs) (argument env line e judged fs)
+pub argument_fits : (env : Environment) → Sits env → (line : ℕ) (e : text.Expr) (judged : Judged Typed) (fs : Formals) → Gives (TypedFits env) judged
+    → Gives (ArgumentFits env fs) (argument env line e judged fs)
 argument_fits env s line e judged no_formal h = tt
 argument_fits env s line e judged (value_then of fs) h =
     bind (TypedFits env) (ArgumentFits env (value_then of fs)) judged _ h (λ v k.

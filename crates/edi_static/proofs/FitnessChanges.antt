@@ -1,5 +1,6 @@
 -- What the single changes of an environment keep.
-use Rattle.std.proofs.Common.{◌≡◌, ◌≢◌, ℕ, zero, suc, ◌+◌, ◌<◌, ◌≤◌, Bool, true, false, nat_lt, List, [], ◌∷◌, ◌++◌, length, get_or, set, map, All, take, drop, Some, None, IsTrue, refl, sym, ap, ◌∙◌, subst, arith, inl, inr, length-append}
+use Rattle.std.proofs.Common.{◌≡◌, ◌≢◌, ℕ, zero, suc, ◌+◌, ◌<◌, ◌≤◌, Bool, true, false, nat_lt, List, [], ◌∷◌, ◌++◌, length, get_or, set, map, All, take}
+use Rattle.std.proofs.Common.{drop, Some, None, IsTrue, refl, sym, ap, ◌∙◌, subst, arith, inl, inr, length-append}
 use Rattle.std.proofs.lemmas.Bool.{cases_eq}
 use Rattle.std.proofs.lemmas.List.{append-nil, length-set, get_or-set_same, get_or-set_other, take-append-le, get_or_past}
 use Rattle.std.proofs.Math.ListN.{get_or-append}
@@ -7,7 +8,8 @@ use Rattle.std.proofs.Math.Seq.{get_or-append_seam}
 use Rattle.edi_scope.specs.declared.entity.Entity.{Entity}
 use Rattle.edi_scope.specs.Scope.{Scope}
 use Rattle.edi_unit.specs.declared.units.Parameter.TheVariants as slot
-use Rattle.edi_unit.specs.Types.{Shape, int, char, bool, enumeration, record_of, array_of, set_of, shape_at, fields_of, named_types, is_ordinal_of, IsDeclarable}
+use Rattle.edi_unit.specs.Types.{Shape, int, char, bool, enumeration, record_of, array_of, set_of, shape_at, fields_of, named_types, is_ordinal_of}
+use Rattle.edi_unit.specs.Types.{IsDeclarable}
 use Rattle.edi_unit.specs.Tree.{Block}
 use Rattle.edi_unit.specs.Need.{no_block, block_at, slots}
 use Rattle.edi_unit.specs.Fits.{ShapeFits, ShapesFit, KindFits, ActsFit, SlotIsKnown, Heading}
@@ -84,7 +86,8 @@ set_sits n b env s h g kind known body =
       names = scopes_later env next s l env.around s.chain env.scopes s.names;
     }
   where
-    stand : (next : Environment) → Later env (set_block n b env) → (k : ℕ) → k < length (set env.blocks n b) → BlockStands env.types (set env.blocks n b) env.headings k
+    stand : (next : Environment) → Later env (set_block n b env) → (k : ℕ) → k < length (set env.blocks n b) → BlockStands env.types (set env.blocks n b)
+        env.headings k
     stand next l k i =
         let inside : k < length env.blocks = let same = length-set env.blocks n b in omega (arith, i, same) in
         elim (cases_eq k n) [
@@ -94,7 +97,8 @@ set_sits n b env s h g kind known body =
               stand_grown env (set_block n b env) s l n h
               (subst (λ x. KindFits x.kind n x) (sym at) kind)
               (subst (λ x. All (SlotIsKnown env.types) (slots x)) (sym at) known)
-              (subst (λ x. ActsFit env.types (set env.blocks n b) (headings_of env.headings) n x.body) (sym at) (acts_later env (set_block n b env) s l n h b.body body)))
+              (subst (λ x. ActsFit env.types (set env.blocks n b) (headings_of env.headings) n x.body) (sym at)
+              (acts_later env (set_block n b env) s l n h b.body body)))
           | inr other ↦ stand_later env (set_block n b env) s l k inside (get_or-set_other env.blocks n k b no_block other)
         ]
 
@@ -133,26 +137,30 @@ shapes_longer types s table all new fits t h =
           let before : t < length types = omega (arith, h, other, length-append types (s ∷ [])) in
           subst (ShapeFits (types ++ s ∷ [])) (sym (get_or-append types (s ∷ []) int t before))
           (shape_longer types (s ∷ []) (shape_at types t)
-          (λ k d i. let below = (table.declared t before).known k d i in let long = length-before types t before in omega (arith, below, long, before)) (all t before))
+          (λ k d i. let below = (table.declared t before).known k d i in let long = length-before types t before in
+          omega (arith, below, long, before)) (all t before))
     ]
 
 -- no more names than fields
 abbrev FieldsFit : List (List (List ℕ)) → List Shape → Type 0
 FieldsFit fields types = (t : ℕ) → length (get_or fields t []) ≤ length (fields_of (shape_at types t))
 
-fields_longer : (fields : List (List (List ℕ))) (types : List Shape) (names : List (List ℕ)) (s : Shape) → length fields ≡ length types → FieldsFit fields types → length names ≤ length (fields_of s) → FieldsFit (fields ++ names ∷ []) (types ++ s ∷ [])
+fields_longer : (fields : List (List (List ℕ))) (types : List Shape) (names : List (List ℕ)) (s : Shape) → length fields ≡ length types
+    → FieldsFit fields types → length names ≤ length (fields_of s) → FieldsFit (fields ++ names ∷ []) (types ++ s ∷ [])
 fields_longer fields types names s same all new t =
     elim (cases_eq t (length types)) [
       | inl e ↦
           subst (λ k. length (get_or (fields ++ names ∷ []) k []) ≤ length (fields_of (shape_at (types ++ s ∷ []) k))) (sym e)
-          (let left : get_or (fields ++ names ∷ []) (length types) [] ≡ names = ap (λ k. get_or (fields ++ names ∷ []) k []) (sym same) ∙ get_or-append_seam fields names [] [] in
+          (let left : get_or (fields ++ names ∷ []) (length types) [] ≡ names = ap (λ k. get_or (fields ++ names ∷ []) k []) (sym same)
+          ∙ get_or-append_seam fields names [] [] in
           let right : shape_at (types ++ s ∷ []) (length types) ≡ s = get_or-append_seam types s [] int in
           subst (λ n. length n ≤ length (fields_of (shape_at (types ++ s ∷ []) (length types)))) (sym left)
           (subst (λ x. length names ≤ length (fields_of x)) (sym right) new))
       | inr other ↦ elsewhere (nat_lt t (length types)) refl other
     ]
   where
-    elsewhere : (below : Bool) → nat_lt t (length types) ≡ below → t ≢ length types → length (get_or (fields ++ names ∷ []) t []) ≤ length (fields_of (shape_at (types ++ s ∷ []) t))
+    elsewhere : (below : Bool) → nat_lt t (length types) ≡ below → t ≢ length types → length (get_or (fields ++ names ∷ []) t []) ≤ length
+        (fields_of (shape_at (types ++ s ∷ []) t))
     elsewhere true e other =
         let before : t < length types = grind (arith, e) in
         subst (λ n. length n ≤ length (fields_of (shape_at (types ++ s ∷ []) t))) (sym (get_or-append fields (names ∷ []) [] t (omega (arith, before, same))))

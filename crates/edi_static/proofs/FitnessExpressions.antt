@@ -6,18 +6,22 @@ use Rattle.edi_tree.specs.Tree as text
 use Rattle.edi_unit.specs.Types.{bool_type, shape_at}
 use Rattle.edi_unit.specs.Tree as unit
 use Rattle.edi_unit.specs.Fits.{Formals, heading_formals}
-use Rattle.edi_static.specs.InRange.{ExprInRange, ComparisonInRange, ExprsInRange, SimpleInRange, AddendInRange, AddendsInRange, TermInRange, MultiplierInRange, MultipliersInRange, FactorInRange, ArgsInRange, VariableInRange, SelectorInRange, SelectorsInRange}
+use Rattle.edi_static.specs.InRange.{ExprInRange, ComparisonInRange, ExprsInRange, SimpleInRange, AddendInRange, AddendsInRange, TermInRange}
+use Rattle.edi_static.specs.InRange.{MultiplierInRange, MultipliersInRange, FactorInRange, ArgsInRange, VariableInRange, SelectorInRange, SelectorsInRange}
 use Rattle.edi_static.specs.declared.faults.StaticKind.TheVariants as kind
 use Rattle.edi_static.specs.Environment.{Environment, look_up, formals_count}
 use Rattle.edi_static.specs.Operators.{Typed, relation_operator, addition_operator, multiplication_operator, signed, operated}
 use Rattle.edi_static.specs.Fitting.{Use, constructs, calls, halts, neither, use_of, is_function, takes_so_many, rest_of, takes_strings}
-use Rattle.edi_static.specs.Expressions.{exprs_count, args_count, rooted, element, argument, expression, comparison, simple, addends, addend, term, multipliers, multiplier, factor, applied, more_elements, more_arguments, variable_value, variable_place, selectors, selector, all_arguments}
+use Rattle.edi_static.specs.Expressions.{exprs_count, args_count, rooted, element, argument, expression, comparison, simple, addends, addend, term}
+use Rattle.edi_static.specs.Expressions.{multipliers, multiplier, factor, applied, more_elements, more_arguments, variable_value, variable_place, selectors}
+use Rattle.edi_static.specs.Expressions.{selector, all_arguments}
 use Rattle.edi_static.proofs.Judging.{Gives, bind, ruled}
 use Rattle.edi_static.proofs.Fitness.{EntitySits, Sits, TypedFits, LocatedFits, UseFits}
 use Rattle.edi_static.proofs.FitnessNames.{look_up_sits}
 use Rattle.edi_static.proofs.FitnessOperators.{LinkedFits, ChainedFits, signed_fits, operated_fits, links_then, link_alone, with_links_fits}
 use Rattle.edi_static.proofs.FitnessMade.{TypedsFit, numeral_fits, single_fits, both_fit, element_fits, constructed_fits}
-use Rattle.edi_static.proofs.FitnessPlaces.{RootedFits, PartedFits, ReachedFits, rooted_fits, field_fits, element_of_fits, parts_then, located_fits, loaded_fits}
+use Rattle.edi_static.proofs.FitnessPlaces.{RootedFits, PartedFits, ReachedFits, rooted_fits, field_fits, element_of_fits, parts_then, located_fits}
+use Rattle.edi_static.proofs.FitnessPlaces.{loaded_fits}
 use Rattle.edi_static.proofs.FitnessCalls.{ListFits, ArgumentFits, use_fits, none_fit, invoked_fits, alone_fits, argument_fits, rest_count}
 
 mutual
@@ -25,11 +29,13 @@ mutual
   expression_fits env s (text.expr l c) h =
       bind (TypedFits env) (TypedFits env) (simple env l) _ (simple_fits env s l h.0) (λ left k. comparison_fits env s left c k h.1)
 
-  comparison_fits : (env : Environment) → Sits env → (left : Typed) (c : text.Comparison) → TypedFits env left → ComparisonInRange c → Gives (TypedFits env) (comparison env left c)
+  comparison_fits : (env : Environment) → Sits env → (left : Typed) (c : text.Comparison) → TypedFits env left → ComparisonInRange c
+      → Gives (TypedFits env) (comparison env left c)
   comparison_fits env s left text.no_comparison k h = k
   comparison_fits env s left (text.compared r line x) k h =
       bind (TypedFits env) (TypedFits env) (simple env x) _ (simple_fits env s x h) (λ right j.
-      bind (LinkedFits env left.of) (TypedFits env) (operated env.types (relation_operator r) line left.of right) _ (operated_fits env (relation_operator r) line left.of right j) (λ l i.
+      bind (LinkedFits env left.of) (TypedFits env) (operated env.types (relation_operator r) line left.of right) _
+      (operated_fits env (relation_operator r) line left.of right j) (λ l i.
       with_links_fits env left _ k (link_alone env left.of l i)))
 
   simple_fits : (env : Environment) → Sits env → (x : text.Simple) → SimpleInRange x → Gives (TypedFits env) (simple env x)
@@ -56,14 +62,16 @@ mutual
       bind (ChainedFits env first.of) (TypedFits env) (multipliers env first.of more) _ (multipliers_fit env s first.of more h.1) (λ links j.
       with_links_fits env first links k j))
 
-  multipliers_fit : (env : Environment) → Sits env → (left : ℕ) (more : text.Multipliers) → MultipliersInRange more → Gives (ChainedFits env left) (multipliers env left more)
+  multipliers_fit : (env : Environment) → Sits env → (left : ℕ) (more : text.Multipliers) → MultipliersInRange more → Gives (ChainedFits env left)
+      (multipliers env left more)
   multipliers_fit env s left text.no_multiplier h = record { has_type = refl; fits = tt }
   multipliers_fit env s left (text.next_multiplier m more) h =
       bind (LinkedFits env left) (ChainedFits env left) (multiplier env left m) _ (multiplier_fits env s left m h.0) (λ l k.
       bind (ChainedFits env l.of) (ChainedFits env left) (multipliers env l.of more) _ (multipliers_fit env s l.of more h.1) (λ ls j.
       links_then env left l ls k j))
 
-  multiplier_fits : (env : Environment) → Sits env → (left : ℕ) (m : text.Multiplier) → MultiplierInRange m → Gives (LinkedFits env left) (multiplier env left m)
+  multiplier_fits : (env : Environment) → Sits env → (left : ℕ) (m : text.Multiplier) → MultiplierInRange m
+      → Gives (LinkedFits env left) (multiplier env left m)
   multiplier_fits env s left (text.multiplier o line f) h =
       bind (TypedFits env) (LinkedFits env left) (factor env f) _ (factor_fits env s f h) (λ v k. operated_fits env (multiplication_operator o) line left v k)
 
@@ -79,7 +87,8 @@ mutual
       applied_fits env s name.line (use_of env means) xs (use_fits env s means k) h)
   factor_fits env s (text.variable_factor v) h = value_fits env s v h
 
-  applied_fits : (env : Environment) → Sits env → (line : ℕ) (u : Use) (xs : text.Args) → UseFits env u → ArgsInRange xs → Gives (TypedFits env) (applied env line u xs)
+  applied_fits : (env : Environment) → Sits env → (line : ℕ) (u : Use) (xs : text.Args) → UseFits env u → ArgsInRange xs
+      → Gives (TypedFits env) (applied env line u xs)
   applied_fits env s line (constructs of) (text.args e es) u h =
       bind (TypedsFit env) (TypedFits env) (element env (takes_strings (shape_at env.types of)) e (expression env e)) _
       (element_fits env s.table (takes_strings (shape_at env.types of)) e (expression env e) h.0 (expression_fits env s e h.0)) (λ vs k.
@@ -118,7 +127,8 @@ mutual
   value_fits env s (text.variable (root.Name name) text.no_selector) h = alone_fits env s name
   value_fits env s (text.variable (root.Name name) (text.next_selector x ss)) h =
       bind (RootedFits env) (TypedFits env) (rooted env (root.Name name)) _ (rooted_fits env s (root.Name name)) (λ r k.
-      bind (ReachedFits env r.of) (TypedFits env) (selectors env r.of (text.next_selector x ss)) _ (selectors_fit env s r.of (text.next_selector x ss) h) (λ steps j.
+      bind (ReachedFits env r.of) (TypedFits env) (selectors env r.of (text.next_selector x ss)) _ (selectors_fit env s r.of (text.next_selector x ss) h)
+      (λ steps j.
       loaded_fits env _ (located_fits env r steps k j)))
   value_fits env s (text.variable (root.Val name) ss) h =
       bind (RootedFits env) (TypedFits env) (rooted env (root.Val name)) _ (rooted_fits env s (root.Val name)) (λ r k.

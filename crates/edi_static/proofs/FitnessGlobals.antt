@@ -11,7 +11,8 @@ use Rattle.edi_unit.specs.Tree.{Block}
 use Rattle.edi_static.specs.declared.faults.StaticKind.TheVariants as kind
 use Rattle.edi_static.specs.Judged.{gives, ◌>>=◌, must}
 use Rattle.edi_static.specs.Environment.{Environment, type_named, declare}
-use Rattle.edi_static.specs.Types.{constant, const_decl, const_decls, const_list, most_constants, enum_constants, enum_decl, fields_of_groups, no_fields, declare_type, array_decl, set_decl, type_decl}
+use Rattle.edi_static.specs.Types.{constant, const_decl, const_decls, const_list, most_constants, enum_constants, enum_decl, fields_of_groups, no_fields}
+use Rattle.edi_static.specs.Types.{declare_type, array_decl, set_decl, type_decl}
 use Rattle.edi_static.specs.Programs.{global_decl, global_decls}
 use Rattle.edi_static.proofs.Judging.{Gives, bind, behind, choose, ruled}
 
@@ -45,7 +46,8 @@ module _ (P : List Block → Type 0) where
       behind Kept (must (nat_lt n most_constants) kind.Range name.line) (λ _. gives e) (λ _. k)))
       (λ e k. enum_keep m of (suc n) ns e k)
 
-  type_keep : (m : Bool) (name : Name) (shape : Shape) (fields : List (List ℕ)) (env : Environment) → Kept env → Gives Kept (declare_type m name shape fields env)
+  type_keep : (m : Bool) (name : Name) (shape : Shape) (fields : List (List ℕ)) (env : Environment) → Kept env
+      → Gives Kept (declare_type m name shape fields env)
   type_keep m name shape fields env h = behind Kept _ _ (λ _. bind Kept Kept _ _ (declare_keep m name _ env h) (λ e k. k))
 
   enum_decl_keep : (m : Bool) (name : Name) (ns : text.Names) (env : Environment) → Kept env → Gives Kept (enum_decl m name ns env)
@@ -54,7 +56,8 @@ module _ (P : List Block → Type 0) where
       (bind Kept Kept _ _ (declare_keep m name _ env h) (λ e k. enum_keep m _ 0 ns e k))
       (λ e k. k)
 
-  array_keep : (m : Bool) (name : Name) (lower upper : Constant) (element : Name) (env : Environment) → Kept env → Gives Kept (array_decl m name lower upper element env)
+  array_keep : (m : Bool) (name : Name) (lower upper : Constant) (element : Name) (env : Environment) → Kept env
+      → Gives Kept (array_decl m name lower upper element env)
   array_keep m name lower upper element env h =
       behind Kept (constant env lower) _ (λ lo.
       behind Kept (constant env upper) _ (λ hi.

@@ -1,5 +1,6 @@
 -- A heading opens one scope, in which its parameters are; nothing else changes but the headings of procedure parameters.
-use Rattle.std.proofs.Common.{◌≡◌, ℕ, zero, suc, ◌+◌, ◌<◌, ◌≤◌, Bool, true, false, List, [], ◌∷◌, ◌++◌, length, get_or, map, All, Option, Some, None, IsTrue, IsSome, IfSome, is_some, refl, sym, ap, ◌∙◌, subst, arith, append_assoc, length-append}
+use Rattle.std.proofs.Common.{◌≡◌, ℕ, zero, suc, ◌+◌, ◌<◌, ◌≤◌, Bool, true, false, List, [], ◌∷◌, ◌++◌, length, get_or, map, All, Option, Some, None, IsTrue}
+use Rattle.std.proofs.Common.{IsSome, IfSome, is_some, refl, sym, ap, ◌∙◌, subst, arith, append_assoc, length-append}
 use Rattle.std.specs.Prelude.{slice_get, option_to_list}
 use Rattle.std.proofs.lemmas.Bool.{false≢true}
 use Rattle.std.proofs.lemmas.List.{append-nil}
@@ -15,10 +16,13 @@ use Rattle.edi_unit.specs.declared.units.Parameter.{Parameter}
 use Rattle.edi_unit.specs.declared.units.Parameter.TheVariants as slot
 use Rattle.edi_unit.specs.Types.{Shape}
 use Rattle.edi_unit.specs.Need.{slot_type, slot_result}
-use Rattle.edi_unit.specs.Fits.{Heading, heading, heading_result, heading_formals, Formals, no_formal, value_then, variable_then, procedure_then, first_parameter, is_variable, is_procedure, SlotIsKnown}
+use Rattle.edi_unit.specs.Fits.{Heading, heading, heading_result, heading_formals, Formals, no_formal, value_then, variable_then, procedure_then}
+use Rattle.edi_unit.specs.Fits.{first_parameter, is_variable, is_procedure, SlotIsKnown}
 use Rattle.edi_static.specs.Judged.{Judged, gives, ◌>>=◌}
-use Rattle.edi_static.specs.Environment.{Environment, found, look_up, as_type, type_named, declare, enter, no_heading, heading_at, with_shape, formals_append, formals_count, parameters_of}
-use Rattle.edi_static.specs.Headings.{Listed, Headed, leave, before_parameters, formal_one, next_parameter, param_named, params_named, param_group, procedure_named, result_named, with_result, own_name, heading_parts, parameters, more_parameters, parameter}
+use Rattle.edi_static.specs.Environment.{Environment, found, look_up, as_type, type_named, declare, enter, no_heading, heading_at, with_shape}
+use Rattle.edi_static.specs.Environment.{formals_append, formals_count, parameters_of}
+use Rattle.edi_static.specs.Headings.{Listed, Headed, leave, before_parameters, formal_one, next_parameter, param_named, params_named, param_group}
+use Rattle.edi_static.specs.Headings.{procedure_named, result_named, with_result, own_name, heading_parts, parameters, more_parameters, parameter}
 use Rattle.edi_static.specs.Proper.{NamesFit, ScopesFit}
 use Rattle.edi_static.proofs.Judging.{Gives, bind, weaker}
 use Rattle.edi_static.proofs.Proper.{names_fit, visible_fits}
@@ -83,7 +87,8 @@ Given block before fs shapes (entity.Types t) = ⊥
 Given block before fs shapes (entity.Procedure b) = ⊥
 Given block before fs shapes entity.Halt = ⊥
 
-given_formals : (block before : ℕ) (fs gs : Formals) (shapes : List Heading) (e : Entity) → Given block before fs shapes e → Given block before (formals_append fs gs) shapes e
+given_formals : (block before : ℕ) (fs gs : Formals) (shapes : List Heading) (e : Entity) → Given block before fs shapes e
+    → Given block before (formals_append fs gs) shapes e
 given_formals block before fs gs shapes (entity.Variable b v of) h =
     let same : slice_get (parameters_of (formals_append fs gs)) h.place ≡ slice_get (parameters_of fs) h.place =
     ap (λ ps. slice_get ps h.place) (parameters_append fs gs) ∙ get_more (parameters_of fs) (parameters_of gs) h.place (some_variable _ h.variable) in
@@ -105,7 +110,8 @@ given_formals block before fs gs shapes (entity.Types t) h = h
 given_formals block before fs gs shapes (entity.Procedure b) h = h
 given_formals block before fs gs shapes entity.Halt h = h
 
-given_shapes : (block before : ℕ) (fs : Formals) (shapes more : List Heading) (e : Entity) → Given block before fs shapes e → Given block before fs (shapes ++ more) e
+given_shapes : (block before : ℕ) (fs : Formals) (shapes more : List Heading) (e : Entity) → Given block before fs shapes e
+    → Given block before fs (shapes ++ more) e
 given_shapes block before fs shapes more (entity.Variable b v of) h = h
 given_shapes block before fs shapes more (entity.Formal b v shape) h =
     let same : heading_at (shapes ++ more) shape ≡ heading_at shapes shape = get_or-append shapes more no_heading shape h.there in
@@ -188,14 +194,20 @@ pub record Heads (env : Environment) (block : ℕ) (h : Headed) : Type 0 where
   pub names : NamesFit (Given block (first_parameter (heading_result h.asks)) (heading_formals h.asks) (env.shapes ++ more)) scope.names
   pub known : All (SlotIsKnown env.types) (map slot.Value (option_to_list (heading_result h.asks)) ++ parameters_of (heading_formals h.asks))
 
-pub headed_known : (env : Environment) (block before : ℕ) (fs : Formals) (scope : Scope) (more : List Heading) → TypesKnown env → NamesFit (Given block before fs (env.shapes ++ more)) scope.names →
+pub headed_known : (env : Environment) (block before : ℕ) (fs : Formals) (scope : Scope) (more : List Heading) → TypesKnown env
+    → NamesFit (Given block before fs (env.shapes ++ more)) scope.names →
     TypesKnown (headed_env env scope more)
-headed_known env block before fs scope more known names =
-    (names_fit (Given block before fs (env.shapes ++ more)) (TypeKnown env.types) (given_type env.types block before fs (env.shapes ++ more)) scope.names names, known)
+headed_known env block before fs scope more known names = (
+  names_fit (Given block before fs (env.shapes ++ more)) (TypeKnown env.types) (given_type env.types block before fs (env.shapes ++ more)) scope.names
+      names,
+  known,
+)
 
-pub declare_is : (name : Name) (means : Entity) (env : Environment) → Gives (λ e. e ≡ record env { scopes = with_name name.text means env.scopes }) (declare false name means env)
+pub declare_is : (name : Name) (means : Entity) (env : Environment) → Gives (λ e. e ≡ record env { scopes = with_name name.text means env.scopes })
+    (declare false name means env)
 declare_is name means env =
-    new_gives (λ e. e ≡ record env { scopes = with_name name.text means env.scopes }) (is_some (declared env.scopes name.text)) false (is_some (declared (outside env.scopes) name.text)) _ _ _
+    new_gives (λ e. e ≡ record env { scopes = with_name name.text means env.scopes }) (is_some (declared env.scopes name.text)) false
+    (is_some (declared (outside env.scopes) name.text)) _ _ _
     (λ fresh outer. refl)
 
 -- a value or a `var` parameter
@@ -223,17 +235,24 @@ param_lists env block before of one name scope more fs names known is_one =
       scope = with_one name.text means scope;
       more = more;
       is = ap (λ e. record { env = e; formals = formals_append fs one }) is;
-      names = (new, names_fit (Given block before fs (env.shapes ++ more)) (Given block before (formals_append fs one) (env.shapes ++ more)) (given_formals block before fs one (env.shapes ++ more)) scope.names names);
-      known = subst (All (SlotIsKnown env.types)) (sym (parameters_append fs one)) (All-append (SlotIsKnown env.types) (parameters_of fs) (parameters_of one) known is_one.2);
+      names = (
+        new,
+        names_fit (Given block before fs (env.shapes ++ more)) (Given block before (formals_append fs one) (env.shapes ++ more))
+            (given_formals block before fs one (env.shapes ++ more)) scope.names names,
+      );
+      known = subst (All (SlotIsKnown env.types)) (sym (parameters_append fs one))
+          (All-append (SlotIsKnown env.types) (parameters_of fs) (parameters_of one) known is_one.2);
     })
 
 -- a step from a list that is told by its parts
 pub from : (env : Environment) (block before : ℕ) {A : Type 0} (Q : A → Type 0) (f : Listed → Judged A) (l : Listed) → Lists env block before l →
-    ((scope : Scope) (more : List Heading) (fs : Formals) → NamesFit (Given block before fs (env.shapes ++ more)) scope.names → FormalsKnown env.types fs → Gives Q (f (record { env = headed_env env scope more; formals = fs }))) →
+    ((scope : Scope) (more : List Heading) (fs : Formals) → NamesFit (Given block before fs (env.shapes ++ more)) scope.names → FormalsKnown env.types fs
+    → Gives Q (f (record { env = headed_env env scope more; formals = fs }))) →
     Gives Q (f l)
 from env block before Q f l h k = subst (λ x. Gives Q (f x)) (sym h.is) (k h.scope h.more l.formals h.names h.known)
 
-params_lists : (env : Environment) (block before of : ℕ) (one : Formals) (ns : text.Names) (l : Listed) → IsOne env.types one of → Lists env block before l → Gives (Lists env block before) (params_named block before of one ns l)
+params_lists : (env : Environment) (block before of : ℕ) (one : Formals) (ns : text.Names) (l : Listed) → IsOne env.types one of → Lists env block before l
+    → Gives (Lists env block before) (params_named block before of one ns l)
 params_lists env block before of one text.no_name l is_one h = h
 params_lists env block before of one (text.next_name name ns) l is_one h =
     bind (Lists env block before) (Lists env block before) _ _
@@ -254,7 +273,8 @@ one_known true types t h = (refl, refl, one)
     one zero d i = h
     one (suc k) d i = absurd (omega (arith, i))
 
-group_lists : (env : Environment) (block before : ℕ) (v : Bool) (g : text.Group) (l : Listed) → TypesKnown env → Lists env block before l → Gives (Lists env block before) (param_group block before v g l)
+group_lists : (env : Environment) (block before : ℕ) (v : Bool) (g : text.Group) (l : Listed) → TypesKnown env → Lists env block before l
+    → Gives (Lists env block before) (param_group block before v g l)
 group_lists env block before v (text.group first names of) l types h =
     bind (λ t. t < length env.types) (Lists env block before) (type_named l.env of) _
     (from env block before (λ t. t < length env.types) (λ l. type_named l.env of) l h
@@ -263,7 +283,9 @@ group_lists env block before v (text.group first names of) l types h =
 
 -- ---- a procedure parameter
 
-heading_known : (types : List Shape) (h : Heading) → All (SlotIsKnown types) (map slot.Value (option_to_list (heading_result h)) ++ parameters_of (heading_formals h)) → FormalsKnown types (procedure_then h no_formal)
+heading_known : (types : List Shape) (h : Heading)
+    → All (SlotIsKnown types) (map slot.Value (option_to_list (heading_result h)) ++ parameters_of (heading_formals h))
+    → FormalsKnown types (procedure_then h no_formal)
 heading_known types (heading fs None) all zero d i = tt
 heading_known types (heading fs (Some t)) all zero d i = all 0 (slot.Value t) (omega arith)
 heading_known types h all (suc k) d i = absurd (omega (arith, i))
@@ -302,11 +324,16 @@ named_lists env block before name scope inner more next fs asks names known inne
       more = all;
       is =
           ap (λ e. record { env = with_shape asks e; formals = formals_append fs one }) is
-          ∙ ap (λ ss. record { env = record env { scopes = with_one name.text means scope ∷ env.scopes; shapes = ss }; formals = formals_append fs one }) joined;
+          ∙ ap (λ ss. record { env = record env { scopes = with_one name.text means scope ∷ env.scopes; shapes = ss }; formals = formals_append fs one })
+          joined;
       names =
-          subst (λ ss. NamesFit (Given block before (formals_append fs one) ss) (with_one name.text means scope).names) joined
-          (new, names_fit (Given block before fs (env.shapes ++ more)) (Given block before (formals_append fs one) (shapes ++ asks ∷ [])) grown scope.names names);
-      known = subst (All (SlotIsKnown env.types)) (sym (parameters_append fs one)) (All-append (SlotIsKnown env.types) (parameters_of fs) (parameters_of one) known inner_known);
+          subst (λ ss. NamesFit (Given block before (formals_append fs one) ss) (with_one name.text means scope).names) joined (
+            new,
+            names_fit (Given block before fs (env.shapes ++ more)) (Given block before (formals_append fs one) (shapes ++ asks ∷ [])) grown scope.names
+                names,
+          );
+      known = subst (All (SlotIsKnown env.types)) (sym (parameters_append fs one))
+          (All-append (SlotIsKnown env.types) (parameters_of fs) (parameters_of one) known inner_known);
     })
 
 -- ---- the result
@@ -330,7 +357,8 @@ before_is None (Some t) h = absurd (false≢true (sym (ap is_some h)))
 before_is (Some name) None h = absurd (false≢true h)
 before_is (Some name) (Some t) h = refl
 
-with_function : (types : List Shape) (fs : Formals) (r : Option ℕ) → ResultKnown types r → FormalsKnown types fs → All (SlotIsKnown types) (map slot.Value (option_to_list r) ++ parameters_of fs)
+with_function : (types : List Shape) (fs : Formals) (r : Option ℕ) → ResultKnown types r → FormalsKnown types fs
+    → All (SlotIsKnown types) (map slot.Value (option_to_list r) ++ parameters_of fs)
 with_function types fs None h known = known
 with_function types fs (Some t) h known = one
   where
@@ -338,7 +366,8 @@ with_function types fs (Some t) h known = one
     one zero d i = h
     one (suc k) d i = known k d (omega (arith, i))
 
-result_fits : (env : Environment) (block : ℕ) (result : Option Name) (l : Listed) → TypesKnown env → Lists env block (before_parameters result) l → Gives (ResultFits env.types result) (result_named result l.env)
+result_fits : (env : Environment) (block : ℕ) (result : Option Name) (l : Listed) → TypesKnown env → Lists env block (before_parameters result) l
+    → Gives (ResultFits env.types result) (result_named result l.env)
 result_fits env block None l types h = (tt, refl)
 result_fits env block (Some name) l types h =
     bind (λ t. t < length env.types) (ResultFits env.types (Some name)) (type_named l.env name) _
@@ -346,7 +375,8 @@ result_fits env block (Some name) l types h =
     (λ scope more fs ns known. type_known (headed_env env scope more) (headed_known env block 1 fs scope more types ns) name))
     (λ t known. (known, refl))
 
-result_heads : (env : Environment) (block : ℕ) (result : Option Name) (l : Listed) → TypesKnown env → Lists env block (before_parameters result) l → Gives (Heads env block) (with_result result l)
+result_heads : (env : Environment) (block : ℕ) (result : Option Name) (l : Listed) → TypesKnown env → Lists env block (before_parameters result) l
+    → Gives (Heads env block) (with_result result l)
 result_heads env block result l types h =
     bind (ResultFits env.types result) (Heads env block) (result_named result l.env) (λ r. gives (record { env = l.env; asks = heading l.formals r }))
     (result_fits env block result l types h)
@@ -365,23 +395,29 @@ mutual
       (parameters_lists env block (before_parameters r) ps _ types (record {
         scope = record { is_module = false; names = [] };
         more = [];
-        is = ap (λ ss. record { env = record env { scopes = record { is_module = false; names = [] } ∷ env.scopes; shapes = ss }; formals = no_formal }) (sym (append-nil env.shapes));
+        is = ap (λ ss. record { env = record env { scopes = record { is_module = false; names = [] } ∷ env.scopes; shapes = ss }; formals = no_formal })
+            (sym (append-nil env.shapes));
         names = tt;
         known = λ k d i. absurd (omega (arith, i));
       }))
       (λ l k. result_heads env block r l types k)
 
-  parameters_lists : (env : Environment) (block before : ℕ) (ps : text.Params) (l : Listed) → TypesKnown env → Lists env block before l → Gives (Lists env block before) (parameters block before ps l)
+  parameters_lists : (env : Environment) (block before : ℕ) (ps : text.Params) (l : Listed) → TypesKnown env → Lists env block before l
+      → Gives (Lists env block before) (parameters block before ps l)
   parameters_lists env block before text.no_params l types h = h
   parameters_lists env block before (text.params p ps) l types h =
-      bind (Lists env block before) (Lists env block before) _ _ (parameter_lists env block before p l types h) (λ m k. more_lists env block before ps m types k)
+      bind (Lists env block before) (Lists env block before) _ _ (parameter_lists env block before p l types h)
+      (λ m k. more_lists env block before ps m types k)
 
-  more_lists : (env : Environment) (block before : ℕ) (ps : text.MoreParams) (l : Listed) → TypesKnown env → Lists env block before l → Gives (Lists env block before) (more_parameters block before ps l)
+  more_lists : (env : Environment) (block before : ℕ) (ps : text.MoreParams) (l : Listed) → TypesKnown env → Lists env block before l
+      → Gives (Lists env block before) (more_parameters block before ps l)
   more_lists env block before text.no_param l types h = h
   more_lists env block before (text.next_param p ps) l types h =
-      bind (Lists env block before) (Lists env block before) _ _ (parameter_lists env block before p l types h) (λ m k. more_lists env block before ps m types k)
+      bind (Lists env block before) (Lists env block before) _ _ (parameter_lists env block before p l types h)
+      (λ m k. more_lists env block before ps m types k)
 
-  pub parameter_lists : (env : Environment) (block before : ℕ) (p : text.Param) (l : Listed) → TypesKnown env → Lists env block before l → Gives (Lists env block before) (parameter block before p l)
+  pub parameter_lists : (env : Environment) (block before : ℕ) (p : text.Param) (l : Listed) → TypesKnown env → Lists env block before l
+      → Gives (Lists env block before) (parameter block before p l)
   parameter_lists env block before (text.value_param g) l types h = group_lists env block before false g l types h
   parameter_lists env block before (text.var_param g) l types h = group_lists env block before true g l types h
   parameter_lists env block before (text.procedure_param inner) l types h =

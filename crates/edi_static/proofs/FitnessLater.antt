@@ -1,5 +1,6 @@
 -- One environment behind another, and what still holds there.
-use Rattle.std.proofs.Common.{◌≡◌, ℕ, zero, suc, ◌+◌, ◌<◌, ◌≤◌, Bool, true, false, ◌||◌, ◌==◌, List, [], ◌∷◌, ◌++◌, length, get_or, map, All, Option, Some, None, IsTrue, IsSome, refl, sym, ap, ◌∙◌, subst, arith, inl, inr, append_assoc, length-append}
+use Rattle.std.proofs.Common.{◌≡◌, ℕ, zero, suc, ◌+◌, ◌<◌, ◌≤◌, Bool, true, false, ◌||◌, ◌==◌, List, [], ◌∷◌, ◌++◌, length, get_or, map, All, Option, Some}
+use Rattle.std.proofs.Common.{None, IsTrue, IsSome, refl, sym, ap, ◌∙◌, subst, arith, inl, inr, append_assoc, length-append}
 use Rattle.std.specs.Prelude.{slice_get, sum_by}
 use Rattle.std.proofs.lemmas.Bool.{false≢true, cases_eq, eqb-true}
 use Rattle.std.proofs.lemmas.List.{append-nil}
@@ -105,7 +106,8 @@ module _ (env next : Environment) (s : Sits env) (l : Later env next) where
   }
 
   -- what fits in a block fits there later
-  pub acts_later : (b : ℕ) → b < length env.blocks → (body : Acts) → ActsFit env.types env.blocks (headings_of env.headings) b body → ActsFit next.types next.blocks (headings_of next.headings) b body
+  pub acts_later : (b : ℕ) → b < length env.blocks → (body : Acts) → ActsFit env.types env.blocks (headings_of env.headings) b body
+      → ActsFit next.types next.blocks (headings_of next.headings) b body
   acts_later b h body fits =
       subst (λ ts. ActsFit ts next.blocks (headings_of next.headings) b body) (sym l.types)
       (acts_same env.types l.more env.blocks next.blocks (headings_of env.headings) (headings_of next.headings) b (steady b h) body fits).fits
@@ -142,7 +144,8 @@ module _ (env next : Environment) (s : Sits env) (l : Later env next) where
       (subst (λ b. ActsFit next.types next.blocks (headings_of next.headings) n b.body) (sym same) (acts_later n h (block_at env.blocks n).body old.statements))
 
   -- its need is the same
-  pub need_later : (n : ℕ) → n < length env.blocks → slots (block_at next.blocks n) ≡ slots (block_at env.blocks n) → (block_at next.blocks n).body ≡ (block_at env.blocks n).body → need next.types next.blocks n ≡ need env.types env.blocks n
+  pub need_later : (n : ℕ) → n < length env.blocks → slots (block_at next.blocks n) ≡ slots (block_at env.blocks n) → (block_at next.blocks n).body
+      ≡ (block_at env.blocks n).body → need next.types next.blocks n ≡ need env.types env.blocks n
   need_later n h same body =
       let old = s.stand n h in
       let steady = steady n h in
@@ -150,9 +153,11 @@ module _ (env next : Environment) (s : Sits env) (l : Later env next) where
       ∙ ap (λ b. 5 + sum_by (slot_words (env.types ++ l.more)) (slots (block_at next.blocks n)) + acts_height (env.types ++ l.more) next.blocks n b) body
       ∙ ap (λ ps. 5 + sum_by (slot_words (env.types ++ l.more)) ps + acts_height (env.types ++ l.more) next.blocks n (block_at env.blocks n).body) same
       ∙ ap (λ k. 5 + k + acts_height (env.types ++ l.more) next.blocks n (block_at env.blocks n).body)
-      (words_same env.types l.more env.blocks next.blocks (headings_of env.headings) (headings_of next.headings) n steady (slots (block_at env.blocks n)) old.known)
+      (words_same env.types l.more env.blocks next.blocks (headings_of env.headings) (headings_of next.headings) n steady (slots (block_at env.blocks n))
+      old.known)
       ∙ ap (λ k. 5 + sum_by (slot_words env.types) (slots (block_at env.blocks n)) + k)
-      (acts_same env.types l.more env.blocks next.blocks (headings_of env.headings) (headings_of next.headings) n steady (block_at env.blocks n).body old.statements).height
+      (acts_same env.types l.more env.blocks next.blocks (headings_of env.headings) (headings_of next.headings) n steady (block_at env.blocks n).body
+      old.statements).height
 
   -- ---- names
 
@@ -162,7 +167,8 @@ module _ (env next : Environment) (s : Sits env) (l : Later env next) where
       let longer = l.longer in
       (omega (arith, c.0, longer), in_later b around (l.each b c.0).up c.1, chain_later around c.2)
     where
-      in_later : (b : ℕ) (around : List ℕ) → (block_at next.blocks b).up ≡ (block_at env.blocks b).up → StandsIn env.blocks b around → StandsIn next.blocks b around
+      in_later : (b : ℕ) (around : List ℕ) → (block_at next.blocks b).up ≡ (block_at env.blocks b).up → StandsIn env.blocks b around
+          → StandsIn next.blocks b around
       in_later b [] e h = tt
       in_later b (a ∷ around) e h = e ∙ h
 
@@ -198,6 +204,8 @@ module _ (env next : Environment) (s : Sits env) (l : Later env next) where
   names_later around c entity.Halt h = tt
 
   pub scopes_later : (around : List ℕ) → IsChain env.blocks around → (scopes : List Scope) →
-      ScopesFit (Names env.types env.blocks env.headings env.shapes around) scopes → ScopesFit (Names next.types next.blocks next.headings next.shapes around) scopes
+      ScopesFit (Names env.types env.blocks env.headings env.shapes around) scopes → ScopesFit (Names next.types next.blocks next.headings next.shapes around)
+      scopes
   scopes_later around c scopes h =
-      scopes_fit (Names env.types env.blocks env.headings env.shapes around) (Names next.types next.blocks next.headings next.shapes around) (names_later around c) scopes h
+      scopes_fit (Names env.types env.blocks env.headings env.shapes around) (Names next.types next.blocks next.headings next.shapes around)
+      (names_later around c) scopes h

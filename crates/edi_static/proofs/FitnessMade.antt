@@ -1,11 +1,13 @@
 -- What the rules on constants and constructors give fits.
-use Rattle.std.proofs.Common.{◌≡◌, ℕ, ℤ, pos, ◌<◌, Bool, true, false, ◌==◌, List, [], ◌∷◌, ◌++◌, length, map, replicate, Option, Some, None, IsTrue, refl, sym, ap, subst, ◌∙◌, arith}
+use Rattle.std.proofs.Common.{◌≡◌, ℕ, ℤ, pos, ◌<◌, Bool, true, false, ◌==◌, List, [], ◌∷◌, ◌++◌, length, map, replicate, Option, Some, None, IsTrue, refl}
+use Rattle.std.proofs.Common.{sym, ap, subst, ◌∙◌, arith}
 use Rattle.std.proofs.lemmas.Bool.{eqb-true, and_parts}
 use Rattle.std.proofs.lemmas.List.{get_or-take}
 use Rattle.std.specs.List.{list_all}
 use Rattle.std.specs.Prelude.{IfSome}
 use Rattle.edi_tree.specs.Tree as text
-use Rattle.edi_unit.specs.Types.{Shape, int, char, bool, enumeration, record_of, array_of, set_of, int_type, shape_at, standard_types, is_elementary, is_elementary_shape, is_set_shape, is_ordinal_of, element_count}
+use Rattle.edi_unit.specs.Types.{Shape, int, char, bool, enumeration, record_of, array_of, set_of, int_type, shape_at, standard_types, is_elementary}
+use Rattle.edi_unit.specs.Types.{is_elementary_shape, is_set_shape, is_ordinal_of, element_count}
 use Rattle.edi_unit.specs.Tree as unit
 use Rattle.edi_unit.specs.Fits.{HaveTypes, AllHaveType, MakesValue, ExpressionsFit}
 use Rattle.edi_static.specs.InRange.{AreCharacters, ExprInRange, FactorInRange}
@@ -13,7 +15,8 @@ use Rattle.edi_static.specs.declared.faults.StaticKind.TheVariants as kind
 use Rattle.edi_static.specs.Judged.{Judged}
 use Rattle.edi_static.specs.Environment.{Environment, here}
 use Rattle.edi_static.specs.Operators.{Typed}
-use Rattle.edi_static.specs.Fitting.{only_factor, string_of_factor, string_alone, character, single, empty_set, same_types, is_one_ordinal, takes_parts, expressions_of, made, constructed}
+use Rattle.edi_static.specs.Fitting.{only_factor, string_of_factor, string_alone, character, single, empty_set, same_types, is_one_ordinal, takes_parts}
+use Rattle.edi_static.specs.Fitting.{expressions_of, made, constructed}
 use Rattle.edi_static.specs.Expressions.{taken, element}
 use Rattle.edi_static.proofs.Judging.{Gives, bind, ruled}
 use Rattle.edi_static.proofs.Fitness.{headings_of, IsTable, TypedFits}
@@ -24,7 +27,8 @@ use Rattle.edi_static.proofs.FitnessOperators.{never}
 pub standard_shape : (types : List Shape) → IsTable types → (t : ℕ) → t < 3 → shape_at types t ≡ shape_at standard_types t
 standard_shape types table t lt = sym (get_or-take 3 types t int lt) ∙ ap (λ ts. shape_at ts t) table.standard
 
-pub numeral_fits : (env : Environment) → IsTable env.types → (n : ℤ) → IsTrue (is_ordinal_of int n) → TypedFits env (record { what = unit.constant int_type n; of = int_type })
+pub numeral_fits : (env : Environment) → IsTable env.types → (n : ℤ) → IsTrue (is_ordinal_of int n)
+    → TypedFits env (record { what = unit.constant int_type n; of = int_type })
 numeral_fits env table n h = record {
   has_type = refl;
   fits =
@@ -74,18 +78,21 @@ string_in_range (Some (text.parenthesized e)) h = tt
 string_in_range (Some (text.call_factor name xs)) h = tt
 string_in_range (Some (text.variable_factor v)) h = tt
 
-taken_fits : (env : Environment) → IsTable env.types → (strings : Bool) (o : Option (List ℕ)) (judged : Judged Typed) → IfSome o AreCharacters → Gives (TypedFits env) judged → Gives (TypedsFit env) (taken env strings o judged)
+taken_fits : (env : Environment) → IsTable env.types → (strings : Bool) (o : Option (List ℕ)) (judged : Judged Typed) → IfSome o AreCharacters
+    → Gives (TypedFits env) judged → Gives (TypedsFit env) (taken env strings o judged)
 taken_fits env table true (Some cs) judged h k = characters_fit env table cs h
 taken_fits env table true None judged h k = bind (TypedFits env) (TypedsFit env) judged _ k (λ v j. (j, tt))
 taken_fits env table false o judged h k = bind (TypedFits env) (TypedsFit env) judged _ k (λ v j. (j, tt))
 
-pub element_fits : (env : Environment) → IsTable env.types → (strings : Bool) (e : text.Expr) (judged : Judged Typed) → ExprInRange e → Gives (TypedFits env) judged → Gives (TypedsFit env) (element env strings e judged)
+pub element_fits : (env : Environment) → IsTable env.types → (strings : Bool) (e : text.Expr) (judged : Judged Typed) → ExprInRange e
+    → Gives (TypedFits env) judged → Gives (TypedsFit env) (element env strings e judged)
 element_fits env table strings e judged h k =
     taken_fits env table strings (string_alone e) judged (string_in_range (only_factor e) (only_in_range e h)) k
 
 -- ---- constructors
 
-expressions_fit : (env : Environment) (vs : List Typed) → TypedsFit env vs → ExpressionsFit env.types env.blocks (headings_of env.headings) (here env) (expressions_of vs)
+expressions_fit : (env : Environment) (vs : List Typed) → TypedsFit env vs → ExpressionsFit env.types env.blocks (headings_of env.headings) (here env)
+    (expressions_of vs)
 expressions_fit env [] h = tt
 expressions_fit env (v ∷ vs) h = (h.0.fits, expressions_fit env vs h.1)
 
@@ -150,12 +157,14 @@ made_fits env of vs line (set_of b) is lt h e =
     composed env of vs line lt h
     (subst (λ shape. MakesValue env.types env.blocks (headings_of env.headings) (here env) shape (expressions_of vs)) (sym is) (all_have env b vs h e))
 
-pub constructed_fits : (env : Environment) (line of : ℕ) (vs : List Typed) → of < length env.types → TypedsFit env vs → Gives (TypedFits env) (constructed env line of vs)
+pub constructed_fits : (env : Environment) (line of : ℕ) (vs : List Typed) → of < length env.types → TypedsFit env vs
+    → Gives (TypedFits env) (constructed env line of vs)
 constructed_fits env line of vs lt h =
     ruled (TypedFits env) (takes_parts env.types (shape_at env.types of) (map (λ v. v.of) vs)) kind.Constructor line _
     (λ e. made_fits env of vs line (shape_at env.types of) refl lt h e)
 
-none_made : (env : Environment) (shape : Shape) → is_set_shape shape ≡ true → MakesValue env.types env.blocks (headings_of env.headings) (here env) shape unit.no_expression
+none_made : (env : Environment) (shape : Shape) → is_set_shape shape ≡ true → MakesValue env.types env.blocks (headings_of env.headings) (here env) shape
+    unit.no_expression
 none_made env (set_of b) e = tt
 none_made env int e = never e
 none_made env char e = never e

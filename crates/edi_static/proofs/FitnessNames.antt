@@ -1,5 +1,6 @@
 -- What names mean at a place, and the blocks round it.
-use Rattle.std.proofs.Common.{◌≡◌, ℕ, suc, ◌+◌, ◌<◌, Bool, true, false, ◌||◌, ◌==◌, if◌then◌else◌, List, [], ◌∷◌, length, Option, Some, None, IsTrue, IfSome, refl, ap, ◌∙◌, arith}
+use Rattle.std.proofs.Common.{◌≡◌, ℕ, suc, ◌+◌, ◌<◌, Bool, true, false, ◌||◌, ◌==◌, if◌then◌else◌, List, [], ◌∷◌, length, Option, Some, None, IsTrue, IfSome}
+use Rattle.std.proofs.Common.{refl, ap, ◌∙◌, arith}
 use Rattle.std.proofs.lemmas.Bool.{eqb-true, false≢true}
 use Rattle.std.specs.Prelude.{slice_index_or}
 use Rattle.edi_scope.specs.declared.entity.Entity.{Entity}
@@ -7,7 +8,8 @@ use Rattle.edi_scope.specs.Scope.{visible}
 use Rattle.edi_tree.specs.declared.names.Name.{Name}
 use Rattle.edi_unit.specs.Tree.{Block}
 use Rattle.edi_unit.specs.Need.{block_at, outer}
-use Rattle.edi_unit.specs.Fits.{Heading, heading, Formals, no_formal, value_then, variable_then, procedure_then, heading_result, heading_formals, formals_from, first_parameter, block_heading}
+use Rattle.edi_unit.specs.Fits.{Heading, heading, Formals, no_formal, value_then, variable_then, procedure_then, heading_result, heading_formals}
+use Rattle.edi_unit.specs.Fits.{formals_from, first_parameter, block_heading}
 use Rattle.edi_static.specs.Environment.{Environment, found, look_up, steps_to, heading_at, parameters_of}
 use Rattle.edi_static.proofs.Judging.{Gives}
 use Rattle.edi_static.proofs.Proper.{visible_fits}
@@ -66,13 +68,16 @@ formals_are of n (procedure_then g fs) h =
     ap (λ asks. procedure_then asks (formals_from of (suc n) (parameters_of fs))) (ap of e ∙ h 0)
     ∙ ap (procedure_then g) (formals_are of (suc n) fs (further of (asked_at (procedure_then g fs)) n h))
 
-heading_again : (h : Heading) → heading (formals_from (variable_heading h) (first_parameter (heading_result h)) (parameters_of (heading_formals h))) (heading_result h) ≡ h
+heading_again : (h : Heading) → heading (formals_from (variable_heading h) (first_parameter (heading_result h)) (parameters_of (heading_formals h)))
+    (heading_result h) ≡ h
 heading_again (heading fs r) =
     ap (λ gs. heading gs r) (formals_are (variable_heading (heading fs r)) (first_parameter r) fs (numbered (heading fs r)))
 
-pub heading_is : (env : Environment) → Sits env → (n : ℕ) → n < length env.blocks → block_heading (headings_of env.headings) env.blocks n ≡ heading_at env.headings n
+pub heading_is : (env : Environment) → Sits env → (n : ℕ) → n < length env.blocks → block_heading (headings_of env.headings) env.blocks n ≡ heading_at
+    env.headings n
 heading_is env s n lt =
     let stands = s.stand n lt in
     ap (λ r. heading (formals_from (headings_of env.headings n) (first_parameter r) (block_at env.blocks n).parameters) r) stands.result
-    ∙ ap (λ ps. heading (formals_from (headings_of env.headings n) (first_parameter (heading_result (heading_at env.headings n))) ps) (heading_result (heading_at env.headings n))) stands.parameters
+    ∙ ap (λ ps. heading (formals_from (headings_of env.headings n) (first_parameter (heading_result (heading_at env.headings n))) ps)
+    (heading_result (heading_at env.headings n))) stands.parameters
     ∙ heading_again (heading_at env.headings n)

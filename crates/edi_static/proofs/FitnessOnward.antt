@@ -1,5 +1,6 @@
 -- What declarations keep, from one place of a block to a later one.
-use Rattle.std.proofs.Common.{◌≡◌, ℕ, zero, suc, ◌<◌, ◌≤◌, Bool, true, false, cond, ◌||◌, ◌&&◌, ◌==◌, if◌then◌else◌, List, [], ◌∷◌, length, get_or, set, inl, inr, Option, Some, None, IsTrue, is_some, All, refl, sym, ap, ◌∙◌, subst, arith}
+use Rattle.std.proofs.Common.{◌≡◌, ℕ, zero, suc, ◌<◌, ◌≤◌, Bool, true, false, cond, ◌||◌, ◌&&◌, ◌==◌, if◌then◌else◌, List, [], ◌∷◌, length, get_or, set, inl}
+use Rattle.std.proofs.Common.{inr, Option, Some, None, IsTrue, is_some, All, refl, sym, ap, ◌∙◌, subst, arith}
 use Rattle.std.specs.Str.{bytes_eq}
 use Rattle.std.specs.List.{list_any}
 use Rattle.std.proofs.lemmas.Bool.{false≢true, cases_eq}
@@ -40,7 +41,8 @@ is_open further env n = further n || (is_round n env.around || is_begun n env.be
 abbrev pub Tidy : (ℕ → Bool) → Environment → Type 0
 Tidy some env = (n : ℕ) → n < length env.blocks → some n ≡ false → Closed env.types env.blocks n
 
-pub closed_later : (env next : Environment) → Sits env → Later env next → (n : ℕ) → n < length env.blocks → block_at next.blocks n ≡ block_at env.blocks n → Closed env.types env.blocks n → Closed next.types next.blocks n
+pub closed_later : (env next : Environment) → Sits env → Later env next → (n : ℕ) → n < length env.blocks → block_at next.blocks n ≡ block_at env.blocks n
+    → Closed env.types env.blocks n → Closed next.types next.blocks n
 closed_later env next s l n h same c = record {
   needs = ap (λ b. b.need) same ∙ c.needs ∙ sym (need_later env next s l n h (ap slots same) (ap (λ b. b.body) same));
   small = subst (λ b. b.need ≤ greatest_size) (sym same) c.small;
@@ -58,7 +60,8 @@ pub record BegunFits (scopes : List Scope) (blocks : List Block) (here : ℕ) (b
 abbrev pub AllBegun : Environment → Type 0
 AllBegun env = All (BegunFits env.scopes env.blocks (here env)) env.begun
 
-pub begun_later : (env next : Environment) → Later env next → next.around ≡ env.around → ((name : List ℕ) (e : Entity) → declared env.scopes name ≡ Some e → declared next.scopes name ≡ Some e) →
+pub begun_later : (env next : Environment) → Later env next → next.around ≡ env.around
+    → ((name : List ℕ) (e : Entity) → declared env.scopes name ≡ Some e → declared next.scopes name ≡ Some e) →
     (begun : List Begun) → All (BegunFits env.scopes env.blocks (here env)) begun → All (BegunFits next.scopes next.blocks (here next)) begun
 begun_later env next l around kept begun all i d h =
     let b = all i d h in
@@ -132,7 +135,8 @@ onward_any marked a b g = record {
 -- ---- a name is declared
 
 -- behind the test that a name is new
-pub new_gives : {A : Type 0} (P : A → Type 0) (a m b : Bool) (why : StaticKind) (line : ℕ) (x : A) → (a ≡ false → (m ≡ true → b ≡ false) → P x) → Gives P (if a || (m && b) then faults why line else gives x)
+pub new_gives : {A : Type 0} (P : A → Type 0) (a m b : Bool) (why : StaticKind) (line : ℕ) (x : A) → (a ≡ false → (m ≡ true → b ≡ false) → P x)
+    → Gives P (if a || (m && b) then faults why line else gives x)
 new_gives P true m b why line x h = tt
 new_gives P false true true why line x h = tt
 new_gives P false true false why line x h = h refl (λ e. refl)
@@ -150,7 +154,8 @@ exported_fits P name e (scope ∷ outer) p h = (h.0, with_name_fits P name e out
 abbrev pub scopes_with : Bool → List ℕ → Entity → List Scope → List Scope
 scopes_with marked name e scopes = if marked then exported name e (with_name name e scopes) else with_name name e scopes
 
-scopes_with_fit : (marked : Bool) (P : Entity → Type 0) (name : List ℕ) (e : Entity) (scopes : List Scope) → P e → ScopesFit P scopes → ScopesFit P (scopes_with marked name e scopes)
+scopes_with_fit : (marked : Bool) (P : Entity → Type 0) (name : List ℕ) (e : Entity) (scopes : List Scope) → P e → ScopesFit P scopes
+    → ScopesFit P (scopes_with marked name e scopes)
 scopes_with_fit true P name e scopes p h = exported_fits P name e (with_name name e scopes) p (with_name_fits P name e scopes p h)
 scopes_with_fit false P name e scopes p h = with_name_fits P name e scopes p h
 
@@ -170,12 +175,14 @@ pub with_name_keeps : (name : List ℕ) (new : Entity) (scopes : List Scope) →
 with_name_keeps name new [] fresh x e k = k
 with_name_keeps name new (scope ∷ outer) fresh x e k = one_more (bytes_eq x name) x name scope.names e new refl fresh k
 
-outer_with : (marked : Bool) (name : List ℕ) (new : Entity) (scopes : List Scope) → marked ≡ false → outside (scopes_with marked name new scopes) ≡ outside scopes
+outer_with : (marked : Bool) (name : List ℕ) (new : Entity) (scopes : List Scope) → marked ≡ false → outside (scopes_with marked name new scopes) ≡ outside
+    scopes
 outer_with true name new scopes e = absurd (false≢true (sym e))
 outer_with false name new [] e = refl
 outer_with false name new (scope ∷ outer) e = refl
 
-farther_with : (marked : Bool) (name : List ℕ) (new : Entity) (scopes : List Scope) → outside (outside (scopes_with marked name new scopes)) ≡ outside (outside scopes)
+farther_with : (marked : Bool) (name : List ℕ) (new : Entity) (scopes : List Scope) → outside (outside (scopes_with marked name new scopes)) ≡ outside
+    (outside scopes)
 farther_with true name new [] = refl
 farther_with true name new (scope ∷ []) = refl
 farther_with true name new (scope ∷ (next ∷ outer)) = refl
@@ -208,17 +215,21 @@ same_length true name new scopes = exported_length name new (with_name name new 
 same_length false name new scopes = with_name_length name new scopes
 
 -- the name means it there
-means_with : (marked : Bool) (name : List ℕ) (new : Entity) (scopes : List Scope) → 0 < length scopes → declared (scopes_with marked name new scopes) name ≡ Some new
+means_with : (marked : Bool) (name : List ℕ) (new : Entity) (scopes : List Scope) → 0 < length scopes → declared (scopes_with marked name new scopes) name
+    ≡ Some new
 means_with marked name new [] h = absurd (omega (arith, h))
 means_with true name new (scope ∷ outer) h = ap (λ b. cond b (Some new) (meaning scope.names name)) ((bytes_eq-Decides name name).1 refl)
 means_with false name new (scope ∷ outer) h = ap (λ b. cond b (Some new) (meaning scope.names name)) ((bytes_eq-Decides name name).1 refl)
 
-pub declare_means : (marked : Bool) (name : Name) (means : Entity) (env : Environment) → 0 < length env.scopes → Gives (λ e. (declared e.scopes name.text ≡ Some means) × (e.begun ≡ env.begun)) (declare marked name means env)
+pub declare_means : (marked : Bool) (name : Name) (means : Entity) (env : Environment) → 0 < length env.scopes
+    → Gives (λ e. (declared e.scopes name.text ≡ Some means) × (e.begun ≡ env.begun)) (declare marked name means env)
 declare_means marked name means env h =
-    new_gives (λ e. (declared e.scopes name.text ≡ Some means) × (e.begun ≡ env.begun)) (is_some (declared env.scopes name.text)) marked (is_some (declared (outside env.scopes) name.text)) _ _ _
+    new_gives (λ e. (declared e.scopes name.text ≡ Some means) × (e.begun ≡ env.begun)) (is_some (declared env.scopes name.text)) marked
+    (is_some (declared (outside env.scopes) name.text)) _ _ _
     (λ fresh outer. (means_with marked name.text means env.scopes h, refl))
 
-pub declare_onward : (marked : Bool) (name : Name) (means : Entity) (env : Environment) → Sits env → EntitySits env means → Gives (Onward marked env) (declare marked name means env)
+pub declare_onward : (marked : Bool) (name : Name) (means : Entity) (env : Environment) → Sits env → EntitySits env means
+    → Gives (Onward marked env) (declare marked name means env)
 declare_onward marked name means env s h =
     new_gives (Onward marked env) (is_some (declared env.scopes name.text)) marked (is_some (declared (outside env.scopes) name.text)) _ _ _
     (λ fresh fresh_outside.
@@ -240,7 +251,8 @@ declare_onward marked name means env s h =
 
 -- ---- a type more, and a block that is changed
 
-pub type_onward : (marked : Bool) (shape : Shape) (names : List (List ℕ)) (env : Environment) → Sits env → IsDeclarable env.types shape → ShapeFits env.types shape →
+pub type_onward : (marked : Bool) (shape : Shape) (names : List (List ℕ)) (env : Environment) → Sits env → IsDeclarable env.types shape
+    → ShapeFits env.types shape →
     length names ≤ length (fields_of shape) → Onward marked env (with_type shape names env)
 type_onward marked shape names env s new fits fields = record {
   sits = type_sits shape names env s new fits fields;
@@ -261,8 +273,10 @@ opened true n r b e h = false≢true (sym h)
 opened false n true b e h = false≢true (sym h)
 opened false n false b e h = false≢true e
 
-pub set_onward : (marked : Bool) (at : ℕ) (b : Block) (env : Environment) → Sits env → at < length env.blocks → IsTrue (is_round at env.around) → BlockGrows (block_at env.blocks at) b →
-    KindFits b.kind at b → All (SlotIsKnown env.types) (slots b) → ActsFit env.types env.blocks (headings_of env.headings) at b.body → Onward marked env (set_block at b env)
+pub set_onward : (marked : Bool) (at : ℕ) (b : Block) (env : Environment) → Sits env → at < length env.blocks → IsTrue (is_round at env.around)
+    → BlockGrows (block_at env.blocks at) b →
+    KindFits b.kind at b → All (SlotIsKnown env.types) (slots b) → ActsFit env.types env.blocks (headings_of env.headings) at b.body
+    → Onward marked env (set_block at b env)
 set_onward marked at b env s inside round g kind known body =
     let l : Later env (set_block at b env) = set_later at b env inside g in
     record {

@@ -11,7 +11,8 @@ use Rattle.edi_unit.specs.Need.{links_type}
 use Rattle.edi_unit.specs.Fits.{OperatorFits, LinksFit}
 use Rattle.edi_static.specs.declared.faults.StaticKind.TheVariants as kind
 use Rattle.edi_static.specs.Environment.{Environment, here}
-use Rattle.edi_static.specs.Operators.{Typed, Linked, Chained, is_set_of, are_ints_or_sets, are_both, are_ordered, takes, signed, operated, chain_of, with_links}
+use Rattle.edi_static.specs.Operators.{Typed, Linked, Chained, is_set_of, are_ints_or_sets, are_both, are_ordered, takes, signed, operated, chain_of}
+use Rattle.edi_static.specs.Operators.{with_links}
 use Rattle.edi_static.proofs.Judging.{Gives, ruled}
 use Rattle.edi_static.proofs.Fitness.{headings_of, TypedFits}
 
@@ -75,7 +76,8 @@ pub record ChainedFits (env : Environment) (left : ℕ) (c : Chained) : Type 0 w
   pub has_type : links_type left c.links ≡ c.of
   pub fits : LinksFit env.types env.blocks (headings_of env.headings) (here env) left c.links
 
-pub operated_fits : (env : Environment) (o : Operator) (line left : ℕ) (right : Typed) → TypedFits env right → Gives (LinkedFits env left) (operated env.types o line left right)
+pub operated_fits : (env : Environment) (o : Operator) (line left : ℕ) (right : Typed) → TypedFits env right
+    → Gives (LinkedFits env left) (operated env.types o line left right)
 operated_fits env o line left right h =
     ruled (LinkedFits env left) (takes env.types o left right.of) kind.Types line _ (λ e. record {
       has_type = refl;
@@ -92,13 +94,15 @@ then_fits : (env : Environment) (left t : ℕ) (l : Link) (ls : Links) → links
 then_fits env left t (link o e line) ls h f g =
     (f.0, f.1, subst (λ s. LinksFit env.types env.blocks (headings_of env.headings) (here env) s ls) (sym h) g)
 
-pub links_then : (env : Environment) (left : ℕ) (l : Linked) (ls : Chained) → LinkedFits env left l → ChainedFits env l.of ls → ChainedFits env left (record { links = link_then l.what ls.links; of = ls.of })
+pub links_then : (env : Environment) (left : ℕ) (l : Linked) (ls : Chained) → LinkedFits env left l → ChainedFits env l.of ls
+    → ChainedFits env left (record { links = link_then l.what ls.links; of = ls.of })
 links_then env left l ls h k = record {
   has_type = then_type left l.of l.what ls.links h.has_type ∙ k.has_type;
   fits = then_fits env left l.of l.what ls.links h.has_type h.fits k.fits;
 }
 
-pub link_alone : (env : Environment) (left : ℕ) (l : Linked) → LinkedFits env left l → ChainedFits env left (record { links = link_then l.what no_link; of = l.of })
+pub link_alone : (env : Environment) (left : ℕ) (l : Linked) → LinkedFits env left l
+    → ChainedFits env left (record { links = link_then l.what no_link; of = l.of })
 link_alone env left l h = record { has_type = h.has_type; fits = h.fits }
 
 chained : (env : Environment) (first : Typed) (ls : Links) (of : ℕ) → TypedFits env first → links_type first.of ls ≡ of
@@ -111,5 +115,6 @@ chained env first (link_then l ls) of h t f = record {
       (tt, h.fits, subst (λ s. LinksFit env.types env.blocks (headings_of env.headings) (here env) s (link_then l ls)) (sym h.has_type) f);
 }
 
-pub with_links_fits : (env : Environment) (first : Typed) (more : Chained) → TypedFits env first → ChainedFits env first.of more → TypedFits env (with_links first more)
+pub with_links_fits : (env : Environment) (first : Typed) (more : Chained) → TypedFits env first → ChainedFits env first.of more
+    → TypedFits env (with_links first more)
 with_links_fits env first more h k = chained env first more.links more.of h k.has_type k.fits

@@ -1,5 +1,6 @@
 -- What the rules on variables and their parts give fits.
-use Rattle.std.proofs.Common.{◌≡◌, ℕ, suc, ◌<◌, ◌≤◌, Bool, true, false, if◌then◌else◌, List, [], ◌∷◌, ◌++◌, length, map, Option, Some, None, IsTrue, IfSome, is_some, slice_get, refl, sym, ap, subst, ◌∙◌, arith}
+use Rattle.std.proofs.Common.{◌≡◌, ℕ, suc, ◌<◌, ◌≤◌, Bool, true, false, if◌then◌else◌, List, [], ◌∷◌, ◌++◌, length, map, Option, Some, None, IsTrue, IfSome}
+use Rattle.std.proofs.Common.{is_some, slice_get, refl, sym, ap, subst, ◌∙◌, arith}
 use Rattle.std.proofs.lemmas.Bool.{eqb-true}
 use Rattle.std.proofs.lemmas.Option.{slice_get-get_or}
 use Rattle.std.specs.Prelude.{slice_index_or, option_map, option_to_list}
@@ -43,7 +44,8 @@ pub record RootedFits (env : Environment) (r : Rooted) : Type 0 where
   pub has_type : slot_type (slot_at env.blocks (here env) r.levels r.variable) ≡ r.of
 
 -- that of a block round the place
-round_fits : (env : Environment) → Sits env → (b v of : ℕ) → IsTrue (is_round b env.around) → IsTrue (is_variable (slot_of env.blocks b v)) → slot_type (slot_of env.blocks b v) ≡ of
+round_fits : (env : Environment) → Sits env → (b v of : ℕ) → IsTrue (is_round b env.around) → IsTrue (is_variable (slot_of env.blocks b v))
+    → slot_type (slot_of env.blocks b v) ≡ of
     → RootedFits env (record { levels = steps_to b env.around; variable = v; of = of })
 round_fits env s b v of inside there has = record {
   near = near_round env s b inside;
@@ -62,7 +64,8 @@ as_variable_fits env s line entity.Halt h = tt
 function_slot : (block : Block) (of : ℕ) → block.result ≡ Some of → slice_get (slots block) 0 ≡ Some (slot.Value of)
 function_slot block of e = ap (λ r. slice_get (map slot.Value (option_to_list r) ++ (block.parameters ++ map slot.Value block.variables)) 0) e
 
-function_fits : (env : Environment) → Sits env → (line b : ℕ) (inside : Bool) (result : Option ℕ) → is_round b env.around ≡ inside → (block_at env.blocks b).result ≡ result
+function_fits : (env : Environment) → Sits env → (line b : ℕ) (inside : Bool) (result : Option ℕ) → is_round b env.around ≡ inside
+    → (block_at env.blocks b).result ≡ result
     → Gives (RootedFits env) (function_variable env line b inside result)
 function_fits env s line b true (Some of) i e =
     let at : slot_of env.blocks b 0 ≡ Some (slot.Value of) = function_slot (block_at env.blocks b) of e in
@@ -110,7 +113,8 @@ place_within (field ∷ fields) name = later (bytes_eq field name) (place_of_nam
 field_known : (fields : List ℕ) (n : ℕ) → n < length fields → IsSome (slice_get fields n)
 field_known fields n lt = ap is_some (slice_get-get_or fields n 0 lt)
 
-field_at_fits : (env : Environment) → Sits env → (of : ℕ) (name : Name) (o : Option ℕ) → IfSome o (λ n. n < length (slice_index_or env.fields of [])) → Gives (PartedFits env of) (field_at env of name o)
+field_at_fits : (env : Environment) → Sits env → (of : ℕ) (name : Name) (o : Option ℕ) → IfSome o (λ n. n < length (slice_index_or env.fields of []))
+    → Gives (PartedFits env of) (field_at env of name o)
 field_at_fits env s of name None h = tt
 field_at_fits env s of name (Some n) h = record {
   has_type = refl;

@@ -1,5 +1,6 @@
 -- Procedures, modules and their members keep what holds of an environment, and each block that ends has told its need.
-use Rattle.std.proofs.Common.{◌≡◌, ◌≢◌, ℕ, zero, suc, ◌+◌, ◌<◌, ◌≤◌, max, Bool, true, false, not, ◌||◌, ◌==◌, List, [], ◌∷◌, ◌++◌, length, get_or, filter, All, Option, Some, None, IsTrue, refl, sym, ap, ◌∙◌, subst, arith, inl, inr}
+use Rattle.std.proofs.Common.{◌≡◌, ◌≢◌, ℕ, zero, suc, ◌+◌, ◌<◌, ◌≤◌, max, Bool, true, false, not, ◌||◌, ◌==◌, List, [], ◌∷◌, ◌++◌, length, get_or, filter}
+use Rattle.std.proofs.Common.{All, Option, Some, None, IsTrue, refl, sym, ap, ◌∙◌, subst, arith, inl, inr}
 use Rattle.std.specs.List.{list_any}
 use Rattle.std.specs.Str.{bytes_eq}
 use Rattle.std.proofs.lemmas.Bool.{false≢true, cases_eq, eqb-true}
@@ -12,7 +13,8 @@ use Rattle.edi_scope.specs.declared.entity.Entity.TheVariants as entity
 use Rattle.edi_scope.specs.Scope.{Scope, declared, outside, entered}
 use Rattle.edi_tree.specs.declared.names.Name.{Name}
 use Rattle.edi_tree.specs.Tree as text
-use Rattle.edi_tree.specs.Depth.{heading_depth, list_depth, procedure_depth, item_depth, module_depth, member_depth, members_depth, declaration_depth, declarations_depth}
+use Rattle.edi_tree.specs.Depth.{heading_depth, list_depth, procedure_depth, item_depth, module_depth, member_depth, members_depth, declaration_depth}
+use Rattle.edi_tree.specs.Depth.{declarations_depth}
 use Rattle.edi_unit.specs.Tree.{Acts}
 use Rattle.edi_unit.specs.Need.{block_at}
 use Rattle.edi_unit.specs.Fits.{is_called, ActsFit, greatest_levels}
@@ -20,14 +22,17 @@ use Rattle.edi_static.specs.Judged.{Judged, gives, faults, ◌>>=◌}
 use Rattle.edi_static.specs.Environment.{Begun, Environment, here, enter}
 use Rattle.edi_static.specs.Headings.{leave, own_name}
 use Rattle.edi_static.specs.Statements.{After, add_statements, close_block, statement_list}
-use Rattle.edi_static.specs.Declarations.{begun_named, without_begun, all_completed, enter_block, leave_to, leave_module, heading_of, procedure_name, block_of, begin_procedure, begin_post, pre_decl, procedure_rest, item, module_decl, members, member, declarations, declaration}
+use Rattle.edi_static.specs.Declarations.{begun_named, without_begun, all_completed, enter_block, leave_to, leave_module, heading_of, procedure_name}
+use Rattle.edi_static.specs.Declarations.{block_of, begin_procedure, begin_post, pre_decl, procedure_rest, item, module_decl, members, member, declarations}
+use Rattle.edi_static.specs.Declarations.{declaration}
 use Rattle.edi_static.specs.InRange.{ProcedureInRange, ItemInRange, ModuleInRange, MemberInRange, MembersInRange, DeclarationInRange, DeclarationsInRange}
 use Rattle.edi_static.specs.Proper.{ScopesFit}
 use Rattle.edi_static.proofs.Judging.{Gives, bind, behind, weaker}
 use Rattle.edi_static.proofs.Proper.{outside_fit}
 use Rattle.edi_static.proofs.Fitness.{headings_of, is_round, Names, EntitySits, IsChain, Sits}
 use Rattle.edi_static.proofs.FitnessLater.{Later, later_same, later_then, chain_later, scopes_later}
-use Rattle.edi_static.proofs.FitnessOnward.{Closed, BegunFits, AllBegun, begun_later, Tidy, is_open, is_begun, closed_later, Onward, onward_then, onward_same, onward_any}
+use Rattle.edi_static.proofs.FitnessOnward.{Closed, BegunFits, AllBegun, begun_later, Tidy, is_open, is_begun, closed_later, Onward, onward_then}
+use Rattle.edi_static.proofs.FitnessOnward.{onward_same, onward_any}
 use Rattle.edi_static.proofs.FitnessTypes.{go_on, const_list_onward, type_decl_onward}
 use Rattle.edi_static.proofs.FitnessVariables.{Ready, ready_later, here_inside, here_round, var_onward}
 use Rattle.edi_static.proofs.FitnessBlocks.{placed_sits, placed_later, Changes, more_change, Closes, block_closes}
@@ -73,7 +78,8 @@ pub record Ends (n : ℕ) (inner after : Environment) : Type 0 where
   pub sits : Sits after
   pub later : Later inner after
   pub outermost : outside after.scopes ≡ outside inner.scopes
-  pub tidy : (further : ℕ → Bool) → Tidy (is_open further inner) inner → (m : ℕ) → m < length after.blocks → m ≢ n → is_open further (record inner { begun = [] }) m ≡ false → Closed after.types after.blocks m
+  pub tidy : (further : ℕ → Bool) → Tidy (is_open further inner) inner → (m : ℕ) → m < length after.blocks → m ≢ n
+      → is_open further (record inner { begun = [] }) m ≡ false → Closed after.types after.blocks m
   pub closed : Closed after.types after.blocks n
 
 -- three tests that fail
@@ -94,7 +100,8 @@ differs m n h = stated (m == n) refl
     stated false e = refl
 
 -- the statements and the end of a procedure
-pub ends : (n line : ℕ) (inner now : Environment) (done : After Acts) → (around : List ℕ) → inner.around ≡ n ∷ around → Onward false inner now → Sits inner → AllBegun inner → now.begun ≡ [] → n < length inner.blocks → Does ActsFit now done →
+pub ends : (n line : ℕ) (inner now : Environment) (done : After Acts) → (around : List ℕ) → inner.around ≡ n ∷ around → Onward false inner now → Sits inner
+    → AllBegun inner → now.begun ≡ [] → n < length inner.blocks → Does ActsFit now done →
     Gives (Ends n inner) (close_block n done.what line done.env)
 ends n line inner now done around is o s all none there d =
     let st = d.steps in

@@ -1,5 +1,6 @@
 -- The resolved unit of a program fits.
-use Rattle.std.proofs.Common.{◌≡◌, ◌≢◌, ℕ, zero, suc, ◌+◌, ◌<◌, ◌≤◌, ◌^◌, max, Bool, true, false, ◌||◌, ◌==◌, List, [], ◌∷◌, ◌++◌, length, map, get_or, All, Option, Some, None, IsTrue, refl, sym, ap, subst, ◌∙◌, arith, length-append, append-nil, inl, inr}
+use Rattle.std.proofs.Common.{◌≡◌, ◌≢◌, ℕ, zero, suc, ◌+◌, ◌<◌, ◌≤◌, ◌^◌, max, Bool, true, false, ◌||◌, ◌==◌, List, [], ◌∷◌, ◌++◌, length, map, get_or, All}
+use Rattle.std.proofs.Common.{Option, Some, None, IsTrue, refl, sym, ap, subst, ◌∙◌, arith, length-append, append-nil, inl, inr}
 use Rattle.std.specs.Prelude.{option_to_list}
 use Rattle.std.proofs.lemmas.Bool.{false≢true, cases_eq}
 use Rattle.std.proofs.Math.Dec.{eqb-zero-suc}
@@ -102,7 +103,8 @@ opened_is env scope more asks name =
     (declare false name (entity.Procedure 0) next) _ (declare_is name (entity.Procedure 0) next)
     (λ e is. ap (λ (o : Environment). record o { scopes = scope ∷ o.scopes }) is)
 
-module _ (env : Environment) (s : Sits env) (bare : env.blocks ≡ []) (out : env.around ≡ []) (scope : Scope) (more : List Heading) (asks : Heading) (name : List ℕ)
+module _ (env : Environment) (s : Sits env) (bare : env.blocks ≡ []) (out : env.around ≡ []) (scope : Scope) (more : List Heading) (asks : Heading)
+    (name : List ℕ)
     (none : heading_result asks ≡ None)
     (names : NamesFit (Given 0 (first_parameter (heading_result asks)) (heading_formals asks) (env.shapes ++ more)) scope.names)
     (known : All (SlotIsKnown env.types) (map slot.Value (option_to_list (heading_result asks)) ++ parameters_of (heading_formals asks))) where
@@ -117,7 +119,8 @@ module _ (env : Environment) (s : Sits env) (bare : env.blocks ≡ []) (out : en
     fits_kind = (first, none);
     outermost = λ e. outermost;
     inner = λ h. absurd (omega (arith, h, first));
-    known = subst (λ ps. All (SlotIsKnown env.types) (map slot.Value (option_to_list (heading_result asks)) ++ ps)) (sym (append-nil (parameters_of (heading_formals asks)))) known;
+    known = subst (λ ps. All (SlotIsKnown env.types) (map slot.Value (option_to_list (heading_result asks)) ++ ps))
+        (sym (append-nil (parameters_of (heading_formals asks)))) known;
     parameters = refl;
     result = refl;
     nothing = refl;
@@ -127,10 +130,12 @@ module _ (env : Environment) (s : Sits env) (bare : env.blocks ≡ []) (out : en
   next_sits = block_sits (program_block env asks) asks (record env { shapes = env.shapes ++ more }) (shapes_sit more env s) begins
 
   at_block : block_at (env.blocks ++ program_block env asks ∷ []) 0 ≡ program_block env asks
-  at_block = ap (block_at (env.blocks ++ program_block env asks ∷ [])) (sym first) ∙ new_block (program_block env asks) asks (record env { shapes = env.shapes ++ more }) (shapes_sit more env s)
+  at_block = ap (block_at (env.blocks ++ program_block env asks ∷ [])) (sym first) ∙ new_block (program_block env asks) asks
+      (record env { shapes = env.shapes ++ more }) (shapes_sit more env s)
 
   pub at_heading : heading_at (env.headings ++ asks ∷ []) 0 ≡ asks
-  at_heading = ap (heading_at (env.headings ++ asks ∷ [])) (sym first) ∙ new_heading (program_block env asks) asks (record env { shapes = env.shapes ++ more }) (shapes_sit more env s)
+  at_heading = ap (heading_at (env.headings ++ asks ∷ [])) (sym first) ∙ new_heading (program_block env asks) asks
+      (record env { shapes = env.shapes ++ more }) (shapes_sit more env s)
 
   pub there : 0 < length (env.blocks ++ program_block env asks ∷ [])
   there = omega (arith, length-append env.blocks (program_block env asks ∷ []))
@@ -147,13 +152,17 @@ module _ (env : Environment) (s : Sits env) (bare : env.blocks ≡ []) (out : en
   inside_sits : Sits (enter_block 0 (opened env scope more asks name))
   inside_sits =
       let far : length env.around ≡ 0 = ap length out in
-      placed_sits (scope ∷ with_name name (entity.Procedure 0) env.scopes) (0 ∷ env.around) [] (with_block (program_block env asks) asks (record env { shapes = env.shapes ++ more })) next_sits
+      placed_sits (scope ∷ with_name name (entity.Procedure 0) env.scopes) (0 ∷ env.around) []
+      (with_block (program_block env asks) asks (record env { shapes = env.shapes ++ more })) next_sits
       chained (omega (arith, far)) (
-        scope_given env.types (env.blocks ++ program_block env asks ∷ []) (env.headings ++ asks ∷ []) (env.shapes ++ more) 0 asks (0 ∷ env.around) refl at_heading
+        scope_given env.types (env.blocks ++ program_block env asks ∷ []) (env.headings ++ asks ∷ []) (env.shapes ++ more) 0 asks (0 ∷ env.around) refl
+            at_heading
             (ap (λ b. b.parameters) at_block) (ap (λ b. b.result) at_block) scope.names names,
-        with_name_fits (Names env.types (env.blocks ++ program_block env asks ∷ []) (env.headings ++ asks ∷ []) (env.shapes ++ more) (0 ∷ env.around)) name (entity.Procedure 0) env.scopes
+        with_name_fits (Names env.types (env.blocks ++ program_block env asks ∷ []) (env.headings ++ asks ∷ []) (env.shapes ++ more) (0 ∷ env.around)) name
+            (entity.Procedure 0) env.scopes
             (there, called, ap (λ b. is_round b.up (0 ∷ env.around)) at_block ∙ ap (λ n. is_round n (0 ∷ env.around)) outermost)
-            (scopes_wider env.types (env.blocks ++ program_block env asks ∷ []) (env.headings ++ asks ∷ []) (env.shapes ++ more) 0 env.around env.scopes next_sits.names),
+            (scopes_wider env.types (env.blocks ++ program_block env asks ∷ []) (env.headings ++ asks ∷ []) (env.shapes ++ more) 0 env.around env.scopes
+            next_sits.names),
       )
 
   inside_ready : Ready (enter_block 0 (opened env scope more asks name))
@@ -166,7 +175,8 @@ module _ (env : Environment) (s : Sits env) (bare : env.blocks ≡ []) (out : en
 
 -- ---- a whole program
 
-program_ends : (p : text.Procedure) (next : Environment) → Declares (enter_block 0 next) → 0 < length next.blocks → next.around ≡ [] → procedure_depth p ≤ greatest_levels → ProcedureInRange p →
+program_ends : (p : text.Procedure) (next : Environment) → Declares (enter_block 0 next) → 0 < length next.blocks → next.around ≡ []
+    → procedure_depth p ≤ greatest_levels → ProcedureInRange p →
     Gives (Ends 0 (enter_block 0 next)) (procedure_rest 0 p next)
 program_ends (text.procedure h ds s end) next d there out deep i =
     let inner : Environment = enter_block 0 next in
@@ -174,7 +184,8 @@ program_ends (text.procedure h ds s end) next d there out deep i =
     bind (Onward false inner) (Ends 0 inner) (declarations ds inner) _ (declarations_onward ds inner d (omega (arith, deep, near)) i.0) (λ now o.
     bind (λ u. now.begun ≡ []) (Ends 0 inner) (all_completed now.begun) _ (completed now.begun) (λ u none.
     bind (Does ActsFit now) (Ends 0 inner) (statement_list s now) _
-    (list_does s now o.sits (subst (λ a. 0 < length a) (sym o.around) (omega arith)) (subst (λ a. length a + list_depth s ≤ greatest_levels) (sym o.around) (omega (arith, deep, near))) i.1)
+    (list_does s now o.sits (subst (λ a. 0 < length a) (sym o.around) (omega arith))
+    (subst (λ a. length a + list_depth s ≤ greatest_levels) (sym o.around) (omega (arith, deep, near))) i.1)
     (λ done does. ends 0 end inner now done next.around refl o d.sits d.all none there does)))
 
 not_first : (m : ℕ) → m ≢ 0 → (0 == m) ≡ false
@@ -182,7 +193,8 @@ not_first zero h = absurd (h refl)
 not_first (suc m) h = eqb-zero-suc m
 
 -- each block of a program has told its need
-all_stated : (inner after : Environment) → inner.around ≡ 0 ∷ [] → length inner.blocks ≡ 1 → Ends 0 inner after → (m : ℕ) → m < length after.blocks → NeedsSo after.types after.blocks m
+all_stated : (inner after : Environment) → inner.around ≡ 0 ∷ [] → length inner.blocks ≡ 1 → Ends 0 inner after → (m : ℕ) → m < length after.blocks
+    → NeedsSo after.types after.blocks m
 all_stated inner after around alone e m h =
     elim (cases_eq m 0) [
       | inl first ↦ let c : Closed after.types after.blocks m = subst (Closed after.types after.blocks) (sym first) e.closed in (c.needs, c.small)
@@ -218,7 +230,8 @@ behind_name p asks begun =
     procedure_rest 0 p begun >>= λ after.
     gives (record { types = after.types; blocks = after.blocks; program = 0; calls = calls })
 
-named_fits : (p : text.Procedure) (env : Environment) → Sits env → env.blocks ≡ [] → env.around ≡ [] → procedure_depth p ≤ greatest_levels → ProcedureInRange p →
+named_fits : (p : text.Procedure) (env : Environment) → Sits env → env.blocks ≡ [] → env.around ≡ [] → procedure_depth p ≤ greatest_levels
+    → ProcedureInRange p →
     (scope : Scope) (more : List Heading) (asks : Heading) →
     NamesFit (Given 0 (first_parameter (heading_result asks)) (heading_formals asks) (env.shapes ++ more)) scope.names →
     All (SlotIsKnown env.types) (map slot.Value (option_to_list (heading_result asks)) ++ parameters_of (heading_formals asks)) →
@@ -231,7 +244,8 @@ named_fits p env s bare out deep h scope more asks names known calls_named =
     let begun : Environment = opened env scope more asks name in
     let inner : Environment = enter_block 0 begun in
     bind (Ends 0 inner) UnitFits (procedure_rest 0 p begun) _
-    (program_ends p begun (inside_declares env s bare out scope more asks name none names known) (there env s bare out scope more asks name none names known) out deep h)
+    (program_ends p begun (inside_declares env s bare out scope more asks name none names known) (there env s bare out scope more asks name none names known)
+    out deep h)
     (λ after e short.
     let l = e.later in
     let longer = l.longer in
@@ -243,7 +257,8 @@ named_fits p env s bare out deep h scope more asks names known calls_named =
     (subst (λ ts. AreCalls ts (heading_at after.headings 0) calls) (sym l.types)
     (subst (λ g. AreCalls (env.types ++ l.more) g calls) (sym at) (are_calls_later env.types l.more asks calls named)))))
 
-heading_fits : (p : text.Procedure) (env : Environment) → Sits env → env.blocks ≡ [] → env.around ≡ [] → procedure_depth p ≤ greatest_levels → ProcedureInRange p → Gives UnitFits (program_procedure p env)
+heading_fits : (p : text.Procedure) (env : Environment) → Sits env → env.blocks ≡ [] → env.around ≡ [] → procedure_depth p ≤ greatest_levels
+    → ProcedureInRange p → Gives UnitFits (program_procedure p env)
 heading_fits p env s bare out deep h =
     bind (λ headed. Heads env 0 headed × GivesCalls (heading_of p) headed) UnitFits (heading_parts 0 (heading_of p) env) (behind_heading p)
     (with_both (Heads env 0) (GivesCalls (heading_of p)) (heading_parts 0 (heading_of p) env)
@@ -252,7 +267,8 @@ heading_fits p env s bare out deep h =
     let g = k.0 in
     subst (λ x. Gives UnitFits (behind_heading p x)) (sym g.is)
     (bind (λ e. e ≡ opened env g.scope g.more headed.asks (own_name (heading_of p)).text) UnitFits
-    (round (declare false (own_name (heading_of p)) (entity.Procedure 0)) (with_heading block_kind.Program (record { env = headed_env env g.scope g.more; asks = headed.asks })))
+    (round (declare false (own_name (heading_of p)) (entity.Procedure 0))
+    (with_heading block_kind.Program (record { env = headed_env env g.scope g.more; asks = headed.asks })))
     (behind_name p headed.asks) (opened_is env g.scope g.more headed.asks (own_name (heading_of p)))
     (λ begun is.
     subst (λ e. Gives UnitFits (behind_name p headed.asks e)) (sym is)

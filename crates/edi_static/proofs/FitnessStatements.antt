@@ -1,5 +1,6 @@
 -- Statements fit in the block in which they stand, and change no block but those of their branches.
-use Rattle.std.proofs.Common.{◌≡◌, ℕ, zero, suc, ◌+◌, ◌<◌, ◌≤◌, ◌^◌, max, Bool, true, false, not, ◌&&◌, ◌||◌, ◌==◌, nat_lt, List, [], ◌∷◌, ◌++◌, length, get_or, All, Option, Some, None, is_some, refl, sym, ap, ◌∙◌, subst, arith, inl, inr, length-append}
+use Rattle.std.proofs.Common.{◌≡◌, ℕ, zero, suc, ◌+◌, ◌<◌, ◌≤◌, ◌^◌, max, Bool, true, false, not, ◌&&◌, ◌||◌, ◌==◌, nat_lt, List, [], ◌∷◌, ◌++◌, length}
+use Rattle.std.proofs.Common.{get_or, All, Option, Some, None, is_some, refl, sym, ap, ◌∙◌, subst, arith, inl, inr, length-append}
 use Rattle.std.proofs.lemmas.Bool.{false≢true, eqb-true, cases_eq, and_parts}
 use Rattle.std.proofs.lemmas.List.{append-nil}
 use Rattle.std.proofs.Math.ListN.{get_or-append}
@@ -13,7 +14,8 @@ use Rattle.edi_unit.specs.Types.{Shape, bool_type, int_type}
 use Rattle.edi_unit.specs.Tree as unit
 use Rattle.edi_unit.specs.Tree.{Act, Acts, Block}
 use Rattle.edi_unit.specs.Need.{no_block, block_at, slots}
-use Rattle.edi_unit.specs.Fits.{Heading, heading_result, heading_formals, ActFits, ActsFit, ArgumentsFit, ClauseFits, ClausesFit, BranchFits, SlotIsKnown, greatest_levels}
+use Rattle.edi_unit.specs.Fits.{Heading, heading_result, heading_formals, ActFits, ActsFit, ArgumentsFit, ClauseFits, ClausesFit, BranchFits, SlotIsKnown}
+use Rattle.edi_unit.specs.Fits.{greatest_levels}
 use Rattle.edi_static.specs.declared.faults.StaticKind.TheVariants as kind
 use Rattle.edi_static.specs.Judged.{Judged, gives, ◌>>=◌, must}
 use Rattle.edi_static.specs.Environment.{Environment, here, look_up, no_heading, begun_block, with_block}
@@ -23,8 +25,10 @@ use Rattle.edi_static.proofs.Proper.{scopes_fit}
 use Rattle.edi_static.specs.Operators.{Typed}
 use Rattle.edi_static.specs.Fitting.{Called, Use, constructs, calls, halts, neither, use_of, is_function, takes_so_many}
 use Rattle.edi_static.specs.Expressions.{Located, expression, variable_place, all_arguments, args_count}
-use Rattle.edi_static.specs.Statements.{After, procedure_called, called, assigned, close_block, enter_branch, leave_branch, statement_list, statements, statement, conditions, elses, condition, branch, branches}
-use Rattle.edi_static.specs.InRange.{OptionalArgsInRange, branches_count, ListInRange, StatementsInRange, StatementInRange, ConditionsInRange, ConditionInRange, ElseInRange, BranchInRange, BranchesInRange}
+use Rattle.edi_static.specs.Statements.{After, procedure_called, called, assigned, close_block, enter_branch, leave_branch, statement_list, statements}
+use Rattle.edi_static.specs.Statements.{statement, conditions, elses, condition, branch, branches}
+use Rattle.edi_static.specs.InRange.{OptionalArgsInRange, branches_count, ListInRange, StatementsInRange, StatementInRange, ConditionsInRange}
+use Rattle.edi_static.specs.InRange.{ConditionInRange, ElseInRange, BranchInRange, BranchesInRange}
 use Rattle.edi_static.proofs.Judging.{Gives, bind, behind, ruled, weaker}
 use Rattle.edi_static.proofs.Fitness.{headings_of, is_round, Names, EntitySits, IsChain, Sits, TypedFits, LocatedFits, CalledFits, UseFits}
 use Rattle.edi_static.proofs.FitnessNames.{look_up_sits}
@@ -88,16 +92,19 @@ steps_onward m env next s g = record {
   farther = ap (λ ss. outside (outside ss)) g.scopes;
   kept = λ x e k. ap (λ ss. declared ss x) g.scopes ∙ k;
   kept_outside = λ x e k. ap (λ ss. declared (outside ss) x) g.scopes ∙ k;
-  begun = λ k. subst (All (BegunFits next.scopes next.blocks (here next))) (sym g.begun) (begun_later env next g.later g.around (λ x e i. ap (λ ss. declared ss x) g.scopes ∙ i) env.begun k);
+  begun = λ k. subst (All (BegunFits next.scopes next.blocks (here next))) (sym g.begun)
+      (begun_later env next g.later g.around (λ x e i. ap (λ ss. declared ss x) g.scopes ∙ i) env.begun k);
   tidy = λ b further k n h o. stated further k n h o (nat_lt n (length env.blocks)) refl;
   scopes = ap length g.scopes;
 }
   where
-    stated : (further : ℕ → Bool) → Tidy (is_open further env) env → (n : ℕ) → n < length next.blocks → is_open further next n ≡ false → (before : Bool) → nat_lt n (length env.blocks) ≡ before → Closed next.types next.blocks n
+    stated : (further : ℕ → Bool) → Tidy (is_open further env) env → (n : ℕ) → n < length next.blocks → is_open further next n ≡ false → (before : Bool)
+        → nat_lt n (length env.blocks) ≡ before → Closed next.types next.blocks n
     stated further k n h o true e =
         let inside : n < length env.blocks = grind (arith, e) in
         closed_later env next s g.later n inside (g.old n inside)
-        (k n inside (ap (λ a. further n || (is_round n a || is_begun n env.begun)) (sym g.around) ∙ ap (λ b. further n || (is_round n next.around || is_begun n b)) (sym g.begun) ∙ o))
+        (k n inside (ap (λ a. further n || (is_round n a || is_begun n env.begun)) (sym g.around)
+        ∙ ap (λ b. further n || (is_round n next.around || is_begun n b)) (sym g.begun) ∙ o))
     stated further k n h o false e = g.new n h (grind (arith, e))
 
 -- ---- what statements become
@@ -116,7 +123,8 @@ module _ (env : Environment) (at : here env < length env.blocks) where
       let longer = l.longer in
       acts_later one next g.sits h.later (here env) (omega (arith, at, longer)) s fits
 
-  sequel : (one : After Act) (others : After Acts) → Does ActFits env one → Does ActsFit one.env others → Does ActsFit env (record { what = unit.act_then one.what others.what; env = others.env })
+  sequel : (one : After Act) (others : After Acts) → Does ActFits env one → Does ActsFit one.env others
+      → Does ActsFit env (record { what = unit.act_then one.what others.what; env = others.env })
   sequel one others h k = record {
     steps = steps_then env one.env others.env h.steps k.steps;
     fits = (
@@ -136,7 +144,8 @@ module _ (env : Environment) (at : here env < length env.blocks) where
   }
 
   -- a condition before its statements
-  guarded : (c : Typed) (done : After Acts) → Sits env → TypedFits env c → c.of ≡ bool_type → Does ActsFit env done → Does ClauseFits env (record { what = unit.clause c.what done.what; env = done.env })
+  guarded : (c : Typed) (done : After Acts) → Sits env → TypedFits env c → c.of ≡ bool_type → Does ActsFit env done
+      → Does ClauseFits env (record { what = unit.clause c.what done.what; env = done.env })
   guarded c done s f is k =
       let first : Acts = unit.act_then (unit.if_act (unit.clause_then (unit.clause c.what unit.no_act) unit.no_clause)) unit.no_act in
       let raised = lifted env done.env (steps_same env s) k.steps first (((f.has_type ∙ is, f.fits, tt), tt), tt) in
@@ -151,7 +160,8 @@ no_result (Some t) h = absurd (false≢true h)
 abbrev ActSits : Environment → Act → Type 0
 ActSits env a = ActFits env.types env.blocks (headings_of env.headings) (here env) a
 
-called_fits : (env : Environment) → Sits env → (line : ℕ) (u : Use) (xs : Option text.Args) → UseFits env u → OptionalArgsInRange xs → Gives (ActSits env) (called env line u xs)
+called_fits : (env : Environment) → Sits env → (line : ℕ) (u : Use) (xs : Option text.Args) → UseFits env u → OptionalArgsInRange xs
+    → Gives (ActSits env) (called env line u xs)
 called_fits env s line (calls c) None h i =
     ruled (ActSits env) (not (is_function c.asks) && takes_so_many c.asks 0) kind.Call line _ (λ e.
     let p = and_parts (not (is_function c.asks)) (takes_so_many c.asks 0) e in (
@@ -163,7 +173,8 @@ called_fits env s line (calls c) None h i =
 called_fits env s line (calls c) (Some xs) h i =
     ruled (ActSits env) (not (is_function c.asks) && takes_so_many c.asks (args_count xs)) kind.Call line _ (λ e.
     let p = and_parts (not (is_function c.asks)) (takes_so_many c.asks (args_count xs)) e in
-    bind (λ given. ArgumentsFit env.types env.blocks (headings_of env.headings) (here env) given (heading_formals c.asks)) (ActSits env) (all_arguments env line xs (heading_formals c.asks)) _
+    bind (λ given. ArgumentsFit env.types env.blocks (headings_of env.headings) (here env) given (heading_formals c.asks)) (ActSits env)
+    (all_arguments env line xs (heading_formals c.asks)) _
     (arguments_fit env s line xs i (heading_formals c.asks) (eqb-true _ (args_count xs) p.1))
     (λ given fits. (
       h.callee,
@@ -177,7 +188,8 @@ called_fits env s line neither xs h i = tt
 
 -- ---- branches
 
-branch_begins : (env : Environment) → here env < length env.blocks → BlockBegins env.types (length env.blocks) (begun_block block_kind.Branch (here env) None []) no_heading
+branch_begins : (env : Environment) → here env < length env.blocks → BlockBegins env.types (length env.blocks)
+    (begun_block block_kind.Branch (here env) None []) no_heading
 branch_begins env at = record {
   fits_kind = (omega (arith, at), refl);
   outermost = λ e. absurd (omega (arith, at, e));
@@ -191,7 +203,8 @@ branch_begins env at = record {
 abbrev branch_env : Environment → Environment
 branch_env env = with_block (begun_block block_kind.Branch (here env) None []) no_heading env
 
-pub stands_here : (blocks : List Block) (n : ℕ) (around : List ℕ) → 0 < length around → (block_at blocks n).up ≡ get_or around 0 0 → n < length blocks → IsChain blocks around → IsChain blocks (n ∷ around)
+pub stands_here : (blocks : List Block) (n : ℕ) (around : List ℕ) → 0 < length around → (block_at blocks n).up ≡ get_or around 0 0 → n < length blocks
+    → IsChain blocks around → IsChain blocks (n ∷ around)
 stands_here blocks n [] h e i c = absurd (omega (arith, h))
 stands_here blocks n (a ∷ around) h e i c = (i, e, c)
 
@@ -206,21 +219,24 @@ pub names_wider : (types : List Shape) (blocks : List Block) (headings shapes : 
 names_wider types blocks headings shapes n around (entity.Constant of k) h = h
 names_wider types blocks headings shapes n around (entity.Types t) h = h
 names_wider types blocks headings shapes n around (entity.Variable b v of) h = (wider (n == b) (is_round b around) h.0, h.1, h.2)
-names_wider types blocks headings shapes n around (entity.Procedure b) h = (h.0, h.1, wider (n == (block_at blocks b).up) (is_round (block_at blocks b).up around) h.2)
+names_wider types blocks headings shapes n around (entity.Procedure b) h =
+    (h.0, h.1, wider (n == (block_at blocks b).up) (is_round (block_at blocks b).up around) h.2)
 names_wider types blocks headings shapes n around (entity.Formal b v shape) h = (wider (n == b) (is_round b around) h.0, h.1, h.2, h.3, h.4)
 names_wider types blocks headings shapes n around entity.Halt h = tt
 
 pub scopes_wider : (types : List Shape) (blocks : List Block) (headings shapes : List Heading) (n : ℕ) (around : List ℕ) (scopes : List Scope) →
     ScopesFit (Names types blocks headings shapes around) scopes → ScopesFit (Names types blocks headings shapes (n ∷ around)) scopes
 scopes_wider types blocks headings shapes n around scopes h =
-    scopes_fit (Names types blocks headings shapes around) (Names types blocks headings shapes (n ∷ around)) (names_wider types blocks headings shapes n around) scopes h
+    scopes_fit (Names types blocks headings shapes around) (Names types blocks headings shapes (n ∷ around))
+    (names_wider types blocks headings shapes n around) scopes h
 
 module _ (env : Environment) (s : Sits env) (inside : 0 < length env.around) where
   branch_block : Block
   branch_block = begun_block block_kind.Branch (here env) None []
 
   entered_later : Later env (enter_branch env)
-  entered_later = placed_later env.scopes (length env.blocks ∷ env.around) env.begun env (branch_env env) (block_later (begun_block block_kind.Branch (here env) None []) no_heading env s)
+  entered_later = placed_later env.scopes (length env.blocks ∷ env.around) env.begun env (branch_env env)
+      (block_later (begun_block block_kind.Branch (here env) None []) no_heading env s)
 
   entered_sits : suc (length env.around) ≤ greatest_levels → Sits (enter_branch env)
   entered_sits near =
@@ -228,7 +244,8 @@ module _ (env : Environment) (s : Sits env) (inside : 0 < length env.around) whe
       let next : Environment = branch_env env in
       let t : Sits next = block_sits block no_heading env s (branch_begins env (here_inside env s inside)) in
       placed_sits env.scopes (length env.blocks ∷ env.around) env.begun next t
-      (stands_here next.blocks (length env.blocks) env.around inside (ap (λ b. b.up) (new_block block no_heading env s)) (omega (arith, length-append env.blocks (block ∷ []))) t.chain)
+      (stands_here next.blocks (length env.blocks) env.around inside (ap (λ b. b.up) (new_block block no_heading env s))
+      (omega (arith, length-append env.blocks (block ∷ []))) t.chain)
       near
       (scopes_wider next.types next.blocks next.headings next.shapes (length env.blocks) env.around env.scopes t.names)
 
@@ -242,7 +259,8 @@ longer_by_one : (before : Environment) → length (enter_branch before).blocks �
 longer_by_one before = omega (arith, length-append before.blocks (begun_block block_kind.Branch (here before) None [] ∷ []))
 
 left : (before : Environment) (done : After Acts) (s : Sits before) (inside : 0 < length before.around) → Does ActsFit (enter_branch before) done →
-    (after : Environment) → Closes (length before.blocks) done.env after → Left before (record { what = length before.blocks; env = record after { around = before.around } })
+    (after : Environment) → Closes (length before.blocks) done.env after
+    → Left before (record { what = length before.blocks; env = record after { around = before.around } })
 left before done s inside h after k =
     let n : ℕ = length before.blocks in
     let first : Environment = enter_branch before in
@@ -260,7 +278,8 @@ left before done s inside h after k =
       steps = record {
         sits =
             placed_sits after.scopes before.around after.begun after c.sits (chain_later before after s l before.around s.chain) s.near
-            (subst (ScopesFit (Names after.types after.blocks after.headings after.shapes before.around)) (sym scopes) (scopes_later before after s l before.around s.chain before.scopes s.names));
+            (subst (ScopesFit (Names after.types after.blocks after.headings after.shapes before.around)) (sym scopes)
+            (scopes_later before after s l before.around s.chain before.scopes s.names));
         later = placed_later after.scopes before.around after.begun before after l;
         around = refl;
         scopes = scopes;
@@ -278,7 +297,8 @@ left before done s inside h after k =
       fits = (omega (arith, one, longer), grown.kind ∙ ap (λ b. b.kind) new, grown.up ∙ ap (λ b. b.up) new);
     }
 
-leave_left : (before : Environment) (line : ℕ) (done : After Acts) → Sits before → 0 < length before.around → Does ActsFit (enter_branch before) done → Gives (Left before) (leave_branch before line done)
+leave_left : (before : Environment) (line : ℕ) (done : After Acts) → Sits before → 0 < length before.around → Does ActsFit (enter_branch before) done
+    → Gives (Left before) (leave_branch before line done)
 leave_left before line done s inside h =
     let one = longer_by_one before in
     let l = h.steps.later in
@@ -293,7 +313,8 @@ record Branched (before : Environment) (count : ℕ) (all : After (List ℕ)) : 
   fits : All (BranchFits all.env.types all.env.blocks (headings_of all.env.headings) (here before)) all.what
   many : length all.what ≡ suc count
 
-branch_later : (env next : Environment) → Later env next → (b n : ℕ) → BranchFits env.types env.blocks (headings_of env.headings) b n → BranchFits next.types next.blocks (headings_of next.headings) b n
+branch_later : (env next : Environment) → Later env next → (b n : ℕ) → BranchFits env.types env.blocks (headings_of env.headings) b n
+    → BranchFits next.types next.blocks (headings_of next.headings) b n
 branch_later env next l b n h =
     let longer = l.longer in
     let g = l.each n h.0 in
@@ -306,7 +327,8 @@ one_branch before one k = record { steps = k.steps; fits = all; many = refl }
     all zero d i = k.fits
     all (suc m) d i = absurd (omega (arith, i))
 
-more_branches : (before : Environment) (count : ℕ) (one : After ℕ) (others : After (List ℕ)) → Left before one → Branched one.env count others → Branched before (suc count) (record { what = one.what ∷ others.what; env = others.env })
+more_branches : (before : Environment) (count : ℕ) (one : After ℕ) (others : After (List ℕ)) → Left before one → Branched one.env count others
+    → Branched before (suc count) (record { what = one.what ∷ others.what; env = others.env })
 more_branches before count one others k j = record {
   steps = steps_then before one.env others.env k.steps j.steps;
   fits = all;
@@ -316,12 +338,14 @@ more_branches before count one others k j = record {
     all : All (BranchFits others.env.types others.env.blocks (headings_of others.env.headings) (here before)) (one.what ∷ others.what)
     all zero d i = branch_later one.env others.env j.steps.later (here before) one.what k.fits
     all (suc m) d i =
-        subst (λ b. BranchFits others.env.types others.env.blocks (headings_of others.env.headings) b (get_or others.what m d)) (here_same before one.env k.steps.around) (j.fits m d (omega (arith, i)))
+        subst (λ b. BranchFits others.env.types others.env.blocks (headings_of others.env.headings) b (get_or others.what m d))
+        (here_same before one.env k.steps.around) (j.fits m d (omega (arith, i)))
 
 -- ---- statements
 
 mutual
-  pub list_does : (l : text.StatementList) (env : Environment) → Sits env → 0 < length env.around → length env.around + list_depth l ≤ greatest_levels → ListInRange l → Gives (Does ActsFit env) (statement_list l env)
+  pub list_does : (l : text.StatementList) (env : Environment) → Sits env → 0 < length env.around → length env.around + list_depth l ≤ greatest_levels
+      → ListInRange l → Gives (Does ActsFit env) (statement_list l env)
   list_does (text.list s more) env t inside deep h =
       bind (Does ActFits env) (Does ActsFit env) _ _ (statement_does s env t inside (omega (arith, deep)) h.0) (λ one k.
       bind (Does ActsFit one.env) (Does ActsFit env) _ _
@@ -329,7 +353,8 @@ mutual
       (subst (λ a. length a + statements_depth more ≤ greatest_levels) (sym k.steps.around) (omega (arith, deep))) h.1)
       (λ others j. sequel env (here_inside env t inside) one others k j))
 
-  statements_do : (ss : text.Statements) (env : Environment) → Sits env → 0 < length env.around → length env.around + statements_depth ss ≤ greatest_levels → StatementsInRange ss → Gives (Does ActsFit env) (statements ss env)
+  statements_do : (ss : text.Statements) (env : Environment) → Sits env → 0 < length env.around → length env.around + statements_depth ss ≤ greatest_levels
+      → StatementsInRange ss → Gives (Does ActsFit env) (statements ss env)
   statements_do text.no_statement env t inside deep h = record { steps = steps_same env t; fits = tt }
   statements_do (text.next_statement s more) env t inside deep h =
       bind (Does ActFits env) (Does ActsFit env) _ _ (statement_does s env t inside (omega (arith, deep)) h.0) (λ one k.
@@ -338,7 +363,8 @@ mutual
       (subst (λ a. length a + statements_depth more ≤ greatest_levels) (sym k.steps.around) (omega (arith, deep))) h.1)
       (λ others j. sequel env (here_inside env t inside) one others k j))
 
-  statement_does : (s : text.Statement) (env : Environment) → Sits env → 0 < length env.around → length env.around + statement_depth s ≤ greatest_levels → StatementInRange s → Gives (Does ActFits env) (statement s env)
+  statement_does : (s : text.Statement) (env : Environment) → Sits env → 0 < length env.around → length env.around + statement_depth s ≤ greatest_levels
+      → StatementInRange s → Gives (Does ActFits env) (statement s env)
   statement_does text.skip env t inside deep h = record { steps = steps_same env t; fits = tt }
   statement_does (text.assignment v line e) env t inside deep h =
       bind (ActSits env) (Does ActFits env) (assigned env v line e) (λ a. gives (record { what = a; env = env }))
@@ -352,18 +378,22 @@ mutual
       (called_fits env t name.line (use_of env means) xs (use_fits env t means k) h)
       (λ a j. record { steps = steps_same env t; fits = j }))
   statement_does (text.if_statement cs) env t inside deep h =
-      bind (Does ClausesFit env) (Does ActFits env) _ _ (conditions_do cs env t inside (omega (arith, deep)) h) (λ done k. record { steps = k.steps; fits = k.fits })
+      bind (Does ClausesFit env) (Does ActFits env) _ _ (conditions_do cs env t inside (omega (arith, deep)) h)
+      (λ done k. record { steps = k.steps; fits = k.fits })
   statement_does (text.while_statement cs) env t inside deep h =
-      bind (Does ClausesFit env) (Does ActFits env) _ _ (conditions_do cs env t inside (omega (arith, deep)) h) (λ done k. record { steps = k.steps; fits = k.fits })
+      bind (Does ClausesFit env) (Does ActFits env) _ _ (conditions_do cs env t inside (omega (arith, deep)) h)
+      (λ done k. record { steps = k.steps; fits = k.fits })
   statement_does (text.when_statement line cs) env t inside deep h =
-      bind (Does ClausesFit env) (Does ActFits env) _ _ (conditions_do cs env t inside (omega (arith, deep)) h) (λ done k. record { steps = k.steps; fits = k.fits })
+      bind (Does ClausesFit env) (Does ActFits env) _ _ (conditions_do cs env t inside (omega (arith, deep)) h)
+      (λ done k. record { steps = k.steps; fits = k.fits })
   statement_does (text.cobegin line b bs) env t inside deep h =
       bind (Branched env (branches_count bs)) (Does ActFits env) _ _
       (bind (Does ActsFit (enter_branch env)) (Branched env (branches_count bs)) _ _ (branch_does b env t inside (omega (arith, deep)) h.1) (λ one k.
       branches_do bs env one t inside (omega (arith, deep)) h.2 k))
       (λ done k. let many = k.many in record { steps = k.steps; fits = (omega (arith, many), omega (arith, many, h.0), k.fits) })
 
-  conditions_do : (cs : text.Conditions) (env : Environment) → Sits env → 0 < length env.around → length env.around + conditions_depth cs ≤ greatest_levels → ConditionsInRange cs → Gives (Does ClausesFit env) (conditions cs env)
+  conditions_do : (cs : text.Conditions) (env : Environment) → Sits env → 0 < length env.around → length env.around + conditions_depth cs ≤ greatest_levels
+      → ConditionsInRange cs → Gives (Does ClausesFit env) (conditions cs env)
   conditions_do (text.conditions c more) env t inside deep h =
       bind (Does ClauseFits env) (Does ClausesFit env) _ _ (condition_does c env t inside (omega (arith, deep)) h.0) (λ one k.
       bind (Does ClausesFit one.env) (Does ClausesFit env) _ _
@@ -371,7 +401,8 @@ mutual
       (subst (λ a. length a + else_depth more ≤ greatest_levels) (sym k.steps.around) (omega (arith, deep))) h.1)
       (λ others j. sequel_clauses env (here_inside env t inside) one others k j))
 
-  elses_do : (cs : text.Else) (env : Environment) → Sits env → 0 < length env.around → length env.around + else_depth cs ≤ greatest_levels → ElseInRange cs → Gives (Does ClausesFit env) (elses cs env)
+  elses_do : (cs : text.Else) (env : Environment) → Sits env → 0 < length env.around → length env.around + else_depth cs ≤ greatest_levels → ElseInRange cs
+      → Gives (Does ClausesFit env) (elses cs env)
   elses_do text.no_else env t inside deep h = record { steps = steps_same env t; fits = tt }
   elses_do (text.next_else c more) env t inside deep h =
       bind (Does ClauseFits env) (Does ClausesFit env) _ _ (condition_does c env t inside (omega (arith, deep)) h.0) (λ one k.
@@ -380,20 +411,23 @@ mutual
       (subst (λ a. length a + else_depth more ≤ greatest_levels) (sym k.steps.around) (omega (arith, deep))) h.1)
       (λ others j. sequel_clauses env (here_inside env t inside) one others k j))
 
-  condition_does : (c : text.Condition) (env : Environment) → Sits env → 0 < length env.around → length env.around + condition_depth c ≤ greatest_levels → ConditionInRange c → Gives (Does ClauseFits env) (condition c env)
+  condition_does : (c : text.Condition) (env : Environment) → Sits env → 0 < length env.around → length env.around + condition_depth c ≤ greatest_levels
+      → ConditionInRange c → Gives (Does ClauseFits env) (condition c env)
   condition_does (text.condition e line s) env t inside deep h =
       bind (TypedFits env) (Does ClauseFits env) (expression env e) _ (expression_fits env t e h.0) (λ c k.
       ruled (Does ClauseFits env) (c.of == bool_type) kind.Types line _ (λ is.
       bind (Does ActsFit env) (Does ClauseFits env) (statement_list s env) _ (list_does s env t inside (omega (arith, deep)) h.1)
       (λ done j. guarded env (here_inside env t inside) c done t k (eqb-true c.of bool_type is) j)))
 
-  branch_does : (b : text.Branch) (env : Environment) → Sits env → 0 < length env.around → suc (length env.around) + branch_depth b ≤ greatest_levels → BranchInRange b → Gives (Does ActsFit (enter_branch env)) (branch b env)
+  branch_does : (b : text.Branch) (env : Environment) → Sits env → 0 < length env.around → suc (length env.around) + branch_depth b ≤ greatest_levels
+      → BranchInRange b → Gives (Does ActsFit (enter_branch env)) (branch b env)
   branch_does (text.branch c line s) env t inside deep h =
       behind (Does ActsFit (enter_branch env)) (constant env c) _ (λ k.
       ruled (Does ActsFit (enter_branch env)) (k.of == int_type) kind.Types line _ (λ is.
       list_does s (enter_branch env) (entered_sits env t inside (omega (arith, deep))) (omega arith) (omega (arith, deep)) h.1))
 
-  branches_do : (bs : text.Branches) (before : Environment) (done : After Acts) → Sits before → 0 < length before.around → suc (length before.around) + branches_depth bs ≤ greatest_levels → BranchesInRange bs →
+  branches_do : (bs : text.Branches) (before : Environment) (done : After Acts) → Sits before → 0 < length before.around → suc (length before.around) +
+      branches_depth bs ≤ greatest_levels → BranchesInRange bs →
       Does ActsFit (enter_branch before) done → Gives (Branched before (branches_count bs)) (branches bs before done)
   branches_do (text.no_branch end) before done t inside deep h k =
       bind (Left before) (Branched before 0) _ _ (leave_left before end done t inside k) (one_branch before)
@@ -402,6 +436,8 @@ mutual
       let nearer : 0 < length one.env.around = subst (λ a. 0 < length a) (sym j.steps.around) inside in
       bind (Branched one.env (branches_count bs)) (Branched before (suc (branches_count bs))) _ _
       (bind (Does ActsFit (enter_branch one.env)) (Branched one.env (branches_count bs)) _ _
-      (branch_does b one.env j.steps.sits nearer (subst (λ a. suc (length a) + branch_depth b ≤ greatest_levels) (sym j.steps.around) (omega (arith, deep))) h.0)
-      (λ next i. branches_do bs one.env next j.steps.sits nearer (subst (λ a. suc (length a) + branches_depth bs ≤ greatest_levels) (sym j.steps.around) (omega (arith, deep))) h.1 i))
+      (branch_does b one.env j.steps.sits nearer (subst (λ a. suc (length a) + branch_depth b ≤ greatest_levels) (sym j.steps.around) (omega (arith, deep)))
+      h.0)
+      (λ next i. branches_do bs one.env next j.steps.sits nearer
+      (subst (λ a. suc (length a) + branches_depth bs ≤ greatest_levels) (sym j.steps.around) (omega (arith, deep))) h.1 i))
       (λ others i. more_branches before (branches_count bs) one others j i))

@@ -1,5 +1,6 @@
 -- The parameters of a program are calls of the system, and no two are the same call.
-use Rattle.std.proofs.Common.{◌≡◌, ℕ, zero, suc, ◌<◌, nat_lt, ℤ, pos, Bool, true, false, not, ◌&&◌, ◌||◌, ◌==◌, if◌then◌else◌, cond, List, [], ◌∷◌, ◌++◌, length, Option, Some, None, All, IsTrue, IfSome, is_some, refl, sym, ap, subst, ◌∙◌, arith}
+use Rattle.std.proofs.Common.{◌≡◌, ℕ, zero, suc, ◌<◌, nat_lt, ℤ, pos, Bool, true, false, not, ◌&&◌, ◌||◌, ◌==◌, if◌then◌else◌, cond, List, [], ◌∷◌, ◌++◌}
+use Rattle.std.proofs.Common.{length, Option, Some, None, All, IsTrue, IfSome, is_some, refl, sym, ap, subst, ◌∙◌, arith}
 use Rattle.std.proofs.lemmas.Bool.{eqb-true, and_parts, or_parts, true≢false}
 use Rattle.std.proofs.lemmas.Bool.Decides.{Decides-int_eq}
 use Rattle.std.proofs.lemmas.List.Elements.{All-nil, All-cons}
@@ -19,14 +20,16 @@ use Rattle.edi_unit.specs.declared.units.Parameter.TheVariants as slot
 use Rattle.edi_unit.specs.Types.{Shape, int, char, bool, enumeration, record_of, array_of, set_of, shape_at, int_type, char_type, bool_type}
 use Rattle.edi_unit.specs.Tree.{ProgramUnit}
 use Rattle.edi_unit.specs.Need.{block_at}
-use Rattle.edi_unit.specs.Fits.{Heading, heading, Formals, no_formal, value_then, variable_then, procedure_then, heading_result, heading_formals, IsTitle, IsCall, accept, display, print, find, more, read, fresh, write, close, remove, CallsFit}
+use Rattle.edi_unit.specs.Fits.{Heading, heading, Formals, no_formal, value_then, variable_then, procedure_then, heading_result, heading_formals, IsTitle}
+use Rattle.edi_unit.specs.Fits.{IsCall, accept, display, print, find, more, read, fresh, write, close, remove, CallsFit}
 use Rattle.edi_static.specs.declared.faults.StaticKind.{StaticKind}
 use Rattle.edi_static.specs.declared.faults.StaticKind.TheVariants as kind
 use Rattle.edi_static.specs.Judged.{Judged, gives, faults}
 use Rattle.edi_static.specs.Environment.{Environment, declare, enter, no_heading, heading_at, same_heading, formals_append, parameters_of}
 use Rattle.edi_static.specs.Headings.{Headed, with_result, heading_parts, more_parameters}
 use Rattle.edi_static.specs.Fitting.{rest_of}
-use Rattle.edi_static.specs.Programs.{is_title_shape, is_titled, gives_char, gives_bool, takes_char, system_calls, number_of_call, call_with, call_of, calls_of_more, calls_of, program_heading}
+use Rattle.edi_static.specs.Programs.{is_title_shape, is_titled, gives_char, gives_bool, takes_char, system_calls, number_of_call, call_with, call_of}
+use Rattle.edi_static.specs.Programs.{calls_of_more, calls_of, program_heading}
 use Rattle.edi_static.proofs.Judging.{Gives, bind, behind}
 use Rattle.edi_static.proofs.Fitness.{asked_at, variable_heading, headings_of}
 use Rattle.edi_static.proofs.FitnessOperators.{never}
@@ -87,7 +90,8 @@ titled types (heading (procedure_then g fs) r) h = never h
 abbrev pub IsNamed : List Shape → Heading → List ℕ → ℕ → Type 0
 IsNamed types asks name n = IsCall types n (heading_formals asks) × (heading_result asks ≡ None) × (name ≡ title_of n)
 
-choose_row : (P : ℕ → Type 0) (found is : Bool) (k : ℕ) (o : Option ℕ) → (found ≡ true → is ≡ true → P k) → IfSome o P → IfSome (if found then (if is then Some k else None) else o) P
+choose_row : (P : ℕ → Type 0) (found is : Bool) (k : ℕ) (o : Option ℕ) → (found ≡ true → is ≡ true → P k) → IfSome o P
+    → IfSome (if found then (if is then Some k else None) else o) P
 choose_row P true true k o h j = h refl refl
 choose_row P true false k o h j = tt
 choose_row P false is k o h j = j
@@ -136,7 +140,8 @@ CallsOf types known (procedure_then asks fs) (n ∷ ns) =
 CallsOf types known (value_then t fs) ns = ⊥
 CallsOf types known (variable_then t fs) ns = ⊥
 
-calls_follow : (types : List Shape) (known : List ℕ → Bool) (ps : text.MoreParams) (fs : Formals) → Follows known ps fs → Gives (CallsOf types known fs) (calls_of_more types ps fs)
+calls_follow : (types : List Shape) (known : List ℕ → Bool) (ps : text.MoreParams) (fs : Formals) → Follows known ps fs → Gives (CallsOf types known fs)
+    (calls_of_more types ps fs)
 calls_follow types known text.no_param fs h = subst (λ fs. CallsOf types known fs []) (sym h) tt
 calls_follow types known (text.next_param (text.procedure_param (text.heading name hs r)) ps) fs h =
     subst (λ fs. Gives (CallsOf types known fs) (calls_of_more types (text.next_param (text.procedure_param (text.heading name hs r)) ps) fs)) (sym h.2)
@@ -159,7 +164,8 @@ or_left : (b c : Bool) → b ≡ true → (b || c) ≡ true
 or_left true c h = refl
 or_left false c h = never h
 
-others : (types : List Shape) (n : ℕ) (known : List ℕ → Bool) (fs : Formals) (ns : List ℕ) → known (title_of n) ≡ true → CallsOf types known fs ns → All (λ m. n ≢ m) ns
+others : (types : List Shape) (n : ℕ) (known : List ℕ → Bool) (fs : Formals) (ns : List ℕ) → known (title_of n) ≡ true → CallsOf types known fs ns
+    → All (λ m. n ≢ m) ns
 others types n known no_formal [] h k = All-nil (λ m. n ≢ m)
 others types n known no_formal (m ∷ ns) h k = absurd k
 others types n known (value_then t fs) ns h k = absurd k
@@ -183,7 +189,8 @@ calls_distinct types known (procedure_then asks fs) (n ∷ ns) k =
     k.3)
     (calls_distinct types (with_known (title_of n) known) fs ns k.3)
 
-calls_procedures : (types : List Shape) (known : List ℕ → Bool) (fs : Formals) (ns : List ℕ) → CallsOf types known fs ns → All (λ p. p ≡ slot.Formal None) (parameters_of fs)
+calls_procedures : (types : List Shape) (known : List ℕ → Bool) (fs : Formals) (ns : List ℕ) → CallsOf types known fs ns → All (λ p. p ≡ slot.Formal None)
+    (parameters_of fs)
 calls_procedures types known no_formal [] k = All-nil (λ p. p ≡ slot.Formal None)
 calls_procedures types known no_formal (n ∷ ns) k = absurd k
 calls_procedures types known (value_then t fs) ns k = absurd k
@@ -238,7 +245,8 @@ calls_fit unit headings asks is kept h =
     }
 
 -- a group among the parameters of a program is refused
-group_faults : (P : List ℕ → Type 0) (types : List Shape) (ps : text.MoreParams) (fs : Formals) → only_procedures ps ≡ false → Gives P (calls_of_more types ps fs)
+group_faults : (P : List ℕ → Type 0) (types : List Shape) (ps : text.MoreParams) (fs : Formals) → only_procedures ps ≡ false
+    → Gives P (calls_of_more types ps fs)
 group_faults P types text.no_param fs e = absurd (true≢false e)
 group_faults P types (text.next_param (text.procedure_param h) ps) fs e =
     behind P (call_of types (text.procedure_param h) fs) _ (λ n.

@@ -1,5 +1,7 @@
 -- Constants, types and variables keep what holds of an environment.
-use Rattle.std.proofs.Common.{◌≡◌, ℕ, zero, suc, ◌+◌, ◌<◌, ◌≤◌, ℤ, pos, ◌≤ℤ◌, int_le, Bool, true, false, not, ◌||◌, ◌&&◌, ◌==◌, nat_lt, nat_le, if◌then◌else◌, List, [], ◌∷◌, ◌++◌, length, get_or, map, All, Option, Some, None, IsTrue, is_some, refl, sym, ap, ◌∙◌, subst, arith, length-append}
+use Rattle.std.proofs.Common.{◌≡◌, ℕ, zero, suc, ◌+◌, ◌<◌, ◌≤◌, ℤ, pos, ◌≤ℤ◌, int_le, Bool, true, false, not, ◌||◌, ◌&&◌, ◌==◌, nat_lt, nat_le}
+use Rattle.std.proofs.Common.{if◌then◌else◌, List, [], ◌∷◌, ◌++◌, length, get_or, map, All, Option, Some, None, IsTrue, is_some, refl, sym, ap, ◌∙◌, subst}
+use Rattle.std.proofs.Common.{arith, length-append}
 use Rattle.std.specs.Prelude.{slice_get}
 use Rattle.std.specs.List.{list_any}
 use Rattle.std.specs.Str.{bytes_eq}
@@ -15,13 +17,17 @@ use Rattle.edi_tree.specs.declared.constants.Constant.{Constant}
 use Rattle.edi_tree.specs.declared.constants.Constant.TheVariants as code
 use Rattle.edi_tree.specs.declared.constants.ConstDecl.{ConstDecl}
 use Rattle.edi_tree.specs.Tree as text
-use Rattle.edi_unit.specs.Types.{Shape, int, char, bool, enumeration, record_of, array_of, set_of, shape_at, is_ordinal_of, is_elementary, is_elementary_shape, standard_types, named_types, ordinal_types, HasOrderedBounds, shape_size, size, greatest_size, fields_of, IsDeclarable, int_type, char_type}
+use Rattle.edi_unit.specs.Types.{Shape, int, char, bool, enumeration, record_of, array_of, set_of, shape_at, is_ordinal_of, is_elementary}
+use Rattle.edi_unit.specs.Types.{is_elementary_shape, standard_types, named_types, ordinal_types, HasOrderedBounds, shape_size, size, greatest_size}
+use Rattle.edi_unit.specs.Types.{fields_of, IsDeclarable, int_type, char_type}
 use Rattle.edi_unit.specs.Fits.{ShapeFits}
 use Rattle.edi_static.specs.declared.faults.StaticKind.{StaticKind}
 use Rattle.edi_static.specs.declared.faults.StaticKind.TheVariants as kind
 use Rattle.edi_static.specs.Judged.{Judged, gives, faults, ◌>>=◌, must}
 use Rattle.edi_static.specs.Environment.{Environment, look_up, as_type, type_named, declare, with_type}
-use Rattle.edi_static.specs.Types.{Ordinal, constant, as_constant, as_character, const_decl, const_decls, const_list, most_constants, names_count, enum_constant, enum_constants, enum_decl, Fields, no_fields, with_field, field_named, fields_named, fields_of_group, fields_of_groups, declare_type, array_decl, set_decl, type_decl}
+use Rattle.edi_static.specs.Types.{Ordinal, constant, as_constant, as_character, const_decl, const_decls, const_list, most_constants, names_count}
+use Rattle.edi_static.specs.Types.{enum_constant, enum_constants, enum_decl, Fields, no_fields, with_field, field_named, fields_named, fields_of_group}
+use Rattle.edi_static.specs.Types.{fields_of_groups, declare_type, array_decl, set_decl, type_decl}
 use Rattle.edi_static.specs.InRange.{ConstantInRange, ConstDeclsInRange, ConstListInRange, TypeDeclInRange}
 use Rattle.edi_static.proofs.Judging.{Gives, bind, behind, ruled, weaker}
 use Rattle.edi_static.proofs.Steps.{typed_declare, typed_enum}
@@ -54,7 +60,8 @@ as_constant_sits env line (entity.Procedure b) h = tt
 as_constant_sits env line (entity.Formal b v shape) h = tt
 as_constant_sits env line entity.Halt h = tt
 
-standard_sits : (env : Environment) → Sits env → (t : ℕ) → t < 3 → (n : ℤ) → is_ordinal_of (shape_at standard_types t) n ≡ true → EntitySits env (entity.Constant t n)
+standard_sits : (env : Environment) → Sits env → (t : ℕ) → t < 3 → (n : ℤ) → is_ordinal_of (shape_at standard_types t) n ≡ true
+    → EntitySits env (entity.Constant t n)
 standard_sits env s t lt n h =
     let three = s.table.three in
     (omega (arith, lt, three), subst (λ x. IsTrue (is_ordinal_of x n)) (sym (standard_shape env.types s.table t lt)) h)
@@ -105,7 +112,8 @@ given_first : {A : Type 0} (C : Type 0) (Q : A → Type 0) (j : Judged A) → Gi
 given_first C Q (gives a) h k = k h
 given_first C Q (faults why line) h k = tt
 
-few : (m : Bool) (of n : ℕ) (ns : text.Names) (env : Environment) → n ≤ most_constants → Gives (λ e. n + names_count ns ≤ most_constants) (enum_constants m of n ns env)
+few : (m : Bool) (of n : ℕ) (ns : text.Names) (env : Environment) → n ≤ most_constants → Gives (λ e. n + names_count ns ≤ most_constants)
+    (enum_constants m of n ns env)
 few m of n text.no_name env h = omega (arith, h)
 few m of n (text.next_name name ns) env h =
     bind (λ e. n < most_constants) (λ e. n + suc (names_count ns) ≤ most_constants) _ _
@@ -119,7 +127,8 @@ in_enumeration : (n k : ℕ) → n < k → is_ordinal_of (enumeration k) (pos n)
 in_enumeration n k h = grind (arith, h)
 
 -- the constants of an enumeration that stands in the table
-enum_onward : (m : Bool) (of n k : ℕ) (ns : text.Names) (env : Environment) → Sits env → of < length env.types → shape_at env.types of ≡ enumeration k → n + names_count ns ≡ k →
+enum_onward : (m : Bool) (of n k : ℕ) (ns : text.Names) (env : Environment) → Sits env → of < length env.types → shape_at env.types of ≡ enumeration k
+    → n + names_count ns ≡ k →
     Gives (Onward m env) (enum_constants m of n ns env)
 enum_onward m of n k text.no_name env s known is count = onward_same m env s
 enum_onward m of n k (text.next_name name ns) env s known is count =
@@ -156,7 +165,8 @@ enumeration_declarable types n = record {
   small = omega arith;
 }
 
-enum_decl_onward : (m : Bool) (name first : Name) (more : text.Names) (env : Environment) → Sits env → Gives (Onward m env) (enum_decl m name (text.next_name first more) env)
+enum_decl_onward : (m : Bool) (name first : Name) (more : text.Names) (env : Environment) → Sits env
+    → Gives (Onward m env) (enum_decl m name (text.next_name first more) env)
 enum_decl_onward m name first more env s =
     let ns : text.Names = text.next_name first more in
     let k : ℕ = names_count ns in
@@ -168,7 +178,8 @@ enum_decl_onward m name first more env s =
     (λ few_enough. put m name ns env s (omega arith) (omega (arith, few_enough))))
   where
     put : (m : Bool) (name : Name) (ns : text.Names) (env : Environment) → Sits env → 0 < names_count ns → names_count ns ≤ most_constants →
-        Gives (Onward m env) (declare m name (entity.Types (length env.types)) (with_type (enumeration (names_count ns)) [] env) >>= enum_constants m (length env.types) 0 ns)
+        Gives (Onward m env) (declare m name (entity.Types (length env.types)) (with_type (enumeration (names_count ns)) [] env) >>= enum_constants m
+        (length env.types) 0 ns)
     put m name ns env s some few_enough =
         let k : ℕ = names_count ns in
         let of : ℕ = length env.types in
@@ -208,7 +219,8 @@ ordinal_elementary (record_of fs) n h = absurd (false≢true h)
 ordinal_elementary (array_of i lo hi e) n h = absurd (false≢true h)
 ordinal_elementary (set_of t) n h = absurd (false≢true h)
 
-array_onward : (m : Bool) (name : Name) (lower upper : Constant) (element : Name) (env : Environment) → Sits env → ConstantInRange lower → ConstantInRange upper →
+array_onward : (m : Bool) (name : Name) (lower upper : Constant) (element : Name) (env : Environment) → Sits env → ConstantInRange lower
+    → ConstantInRange upper →
     Gives (Onward m env) (array_decl m name lower upper element env)
 array_onward m name lower upper element env s low high =
     bind (OrdinalSits env) (Onward m env) (constant env lower) _ (constant_sits env s lower low) (λ lo i.
@@ -239,19 +251,22 @@ record FieldsSit (types : List Shape) (fields : Fields) : Type 0 where
   known : All (λ t. t < length types) fields.types
   as_many : length fields.names ≡ length fields.types
 
-field_sits : (types : List Shape) (of : ℕ) (name : Name) (fields : Fields) → of < length types → FieldsSit types fields → Gives (FieldsSit types) (field_named of name fields)
+field_sits : (types : List Shape) (of : ℕ) (name : Name) (fields : Fields) → of < length types → FieldsSit types fields
+    → Gives (FieldsSit types) (field_named of name fields)
 field_sits types of name fields known h =
     ruled (FieldsSit types) (not (list_any (bytes_eq name.text) fields.names)) kind.Ambiguous name.line _ (λ _. record {
       known = All-push (λ t. t < length types) fields.types of h.known known;
       as_many = length-append fields.names (name.text ∷ []) ∙ ap (λ n. n + 1) h.as_many ∙ sym (length-append fields.types (of ∷ []));
     })
 
-fields_sit : (types : List Shape) (of : ℕ) (ns : text.Names) (fields : Fields) → of < length types → FieldsSit types fields → Gives (FieldsSit types) (fields_named of ns fields)
+fields_sit : (types : List Shape) (of : ℕ) (ns : text.Names) (fields : Fields) → of < length types → FieldsSit types fields
+    → Gives (FieldsSit types) (fields_named of ns fields)
 fields_sit types of text.no_name fields known h = h
 fields_sit types of (text.next_name name ns) fields known h =
     bind (FieldsSit types) (FieldsSit types) _ _ (field_sits types of name fields known h) (λ f k. fields_sit types of ns f known k)
 
-groups_sit : (env : Environment) → Sits env → (gs : text.Groups) (fields : Fields) → FieldsSit env.types fields → Gives (FieldsSit env.types) (fields_of_groups env gs fields)
+groups_sit : (env : Environment) → Sits env → (gs : text.Groups) (fields : Fields) → FieldsSit env.types fields
+    → Gives (FieldsSit env.types) (fields_of_groups env gs fields)
 groups_sit env s text.no_group fields h = h
 groups_sit env s (text.next_group (text.group first names of) gs) fields h =
     bind (FieldsSit env.types) (FieldsSit env.types) _ _
@@ -266,6 +281,7 @@ type_decl_onward m (text.record_decl name first more) env s h =
     (groups_sit env s (text.next_group first more) no_fields (record { known = none_named (λ t. t < length env.types); as_many = refl }))
     (λ fields k.
     let many = k.as_many in
-    declare_type_onward m name (record_of fields.types) fields.names env s k.known (none_named (λ t. IsTrue (is_elementary env.types t))) tt tt (omega (arith, many)))
+    declare_type_onward m name (record_of fields.types) fields.names env s k.known (none_named (λ t. IsTrue (is_elementary env.types t))) tt tt
+    (omega (arith, many)))
 type_decl_onward m (text.array_decl name line lower upper element) env s h = array_onward m name lower upper element env s h.0 h.1
 type_decl_onward m (text.set_decl name base) env s h = set_decl_onward m name base env s

@@ -3,7 +3,8 @@ use Rattle.std.proofs.Common.{◌≡◌, ℕ, suc, ◌+◌, ◌<◌, ◌≤◌, 
 use Rattle.edi_unit.specs.Types.{Shape, greatest_size}
 use Rattle.edi_unit.specs.Tree.{Block}
 use Rattle.edi_unit.specs.Need.{block_at, need}
-use Rattle.edi_unit.specs.Fits.{Heading, Formals, no_formal, value_then, variable_then, procedure_then, heading_result, heading_formals, first_parameter, ResultsAgree, BlockFits, Fits}
+use Rattle.edi_unit.specs.Fits.{Heading, Formals, no_formal, value_then, variable_then, procedure_then, heading_result, heading_formals, first_parameter}
+use Rattle.edi_unit.specs.Fits.{ResultsAgree, BlockFits, Fits}
 use Rattle.edi_static.specs.Environment.{Environment, heading_at, parameters_of}
 use Rattle.edi_static.proofs.Fitness.{asked_at, variable_heading, headings_of, BlockStands, Sits}
 use Rattle.edi_static.proofs.FitnessNames.{further, numbered}
@@ -22,7 +23,8 @@ results_agree of n (procedure_then g fs) h =
 abbrev pub NeedsSo : List Shape → List Block → ℕ → Type 0
 NeedsSo types blocks n = ((block_at blocks n).need ≡ need types blocks n) × ((block_at blocks n).need ≤ greatest_size)
 
-block_fits : (types : List Shape) (blocks : List Block) (headings : List Heading) (n : ℕ) → BlockStands types blocks headings n → NeedsSo types blocks n → BlockFits types blocks (headings_of headings) n
+block_fits : (types : List Shape) (blocks : List Block) (headings : List Heading) (n : ℕ) → BlockStands types blocks headings n → NeedsSo types blocks n
+    → BlockFits types blocks (headings_of headings) n
 block_fits types blocks headings n s c = record {
   fits_kind = s.fits_kind;
   outermost = s.outermost;
@@ -31,13 +33,15 @@ block_fits types blocks headings n s c = record {
   results =
       subst (λ r. ResultsAgree (headings_of headings n) (first_parameter r) (block_at blocks n).parameters) (sym s.result)
       (subst (λ ps. ResultsAgree (headings_of headings n) (first_parameter (heading_result (heading_at headings n))) ps) (sym s.parameters)
-      (results_agree (variable_heading (heading_at headings n)) (first_parameter (heading_result (heading_at headings n))) (heading_formals (heading_at headings n)) (numbered (heading_at headings n))));
+      (results_agree (variable_heading (heading_at headings n)) (first_parameter (heading_result (heading_at headings n)))
+      (heading_formals (heading_at headings n)) (numbered (heading_at headings n))));
   statements = s.statements;
   needs = c.0;
   small = c.1;
 }
 
-pub unit_fits : (env : Environment) (calls : List ℕ) → Sits env → ((n : ℕ) → n < length env.blocks → NeedsSo env.types env.blocks n) → 0 < length env.blocks → length env.types < 2 ^ 32
+pub unit_fits : (env : Environment) (calls : List ℕ) → Sits env → ((n : ℕ) → n < length env.blocks → NeedsSo env.types env.blocks n) → 0 < length env.blocks
+    → length env.types < 2 ^ 32
     → AreCalls env.types (heading_at env.headings 0) calls → Fits (record { types = env.types; blocks = env.blocks; program = 0; calls = calls })
 unit_fits env calls s closed some short named = record {
   headings = headings_of env.headings;
@@ -47,5 +51,6 @@ unit_fits env calls s closed some short named = record {
   some = some;
   fits_blocks = λ n lt. block_fits env.types env.blocks env.headings n (s.stand n lt) (closed n lt);
   fits_calls =
-      calls_fit (record { types = env.types; blocks = env.blocks; program = 0; calls = calls }) env.headings (heading_at env.headings 0) refl (s.stand 0 some).parameters named;
+      calls_fit (record { types = env.types; blocks = env.blocks; program = 0; calls = calls }) env.headings (heading_at env.headings 0) refl
+      (s.stand 0 some).parameters named;
 }

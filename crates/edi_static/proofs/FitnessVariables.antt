@@ -1,5 +1,6 @@
 -- Declared variables keep what holds of an environment.
-use Rattle.std.proofs.Common.{◌≡◌, ℕ, zero, suc, ◌+◌, ◌<◌, Bool, true, false, ◌||◌, ◌&&◌, ◌==◌, if◌then◌else◌, List, [], ◌∷◌, ◌++◌, length, get_or, set, map, All, Option, Some, None, IsTrue, is_some, refl, sym, ap, ◌∙◌, subst, arith, length-append}
+use Rattle.std.proofs.Common.{◌≡◌, ℕ, zero, suc, ◌+◌, ◌<◌, Bool, true, false, ◌||◌, ◌&&◌, ◌==◌, if◌then◌else◌, List, [], ◌∷◌, ◌++◌, length, get_or, set, map}
+use Rattle.std.proofs.Common.{All, Option, Some, None, IsTrue, is_some, refl, sym, ap, ◌∙◌, subst, arith, length-append}
 use Rattle.std.specs.Prelude.{slice_get}
 use Rattle.std.proofs.lemmas.Bool.{false≢true}
 use Rattle.std.proofs.lemmas.Bool.Decides.{Decides-eqb}
@@ -58,7 +59,8 @@ ready_later m env next s o r =
 -- ---- a variable
 
 -- the block may be changed before the name is declared
-changed : (b : Bool) (why : StaticKind) (line : ℕ) (f : Environment → Environment) (x y : Environment) → f x ≡ y → ((if b then faults why line else gives x) >>= λ e. gives (f e)) ≡ (if b then faults why line else gives y)
+changed : (b : Bool) (why : StaticKind) (line : ℕ) (f : Environment → Environment) (x y : Environment) → f x ≡ y
+    → ((if b then faults why line else gives x) >>= λ e. gives (f e)) ≡ (if b then faults why line else gives y)
 changed true why line f x y e = refl
 changed false why line f x y e = ap gives e
 
@@ -68,7 +70,8 @@ one_variable of env = set_block (here env) (with_variable of (block_at env.block
 variable_steps : (m : Bool) (of : ℕ) (name : Name) (env : Environment) →
     variable_decl m of name env ≡ declare m name (entity.Variable (here env) (next_variable env) of) (one_variable of env)
 variable_steps m of name env =
-    changed (is_some (declared env.scopes name.text) || (m && is_some (declared (outside env.scopes) name.text))) kind.Ambiguous name.line (one_variable of) _ _ refl
+    changed (is_some (declared env.scopes name.text) || (m && is_some (declared (outside env.scopes) name.text))) kind.Ambiguous name.line (one_variable of) _
+    _ refl
 
 last_slot : {X : Type 0} (xs : List X) (x : X) → slice_get (xs ++ x ∷ []) (length xs) ≡ Some x
 last_slot [] x = refl
@@ -83,7 +86,8 @@ kind_fits block_kind.Procedure n of b c h = h
 kind_fits block_kind.Function n of b c h = h
 kind_fits block_kind.Branch n of b c h = absurd (false≢true c)
 
-variable_onward : (m : Bool) (of : ℕ) (name : Name) (env : Environment) → Sits env → Ready env → of < length env.types → Gives (Onward m env) (variable_decl m of name env)
+variable_onward : (m : Bool) (of : ℕ) (name : Name) (env : Environment) → Sits env → Ready env → of < length env.types
+    → Gives (Onward m env) (variable_decl m of name env)
 variable_onward m of name env s r known =
     let at : ℕ = here env in
     let b : Block = block_at env.blocks at in
@@ -103,12 +107,14 @@ variable_onward m of name env s r known =
     (weaker (Onward m next) (Onward m env) (declare m name (entity.Variable at (next_variable env) of) next) (λ e g. onward_then m env next e o g)
     (declare_onward m name (entity.Variable at (next_variable env) of) next o.sits (round, ap is_variable new, ap slot_type new)))
 
-named_onward : (m : Bool) (of : ℕ) (ns : text.Names) (env : Environment) → Sits env → Ready env → of < length env.types → Gives (Onward m env) (variables_named m of ns env)
+named_onward : (m : Bool) (of : ℕ) (ns : text.Names) (env : Environment) → Sits env → Ready env → of < length env.types
+    → Gives (Onward m env) (variables_named m of ns env)
 named_onward m of text.no_name env s r known = onward_same m env s
 named_onward m of (text.next_name name ns) env s r known =
     go_on m env _ _ (variable_onward m of name env s r known) (λ e o.
     let l = o.later in
-    named_onward m of ns e o.sits (ready_later m env e s o r) (subst (λ ts. of < length ts) (sym l.types) (omega (arith, known, length-append env.types l.more))))
+    named_onward m of ns e o.sits (ready_later m env e s o r)
+    (subst (λ ts. of < length ts) (sym l.types) (omega (arith, known, length-append env.types l.more))))
 
 group_onward : (m : Bool) (g : text.Group) (env : Environment) → Sits env → Ready env → Gives (Onward m env) (variables_of_group m g env)
 group_onward m (text.group first names of) env s r =

@@ -1,5 +1,6 @@
 -- Declarations, procedures and modules keep what holds of an environment.
-use Rattle.std.proofs.Common.{◌≡◌, ◌≢◌, ℕ, zero, suc, ◌+◌, ◌<◌, ◌≤◌, max, Bool, true, false, not, cond, ◌||◌, ◌==◌, List, [], ◌∷◌, ◌++◌, length, get_or, filter, All, Option, Some, None, IsTrue, refl, sym, ap, ◌∙◌, subst, arith, inl, inr}
+use Rattle.std.proofs.Common.{◌≡◌, ◌≢◌, ℕ, zero, suc, ◌+◌, ◌<◌, ◌≤◌, max, Bool, true, false, not, cond, ◌||◌, ◌==◌, List, [], ◌∷◌, ◌++◌, length, get_or}
+use Rattle.std.proofs.Common.{filter, All, Option, Some, None, IsTrue, refl, sym, ap, ◌∙◌, subst, arith, inl, inr}
 use Rattle.std.specs.List.{list_any}
 use Rattle.std.specs.Str.{bytes_eq}
 use Rattle.std.proofs.lemmas.Bool.{false≢true, cases_eq, eqb-true}
@@ -12,7 +13,8 @@ use Rattle.edi_scope.specs.declared.entity.Entity.TheVariants as entity
 use Rattle.edi_scope.specs.Scope.{Scope, declared, outside, entered}
 use Rattle.edi_tree.specs.declared.names.Name.{Name}
 use Rattle.edi_tree.specs.Tree as text
-use Rattle.edi_tree.specs.Depth.{heading_depth, list_depth, procedure_depth, item_depth, module_depth, member_depth, members_depth, declaration_depth, declarations_depth}
+use Rattle.edi_tree.specs.Depth.{heading_depth, list_depth, procedure_depth, item_depth, module_depth, member_depth, members_depth, declaration_depth}
+use Rattle.edi_tree.specs.Depth.{declarations_depth}
 use Rattle.edi_unit.specs.Tree.{Acts, Block}
 use Rattle.edi_unit.specs.Need.{block_at}
 use Rattle.edi_unit.specs.Fits.{is_called, ActsFit, greatest_levels}
@@ -20,14 +22,17 @@ use Rattle.edi_static.specs.Judged.{Judged, gives, faults, ◌>>=◌}
 use Rattle.edi_static.specs.Environment.{Begun, Environment, here, enter}
 use Rattle.edi_static.specs.Headings.{leave, own_name}
 use Rattle.edi_static.specs.Statements.{After, add_statements, close_block, statement_list}
-use Rattle.edi_static.specs.Declarations.{begun_named, without_begun, all_completed, enter_block, leave_to, leave_module, heading_of, procedure_name, block_of, begin_procedure, begin_post, pre_decl, procedure_rest, item, module_decl, members, member, declarations, declaration}
+use Rattle.edi_static.specs.Declarations.{begun_named, without_begun, all_completed, enter_block, leave_to, leave_module, heading_of, procedure_name}
+use Rattle.edi_static.specs.Declarations.{block_of, begin_procedure, begin_post, pre_decl, procedure_rest, item, module_decl, members, member, declarations}
+use Rattle.edi_static.specs.Declarations.{declaration}
 use Rattle.edi_static.specs.InRange.{ProcedureInRange, ItemInRange, ModuleInRange, MemberInRange, MembersInRange, DeclarationInRange, DeclarationsInRange}
 use Rattle.edi_static.specs.Proper.{ScopesFit}
 use Rattle.edi_static.proofs.Judging.{Gives, bind, behind, weaker}
 use Rattle.edi_static.proofs.Proper.{outside_fit}
 use Rattle.edi_static.proofs.Fitness.{headings_of, is_round, Names, EntitySits, IsChain, Sits}
 use Rattle.edi_static.proofs.FitnessLater.{Later, later_same, later_then, chain_later, scopes_later}
-use Rattle.edi_static.proofs.FitnessOnward.{Closed, BegunFits, AllBegun, begun_later, Tidy, is_open, is_begun, closed_later, Onward, onward_then, onward_same, onward_any}
+use Rattle.edi_static.proofs.FitnessOnward.{Closed, BegunFits, AllBegun, begun_later, Tidy, is_open, is_begun, closed_later, Onward, onward_then}
+use Rattle.edi_static.proofs.FitnessOnward.{onward_same, onward_any}
 use Rattle.edi_static.proofs.FitnessTypes.{go_on, const_list_onward, type_decl_onward}
 use Rattle.edi_static.proofs.FitnessVariables.{Ready, ready_later, here_inside, here_round, var_onward}
 use Rattle.edi_static.proofs.FitnessBlocks.{placed_sits, placed_later, Changes, more_change, Closes, block_closes}
@@ -37,7 +42,8 @@ use Rattle.edi_static.proofs.FitnessProcedures.{inside_of, inner_sits, inner_rea
 
 -- ---- after a procedure
 
-from_placed : (scopes : List Scope) (around : List ℕ) (begun : List Begun) (env next : Environment) → Later (record env { scopes = scopes; around = around; begun = begun }) next → Later env next
+from_placed : (scopes : List Scope) (around : List ℕ) (begun : List Begun) (env next : Environment)
+    → Later (record env { scopes = scopes; around = around; begun = begun }) next → Later env next
 from_placed scopes around begun env next l = record {
   more = l.more;
   types = l.types;
@@ -106,7 +112,8 @@ module _ (n : ℕ) (marked : Bool) (name : Name) (env next : Environment) (s : S
               | inl is ↦ subst (Closed after.types after.blocks) (sym is) k.closed
               | inr other ↦
                   let p = apart (further m) (is_round m env.around) (is_begun m begun) o in
-                  k.tidy (still further env n) (inner_tidy further (e.tidy all (still further env n) (is_still further env n) (still_tidy further env n u))) m h other
+                  k.tidy (still further env n) (inner_tidy further (e.tidy all (still further env n) (is_still further env n) (still_tidy further env n u))) m
+                  h other
                   (together (still further env n m) ((n == m) || is_round m outer.around) false
                   (together (further m) (is_begun m env.begun) (m == n) p.0 (shut all m other p.2) (differs m n other))
                   (neither (n == m) (is_round m outer.around) (differs n m (λ is. other (sym is))) (ap (is_round m) e.around ∙ p.1)) refl)
@@ -117,7 +124,8 @@ module _ (n : ℕ) (marked : Bool) (name : Name) (env next : Environment) (s : S
       neither : (a b : Bool) → a ≡ false → b ≡ false → (a || b) ≡ false
       neither a b i j = ap (λ x. x || b) i ∙ j
 
-      inner_tidy : (further : ℕ → Bool) → Tidy (is_open (still further env n) e.outer) e.outer → Tidy (is_open (still further env n) (inside_of e.outer e.scope n)) (inside_of e.outer e.scope n)
+      inner_tidy : (further : ℕ → Bool) → Tidy (is_open (still further env n) e.outer) e.outer
+          → Tidy (is_open (still further env n) (inside_of e.outer e.scope n)) (inside_of e.outer e.scope n)
       inner_tidy further t m h o =
           let p = apart (still further env n m) ((n == m) || is_round m e.outer.around) false o in
           let q = two_apart (n == m) (is_round m e.outer.around) p.1 in
@@ -130,7 +138,8 @@ abbrev new_begun : Name → Environment → Begun
 new_begun name env = record { name = name; block = length env.blocks }
 
 -- the scope of its heading ends at once
-whole_onward : (marked : Bool) (name : Name) (env next : Environment) → (e : Entered (length env.blocks) marked name env next) → Onward marked env (record e.outer { begun = env.begun ++ new_begun name env ∷ [] })
+whole_onward : (marked : Bool) (name : Name) (env next : Environment) → (e : Entered (length env.blocks) marked name env next)
+    → Onward marked env (record e.outer { begun = env.begun ++ new_begun name env ∷ [] })
 whole_onward marked name env next e =
     let outer : Environment = e.outer in
     let n : ℕ = length env.blocks in
@@ -148,7 +157,13 @@ whole_onward marked name env next e =
       kept_outside = e.kept_outside;
       begun = λ all.
           All-push (BegunFits outer.scopes outer.blocks (here outer)) env.begun one (begun_later env final l e.around e.kept env.begun all)
-          (record { means = e.means; there = e.there; inside = e.inside ∙ ap (λ a. get_or a 0 0) (sym e.around); no_program = e.no_program; called = e.called });
+          (record {
+            means = e.means;
+            there = e.there;
+            inside = e.inside ∙ ap (λ a. get_or a 0 0) (sym e.around);
+            no_program = e.no_program;
+            called = e.called;
+          });
       tidy = λ all further u m h o.
           let p = apart (further m) (is_round m outer.around) (is_begun m (env.begun ++ one ∷ [])) o in
           let q = two_apart (is_begun m env.begun) (is_begun m (one ∷ [])) (sym (list_any-append (λ b. b.block == m) env.begun (one ∷ [])) ∙ p.2) in
@@ -160,19 +175,23 @@ whole_onward marked name env next e =
       scopes = e.scopes;
     }
 
-pre_onward : (marked : Bool) (name : Name) (env next : Environment) → Entered (length env.blocks) marked name env next → Onward marked env (record (leave next) { begun = env.begun ++ new_begun name env ∷ [] })
-pre_onward marked name env next e = subst (λ x. Onward marked env (record (leave x) { begun = env.begun ++ new_begun name env ∷ [] })) (sym e.is) (whole_onward marked name env next e)
+pre_onward : (marked : Bool) (name : Name) (env next : Environment) → Entered (length env.blocks) marked name env next
+    → Onward marked env (record (leave next) { begun = env.begun ++ new_begun name env ∷ [] })
+pre_onward marked name env next e = subst (λ x. Onward marked env (record (leave x) { begun = env.begun ++ new_begun name env ∷ [] })) (sym e.is)
+    (whole_onward marked name env next e)
 
 -- ---- a procedure that is completed
 
 -- no other is taken out with it
-others_begun : (P : Begun → Type 0) (name : List ℕ) (n m : ℕ) → ((b : Begun) → P b → bytes_eq b.name.text name ≡ true → b.block ≡ n) → (begun : List Begun) → All P begun → m ≢ n →
+others_begun : (P : Begun → Type 0) (name : List ℕ) (n m : ℕ) → ((b : Begun) → P b → bytes_eq b.name.text name ≡ true → b.block ≡ n) → (begun : List Begun)
+    → All P begun → m ≢ n →
     is_begun m (without_begun name begun) ≡ false → is_begun m begun ≡ false
 others_begun P name n m same [] all other h = refl
 others_begun P name n m same (b ∷ bs) all other h =
     stated (others_begun P name n m same bs (λ k d i. all (suc k) d (omega (arith, i))) other) (bytes_eq b.name.text name) refl h
   where
-    stated : (is_begun m (without_begun name bs) ≡ false → is_begun m bs ≡ false) → (t : Bool) → bytes_eq b.name.text name ≡ t → is_begun m (cond (not t) (b ∷ without_begun name bs) (without_begun name bs)) ≡ false → ((b.block == m) || is_begun m bs) ≡ false
+    stated : (is_begun m (without_begun name bs) ≡ false → is_begun m bs ≡ false) → (t : Bool) → bytes_eq b.name.text name ≡ t
+        → is_begun m (cond (not t) (b ∷ without_begun name bs) (without_begun name bs)) ≡ false → ((b.block == m) || is_begun m bs) ≡ false
     stated rest true e h =
         let is : b.block ≡ n = same b (all 0 b (omega arith)) e in
         ap (λ x. x || is_begun m bs) (differs b.block m (λ i. other (sym i ∙ is))) ∙ rest h
@@ -226,7 +245,8 @@ outside_length [] n h = absurd (omega (arith, h))
 outside_length (scope ∷ outer) n h = omega (arith, h)
 
 -- after a module: its statements come behind those of the block round it
-module_left : (env now : Environment) (done : After Acts) → Declares env → Onward true (module_env env) now → Does ActsFit now done → now.begun ≡ [] → Onward false env (leave_module env done)
+module_left : (env now : Environment) (done : After Acts) → Declares env → Onward true (module_env env) now → Does ActsFit now done → now.begun ≡ []
+    → Onward false env (leave_module env done)
 module_left env now done d o does none =
     let s = d.sits in
     let r = d.ready in
@@ -279,7 +299,8 @@ module_left env now done d o does none =
       scopes = outside_length done.env.scopes (length env.scopes) (p.scopes ∙ o.scopes);
     }
   where
-    inner_tidy : (further : ℕ → Bool) → Tidy (is_open further env) env → Tidy (is_open (λ k. further k || is_begun k env.begun) (module_env env)) (module_env env)
+    inner_tidy : (further : ℕ → Bool) → Tidy (is_open further env) env → Tidy (is_open (λ k. further k || is_begun k env.begun) (module_env env))
+        (module_env env)
     inner_tidy further t m h f =
         let a = apart (further m || is_begun m env.begun) (is_round m env.around) false f in
         let b = two_apart (further m) (is_begun m env.begun) a.0 in
@@ -289,14 +310,16 @@ name_same : (p : text.Procedure) → own_name (heading_of p) ≡ procedure_name 
 name_same (text.procedure h ds s end) = refl
 
 -- one declaration behind another
-go_declaring : (m : Bool) (env : Environment) (j : Judged Environment) (f : Environment → Judged Environment) (depth : ℕ) → Declares env → length env.around + depth ≤ greatest_levels → Gives (Onward m env) j →
+go_declaring : (m : Bool) (env : Environment) (j : Judged Environment) (f : Environment → Judged Environment) (depth : ℕ) → Declares env
+    → length env.around + depth ≤ greatest_levels → Gives (Onward m env) j →
     ((e : Environment) → Declares e → length e.around + depth ≤ greatest_levels → Gives (Onward m e) (f e)) → Gives (Onward m env) (j >>= f)
 go_declaring m env j f depth d deep h k =
     go_on m env j f h (λ e o. k e (declares_later m env e d o) (subst (λ a. length a + depth ≤ greatest_levels) (sym o.around) deep))
 
 mutual
   rest_onward : (p : text.Procedure) (n : ℕ) (m : Bool) (name : Name) (env next : Environment) → Sits env → (r : Ready env) → (e : Entered n m name env next) →
-      length env.around + procedure_depth p ≤ greatest_levels → ProcedureInRange p → (begun : List Begun) → ((scopes : List Scope) (blocks : List Block) (k : ℕ) → All (BegunFits scopes blocks k) env.begun → All (BegunFits scopes blocks k) begun) →
+      length env.around + procedure_depth p ≤ greatest_levels → ProcedureInRange p → (begun : List Begun)
+      → ((scopes : List Scope) (blocks : List Block) (k : ℕ) → All (BegunFits scopes blocks k) env.begun → All (BegunFits scopes blocks k) begun) →
       (AllBegun env → (k : ℕ) → k ≢ n → is_begun k begun ≡ false → is_begun k env.begun ≡ false) →
       Gives (λ after. Onward m env (leave_to env begun after)) (procedure_rest n p next)
   rest_onward (text.procedure h ds s end) n m name env next t r e deep i begun fewer shut =
@@ -310,64 +333,82 @@ mutual
       } in
       let near : length inner.around ≡ suc (length env.around) = ap (λ a. suc (length a)) e.around in
       subst (λ x. Gives (λ after. Onward m env (leave_to env begun after)) (procedure_rest n (text.procedure h ds s end) x)) (sym e.is)
-      (bind (Onward false inner) (λ after. Onward m env (leave_to env begun after)) (declarations ds inner) _ (declarations_onward ds inner d (omega (arith, deep, near)) i.0) (λ now o.
+      (bind (Onward false inner) (λ after. Onward m env (leave_to env begun after)) (declarations ds inner) _
+      (declarations_onward ds inner d (omega (arith, deep, near)) i.0) (λ now o.
       bind (λ u. now.begun ≡ []) (λ after. Onward m env (leave_to env begun after)) (all_completed now.begun) _ (completed now.begun) (λ u none.
       bind (Does ActsFit now) (λ after. Onward m env (leave_to env begun after)) (statement_list s now) _
-      (list_does s now o.sits (subst (λ a. 0 < length a) (sym o.around) (omega arith)) (subst (λ a. length a + list_depth s ≤ greatest_levels) (sym o.around) (omega (arith, deep, near))) i.1)
+      (list_does s now o.sits (subst (λ a. 0 < length a) (sym o.around) (omega arith))
+      (subst (λ a. length a + list_depth s ≤ greatest_levels) (sym o.around) (omega (arith, deep, near))) i.1)
       (λ done does.
       weaker (Ends n inner) (λ after. Onward m env (leave_to env begun after)) (close_block n done.what end done.env)
       (λ after k. left_onward n m name env next t r e begun fewer shut after k)
       (ends n end inner now done e.outer.around refl o d.sits all none e.there does)))))
 
-  item_onward : (i : text.Item) (m : Bool) (env : Environment) → Declares env → length env.around + item_depth i ≤ greatest_levels → ItemInRange i → Gives (Onward m env) (item m i env)
+  item_onward : (i : text.Item) (m : Bool) (env : Environment) → Declares env → length env.around + item_depth i ≤ greatest_levels → ItemInRange i
+      → Gives (Onward m env) (item m i env)
   item_onward (text.const_item cs) m env d deep h = const_list_onward m cs env d.sits h
   item_onward (text.type_item t) m env d deep h = type_decl_onward m t env d.sits h
   item_onward (text.var_item vs) m env d deep h = var_onward m vs env d.sits d.ready
   item_onward (text.procedure_item p) m env d deep h =
       let n : ℕ = length env.blocks in
       bind (λ after. Onward m env (leave_to env env.begun after)) (Onward m env) (begin_procedure m (heading_of p) env >>= procedure_rest n p) _
-      (bind (Entered n m (own_name (heading_of p)) env) (λ after. Onward m env (leave_to env env.begun after)) (begin_procedure m (heading_of p) env) (procedure_rest n p) (begin_entered m (heading_of p) env d.sits d.ready) (λ next e.
+      (bind (Entered n m (own_name (heading_of p)) env) (λ after. Onward m env (leave_to env env.begun after)) (begin_procedure m (heading_of p) env)
+      (procedure_rest n p) (begin_entered m (heading_of p) env d.sits d.ready) (λ next e.
       rest_onward p n m (own_name (heading_of p)) env next d.sits d.ready e deep h env.begun (λ scopes blocks k all. all) (λ all k other is. is)))
       (λ after k. k)
   item_onward (text.pre_item p) m env d deep h =
-      bind (Entered (length env.blocks) m (own_name p) env) (Onward m env) (begin_procedure m p env) _ (begin_entered m p env d.sits d.ready) (λ next e. pre_onward m (own_name p) env next e)
+      bind (Entered (length env.blocks) m (own_name p) env) (Onward m env) (begin_procedure m p env) _ (begin_entered m p env d.sits d.ready)
+      (λ next e. pre_onward m (own_name p) env next e)
   item_onward (text.post_item p) m env d deep h =
       let name : Name = procedure_name p in
       let n : ℕ = block_of env (begun_named env.begun name.text) in
-      bind (λ after. Onward m env (leave_to env (without_begun name.text env.begun) after)) (Onward m env) (begin_post m (heading_of p) env >>= procedure_rest n p) _
-      (bind (Entered n m name env) (λ after. Onward m env (leave_to env (without_begun name.text env.begun) after)) (begin_post m (heading_of p) env) (procedure_rest n p)
-      (subst (λ x. Gives (Entered (block_of env (begun_named env.begun x.text)) m x env) (begin_post m (heading_of p) env)) (name_same p) (post_entered m (heading_of p) env d.sits d.ready d.all))
+      bind (λ after. Onward m env (leave_to env (without_begun name.text env.begun) after)) (Onward m env)
+      (begin_post m (heading_of p) env >>= procedure_rest n p) _
+      (bind (Entered n m name env) (λ after. Onward m env (leave_to env (without_begun name.text env.begun) after)) (begin_post m (heading_of p) env)
+      (procedure_rest n p)
+      (subst (λ x. Gives (Entered (block_of env (begun_named env.begun x.text)) m x env) (begin_post m (heading_of p) env)) (name_same p)
+      (post_entered m (heading_of p) env d.sits d.ready d.all))
       (λ next e.
       rest_onward p n m name env next d.sits d.ready e deep h (without_begun name.text env.begun)
       (λ scopes blocks k all. All-filter (λ b. not (bytes_eq b.name.text name.text)) (BegunFits scopes blocks k) env.begun all)
       (post_shut n m name env next e)))
       (λ after k. k)
 
-  module_onward : (mm : text.Module) (env : Environment) → Declares env → length env.around + module_depth mm ≤ greatest_levels → ModuleInRange mm → Gives (Onward false env) (module_decl mm env)
+  module_onward : (mm : text.Module) (env : Environment) → Declares env → length env.around + module_depth mm ≤ greatest_levels → ModuleInRange mm
+      → Gives (Onward false env) (module_decl mm env)
   module_onward (text.module_with ms s) env d deep h =
       let inner : Environment = module_env env in
       bind (Onward true inner) (Onward false env) (members ms inner) _ (members_onward ms inner (module_declares env d) (omega (arith, deep)) h.0) (λ now o.
       bind (λ u. now.begun ≡ []) (Onward false env) (all_completed now.begun) _ (completed now.begun) (λ u none.
       bind (Does ActsFit now) (Onward false env) (statement_list s now) _
       (let r = d.ready in
-      list_does s now o.sits (subst (λ a. 0 < length a) (sym o.around) r.inside) (subst (λ a. length a + list_depth s ≤ greatest_levels) (sym o.around) (omega (arith, deep))) h.1)
+      list_does s now o.sits (subst (λ a. 0 < length a) (sym o.around) r.inside)
+      (subst (λ a. length a + list_depth s ≤ greatest_levels) (sym o.around) (omega (arith, deep))) h.1)
       (λ done does. module_left env now done d o does none)))
 
-  members_onward : (ms : text.Members) (env : Environment) → Declares env → length env.around + members_depth ms ≤ greatest_levels → MembersInRange ms → Gives (Onward true env) (members ms env)
+  members_onward : (ms : text.Members) (env : Environment) → Declares env → length env.around + members_depth ms ≤ greatest_levels → MembersInRange ms
+      → Gives (Onward true env) (members ms env)
   members_onward text.no_member env d deep h = onward_same true env d.sits
   members_onward (text.next_member m ms) env d deep h =
-      go_declaring true env _ _ (members_depth ms) d (omega (arith, deep)) (member_onward m env d (omega (arith, deep)) h.0) (λ e k near. members_onward ms e k near h.1)
+      go_declaring true env _ _ (members_depth ms) d (omega (arith, deep)) (member_onward m env d (omega (arith, deep)) h.0)
+      (λ e k near. members_onward ms e k near h.1)
 
-  member_onward : (m : text.Member) (env : Environment) → Declares env → length env.around + member_depth m ≤ greatest_levels → MemberInRange m → Gives (Onward true env) (member m env)
-  member_onward (text.item_member i) env d deep h = weaker (Onward false env) (Onward true env) (item false i env) (λ e o. onward_any true env e o) (item_onward i false env d deep h)
+  member_onward : (m : text.Member) (env : Environment) → Declares env → length env.around + member_depth m ≤ greatest_levels → MemberInRange m
+      → Gives (Onward true env) (member m env)
+  member_onward (text.item_member i) env d deep h = weaker (Onward false env) (Onward true env) (item false i env) (λ e o. onward_any true env e o)
+      (item_onward i false env d deep h)
   member_onward (text.exported_member i) env d deep h = item_onward i true env d deep h
-  member_onward (text.module_member m) env d deep h = weaker (Onward false env) (Onward true env) (module_decl m env) (λ e o. onward_any true env e o) (module_onward m env d deep h)
+  member_onward (text.module_member m) env d deep h = weaker (Onward false env) (Onward true env) (module_decl m env) (λ e o. onward_any true env e o)
+      (module_onward m env d deep h)
 
-  pub declarations_onward : (ds : text.Declarations) (env : Environment) → Declares env → length env.around + declarations_depth ds ≤ greatest_levels → DeclarationsInRange ds → Gives (Onward false env) (declarations ds env)
+  pub declarations_onward : (ds : text.Declarations) (env : Environment) → Declares env → length env.around + declarations_depth ds ≤ greatest_levels
+      → DeclarationsInRange ds → Gives (Onward false env) (declarations ds env)
   declarations_onward text.no_declaration env d deep h = onward_same false env d.sits
   declarations_onward (text.next_declaration x ds) env d deep h =
-      go_declaring false env _ _ (declarations_depth ds) d (omega (arith, deep)) (declaration_onward x env d (omega (arith, deep)) h.0) (λ e k near. declarations_onward ds e k near h.1)
+      go_declaring false env _ _ (declarations_depth ds) d (omega (arith, deep)) (declaration_onward x env d (omega (arith, deep)) h.0)
+      (λ e k near. declarations_onward ds e k near h.1)
 
-  declaration_onward : (x : text.Declaration) (env : Environment) → Declares env → length env.around + declaration_depth x ≤ greatest_levels → DeclarationInRange x → Gives (Onward false env) (declaration x env)
+  declaration_onward : (x : text.Declaration) (env : Environment) → Declares env → length env.around + declaration_depth x ≤ greatest_levels
+      → DeclarationInRange x → Gives (Onward false env) (declaration x env)
   declaration_onward (text.item_declaration i) env d deep h = item_onward i false env d deep h
   declaration_onward (text.module_declaration m) env d deep h = module_onward m env d deep h

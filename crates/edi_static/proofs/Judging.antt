@@ -23,7 +23,8 @@ choose P true m n h k = h
 choose P false m n h k = k
 
 -- of one construct behind a rule, which holds there
-pub ruled : {B : Type 0} (Q : B → Type 0) (b : Bool) (why : StaticKind) (line : ℕ) (f : Unit {0} → Judged B) → (b ≡ true → Gives Q (f tt)) → Gives Q (must b why line >>= f)
+pub ruled : {B : Type 0} (Q : B → Type 0) (b : Bool) (why : StaticKind) (line : ℕ) (f : Unit {0} → Judged B) → (b ≡ true → Gives Q (f tt))
+    → Gives Q (must b why line >>= f)
 ruled Q true why line f k = k refl
 ruled Q false why line f k = tt
 

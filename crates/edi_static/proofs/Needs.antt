@@ -1,5 +1,6 @@
 -- Each need that a resolved program tells is at most 65,535.
-use Rattle.std.proofs.Common.{◌≡◌, ℕ, suc, Bool, true, false, List, [], length, Option, All, nat_lt, nat_le, is_some, ◌||◌, ◌&&◌, ◌==◌, int_le, refl, arith, subst, sym}
+use Rattle.std.proofs.Common.{◌≡◌, ℕ, suc, Bool, true, false, List, [], length, Option, All, nat_lt, nat_le, is_some, ◌||◌, ◌&&◌, ◌==◌, int_le, refl, arith}
+use Rattle.std.proofs.Common.{subst, sym}
 use Rattle.std.proofs.lemmas.List.{get_or_past}
 use Rattle.std.proofs.lemmas.List.Elements.{All-set, All-get_or, All-push}
 use Rattle.edi_scope.specs.declared.entity.Entity.{Entity}
@@ -18,12 +19,17 @@ use Rattle.edi_unit.specs.Fits.{heading, heading_result, Formals}
 use Rattle.edi_static.specs.declared.faults.StaticKind.TheVariants as kind
 use Rattle.edi_static.specs.Judged.{gives, ◌>>=◌, must}
 use Rattle.edi_static.specs.Environment.{Environment, at_first, look_up, type_named, declare, give_outside, enter, here, set_block}
-use Rattle.edi_static.specs.Types.{constant, const_decl, const_decls, const_list, most_constants, enum_constants, enum_decl, fields_of_groups, no_fields, declare_type, array_decl, set_decl, type_decl, variable_decl, variables_named, variables_of_groups, var_list}
-use Rattle.edi_static.specs.Headings.{Listed, Headed, leave, round, own_name, params_named, param_group, procedure_named, result_named, with_result, heading_parts, parameters, more_parameters, parameter}
+use Rattle.edi_static.specs.Types.{constant, const_decl, const_decls, const_list, most_constants, enum_constants, enum_decl, fields_of_groups, no_fields}
+use Rattle.edi_static.specs.Types.{declare_type, array_decl, set_decl, type_decl, variable_decl, variables_named, variables_of_groups, var_list}
+use Rattle.edi_static.specs.Headings.{Listed, Headed, leave, round, own_name, params_named, param_group, procedure_named, result_named, with_result}
+use Rattle.edi_static.specs.Headings.{heading_parts, parameters, more_parameters, parameter}
 use Rattle.edi_static.specs.Fitting.{use_of}
 use Rattle.edi_static.specs.Expressions.{expression}
-use Rattle.edi_static.specs.Statements.{After, assigned, called, add_statements, with_need, close_block, enter_branch, leave_branch, statement_list, statements, statement, conditions, elses, condition, branch, branches}
-use Rattle.edi_static.specs.Declarations.{kind_of, with_heading, block_of, procedure_name, heading_of, begun_named, completes, post_marked, all_completed, begin_procedure, begin_post, pre_decl, procedure_rest, item, module_decl, members, member, declarations, declaration}
+use Rattle.edi_static.specs.Statements.{After, assigned, called, add_statements, with_need, close_block, enter_branch, leave_branch, statement_list}
+use Rattle.edi_static.specs.Statements.{statements, statement, conditions, elses, condition, branch, branches}
+use Rattle.edi_static.specs.Declarations.{kind_of, with_heading, block_of, procedure_name, heading_of, begun_named, completes, post_marked, all_completed}
+use Rattle.edi_static.specs.Declarations.{begin_procedure, begin_post, pre_decl, procedure_rest, item, module_decl, members, member, declarations}
+use Rattle.edi_static.specs.Declarations.{declaration}
 use Rattle.edi_static.specs.Programs.{program_heading, global_decl, global_decls, program_procedure, resolve_tree}
 use Rattle.edi_static.specs.Laws.{IsSmall, NeedsAreSmall}
 use Rattle.edi_static.proofs.Judging.{Gives, bind, behind, choose, ruled}
@@ -81,7 +87,8 @@ enum_small m of n (text.next_name name ns) env h =
     behind Small (must (nat_lt n most_constants) kind.Range name.line) (λ _. gives e) (λ _. k)))
     (λ e k. enum_small m of (suc n) ns e k)
 
-type_small : (m : Bool) (name : Name) (shape : Shape) (fields : List (List ℕ)) (env : Environment) → Small env → Gives Small (declare_type m name shape fields env)
+type_small : (m : Bool) (name : Name) (shape : Shape) (fields : List (List ℕ)) (env : Environment) → Small env
+    → Gives Small (declare_type m name shape fields env)
 type_small m name shape fields env h = behind Small _ _ (λ _. bind Small Small _ _ (declare_small m name _ env h) (λ e k. k))
 
 enum_decl_small : (m : Bool) (name : Name) (ns : text.Names) (env : Environment) → Small env → Gives Small (enum_decl m name ns env)
@@ -90,7 +97,8 @@ enum_decl_small m name ns env h =
     (bind Small Small _ _ (declare_small m name _ env h) (λ e k. enum_small m _ 0 ns e k))
     (λ e k. k)
 
-array_small : (m : Bool) (name : Name) (lower upper : Constant) (element : Name) (env : Environment) → Small env → Gives Small (array_decl m name lower upper element env)
+array_small : (m : Bool) (name : Name) (lower upper : Constant) (element : Name) (env : Environment) → Small env
+    → Gives Small (array_decl m name lower upper element env)
 array_small m name lower upper element env h =
     behind Small (constant env lower) _ (λ lo.
     behind Small (constant env upper) _ (λ hi.
@@ -137,9 +145,11 @@ params_small block before of one (text.next_name name ns) l h =
     (λ m k. params_small block before of one ns m k)
 
 group_small : (block before : ℕ) (v : Bool) (g : text.Group) (l : Listed) → SmallListed l → Gives SmallListed (param_group block before v g l)
-group_small block before v (text.group first names of) l h = behind SmallListed (type_named l.env of) _ (λ t. params_small block before t _ (text.next_name first names) l h)
+group_small block before v (text.group first names of) l h = behind SmallListed (type_named l.env of) _
+    (λ t. params_small block before t _ (text.next_name first names) l h)
 
-procedure_named_small : (block before : ℕ) (name : Name) (fs : Formals) (inner : Headed) → SmallHeaded inner → Gives SmallListed (procedure_named block before name fs inner)
+procedure_named_small : (block before : ℕ) (name : Name) (fs : Formals) (inner : Headed) → SmallHeaded inner
+    → Gives SmallListed (procedure_named block before name fs inner)
 procedure_named_small block before name fs inner h = bind Small SmallListed _ _ (declare_small false name _ (leave inner.env) h) (λ e k. k)
 
 result_small : (r : Option Name) (l : Listed) → SmallListed l → Gives SmallHeaded (with_result r l)
@@ -182,7 +192,8 @@ with_heading_small k headed h =
 
 need_small : (n line : ℕ) (env : Environment) → Small env → Gives Small (with_need n line env)
 need_small n line env h =
-    ruled Small (nat_le (need env.types env.blocks n) greatest_size) _ line _ (λ e. set_small n (record (block_at env.blocks n) { need = need env.types env.blocks n }) env (grind (arith, e)) h)
+    ruled Small (nat_le (need env.types env.blocks n) greatest_size) _ line _
+    (λ e. set_small n (record (block_at env.blocks n) { need = need env.types env.blocks n }) env (grind (arith, e)) h)
 
 close_small : (n : ℕ) (s : Acts) (line : ℕ) (env : Environment) → Small env → Gives Small (close_block n s line env)
 close_small n s line env h =

@@ -1,5 +1,6 @@
 -- Whatever a name means stays known.
-use Rattle.std.proofs.Common.{◌≡◌, ℕ, ◌<◌, ◌+◌, Bool, true, false, cond, List, [], ◌∷◌, ◌++◌, length, set, get_or, map, Option, Some, None, IsTrue, IfSome, sym, ap, subst, ◌∙◌, arith}
+use Rattle.std.proofs.Common.{◌≡◌, ℕ, ◌<◌, ◌+◌, Bool, true, false, cond, List, [], ◌∷◌, ◌++◌, length, set, get_or, map, Option, Some, None, IsTrue, IfSome}
+use Rattle.std.proofs.Common.{sym, ap, subst, ◌∙◌, arith}
 use Rattle.std.proofs.lemmas.List.{length-append, get_or_append_left, length-set, map-append, map-set, get_or-map}
 use Rattle.std.specs.Option.{option_or}
 use Rattle.std.specs.Str.{bytes_eq}
@@ -74,11 +75,13 @@ more_shapes types blocks shapes more entity.Halt lt h = tt
 one_longer : {A : Type 0} (xs : List A) (x : A) → length xs < length (xs ++ x ∷ [])
 one_longer xs x = omega (arith, length-append xs (x ∷ []))
 
-pub with_type_proper : (shape : Shape) (names : List (List ℕ)) (env : Environment) → IsTypeTable (env.types ++ shape ∷ []) → Proper env → Proper (with_type shape names env)
+pub with_type_proper : (shape : Shape) (names : List (List ℕ)) (env : Environment) → IsTypeTable (env.types ++ shape ∷ []) → Proper env
+    → Proper (with_type shape names env)
 with_type_proper shape names env table h = record {
   table = table;
   entities =
-      scopes_fit (EntityFits env) (EntityFits (with_type shape names env)) (more_types env.types (shape ∷ []) (length env.headings) (length env.shapes)) env.scopes h.entities;
+      scopes_fit (EntityFits env) (EntityFits (with_type shape names env)) (more_types env.types (shape ∷ []) (length env.headings) (length env.shapes))
+      env.scopes h.entities;
   headings = h.headings;
 }
 
@@ -133,20 +136,24 @@ means_known env name e is h = subst (λ o. IfSome o (EntityFits env)) (sym is) (
 pub pushed : {A B : Type 0} (f : A → B) (new old : List A) (x : A) → new ≡ old ++ x ∷ [] → map f new ≡ map f old ++ f x ∷ []
 pushed f new old x e = ap (map f) e ∙ map-append f old (x ∷ [])
 
-pub types_proper : (types : List Shape) (fields : List (List (List ℕ))) (shape : Shape) (env : Environment) → types ≡ env.types ++ shape ∷ [] → IsTypeTable types → Proper env → Proper (record env { types = types; fields = fields })
+pub types_proper : (types : List Shape) (fields : List (List (List ℕ))) (shape : Shape) (env : Environment) → types ≡ env.types ++ shape ∷ []
+    → IsTypeTable types → Proper env → Proper (record env { types = types; fields = fields })
 types_proper types fields shape env e table h =
     let one : Proper (with_type shape [] env) = with_type_proper shape [] env (subst IsTypeTable e table) h in
     subst (λ ts. Proper (record env { types = ts; fields = fields })) (sym e) (record { table = one.table; entities = one.entities; headings = one.headings })
 
-pub blocks_proper : (blocks : List Block) (headings : List Heading) (block : Block) (asks : Heading) (env : Environment) → blocks ≡ env.blocks ++ block ∷ [] → headings ≡ env.headings ++ asks ∷ [] → Proper env → Proper (record env { blocks = blocks; headings = headings })
+pub blocks_proper : (blocks : List Block) (headings : List Heading) (block : Block) (asks : Heading) (env : Environment) → blocks ≡ env.blocks ++ block ∷ []
+    → headings ≡ env.headings ++ asks ∷ [] → Proper env → Proper (record env { blocks = blocks; headings = headings })
 blocks_proper blocks headings block asks env b a h =
     subst (λ bs. Proper (record env { blocks = bs; headings = headings })) (sym b)
     (subst (λ hs. Proper (record env { blocks = env.blocks ++ block ∷ []; headings = hs })) (sym a) (with_block_proper block asks env h))
 
-pub shapes_proper : (shapes : List Heading) (asks : Heading) (env : Environment) → shapes ≡ env.shapes ++ asks ∷ [] → Proper env → Proper (record env { shapes = shapes })
+pub shapes_proper : (shapes : List Heading) (asks : Heading) (env : Environment) → shapes ≡ env.shapes ++ asks ∷ [] → Proper env
+    → Proper (record env { shapes = shapes })
 shapes_proper shapes asks env e h = subst (λ ss. Proper (record env { shapes = ss })) (sym e) (with_shape_proper asks env h)
 
 -- a block of the code is changed
-pub set_seen : {A B : Type 0} (f : A → B) (g : B → B) (xs : List A) (at : ℕ) (x y : A) (d : B) → at < length xs → x ≡ get_or xs at x → f y ≡ g (f x) → set (map f xs) at (g (get_or (map f xs) at d)) ≡ map f (set xs at y)
+pub set_seen : {A B : Type 0} (f : A → B) (g : B → B) (xs : List A) (at : ℕ) (x y : A) (d : B) → at < length xs → x ≡ get_or xs at x → f y ≡ g (f x)
+    → set (map f xs) at (g (get_or (map f xs) at d)) ≡ map f (set xs at y)
 set_seen f g xs at x y d lt read e =
     ap (λ b. set (map f xs) at (g b)) (get_or-map f xs at x d lt ∙ ap f (sym read)) ∙ ap (set (map f xs) at) (sym e) ∙ sym (map-set f xs at y)

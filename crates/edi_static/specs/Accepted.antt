@@ -6,7 +6,14 @@ use Rattle.edi_tree.specs.declared.expressions.Sign.TheVariants as sign
 use Rattle.edi_tree.specs.declared.expressions.Addition.TheVariants as addition
 use Rattle.edi_tree.specs.declared.expressions.Multiplication.TheVariants as multiplication
 use Rattle.edi_tree.specs.declared.expressions.Root.TheVariants as root
-use Rattle.edi_tree.specs.Tree.{Program, no_name, next_name, no_const_decl, const_list, group, no_group, next_group, enum_decl, record_decl, array_decl, set_decl, var_list, heading, no_params, params, no_param, next_param, value_param, var_param, procedure_param, expr, no_comparison, compared, no_expr, next_expr, simple, addend, no_addend, next_addend, term, multiplier, no_multiplier, next_multiplier, numeral, string, not_factor, parenthesized, call_factor, variable_factor, args, variable, field, index, no_selector, next_selector, list, no_statement, next_statement, skip, assignment, call, while_statement, when_statement, cobegin, conditions, condition, no_else, branch, no_branch, next_branch, procedure, type_item, var_item, procedure_item, pre_item, post_item, module_with, item_member, exported_member, module_member, no_member, next_member, item_declaration, module_declaration, no_declaration, next_declaration, const_global, type_global, no_global, next_global, program}
+use Rattle.edi_tree.specs.Tree.{Program, no_name, next_name, no_const_decl, const_list, group, no_group, next_group, enum_decl, record_decl, array_decl}
+use Rattle.edi_tree.specs.Tree.{set_decl, var_list, heading, no_params, params, no_param, next_param, value_param, var_param, procedure_param, expr}
+use Rattle.edi_tree.specs.Tree.{no_comparison, compared, no_expr, next_expr, simple, addend, no_addend, next_addend, term, multiplier, no_multiplier}
+use Rattle.edi_tree.specs.Tree.{next_multiplier, numeral, string, not_factor, parenthesized, call_factor, variable_factor, args, variable, field, index}
+use Rattle.edi_tree.specs.Tree.{no_selector, next_selector, list, no_statement, next_statement, skip, assignment, call, while_statement, when_statement}
+use Rattle.edi_tree.specs.Tree.{cobegin, conditions, condition, no_else, branch, no_branch, next_branch, procedure, type_item, var_item, procedure_item}
+use Rattle.edi_tree.specs.Tree.{pre_item, post_item, module_with, item_member, exported_member, module_member, no_member, next_member, item_declaration}
+use Rattle.edi_tree.specs.Tree.{module_declaration, no_declaration, next_declaration, const_global, type_global, no_global, next_global, program}
 use Rattle.edi_unit.specs.declared.expressions.Operator.{Operator}
 use Rattle.edi_unit.specs.declared.expressions.Operator.TheVariants as op
 use Rattle.edi_unit.specs.declared.expressions.Callee.TheVariants as callee

@@ -11,7 +11,8 @@ use Rattle.edi_unit.specs.Tree.{Acts}
 use Rattle.edi_unit.specs.Fits.{heading_result, heading_formals}
 use Rattle.edi_static.specs.declared.faults.StaticKind.TheVariants as kind
 use Rattle.edi_static.specs.Judged.{Judged, gives, faults, ◌>>=◌, must}
-use Rattle.edi_static.specs.Environment.{Begun, Environment, declare, give_outside, enter, here, begun_block, with_block, heading_at, same_heading, parameters_of}
+use Rattle.edi_static.specs.Environment.{Begun, Environment, declare, give_outside, enter, here, begun_block, with_block, heading_at, same_heading}
+use Rattle.edi_static.specs.Environment.{parameters_of}
 use Rattle.edi_static.specs.Types.{const_list, type_decl, var_list}
 use Rattle.edi_static.specs.Headings.{Headed, leave, round, own_name, heading_parts}
 use Rattle.edi_static.specs.Statements.{After, add_statements, close_block, statement_list}

@@ -1,5 +1,6 @@
 -- Definition. What is known at a place of the text: what each name means there, and what has become of the constructs before it.
-use Rattle.std.specs.Prelude.{ℕ, suc, Bool, true, false, ◌&&◌, ◌||◌, ◌==◌, if◌then◌else◌, List, [], ◌∷◌, ◌++◌, length, Option, Some, None, is_some, slice_index_or, slice_set, codes}
+use Rattle.std.specs.Prelude.{ℕ, suc, Bool, true, false, ◌&&◌, ◌||◌, ◌==◌, if◌then◌else◌, List, [], ◌∷◌, ◌++◌, length, Option, Some, None, is_some}
+use Rattle.std.specs.Prelude.{slice_index_or, slice_set, codes}
 use Rattle.std.specs.Str.{bytes_eq}
 use Rattle.edi_scope.specs.declared.entity.Entity.{Entity}
 use Rattle.edi_scope.specs.declared.entity.Entity.TheVariants as entity

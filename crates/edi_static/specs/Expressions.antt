@@ -15,7 +15,9 @@ use Rattle.edi_static.specs.declared.faults.StaticKind.TheVariants as kind
 use Rattle.edi_static.specs.Judged.{Judged, gives, faults, ◌>>=◌, must}
 use Rattle.edi_static.specs.Environment.{Environment, look_up}
 use Rattle.edi_static.specs.Operators.{Typed, relation_operator, addition_operator, multiplication_operator, signed, Linked, Chained, operated, with_links}
-use Rattle.edi_static.specs.Fitting.{Use, constructs, calls, halts, neither, use_of, rest_of, variable_argument, passed, name_alone, is_variable_alone, string_alone, character, single, empty_set, function_called, invoked, Rooted, as_variable, as_function, rooted_value, is_record, place_of_name, is_indexed_by, takes_strings, constructed}
+use Rattle.edi_static.specs.Fitting.{Use, constructs, calls, halts, neither, use_of, rest_of, variable_argument, passed, name_alone, is_variable_alone}
+use Rattle.edi_static.specs.Fitting.{string_alone, character, single, empty_set, function_called, invoked, Rooted, as_variable, as_function, rooted_value}
+use Rattle.edi_static.specs.Fitting.{is_record, place_of_name, is_indexed_by, takes_strings, constructed}
 
 -- a part of a variable, with its type
 pub record Parted : Type 0 where

@@ -4,7 +4,16 @@ use Rattle.std.specs.Prelude.{ℕ, suc, ◌<◌, ◌≤◌, ◌^◌, ℤ, pos, i
 use Rattle.edi_tree.specs.declared.constants.Constant.{Constant}
 use Rattle.edi_tree.specs.declared.constants.Constant.TheVariants as code
 use Rattle.edi_tree.specs.declared.constants.ConstDecl.{ConstDecl}
-use Rattle.edi_tree.specs.Tree.{ConstDecls, no_const_decl, next_const_decl, ConstList, const_list, TypeDecl, enum_decl, record_decl, array_decl, set_decl, Expr, expr, Comparison, no_comparison, compared, Exprs, no_expr, next_expr, Simple, simple, Addend, addend, Addends, no_addend, next_addend, Term, term, Multiplier, multiplier, Multipliers, no_multiplier, next_multiplier, Factor, numeral, string, not_factor, parenthesized, call_factor, variable_factor, Args, args, Variable, variable, Selector, field, index, Selectors, no_selector, next_selector, StatementList, list, Statements, no_statement, next_statement, Statement, skip, assignment, call, if_statement, while_statement, when_statement, cobegin, Conditions, conditions, Condition, condition, Else, no_else, next_else, Branch, branch, Branches, no_branch, next_branch, Procedure, procedure, Item, const_item, type_item, var_item, procedure_item, pre_item, post_item, Module, module_with, Member, item_member, exported_member, module_member, Members, no_member, next_member, Declaration, item_declaration, module_declaration, Declarations, no_declaration, next_declaration, Global, const_global, type_global, Globals, no_global, next_global, Program, program}
+use Rattle.edi_tree.specs.Tree.{ConstDecls, no_const_decl, next_const_decl, ConstList, const_list, TypeDecl, enum_decl, record_decl, array_decl, set_decl}
+use Rattle.edi_tree.specs.Tree.{Expr, expr, Comparison, no_comparison, compared, Exprs, no_expr, next_expr, Simple, simple, Addend, addend, Addends}
+use Rattle.edi_tree.specs.Tree.{no_addend, next_addend, Term, term, Multiplier, multiplier, Multipliers, no_multiplier, next_multiplier, Factor, numeral}
+use Rattle.edi_tree.specs.Tree.{string, not_factor, parenthesized, call_factor, variable_factor, Args, args, Variable, variable, Selector, field, index}
+use Rattle.edi_tree.specs.Tree.{Selectors, no_selector, next_selector, StatementList, list, Statements, no_statement, next_statement, Statement, skip}
+use Rattle.edi_tree.specs.Tree.{assignment, call, if_statement, while_statement, when_statement, cobegin, Conditions, conditions, Condition, condition, Else}
+use Rattle.edi_tree.specs.Tree.{no_else, next_else, Branch, branch, Branches, no_branch, next_branch, Procedure, procedure, Item, const_item, type_item}
+use Rattle.edi_tree.specs.Tree.{var_item, procedure_item, pre_item, post_item, Module, module_with, Member, item_member, exported_member, module_member}
+use Rattle.edi_tree.specs.Tree.{Members, no_member, next_member, Declaration, item_declaration, module_declaration, Declarations, no_declaration}
+use Rattle.edi_tree.specs.Tree.{next_declaration, Global, const_global, type_global, Globals, no_global, next_global, Program, program}
 use Rattle.edi_unit.specs.Types.{int, char, is_ordinal_of}
 
 -- ---- constants and types

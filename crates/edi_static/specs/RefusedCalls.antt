@@ -3,7 +3,11 @@
 use Rattle.std.specs.Prelude.{◌≡◌, pos, Some, None, codes, refl}
 use Rattle.edi_tree.specs.declared.constants.Constant.TheVariants as constant
 use Rattle.edi_tree.specs.declared.expressions.Root.TheVariants as root
-use Rattle.edi_tree.specs.Tree.{no_name, next_name, no_const_decl, const_list, group, no_group, next_group, record_decl, array_decl, set_decl, var_list, heading, no_params, params, no_param, next_param, value_param, var_param, procedure_param, no_expr, next_expr, numeral, string, parenthesized, call_factor, variable_factor, args, variable, index, no_selector, next_selector, list, no_statement, next_statement, skip, assignment, call, procedure, const_item, type_item, var_item, procedure_item, item_declaration, no_declaration, next_declaration, no_global, program}
+use Rattle.edi_tree.specs.Tree.{no_name, next_name, no_const_decl, const_list, group, no_group, next_group, record_decl, array_decl, set_decl, var_list}
+use Rattle.edi_tree.specs.Tree.{heading, no_params, params, no_param, next_param, value_param, var_param, procedure_param, no_expr, next_expr, numeral}
+use Rattle.edi_tree.specs.Tree.{string, parenthesized, call_factor, variable_factor, args, variable, index, no_selector, next_selector, list, no_statement}
+use Rattle.edi_tree.specs.Tree.{next_statement, skip, assignment, call, procedure, const_item, type_item, var_item, procedure_item, item_declaration}
+use Rattle.edi_tree.specs.Tree.{no_declaration, next_declaration, no_global, program}
 use Rattle.edi_unit.specs.Types.{size}
 use Rattle.edi_static.specs.declared.faults.StaticKind.TheVariants as kind
 use Rattle.edi_static.specs.Judged.{faults}

@@ -3,7 +3,12 @@
 use Rattle.std.specs.Prelude.{◌≡◌, pos, Some, None, codes, refl}
 use Rattle.edi_tree.specs.declared.constants.Constant.TheVariants as constant
 use Rattle.edi_tree.specs.declared.expressions.Root.TheVariants as root
-use Rattle.edi_tree.specs.Tree.{no_name, next_name, no_const_decl, next_const_decl, const_list, group, no_group, next_group, enum_decl, record_decl, var_list, heading, no_params, params, no_param, next_param, value_param, procedure_param, no_expr, numeral, string, call_factor, args, variable, field, no_selector, next_selector, list, no_statement, next_statement, skip, assignment, call, procedure, const_item, type_item, var_item, procedure_item, pre_item, post_item, module_with, item_member, exported_member, no_member, next_member, item_declaration, module_declaration, no_declaration, next_declaration, const_global, no_global, next_global, program}
+use Rattle.edi_tree.specs.Tree.{no_name, next_name, no_const_decl, next_const_decl, const_list, group, no_group, next_group, enum_decl, record_decl}
+use Rattle.edi_tree.specs.Tree.{var_list, heading, no_params, params, no_param, next_param, value_param, procedure_param, no_expr, numeral, string}
+use Rattle.edi_tree.specs.Tree.{call_factor, args, variable, field, no_selector, next_selector, list, no_statement, next_statement, skip, assignment, call}
+use Rattle.edi_tree.specs.Tree.{procedure, const_item, type_item, var_item, procedure_item, pre_item, post_item, module_with, item_member, exported_member}
+use Rattle.edi_tree.specs.Tree.{no_member, next_member, item_declaration, module_declaration, no_declaration, next_declaration, const_global, no_global}
+use Rattle.edi_tree.specs.Tree.{next_global, program}
 use Rattle.edi_unit.specs.Types.{size}
 use Rattle.edi_static.specs.declared.faults.StaticKind.TheVariants as kind
 use Rattle.edi_static.specs.Judged.{faults}
@@ -13,7 +18,8 @@ use Rattle.edi_static.specs.Written.{id, only, named}
 -- ---- used names
 
 -- a name of a module that is not marked is not seen outside it:
--- proc main(proc display(value: char)) / module / var hidden: char / * proc show begin display(hidden) end / begin hidden := 'm' end / begin show; display(hidden) end
+-- proc main(proc display(value: char)) / module / var hidden: char / * proc show begin display(hidden) end / begin hidden := 'm' end / begin show;
+-- display(hidden) end
 pub row_hidden : resolve_tree
     (program no_global (procedure (heading (id "main" 1) (params (procedure_param (heading (id "display" 1) (params
     (value_param (group (id "value" 1) no_name (id "char" 1))) no_param) None)) no_param) None) (next_declaration

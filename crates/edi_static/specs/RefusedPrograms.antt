@@ -7,7 +7,13 @@ use Rattle.edi_tree.specs.declared.expressions.Sign.TheVariants as sign
 use Rattle.edi_tree.specs.declared.expressions.Addition.TheVariants as addition
 use Rattle.edi_tree.specs.declared.expressions.Multiplication.TheVariants as multiplication
 use Rattle.edi_tree.specs.declared.expressions.Root.TheVariants as root
-use Rattle.edi_tree.specs.Tree.{no_name, next_name, group, no_group, next_group, record_decl, array_decl, set_decl, var_list, heading, no_params, params, no_param, next_param, value_param, var_param, procedure_param, expr, no_comparison, compared, no_expr, simple, addend, no_addend, next_addend, term, multiplier, no_multiplier, next_multiplier, numeral, string, not_factor, call_factor, args, variable, field, index, no_selector, next_selector, list, no_statement, next_statement, skip, assignment, call, cobegin, branch, no_branch, next_branch, procedure, type_item, var_item, procedure_item, module_with, item_member, no_member, next_member, item_declaration, module_declaration, no_declaration, next_declaration, type_global, no_global, next_global, program}
+use Rattle.edi_tree.specs.Tree.{no_name, next_name, group, no_group, next_group, record_decl, array_decl, set_decl, var_list, heading, no_params, params}
+use Rattle.edi_tree.specs.Tree.{no_param, next_param, value_param, var_param, procedure_param, expr, no_comparison, compared, no_expr, simple, addend}
+use Rattle.edi_tree.specs.Tree.{no_addend, next_addend, term, multiplier, no_multiplier, next_multiplier, numeral, string, not_factor, call_factor, args}
+use Rattle.edi_tree.specs.Tree.{variable, field, index, no_selector, next_selector, list, no_statement, next_statement, skip, assignment, call, cobegin}
+use Rattle.edi_tree.specs.Tree.{branch, no_branch, next_branch, procedure, type_item, var_item, procedure_item, module_with, item_member, no_member}
+use Rattle.edi_tree.specs.Tree.{next_member, item_declaration, module_declaration, no_declaration, next_declaration, type_global, no_global, next_global}
+use Rattle.edi_tree.specs.Tree.{program}
 use Rattle.edi_unit.specs.Types.{size}
 use Rattle.edi_static.specs.declared.faults.StaticKind.TheVariants as kind
 use Rattle.edi_static.specs.Judged.{faults}

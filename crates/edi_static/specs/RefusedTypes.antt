@@ -3,7 +3,11 @@
 use Rattle.std.specs.Prelude.{false, ◌≡◌, pos, Some, None, refl}
 use Rattle.edi_tree.specs.declared.constants.Constant.TheVariants as constant
 use Rattle.edi_tree.specs.declared.expressions.Root.TheVariants as root
-use Rattle.edi_tree.specs.Tree.{no_name, next_name, no_const_decl, next_const_decl, const_list, group, no_group, next_group, record_decl, array_decl, set_decl, var_list, heading, no_params, params, no_param, next_param, value_param, var_param, numeral, variable, no_selector, list, no_statement, skip, assignment, call, if_statement, while_statement, cobegin, conditions, condition, no_else, branch, no_branch, procedure, const_item, type_item, var_item, procedure_item, pre_item, post_item, module_with, item_member, no_member, next_member, item_declaration, module_declaration, no_declaration, next_declaration, no_global, program}
+use Rattle.edi_tree.specs.Tree.{no_name, next_name, no_const_decl, next_const_decl, const_list, group, no_group, next_group, record_decl, array_decl}
+use Rattle.edi_tree.specs.Tree.{set_decl, var_list, heading, no_params, params, no_param, next_param, value_param, var_param, numeral, variable, no_selector}
+use Rattle.edi_tree.specs.Tree.{list, no_statement, skip, assignment, call, if_statement, while_statement, cobegin, conditions, condition, no_else, branch}
+use Rattle.edi_tree.specs.Tree.{no_branch, procedure, const_item, type_item, var_item, procedure_item, pre_item, post_item, module_with, item_member}
+use Rattle.edi_tree.specs.Tree.{no_member, next_member, item_declaration, module_declaration, no_declaration, next_declaration, no_global, program}
 use Rattle.edi_unit.specs.Types.{size}
 use Rattle.edi_static.specs.declared.faults.StaticKind.TheVariants as kind
 use Rattle.edi_static.specs.Judged.{faults}

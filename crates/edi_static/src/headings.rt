@@ -76,7 +76,8 @@ pub fn push_formal(
     alloc: Global,
     formal: Formal,
 ) -> Result<(), StaticFault>
-    ensures ok { OnOk result (view.formals (map formal_of (list_items formals.new)) ≡ spec.formals_append (view.formals (map formal_of (list_items formals.old))) (view.formals (formal_of formal ∷ []))) }
+    ensures ok { OnOk result (view.formals (map formal_of (list_items formals.new)) ≡ spec.formals_append
+        (view.formals (map formal_of (list_items formals.old))) (view.formals (formal_of formal ∷ []))) }
     ensures err { OnErr result (result ≡ Err StaticFault.NoMemory) }
 {
     match formals.push(alloc, formal) {

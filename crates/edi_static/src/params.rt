@@ -42,7 +42,8 @@ fn owner_of(block: u32, heading: &Heading) -> Owner
 /// The number of the next parameter.
 #[tactic(auto, using(crate::proofs::Askings::parameters_counted))]
 fn next_parameter(owner: Owner, formals: &List<Formal>) -> Result<u32, StaticFault>
-    ensures exact { JudgedAnswers (λ n. n) result (gives (spec.next_parameter owner.block owner.before (view.formals (map formal_of (list_items formals.now))))) }
+    ensures exact { JudgedAnswers (λ n. n) result
+        (gives (spec.next_parameter owner.block owner.before (view.formals (map formal_of (list_items formals.now))))) }
 {
     number(formals.items().len() + owner.before as usize)
 }
@@ -59,7 +60,8 @@ fn parameter_named(
 ) -> Result<(), StaticFault>
     requires proper { Proper (environment known.old) }
     requires fits { of < length known.old.types }
-    ensures exact { JudgedAnswers (λ _. listed_of known.new formals.new) result (spec.param_named owner.block owner.before of (spec.formal_one by_variable of) name.now (listed_of known.old formals.old)) }
+    ensures exact { JudgedAnswers (λ _. listed_of known.new formals.new) result
+        (spec.param_named owner.block owner.before of (spec.formal_one by_variable of) name.now (listed_of known.old formals.old)) }
     ensures proper { OnOk result (Proper (environment known.new)) }
     ensures scope { outside known.new.scopes ≡ outside known.old.scopes }
     ensures depth { length known.new.scopes ≡ length known.old.scopes }
@@ -85,7 +87,8 @@ fn parameter_group(
     by_variable: bool,
 ) -> Result<(), StaticFault>
     requires proper { Proper (environment known.old) }
-    ensures exact { JudgedAnswers (λ _. listed_of known.new formals.new) result (spec.param_group owner.block owner.before by_variable (group_of group.now) (listed_of known.old formals.old)) }
+    ensures exact { JudgedAnswers (λ _. listed_of known.new formals.new) result
+        (spec.param_group owner.block owner.before by_variable (group_of group.now) (listed_of known.old formals.old)) }
     ensures proper { OnOk result (Proper (environment known.new)) }
     ensures scope { outside known.new.scopes ≡ outside known.old.scopes }
     ensures depth { length known.new.scopes ≡ length known.old.scopes }
@@ -109,7 +112,8 @@ fn procedure_parameter(
 ) -> Result<(), StaticFault>
     requires depth { 1 < length known.old.scopes }
     requires proper { Proper (environment known.old) }
-    ensures exact { JudgedAnswers (λ _. listed_of known.new formals.new) result (spec.procedure_named owner.block owner.before name.now (view.formals (map formal_of (list_items formals.old))) (headed_of known.old asked)) }
+    ensures exact { JudgedAnswers (λ _. listed_of known.new formals.new) result
+        (spec.procedure_named owner.block owner.before name.now (view.formals (map formal_of (list_items formals.old))) (headed_of known.old asked)) }
     ensures proper { OnOk result (Proper (environment known.new)) }
     ensures scope { OnOk result (outside known.new.scopes ≡ outside (outside known.old.scopes)) }
     ensures depth { OnOk result (suc (length known.new.scopes) ≡ length known.old.scopes) }
@@ -184,7 +188,8 @@ fn parameters(
 ) -> Result<(), StaticFault>
     requires inside { 0 < length known.old.scopes }
     requires proper { Proper (environment known.old) }
-    ensures exact { JudgedAnswers (λ _. listed_of known.new formals.new) result (spec.more_parameters owner.block owner.before (more_params (map param_of params.now)) (listed_of known.old formals.old)) }
+    ensures exact { JudgedAnswers (λ _. listed_of known.new formals.new) result
+        (spec.more_parameters owner.block owner.before (more_params (map param_of params.now)) (listed_of known.old formals.old)) }
     ensures scope { OnOk result (outside known.new.scopes ≡ outside known.old.scopes) }
     ensures depth { OnOk result (length known.new.scopes ≡ length known.old.scopes) }
     ensures proper { OnOk result (Proper (environment known.new)) }
@@ -205,7 +210,8 @@ fn parameter(
 ) -> Result<(), StaticFault>
     requires inside { 0 < length known.old.scopes }
     requires proper { Proper (environment known.old) }
-    ensures exact { JudgedAnswers (λ _. listed_of known.new formals.new) result (spec.parameter owner.block owner.before (param_of param.now) (listed_of known.old formals.old)) }
+    ensures exact { JudgedAnswers (λ _. listed_of known.new formals.new) result
+        (spec.parameter owner.block owner.before (param_of param.now) (listed_of known.old formals.old)) }
     ensures scope { OnOk result (outside known.new.scopes ≡ outside known.old.scopes) }
     ensures depth { OnOk result (length known.new.scopes ≡ length known.old.scopes) }
     ensures proper { OnOk result (Proper (environment known.new)) }

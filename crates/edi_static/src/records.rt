@@ -66,7 +66,8 @@ impl Fields {
     fn add_group(&mut self, known: &Known, alloc: Global, group: &Group) -> Result<(), StaticFault>
         requires proper { Proper (environment known.now) }
         requires known { All (λ t. t < length known.now.types) (list_items self.old.types) }
-        ensures exact { JudgedAnswers (λ _. view.fields_of self.new) result (spec.fields_of_group (environment known.now) (group_of group.now) (view.fields_of self.old)) }
+        ensures exact { JudgedAnswers (λ _. view.fields_of self.new) result
+            (spec.fields_of_group (environment known.now) (group_of group.now) (view.fields_of self.old)) }
         ensures known { OnOk result (All (λ t. t < length known.now.types) (list_items self.new.types)) }
     {
         let of = known.type_named(&group.type_name)?;
@@ -85,7 +86,8 @@ pub(crate) fn fields_of(
     declared: &Record,
 ) -> Result<Fields, StaticFault>
     requires proper { Proper (environment known.now) }
-    ensures exact { JudgedAnswers view.fields_of result (spec.fields_of_groups (environment known.now) (text.next_group (group_of declared.now.first) (groups_of declared.now.more)) spec.no_fields) }
+    ensures exact { JudgedAnswers view.fields_of result
+        (spec.fields_of_groups (environment known.now) (text.next_group (group_of declared.now.first) (groups_of declared.now.more)) spec.no_fields) }
     ensures known { IfOk result (λ fields. All (λ t. t < length known.now.types) (list_items fields.types)) }
 {
     let mut fields = Fields {

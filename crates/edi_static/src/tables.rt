@@ -50,7 +50,8 @@ fn add_variable_to(
     of: u32,
 ) -> Result<(), StaticFault>
     requires inside { at < vec_len blocks.old }
-    ensures exact { JudgedAnswers (λ _. map block_of blocks.new.items) result (gives (slice_set (map block_of blocks.old.items) at (spec.with_variable of (block_at (map block_of blocks.old.items) at)))) }
+    ensures exact { JudgedAnswers (λ _. map block_of blocks.new.items) result
+        (gives (slice_set (map block_of blocks.old.items) at (spec.with_variable of (block_at (map block_of blocks.old.items) at)))) }
     ensures len { vec_len blocks.new ≡ vec_len blocks.old }
 {
     add(&mut blocks[at].variables, alloc, of)?;
@@ -87,7 +88,8 @@ impl Known {
     ) -> Result<(), StaticFault>
         requires declarable { IsDeclarable self.old.types (shape_of shape) }
         requires proper { Proper (environment self.old) }
-        ensures exact { JudgedAnswers (λ _. environment self.new) result (gives (spec.with_type (shape_of shape) (map (λ name. name.items) names.items) (environment self.old))) }
+        ensures exact { JudgedAnswers (λ _. environment self.new) result
+            (gives (spec.with_type (shape_of shape) (map (λ name. name.items) names.items) (environment self.old))) }
         ensures proper { OnOk result (Proper (environment self.new)) }
         ensures scopes { self.new.scopes ≡ self.old.scopes }
         ensures types { OnOk result (self.new.types ≡ self.old.types ++ shape_of shape ∷ []) }
@@ -180,7 +182,8 @@ impl Known {
         asked: Asked,
     ) -> Result<(), StaticFault>
         requires proper { Proper (environment self.old) }
-        ensures exact { JudgedAnswers (λ _. environment self.new) result (gives (with_heading kind (record { env = environment self.old; asks = asked_of asked }))) }
+        ensures exact { JudgedAnswers (λ _. environment self.new) result
+            (gives (with_heading kind (record { env = environment self.old; asks = asked_of asked }))) }
         ensures proper { OnOk result (Proper (environment self.new)) }
     {
         match kept_parameters(alloc, &asked) {

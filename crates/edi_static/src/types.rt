@@ -61,7 +61,8 @@ fn enum_constants(
     requires exporting { IsTrue marked → IsTrue (in_module known.old.scopes) }
     requires proper { Proper (environment known.old) }
     requires fits { (of < length known.old.types) × IsTrue (is_elementary known.old.types of) }
-    ensures exact { JudgedAnswers (λ _. environment known.new) result (spec.enum_constants marked of 0 (text.next_name declared.now.first (names (items_of declared.now.more))) (environment known.old)) }
+    ensures exact { JudgedAnswers (λ _. environment known.new) result
+        (spec.enum_constants marked of 0 (text.next_name declared.now.first (names (items_of declared.now.more))) (environment known.old)) }
     ensures exporting { IsTrue marked → IsTrue (in_module known.new.scopes) }
     ensures proper { OnOk result (Proper (environment known.new)) }
     ensures depth { length known.new.scopes ≡ length known.old.scopes }
@@ -84,7 +85,8 @@ fn enum_decl(
 ) -> Result<(), StaticFault>
     requires exporting { IsTrue marked → IsTrue (in_module known.old.scopes) }
     requires proper { Proper (environment known.old) }
-    ensures exact { JudgedAnswers (λ _. environment known.new) result (spec.enum_decl marked declared.now.name (text.next_name declared.now.first (names (items_of declared.now.more))) (environment known.old)) }
+    ensures exact { JudgedAnswers (λ _. environment known.new) result
+        (spec.enum_decl marked declared.now.name (text.next_name declared.now.first (names (items_of declared.now.more))) (environment known.old)) }
     ensures exporting { IsTrue marked → IsTrue (in_module known.new.scopes) }
     ensures proper { OnOk result (Proper (environment known.new)) }
     ensures depth { length known.new.scopes ≡ length known.old.scopes }
@@ -110,7 +112,8 @@ fn declare_type(
     requires named { All (λ t. t < length known.old.types) (named_types (shape_of shape)) }
     requires elementary { All (λ t. IsTrue (is_elementary known.old.types t)) (ordinal_types (shape_of shape)) }
     requires ordered { HasOrderedBounds (shape_of shape) }
-    ensures exact { JudgedAnswers (λ _. environment known.new) result (spec.declare_type marked name.now (shape_of shape) (map (λ field. field.items) fields.items) (environment known.old)) }
+    ensures exact { JudgedAnswers (λ _. environment known.new) result
+        (spec.declare_type marked name.now (shape_of shape) (map (λ field. field.items) fields.items) (environment known.old)) }
     ensures exporting { IsTrue marked → IsTrue (in_module known.new.scopes) }
     ensures proper { OnOk result (Proper (environment known.new)) }
     ensures depth { length known.new.scopes ≡ length known.old.scopes }
@@ -131,7 +134,8 @@ fn record_decl(
 ) -> Result<(), StaticFault>
     requires exporting { IsTrue marked → IsTrue (in_module known.old.scopes) }
     requires proper { Proper (environment known.old) }
-    ensures exact { JudgedAnswers (λ _. environment known.new) result (spec.type_decl marked (text.record_decl declared.now.name (group_of declared.now.first) (groups_of declared.now.more)) (environment known.old)) }
+    ensures exact { JudgedAnswers (λ _. environment known.new) result
+        (spec.type_decl marked (text.record_decl declared.now.name (group_of declared.now.first) (groups_of declared.now.more)) (environment known.old)) }
     ensures exporting { IsTrue marked → IsTrue (in_module known.new.scopes) }
     ensures proper { OnOk result (Proper (environment known.new)) }
     ensures depth { length known.new.scopes ≡ length known.old.scopes }
@@ -150,7 +154,8 @@ fn array_decl(
 ) -> Result<(), StaticFault>
     requires exporting { IsTrue marked → IsTrue (in_module known.old.scopes) }
     requires proper { Proper (environment known.old) }
-    ensures exact { JudgedAnswers (λ _. environment known.new) result (spec.array_decl marked declared.now.name declared.now.lower declared.now.upper declared.now.element (environment known.old)) }
+    ensures exact { JudgedAnswers (λ _. environment known.new) result
+        (spec.array_decl marked declared.now.name declared.now.lower declared.now.upper declared.now.element (environment known.old)) }
     ensures exporting { IsTrue marked → IsTrue (in_module known.new.scopes) }
     ensures proper { OnOk result (Proper (environment known.new)) }
     ensures depth { length known.new.scopes ≡ length known.old.scopes }

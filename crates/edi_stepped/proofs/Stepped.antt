@@ -10,7 +10,8 @@ use Rattle.edi_meaning.specs.Store.{Cell, Shape}
 use Rattle.edi_meaning.specs.Evaluation.{World, Evaluation, gives, ends, ◌>>=◌}
 use Rattle.edi_meaning.specs.Whole.{meant, levels_of, whole_arguments}
 use Rattle.edi_meaning.specs.Step as source
-use Rattle.edi_meaning.specs.Step.{Process, Processes, Position, Work, doing, loop_end, procedure_end, branch_end, program_entry, program_end, Standing, called, work_step, is_running, local_step}
+use Rattle.edi_meaning.specs.Step.{Process, Processes, Position, Work, doing, loop_end, procedure_end, branch_end, program_entry, program_end, Standing}
+use Rattle.edi_meaning.specs.Step.{called, work_step, is_running, local_step}
 use Rattle.edi_target.specs.Mach.{Machine, is_first, held_at}
 use Rattle.edi_scheme.specs.Code.{call_code}
 use Rattle.edi_scheme.specs.Stands as code

@@ -1,5 +1,6 @@
 -- What stands at each place of a memory after words are written, copied or cleared.
-use Rattle.std.proofs.Common.{◌≡◌, ℕ, ◌+◌, ◌-◌, ◌^◌, ◌<◌, ◌≤◌, ◌⊎◌, List, [], ◌∷◌, ◌++◌, length, get_or, set, take, drop, refl, sym, ap, ◌∙◌, inl, inr, arith, length-append, length-take, length-drop, get_or-drop, get_or-take, add-one}
+use Rattle.std.proofs.Common.{◌≡◌, ℕ, ◌+◌, ◌-◌, ◌^◌, ◌<◌, ◌≤◌, ◌⊎◌, List, [], ◌∷◌, ◌++◌, length, get_or, set, take, drop, refl, sym, ap, ◌∙◌, inl, inr}
+use Rattle.std.proofs.Common.{arith, length-append, length-take, length-drop, get_or-drop, get_or-take, add-one}
 use Rattle.std.specs.Prelude.{replicate}
 use Rattle.std.specs.List.{All}
 use Rattle.std.proofs.lemmas.Grind.{same_number_lists}
@@ -36,20 +37,29 @@ get_or-words_at words at n k within = get_or-take n (drop at words) k 0 within �
 
 pub length-written : (words : List ℕ) (at : ℕ) (values : List ℕ) → at + length values ≤ length words → length (written words at values) ≡ length words
 length-written words at values within =
-    omega (arith, length-append (take at words) (values ++ drop (at + length values) words), length-append values (drop (at + length values) words), length-take at words, length-drop (at + length values) words)
+    omega (
+      arith,
+      length-append (take at words) (values ++ drop (at + length values) words),
+      length-append values (drop (at + length values) words),
+      length-take at words,
+      length-drop (at + length values) words,
+    )
 
-pub get_or-written_before : (words : List ℕ) (at : ℕ) (values : List ℕ) (i : ℕ) → at + length values ≤ length words → i < at → get_or (written words at values) i 0 ≡ get_or words i 0
+pub get_or-written_before : (words : List ℕ) (at : ℕ) (values : List ℕ) (i : ℕ) → at + length values ≤ length words → i < at
+    → get_or (written words at values) i 0 ≡ get_or words i 0
 get_or-written_before words at values i within before =
     get_or_append_left (take at words) (values ++ drop (at + length values) words) 0 i (omega (arith, length-take at words))
     ∙ get_or-take at words i 0 before
 
-pub get_or-written_here : (words : List ℕ) (at : ℕ) (values : List ℕ) (k : ℕ) → at + length values ≤ length words → k < length values → get_or (written words at values) (at + k) 0 ≡ get_or values k 0
+pub get_or-written_here : (words : List ℕ) (at : ℕ) (values : List ℕ) (k : ℕ) → at + length values ≤ length words → k < length values
+    → get_or (written words at values) (at + k) 0 ≡ get_or values k 0
 get_or-written_here words at values k within here =
     get_or-append_right (take at words) (values ++ drop (at + length values) words) at (at + k) 0 (omega (arith, length-take at words)) (omega arith)
     ∙ ap (λ i. get_or (values ++ drop (at + length values) words) i 0) (omega arith)
     ∙ get_or_append_left values (drop (at + length values) words) 0 k here
 
-pub get_or-written_after : (words : List ℕ) (at : ℕ) (values : List ℕ) (i : ℕ) → at + length values ≤ length words → at + length values ≤ i → get_or (written words at values) i 0 ≡ get_or words i 0
+pub get_or-written_after : (words : List ℕ) (at : ℕ) (values : List ℕ) (i : ℕ) → at + length values ≤ length words → at + length values ≤ i
+    → get_or (written words at values) i 0 ≡ get_or words i 0
 get_or-written_after words at values i within after =
     get_or-append_right (take at words) (values ++ drop (at + length values) words) at i 0 (omega (arith, length-take at words)) (omega arith)
     ∙ get_or-append_right values (drop (at + length values) words) (length values) (i - at) 0 refl (omega arith)
@@ -61,15 +71,18 @@ pub written-one : (words : List ℕ) (at word : ℕ) → at < length words → w
 written-one words at word within = rw (set_split words at word within, add-one at) refl
 
 -- what was written is read again
-pub words_at-written : (words : List ℕ) (at : ℕ) (values : List ℕ) → at + length values ≤ length words → words_at (written words at values) at (length values) ≡ values
+pub words_at-written : (words : List ℕ) (at : ℕ) (values : List ℕ) → at + length values ≤ length words → words_at (written words at values) at (length values)
+    ≡ values
 words_at-written words at values within =
     let long : length (written words at values) ≡ length words = length-written words at values within in
-    let count : length (words_at (written words at values) at (length values)) ≡ length values = length-words_at (written words at values) at (length values) (omega (arith, long)) in
+    let count : length (words_at (written words at values) at (length values)) ≡ length values = length-words_at (written words at values) at (length values)
+    (omega (arith, long)) in
     same_number_lists (words_at (written words at values) at (length values)) values count (λ k below.
     get_or-words_at (written words at values) at (length values) k (omega (arith, count)) ∙ get_or-written_here words at values k within (omega (arith, count)))
 
 -- and the words beside it are as they were
-pub words_at-written_apart : (words : List ℕ) (at : ℕ) (values : List ℕ) (other n : ℕ) → at + length values ≤ length words → other + n ≤ length words → (other + n ≤ at) ⊎ (at + length values ≤ other) → words_at (written words at values) other n ≡ words_at words other n
+pub words_at-written_apart : (words : List ℕ) (at : ℕ) (values : List ℕ) (other n : ℕ) → at + length values ≤ length words → other + n ≤ length words
+    → (other + n ≤ at) ⊎ (at + length values ≤ other) → words_at (written words at values) other n ≡ words_at words other n
 words_at-written_apart words at values other n within also apart =
     let long : length (written words at values) ≡ length words = length-written words at values within in
     let count : length (words_at (written words at values) other n) ≡ n = length-words_at (written words at values) other n (omega (arith, long)) in
@@ -92,10 +105,12 @@ IsMemory-set words at word is small = record {
 pub words_at-small : (words : List ℕ) (at n : ℕ) → IsMemory words → All IsWord (words_at words at n)
 words_at-small words at n is = All-take IsWord n (drop at words) (All-drop IsWord at words is.small)
 
-pub IsMemory-written : (words : List ℕ) (at : ℕ) (values : List ℕ) → IsMemory words → All IsWord values → at + length values ≤ 2 ^ 16 → IsMemory (written words at values)
+pub IsMemory-written : (words : List ℕ) (at : ℕ) (values : List ℕ) → IsMemory words → All IsWord values → at + length values ≤ 2 ^ 16
+    → IsMemory (written words at values)
 IsMemory-written words at values is small within = record {
   long = length-written words at values (omega (arith, is.long)) ∙ is.long;
-  small = All-append IsWord (take at words) (values ++ drop (at + length values) words) (All-take IsWord at words is.small) (All-append IsWord values (drop (at + length values) words) small (All-drop IsWord (at + length values) words is.small));
+  small = All-append IsWord (take at words) (values ++ drop (at + length values) words) (All-take IsWord at words is.small)
+      (All-append IsWord values (drop (at + length values) words) small (All-drop IsWord (at + length values) words is.small));
 }
 
 -- ---- words copied
@@ -104,22 +119,26 @@ pub length-copied : (words : List ℕ) (from to n : ℕ) → from + n ≤ length
 length-copied words from to n read write =
     length-written words to (words_at words from n) (omega (arith, length-words_at words from n read))
 
-pub get_or-copied_before : (words : List ℕ) (from to n i : ℕ) → from + n ≤ length words → to + n ≤ length words → i < to → get_or (copied words from to n) i 0 ≡ get_or words i 0
+pub get_or-copied_before : (words : List ℕ) (from to n i : ℕ) → from + n ≤ length words → to + n ≤ length words → i < to → get_or (copied words from to n) i 0
+    ≡ get_or words i 0
 get_or-copied_before words from to n i read write before =
     get_or-written_before words to (words_at words from n) i (omega (arith, length-words_at words from n read)) before
 
-pub get_or-copied_here : (words : List ℕ) (from to n k : ℕ) → from + n ≤ length words → to + n ≤ length words → k < n → get_or (copied words from to n) (to + k) 0 ≡ get_or words (from + k) 0
+pub get_or-copied_here : (words : List ℕ) (from to n k : ℕ) → from + n ≤ length words → to + n ≤ length words → k < n → get_or (copied words from to n)
+    (to + k) 0 ≡ get_or words (from + k) 0
 get_or-copied_here words from to n k read write here =
     let count : length (words_at words from n) ≡ n = length-words_at words from n read in
     get_or-written_here words to (words_at words from n) k (omega (arith, count)) (omega (arith, count)) ∙ get_or-words_at words from n k here
 
-pub get_or-copied_after : (words : List ℕ) (from to n i : ℕ) → from + n ≤ length words → to + n ≤ length words → to + n ≤ i → get_or (copied words from to n) i 0 ≡ get_or words i 0
+pub get_or-copied_after : (words : List ℕ) (from to n i : ℕ) → from + n ≤ length words → to + n ≤ length words → to + n ≤ i → get_or (copied words from to n)
+    i 0 ≡ get_or words i 0
 get_or-copied_after words from to n i read write after =
     let count : length (words_at words from n) ≡ n = length-words_at words from n read in
     get_or-written_after words to (words_at words from n) i (omega (arith, count)) (omega (arith, count))
 
 -- what was copied is read again
-pub words_at-copied : (words : List ℕ) (from to n : ℕ) → from + n ≤ length words → to + n ≤ length words → words_at (copied words from to n) to n ≡ words_at words from n
+pub words_at-copied : (words : List ℕ) (from to n : ℕ) → from + n ≤ length words → to + n ≤ length words → words_at (copied words from to n) to n ≡ words_at
+    words from n
 words_at-copied words from to n read write =
     let count : length (words_at words from n) ≡ n = length-words_at words from n read in
     ap (words_at (copied words from to n) to) (sym count) ∙ words_at-written words to (words_at words from n) (omega (arith, count))

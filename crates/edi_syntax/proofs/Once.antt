@@ -1,5 +1,6 @@
 -- Marks have one syntax fault at most, and then no program.
-use Rattle.std.proofs.Common.{◌≡◌, ℕ, ◌≤◌, List, [], ◌∷◌, ◌++◌, length, Option, Some, Result, Err, Bool, true, false, refl, sym, ap, ◌∙◌, subst, arith, append_assoc, ◌⊎◌, inl, inr}
+use Rattle.std.proofs.Common.{◌≡◌, ℕ, ◌≤◌, List, [], ◌∷◌, ◌++◌, length, Option, Some, Result, Err, Bool, true, false, refl, sym, ap, ◌∙◌, subst, arith}
+use Rattle.std.proofs.Common.{append_assoc, ◌⊎◌, inl, inr}
 use Rattle.edi_lex.specs.declared.symbol.Mark.{Mark}
 use Rattle.edi_tree.specs.Tree.{Program}
 use Rattle.edi_tree.specs.Spells.{Spells, ProgramBegins}
@@ -45,16 +46,21 @@ not_both marks u v a m p q = by (apart u v a (Some m) p.place.0 q.place.0 (sym p
 
 same_wrong : (marks : List Mark) (last l i k j : ℕ) (x y : Bool) → IsWrong x marks last l i → IsWrong y marks last k j → (x ≡ y) × (l ≡ k) × (i ≡ j)
 same_wrong marks last l i k j x y p q =
-    let s = same_misplaced marks p.before q.before p.here q.here p.misplaced q.misplaced in
-    (sym p.kind ∙ ap (λ u. is_outside u p.here) s.0 ∙ ap (λ o. is_outside q.before o) s.1 ∙ q.kind, p.on_line ∙ ap (line_of last) s.1 ∙ sym q.on_line, p.at_index ∙ ap length s.0 ∙ sym q.at_index)
+    let s = same_misplaced marks p.before q.before p.here q.here p.misplaced q.misplaced in (
+      sym p.kind ∙ ap (λ u. is_outside u p.here) s.0 ∙ ap (λ o. is_outside q.before o) s.1 ∙ q.kind,
+      p.on_line ∙ ap (line_of last) s.1 ∙ sym q.on_line,
+      p.at_index ∙ ap length s.0 ∙ sym q.at_index,
+    )
 
 both : {A : Type 0} (f : ℕ → ℕ → A) (l k i j : ℕ) → l ≡ k → i ≡ j → f l i ≡ f k j
 both f l k i j e h = ap (λ l. f l i) e ∙ ap (λ i. f k i) h
 
 pub same_fault : (marks : List Mark) (last : ℕ) (f g : SyntaxFault) → IsSyntaxFault marks last f → IsSyntaxFault marks last g → f ≡ g
-same_fault marks last (fault.Syntax l i) (fault.Syntax k j) p q = let s = same_wrong marks last l i k j false false p q in both (λ l i. fault.Syntax l i) l k i j s.1 s.2
+same_fault marks last (fault.Syntax l i) (fault.Syntax k j) p q = let s = same_wrong marks last l i k j false false p q in
+    both (λ l i. fault.Syntax l i) l k i j s.1 s.2
 same_fault marks last (fault.Syntax l i) (fault.TooDeep k j) p q = absurd (not_both marks p.before q.before p.here q.m p.misplaced q.deep)
-same_fault marks last (fault.Syntax l i) (fault.NotInProfile k j) p q = let s = same_wrong marks last l i k j false true p q in let no : false ≡ true = s.0 in absurd (cc)
+same_fault marks last (fault.Syntax l i) (fault.NotInProfile k j) p q = let s = same_wrong marks last l i k j false true p q in let no : false ≡ true = s.0 in
+    absurd (cc)
 same_fault marks last (fault.Syntax l i) fault.NoMemory p q = absurd q
 same_fault marks last (fault.TooDeep l i) (fault.Syntax k j) p q = absurd (not_both marks q.before p.before q.here p.m q.misplaced p.deep)
 same_fault marks last (fault.TooDeep l i) (fault.TooDeep k j) p q =
@@ -62,9 +68,11 @@ same_fault marks last (fault.TooDeep l i) (fault.TooDeep k j) p q =
     both (λ l i. fault.TooDeep l i) l k i j (p.on_line ∙ ap (λ (m : Mark). m.line) s.1 ∙ sym q.on_line) (p.at_index ∙ ap length s.0 ∙ sym q.at_index)
 same_fault marks last (fault.TooDeep l i) (fault.NotInProfile k j) p q = absurd (not_both marks q.before p.before q.here p.m q.misplaced p.deep)
 same_fault marks last (fault.TooDeep l i) fault.NoMemory p q = absurd q
-same_fault marks last (fault.NotInProfile l i) (fault.Syntax k j) p q = let s = same_wrong marks last l i k j true false p q in let no : true ≡ false = s.0 in absurd (cc)
+same_fault marks last (fault.NotInProfile l i) (fault.Syntax k j) p q = let s = same_wrong marks last l i k j true false p q in let no : true ≡ false = s.0 in
+    absurd (cc)
 same_fault marks last (fault.NotInProfile l i) (fault.TooDeep k j) p q = absurd (not_both marks p.before q.before p.here q.m p.misplaced q.deep)
-same_fault marks last (fault.NotInProfile l i) (fault.NotInProfile k j) p q = let s = same_wrong marks last l i k j true true p q in both (λ l i. fault.NotInProfile l i) l k i j s.1 s.2
+same_fault marks last (fault.NotInProfile l i) (fault.NotInProfile k j) p q = let s = same_wrong marks last l i k j true true p q in
+    both (λ l i. fault.NotInProfile l i) l k i j s.1 s.2
 same_fault marks last (fault.NotInProfile l i) fault.NoMemory p q = absurd q
 same_fault marks last fault.NoMemory g p q = absurd p
 
@@ -84,7 +92,8 @@ no_tree marks last (fault.NotInProfile l i) tree p h small = tree_not_misplaced 
 no_tree marks last fault.NoMemory tree p h small = p
 
 -- what refuses marks that a program spells is want of memory
-pub refuses_no_program : (marks : List Mark) (last : ℕ) (e : SyntaxFault) (tree : Program) → Refuses marks last e → Spells tree marks → depth tree ≤ 64 → e ≡ fault.NoMemory
+pub refuses_no_program : (marks : List Mark) (last : ℕ) (e : SyntaxFault) (tree : Program) → Refuses marks last e → Spells tree marks → depth tree ≤ 64
+    → e ≡ fault.NoMemory
 refuses_no_program marks last (fault.Syntax l i) tree r h small = absurd (no_tree marks last (fault.Syntax l i) tree r h small)
 refuses_no_program marks last (fault.TooDeep l i) tree r h small = absurd (no_tree marks last (fault.TooDeep l i) tree r h small)
 refuses_no_program marks last (fault.NotInProfile l i) tree r h small = absurd (no_tree marks last (fault.NotInProfile l i) tree r h small)
@@ -94,7 +103,8 @@ abbrev pub the_err : (A : Type 0) → SyntaxFault → Result A SyntaxFault
 the_err A e = Err e
 
 -- what refuses marks is their fault, or want of memory
-pub refuses_by_it : {A : Type 0} (marks : List Mark) (last : ℕ) (e f : SyntaxFault) → Refuses marks last e → IsSyntaxFault marks last f → (the_err A e ≡ the_err A f) ⊎ (the_err A e ≡ the_err A fault.NoMemory)
+pub refuses_by_it : {A : Type 0} (marks : List Mark) (last : ℕ) (e f : SyntaxFault) → Refuses marks last e → IsSyntaxFault marks last f
+    → (the_err A e ≡ the_err A f) ⊎ (the_err A e ≡ the_err A fault.NoMemory)
 refuses_by_it {A} marks last (fault.Syntax l i) f r h = inl (ap (the_err A) (same_fault marks last (fault.Syntax l i) f r h))
 refuses_by_it {A} marks last (fault.TooDeep l i) f r h = inl (ap (the_err A) (same_fault marks last (fault.TooDeep l i) f r h))
 refuses_by_it {A} marks last (fault.NotInProfile l i) f r h = inl (ap (the_err A) (same_fault marks last (fault.NotInProfile l i) f r h))

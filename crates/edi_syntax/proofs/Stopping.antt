@@ -50,7 +50,8 @@ cut_marks (m ∷ marks) (b ∷ before) rest e =
 
 ends_wrong : (marks rest : List Mark) → Stops edison 64 start (to_end marks) wrong (to_end rest) → EndsWrong marks rest
 ends_wrong marks [] stops = let m = misplaced marks None [] stops in record { before = m.0; cut = cut_marks marks m.0 [] m.1; misplaced = m.2 }
-ends_wrong marks (r ∷ rest) stops = let m = misplaced marks (Some r) (to_end rest) stops in record { before = m.0; cut = cut_marks marks m.0 (r ∷ rest) m.1; misplaced = m.2 }
+ends_wrong marks (r ∷ rest) stops = let m = misplaced marks (Some r) (to_end rest) stops in
+    record { before = m.0; cut = cut_marks marks m.0 (r ∷ rest) m.1; misplaced = m.2 }
 
 -- the end of the text opens no level
 end_not_deep : (words : List (Option Mark)) → Stops edison 64 start words too_deep (None ∷ []) → ⊥
@@ -65,7 +66,8 @@ end_not_deep words stops =
 
 ends_deep : (marks rest : List Mark) → Stops edison 64 start (to_end marks) too_deep (to_end rest) → EndsDeep marks rest
 ends_deep marks [] stops = absurd (end_not_deep (to_end marks) stops)
-ends_deep marks (r ∷ rest) stops = let m = too_deep_at marks r (to_end rest) stops in record { before = m.0; m = r; more = rest; here = refl; cut = cut_marks marks m.0 (r ∷ rest) m.1; deep = m.2 }
+ends_deep marks (r ∷ rest) stops = let m = too_deep_at marks r (to_end rest) stops in
+    record { before = m.0; m = r; more = rest; here = refl; cut = cut_marks marks m.0 (r ∷ rest) m.1; deep = m.2 }
 
 -- a parser that halts in the program halts in the text
 pub ends_at : (marks : List Mark) (e : Stop) → HaltsAt g.Program 0 marks e → EndsAt marks e
@@ -82,13 +84,17 @@ no_end _ e = cc
 -- what stands behind a program is misplaced
 pub ends_behind : (f : List Element → List Element) (marks rest : List Mark) → Passes g.Program 0 f marks rest → 0 < length rest → EndsWrong marks rest
 ends_behind f marks [] p some = absurd (omega (arith, some))
-ends_behind f marks (r ∷ rest) p some = ends_wrong marks (r ∷ rest) (p.at (token kind.End_of_text ∷ []) wrong (to_end (r ∷ rest)) refl (other kind.End_of_text (Some r) [] (to_end rest) (no_end r.symbol)))
+ends_behind f marks (r ∷ rest) p some = ends_wrong marks (r ∷ rest)
+    (p.at (token kind.End_of_text ∷ []) wrong (to_end (r ∷ rest)) refl (other kind.End_of_text (Some r) [] (to_end rest) (no_end r.symbol)))
 
 -- a program with nothing behind it is the tree
-pub whole : (f : List Element → List Element) (marks rest : List Mark) (tree : Program) → Passes g.Program 0 f marks rest → length rest ≡ 0 → f [] ≡ elements tree → IsTheTree marks tree
+pub whole : (f : List Element → List Element) (marks rest : List Mark) (tree : Program) → Passes g.Program 0 f marks rest → length rest ≡ 0
+    → f [] ≡ elements tree → IsTheTree marks tree
 whole f marks (r ∷ rest) tree p none same = absurd (omega (arith, none))
 whole f marks [] tree p none same =
-    whole_tree marks tree (elements_spelled tree marks (subst (λ es. StandAsMarks (marks_among es) marks) same (p.reads [] tt))) (p.at (token kind.End_of_text ∷ []) complete [] refl (taken kind.End_of_text None [] [] [] complete refl (λ o. let no : false ≡ true = o in absurd (cc)) (done [])))
+    whole_tree marks tree (elements_spelled tree marks (subst (λ es. StandAsMarks (marks_among es) marks) same (p.reads [] tt)))
+    (p.at (token kind.End_of_text ∷ []) complete [] refl (taken kind.End_of_text None [] [] [] complete refl (λ o. let no : false ≡ true = o in
+    absurd (cc)) (done [])))
 
 -- ---- the symbols
 
@@ -100,7 +106,12 @@ has_size _ e = omega arith
 -- there are no more symbols than their sizes make
 pub few_marks : (marks : List Mark) → are_spelled marks ≡ true → length marks ≤ extent marks
 few_marks [] e = omega arith
-few_marks (m ∷ marks) e = omega (arith, sum_by-cons (λ (n : Mark). size_of n.symbol) m marks, has_size m.symbol (and_left (is_spelled m.symbol) (are_spelled marks) e), few_marks marks (and_right (is_spelled m.symbol) (are_spelled marks) e)) where
+few_marks (m ∷ marks) e = omega (
+  arith,
+  sum_by-cons (λ (n : Mark). size_of n.symbol) m marks,
+  has_size m.symbol (and_left (is_spelled m.symbol) (are_spelled marks) e),
+  few_marks marks (and_right (is_spelled m.symbol) (are_spelled marks) e),
+) where
   and_left : (a b : Bool) → a && b ≡ true → a ≡ true
   and_left true b e = refl
   and_left false b e = cc
@@ -110,5 +121,12 @@ few_marks (m ∷ marks) e = omega (arith, sum_by-cons (λ (n : Mark). size_of n.
   and_right false b e = cc
 
 -- a tree of what symbols hold is held
-pub tree_is_bounded : (marks given : List Mark) (last : ℕ) (tree : Program) → given ≡ marks → IsTheTree given tree → are_spelled marks ≡ true → is_orderly 1 marks last ≡ true → extent marks ≤ 262144 → last < 2 ^ 16 → IsBounded tree
-tree_is_bounded marks given last tree same t letters lines few small = record { marks = marks; last = last; spells = subst (λ l. Spells tree l) same t.spells; is_bounded = record { spelled = letters; orderly = lines; few = few; bounded = small } }
+pub tree_is_bounded : (marks given : List Mark) (last : ℕ) (tree : Program) → given ≡ marks → IsTheTree given tree → are_spelled marks ≡ true
+    → is_orderly 1 marks last ≡ true → extent marks ≤ 262144 → last < 2 ^ 16 → IsBounded tree
+tree_is_bounded marks given last tree same t letters lines few small =
+    record {
+      marks = marks;
+      last = last;
+      spells = subst (λ l. Spells tree l) same t.spells;
+      is_bounded = record { spelled = letters; orderly = lines; few = few; bounded = small };
+    }

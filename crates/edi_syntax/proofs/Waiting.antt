@@ -24,9 +24,14 @@ some_wait (o ∷ waiting) = test_one_more (height waiting) o (has_begin waiting)
 abbrev pub Waits : ℕ → List Mark → List Mark → Type 0
 Waits count rest marks = (waiting : List Bool) × (height waiting ≡ count) × (open_behind waiting rest ≡ open_behind [] marks)
 
-pub waits_on : (count next i : ℕ) (marks : List Mark) (m : Mark) → i < length marks → m ≡ slice_index_or marks i m → Waits count (drop i marks) marks → ((waiting : List Bool) → height waiting ≡ count → height (open_with m.symbol waiting) ≡ next) → Waits next (drop (i + 1) marks) marks
-waits_on count next i marks m inside is w f =
-    (open_with m.symbol w.0, f w.0 w.1, ap (λ n. open_behind (open_with n.symbol w.0) (drop (i + 1) marks)) is ∙ ap (open_behind w.0) (sym (drop_more marks i m inside)) ∙ w.2)
+pub waits_on : (count next i : ℕ) (marks : List Mark) (m : Mark) → i < length marks → m ≡ slice_index_or marks i m → Waits count (drop i marks) marks
+    → ((waiting : List Bool) → height waiting ≡ count → height (open_with m.symbol waiting) ≡ next) → Waits next (drop (i + 1) marks) marks
+waits_on count next i marks m inside is w f = (
+  open_with m.symbol w.0,
+  f w.0 w.1,
+  ap (λ n. open_behind (open_with n.symbol w.0) (drop (i + 1) marks)) is
+      ∙ ap (open_behind w.0) (sym (drop_more marks i m inside)) ∙ w.2,
+)
 
 pub waits_end : (count i : ℕ) (marks : List Mark) → length marks ≤ i → Waits count (drop i marks) marks → nat_lt 0 count ≡ is_in_begin marks
 waits_end count i marks none w = ap (nat_lt 0) (sym w.1) ∙ some_wait w.0 ∙ ap has_begin (sym (at_drop_all (open_behind w.0) marks i none) ∙ w.2)

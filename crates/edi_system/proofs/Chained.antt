@@ -10,7 +10,8 @@ use Rattle.edi_system.specs.State.{failed_in, faults_of}
 use Rattle.edi_system.specs.declared.system.System.{System}
 
 -- what is told of each of two calls
-pub told_then : {A : Type 0} (P Q R : A → A → Type 0) (a b c : Option A) → ((x y z : A) → P x y → Q y z → R x z) → WhereTold a b P → WhereTold b c Q → WhereTold a c R
+pub told_then : {A : Type 0} (P Q R : A → A → Type 0) (a b c : Option A) → ((x y z : A) → P x y → Q y z → R x z) → WhereTold a b P → WhereTold b c Q
+    → WhereTold a c R
 told_then P Q R a b None so one two = tt
 told_then P Q R a None (Some z) so one two = absurd two
 told_then P Q R None (Some y) (Some z) so one two = absurd one
@@ -65,11 +66,12 @@ module _ {D S T P : Type 0} (drive : D → ℕ) (input : S → ℕ) (terminal : 
     go false (Some outside) blame = absurd blame
     go false None blame = tt
 
-module _ {D S T P : Type 0} (contents : D → Option (List (List ℕ))) (left : S → Option (List ℕ)) (shown : T → Option (List ℕ)) (printed : P → Option (List ℕ)) where
-  pub keeps_told_on : (a b c : System D S T P) → KeepsTold contents left shown printed a b → KeepsTold contents left shown printed b c
-      → KeepsTold contents left shown printed a c
-  keeps_told_on a b c one two = told_on _ _ _ _ _ _ _ _ _ _ _ _ one two
+module _ {D S T P : Type 0} (contents : D → Option (List (List ℕ))) (left : S → Option (List ℕ)) (shown : T → Option (List ℕ)) (printed : P → Option (List ℕ))
+  where
+    pub keeps_told_on : (a b c : System D S T P) → KeepsTold contents left shown printed a b → KeepsTold contents left shown printed b c
+        → KeepsTold contents left shown printed a c
+    keeps_told_on a b c one two = told_on _ _ _ _ _ _ _ _ _ _ _ _ one two
 
-  -- whether a line is due stays told
-  pub due_on : (a b c : System D S T P) → KeepsDue shown a b → KeepsDue shown b c → KeepsDue shown a c
-  due_on a b c one two = λ start since. two start (one start since)
+    -- whether a line is due stays told
+    pub due_on : (a b c : System D S T P) → KeepsDue shown a b → KeepsDue shown b c → KeepsDue shown a c
+    due_on a b c one two = λ start since. two start (one start since)

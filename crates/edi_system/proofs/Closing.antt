@@ -47,7 +47,8 @@ nothing_against {X} answer refusal old wanted new open_ a = go (open_answer answ
   go (inl ok) = (subst (λ r. CatalogAnswers r refusal old wanted new) ok.1 a).0
   go (inr fault) = subst (λ r. CatalogAnswers r refusal old wanted new) fault a
 
-pub nothing_to_store : {X : Type 0} (answer : Result X CatEnd) (refusal : Option CatEnd) (index : Option ℕ) (entry : Entry) (old new : List (Option StoredFile)) → is_refused answer ≡ false
+pub nothing_to_store : {X : Type 0} (answer : Result X CatEnd) (refusal : Option CatEnd) (index : Option ℕ) (entry : Entry)
+    (old new : List (Option StoredFile)) → is_refused answer ≡ false
     → StoreAnswers answer refusal index entry old new → refusal ≡ None
 nothing_to_store {X} answer refusal index entry old new open_ a = go (open_answer answer open_) where
   go : ((x : X) × (answer ≡ Ok x)) ⊎ (answer ≡ Err cat.Fault) → refusal ≡ None
@@ -66,7 +67,8 @@ something_against (Err (cat.TooLarge n)) refusal old wanted new closed a = (cat.
 something_against (Err cat.CatalogFull) refusal old wanted new closed a = (cat.CatalogFull, a.0)
 something_against (Err (cat.Full n m)) refusal old wanted new closed a = (cat.Full n m, a.0)
 
-pub something_to_store : {X : Type 0} (answer : Result X CatEnd) (refusal : Option CatEnd) (index : Option ℕ) (entry : Entry) (old new : List (Option StoredFile)) → is_refused answer ≡ true
+pub something_to_store : {X : Type 0} (answer : Result X CatEnd) (refusal : Option CatEnd) (index : Option ℕ) (entry : Entry)
+    (old new : List (Option StoredFile)) → is_refused answer ≡ true
     → StoreAnswers answer refusal index entry old new → (why : CatEnd) × (refusal ≡ Some why)
 something_to_store (Ok x) refusal index entry old new closed a = absurd (let no : false ≡ true = closed in cc)
 something_to_store (Err cat.Fault) refusal index entry old new closed a = absurd (let no : false ≡ true = closed in cc)
@@ -105,7 +107,8 @@ same_parts input shown printed slots slots' n n' found found' buffer buffer' es 
     ap (λ x. state_of_parts input shown printed x n found buffer) es ∙ ap (λ x. state_of_parts input shown printed slots' x found buffer) en
     ∙ ap (λ x. state_of_parts input shown printed slots' n' x buffer) ef ∙ ap (state_of_parts input shown printed slots' n' found') eb
 
-module _ {D S T P X : Type 0} (before after : System D S T P) (answer : Result X CatEnd) (title words : List ℕ) (b b' : List (List ℕ)) (i s p : List ℕ) (spelled : title_of words ≡ Some title) where
+module _ {D S T P X : Type 0} (before after : System D S T P) (answer : Result X CatEnd) (title words : List ℕ) (b b' : List (List ℕ)) (i s p : List ℕ)
+    (spelled : title_of words ≡ Some title) where
   -- a text was stored, or the drive has failed in that
   pub closes : (bytes : List ℕ) (index : ℕ) → buffer_in before ≡ Some bytes → room_in b title (length bytes) ≡ Some index
       → is_refused answer ≡ false → Slots answer (put_slot (slots_of b) index (Some (text_file title bytes))) b b' → length b' ≡ length b
@@ -120,15 +123,18 @@ module _ {D S T P X : Type 0} (before after : System D S T P) (answer : Result X
           ∙ ap (λ o. option_map_or (λ t. close_as bytes t (state_with before b i s p)) o (gives 0 (state_with before b i s p))) spelled
           ∙ ap (λ o. option_map_or (λ k. gives 1 (stored title bytes k (state_with before b i s p))) o (gives 0 (state_with before b i s p))) room
 
-      go : ((x : X) × (answer ≡ Ok x)) ⊎ (answer ≡ Err cat.Fault) → Reaches (gives 1 (stored title bytes index (state_with before b i s p))) (done answer) (state_with before b i s p) (state_with after b' i s p)
+      go : ((x : X) × (answer ≡ Ok x)) ⊎ (answer ≡ Err cat.Fault) → Reaches (gives 1 (stored title bytes index (state_with before b i s p))) (done answer)
+          (state_with before b i s p) (state_with after b' i s p)
       go (inl ok) =
-          subst (λ r. Reaches (gives 1 (stored title bytes index (state_with before b i s p))) (done r) (state_with before b i s p) (state_with after b' i s p)) (sym ok.1) (
+          subst (λ r. Reaches (gives 1 (stored title bytes index (state_with before b i s p))) (done r) (state_with before b i s p)
+          (state_with after b' i s p)) (sym ok.1) (
             refl,
             same_parts i s p _ _ _ _ _ _ _ _ (subst (λ r. Slots r (put_slot (slots_of b) index (Some (text_file title bytes))) b b') ok.1 slots) many
                 (ap (option_map found_of) found ∙ found_other title before.found) left,
           )
       go (inr fault) =
-          subst (λ r. Reaches (gives 1 (stored title bytes index (state_with before b i s p))) (done r) (state_with before b i s p) (state_with after b' i s p)) (sym fault) (record {
+          subst (λ r. Reaches (gives 1 (stored title bytes index (state_with before b i s p))) (done r) (state_with before b i s p)
+          (state_with after b' i s p)) (sym fault) (record {
             input = inl refl;
             shown = inl refl;
             printed = inl refl;
@@ -138,7 +144,8 @@ module _ {D S T P X : Type 0} (before after : System D S T P) (answer : Result X
 
   -- a file was removed, or the drive has failed in that
   pub removes : (index : ℕ) → open_slot (slots_of b) title ≡ Some index → is_refused answer ≡ false
-      → Slots answer (put_slot (slots_of b) index None) b b' → length b' ≡ length b → after.found ≡ not_titled title before.found → buffer_in after ≡ buffer_in before
+      → Slots answer (put_slot (slots_of b) index None) b b' → length b' ≡ length b → after.found ≡ not_titled title before.found
+      → buffer_in after ≡ buffer_in before
       → Reaches (remove words (state_with before b i s p)) (done answer) (state_with before b i s p) (state_with after b' i s p)
   removes index may open_ slots many found left =
       subst (λ r. Reaches r (done answer) (state_with before b i s p) (state_with after b' i s p)) (sym made) (go (open_answer answer open_))
@@ -148,15 +155,18 @@ module _ {D S T P X : Type 0} (before after : System D S T P) (answer : Result X
           ap (λ o. option_map_or (λ t. remove_as t (state_with before b i s p)) o (gives 0 (state_with before b i s p))) spelled
           ∙ ap (λ o. option_map_or (λ k. gives 1 (with_slot (state_with before b i s p) title k None)) o (gives 0 (state_with before b i s p))) may
 
-      go : ((x : X) × (answer ≡ Ok x)) ⊎ (answer ≡ Err cat.Fault) → Reaches (gives 1 (with_slot (state_with before b i s p) title index None)) (done answer) (state_with before b i s p) (state_with after b' i s p)
+      go : ((x : X) × (answer ≡ Ok x)) ⊎ (answer ≡ Err cat.Fault) → Reaches (gives 1 (with_slot (state_with before b i s p) title index None)) (done answer)
+          (state_with before b i s p) (state_with after b' i s p)
       go (inl ok) =
-          subst (λ r. Reaches (gives 1 (with_slot (state_with before b i s p) title index None)) (done r) (state_with before b i s p) (state_with after b' i s p)) (sym ok.1) (
+          subst (λ r. Reaches (gives 1 (with_slot (state_with before b i s p) title index None)) (done r) (state_with before b i s p)
+          (state_with after b' i s p)) (sym ok.1) (
             refl,
             same_parts i s p _ _ _ _ _ _ _ _ (subst (λ r. Slots r (put_slot (slots_of b) index None) b b') ok.1 slots) many
                 (ap (option_map found_of) found ∙ found_other title before.found) left,
           )
       go (inr fault) =
-          subst (λ r. Reaches (gives 1 (with_slot (state_with before b i s p) title index None)) (done r) (state_with before b i s p) (state_with after b' i s p)) (sym fault) (record {
+          subst (λ r. Reaches (gives 1 (with_slot (state_with before b i s p) title index None)) (done r) (state_with before b i s p)
+          (state_with after b' i s p)) (sym fault) (record {
             input = inl refl;
             shown = inl refl;
             printed = inl refl;

@@ -39,7 +39,8 @@ spelled system b i s p words kept = go (title_of words) where
   go None = refl
   go (Some title) = text_found b title (files_of (catalog_in system)) kept
 
-pub finds_told : {D S T P : Type 0} (contents : D → Option (List (List ℕ))) (count : D → ℕ) (left : S → Option (List ℕ)) (shown : T → Option (List ℕ)) (printed : P → Option (List ℕ))
+pub finds_told : {D S T P : Type 0} (contents : D → Option (List (List ℕ))) (count : D → ℕ) (left : S → Option (List ℕ)) (shown : T → Option (List ℕ))
+    (printed : P → Option (List ℕ))
     (before : System D S T P) (words : List ℕ) (found : Option Reading) (word : ℕ)
     → IsMounted contents count (catalog_in before) → found ≡ text_spelled words (files_of (catalog_in before)) → word ≡ word_of (is_some found)
     → WhereTold (state_of contents left shown printed before) (state_of contents left shown printed (record before { found = found }))
@@ -48,12 +49,14 @@ finds_told contents count left shown printed before words found word mounted is 
     told_together (state_with before) (state_with (record before { found = found })) _ _ _ _ _ _ _ _
     (λ old new. (new ≡ old) × IsKeptOf old (files_of (catalog_in before))) (λ x y. y ≡ x) (λ x y. y ≡ x) (λ x y. y ≡ x)
     (λ b a. Reaches (find words b) (Ok (Some word)) b a)
-    (told_same_blocks (contents (drive_in before)) (contents (drive_in before)) (λ old. IsKeptOf old (files_of (catalog_in before))) (λ blocks told. (told, mounted.image blocks told)))
+    (told_same_blocks (contents (drive_in before)) (contents (drive_in before)) (λ old. IsKeptOf old (files_of (catalog_in before)))
+    (λ blocks told. (told, mounted.image blocks told)))
     (told_same (left (input_in before)) (left (input_in before)) refl) (told_same (shown (terminal_in before)) (shown (terminal_in before)) refl)
     (told_same (printed (printer_in before)) (printed (printer_in before)) refl)
     (λ b b' i i' s s' p p' eb ei es ep.
     (let same = spelled before b i s p words eb.1 in
-    let now : option_and_then (found_in (state_with before b i s p)) (title_of words) ≡ option_map found_of found = same ∙ ap (option_map found_of) (sym is) in (
+    let now : option_and_then (found_in (state_with before b i s p)) (title_of words) ≡ option_map found_of found = same
+    ∙ ap (option_map found_of) (sym is) in (
       ap (λ w. w ∷ []) (answer ∙ ap word_of (sym (is_some_map found_of found) ∙ ap is_some (sym now))),
       state_open (record before { found = found }) (record before { found = found }) b b' i i' s s' p p' refl refl eb.0 ei es ep
           ∙ ap (λ x. record (state_with before b i s p) { found = x }) (sym now),
@@ -66,6 +69,7 @@ found_ready contents count before words found ready is = record {
   mounted = ready.mounted;
   reading = subst (λ o. IfSome o (IsReading contents (catalog_in before) before.page)) (sym is) (go (title_of words));
 } where
-  go : (o : Option (List ℕ)) → IfSome (option_and_then (λ title. text_of title (option_map entry_of (file_titled title (files_of (catalog_in before))))) o) (IsReading contents (catalog_in before) before.page)
+  go : (o : Option (List ℕ)) → IfSome (option_and_then (λ title. text_of title (option_map entry_of (file_titled title (files_of (catalog_in before))))) o)
+      (IsReading contents (catalog_in before) before.page)
   go None = tt
   go (Some title) = text_ready contents (catalog_in before) before.page title

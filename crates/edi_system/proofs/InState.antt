@@ -113,7 +113,8 @@ module _ {D S T P : Type 0} (before after : System D S T P) (b b' : List (List �
   answered_by (Ok x) refusal w opens size stays closes r = (r.0, moved w (opens (state_with before b i s p)) r.1 (closes refl) size)
   answered_by (Err cat.Fault) refusal w opens size stays closes r = (r.0, go r.1) where
     go : (slots_of b' ≡ slots_of b) ⊎ (slots_of b' ≡ w)
-        → (state_with after b' i s p ≡ record (opens (state_with before b i s p)) { slots = slots_of b }) ⊎ (state_with after b' i s p ≡ record (opens (state_with before b i s p)) { slots = w })
+        → (state_with after b' i s p ≡ record (opens (state_with before b i s p)) { slots = slots_of b })
+        ⊎ (state_with after b' i s p ≡ record (opens (state_with before b i s p)) { slots = w })
     go (inl same) = inl (moved (slots_of b) (opens (state_with before b i s p)) same (closes refl) size)
     go (inr now) = inr (moved w (opens (state_with before b i s p)) now (closes refl) size)
   answered_by (Err cat.NoSuch) refusal w opens size stays closes r = (r.0, moved (slots_of b) (state_with before b i s p) r.1 (stays refl) refl)
@@ -123,19 +124,26 @@ module _ {D S T P : Type 0} (before after : System D S T P) (b b' : List (List �
   answered_by (Err cat.CatalogFull) refusal w opens size stays closes r = (r.0, moved (slots_of b) (state_with before b i s p) r.1 (stays refl) refl)
   answered_by (Err (cat.Full n m)) refusal w opens size stays closes r = (r.0, moved (slots_of b) (state_with before b i s p) r.1 (stays refl) refl)
 
-module _ {D S T P : Type 0} (contents : D → Option (List (List ℕ))) (left : S → Option (List ℕ)) (shown : T → Option (List ℕ)) (printed : P → Option (List ℕ)) (count faults : D → ℕ)
-    (counted : (drive : D) → IfSome (contents drive) (λ blocks. length blocks ≡ count drive)) (sized : (drive : D) → IfSome (contents drive) (λ blocks. list_all is_block blocks ≡ true)) where
+module _ {D S T P : Type 0} (contents : D → Option (List (List ℕ))) (left : S → Option (List ℕ)) (shown : T → Option (List ℕ)) (printed : P → Option (List ℕ))
+    (count faults : D → ℕ)
+    (counted : (drive : D) → IfSome (contents drive) (λ blocks. length blocks ≡ count drive))
+    (sized : (drive : D) → IfSome (contents drive) (λ blocks. list_all is_block blocks ≡ true)) where
   -- with the open files dropped unless it was refused
-  pub closes_files : {X : Type 0} (before after : System D S T P) (result : Result X CatEnd) (other : ℕ → List (Option File) → Option CatEnd) (wanted : List (Option File) → List (Option File))
-      → input_in after ≡ input_in before → terminal_in after ≡ terminal_in before → printer_in after ≡ printer_in before → count (drive_in after) ≡ count (drive_in before)
+  pub closes_files : {X : Type 0} (before after : System D S T P) (result : Result X CatEnd) (other : ℕ → List (Option File) → Option CatEnd)
+      (wanted : List (Option File) → List (Option File))
+      → input_in after ≡ input_in before → terminal_in after ≡ terminal_in before → printer_in after ≡ printer_in before → count (drive_in after) ≡ count
+      (drive_in before)
       → ((is_refused result ≡ true) × OpenStays before after) ⊎ ((is_refused result ≡ false) × IsClosed after)
-      → WhereTold (contents (drive_in before)) (contents (drive_in after)) (λ old new. SlotsAnswer result (other (free_in old) (slots_of old)) (slots_of old) (wanted (slots_of old)) (slots_of new))
+      → WhereTold (contents (drive_in before)) (contents (drive_in after))
+      (λ old new. SlotsAnswer result (other (free_in old) (slots_of old)) (slots_of old) (wanted (slots_of old)) (slots_of new))
       → WhereTold (state_of contents left shown printed before) (state_of contents left shown printed after)
       (λ b a. StateAnswer result (other (free b) b.slots) (wanted b.slots) fresh b a)
   closes_files {X} before after result other wanted ei es ep same open_ told =
-      over_blocks contents left shown printed before after (λ old new. SlotsAnswer result (other (free_in old) (slots_of old)) (slots_of old) (wanted (slots_of old)) (slots_of new))
+      over_blocks contents left shown printed before after
+      (λ old new. SlotsAnswer result (other (free_in old) (slots_of old)) (slots_of old) (wanted (slots_of old)) (slots_of new))
       (λ b a. StateAnswer result (other (free b) b.slots) (wanted b.slots) fresh b a) told ei es ep
-      (λ b b' i s p told told' r. answered_by before after b b' i s p (as_many contents left shown printed count faults counted sized (drive_in before) (drive_in after) b b' told told' same)
+      (λ b b' i s p told told' r. answered_by before after b b' i s p
+      (as_many contents left shown printed count faults counted sized (drive_in before) (drive_in after) b b' told told' same)
       result (other (free_in b) (slots_of b)) (wanted (slots_of b)) fresh refl (stays b i s p open_) (closes b i s p open_) r)
     where
       stays : (b : List (List ℕ)) (i s p : List ℕ) → ((is_refused result ≡ true) × OpenStays before after) ⊎ ((is_refused result ≡ false) × IsClosed after)
@@ -149,34 +157,45 @@ module _ {D S T P : Type 0} (contents : D → Option (List (List ℕ))) (left : 
       closes b i s p (inr was) e = shut before after b i s p was.1
 
   -- with the open files as they were
-  pub keeps_files : {X : Type 0} (before after : System D S T P) (result : Result X CatEnd) (other : ℕ → List (Option File) → Option CatEnd) (wanted : List (Option File) → List (Option File))
-      → input_in after ≡ input_in before → terminal_in after ≡ terminal_in before → printer_in after ≡ printer_in before → count (drive_in after) ≡ count (drive_in before)
+  pub keeps_files : {X : Type 0} (before after : System D S T P) (result : Result X CatEnd) (other : ℕ → List (Option File) → Option CatEnd)
+      (wanted : List (Option File) → List (Option File))
+      → input_in after ≡ input_in before → terminal_in after ≡ terminal_in before → printer_in after ≡ printer_in before → count (drive_in after) ≡ count
+      (drive_in before)
       → PositionStays before after
-      → WhereTold (contents (drive_in before)) (contents (drive_in after)) (λ old new. SlotsAnswer result (other (free_in old) (slots_of old)) (slots_of old) (wanted (slots_of old)) (slots_of new))
+      → WhereTold (contents (drive_in before)) (contents (drive_in after))
+      (λ old new. SlotsAnswer result (other (free_in old) (slots_of old)) (slots_of old) (wanted (slots_of old)) (slots_of new))
       → WhereTold (state_of contents left shown printed before) (state_of contents left shown printed after)
       (λ b a. StateAnswer result (other (free b) b.slots) (wanted b.slots) left_open b a)
   keeps_files before after result other wanted ei es ep same open_ told =
-      over_blocks contents left shown printed before after (λ old new. SlotsAnswer result (other (free_in old) (slots_of old)) (slots_of old) (wanted (slots_of old)) (slots_of new))
+      over_blocks contents left shown printed before after
+      (λ old new. SlotsAnswer result (other (free_in old) (slots_of old)) (slots_of old) (wanted (slots_of old)) (slots_of new))
       (λ b a. StateAnswer result (other (free b) b.slots) (wanted b.slots) left_open b a) told ei es ep
-      (λ b b' i s p told told' r. answered_by before after b b' i s p (as_many contents left shown printed count faults counted sized (drive_in before) (drive_in after) b b' told told' same)
-      result (other (free_in b) (slots_of b)) (wanted (slots_of b)) left_open refl (λ e. same_open before after b i s p open_) (λ e. same_open before after b i s p open_) r)
+      (λ b b' i s p told told' r. answered_by before after b b' i s p
+      (as_many contents left shown printed count faults counted sized (drive_in before) (drive_in after) b b' told told' same)
+      result (other (free_in b) (slots_of b)) (wanted (slots_of b)) left_open refl (λ e. same_open before after b i s p open_)
+      (λ e. same_open before after b i s p open_) r)
 
   -- ---- calls that only read
 
   -- a page
-  pub reads_page_told : {X : Type 0} (before after : System D S T P) (result : Result X CatEnd) (title : List ℕ) (i : ℕ) (page : List ℕ) → IsMounted contents count (catalog_in before)
+  pub reads_page_told : {X : Type 0} (before after : System D S T P) (result : Result X CatEnd) (title : List ℕ) (i : ℕ) (page : List ℕ)
+      → IsMounted contents count (catalog_in before)
       → input_in after ≡ input_in before → terminal_in after ≡ terminal_in before → printer_in after ≡ printer_in before → PositionStays before after
       → ((result ≡ Err cat.NoSuch) ↔ (file_titled title (files_of (catalog_in before)) ≡ None)) → IfErr result (λ why. (why ≡ cat.NoSuch) ⊎ (why ≡ cat.Fault))
       → WhereTold (contents (drive_in before)) (contents (drive_in after)) (λ old new. new ≡ old)
       → WhereTold (contents (drive_in before)) (contents (drive_in after)) (λ old new. PageIn result (find_file (slots_of old) title) i page)
-      → WhereTold (state_of contents left shown printed before) (state_of contents left shown printed after) (λ b a. (a ≡ b) × ReadsPage result (find_file b.slots title) i page)
+      → WhereTold (state_of contents left shown printed before) (state_of contents left shown printed after)
+      (λ b a. (a ≡ b) × ReadsPage result (find_file b.slots title) i page)
   reads_page_told before after result title i page mounted ei es ep open_ only refusals same is =
       over_blocks contents left shown printed before after (λ old new. (new ≡ old) × PageIn result (find_file (slots_of old) title) i page)
-      (λ b a. (a ≡ b) × ReadsPage result (find_file b.slots title) i page) (both_told (contents (drive_in before)) (contents (drive_in after)) _ _ same is) ei es ep
+      (λ b a. (a ≡ b) × ReadsPage result (find_file b.slots title) i page) (both_told (contents (drive_in before)) (contents (drive_in after)) _ _ same is) ei
+      es ep
       (λ b b' i' s p told told' r. (
         ap (λ x. state_with after x i' s p) r.0 ∙ same_open before after b i' s p open_,
-        reads_page result (find_file (slots_of b) title) i page
-            (λ e. (none_found b title (files_of (catalog_in before)) (mounted.image b told)).0 (only.0 e), λ e. only.1 ((none_found b title (files_of (catalog_in before)) (mounted.image b told)).1 e)) refusals r.1,
+        reads_page result (find_file (slots_of b) title) i page (
+          λ e. (none_found b title (files_of (catalog_in before)) (mounted.image b told)).0 (only.0 e),
+          λ e. only.1 ((none_found b title (files_of (catalog_in before)) (mounted.image b told)).1 e),
+        ) refusals r.1,
       ))
 
   -- a whole file
@@ -184,13 +203,16 @@ module _ {D S T P : Type 0} (contents : D → Option (List (List ℕ))) (left : 
       → input_in after ≡ input_in before → terminal_in after ≡ terminal_in before → printer_in after ≡ printer_in before → PositionStays before after
       → ((result ≡ Err cat.NoSuch) ↔ (file_titled title (files_of (catalog_in before)) ≡ None)) → IfErr result (λ why. (why ≡ cat.NoSuch) ⊎ (why ≡ cat.Fault))
       → WhereTold (contents (drive_in before)) (contents (drive_in after)) (λ old new. (new ≡ old) × FileIs result title bytes old)
-      → WhereTold (state_of contents left shown printed before) (state_of contents left shown printed after) (λ b a. (a ≡ b) × ReadsWhole result (find_file b.slots title) bytes)
+      → WhereTold (state_of contents left shown printed before) (state_of contents left shown printed after)
+      (λ b a. (a ≡ b) × ReadsWhole result (find_file b.slots title) bytes)
   reads_whole_told before after result title bytes mounted ei es ep open_ only refusals is =
       over_blocks contents left shown printed before after (λ old new. (new ≡ old) × FileIs result title bytes old)
       (λ b a. (a ≡ b) × ReadsWhole result (find_file b.slots title) bytes) is ei es ep
       (λ b b' i' s p told told' r. (
         ap (λ x. state_with after x i' s p) r.0 ∙ same_open before after b i' s p open_,
-        reads_whole result (find_file (slots_of b) title) bytes
-            (λ e. (none_found b title (files_of (catalog_in before)) (mounted.image b told)).0 (only.0 e), λ e. only.1 ((none_found b title (files_of (catalog_in before)) (mounted.image b told)).1 e)) refusals
+        reads_whole result (find_file (slots_of b) title) bytes (
+          λ e. (none_found b title (files_of (catalog_in before)) (mounted.image b told)).0 (only.0 e),
+          λ e. only.1 ((none_found b title (files_of (catalog_in before)) (mounted.image b told)).1 e),
+        ) refusals
             (λ n e. subst (λ x. FileIs x title bytes b) e r.1),
       ))

@@ -1,5 +1,6 @@
 -- What every call keeps: what is not told stays so, and the blocks of the drive are a valid image.
-use Rattle.std.proofs.Common.{◌≡◌, ◌⊎◌, inl, inr, ℕ, zero, suc, ◌+◌, ◌*◌, List, [], ◌∷◌, ◌++◌, length, take, Option, Some, None, refl, sym, ap, subst, ◌∙◌, arith}
+use Rattle.std.proofs.Common.{◌≡◌, ◌⊎◌, inl, inr, ℕ, zero, suc, ◌+◌, ◌*◌, List, [], ◌∷◌, ◌++◌, length, take, Option, Some, None, refl, sym, ap, subst, ◌∙◌}
+use Rattle.std.proofs.Common.{arith}
 use Rattle.std.specs.Prelude.{slice_get, IfSome, Result, Ok, Err}
 use Rattle.edi_told.specs.Told.{WhereTold}
 use Rattle.edi_disk.specs.Shown.{drive_of}
@@ -40,7 +41,8 @@ pub valid_ready : {D S T P : Type 0} (contents : D → Option (List (List ℕ)))
 valid_ready contents count system ready = valid_mounted contents count (catalog_in system) ready.mounted
 
 -- one that is only read is one still
-pub valid_read : (P : List (List ℕ) → List (List ℕ) → Type 0) (a b : Option (List (List ℕ))) → IsValid a → WhereTold a b (λ old new. (new ≡ old) × P old new) → IsValid b
+pub valid_read : (P : List (List ℕ) → List (List ℕ) → Type 0) (a b : Option (List (List ℕ))) → IsValid a → WhereTold a b (λ old new. (new ≡ old) × P old new)
+    → IsValid b
 valid_read P a None valid told = tt
 valid_read P None (Some new) valid told = absurd told
 valid_read P (Some old) (Some new) valid told = subst (λ bs. mount_fault_of bs ≡ None) (sym told.0) valid
@@ -90,9 +92,11 @@ get_front : (old new : List ℕ) → take (length old) new ≡ old → (k c : �
 get_front [] new e k c h = absurd (let wrong : None ≡ Some c = h in cc)
 get_front (x ∷ old) [] e k c h = absurd (let wrong : [] ≡ x ∷ old = e in cc)
 get_front (x ∷ old) (y ∷ new) e zero c h = (let all : y ∷ take (length old) new ≡ x ∷ old = e in let same : y ≡ x = cc in ap Some same ∙ h)
-get_front (x ∷ old) (y ∷ new) e (suc k) c h = (let all : y ∷ take (length old) new ≡ x ∷ old = e in let same : take (length old) new ≡ old = cc in get_front old new same k c h)
+get_front (x ∷ old) (y ∷ new) e (suc k) c h = (let all : y ∷ take (length old) new ≡ x ∷ old = e in let same : take (length old) new ≡ old = cc in
+    get_front old new same k c h)
 
-byte_stays : (t t' : Option (List ℕ)) → WhereTold t t' Grows → (k c : ℕ) → IfSome t (λ bytes. slice_get bytes k ≡ Some c) → IfSome t' (λ bytes. slice_get bytes k ≡ Some c)
+byte_stays : (t t' : Option (List ℕ)) → WhereTold t t' Grows → (k c : ℕ) → IfSome t (λ bytes. slice_get bytes k ≡ Some c)
+    → IfSome t' (λ bytes. slice_get bytes k ≡ Some c)
 byte_stays t None told k c was = tt
 byte_stays None (Some new) told k c was = absurd told
 byte_stays (Some old) (Some new) told k c was = get_front old new told k c was
@@ -118,13 +122,29 @@ number_same (suc k) c (suc k') c' e = (let r = number_same k c k' c' (omega (ari
 
 -- no object was used
 pub told_alone : (d : Option (List (List ℕ))) (i t p : Option (List ℕ)) → IsValid d → ToldStays d d i i t t p p
-told_alone d i t p valid = record { drive = λ none. none; source = λ none. none; terminal = λ none. none; printer = λ none. none; valid = valid; grows = grows_same t }
+told_alone d i t p valid = record {
+  drive = λ none. none;
+  source = λ none. none;
+  terminal = λ none. none;
+  printer = λ none. none;
+  valid = valid;
+  grows = grows_same t;
+}
 
 -- one was
-pub told_input : (d : Option (List (List ℕ))) (i i' t p : Option (List ℕ)) (Q : List ℕ → List ℕ → Type 0) → IsValid d → WhereTold i i' Q → ToldStays d d i i' t t p p
-told_input d i i' t p Q valid told = record { drive = λ none. none; source = none_stays Q i i' told; terminal = λ none. none; printer = λ none. none; valid = valid; grows = grows_same t }
+pub told_input : (d : Option (List (List ℕ))) (i i' t p : Option (List ℕ)) (Q : List ℕ → List ℕ → Type 0) → IsValid d → WhereTold i i' Q
+    → ToldStays d d i i' t t p p
+told_input d i i' t p Q valid told = record {
+  drive = λ none. none;
+  source = none_stays Q i i' told;
+  terminal = λ none. none;
+  printer = λ none. none;
+  valid = valid;
+  grows = grows_same t;
+}
 
-pub told_terminal : (d : Option (List (List ℕ))) (i t t' p : Option (List ℕ)) (more : List ℕ) → IsValid d → WhereTold t t' (λ old new. new ≡ old ++ more) → ToldStays d d i i t t' p p
+pub told_terminal : (d : Option (List (List ℕ))) (i t t' p : Option (List ℕ)) (more : List ℕ) → IsValid d → WhereTold t t' (λ old new. new ≡ old ++ more)
+    → ToldStays d d i i t t' p p
 told_terminal d i t t' p more valid told = record {
   drive = λ none. none;
   source = λ none. none;
@@ -134,11 +154,20 @@ told_terminal d i t t' p more valid told = record {
   grows = grows_more t t' more told;
 }
 
-pub told_printer : (d : Option (List (List ℕ))) (i t p p' : Option (List ℕ)) (Q : List ℕ → List ℕ → Type 0) → IsValid d → WhereTold p p' Q → ToldStays d d i i t t p p'
-told_printer d i t p p' Q valid told = record { drive = λ none. none; source = λ none. none; terminal = λ none. none; printer = none_stays Q p p' told; valid = valid; grows = grows_same t }
+pub told_printer : (d : Option (List (List ℕ))) (i t p p' : Option (List ℕ)) (Q : List ℕ → List ℕ → Type 0) → IsValid d → WhereTold p p' Q
+    → ToldStays d d i i t t p p'
+told_printer d i t p p' Q valid told = record {
+  drive = λ none. none;
+  source = λ none. none;
+  terminal = λ none. none;
+  printer = none_stays Q p p' told;
+  valid = valid;
+  grows = grows_same t;
+}
 
 -- the drive was read
-pub told_read : (d d' : Option (List (List ℕ))) (i t p : Option (List ℕ)) (Q : List (List ℕ) → List (List ℕ) → Type 0) → IsValid d → WhereTold d d' (λ old new. (new ≡ old) × Q old new)
+pub told_read : (d d' : Option (List (List ℕ))) (i t p : Option (List ℕ)) (Q : List (List ℕ) → List (List ℕ) → Type 0) → IsValid d
+    → WhereTold d d' (λ old new. (new ≡ old) × Q old new)
     → ToldStays d d' i i t t p p
 told_read d d' i t p Q valid told = record {
   drive = none_stays (λ old new. (new ≡ old) × Q old new) d d' told;
@@ -150,7 +179,8 @@ told_read d d' i t p Q valid told = record {
 }
 
 -- a file was changed
-told_changed : {X : Type 0} (result : Result X CatEnd) (wanted : List (Option File) → List (Option File)) (d d' : Option (List (List ℕ))) (i t p : Option (List ℕ)) → IsValid d
+told_changed : {X : Type 0} (result : Result X CatEnd) (wanted : List (Option File) → List (Option File)) (d d' : Option (List (List ℕ)))
+    (i t p : Option (List ℕ)) → IsValid d
     → WhereTold d d' (λ old new. Leaves result (slots_of old) (wanted (slots_of old)) old new) → ToldStays d d' i i t t p p
 told_changed result wanted d d' i t p valid told = record {
   drive = none_stays (λ old new. Leaves result (slots_of old) (wanted (slots_of old)) old new) d d' told;
@@ -161,20 +191,26 @@ told_changed result wanted d d' i t p valid told = record {
   grows = grows_same t;
 }
 
-pub told_changes : {D X : Type 0} (contents : D → Option (List (List ℕ))) (count faults : D → ℕ) (result : Result X CatEnd) (refusal : Option CatEnd) (kept : List (Option StoredFile)) (wanted : List (Option File) → List (Option File))
+pub told_changes : {D X : Type 0} (contents : D → Option (List (List ℕ))) (count faults : D → ℕ) (result : Result X CatEnd) (refusal : Option CatEnd)
+    (kept : List (Option StoredFile)) (wanted : List (Option File) → List (Option File))
     (one other : Catalog D) (i t p : Option (List ℕ)) → IsMounted contents count one → Changes contents count faults result refusal kept wanted one other
     → ToldStays (contents (drive_of (disk_of one))) (contents (drive_of (disk_of other))) i i t t p p
 told_changes contents count faults result refusal kept wanted one other i t p mounted changes =
-    told_changed result wanted (contents (drive_of (disk_of one))) (contents (drive_of (disk_of other))) i t p (valid_mounted contents count one mounted) changes.leaves
+    told_changed result wanted (contents (drive_of (disk_of one))) (contents (drive_of (disk_of other))) i t p (valid_mounted contents count one mounted)
+    changes.leaves
 
-pub told_stores : {D X : Type 0} (contents : D → Option (List (List ℕ))) (count faults : D → ℕ) (result : Result X CatEnd) (refusal : Option CatEnd) (title : List ℕ) (kind : FileKind) (bytes : List ℕ)
-    (one other : Catalog D) (i t p : Option (List ℕ)) → IsMounted contents count one → StoreChanges contents count faults result refusal title kind bytes one other
+pub told_stores : {D X : Type 0} (contents : D → Option (List (List ℕ))) (count faults : D → ℕ) (result : Result X CatEnd) (refusal : Option CatEnd)
+    (title : List ℕ) (kind : FileKind) (bytes : List ℕ)
+    (one other : Catalog D) (i t p : Option (List ℕ)) → IsMounted contents count one → StoreChanges contents count faults result refusal title kind bytes one
+    other
     → ToldStays (contents (drive_of (disk_of one))) (contents (drive_of (disk_of other))) i i t t p p
 told_stores contents count faults result refusal title kind bytes one other i t p mounted changes =
-    told_changed result (slots_stored title kind bytes) (contents (drive_of (disk_of one))) (contents (drive_of (disk_of other))) i t p (valid_mounted contents count one mounted) changes.leaves
+    told_changed result (slots_stored title kind bytes) (contents (drive_of (disk_of one))) (contents (drive_of (disk_of other))) i t p
+    (valid_mounted contents count one mounted) changes.leaves
 
 -- every fact of the list lasts
-pub lasts : {D S T P : Type 0} (contents : D → Option (List (List ℕ))) (left : S → Option (List ℕ)) (shown : T → Option (List ℕ)) (printed : P → Option (List ℕ)) (before after : System D S T P)
+pub lasts : {D S T P : Type 0} (contents : D → Option (List (List ℕ))) (left : S → Option (List ℕ)) (shown : T → Option (List ℕ))
+    (printed : P → Option (List ℕ)) (before after : System D S T P)
     → KeepsTold contents left shown printed before after → KeepsDue shown before after
     → (n : ℕ) → Lasts contents left shown printed before n → Lasts contents left shown printed after n
 lasts contents left shown printed before after told due zero = told.drive
@@ -188,13 +224,15 @@ lasts contents left shown printed before after told due (suc (suc (suc (suc (suc
 }
 
 -- what a system knows of the bytes that were shown before it
-pub due_known : {D S T P : Type 0} (shown : T → Option (List ℕ)) (system : System D S T P) (start : ℕ) → IsDueSince shown system start → LastsShown shown system (2 * start)
+pub due_known : {D S T P : Type 0} (shown : T → Option (List ℕ)) (system : System D S T P) (start : ℕ) → IsDueSince shown system start
+    → LastsShown shown system (2 * start)
 due_known shown system start since = record {
   due = λ other e. subst (IsDueSince shown system) (let same : start ≡ other = omega (arith, e) in same) since;
   byte = λ k c e. absurd (odd_even (byte_number k c) start (sym e));
 }
 
-pub byte_known : {D S T P : Type 0} (shown : T → Option (List ℕ)) (system : System D S T P) (k c : ℕ) → IfSome (shown (terminal_in system)) (λ bytes. slice_get bytes k ≡ Some c)
+pub byte_known : {D S T P : Type 0} (shown : T → Option (List ℕ)) (system : System D S T P) (k c : ℕ) → IfSome (shown (terminal_in system))
+    (λ bytes. slice_get bytes k ≡ Some c)
     → LastsShown shown system (2 * byte_number k c + 1)
 byte_known shown system k c there = record {
   due = λ start e. absurd (odd_even (byte_number k c) start e);

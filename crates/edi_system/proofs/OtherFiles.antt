@@ -201,4 +201,5 @@ not_titled_ready contents before after page title (Some reading) same r = go (by
   go true e = tt
   go false e =
       again contents before after page reading
-      (subst (λ o. AreAlike (file_titled reading.title (files_of before)) o) (sym (same reading.title e)) (alike_same (file_titled reading.title (files_of before)))) r
+      (subst (λ o. AreAlike (file_titled reading.title (files_of before)) o) (sym (same reading.title e))
+      (alike_same (file_titled reading.title (files_of before)))) r

@@ -32,19 +32,23 @@ byte_of blocks title files file position kept there =
     ap (λ o. slice_get (bytes_of o) position) (file_in blocks title files kept ∙ ap (option_map (file_of blocks)) there)
 
 -- no byte stands at the end
-pub byte_none : {D : Type 0} (contents : D → Option (List (List ℕ))) (count : D → ℕ) (catalog : Catalog D) (page : List ℕ) (reading : Reading) (blocks : List (List ℕ))
+pub byte_none : {D : Type 0} (contents : D → Option (List (List ℕ))) (count : D → ℕ) (catalog : Catalog D) (page : List ℕ) (reading : Reading)
+    (blocks : List (List ℕ))
     → IsMounted contents count catalog → IsReading contents catalog page reading → reading.length ≤ reading.position
     → contents (drive_of (disk_of catalog)) ≡ Some blocks → byte_in blocks reading.title reading.position ≡ None
 byte_none contents count catalog page reading blocks mounted r ends told =
-    let many : length (take r.file.record_.length (flat_map (block_at blocks) r.file.pages)) ≡ min r.file.record_.length (length (flat_map (block_at blocks) r.file.pages)) =
+    let many : length (take r.file.record_.length (flat_map (block_at blocks) r.file.pages)) ≡ min r.file.record_.length
+    (length (flat_map (block_at blocks) r.file.pages)) =
     length-take r.file.record_.length (flat_map (block_at blocks) r.file.pages) in
     byte_of blocks reading.title (files_of catalog) r.file reading.position (mounted.image blocks told) r.there
     ∙ slice_get_past (bytes_in blocks r.file) reading.position (omega (arith, many, r.length_, ends))
 
 -- the byte at a position whose page is kept
 pub byte_some : {D : Type 0} (contents : D → Option (List (List ℕ))) (count : D → ℕ)
-    → ((drive : D) → IfSome (contents drive) (λ blocks. length blocks ≡ count drive)) → ((drive : D) → IfSome (contents drive) (λ blocks. list_all is_block blocks ≡ true))
-    → (catalog : Catalog D) (page : List ℕ) (reading : Reading) (blocks : List (List ℕ)) → IsMounted contents count catalog → IsReading contents catalog page reading
+    → ((drive : D) → IfSome (contents drive) (λ blocks. length blocks ≡ count drive))
+    → ((drive : D) → IfSome (contents drive) (λ blocks. list_all is_block blocks ≡ true))
+    → (catalog : Catalog D) (page : List ℕ) (reading : Reading) (blocks : List (List ℕ)) → IsMounted contents count catalog → IsReading contents catalog page
+    reading
     → reading.position < reading.length → reading.kept ≡ Some (reading.position / 512) → contents (drive_of (disk_of catalog)) ≡ Some blocks
     → byte_in blocks reading.title reading.position ≡ Some (slice_index page (reading.position % 512))
 byte_some {D} contents count counted sized catalog page reading blocks mounted r below loaded told =
@@ -56,7 +60,8 @@ byte_some {D} contents count counted sized catalog page reading blocks mounted r
     byte_of blocks reading.title (files_of catalog) r.file reading.position (mounted.image blocks told) r.there
     ∙ byte_at (block_at blocks) r.file.pages r.file.record_.length reading.position i page
     (λ j h. page_sized blocks (count drive) r.file.pages j
-    (some_fact (λ b. list_all is_block b ≡ true) (contents drive) blocks told (sized drive)) (some_fact (λ b. length b ≡ count drive) (contents drive) blocks told (counted drive)) fits.0 h)
+    (some_fact (λ b. list_all is_block b ≡ true) (contents drive) blocks told (sized drive))
+    (some_fact (λ b. length b ≡ count drive) (contents drive) blocks told (counted drive)) fits.0 h)
     refl (few reading.position reading.length r.file.record_.length (length r.file.pages) below r.length_ fits.1)
     (subst (λ n. reading.position < n) (sym r.length_) below) (here blocks told)
   where
@@ -66,7 +71,8 @@ byte_some {D} contents count counted sized catalog page reading blocks mounted r
 -- ---- a page that is read
 
 -- the text with the page of its position kept
-pub page_read : {D X : Type 0} (E : Type 0) (contents : D → Option (List (List ℕ))) (x : X) (before after : Catalog D) (page page' : List ℕ) (reading : Reading) (i : ℕ)
+pub page_read : {D X : Type 0} (E : Type 0) (contents : D → Option (List (List ℕ))) (x : X) (before after : Catalog D) (page page' : List ℕ)
+    (reading : Reading) (i : ℕ)
     → IsReading contents before page reading → files_of after ≡ files_of before
     → WhereTold (contents (drive_of (disk_of before))) (contents (drive_of (disk_of after)))
     (λ old new. (new ≡ old) × PageIs {X = X} {E = E} (Ok x) (file_titled reading.title (files_of before)) i page' old)
@@ -109,7 +115,8 @@ pub text_found : (blocks : List (List ℕ)) (title : List ℕ) (files : List (Op
     → option_and_then (found_as title) (find_file (slots_of blocks) title) ≡ option_map found_of (text_of title (option_map entry_of (file_titled title files)))
 text_found blocks title files kept = ap (option_and_then (found_as title)) (file_in blocks title files kept) ∙ go (file_titled title files) where
   by_kind : (length : ℕ) (k : FileKind)
-      → (if is_text k then Some (record { title = title; position = 0 }) else None) ≡ option_map found_of (if is_text k then Some (begun title length) else None)
+      → (if is_text k then Some (record { title = title; position = 0 }) else None) ≡ option_map found_of
+      (if is_text k then Some (begun title length) else None)
   by_kind length kind.Text = refl
   by_kind length kind.Code = refl
 

@@ -70,7 +70,8 @@ open_same blocks title files =
 closed : (blocks : List (List ℕ)) (title : List ℕ) (files : List (Option StoredFile)) → is_protected (file_titled title files) ≡ true
     → slot_for (map (option_map (file_of blocks)) files) title ≡ None
 closed blocks title files e =
-    ap (λ o. if is_none o then first_free (map (option_map (file_of blocks)) files) else open_slot (map (option_map (file_of blocks)) files) title) (index_same blocks title files)
+    ap (λ o. if is_none o then first_free (map (option_map (file_of blocks)) files) else open_slot (map (option_map (file_of blocks)) files) title)
+    (index_same blocks title files)
     ∙ go (find_index title files) refl
   where
     go : (index : Option ℕ) → find_index title files ≡ index
@@ -102,30 +103,36 @@ module _ (count : ℕ) (files : List (Option StoredFile)) (blocks : List (List �
 
   pub has_room : not_stored title size (blocks_free count files) files ≡ None → HasRoom blocks title size
   unfolding refused
-  has_room = go (is_protected (file_titled title files)) (nat_lt most_bytes size) (index_for title files) (nat_lt (blocks_free count files) (blocks_of size)) refl refl refl refl where
-    go : (protected large : Bool) (index : Option ℕ) (full : Bool) → is_protected (file_titled title files) ≡ protected → nat_lt most_bytes size ≡ large
-        → index_for title files ≡ index → nat_lt (blocks_free count files) (blocks_of size) ≡ full → refused protected large index full ≡ None → HasRoom blocks title size
-    go true large index full p l o f h = absurd (let no : Some cat.Protected ≡ None = h in cc)
-    go false true index full p l o f h = absurd (let no : Some (cat.TooLarge size) ≡ None = h in cc)
-    go false false None full p l o f h = absurd (let no : Some cat.CatalogFull ≡ None = h in cc)
-    go false false (Some index) true p l o f h = absurd (let no : Some (cat.Full (blocks_of size) (blocks_free count files)) ≡ None = h in cc)
-    go false false (Some index) false p l o f h = record {
-      index = index;
-      room = room_is count files blocks title size image
-          ∙ ap (λ b. if b then slot_for (slots_of blocks) title else None) (le-leb (blocks_of size) (blocks_free count files) (ltb-false (blocks_free count files) (blocks_of size) f))
-          ∙ slot_for_same blocks title files image.kept p ∙ o;
-      slot = slot_for_same blocks title files image.kept p ∙ o;
-    }
+  has_room = go (is_protected (file_titled title files)) (nat_lt most_bytes size) (index_for title files) (nat_lt (blocks_free count files) (blocks_of size))
+      refl refl refl refl where
+        go : (protected large : Bool) (index : Option ℕ) (full : Bool) → is_protected (file_titled title files) ≡ protected → nat_lt most_bytes size ≡ large
+            → index_for title files ≡ index → nat_lt (blocks_free count files) (blocks_of size) ≡ full → refused protected large index full ≡ None
+            → HasRoom blocks title size
+        go true large index full p l o f h = absurd (let no : Some cat.Protected ≡ None = h in cc)
+        go false true index full p l o f h = absurd (let no : Some (cat.TooLarge size) ≡ None = h in cc)
+        go false false None full p l o f h = absurd (let no : Some cat.CatalogFull ≡ None = h in cc)
+        go false false (Some index) true p l o f h = absurd (let no : Some (cat.Full (blocks_of size) (blocks_free count files)) ≡ None = h in cc)
+        go false false (Some index) false p l o f h = record {
+          index = index;
+          room = room_is count files blocks title size image
+              ∙ ap (λ b. if b then slot_for (slots_of blocks) title else None)
+              (le-leb (blocks_of size) (blocks_free count files) (ltb-false (blocks_free count files) (blocks_of size) f))
+              ∙ slot_for_same blocks title files image.kept p ∙ o;
+          slot = slot_for_same blocks title files image.kept p ∙ o;
+        }
 
   pub has_no_room : (why : CatEnd) → size ≤ most_bytes → not_stored title size (blocks_free count files) files ≡ Some why → room_in blocks title size ≡ None
   unfolding refused
   has_no_room why most h =
       room_is count files blocks title size image
-      ∙ go (is_protected (file_titled title files)) (nat_lt most_bytes size) (index_for title files) (nat_lt (blocks_free count files) (blocks_of size)) refl refl refl refl h
+      ∙ go (is_protected (file_titled title files)) (nat_lt most_bytes size) (index_for title files) (nat_lt (blocks_free count files) (blocks_of size)) refl
+      refl refl refl h
     where
-      no_slot : slot_for (slots_of blocks) title ≡ None → (if nat_le (blocks_of size) (blocks_free count files) then slot_for (slots_of blocks) title else None) ≡ None
+      no_slot : slot_for (slots_of blocks) title ≡ None
+          → (if nat_le (blocks_of size) (blocks_free count files) then slot_for (slots_of blocks) title else None) ≡ None
       no_slot none =
-          ap (λ o. if nat_le (blocks_of size) (blocks_free count files) then o else None) none ∙ either_way (nat_le (blocks_of size) (blocks_free count files)) None
+          ap (λ o. if nat_le (blocks_of size) (blocks_free count files) then o else None) none
+          ∙ either_way (nat_le (blocks_of size) (blocks_free count files)) None
 
       go : (protected large : Bool) (index : Option ℕ) (full : Bool) → is_protected (file_titled title files) ≡ protected → nat_lt most_bytes size ≡ large
           → index_for title files ≡ index → nat_lt (blocks_free count files) (blocks_of size) ≡ full → refused protected large index full ≡ Some why
@@ -155,7 +162,8 @@ module _ (files : List (Option StoredFile)) (blocks : List (List ℕ)) (title : 
 
   pub may_leave : not_deleted (file_titled title files) ≡ None → MayLeave blocks title
   may_leave h = go (find_index title files) refl h where
-    go : (index : Option ℕ) → find_index title files ≡ index → not_deleted (option_and_then (λ k. slice_index_or files k None) index) ≡ None → MayLeave blocks title
+    go : (index : Option ℕ) → find_index title files ≡ index → not_deleted (option_and_then (λ k. slice_index_or files k None) index) ≡ None
+        → MayLeave blocks title
     go None e h = absurd (let no : Some cat.NoSuch ≡ None = h in cc)
     go (Some k) e h = record {
       index = k;

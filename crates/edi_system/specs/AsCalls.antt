@@ -3,14 +3,16 @@ use Rattle.std.specs.Prelude.{◌≡◌, ℕ, zero, suc, ◌+◌, ◌*◌, ◌�
 use Rattle.edi_disk.specs.Shown.{reference_of}
 use Rattle.edi_calls.specs.declared.ends.Outside.{Outside}
 use Rattle.edi_catalog.specs.Mounted.{disk_of, room_reference}
-use Rattle.edi_system.specs.State.{buffer_reference, catalog_in, drive_in, due_in, failed_in, input_in, input_reference, printer_in, printer_reference, terminal_in, terminal_reference, IsReady}
+use Rattle.edi_system.specs.State.{buffer_reference, catalog_in, drive_in, due_in, failed_in, input_in, input_reference, printer_in, printer_reference}
+use Rattle.edi_system.specs.State.{terminal_in, terminal_reference, IsReady}
 use Rattle.edi_system.specs.Parts.{due_after, IsValid}
 use Rattle.edi_system.specs.declared.system.System.{System}
 
 -- This is the object that has failed. Where none has, a call may be made.
-pub record HasFailed {D S T P : Type 0} (contents : D → Option (List (List ℕ))) (count : D → ℕ) (system : System D S T P) (outside : Option Outside) : Type 0 where
-  pub is : failed_in system ≡ outside
-  pub ready : outside ≡ None → IsReady contents count system
+pub record HasFailed {D S T P : Type 0} (contents : D → Option (List (List ℕ))) (count : D → ℕ) (system : System D S T P) (outside : Option Outside) : Type 0
+  where
+    pub is : failed_in system ≡ outside
+    pub ready : outside ≡ None → IsReady contents count system
 
 -- the references to its objects: the drive, the room of the catalogue, the input, the terminal, the printer and the buffer
 abbrev pub references_in : {D S T P : Type 0} → System D S T P → List ℕ
@@ -40,7 +42,8 @@ pub record LastsShown {D S T P : Type 0} (shown : T → Option (List ℕ)) (syst
 -- the facts that every call keeps, whatever it answers, by their numbers: what an object does not tell it never
 -- tells; the blocks of the drive are a valid image; each byte that was shown stays where
 -- it is; and from a place on the bytes shown tell whether a line is due
-abbrev pub Lasts : {D S T P : Type 0} → (contents : D → Option (List (List ℕ))) → (left : S → Option (List ℕ)) → (shown : T → Option (List ℕ)) → (printed : P → Option (List ℕ)) → System D S T P → ℕ → Type 0
+abbrev pub Lasts : {D S T P : Type 0} → (contents : D → Option (List (List ℕ))) → (left : S → Option (List ℕ)) → (shown : T → Option (List ℕ))
+    → (printed : P → Option (List ℕ)) → System D S T P → ℕ → Type 0
 Lasts contents left shown printed system zero = contents (drive_in system) ≡ None
 Lasts contents left shown printed system (suc zero) = left (input_in system) ≡ None
 Lasts contents left shown printed system (suc (suc zero)) = shown (terminal_in system) ≡ None

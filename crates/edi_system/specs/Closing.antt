@@ -27,7 +27,8 @@ pub record StoresText {D S T P : Type 0} (count : D → ℕ) (result : Result (O
   pub answer : Result (Unit {0}) CatEnd
   pub answers : StoreAnswers answer
       (not_stored title (length bytes) (blocks_free (count (drive_in before)) (files_of (catalog_in before))) (files_of (catalog_in before)))
-      (index_for title (files_of (catalog_in before))) (stored_entry title kind.Text (length bytes)) (files_of (catalog_in before)) (files_of (catalog_in after))
+      (index_for title (files_of (catalog_in before))) (stored_entry title kind.Text (length bytes)) (files_of (catalog_in before))
+      (files_of (catalog_in after))
   pub result_ : result ≡ answer_by (is_refused answer) answer
   pub open_ : OpenAfter (is_refused answer) title None before after
 
@@ -40,7 +41,8 @@ pub record DeletesFile {D S T P : Type 0} (result : Result (Option ℕ) Stop) (t
   pub open_ : OpenAfter (is_refused answer) title (buffer_in before) before after
 
 -- words that spell no title are a false answer, and change nothing
-abbrev pub Closes : {D S T P : Type 0} → (count : D → ℕ) → Result (Option ℕ) Stop → (title : Option (List ℕ)) → (bytes : List ℕ) → System D S T P → System D S T P → Type 0
+abbrev pub Closes : {D S T P : Type 0} → (count : D → ℕ) → Result (Option ℕ) Stop → (title : Option (List ℕ)) → (bytes : List ℕ) → System D S T P
+    → System D S T P → Type 0
 Closes count result None bytes before after = (result ≡ Ok (Some 0)) × (after ≡ before)
 Closes count result (Some title) bytes before after = StoresText count result title bytes before after
 

@@ -58,7 +58,8 @@ module _ {D S T P : Type 0} where
   DoesRemove words result before after = OnlyFiles before after × Removes result (title_of words) before after
 
   -- the calls by their numbers, from 1 to 10
-  abbrev pub Does : (D → ℕ) → (T → Option (List ℕ)) → (P → Option (List ℕ)) → (number : ℕ) → (words : List ℕ) → Result (Option ℕ) Stop → (before after : System D S T P) → Type 0
+  abbrev pub Does : (D → ℕ) → (T → Option (List ℕ)) → (P → Option (List ℕ)) → (number : ℕ) → (words : List ℕ) → Result (Option ℕ) Stop
+      → (before after : System D S T P) → Type 0
   Does count shown printed zero words result before after = ⊤
   Does count shown printed (suc zero) words result before after = OnlyInput before after
   Does count shown printed (suc (suc zero)) words result before after = DoesDisplay shown (slice_index words 0) result before after

@@ -36,7 +36,8 @@ Blames false (Some outside) before now = ⊥
 Blames false None before now = ⊤
 
 -- Whatever a call answers, the system has the same objects, and no count of faults falls.
-pub record Keeps {D S T P : Type 0} (drive : D → ℕ) (input : S → ℕ) (terminal : T → ℕ) (printer : P → ℕ) (fault : Bool) (before after : System D S T P) : Type 0 where
+pub record Keeps {D S T P : Type 0} (drive : D → ℕ) (input : S → ℕ) (terminal : T → ℕ) (printer : P → ℕ) (fault : Bool) (before after : System D S T P) : Type
+    0 where
   pub same_drive : reference_of (disk_of (catalog_in after)) ≡ reference_of (disk_of (catalog_in before))
   pub same_room : room_reference (catalog_in after) ≡ room_reference (catalog_in before)
   pub same_input : input_reference after ≡ input_reference before

@@ -8,7 +8,8 @@ use Rattle.edi_catalog.specs.InSlots.{IsPageOf}
 
 -- A call that changes files is refused exactly for the first reason against it, and then the state is as before. On Ok the files
 -- are the wanted ones, and after a fault of the drive these or those from before; `opens` is what the call makes of the open files.
-abbrev pub StateAnswer : {X : Type 0} → Result X CatEnd → (refusal : Option CatEnd) → (wanted : List (Option File)) → (opens : State → State) → State → State → Type 0
+abbrev pub StateAnswer : {X : Type 0} → Result X CatEnd → (refusal : Option CatEnd) → (wanted : List (Option File)) → (opens : State → State) → State → State
+    → Type 0
 StateAnswer (Ok x) refusal wanted opens before after = (refusal ≡ None) × (after ≡ record (opens before) { slots = wanted })
 StateAnswer (Err cat.Fault) refusal wanted opens before after =
     (refusal ≡ None) × ((after ≡ record (opens before) { slots = before.slots }) ⊎ (after ≡ record (opens before) { slots = wanted }))

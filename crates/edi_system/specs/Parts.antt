@@ -28,7 +28,8 @@ pub record ToldStays (disk disk' : Option (List (List ℕ))) (input input' shown
   pub grows : WhereTold shown shown' Grows
 
 -- the same of the objects of a system, whatever a call answers
-abbrev pub KeepsTold : {D S T P : Type 0} → (contents : D → Option (List (List ℕ))) → (left : S → Option (List ℕ)) → (shown : T → Option (List ℕ)) → (printed : P → Option (List ℕ)) → (before after : System D S T P) → Type 0
+abbrev pub KeepsTold : {D S T P : Type 0} → (contents : D → Option (List (List ℕ))) → (left : S → Option (List ℕ)) → (shown : T → Option (List ℕ))
+    → (printed : P → Option (List ℕ)) → (before after : System D S T P) → Type 0
 KeepsTold contents left shown printed before after =
     ToldStays (contents (drive_in before)) (contents (drive_in after)) (left (input_in before)) (left (input_in after)) (shown (terminal_in before))
     (shown (terminal_in after)) (printed (printer_in before)) (printed (printer_in after))

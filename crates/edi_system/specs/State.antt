@@ -88,7 +88,8 @@ all_told make a b c e =
     option_and_then (λ x. option_and_then (λ y. option_and_then (λ z. option_map (make x y z) e) c) b) a
 
 -- the state of a system, where all its objects tell what they hold
-abbrev pub state_of : {D S T P : Type 0} → (D → Option (List (List ℕ))) → (S → Option (List ℕ)) → (T → Option (List ℕ)) → (P → Option (List ℕ)) → System D S T P → Option State
+abbrev pub state_of : {D S T P : Type 0} → (D → Option (List (List ℕ))) → (S → Option (List ℕ)) → (T → Option (List ℕ)) → (P → Option (List ℕ))
+    → System D S T P → Option State
 state_of contents left shown printed system =
     all_told (state_with system) (contents (drive_in system)) (left (input_in system)) (shown (terminal_in system)) (printed (printer_in system))
 

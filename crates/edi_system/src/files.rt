@@ -4,7 +4,8 @@ ghost use Rattle.std.specs.Prelude.{◌≡◌, ◌⊎◌, ◌≤◌, ◌<◌, �
 ghost use Rattle.std.specs.Option.{option_map};
 ghost use Rattle.edi_told.specs.Told.{WhereTold};
 ghost use Rattle.edi_calls.specs.State.{find_file, free, fresh, most_bytes, pages_of, slot_at};
-ghost use Rattle.edi_catalog.specs.Changes.{Changes, deleted, file_protected, file_renamed, kept_changed, kept_protected, kept_renamed, not_deleted, not_found, not_renamed, slots_changed, Untouched};
+ghost use Rattle.edi_catalog.specs.Changes.{Changes, deleted, file_protected, file_renamed, kept_changed, kept_protected, kept_renamed, not_deleted};
+ghost use Rattle.edi_catalog.specs.Changes.{not_found, not_renamed, slots_changed, Untouched};
 ghost use Rattle.edi_catalog.specs.InSlots.{entry_told, free_in, no_deletion, no_renaming, no_room, no_such, PageIn};
 ghost use Rattle.edi_image.specs.Image.{slots_of};
 ghost use Rattle.edi_system.specs.InState.{left_open, ReadsPage, ReadsWhole, StateAnswer};
@@ -146,10 +147,12 @@ impl<D: Drive, S: Source, T: Sink, P: Sink> System<'_, '_, '_, '_, '_, '_, D, S,
         requires ready { IsReady D.contents D.count self.old }
         requires size { length bytes.now < 2 ^ 32 }
         ensures changes { StoreChanges D.contents D.count D.faults result
-            (not_stored title.now (length bytes.now) (blocks_free (D.count (drive_in self.old)) (files_of (catalog_in self.old))) (files_of (catalog_in self.old)))
+            (not_stored title.now (length bytes.now) (blocks_free (D.count (drive_in self.old)) (files_of (catalog_in self.old)))
+            (files_of (catalog_in self.old)))
             title.now kind bytes.now (catalog_in self.old) (catalog_in self.new) }
         ensures exact { WhereTold (state_of D.contents S.left T.taken P.taken self.old) (state_of D.contents S.left T.taken P.taken self.new)
-            (λ before after. StateAnswer result (no_room title.now (length bytes.now) (free before) before.slots) (slots_stored title.now kind bytes.now before.slots) fresh before after) }
+            (λ before after. StateAnswer result (no_room title.now (length bytes.now) (free before) before.slots)
+            (slots_stored title.now kind bytes.now before.slots) fresh before after) }
         ensures untouched { Untouched result self.old self.new }
         ensures stays { is_refused result ≡ true → OpenStays self.old self.new }
         ensures closes { is_refused result ≡ false → IsClosed self.new }
@@ -175,9 +178,11 @@ impl<D: Drive, S: Source, T: Sink, P: Sink> System<'_, '_, '_, '_, '_, '_, D, S,
     pub fn protect(&mut self, title: &Title) -> Result<(), CatEnd>
         requires ready { IsReady D.contents D.count self.old }
         ensures changes { Changes D.contents D.count D.faults result (not_found (file_titled title.now (files_of (catalog_in self.old))))
-            (kept_changed (kept_protected true) title.now (files_of (catalog_in self.old))) (slots_changed (file_protected true) title.now) (catalog_in self.old) (catalog_in self.new) }
+            (kept_changed (kept_protected true) title.now (files_of (catalog_in self.old))) (slots_changed (file_protected true) title.now)
+            (catalog_in self.old) (catalog_in self.new) }
         ensures exact { WhereTold (state_of D.contents S.left T.taken P.taken self.old) (state_of D.contents S.left T.taken P.taken self.new)
-            (λ before after. StateAnswer result (no_such (find_file before.slots title.now)) (slots_changed (file_protected true) title.now before.slots) left_open before after) }
+            (λ before after. StateAnswer result (no_such (find_file before.slots title.now)) (slots_changed (file_protected true) title.now before.slots)
+            left_open before after) }
         ensures untouched { Untouched result self.old self.new }
         ensures stays { PositionStays self.old self.new }
         ensures only { OnlyFiles self.old self.new }
@@ -201,9 +206,11 @@ impl<D: Drive, S: Source, T: Sink, P: Sink> System<'_, '_, '_, '_, '_, '_, D, S,
     pub fn release(&mut self, title: &Title) -> Result<(), CatEnd>
         requires ready { IsReady D.contents D.count self.old }
         ensures changes { Changes D.contents D.count D.faults result (not_found (file_titled title.now (files_of (catalog_in self.old))))
-            (kept_changed (kept_protected false) title.now (files_of (catalog_in self.old))) (slots_changed (file_protected false) title.now) (catalog_in self.old) (catalog_in self.new) }
+            (kept_changed (kept_protected false) title.now (files_of (catalog_in self.old))) (slots_changed (file_protected false) title.now)
+            (catalog_in self.old) (catalog_in self.new) }
         ensures exact { WhereTold (state_of D.contents S.left T.taken P.taken self.old) (state_of D.contents S.left T.taken P.taken self.new)
-            (λ before after. StateAnswer result (no_such (find_file before.slots title.now)) (slots_changed (file_protected false) title.now before.slots) left_open before after) }
+            (λ before after. StateAnswer result (no_such (find_file before.slots title.now)) (slots_changed (file_protected false) title.now before.slots)
+            left_open before after) }
         ensures untouched { Untouched result self.old self.new }
         ensures stays { PositionStays self.old self.new }
         ensures only { OnlyFiles self.old self.new }
@@ -229,7 +236,8 @@ impl<D: Drive, S: Source, T: Sink, P: Sink> System<'_, '_, '_, '_, '_, '_, D, S,
         ensures changes { Changes D.contents D.count D.faults result (not_deleted (file_titled title.now (files_of (catalog_in self.old))))
             (kept_changed deleted title.now (files_of (catalog_in self.old))) (slots_changed deleted title.now) (catalog_in self.old) (catalog_in self.new) }
         ensures exact { WhereTold (state_of D.contents S.left T.taken P.taken self.old) (state_of D.contents S.left T.taken P.taken self.new)
-            (λ before after. StateAnswer result (no_deletion (find_file before.slots title.now)) (slots_changed deleted title.now before.slots) fresh before after) }
+            (λ before after. StateAnswer result (no_deletion (find_file before.slots title.now)) (slots_changed deleted title.now before.slots) fresh before
+            after) }
         ensures untouched { Untouched result self.old self.new }
         ensures stays { is_refused result ≡ true → OpenStays self.old self.new }
         ensures closes { is_refused result ≡ false → IsClosed self.new }
@@ -254,10 +262,13 @@ impl<D: Drive, S: Source, T: Sink, P: Sink> System<'_, '_, '_, '_, '_, '_, D, S,
     /// them: in their order `NoSuch`, `Protected`, `Taken`, also where both titles are the same.
     pub fn rename(&mut self, old: &Title, new: &Title) -> Result<(), CatEnd>
         requires ready { IsReady D.contents D.count self.old }
-        ensures changes { Changes D.contents D.count D.faults result (not_renamed (file_titled old.now (files_of (catalog_in self.old))) (file_titled new.now (files_of (catalog_in self.old))))
-            (kept_changed (kept_renamed new.now) old.now (files_of (catalog_in self.old))) (slots_changed (file_renamed new.now) old.now) (catalog_in self.old) (catalog_in self.new) }
+        ensures changes { Changes D.contents D.count D.faults result
+            (not_renamed (file_titled old.now (files_of (catalog_in self.old))) (file_titled new.now (files_of (catalog_in self.old))))
+            (kept_changed (kept_renamed new.now) old.now (files_of (catalog_in self.old))) (slots_changed (file_renamed new.now) old.now)
+            (catalog_in self.old) (catalog_in self.new) }
         ensures exact { WhereTold (state_of D.contents S.left T.taken P.taken self.old) (state_of D.contents S.left T.taken P.taken self.new)
-            (λ before after. StateAnswer result (no_renaming (find_file before.slots old.now) (find_file before.slots new.now)) (slots_changed (file_renamed new.now) old.now before.slots) fresh before after) }
+            (λ before after. StateAnswer result (no_renaming (find_file before.slots old.now) (find_file before.slots new.now))
+            (slots_changed (file_renamed new.now) old.now before.slots) fresh before after) }
         ensures untouched { Untouched result self.old self.new }
         ensures stays { is_refused result ≡ true → OpenStays self.old self.new }
         ensures closes { is_refused result ≡ false → IsClosed self.new }

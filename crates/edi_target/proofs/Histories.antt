@@ -1,5 +1,6 @@
 -- The past of the system along a run: it is determined, it grows, and its last state is the machine's.
-use Rattle.std.proofs.Common.{◌≡◌, ℕ, zero, suc, ◌+◌, ◌-◌, ◌/◌, ◌≤◌, inl, inr, Bool, true, false, if◌then◌else◌, List, [], ◌∷◌, ◌++◌, length, Option, Some, None, refl, sym, subst, ap, ◌∙◌, arith}
+use Rattle.std.proofs.Common.{◌≡◌, ℕ, zero, suc, ◌+◌, ◌-◌, ◌/◌, ◌≤◌, inl, inr, Bool, true, false, if◌then◌else◌, List, [], ◌∷◌, ◌++◌, length, Option, Some}
+use Rattle.std.proofs.Common.{None, refl, sym, subst, ap, ◌∙◌, arith}
 use Rattle.std.proofs.lemmas.Bool.{cases_lt}
 use Rattle.std.specs.Prelude.{Contains}
 use Rattle.std.proofs.lemmas.List.{append_assoc}
@@ -12,22 +13,30 @@ use Rattle.edi_calls.specs.Ready.{child, parent_of, all_marked, stays, joins, Ta
 use Rattle.edi_calls.specs.State.{State, moments_of, newest}
 use Rattle.edi_target.specs.Op as op
 use Rattle.edi_target.specs.Op.{Instruction, Branch}
-use Rattle.edi_target.specs.Effect.{Local, Turn, entering, leaving, looping, arriving, again, forking, exiting, finishing, Effect, goes, released, asks, due, fails, bad}
-use Rattle.edi_target.specs.Mach.{Running, Answer, on, behind, turned, over, called, turn_from, settled, effect_at, local_step, Standing, ready, at_when, waiting, Activity, Machine, Stepped, went, ended, running_of, activity_of, back, with_child, with_children, one_less, notified, at_turn, kernel, is_first, step_of, step, MachineRun, finished, go_on, after_step, run, entered}
+use Rattle.edi_target.specs.Effect.{Local, Turn, entering, leaving, looping, arriving, again, forking, exiting, finishing, Effect, goes, released, asks, due}
+use Rattle.edi_target.specs.Effect.{fails, bad}
+use Rattle.edi_target.specs.Mach.{Running, Answer, on, behind, turned, over, called, turn_from, settled, effect_at, local_step, Standing, ready, at_when}
+use Rattle.edi_target.specs.Mach.{waiting, Activity, Machine, Stepped, went, ended, running_of, activity_of, back, with_child, with_children, one_less}
+use Rattle.edi_target.specs.Mach.{notified, at_turn, kernel, is_first, step_of, step, MachineRun, finished, go_on, after_step, run, entered}
 use Rattle.edi_target.specs.Fetch as code
 use Rattle.edi_target.proofs.Stands.{code_stands_below}
 use Rattle.edi_target.proofs.Runs.{started_ends, same_end}
-use Rattle.edi_target.specs.Moments.{news_of_call, news_of_effect, news_from, news_at, history_on, history_after, history, history_from_start, ComesThrough, EndIsDetermined, ComesThroughItsPast, PastGrows, SystemIsNewest, EveryRunEndsThrough}
+use Rattle.edi_target.specs.Moments.{news_of_call, news_of_effect, news_from, news_at, history_on, history_after, history, history_from_start, ComesThrough}
+use Rattle.edi_target.specs.Moments.{EndIsDetermined, ComesThroughItsPast, PastGrows, SystemIsNewest, EveryRunEndsThrough}
 
 -- ---- more instructions behind the end add nothing
 
-taken_same : (t : Taking) (one : Name → List Name → ℕ → MachineRun) (h k : Name → List Name → ℕ → List State) (m : Machine) (drawn : ℕ) (r : MachineRun) (past : List State) →
-    ((p : Name) (others : List Name) (d : ℕ) → one p others d ≡ r → h p others d ≡ k p others d) → go_on t one m drawn ≡ r → history_on t h past ≡ history_on t k past
+taken_same : (t : Taking) (one : Name → List Name → ℕ → MachineRun) (h k : Name → List Name → ℕ → List State) (m : Machine) (drawn : ℕ) (r : MachineRun)
+    (past : List State) →
+    ((p : Name) (others : List Name) (d : ℕ) → one p others d ≡ r → h p others d ≡ k p others d) → go_on t one m drawn ≡ r → history_on t h past ≡ history_on
+    t k past
 taken_same nobody one h k m drawn r past each e = refl
 taken_same (taking p others d) one h k m drawn r past each e = each p others d e
 
-stepped_same : (choices : Choices) (s : Stepped) (one : Machine → Name → List Name → ℕ → MachineRun) (h k : Machine → Name → List Name → ℕ → List State → List State) (p : Name) (others : List Name) (drawn : ℕ) (r : MachineRun) (past : List State) →
-    ((m : Machine) (p : Name) (others : List Name) (d : ℕ) → one m p others d ≡ r → h m p others d past ≡ k m p others d past) → after_step choices one p others drawn s ≡ r → history_after choices h p others drawn past s ≡ history_after choices k p others drawn past s
+stepped_same : (choices : Choices) (s : Stepped) (one : Machine → Name → List Name → ℕ → MachineRun)
+    (h k : Machine → Name → List Name → ℕ → List State → List State) (p : Name) (others : List Name) (drawn : ℕ) (r : MachineRun) (past : List State) →
+    ((m : Machine) (p : Name) (others : List Name) (d : ℕ) → one m p others d ≡ r → h m p others d past ≡ k m p others d past)
+    → after_step choices one p others drawn s ≡ r → history_after choices h p others drawn past s ≡ history_after choices k p others drawn past s
 stepped_same choices (ended ending m) one h k p others drawn r past each e = refl
 stepped_same choices (went m stays) one h k p others drawn r past each e = each m p others drawn e
 stepped_same choices (went m (joins ps)) one h k p others drawn r past each e =
@@ -41,18 +50,22 @@ Grown past x = (news : List State) × (x ≡ news ++ past)
 grown_all : (a b c : List State) → Grown a b → Grown b c → Grown a c
 grown_all a b c h k = (k.0 ++ h.0, k.1 ∙ ap (λ y. k.0 ++ y) h.1 ∙ sym (append_assoc k.0 h.0 a))
 
-taken_grown : (t : Taking) (h k : Name → List Name → ℕ → List State) (past : List State) → ((p : Name) (others : List Name) (d : ℕ) → Grown (h p others d) (k p others d)) → Grown (history_on t h past) (history_on t k past)
+taken_grown : (t : Taking) (h k : Name → List Name → ℕ → List State) (past : List State)
+    → ((p : Name) (others : List Name) (d : ℕ) → Grown (h p others d) (k p others d)) → Grown (history_on t h past) (history_on t k past)
 taken_grown nobody h k past each = ([], refl)
 taken_grown (taking p others d) h k past each = each p others d
 
-stepped_grown : (choices : Choices) (s : Stepped) (h k : Machine → Name → List Name → ℕ → List State → List State) (p : Name) (others : List Name) (drawn : ℕ) (past : List State) →
-    ((m : Machine) (p : Name) (others : List Name) (d : ℕ) → Grown (h m p others d past) (k m p others d past)) → Grown (history_after choices h p others drawn past s) (history_after choices k p others drawn past s)
+stepped_grown : (choices : Choices) (s : Stepped) (h k : Machine → Name → List Name → ℕ → List State → List State) (p : Name) (others : List Name) (drawn : ℕ)
+    (past : List State) →
+    ((m : Machine) (p : Name) (others : List Name) (d : ℕ) → Grown (h m p others d past) (k m p others d past))
+    → Grown (history_after choices h p others drawn past s) (history_after choices k p others drawn past s)
 stepped_grown choices (ended ending m) h k p others drawn past each = ([], refl)
 stepped_grown choices (went m stays) h k p others drawn past each = each m p others drawn
 stepped_grown choices (went m (joins ps)) h k p others drawn past each =
     taken_grown (take_next choices drawn (others ++ ps)) (λ q os d. h m q os d past) (λ q os d. k m q os d past) past (each m)
 
-nothing_told : (choices : Choices) (s : Stepped) (p : Name) (others : List Name) (drawn : ℕ) (past : List State) → history_after choices (λ m q os d l. l) p others drawn past s ≡ past
+nothing_told : (choices : Choices) (s : Stepped) (p : Name) (others : List Name) (drawn : ℕ) (past : List State) → history_after choices (λ m q os d l. l) p
+    others drawn past s ≡ past
 nothing_told choices (ended ending m) p others drawn past = refl
 nothing_told choices (went m stays) p others drawn past = refl
 nothing_told choices (went m (joins ps)) p others drawn past = go (take_next choices drawn (others ++ ps))
@@ -73,7 +86,8 @@ abbrev pub Has : State → Stepped → Type 0
 Has system (ended ending m) = m.system ≡ system
 Has system (went m next) = m.system ≡ system
 
-call_has : (result : CallResult) (address : Option ℕ) (line : ℕ) (l : Local) (r : Running) → AnswerHas (newest r.system (news_of_call result)) (called result address line l r)
+call_has : (result : CallResult) (address : Option ℕ) (line : ℕ) (l : Local) (r : Running) → AnswerHas (newest r.system (news_of_call result))
+    (called result address line l r)
 call_has (answered words system) address line l r = refl
 call_has no_file address line l r = refl
 call_has file_limit address line l r = refl
@@ -90,7 +104,8 @@ settled_has (due kind l) r = turn_has r.turns kind l r
 settled_has (fails c line) r = refl
 settled_has bad r = refl
 
-system_of_children : (p : Name) (f i base at share : ℕ) (branches : List Branch) (m : Machine) → (with_children p f i base at share branches m).system ≡ m.system
+system_of_children : (p : Name) (f i base at share : ℕ) (branches : List Branch) (m : Machine) → (with_children p f i base at share branches m).system
+    ≡ m.system
 system_of_children p f i base at share [] m = refl
 system_of_children p f i base at share (b ∷ bs) m = system_of_children p f (suc i) base (at + share) share bs (with_child (child p f i) base at share b m)
 
@@ -107,7 +122,8 @@ tested_has : (b : Bool) (ending : Ending) (m : Machine) (ps : List Name) (x : St
 tested_has true ending m ps x h = h
 tested_has false ending m ps x h = h
 
-turned_has : (m : Machine) (p : Name) (others : List Name) (a : Activity) (kind : Turn) (r : Running) (x : State) → r.system ≡ x → Has x (at_turn m p others a kind r)
+turned_has : (m : Machine) (p : Name) (others : List Name) (a : Activity) (kind : Turn) (r : Running) (x : State) → r.system ≡ x
+    → Has x (at_turn m p others a kind r)
 turned_has m p others a entering r x h = h
 turned_has m p others a leaving r x h = h
 turned_has m p others a looping r x h = h
@@ -115,11 +131,13 @@ turned_has m p others a arriving r x h = h
 turned_has m p others a (again false) r x h = h
 turned_has m p others a (again true) r x h = tested_has (all_marked (p ∷ m.marks) (p ∷ others)) _ _ _ x h
 turned_has m p others a (forking branches) r x h =
-    system_of_children p (suc a.forks) 0 r.local.base r.local.end ((r.local.last - r.local.end) / length branches) branches (back m p (activity_of r.local (suc a.forks) (waiting (length branches))) [] r) ∙ h
+    system_of_children p (suc a.forks) 0 r.local.base r.local.end ((r.local.last - r.local.end) / length branches) branches
+    (back m p (activity_of r.local (suc a.forks) (waiting (length branches))) [] r) ∙ h
 turned_has m p others a exiting r x h = told_has _ (parent_of p) (find (without m.activities p) (parent_of p)) x h
 turned_has m p others a finishing r x h = h
 
-kernel_has : (m : Machine) (p : Name) (others : List Name) (a : Activity) (answer : Answer) (x : State) → AnswerHas x answer → Has x (kernel m p others a answer)
+kernel_has : (m : Machine) (p : Name) (others : List Name) (a : Activity) (answer : Answer) (x : State) → AnswerHas x answer
+    → Has x (kernel m p others a answer)
 kernel_has m p others a (on r) x h = h
 kernel_has m p others a (behind r) x h = h
 kernel_has m p others a (turned kind r) x h = turned_has m p others a kind r x h
@@ -140,24 +158,32 @@ module _ (fetch : ℕ → Option (Instruction × ℕ)) where
   step_has m p others = step_of_has m p others (find m.activities p)
 
   module _ (choices : Choices) where
-    pub history_more : (n k : ℕ) (ending : Ending) (end : Machine) (d : ℕ) → n ≤ k → (m : Machine) (p : Name) (others : List Name) (drawn : ℕ) (past : List State) →
-        run fetch choices n m p others drawn ≡ finished ending end d → history fetch choices n m p others drawn past ≡ history fetch choices k m p others drawn past
+    pub history_more : (n k : ℕ) (ending : Ending) (end : Machine) (d : ℕ) → n ≤ k → (m : Machine) (p : Name) (others : List Name) (drawn : ℕ)
+        (past : List State) →
+        run fetch choices n m p others drawn ≡ finished ending end d → history fetch choices n m p others drawn past ≡ history fetch choices k m p others
+        drawn past
     history_more zero k ending end d le m p others drawn past e = absurd (cc)
     history_more (suc n) zero ending end d le m p others drawn past e = absurd (omega arith)
     history_more (suc n) (suc k) ending end d le m p others drawn past e =
-        stepped_same choices (step fetch m p others) (run fetch choices n) (history fetch choices n) (history fetch choices k) p others drawn (finished ending end d) (news_at fetch m p ++ past)
+        stepped_same choices (step fetch m p others) (run fetch choices n) (history fetch choices n) (history fetch choices k) p others drawn
+        (finished ending end d) (news_at fetch m p ++ past)
         (λ m' q os d' f. history_more n k ending end d (omega arith) m' q os d' (news_at fetch m p ++ past) f) e
 
     -- it only grows
-    history_grown : (n : ℕ) (m : Machine) (p : Name) (others : List Name) (drawn : ℕ) (past : List State) → Grown past (history fetch choices n m p others drawn past)
+    history_grown : (n : ℕ) (m : Machine) (p : Name) (others : List Name) (drawn : ℕ) (past : List State)
+        → Grown past (history fetch choices n m p others drawn past)
     history_grown zero m p others drawn past = ([], refl)
     history_grown (suc n) m p others drawn past =
         let more : List State = news_at fetch m p ++ past in
-        let rest : Grown (history_after choices (λ m q os d l. l) p others drawn more (step fetch m p others)) (history_after choices (history fetch choices n) p others drawn more (step fetch m p others)) =
-        stepped_grown choices (step fetch m p others) (λ m q os d l. l) (history fetch choices n) p others drawn more (λ m' q os d. history_grown n m' q os d more) in
-        grown_all past more (history fetch choices (suc n) m p others drawn past) (news_at fetch m p, refl) (subst (λ y. Grown y (history fetch choices (suc n) m p others drawn past)) (nothing_told choices (step fetch m p others) p others drawn more) rest)
+        let rest : Grown (history_after choices (λ m q os d l. l) p others drawn more (step fetch m p others))
+        (history_after choices (history fetch choices n) p others drawn more (step fetch m p others)) =
+        stepped_grown choices (step fetch m p others) (λ m q os d l. l) (history fetch choices n) p others drawn more
+        (λ m' q os d. history_grown n m' q os d more) in
+        grown_all past more (history fetch choices (suc n) m p others drawn past) (news_at fetch m p, refl)
+        (subst (λ y. Grown y (history fetch choices (suc n) m p others drawn past)) (nothing_told choices (step fetch m p others) p others drawn more) rest)
 
-    pub history_grows : (n k : ℕ) → n ≤ k → (m : Machine) (p : Name) (others : List Name) (drawn : ℕ) (past : List State) → Grown (history fetch choices n m p others drawn past) (history fetch choices k m p others drawn past)
+    pub history_grows : (n k : ℕ) → n ≤ k → (m : Machine) (p : Name) (others : List Name) (drawn : ℕ) (past : List State)
+        → Grown (history fetch choices n m p others drawn past) (history fetch choices k m p others drawn past)
     history_grows zero k le m p others drawn past = history_grown k m p others drawn past
     history_grows (suc n) zero le m p others drawn past = absurd (omega arith)
     history_grows (suc n) (suc k) le m p others drawn past =
@@ -167,30 +193,38 @@ module _ (fetch : ℕ → Option (Instruction × ℕ)) where
     -- ---- the last state
 
     module _ (first : State) (ending : Ending) (end : Machine) (d : ℕ) where
-      taken_newest : (t : Taking) (one : Name → List Name → ℕ → MachineRun) (h : Name → List Name → ℕ → List State) (m : Machine) (drawn : ℕ) (past : List State) → newest first past ≡ m.system →
-          ((p : Name) (others : List Name) (c : ℕ) → one p others c ≡ finished ending end d → newest first (h p others c) ≡ end.system) → go_on t one m drawn ≡ finished ending end d → newest first (history_on t h past) ≡ end.system
+      taken_newest : (t : Taking) (one : Name → List Name → ℕ → MachineRun) (h : Name → List Name → ℕ → List State) (m : Machine) (drawn : ℕ)
+          (past : List State) → newest first past ≡ m.system →
+          ((p : Name) (others : List Name) (c : ℕ) → one p others c ≡ finished ending end d → newest first (h p others c) ≡ end.system)
+          → go_on t one m drawn ≡ finished ending end d → newest first (history_on t h past) ≡ end.system
       taken_newest nobody one h m drawn past is each e = let same : m ≡ end = (cc) in is ∙ ap (λ (x : Machine). x.system) same
       taken_newest (taking p others c) one h m drawn past is each e = each p others c e
 
-      stepped_newest : (s : Stepped) (one : Machine → Name → List Name → ℕ → MachineRun) (h : Machine → Name → List Name → ℕ → List State → List State) (p : Name) (others : List Name) (drawn : ℕ) (past : List State) → Has (newest first past) s →
-          ((m : Machine) (p : Name) (others : List Name) (c : ℕ) → newest first past ≡ m.system → one m p others c ≡ finished ending end d → newest first (h m p others c past) ≡ end.system) →
+      stepped_newest : (s : Stepped) (one : Machine → Name → List Name → ℕ → MachineRun) (h : Machine → Name → List Name → ℕ → List State → List State)
+          (p : Name) (others : List Name) (drawn : ℕ) (past : List State) → Has (newest first past) s →
+          ((m : Machine) (p : Name) (others : List Name) (c : ℕ) → newest first past ≡ m.system → one m p others c ≡ finished ending end d
+          → newest first (h m p others c past) ≡ end.system) →
           after_step choices one p others drawn s ≡ finished ending end d → newest first (history_after choices h p others drawn past s) ≡ end.system
       stepped_newest (ended f m) one h p others drawn past is each e = let same : m ≡ end = (cc) in sym is ∙ ap (λ (x : Machine). x.system) same
       stepped_newest (went m stays) one h p others drawn past is each e = each m p others drawn (sym is) e
       stepped_newest (went m (joins ps)) one h p others drawn past is each e =
-          taken_newest (take_next choices drawn (others ++ ps)) (one m) (λ q os c. h m q os c past) m drawn past (sym is) (λ q os c f. each m q os c (sym is) f) e
+          taken_newest (take_next choices drawn (others ++ ps)) (one m) (λ q os c. h m q os c past) m drawn past (sym is)
+          (λ q os c f. each m q os c (sym is) f) e
 
-      history_newest : (n : ℕ) (m : Machine) (p : Name) (others : List Name) (drawn : ℕ) (past : List State) → newest first past ≡ m.system → run fetch choices n m p others drawn ≡ finished ending end d → newest first (history fetch choices n m p others drawn past) ≡ end.system
+      history_newest : (n : ℕ) (m : Machine) (p : Name) (others : List Name) (drawn : ℕ) (past : List State) → newest first past ≡ m.system
+          → run fetch choices n m p others drawn ≡ finished ending end d → newest first (history fetch choices n m p others drawn past) ≡ end.system
       history_newest zero m p others drawn past is e = absurd (cc)
       history_newest (suc n) m p others drawn past is e =
           let now : newest first (news_at fetch m p ++ past) ≡ newest m.system (news_at fetch m p) =
           newest_again first (news_at fetch m p) past ∙ ap (λ s. newest s (news_at fetch m p)) is in
-          stepped_newest (step fetch m p others) (run fetch choices n) (history fetch choices n) p others drawn (news_at fetch m p ++ past) (subst (λ s. Has s (step fetch m p others)) (sym now) (step_has m p others))
+          stepped_newest (step fetch m p others) (run fetch choices n) (history fetch choices n) p others drawn (news_at fetch m p ++ past)
+          (subst (λ s. Has s (step fetch m p others)) (sym now) (step_has m p others))
           (λ m' q os c f g. history_newest n m' q os c (news_at fetch m p ++ past) f g) e
 
 -- ---- from the start
 
-pub entered_has : (found : Option (Instruction × ℕ)) (entry : ℕ) (calls : List ℕ) (bound : ℕ) (system : State) → Has system (entered found entry calls bound system)
+pub entered_has : (found : Option (Instruction × ℕ)) (entry : ℕ) (calls : List ℕ) (bound : ℕ) (system : State)
+    → Has system (entered found entry calls bound system)
 entered_has (Some (op.entry need r p v f, body)) entry calls zero system = refl
 entered_has (Some (op.entry need r p v f, body)) entry calls (suc n) system = refl
 entered_has None entry calls bound system = refl
@@ -213,7 +247,8 @@ module _ (fetch : ℕ → Option (Instruction × ℕ)) (entry : ℕ) (calls : Li
   History n = history_from_start fetch entry calls system bound choices before n
 
   -- behind the end nothing is added
-  pub same_past : (n k : ℕ) (ending : Ending) (m : Machine) (d : ℕ) → n ≤ k → after_step choices (run fetch choices n) [] [] before Started ≡ finished ending m d → History n ≡ History k
+  pub same_past : (n k : ℕ) (ending : Ending) (m : Machine) (d : ℕ) → n ≤ k → after_step choices (run fetch choices n) [] [] before Started ≡ finished ending
+      m d → History n ≡ History k
   same_past n k ending m d le e =
       stepped_same choices Started (run fetch choices n) (history fetch choices n) (history fetch choices k) [] [] before (finished ending m d) []
       (λ m' q os d' f. history_more fetch choices n k ending m d le m' q os d' [] f) e
@@ -255,11 +290,14 @@ module _ (fetch : ℕ → Option (Instruction × ℕ)) (entry : ℕ) (calls : Li
   pub system_is_newest : SystemIsNewest fetch entry calls system bound choices before
   system_is_newest ending m drawn past e =
       ap (newest system) (sym e.2)
-      ∙ stepped_newest fetch choices system ending m drawn Started (run fetch choices e.0) (history fetch choices e.0) [] [] before [] (entered_has (fetch entry) entry calls bound system)
+      ∙ stepped_newest fetch choices system ending m drawn Started (run fetch choices e.0) (history fetch choices e.0) [] [] before []
+      (entered_has (fetch entry) entry calls bound system)
       (λ m' q os c f g. history_newest fetch choices system ending m drawn e.0 m' q os c [] f g) e.1
 
 pub every_run_ends_through : EveryRunEndsThrough
 every_run_ends_through words entry calls system bound choices before =
-    let e : (n : ℕ) × (ending : Ending) × (end : Machine) × (d : ℕ) × (after_step choices (run (code.fetch words) choices n) [] [] before (entered (code.fetch words entry) entry calls bound system) ≡ finished ending end d) =
+    let e : (n : ℕ) × (ending : Ending) × (end : Machine) × (d : ℕ)
+    × (after_step choices (run (code.fetch words) choices n) [] [] before (entered (code.fetch words entry) entry calls bound system) ≡ finished ending end
+    d) =
     started_ends (code.fetch words) choices (length words) (code_stands_below words) before (entered (code.fetch words entry) entry calls bound system) in
     (e.1, e.2, e.3, history_from_start (code.fetch words) entry calls system bound choices before e.0, (e.0, e.4, refl))

@@ -1,5 +1,6 @@
 -- The first bytes of a code file decide whether it has a code.
-use Rattle.std.proofs.Common.{◌≡◌, ℕ, zero, suc, ◌+◌, ◌*◌, ◌<◌, ◌≤◌, Bool, true, false, ◌&&◌, nat_le, List, [], ◌∷◌, length, take, drop, Option, Some, None, refl, sym, subst, ap, ◌∙◌, arith, leb-true, leb-false, get_or}
+use Rattle.std.proofs.Common.{◌≡◌, ℕ, zero, suc, ◌+◌, ◌*◌, ◌<◌, ◌≤◌, Bool, true, false, ◌&&◌, nat_le, List, [], ◌∷◌, length, take, drop, Option, Some, None}
+use Rattle.std.proofs.Common.{refl, sym, subst, ap, ◌∙◌, arith, leb-true, leb-false, get_or}
 use Rattle.std.specs.Prelude.{◌==◌, ◌||◌, nat_lt, slice_index, ◌^◌, ◌/◌, ◌%◌}
 use Rattle.std.proofs.lemmas.Bool.{le-leb, lt-leb}
 use Rattle.std.proofs.lemmas.List.{length-take-le, take_all, drop-take, get_or-take}
@@ -32,11 +33,14 @@ module _ (k : ℕ) (xs : List ℕ) (le : 32 ≤ k) where
   number_same i lt = λ j. 2 ^ 16 * short_same i (omega (arith, lt)) j + short_same (i + 2) (omega (arith, lt)) j
 
   -- more than ten parameters are a fault whatever stands in their places
-  fields_same : (count start parameters : ℕ) → fields_fault count start parameters (take parameters (drop 13 (take k xs))) ≡ fields_fault count start parameters (take parameters (drop 13 xs))
-  fields_same count start parameters = ap (λ f. or_else (unless (nat_le 1 count && nat_le count 4194304) (fault.Header 4 (count / 2 ^ 24))) (or_else (unless (nat_lt start count) (fault.Header 8 (start / 2 ^ 24))) f)) (go (nat_le parameters 10) refl)
+  fields_same : (count start parameters : ℕ) → fields_fault count start parameters (take parameters (drop 13 (take k xs))) ≡ fields_fault count start
+      parameters (take parameters (drop 13 xs))
+  fields_same count start parameters = ap (λ f. or_else (unless (nat_le 1 count && nat_le count 4194304) (fault.Header 4 (count / 2 ^ 24)))
+      (or_else (unless (nat_lt start count) (fault.Header 8 (start / 2 ^ 24))) f)) (go (nat_le parameters 10) refl)
     where
       go : (b : Bool) → nat_le parameters 10 ≡ b →
-          or_else (unless b (fault.Header 12 parameters)) (numbers_fault [] 13 (take parameters (drop 13 (take k xs)))) ≡ or_else (unless b (fault.Header 12 parameters)) (numbers_fault [] 13 (take parameters (drop 13 xs)))
+          or_else (unless b (fault.Header 12 parameters)) (numbers_fault [] 13 (take parameters (drop 13 (take k xs)))) ≡ or_else
+          (unless b (fault.Header 12 parameters)) (numbers_fault [] 13 (take parameters (drop 13 xs)))
       go true e =
           let few : parameters ≤ 10 = leb-true parameters 10 e in
           ap (numbers_fault [] 13) (part_same 13 parameters k xs (omega (arith, few, le)))
@@ -82,7 +86,8 @@ and_right false b e = absurd (cc)
 
 few_words : (xs : List ℕ) → header_fault xs ≡ None → number_at xs 4 ≤ 4194304
 few_words xs e =
-    leb-true (number_at xs 4) 4194304 (and_right (nat_le 1 (number_at xs 4)) _ (kept _ _ (first_none _ _ (first_none _ _ (second_none _ _ (second_none _ _ e))))))
+    leb-true (number_at xs 4) 4194304 (and_right (nat_le 1 (number_at xs 4)) _
+    (kept _ _ (first_none _ _ (first_none _ _ (second_none _ _ (second_none _ _ e))))))
 
 -- a file that is longer than its header tells is over there
 over : (xs : List ℕ) → 32 + 2 * number_at xs 4 < length xs → size_fault xs ≡ Some (fault.Over (32 + 2 * number_at xs 4))
@@ -111,7 +116,8 @@ long_faults xs more = go (header_fault xs) refl
     many = length-take-le most_fetched xs more
 
     front : code_fault_of (take most_fetched xs) ≡ or_else (header_fault xs) (behind (take most_fetched xs))
-    front = fault_is (take most_fetched xs) (omega (arith, many)) ∙ ap (λ h. or_else h (behind (take most_fetched xs))) (header_same most_fetched xs (omega arith))
+    front = fault_is (take most_fetched xs) (omega (arith, many)) ∙ ap (λ h. or_else h (behind (take most_fetched xs)))
+        (header_same most_fetched xs (omega arith))
 
     go : (h : Option CodeFault) → header_fault xs ≡ h → (f : CodeFault) × (code_fault_of (take most_fetched xs) ≡ Some f) × (code_fault_of xs ≡ Some f)
     go (Some f) e = (f, front ∙ ap (λ h. or_else h (behind (take most_fetched xs))) e, fault_is xs (omega (arith, more)) ∙ ap (λ h. or_else h (behind xs)) e)
@@ -133,5 +139,6 @@ first_bytes_decide bytes = go (nat_le (length bytes) 8388641) refl
         (ap code_fault_of all, λ none. all)
     go false e =
         let more : 8388641 < length bytes = leb-false (length bytes) 8388641 e in
-        let f : (f : CodeFault) × (code_fault_of (take most_fetched bytes) ≡ Some f) × (code_fault_of bytes ≡ Some f) = long_faults bytes (omega (arith, more)) in
+        let f : (f : CodeFault) × (code_fault_of (take most_fetched bytes) ≡ Some f) × (code_fault_of bytes ≡ Some f) = long_faults bytes
+        (omega (arith, more)) in
         (f.1 ∙ sym f.2, λ none. let wrong : Some f.0 ≡ None = sym f.1 ∙ none in absurd (cc))

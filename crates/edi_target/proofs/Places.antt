@@ -1,12 +1,14 @@
 -- How the instruction starts go on behind an instruction, and what that means for the faults.
-use Rattle.std.proofs.Common.{◌≡◌, ℕ, zero, suc, ◌+◌, ◌-◌, ◌<◌, ◌≤◌, Bool, true, false, ◌||◌, List, [], ◌∷◌, Option, Some, None, length, drop, get_or, set, replicate, map, refl, ap, sym, ◌∙◌, arith}
+use Rattle.std.proofs.Common.{◌≡◌, ℕ, zero, suc, ◌+◌, ◌-◌, ◌<◌, ◌≤◌, Bool, true, false, ◌||◌, List, [], ◌∷◌, Option, Some, None, length, drop, get_or, set}
+use Rattle.std.proofs.Common.{replicate, map, refl, ap, sym, ◌∙◌, arith}
 use Rattle.std.proofs.Math.Seq.{drop-cons}
 use Rattle.std.proofs.lemmas.List.{drop-drop, drop_all, length-set, get_or-set_same, get_or-set_other}
 use Rattle.std.proofs.lemmas.Bool.{eqb-true, eqb-false, ltb-true, ltb-false}
 use Rattle.std.specs.Prelude.{◌==◌, nat_lt}
 use Rattle.edi_target.specs.Op.{Branch, Instruction}
 use Rattle.edi_target.specs.Decode.{decode}
-use Rattle.edi_target.specs.Check.{MarkStarts, Start, Way, begins, first_fault, is_marked, is_start, jump_fault, keeps, operation_fault, or_else, starts_from, starts_of, targets_fault, unless}
+use Rattle.edi_target.specs.Check.{MarkStarts, Start, Way, begins, first_fault, is_marked, is_start, jump_fault, keeps, operation_fault, or_else}
+use Rattle.edi_target.specs.Check.{starts_from, starts_of, targets_fault, unless}
 use Rattle.edi_target.specs.View.{Found}
 use Rattle.edi_target.specs.declared.code_fault.CodeFault.{CodeFault}
 use Rattle.edi_target.specs.declared.code_fault.CodeFault.TheVariants as fault
@@ -22,13 +24,19 @@ starts_skip (w ∷ ws) at (suc k) =
 
 -- what starts at the front of words from which this is read
 after_read : ℕ → ℕ → List ℕ → Option (Instruction × ℕ) → List Start
-after_read at word words r = elim r [ None ↦ record { at = at; word = word; op = None } ∷ [] | Some x ↦ record { at = at; word = word; op = Some x.0 } ∷ starts_from words (at + 1) (x.1 - 1) ]
+after_read at word words r = elim r [
+  | None ↦ record { at = at; word = word; op = None } ∷ []
+  | Some x ↦ record { at = at; word = word; op = Some x.0 }
+      ∷ starts_from words (at + 1) (x.1 - 1)
+]
 
-front : (word : ℕ) (words : List ℕ) (at : ℕ) (r : Option (Instruction × ℕ)) → decode (word ∷ words) ≡ r → starts_from (word ∷ words) at 0 ≡ after_read at word words r
+front : (word : ℕ) (words : List ℕ) (at : ℕ) (r : Option (Instruction × ℕ)) → decode (word ∷ words) ≡ r → starts_from (word ∷ words) at 0 ≡ after_read at word
+    words r
 unfolding after_read
 front word words at r e = ap (after_read at word words) e
 
-pub starts_step : (words : List ℕ) (at next : ℕ) (op : Instruction) → decode (drop at words) ≡ Some (op, next - at) → at < next → next ≤ length words → starts_from (drop at words) at 0 ≡ record { at = at; word = get_or words at 0; op = Some op } ∷ starts_from (drop next words) next 0
+pub starts_step : (words : List ℕ) (at next : ℕ) (op : Instruction) → decode (drop at words) ≡ Some (op, next - at) → at < next → next ≤ length words
+    → starts_from (drop at words) at 0 ≡ record { at = at; word = get_or words at 0; op = Some op } ∷ starts_from (drop next words) next 0
 unfolding after_read
 starts_step words at next op e l m =
     let word : ℕ = get_or words at 0 in
@@ -44,7 +52,8 @@ starts_step words at next op e l m =
     ∙ front word (drop (suc at) words) at (Some (op, next - at)) read
     ∙ ap (λ (l : List Start). record { at = at; word = word; op = Some op } ∷ l) rest
 
-pub starts_broken : (words : List ℕ) (at : ℕ) → decode (drop at words) ≡ None → at < length words → starts_from (drop at words) at 0 ≡ record { at = at; word = get_or words at 0; op = None } ∷ []
+pub starts_broken : (words : List ℕ) (at : ℕ) → decode (drop at words) ≡ None → at < length words → starts_from (drop at words) at 0
+    ≡ record { at = at; word = get_or words at 0; op = None } ∷ []
 unfolding after_read
 starts_broken words at e l =
     let word : ℕ = get_or words at 0 in
@@ -56,10 +65,13 @@ starts_end words at l = ap (λ (ws : List ℕ). starts_from ws at 0) (drop_all a
 
 -- ---- the first pass: operations, and marks
 
-pub operation_step : (q : Bool) (words : List ℕ) (at next : ℕ) (op : Instruction) → decode (drop at words) ≡ Some (op, next - at) → at < next → next ≤ length words → first_fault (operation_fault q) (starts_from (drop at words) at 0) ≡ or_else (operation_fault q (record { at = at; word = get_or words at 0; op = Some op })) (first_fault (operation_fault q) (starts_from (drop next words) next 0))
+pub operation_step : (q : Bool) (words : List ℕ) (at next : ℕ) (op : Instruction) → decode (drop at words) ≡ Some (op, next - at) → at < next
+    → next ≤ length words → first_fault (operation_fault q) (starts_from (drop at words) at 0) ≡ or_else
+    (operation_fault q (record { at = at; word = get_or words at 0; op = Some op })) (first_fault (operation_fault q) (starts_from (drop next words) next 0))
 operation_step q words at next op e l m = ap (first_fault (operation_fault q)) (starts_step words at next op e l m)
 
-pub operation_broken : (q : Bool) (words : List ℕ) (at : ℕ) → decode (drop at words) ≡ None → at < length words → first_fault (operation_fault q) (starts_from (drop at words) at 0) ≡ Some (fault.Operation at (get_or words at 0))
+pub operation_broken : (q : Bool) (words : List ℕ) (at : ℕ) → decode (drop at words) ≡ None → at < length words → first_fault (operation_fault q)
+    (starts_from (drop at words) at 0) ≡ Some (fault.Operation at (get_or words at 0))
 operation_broken q words at e l = ap (first_fault (operation_fault q)) (starts_broken words at e l)
 
 pub operation_end : (q : Bool) (words : List ℕ) (at : ℕ) → length words ≤ at → first_fault (operation_fault q) (starts_from (drop at words) at 0) ≡ None
@@ -86,7 +98,8 @@ marked_one marks at a l = by_test (at == a) refl
     by_test true e = sym (ap (λ (k : ℕ). get_or (set marks at true) k false) (sym (eqb-true at a e)) ∙ get_or-set_same marks at true false l)
     by_test false e = sym (get_or-set_other marks at a true false (λ same. eqb-false at a e (sym same)))
 
-pub marks_step : (words : List ℕ) (marks : List Bool) (at next : ℕ) (op : Instruction) → decode (drop at words) ≡ Some (op, next - at) → at < next → next ≤ length words → at < length marks → Marks words marks at → Marks words (set marks at true) next
+pub marks_step : (words : List ℕ) (marks : List Bool) (at next : ℕ) (op : Instruction) → decode (drop at words) ≡ Some (op, next - at) → at < next
+    → next ≤ length words → at < length marks → Marks words marks at → Marks words (set marks at true) next
 unfolding Marks
 marks_step words marks at next op e l m r k = λ a.
     k a
@@ -100,7 +113,8 @@ or_false false = refl
 
 pub marks_end : (words : List ℕ) (marks : List Bool) (at : ℕ) → length words ≤ at → Marks words marks at → MarkStarts marks words
 unfolding Marks
-marks_end words marks at l k = λ a. sym (k a ∙ ap (λ (s : List Start). is_marked marks a || is_start s a) (starts_end words at l) ∙ or_false (is_marked marks a))
+marks_end words marks at l k = λ a. sym (k a ∙ ap (λ (s : List Start). is_marked marks a || is_start s a) (starts_end words at l)
+    ∙ or_false (is_marked marks a))
 
 pub none_marked : (n a : ℕ) → is_marked (replicate n false) a ≡ false
 none_marked zero a = refl
@@ -117,7 +131,8 @@ pub record IsMarkedTo (words : List ℕ) (marks : List Bool) (at : ℕ) : Type 0
 pub marked_first : (words : List ℕ) (marks : List Bool) → length marks ≡ length words → ((a : ℕ) → is_marked marks a ≡ false) → IsMarkedTo words marks 0
 marked_first words marks l c = record { within = omega arith; room = l; faults = refl; marks_are = marks_clear words marks c }
 
-pub marked_next : (words : List ℕ) (marks : List Bool) (at next : ℕ) (op : Instruction) → Found words at op next → at < next → next ≤ length words → IsMarkedTo words marks at → IsMarkedTo words (set marks at true) next
+pub marked_next : (words : List ℕ) (marks : List Bool) (at next : ℕ) (op : Instruction) → Found words at op next → at < next → next ≤ length words
+    → IsMarkedTo words marks at → IsMarkedTo words (set marks at true) next
 marked_next words marks at next op f l m k =
     record {
       within = m;
@@ -129,30 +144,41 @@ marked_next words marks at next op f l m k =
 pub marked_all : (words : List ℕ) (marks : List Bool) (at : ℕ) → length words ≤ at → IsMarkedTo words marks at → MarkStarts marks words
 marked_all words marks at l k = marks_end words marks at l k.marks_are
 
-pub marked_fault : (words : List ℕ) (marks : List Bool) (at : ℕ) → decode (drop at words) ≡ None → at < length words → IsMarkedTo words marks at → Some (fault.Operation at (get_or words at 0)) ≡ first_fault (operation_fault true) (starts_of words)
+pub marked_fault : (words : List ℕ) (marks : List Bool) (at : ℕ) → decode (drop at words) ≡ None → at < length words → IsMarkedTo words marks at
+    → Some (fault.Operation at (get_or words at 0)) ≡ first_fault (operation_fault true) (starts_of words)
 marked_fault words marks at e l k = sym (k.faults ∙ operation_broken true words at e l)
 
-pub marked_none : (words : List ℕ) (marks : List Bool) (at : ℕ) → length words ≤ at → IsMarkedTo words marks at → None ≡ first_fault (operation_fault true) (starts_of words)
+pub marked_none : (words : List ℕ) (marks : List Bool) (at : ℕ) → length words ≤ at → IsMarkedTo words marks at → None ≡ first_fault (operation_fault true)
+    (starts_of words)
 marked_none words marks at l k = sym (k.faults ∙ operation_end true words at l)
 
 -- ---- the second pass: where instructions lead
 
-pub jump_step : (words all : List ℕ) (starts : List Start) (at next : ℕ) (op : Instruction) → decode (drop at words) ≡ Some (op, next - at) → at < next → next ≤ length words → first_fault (jump_fault all starts) (starts_from (drop at words) at 0) ≡ or_else (jump_fault all starts (record { at = at; word = get_or words at 0; op = Some op })) (first_fault (jump_fault all starts) (starts_from (drop next words) next 0))
+pub jump_step : (words all : List ℕ) (starts : List Start) (at next : ℕ) (op : Instruction) → decode (drop at words) ≡ Some (op, next - at) → at < next
+    → next ≤ length words → first_fault (jump_fault all starts) (starts_from (drop at words) at 0) ≡ or_else
+    (jump_fault all starts (record { at = at; word = get_or words at 0; op = Some op }))
+    (first_fault (jump_fault all starts) (starts_from (drop next words) next 0))
 jump_step words all starts at next op e l m = ap (first_fault (jump_fault all starts)) (starts_step words at next op e l m)
 
-pub jump_next : (words : List ℕ) (at next : ℕ) (op : Instruction) → Found words at op next → at < next → next ≤ length words → None ≡ targets_fault words (starts_of words) at op → first_fault (jump_fault words (starts_of words)) (starts_of words) ≡ first_fault (jump_fault words (starts_of words)) (starts_from (drop at words) at 0) → first_fault (jump_fault words (starts_of words)) (starts_of words) ≡ first_fault (jump_fault words (starts_of words)) (starts_from (drop next words) next 0)
+pub jump_next : (words : List ℕ) (at next : ℕ) (op : Instruction) → Found words at op next → at < next → next ≤ length words
+    → None ≡ targets_fault words (starts_of words) at op → first_fault (jump_fault words (starts_of words)) (starts_of words) ≡ first_fault
+    (jump_fault words (starts_of words)) (starts_from (drop at words) at 0) → first_fault (jump_fault words (starts_of words)) (starts_of words) ≡ first_fault
+    (jump_fault words (starts_of words)) (starts_from (drop next words) next 0)
 jump_next words at next op f l m n k =
     k
     ∙ jump_step words words (starts_of words) at next op f.decoded l m
     ∙ ap (λ (r : Option CodeFault). or_else r (first_fault (jump_fault words (starts_of words)) (starts_from (drop next words) next 0))) (sym n)
 
-pub jump_found : (words : List ℕ) (at next : ℕ) (op : Instruction) (f : CodeFault) → Found words at op next → at < next → next ≤ length words → Some f ≡ targets_fault words (starts_of words) at op → first_fault (jump_fault words (starts_of words)) (starts_of words) ≡ first_fault (jump_fault words (starts_of words)) (starts_from (drop at words) at 0) → Some f ≡ first_fault (jump_fault words (starts_of words)) (starts_of words)
+pub jump_found : (words : List ℕ) (at next : ℕ) (op : Instruction) (f : CodeFault) → Found words at op next → at < next → next ≤ length words
+    → Some f ≡ targets_fault words (starts_of words) at op → first_fault (jump_fault words (starts_of words)) (starts_of words) ≡ first_fault
+    (jump_fault words (starts_of words)) (starts_from (drop at words) at 0) → Some f ≡ first_fault (jump_fault words (starts_of words)) (starts_of words)
 jump_found words at next op f found l m n k =
     sym (k
     ∙ jump_step words words (starts_of words) at next op found.decoded l m
     ∙ ap (λ (r : Option CodeFault). or_else r (first_fault (jump_fault words (starts_of words)) (starts_from (drop next words) next 0))) (sym n))
 
-pub jump_end : (words all : List ℕ) (starts : List Start) (at : ℕ) → decode (drop at words) ≡ None → first_fault (jump_fault all starts) (starts_from (drop at words) at 0) ≡ None
+pub jump_end : (words all : List ℕ) (starts : List Start) (at : ℕ) → decode (drop at words) ≡ None → first_fault (jump_fault all starts)
+    (starts_from (drop at words) at 0) ≡ None
 jump_end words all starts at e = by_test (nat_lt at (length words)) refl
   where
     by_test : (b : Bool) → nat_lt at (length words) ≡ b → first_fault (jump_fault all starts) (starts_from (drop at words) at 0) ≡ None
@@ -161,6 +187,8 @@ jump_end words all starts at e = by_test (nat_lt at (length words)) refl
 
 -- ---- branches
 
-pub branches_begin : (words : List ℕ) (marks : List Bool) (starts : List Start) (at : ℕ) (bs : List Branch) → ((a : ℕ) → is_marked marks a ≡ is_start starts a) → first_fault (λ (b : Branch). unless (is_marked marks b.address) (fault.Jump at b.address)) bs ≡ first_fault (λ (t : Way × ℕ). unless (keeps words starts at t) (fault.Jump at t.1)) (map (λ (b : Branch). (begins, b.address)) bs)
+pub branches_begin : (words : List ℕ) (marks : List Bool) (starts : List Start) (at : ℕ) (bs : List Branch)
+    → ((a : ℕ) → is_marked marks a ≡ is_start starts a) → first_fault (λ (b : Branch). unless (is_marked marks b.address) (fault.Jump at b.address)) bs
+    ≡ first_fault (λ (t : Way × ℕ). unless (keeps words starts at t) (fault.Jump at t.1)) (map (λ (b : Branch). (begins, b.address)) bs)
 branches_begin words marks starts at [] m = refl
 branches_begin words marks starts at (b ∷ bs) m = rw (m b.address, branches_begin words marks starts at bs m) refl

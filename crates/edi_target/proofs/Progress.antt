@@ -64,14 +64,16 @@ entered (Some (op.entry need r p v f, body)) link back line l = search (test, ei
 entered None link back line l = bad_up
 entered (Some x) link back line l = bad_up
 
-addressed : {at : ℕ} {go : Option ℕ → Local → Effect} (n : ℕ) (l : Local) → l.pc ≡ at → ((address : Option ℕ) (m : Local) → m.pc ≡ at → Up at (go address m)) → Up at (with_answer_address n l go)
+addressed : {at : ℕ} {go : Option ℕ → Local → Effect} (n : ℕ) (l : Local) → l.pc ≡ at → ((address : Option ℕ) (m : Local) → m.pc ≡ at → Up at (go address m))
+    → Up at (with_answer_address n l go)
 addressed zero l e h = h None l e
 addressed (suc n) l e h = test _ (h _ _ e)
 
 asked : (number line next : ℕ) (l : Local) → l.pc < next → Up l.pc (system_call number line next l)
 asked number line next l h = test _ (addressed (answer_words number) l refl (λ address m e. test _ (asks_up h)))
 
-each_up : (fetch : ℕ → Option (Instruction × ℕ)) (live : ℕ) (is_first : Bool) (i : Instruction) (next : ℕ) (l : Local) → l.pc < next → Up l.pc (perform fetch live is_first i next l)
+each_up : (fetch : ℕ → Option (Instruction × ℕ)) (live : ℕ) (is_first : Bool) (i : Instruction) (next : ℕ) (l : Local) → l.pc < next
+    → Up l.pc (perform fetch live is_first i next l)
 each_up fetch live is_first (op.const value) next l h = search (test, either, ranged, goes_up, released_up, asks_up, due_up, fails_up) depth 9
 each_up fetch live is_first (op.text words) next l h = search (test, either, ranged, goes_up, released_up, asks_up, due_up, fails_up) depth 9
 each_up fetch live is_first (op.zeros count) next l h = search (test, either, ranged, goes_up, released_up, asks_up, due_up, fails_up) depth 9

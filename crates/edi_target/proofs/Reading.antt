@@ -1,5 +1,6 @@
 -- What an instruction's words give, and what words an instruction was read from.
-use Rattle.std.proofs.Common.{◌≡◌, ℕ, zero, suc, ◌+◌, ◌-◌, ◌*◌, ◌^◌, ◌<◌, ◌≤◌, ℤ, pos, negsuc, Bool, true, false, ◌&&◌, List, [], ◌∷◌, ◌++◌, Option, Some, None, length, take, drop, refl, ap, sym, ◌∙◌, subst, arith, length-append, length-drop, ◌⊎◌, get_or, Fits}
+use Rattle.std.proofs.Common.{◌≡◌, ℕ, zero, suc, ◌+◌, ◌-◌, ◌*◌, ◌^◌, ◌<◌, ◌≤◌, ℤ, pos, negsuc, Bool, true, false, ◌&&◌, List, [], ◌∷◌, ◌++◌, Option, Some}
+use Rattle.std.proofs.Common.{None, length, take, drop, refl, ap, sym, ◌∙◌, subst, arith, length-append, length-drop, ◌⊎◌, get_or, Fits}
 use Rattle.std.proofs.Math.Seq.{take-append_seam, take-length}
 use Rattle.std.specs.Prelude.{FitsSigned, nat_lt, if◌then◌else◌, slice_get}
 use Rattle.std.specs.Int.{w16}
@@ -10,8 +11,12 @@ use Rattle.std.proofs.lemmas.Bool.{le-ltb, lt-ltb, ltb-true, ltb-false}
 use Rattle.std.proofs.lemmas.Int.{to_z-of_z, of_z-to_z}
 use Rattle.std.proofs.lemmas.List.{drop-drop, drop_all, length-take-le, take-append-drop}
 use Rattle.std.proofs.lemmas.List.Elements.{All-drop}
-use Rattle.edi_target.specs.Op.{Instruction, Branch, words_of, is_allowed, has_integers, is_integer, branch_words, high_word, low_word, address_of_words, word_of_integer, integer_of_word, const, text, zeros, address, field, index, load, store, add, sub, mul, div, mod_, neg, not_, eq, ne, lt, le, gt, ge, union, minus, meet, in_, member, check, jump, false_, and, or, loop, entry, call, call_p, proc, return, halt, when, retry, done, cobegin, exit, quiet}
-use Rattle.edi_target.specs.Decode.{Reads, Row, AreWords, rows, no_operands, one_word, two_words, three_words, four_words, five_words, one_target, counted_text, counted_branches, branches_of, shaped, if_allowed, decode}
+use Rattle.edi_target.specs.Op.{Instruction, Branch, words_of, is_allowed, has_integers, is_integer, branch_words, high_word, low_word, address_of_words}
+use Rattle.edi_target.specs.Op.{word_of_integer, integer_of_word, const, text, zeros, address, field, index, load, store, add, sub, mul, div, mod_, neg}
+use Rattle.edi_target.specs.Op.{not_, eq, ne, lt, le, gt, ge, union, minus, meet, in_, member, check, jump, false_, and, or, loop, entry, call, call_p, proc}
+use Rattle.edi_target.specs.Op.{return, halt, when, retry, done, cobegin, exit, quiet}
+use Rattle.edi_target.specs.Decode.{Reads, Row, AreWords, rows, no_operands, one_word, two_words, three_words, four_words, five_words, one_target}
+use Rattle.edi_target.specs.Decode.{counted_text, counted_branches, branches_of, shaped, if_allowed, decode}
 
 -- ---- operands
 
@@ -47,14 +52,16 @@ integer_again z e = to_z-of_z w16 z (fits z e)
 
 -- ---- the words of an instruction give it again
 
-counted : {X : Type 0} (f : List ℕ → X) (m n : ℕ) (ws rest : List ℕ) → length ws ≡ m → if◌then◌else◌ {A = Option (X × ℕ)} (nat_lt (length (ws ++ rest)) m) None (Some (f (take m (ws ++ rest)), n)) ≡ Some (f ws, n)
+counted : {X : Type 0} (f : List ℕ → X) (m n : ℕ) (ws rest : List ℕ) → length ws ≡ m → if◌then◌else◌ {A = Option (X × ℕ)} (nat_lt (length (ws ++ rest)) m)
+    None (Some (f (take m (ws ++ rest)), n)) ≡ Some (f ws, n)
 counted {X = X} f m n ws rest e =
     subst (λ (k : ℕ). if◌then◌else◌ {A = Option (X × ℕ)} (nat_lt (length (ws ++ rest)) k) None (Some (f (take k (ws ++ rest)), n)) ≡ Some (f ws, n)) e
     (rw (le-ltb (length (ws ++ rest)) (length ws) (omega (arith, length-append ws rest)), take-append_seam ws rest) refl)
 
 pub shaped_again : (op : Instruction) (rest : List ℕ) → has_integers op ≡ true → shaped (words_of op ++ rest) ≡ Some (op, length (words_of op))
 shaped_again (const a) rest e = refl
-shaped_again (text ws) rest e = let n : length ws + 2 ≡ length (words_of (text ws)) = omega arith in counted (λ l. text l) (length ws) (length ws + 2) ws rest refl ∙ ap (λ (k : ℕ). Some (text ws, k)) n
+shaped_again (text ws) rest e = let n : length ws + 2 ≡ length (words_of (text ws)) = omega arith in
+    counted (λ l. text l) (length ws) (length ws + 2) ws rest refl ∙ ap (λ (k : ℕ). Some (text ws, k)) n
 shaped_again (zeros a) rest e = refl
 shaped_again (address a b) rest e = refl
 shaped_again (field a) rest e = refl
@@ -108,7 +115,8 @@ shaped_again (cobegin line bs) rest e =
 shaped_again exit rest e = refl
 shaped_again (quiet a) rest e = ap (λ (n : ℕ). Some (quiet n, 3)) (address_again a)
 
-pub decode_again : (op : Instruction) (rest : List ℕ) → is_allowed op ≡ true → has_integers op ≡ true → decode (words_of op ++ rest) ≡ Some (op, length (words_of op))
+pub decode_again : (op : Instruction) (rest : List ℕ) → is_allowed op ≡ true → has_integers op ≡ true → decode (words_of op ++ rest) ≡ Some
+    (op, length (words_of op))
 unfolding decode
 decode_again op rest e i =
     ap if_allowed (shaped_again op rest i)
@@ -159,7 +167,8 @@ two_words_sound k op e = λ words w. by_words words w
         let h = e a b (first_word a (b ∷ ws) w) (first_word b ws (rest_words a (b ∷ ws) w)) in
         rw h.0 (refl, refl, h.1)
 
-three_words_sound : (k : ℕ) (op : ℕ → ℕ → ℕ → Instruction) → ((a b c : ℕ) → a < 2 ^ 16 → b < 2 ^ 16 → c < 2 ^ 16 → Writes (op a b c) (k ∷ a ∷ b ∷ c ∷ [])) → Sound k (three_words op)
+three_words_sound : (k : ℕ) (op : ℕ → ℕ → ℕ → Instruction) → ((a b c : ℕ) → a < 2 ^ 16 → b < 2 ^ 16 → c < 2 ^ 16 → Writes (op a b c) (k ∷ a ∷ b ∷ c ∷ []))
+    → Sound k (three_words op)
 unfolding Spelled Sound Writes
 three_words_sound k op e = λ words w. by_words words w
   where
@@ -172,7 +181,8 @@ three_words_sound k op e = λ words w. by_words words w
         let h = e a b c (first_word a (b ∷ c ∷ ws) w) (first_word b (c ∷ ws) v) (first_word c ws (rest_words b (c ∷ ws) v)) in
         rw h.0 (refl, refl, h.1)
 
-four_words_sound : (k : ℕ) (op : ℕ → ℕ → ℕ → ℕ → Instruction) → ((a b c d : ℕ) → a < 2 ^ 16 → b < 2 ^ 16 → c < 2 ^ 16 → Writes (op a b c d) (k ∷ a ∷ b ∷ c ∷ d ∷ [])) → Sound k (four_words op)
+four_words_sound : (k : ℕ) (op : ℕ → ℕ → ℕ → ℕ → Instruction)
+    → ((a b c d : ℕ) → a < 2 ^ 16 → b < 2 ^ 16 → c < 2 ^ 16 → Writes (op a b c d) (k ∷ a ∷ b ∷ c ∷ d ∷ [])) → Sound k (four_words op)
 unfolding Spelled Sound Writes
 four_words_sound k op e = λ words w. by_words words w
   where
@@ -186,7 +196,8 @@ four_words_sound k op e = λ words w. by_words words w
         let h = e a b c d (first_word a (b ∷ c ∷ d ∷ ws) w) (first_word b (c ∷ d ∷ ws) v) (first_word c (d ∷ ws) (rest_words b (c ∷ d ∷ ws) v)) in
         rw h.0 (refl, refl, h.1)
 
-five_words_sound : (k : ℕ) (op : ℕ → ℕ → ℕ → ℕ → ℕ → Instruction) → ((a b c d f : ℕ) → Writes (op a b c d f) (k ∷ a ∷ b ∷ c ∷ d ∷ f ∷ [])) → Sound k (five_words op)
+five_words_sound : (k : ℕ) (op : ℕ → ℕ → ℕ → ℕ → ℕ → Instruction) → ((a b c d f : ℕ) → Writes (op a b c d f) (k ∷ a ∷ b ∷ c ∷ d ∷ f ∷ []))
+    → Sound k (five_words op)
 unfolding Spelled Sound Writes
 five_words_sound k op e = λ words w. by_words words
   where
@@ -215,7 +226,8 @@ text_sound = λ words w. by_words words
     by_words (n ∷ ws) = by_count n ws (nat_lt (length ws) n) refl
 
 -- words that are there in threes are those of the branches that they give
-pub branches_spelled : (n : ℕ) (words : List ℕ) → AreWords words → 3 * n ≤ length words → (branch_words (branches_of (take (3 * n) words)) ≡ take (3 * n) words) × (length (branches_of (take (3 * n) words)) ≡ n)
+pub branches_spelled : (n : ℕ) (words : List ℕ) → AreWords words → 3 * n ≤ length words
+    → (branch_words (branches_of (take (3 * n) words)) ≡ take (3 * n) words) × (length (branches_of (take (3 * n) words)) ≡ n)
 branches_spelled zero words w l = (refl, refl)
 branches_spelled (suc n) [] w l = absurd (omega arith)
 branches_spelled (suc n) (a ∷ []) w l = absurd (omega arith)
@@ -244,13 +256,15 @@ two_integers a b l m = rw (is_integer-word a l, is_integer-word b m) refl
 
 target_sound : (k : ℕ) (op : ℕ → Instruction) → ((a : ℕ) → Writes (op a) (k ∷ high_word a ∷ low_word a ∷ [])) → Sound k (one_target op)
 unfolding Writes
-target_sound k op e = two_words_sound k (λ high low. op (address_of_words high low)) (λ a b l m. (rw ((e (address_of_words a b)).0, high_again a b m, low_again a b m) refl, (e (address_of_words a b)).1))
+target_sound k op e = two_words_sound k (λ high low. op (address_of_words high low))
+    (λ a b l m. (rw ((e (address_of_words a b)).0, high_again a b m, low_again a b m) refl, (e (address_of_words a b)).1))
 
 cobegin_sound : Sound 42 counted_branches
 unfolding Spelled Sound Writes
 cobegin_sound = λ words w. by_words words w
   where
-    by_count : (n line : ℕ) (ws : List ℕ) (b : Bool) → AreWords ws → nat_lt (length ws) (3 * n) ≡ b → Spelled (42 ∷ n ∷ line ∷ ws) (if◌then◌else◌ b None (Some (cobegin line (branches_of (take (3 * n) ws)), 3 * n + 3)))
+    by_count : (n line : ℕ) (ws : List ℕ) (b : Bool) → AreWords ws → nat_lt (length ws) (3 * n) ≡ b → Spelled (42 ∷ n ∷ line ∷ ws)
+        (if◌then◌else◌ b None (Some (cobegin line (branches_of (take (3 * n) ws)), 3 * n + 3)))
     by_count n line ws true w e = tt
     by_count n line ws false w e =
         let le : 3 * n ≤ length ws = ltb-false (length ws) (3 * n) e in
@@ -286,7 +300,8 @@ rows_sound = (
           (
             one_word_sound 5 field (λ a. (refl, refl)),
             (
-              four_words_sound 6 (λ low high. index (integer_of_word low) (integer_of_word high)) (λ a b c d l m n. (rw (integer_word a l, integer_word b m) refl, two_integers a b l m)),
+              four_words_sound 6 (λ low high. index (integer_of_word low) (integer_of_word high))
+                  (λ a b c d l m n. (rw (integer_word a l, integer_word b m) refl, two_integers a b l m)),
               (
                 one_word_sound 7 load (λ a. (refl, refl)),
                 (
@@ -328,7 +343,8 @@ rows_sound = (
                                                     (
                                                       one_word_sound 26 member (λ a. (refl, refl)),
                                                       (
-                                                        three_words_sound 27 (λ low high. check (integer_of_word low) (integer_of_word high)) (λ a b c l m n. (rw (integer_word a l, integer_word b m) refl, two_integers a b l m)),
+                                                        three_words_sound 27 (λ low high. check (integer_of_word low) (integer_of_word high))
+                                                            (λ a b c l m n. (rw (integer_word a l, integer_word b m) refl, two_integers a b l m)),
                                                         (
                                                           target_sound 28 jump (λ a. (refl, refl)),
                                                           (
@@ -342,11 +358,13 @@ rows_sound = (
                                                                   (
                                                                     five_words_sound 33 entry (λ a b c d f. (refl, refl)),
                                                                     (
-                                                                      four_words_sound 34 (λ level high low. call level (address_of_words high low)) (λ a b c d l m n. (rw (high_again b c n, low_again b c n) refl, refl)),
+                                                                      four_words_sound 34 (λ level high low. call level (address_of_words high low))
+                                                                          (λ a b c d l m n. (rw (high_again b c n, low_again b c n) refl, refl)),
                                                                       (
                                                                         three_words_sound 35 call_p (λ a b c l m n. (refl, refl)),
                                                                         (
-                                                                          three_words_sound 36 (λ level high low. proc level (address_of_words high low)) (λ a b c l m n. (rw (high_again b c n, low_again b c n) refl, refl)),
+                                                                          three_words_sound 36 (λ level high low. proc level (address_of_words high low))
+                                                                              (λ a b c l m n. (rw (high_again b c n, low_again b c n) refl, refl)),
                                                                           (
                                                                             two_words_sound 37 return (λ a b l m. (refl, refl)),
                                                                             (
@@ -410,7 +428,8 @@ rows_sound = (
   ),
 )
 
-picked : (k i : ℕ) (table : List Row) (words : List ℕ) → AllSound k table → AreWords words → Spelled ((k + i) ∷ words) (elim (slice_get table i) [ None ↦ None | Some row ↦ row words ])
+picked : (k i : ℕ) (table : List Row) (words : List ℕ) → AllSound k table → AreWords words
+    → Spelled ((k + i) ∷ words) (elim (slice_get table i) [ None ↦ None | Some row ↦ row words ])
 unfolding AllSound Sound Spelled
 picked k i [] words s w = tt
 picked k zero (row ∷ table) words s w =
@@ -428,10 +447,12 @@ shaped_spelled (number ∷ words) w =
     subst (λ (j : ℕ). Spelled (j ∷ words) (shaped (number ∷ words))) none (picked 0 number rows words rows_sound (rest_words number words w))
 
 -- where an instruction was read, and its operands are allowed, it stands
-pub shaped_reads : (words : List ℕ) (at : ℕ) (op : Instruction) (n : ℕ) → AreWords words → shaped (drop at words) ≡ Some (op, n) → is_allowed op ≡ true → Reads words at op (at + n)
+pub shaped_reads : (words : List ℕ) (at : ℕ) (op : Instruction) (n : ℕ) → AreWords words → shaped (drop at words) ≡ Some (op, n) → is_allowed op ≡ true
+    → Reads words at op (at + n)
 unfolding Spelled
 shaped_reads words at op n w e a =
-    let s : Spelled (drop at words) (Some (op, n)) = subst (Spelled (drop at words)) e (shaped_spelled (drop at words) (All-drop (λ word. word < 2 ^ 16) at words w)) in
+    let s : Spelled (drop at words) (Some (op, n)) = subst (Spelled (drop at words)) e
+    (shaped_spelled (drop at words) (All-drop (λ word. word < 2 ^ 16) at words w)) in
     record {
       allowed = a;
       integers = s.2;
@@ -490,7 +511,8 @@ some_is_none x e = let P : Option (Instruction × ℕ) → Type 0 = λ o. elim o
 pub nothing_there : (words : List ℕ) (at : ℕ) → decode (drop at words) ≡ None → (op : Instruction) (next : ℕ) → Reads words at op next → ⊥
 nothing_there words at e op next r = some_is_none (op, next - at) (sym (reads_decode words at op next r) ∙ e)
 
-pub found_there : (words rest : List ℕ) (at : ℕ) (op : Instruction) (n : ℕ) (whole : Bool) → AreWords words → rest ≡ drop at words → Some (op, n) ≡ shaped rest → (whole && is_allowed op) ≡ true → Found words at op (at + n)
+pub found_there : (words rest : List ℕ) (at : ℕ) (op : Instruction) (n : ℕ) (whole : Bool) → AreWords words → rest ≡ drop at words
+    → Some (op, n) ≡ shaped rest → (whole && is_allowed op) ≡ true → Found words at op (at + n)
 unfolding decode
 found_there words rest at op n whole w e s a =
     let allowed : is_allowed op ≡ true = (both_true whole (is_allowed op) a).1 in
@@ -504,7 +526,8 @@ found_there words rest at op n whole w e s a =
       reads = shaped_reads words at op n w shape allowed;
     }
 
-pub forbidden : (words rest : List ℕ) (at : ℕ) (op : Instruction) (n : ℕ) (whole : Bool) → rest ≡ drop at words → Some (op, n) ≡ shaped rest → whole ≡ true → (whole && is_allowed op) ≡ false → decode (drop at words) ≡ None
+pub forbidden : (words rest : List ℕ) (at : ℕ) (op : Instruction) (n : ℕ) (whole : Bool) → rest ≡ drop at words → Some (op, n) ≡ shaped rest → whole ≡ true
+    → (whole && is_allowed op) ≡ false → decode (drop at words) ≡ None
 unfolding decode
 forbidden words rest at op n whole e s w a =
     let refused : is_allowed op ≡ false = ap (λ (b : Bool). b && is_allowed op) (sym w) ∙ a in
@@ -518,7 +541,8 @@ allowed_is_read : (r : Option (Instruction × ℕ)) (x : Instruction × ℕ) →
 allowed_is_read None x e = absurd (some_is_none x (sym e))
 allowed_is_read (Some y) x e = by_test (is_allowed y.0) refl e
   where
-    by_test : (b : Bool) → is_allowed y.0 ≡ b → if◌then◌else◌ {A = Option (Instruction × ℕ)} b (Some y) None ≡ Some x → (Some y ≡ Some x) × (is_allowed x.0 ≡ true)
+    by_test : (b : Bool) → is_allowed y.0 ≡ b → if◌then◌else◌ {A = Option (Instruction × ℕ)} b (Some y) None ≡ Some x → (Some y ≡ Some x)
+        × (is_allowed x.0 ≡ true)
     by_test true t e = (e, subst (λ (z : Instruction × ℕ). is_allowed z.0 ≡ true) (some_is y x e) t)
     by_test false t e = absurd (some_is_none x (sym e))
 

@@ -37,7 +37,8 @@ fields_hold count start parameters numbers e =
 
 pub sound_fields : (c : CodeParts) → IsSound c → AreFields (length c.words) c.entry (length c.calls)
 unfolding parts_fault
-sound_fields c e = fields_hold (length c.words) c.entry (length c.calls) c.calls (none_of (fields_fault (length c.words) c.entry (length c.calls) c.calls) _ e).0
+sound_fields c e = fields_hold (length c.words) c.entry (length c.calls) c.calls
+    (none_of (fields_fault (length c.words) c.entry (length c.calls) c.calls) _ e).0
 
 pub is_fault : (f : CodeFault) (x : Option CodeFault) → x ≡ Some f → IsFault f x
 is_fault fault.NoMemory x e = tt

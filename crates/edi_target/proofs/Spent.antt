@@ -1,5 +1,6 @@
 -- A run ends by its turns only where none is left.
-use Rattle.std.proofs.Common.{◌≡◌, ℕ, zero, suc, ◌-◌, ◌/◌, Bool, true, false, if◌then◌else◌, List, [], ◌∷◌, ◌++◌, length, Option, Some, None, refl, sym, ap, ◌∙◌}
+use Rattle.std.proofs.Common.{◌≡◌, ℕ, zero, suc, ◌-◌, ◌/◌, Bool, true, false, if◌then◌else◌, List, [], ◌∷◌, ◌++◌, length, Option, Some, None, refl, sym, ap}
+use Rattle.std.proofs.Common.{◌∙◌}
 use Rattle.std.specs.Prelude.{⊤}
 use Rattle.edi_calls.specs.declared.kinds.Cause.{Cause}
 use Rattle.edi_calls.specs.declared.kinds.Cause.TheVariants as cause
@@ -12,8 +13,11 @@ use Rattle.edi_calls.specs.Ready.{parent_of, all_marked, stays, joins, Taking, n
 use Rattle.edi_calls.specs.State.{State}
 use Rattle.edi_target.specs.Op as op
 use Rattle.edi_target.specs.Op.{Instruction}
-use Rattle.edi_target.specs.Effect.{Local, Turn, entering, leaving, looping, arriving, again, forking, exiting, finishing, Effect, goes, released, asks, due, fails, bad}
-use Rattle.edi_target.specs.Mach.{Running, Answer, on, behind, turned, over, ending_of, called, turn_from, settled, effect_at, local_step, Standing, ready, at_when, waiting, Activity, Machine, Stepped, went, ended, running_of, one_less, notified, at_turn, kernel, is_first, step_of, step, MachineRun, finished, go_on, after_step, run, entered}
+use Rattle.edi_target.specs.Effect.{Local, Turn, entering, leaving, looping, arriving, again, forking, exiting, finishing, Effect, goes, released, asks, due}
+use Rattle.edi_target.specs.Effect.{fails, bad}
+use Rattle.edi_target.specs.Mach.{Running, Answer, on, behind, turned, over, ending_of, called, turn_from, settled, effect_at, local_step, Standing, ready}
+use Rattle.edi_target.specs.Mach.{at_when, waiting, Activity, Machine, Stepped, went, ended, running_of, one_less, notified, at_turn, kernel, is_first}
+use Rattle.edi_target.specs.Mach.{step_of, step, MachineRun, finished, go_on, after_step, run, entered}
 use Rattle.edi_target.specs.Laws.{EndsByTurnsSpent}
 
 abbrev AnswerSpent : Answer → Type 0
@@ -92,12 +96,15 @@ module _ (fetch : ℕ → Option (Instruction × ℕ)) where
 
   module _ (choices : Choices) where
     taken_spent : (t : Taking) (more : Name → List Name → ℕ → MachineRun) (m : Machine) (drawn : ℕ) (end : Machine) (d : ℕ) →
-        ((p : Name) (others : List Name) (c : ℕ) → more p others c ≡ finished outcome.turns end d → end.turns ≡ 0) → go_on t more m drawn ≡ finished outcome.turns end d → end.turns ≡ 0
+        ((p : Name) (others : List Name) (c : ℕ) → more p others c ≡ finished outcome.turns end d → end.turns ≡ 0) → go_on t more m drawn ≡ finished
+        outcome.turns end d → end.turns ≡ 0
     taken_spent nobody more m drawn end d each e = absurd (cc)
     taken_spent (taking p others c) more m drawn end d each e = each p others c e
 
-    stepped_spent : (x : Stepped) (more : Machine → Name → List Name → ℕ → MachineRun) (p : Name) (others : List Name) (drawn : ℕ) (end : Machine) (d : ℕ) → StepSpent x →
-        ((m : Machine) (p : Name) (others : List Name) (c : ℕ) → more m p others c ≡ finished outcome.turns end d → end.turns ≡ 0) → after_step choices more p others drawn x ≡ finished outcome.turns end d → end.turns ≡ 0
+    stepped_spent : (x : Stepped) (more : Machine → Name → List Name → ℕ → MachineRun) (p : Name) (others : List Name) (drawn : ℕ) (end : Machine) (d : ℕ)
+        → StepSpent x →
+        ((m : Machine) (p : Name) (others : List Name) (c : ℕ) → more m p others c ≡ finished outcome.turns end d → end.turns ≡ 0)
+        → after_step choices more p others drawn x ≡ finished outcome.turns end d → end.turns ≡ 0
     stepped_spent (ended ending m) more p others drawn end d h each e =
         let by : ending ≡ outcome.turns = (cc) in
         let same : m ≡ end = (cc) in
@@ -106,13 +113,15 @@ module _ (fetch : ℕ → Option (Instruction × ℕ)) where
     stepped_spent (went m (joins ps)) more p others drawn end d h each e =
         taken_spent (take_next choices drawn (others ++ ps)) (more m) m drawn end d (each m) e
 
-    run_spent : (n : ℕ) (m : Machine) (p : Name) (others : List Name) (drawn : ℕ) (end : Machine) (d : ℕ) → run fetch choices n m p others drawn ≡ finished outcome.turns end d → end.turns ≡ 0
+    run_spent : (n : ℕ) (m : Machine) (p : Name) (others : List Name) (drawn : ℕ) (end : Machine) (d : ℕ) → run fetch choices n m p others drawn ≡ finished
+        outcome.turns end d → end.turns ≡ 0
     run_spent zero m p others drawn end d e = absurd (cc)
     run_spent (suc n) m p others drawn end d e =
         stepped_spent (step fetch m p others) (run fetch choices n) p others drawn end d (step_of_spent m p others (find m.activities p))
         (λ m' q os c f. run_spent n m' q os c end d f) e
 
-entered_spent : (found : Option (Instruction × ℕ)) (entry : ℕ) (calls : List ℕ) (bound : ℕ) (system : State) → StepSpent (entered found entry calls bound system)
+entered_spent : (found : Option (Instruction × ℕ)) (entry : ℕ) (calls : List ℕ) (bound : ℕ) (system : State)
+    → StepSpent (entered found entry calls bound system)
 entered_spent (Some (op.entry need r p v f, body)) entry calls zero system = λ e. refl
 entered_spent (Some (op.entry need r p v f, body)) entry calls (suc n) system = tt
 entered_spent None entry calls bound system = λ e. absurd (cc)
@@ -120,5 +129,6 @@ entered_spent (Some x) entry calls bound system = λ e. absurd (cc)
 
 pub ends_by_turns_spent : EndsByTurnsSpent
 ends_by_turns_spent fetch entry calls system bound choices before m drawn past ends =
-    stepped_spent fetch choices (entered (fetch entry) entry calls bound system) (run fetch choices ends.0) [] [] before m drawn (entered_spent (fetch entry) entry calls bound system)
+    stepped_spent fetch choices (entered (fetch entry) entry calls bound system) (run fetch choices ends.0) [] [] before m drawn
+    (entered_spent (fetch entry) entry calls bound system)
     (λ m' q os c f. run_spent fetch choices ends.0 m' q os c m drawn f) ends.1

@@ -1,9 +1,11 @@
 -- An instruction stands only inside the words of a code, and has a word at least.
-use Rattle.std.proofs.Common.{◌≡◌, ℕ, zero, suc, ◌+◌, ◌*◌, ◌<◌, Bool, true, false, nat_lt, if◌then◌else◌, List, [], ◌∷◌, length, drop, take, Option, Some, None, arith, length-drop}
+use Rattle.std.proofs.Common.{◌≡◌, ℕ, zero, suc, ◌+◌, ◌*◌, ◌<◌, Bool, true, false, nat_lt, if◌then◌else◌, List, [], ◌∷◌, length, drop, take, Option, Some}
+use Rattle.std.proofs.Common.{None, arith, length-drop}
 use Rattle.std.specs.Prelude.{⊤, IfSome, slice_get}
 use Rattle.edi_target.specs.Op as op
 use Rattle.edi_target.specs.Op.{Instruction, is_allowed, integer_of_word, address_of_words}
-use Rattle.edi_target.specs.Decode.{Row, rows, no_operands, one_word, two_words, three_words, four_words, five_words, counted_text, counted_branches, branches_of, shaped, decode}
+use Rattle.edi_target.specs.Decode.{Row, rows, no_operands, one_word, two_words, three_words, four_words, five_words, counted_text, counted_branches}
+use Rattle.edi_target.specs.Decode.{branches_of, shaped, decode}
 use Rattle.edi_target.specs.Fetch.{fetch}
 use Rattle.edi_target.specs.Laws.{StandsBelow}
 
@@ -220,18 +222,21 @@ decode_long : (words : List ℕ) → IfSome (decode words) (λ found. (0 < lengt
 unfolding decode
 decode_long words = of_shape (shaped words) (shaped_long words)
   where
-    allowed : (b : Bool) (x : Instruction × ℕ) → (0 < length words) × (0 < x.1) → IfSome (if b then Some x else None) (λ found. (0 < length words) × (0 < found.1))
+    allowed : (b : Bool) (x : Instruction × ℕ) → (0 < length words) × (0 < x.1) → IfSome (if b then Some x else None)
+        (λ found. (0 < length words) × (0 < found.1))
     allowed true x h = h
     allowed false x h = tt
 
-    of_shape : (x : Option (Instruction × ℕ)) → IfSome x (λ found. (0 < length words) × (0 < found.1)) → IfSome (elim x [ None ↦ None | Some x ↦ if is_allowed x.0 then Some x else None ]) (λ found. (0 < length words) × (0 < found.1))
+    of_shape : (x : Option (Instruction × ℕ)) → IfSome x (λ found. (0 < length words) × (0 < found.1))
+        → IfSome (elim x [ None ↦ None | Some x ↦ if is_allowed x.0 then Some x else None ]) (λ found. (0 < length words) × (0 < found.1))
     of_shape None h = tt
     of_shape (Some x) h = allowed (is_allowed x.0) x h
 
 pub code_stands_below : (words : List ℕ) → StandsBelow (length words) (fetch words)
 code_stands_below words at found e = of_decoded (decode (drop at words)) (decode_long (drop at words)) e
   where
-    of_decoded : (x : Option (Instruction × ℕ)) → IfSome x (λ found. (0 < length (drop at words)) × (0 < found.1)) → elim x [ None ↦ None | Some found ↦ Some (found.0, at + found.1) ] ≡ Some found → (at < length words) × (at < found.1)
+    of_decoded : (x : Option (Instruction × ℕ)) → IfSome x (λ found. (0 < length (drop at words)) × (0 < found.1))
+        → elim x [ None ↦ None | Some found ↦ Some (found.0, at + found.1) ] ≡ Some found → (at < length words) × (at < found.1)
     of_decoded None h e = absurd (cc)
     of_decoded (Some x) h e =
         let next : at + x.1 ≡ found.1 = next_is e in

@@ -1,5 +1,6 @@
 -- Definition. What a code must be: its checks in their order, and the fault that each of them finds.
-use Rattle.std.specs.Prelude.{◌≡◌, ℕ, zero, suc, ◌+◌, ◌-◌, ◌*◌, ◌^◌, ◌/◌, Bool, true, false, not, ◌&&◌, ◌||◌, ◌==◌, nat_lt, nat_le, List, [], ◌∷◌, ◌++◌, map, drop, length, slice_index_or, Option, Some, None, ⊤}
+use Rattle.std.specs.Prelude.{◌≡◌, ℕ, zero, suc, ◌+◌, ◌-◌, ◌*◌, ◌^◌, ◌/◌, Bool, true, false, not, ◌&&◌, ◌||◌, ◌==◌, nat_lt, nat_le, List, [], ◌∷◌, ◌++◌, map}
+use Rattle.std.specs.Prelude.{drop, length, slice_index_or, Option, Some, None, ⊤}
 use Rattle.std.specs.List.{list_any}
 use Rattle.edi_target.specs.Op.{Instruction, Branch, jump, false_, and, or, loop, entry, call, proc, retry, cobegin, quiet}
 use Rattle.edi_target.specs.Decode.{decode}

@@ -1,6 +1,9 @@
 -- Definition. The instruction that stands at an address: as a function of the words there, and as a relation.
-use Rattle.std.specs.Prelude.{◌≡◌, ℕ, ◌+◌, ◌*◌, ◌^◌, ◌<◌, All, ◌↔◌, true, nat_lt, if◌then◌else◌, List, [], ◌∷◌, ◌++◌, take, drop, length, slice_get, Option, Some, None}
-use Rattle.edi_target.specs.Op.{Instruction, Branch, words_of, is_allowed, has_integers, integer_of_word, address_of_words, const, text, zeros, address, field, index, load, store, add, sub, mul, div, mod_, neg, not_, eq, ne, lt, le, gt, ge, union, minus, meet, in_, member, check, jump, false_, and, or, loop, entry, call, call_p, proc, return, halt, when, retry, done, cobegin, exit, quiet}
+use Rattle.std.specs.Prelude.{◌≡◌, ℕ, ◌+◌, ◌*◌, ◌^◌, ◌<◌, All, ◌↔◌, true, nat_lt, if◌then◌else◌, List, [], ◌∷◌, ◌++◌, take, drop, length, slice_get, Option}
+use Rattle.std.specs.Prelude.{Some, None}
+use Rattle.edi_target.specs.Op.{Instruction, Branch, words_of, is_allowed, has_integers, integer_of_word, address_of_words, const, text, zeros, address}
+use Rattle.edi_target.specs.Op.{field, index, load, store, add, sub, mul, div, mod_, neg, not_, eq, ne, lt, le, gt, ge, union, minus, meet, in_, member}
+use Rattle.edi_target.specs.Op.{check, jump, false_, and, or, loop, entry, call, call_p, proc, return, halt, when, retry, done, cobegin, exit, quiet}
 
 -- how operands are read from the words behind the number: the instruction, and the number of words of both together; none
 -- where the words end before the operands do

@@ -6,7 +6,8 @@
 --     bytes 8 to 11     the address of the entry
 --     byte 12           the number of the program's parameters
 --     from byte 13 on   their call numbers, one byte each, and zeros up to byte 31
-use Rattle.std.specs.Prelude.{ℕ, ◌+◌, ◌-◌, ◌*◌, ◌^◌, ◌/◌, ◌%◌, ◌||◌, ◌==◌, nat_le, List, [], ◌∷◌, ◌++◌, take, drop, length, replicate, slice_index, Option, None}
+use Rattle.std.specs.Prelude.{ℕ, ◌+◌, ◌-◌, ◌*◌, ◌^◌, ◌/◌, ◌%◌, ◌||◌, ◌==◌, nat_le, List, [], ◌∷◌, ◌++◌, take, drop, length, replicate, slice_index, Option}
+use Rattle.std.specs.Prelude.{None}
 use Rattle.edi_target.specs.Check.{CodeParts, unless, or_else, fields_fault, words_fault}
 use Rattle.edi_target.specs.declared.code_fault.CodeFault.{CodeFault}
 use Rattle.edi_target.specs.declared.code_fault.CodeFault.TheVariants as fault

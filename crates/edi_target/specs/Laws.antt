@@ -45,5 +45,6 @@ RunsAreDetermined =
 -- a run ends by its turns only where none is left, however many choices were drawn before it
 abbrev pub EndsByTurnsSpent : Type 0
 EndsByTurnsSpent =
-    (fetch : ℕ → Option (Instruction × ℕ)) (entry : ℕ) (calls : List ℕ) (system : State) (bound : ℕ) (choices : Choices) (before : ℕ) (m : Machine) (drawn : ℕ) (past : List State) →
+    (fetch : ℕ → Option (Instruction × ℕ)) (entry : ℕ) (calls : List ℕ) (system : State) (bound : ℕ) (choices : Choices) (before : ℕ) (m : Machine)
+    (drawn : ℕ) (past : List State) →
     EndsThrough fetch entry calls system bound choices before outcome.turns m drawn past → m.turns ≡ 0

@@ -1,7 +1,8 @@
 -- Definition. The abstract machine: the activities of all live processes in one memory of 65,536 words. It takes a process from
 -- the list of ready ones, runs its instructions one by one until it arrives at a `when`, forks or ends, and takes the
 -- next.
-use Rattle.std.specs.Prelude.{◌≡◌, ℕ, zero, suc, ◌+◌, ◌-◌, ◌/◌, ◌<◌, ◌≤◌, ◌⊎◌, Bool, true, false, if◌then◌else◌, List, [], ◌∷◌, ◌++◌, length, Option, Some, None}
+use Rattle.std.specs.Prelude.{◌≡◌, ℕ, zero, suc, ◌+◌, ◌-◌, ◌/◌, ◌<◌, ◌≤◌, ◌⊎◌, Bool, true, false, if◌then◌else◌, List, [], ◌∷◌, ◌++◌, length, Option, Some}
+use Rattle.std.specs.Prelude.{None}
 use Rattle.edi_calls.specs.declared.kinds.Cause.{Cause}
 use Rattle.edi_calls.specs.declared.kinds.Cause.TheVariants as cause
 use Rattle.edi_calls.specs.State.{State}
@@ -14,7 +15,8 @@ use Rattle.edi_target.specs.Op as op
 use Rattle.edi_target.specs.Op.{Instruction, Branch}
 use Rattle.edi_store.specs.Memory.{written, zero_memory}
 use Rattle.edi_calls.specs.Ready.{child, parent_of, children, all_marked, Next, stays, joins, Taking, nobody, taking, take_next}
-use Rattle.edi_target.specs.Effect.{Local, Turn, entering, leaving, looping, arriving, again, forking, exiting, finishing, Effect, goes, released, asks, due, fails, bad}
+use Rattle.edi_target.specs.Effect.{Local, Turn, entering, leaving, looping, arriving, again, forking, exiting, finishing, Effect, goes, released, asks, due}
+use Rattle.edi_target.specs.Effect.{fails, bad}
 use Rattle.edi_target.specs.Perform.{perform}
 
 -- ---- one activity

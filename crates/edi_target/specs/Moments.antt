@@ -64,7 +64,8 @@ history_from_start fetch entry calls system bound choices before n =
     history_after choices (history fetch choices n) [] [] before [] (entered (fetch entry) entry calls bound system)
 
 -- the run ends so after some number of instructions, with this past
-abbrev pub EndsThrough : (ℕ → Option (Instruction × ℕ)) → (entry : ℕ) → List ℕ → State → ℕ → Choices → (before : ℕ) → Ending → Machine → ℕ → (past : List State) → Type 0
+abbrev pub EndsThrough : (ℕ → Option (Instruction × ℕ)) → (entry : ℕ) → List ℕ → State → ℕ → Choices → (before : ℕ) → Ending → Machine → ℕ
+    → (past : List State) → Type 0
 EndsThrough fetch entry calls system bound choices before ending m drawn past =
     (n : ℕ) × (after_step choices (run fetch choices n) [] [] before (entered (fetch entry) entry calls bound system) ≡ finished ending m drawn)
     × (history_from_start fetch entry calls system bound choices before n ≡ past)
@@ -80,33 +81,39 @@ module _ (fetch : ℕ → Option (Instruction × ℕ)) (entry : ℕ) (calls : Li
   -- a run has one end, and one past there
   abbrev pub EndIsDetermined : Type 0
   EndIsDetermined =
-      (one other : Ending) (m m' : Machine) (drawn drawn' : ℕ) (past past' : List State) → EndsThrough fetch entry calls system bound choices before one m drawn past →
+      (one other : Ending) (m m' : Machine) (drawn drawn' : ℕ) (past past' : List State) → EndsThrough fetch entry calls system bound choices before one m
+      drawn past →
       EndsThrough fetch entry calls system bound choices before other m' drawn' past' → (one ≡ other) × (m ≡ m') × (drawn ≡ drawn') × (past ≡ past')
 
   -- and it comes through the states of its past, and the first one, and no others
   abbrev pub ComesThroughItsPast : Type 0
   ComesThroughItsPast =
-      (ending : Ending) (m : Machine) (drawn : ℕ) (past : List State) (moment : State) → EndsThrough fetch entry calls system bound choices before ending m drawn past →
+      (ending : Ending) (m : Machine) (drawn : ℕ) (past : List State) (moment : State) → EndsThrough fetch entry calls system bound choices before ending m
+      drawn past →
       (ComesThrough fetch entry calls system bound choices before moment → Contains (moments_of system past) moment)
       × (Contains (moments_of system past) moment → ComesThrough fetch entry calls system bound choices before moment)
 
   -- a past grows along the run
   abbrev pub PastGrows : Type 0
   PastGrows =
-      (n k : ℕ) → n ≤ k → (news : List State) × (history_from_start fetch entry calls system bound choices before k ≡ news ++ history_from_start fetch entry calls system bound choices before n)
+      (n k : ℕ) → n ≤ k → (news : List State) ×
+      (history_from_start fetch entry calls system bound choices before k ≡ news ++ history_from_start fetch entry calls system bound choices before n)
 
   -- its last state is the system at the end of the run
   abbrev pub SystemIsNewest : Type 0
   SystemIsNewest =
-      (ending : Ending) (m : Machine) (drawn : ℕ) (past : List State) → EndsThrough fetch entry calls system bound choices before ending m drawn past → newest system past ≡ m.system
+      (ending : Ending) (m : Machine) (drawn : ℕ) (past : List State) → EndsThrough fetch entry calls system bound choices before ending m drawn past
+      → newest system past ≡ m.system
 
 -- so of every run
 abbrev pub OfEveryRun : ((ℕ → Option (Instruction × ℕ)) → ℕ → List ℕ → State → ℕ → Choices → ℕ → Type 0) → Type 0
 OfEveryRun Law =
-    (fetch : ℕ → Option (Instruction × ℕ)) (entry : ℕ) (calls : List ℕ) (system : State) (bound : ℕ) (choices : Choices) (before : ℕ) → Law fetch entry calls system bound choices before
+    (fetch : ℕ → Option (Instruction × ℕ)) (entry : ℕ) (calls : List ℕ) (system : State) (bound : ℕ) (choices : Choices) (before : ℕ)
+    → Law fetch entry calls system bound choices before
 
 -- and every run of every code ends, however many choices were drawn before it
 abbrev pub EveryRunEndsThrough : Type 0
 EveryRunEndsThrough =
     (words : List ℕ) (entry : ℕ) (calls : List ℕ) (system : State) (bound : ℕ) (choices : Choices) (before : ℕ) →
-    (ending : Ending) × (m : Machine) × (drawn : ℕ) × (past : List State) × EndsThrough (code.fetch words) entry calls system bound choices before ending m drawn past
+    (ending : Ending) × (m : Machine) × (drawn : ℕ) × (past : List State) × EndsThrough (code.fetch words) entry calls system bound choices before ending m
+    drawn past

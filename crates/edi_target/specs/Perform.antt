@@ -1,6 +1,7 @@
 -- Definition. The instructions, one clause each. Every clause says what the instruction does; where its frame, its operands or the
 -- memory do not allow that, it is refused.
-use Rattle.std.specs.Prelude.{ℕ, zero, suc, ◌+◌, ◌-◌, ◌*◌, ◌/◌, ◌^◌, Bool, true, false, ◌&&◌, not, nat_eq, nat_lt, nat_le, if◌then◌else◌, List, [], ◌∷◌, length, replicate, Option, Some, None, ℤ, ◌-ℤ◌, int_lt, int_le, nat_abs}
+use Rattle.std.specs.Prelude.{ℕ, zero, suc, ◌+◌, ◌-◌, ◌*◌, ◌/◌, ◌^◌, Bool, true, false, ◌&&◌, not, nat_eq, nat_lt, nat_le, if◌then◌else◌, List, [], ◌∷◌}
+use Rattle.std.specs.Prelude.{length, replicate, Option, Some, None, ℤ, ◌-ℤ◌, int_lt, int_le, nat_abs}
 use Rattle.std.specs.List.{list_any}
 use Rattle.std.specs.Str.{bytes_eq}
 use Rattle.edi_calls.specs.declared.kinds.Cause.TheVariants as cause
@@ -11,7 +12,8 @@ use Rattle.edi_target.specs.Op as op
 use Rattle.edi_target.specs.Op.{Instruction, Branch, high_word, low_word, address_of_words}
 use Rattle.edi_store.specs.Memory.{words_at, written}
 use Rattle.edi_target.specs.Memory.{word, level}
-use Rattle.edi_target.specs.Effect.{Local, leaving, looping, arriving, again, forking, exiting, finishing, Effect, goes, released, asks, due, fails, bad, push, pop, pop_word, look, within, needs, to, in_range, truth, enter}
+use Rattle.edi_target.specs.Effect.{Local, leaving, looping, arriving, again, forking, exiting, finishing, Effect, goes, released, asks, due, fails, bad}
+use Rattle.edi_target.specs.Effect.{push, pop, pop_word, look, within, needs, to, in_range, truth, enter}
 
 -- ---- groups of instructions
 

@@ -1,7 +1,9 @@
 -- Words of contracts. The instruction that a value of the code's type `Op` is.
 use Rattle.std.specs.Prelude.{◌≡◌, ℕ, ◌%◌, ◌-◌, Bool, true, ◌==◌, List, drop, length, Option, Some}
 use Rattle.std.specs.Option.{option_map}
-use Rattle.edi_target.specs.Op.{Instruction, const, text, zeros, address, field, index, load, store, add, sub, mul, div, mod_, neg, not_, eq, ne, lt, le, gt, ge, union, minus, meet, in_, member, check, jump, false_, and, or, loop, entry, call, call_p, proc, return, halt, when, retry, done, cobegin, exit, quiet}
+use Rattle.edi_target.specs.Op.{Instruction, const, text, zeros, address, field, index, load, store, add, sub, mul, div, mod_, neg, not_, eq, ne, lt, le, gt}
+use Rattle.edi_target.specs.Op.{ge, union, minus, meet, in_, member, check, jump, false_, and, or, loop, entry, call, call_p, proc, return, halt, when}
+use Rattle.edi_target.specs.Op.{retry, done, cobegin, exit, quiet}
 use Rattle.edi_target.specs.Decode.{Reads, branches_of, decode}
 use Rattle.edi_target.specs.declared.op.Op.{Op}
 use Rattle.edi_target.specs.declared.op.Op.TheVariants as code

@@ -3,7 +3,8 @@
 ghost use Rattle.std.specs.Prelude.{◌≡◌, ◌<◌, ◌^◌, ℕ, None, drop, length};
 ghost use Rattle.edi_target.specs.Op.{Branch};
 ghost use Rattle.edi_target.specs.Decode.{branches_of, decode};
-ghost use Rattle.edi_target.specs.Check.{MarkStarts, entry_fault, first_fault, is_entry, is_marked, is_program, jump_fault, or_else, starts_of, targets_fault, unless};
+ghost use Rattle.edi_target.specs.Check.{MarkStarts, entry_fault, first_fault, is_entry, is_marked, is_program, jump_fault, or_else, starts_of};
+ghost use Rattle.edi_target.specs.Check.{targets_fault, unless};
 ghost use Rattle.edi_target.specs.View.{instruction_of};
 ghost use Rattle.edi_target.specs.declared.code_fault.CodeFault.TheVariants as fault;
 

@@ -3,7 +3,11 @@ use Rattle.std.proofs.Common.{◌≡◌, ℕ, zero, suc, List, [], ◌∷◌, Bo
 use Rattle.std.specs.Prelude.{nat_lt}
 use Rattle.edi_grammar.specs.Grammar.{Part, token, level_end, part, rule_no}
 use Rattle.edi_grammar.specs.Fair.{both}
-use Rattle.edi_grammar.specs.Rules.{Sort, Program, Globals, Global, ConstList, ConstDecls, ConstDecl, Constant, Code, TypeDecl, Names, Group, Groups, VarList, Head, Params, MoreParams, Result, Param, Procedure, Item, Module, Member, Members, Declaration, Declarations, StatementList, Statements, Statement, After, Args, Exprs, Selectors, Selector, Conditions, Condition, Else, Branch, Branches, Expr, Comparison, Relation, Simple, Sign, Addends, Addend, Addition, Term, Multipliers, Multiplier, Multiplication, Factor, Behind, rules}
+use Rattle.edi_grammar.specs.Rules.{Sort, Program, Globals, Global, ConstList, ConstDecls, ConstDecl, Constant, Code, TypeDecl, Names, Group, Groups}
+use Rattle.edi_grammar.specs.Rules.{VarList, Head, Params, MoreParams, Result, Param, Procedure, Item, Module, Member, Members, Declaration, Declarations}
+use Rattle.edi_grammar.specs.Rules.{StatementList, Statements, Statement, After, Args, Exprs, Selectors, Selector, Conditions, Condition, Else, Branch}
+use Rattle.edi_grammar.specs.Rules.{Branches, Expr, Comparison, Relation, Simple, Sign, Addends, Addend, Addition, Term, Multipliers, Multiplier}
+use Rattle.edi_grammar.specs.Rules.{Multiplication, Factor, Behind, rules}
 use Rattle.edi_grammar.specs.Edison.{null}
 
 pub left : (a b : Bool) → both a b ≡ true → a ≡ true

@@ -1,5 +1,6 @@
 -- Each text has a first fault or a unit.
-use Rattle.std.proofs.Common.{◌≡◌, ◌⊎◌, ℕ, zero, suc, ◌+◌, List, [], ◌∷◌, ◌++◌, length, Bool, true, false, Option, Some, Result, Ok, Err, refl, sym, ap, subst, ◌∙◌, inl, inr, if◌then◌else◌}
+use Rattle.std.proofs.Common.{◌≡◌, ◌⊎◌, ℕ, zero, suc, ◌+◌, List, [], ◌∷◌, ◌++◌, length, Bool, true, false, Option, Some, Result, Ok, Err, refl, sym, ap}
+use Rattle.std.proofs.Common.{subst, ◌∙◌, inl, inr, if◌then◌else◌}
 use Rattle.edi_lex.specs.declared.symbol.Mark.{Mark}
 use Rattle.edi_lex.specs.declared.fault.LexFault.{LexFault}
 use Rattle.edi_lex.specs.declared.fault.LexFault.TheVariants as lex

@@ -9,7 +9,8 @@ WhereTold-map P Q None (Some y) follows told = told
 WhereTold-map P Q (Some x) (Some y) follows told = follows x y told
 
 -- two calls after one another
-pub WhereTold-then : {A : Type 0} (P Q R : A → A → Type 0) (before between now : Option A) → ((x y z : A) → P x y → Q y z → R x z) → WhereTold before between P → WhereTold between now Q → WhereTold before now R
+pub WhereTold-then : {A : Type 0} (P Q R : A → A → Type 0) (before between now : Option A) → ((x y z : A) → P x y → Q y z → R x z)
+    → WhereTold before between P → WhereTold between now Q → WhereTold before now R
 WhereTold-then P Q R before between None follows first second = tt
 WhereTold-then P Q R before None (Some z) follows first second = absurd second
 WhereTold-then P Q R None (Some y) (Some z) follows first second = first

@@ -1,5 +1,6 @@
 -- Files cut into lines.
-use Rattle.std.proofs.Common.{◌≡◌, ℕ, suc, ◌+◌, ◌<◌, ◌≤◌, Bool, true, false, cond, List, [], ◌∷◌, length, take, drop, Some, None, refl, ap, ◌∙◌, arith, ltb-true, ltb-false}
+use Rattle.std.proofs.Common.{◌≡◌, ℕ, suc, ◌+◌, ◌<◌, ◌≤◌, Bool, true, false, cond, List, [], ◌∷◌, length, take, drop, Some, None, refl, ap, ◌∙◌, arith}
+use Rattle.std.proofs.Common.{ltb-true, ltb-false}
 use Rattle.std.specs.Prelude.{not, nat_lt, position}
 use Rattle.std.specs.List.{slice_split, onto_first, position_or_len}
 

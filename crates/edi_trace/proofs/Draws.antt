@@ -1,5 +1,6 @@
 -- Draws, one after another.
-use Rattle.std.proofs.Common.{◌≡◌, ℕ, zero, suc, ◌+◌, ◌-◌, ◌*◌, ◌%◌, ◌^◌, ◌<◌, ◌≤◌, min, inl, inr, sym, subst, List, [], ◌∷◌, ◌++◌, length, refl, ap, ◌∙◌, arith, add-one, length-append}
+use Rattle.std.proofs.Common.{◌≡◌, ℕ, zero, suc, ◌+◌, ◌-◌, ◌*◌, ◌%◌, ◌^◌, ◌<◌, ◌≤◌, min, inl, inr, sym, subst, List, [], ◌∷◌, ◌++◌, length, refl, ap, ◌∙◌}
+use Rattle.std.proofs.Common.{arith, add-one, length-append}
 use Rattle.edi_calls.specs.Choice.{Choices, choice, first_choices, generated}
 use Rattle.std.proofs.lemmas.Bool.{cases_lt}
 use Rattle.edi_trace.specs.declared.choices.Source.{Source}

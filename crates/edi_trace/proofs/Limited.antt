@@ -1,5 +1,6 @@
 -- The first bytes of a file of choices decide how it is read.
-use Rattle.std.proofs.Common.{◌≡◌, ℕ, zero, suc, ◌+◌, ◌-◌, ◌*◌, ◌<◌, ◌≤◌, Bool, true, false, ◌&&◌, if◌then◌else◌, nat_le, cond, List, [], ◌∷◌, ◌++◌, length, take, drop, refl, sym, subst, ap, ◌∙◌, arith, leb-true, leb-false, append_assoc, length-append}
+use Rattle.std.proofs.Common.{◌≡◌, ℕ, zero, suc, ◌+◌, ◌-◌, ◌*◌, ◌<◌, ◌≤◌, Bool, true, false, ◌&&◌, if◌then◌else◌, nat_le, cond, List, [], ◌∷◌, ◌++◌, length}
+use Rattle.std.proofs.Common.{take, drop, refl, sym, subst, ap, ◌∙◌, arith, leb-true, leb-false, append_assoc, length-append}
 use Rattle.std.specs.List.{slice_split, onto_first, list_all}
 use Rattle.std.proofs.lemmas.List.{length-take-le, take_all, take-append-drop}
 use Rattle.edi_trace.specs.Lines.{Reading, values, bad_line, is_digit, number_of, is_choice, is_line_feed, with_value, read_rest, read_parts, read_of}
@@ -69,7 +70,8 @@ split_bytes : (bytes : List ℕ) → bytes_in (slice_split is_line_feed bytes) �
 split_bytes [] = refl
 split_bytes (b ∷ bytes) = go (is_line_feed b) (slice_split is_line_feed bytes) (some_part bytes) (split_bytes bytes)
   where
-    go : (t : Bool) (parts : List (List ℕ)) → Some-part parts → bytes_in parts ≡ length bytes → bytes_in (cond t ([] ∷ parts) (onto_first b parts)) ≡ suc (length bytes)
+    go : (t : Bool) (parts : List (List ℕ)) → Some-part parts → bytes_in parts ≡ length bytes → bytes_in (cond t ([] ∷ parts) (onto_first b parts)) ≡ suc
+        (length bytes)
     go true parts s e =
         let here : bytes_in ([] ∷ parts) ≡ bytes_in ([] ∷ s.0 ∷ s.1) = ap (λ x. bytes_in ([] ∷ x)) s.2 in
         let there : bytes_in parts ≡ bytes_in (s.0 ∷ s.1) = ap bytes_in s.2 in
@@ -95,10 +97,12 @@ Bad n one other = (k : ℕ) × (one ≡ bad_line k) × (other ≡ bad_line k)
 
 read_more : (n : ℕ) (line : List ℕ) (parts : List (List ℕ)) → Some-part parts →
     read_parts n (line ∷ parts) ≡ (if is_choice line && nat_le n 65536 then with_value (number_of line) (read_parts (n + 1) parts) else bad_line n)
-read_more n line parts s = subst (λ x. read_parts n (line ∷ x) ≡ (if is_choice line && nat_le n 65536 then with_value (number_of line) (read_parts (n + 1) x) else bad_line n)) (sym s.2) refl
+read_more n line parts s = subst (λ x. read_parts n (line ∷ x)
+    ≡ (if is_choice line && nat_le n 65536 then with_value (number_of line) (read_parts (n + 1) x) else bad_line n)) (sym s.2) refl
 
 -- the last part: some bytes, or five at least where a further line might still be read
-last_bad : (n : ℕ) (rest : List ℕ) (others : List (List ℕ)) → 0 < length rest → (n ≤ 65536 → 3 < length rest) → Bad n (read_parts n (rest ∷ [])) (read_parts n (joined (rest ∷ []) others))
+last_bad : (n : ℕ) (rest : List ℕ) (others : List (List ℕ)) → 0 < length rest → (n ≤ 65536 → 3 < length rest) → Bad n (read_parts n (rest ∷ []))
+    (read_parts n (joined (rest ∷ []) others))
 last_bad n [] others some long = absurd (omega (arith, some))
 last_bad n (c ∷ rest) [] some long = (n, refl, refl)
 last_bad n (c ∷ rest) (first ∷ []) some long = (n, refl, refl)
@@ -113,12 +117,14 @@ last_bad n (c ∷ rest) (first ∷ next ∷ others) some long = (n, refl, go (is
         absurd (omega (arith, short, long', length-append (c ∷ rest) first))
     go false e = refl
 
-stays_bad : (n : ℕ) (parts others : List (List ℕ)) → 1 ≤ n → n ≤ 65537 → 262149 ≤ bytes_in parts + 4 * n → Bad n (read_parts n parts) (read_parts n (joined parts others))
+stays_bad : (n : ℕ) (parts others : List (List ℕ)) → 1 ≤ n → n ≤ 65537 → 262149 ≤ bytes_in parts + 4 * n
+    → Bad n (read_parts n parts) (read_parts n (joined parts others))
 stays_bad n [] others from to many = absurd (omega (arith, from, to, many))
 stays_bad n (rest ∷ []) others from to many = last_bad n rest others (omega (arith, to, many)) (λ early. omega (arith, early, many))
 stays_bad n (line ∷ part ∷ parts) others from to many = go (stays_bad (n + 1) (part ∷ parts) others) (is_choice line && nat_le n 65536) refl
   where
-    go : (1 ≤ n + 1 → n + 1 ≤ 65537 → 262149 ≤ bytes_in (part ∷ parts) + 4 * (n + 1) → Bad (n + 1) (read_parts (n + 1) (part ∷ parts)) (read_parts (n + 1) (joined (part ∷ parts) others))) →
+    go : (1 ≤ n + 1 → n + 1 ≤ 65537 → 262149 ≤ bytes_in (part ∷ parts) + 4 * (n + 1) → Bad (n + 1) (read_parts (n + 1) (part ∷ parts))
+        (read_parts (n + 1) (joined (part ∷ parts) others))) →
         (t : Bool) → (is_choice line && nat_le n 65536) ≡ t → Bad n (read_parts n (line ∷ part ∷ parts)) (read_parts n (line ∷ joined (part ∷ parts) others))
     go next true e =
         let short : length line ≤ 3 = choice_short line (and_first (is_choice line) (nat_le n 65536) e) in
@@ -128,7 +134,8 @@ stays_bad n (line ∷ part ∷ parts) others from to many = go (stays_bad (n + 1
           rest.0,
           ap (λ t. if t then with_value (number_of line) (read_parts (n + 1) (part ∷ parts)) else bad_line n) e ∙ ap (with_value (number_of line)) rest.1,
           read_more n line (joined (part ∷ parts) others) (joined_some part parts others)
-              ∙ ap (λ t. if t then with_value (number_of line) (read_parts (n + 1) (joined (part ∷ parts) others)) else bad_line n) e ∙ ap (with_value (number_of line)) rest.2,
+              ∙ ap (λ t. if t then with_value (number_of line) (read_parts (n + 1) (joined (part ∷ parts) others)) else bad_line n) e
+              ∙ ap (with_value (number_of line)) rest.2,
         )
     go next false e = (
       n,
@@ -146,7 +153,8 @@ pub first_bytes_decide : FirstBytesDecide
 first_bytes_decide bytes = go (nat_le (length bytes) 262145) refl
   where
     go : (b : Bool) → nat_le (length bytes) 262145 ≡ b →
-        (read_of (take most_fetched bytes) ≡ read_of bytes) × ((choices : List ℕ) → read_of (take most_fetched bytes) ≡ values choices → take most_fetched bytes ≡ bytes)
+        (read_of (take most_fetched bytes) ≡ read_of bytes)
+        × ((choices : List ℕ) → read_of (take most_fetched bytes) ≡ values choices → take most_fetched bytes ≡ bytes)
     go true e =
         let all : take most_fetched bytes ≡ bytes = take_all most_fetched bytes (leb-true (length bytes) 262145 e) in
         (ap read_of all, λ choices is. all)

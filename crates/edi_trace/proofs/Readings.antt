@@ -1,5 +1,6 @@
 -- Files of choices, read line by line.
-use Rattle.std.proofs.Common.{◌≡◌, ℕ, ◌+◌, ◌<◌, ◌≤◌, Bool, true, false, cond, List, [], ◌∷◌, ◌++◌, length, refl, sym, ap, ◌∙◌, subst, arith, append-nil, append_assoc, le-leb, leb-true, length-append, Some, None, Ok, Err}
+use Rattle.std.proofs.Common.{◌≡◌, ℕ, ◌+◌, ◌<◌, ◌≤◌, Bool, true, false, cond, List, [], ◌∷◌, ◌++◌, length, refl, sym, ap, ◌∙◌, subst, arith, append-nil}
+use Rattle.std.proofs.Common.{append_assoc, le-leb, leb-true, length-append, Some, None, Ok, Err}
 use Rattle.std.specs.Prelude.{nat_le, ◌&&◌, if◌then◌else◌, ⊤}
 use Rattle.std.specs.List.{slice_split, onto_first}
 use Rattle.edi_trace.specs.Drawn.{most_kept}
@@ -67,9 +68,11 @@ stands_last list rest all h e =
 pub stands_line : (list rest all line after : List ℕ) (t : Bool) → LinesStand list rest all
     → slice_split is_line_feed rest ≡ line ∷ slice_split is_line_feed after
     → (is_choice line && nat_le (length list + 1) most_kept) ≡ t
-    → with_values list (if t then with_value (number_of line) (read_parts (length list + 1 + 1) (slice_split is_line_feed after)) else bad_line (length list + 1)) ≡ read_of all
+    → with_values list (if t then with_value (number_of line) (read_parts (length list + 1 + 1) (slice_split is_line_feed after)) else bad_line
+    (length list + 1)) ≡ read_of all
 stands_line list rest all line after t h cut e =
-    ap (λ b. with_values list (if b then with_value (number_of line) (read_parts (length list + 1 + 1) (slice_split is_line_feed after)) else bad_line (length list + 1))) (sym e)
+    ap (λ b. with_values list (if b then with_value (number_of line) (read_parts (length list + 1 + 1) (slice_split is_line_feed after)) else bad_line
+    (length list + 1))) (sym e)
     ∙ ap (with_values list) (sym (read_cut (length list + 1) rest line after cut)) ∙ h.so
 
 pub stands_more : (list rest all line after : List ℕ) → LinesStand list rest all

@@ -1,5 +1,6 @@
 -- Files of choices, as they are written.
-use Rattle.std.proofs.Common.{◌≡◌, ℕ, zero, suc, ◌+◌, ◌<◌, ◌≤◌, Bool, true, false, cond, List, [], ◌∷◌, ◌++◌, length, take, get_or, refl, sym, ap, ◌∙◌, arith, append_assoc, le-leb, inl, inr, eqb-true}
+use Rattle.std.proofs.Common.{◌≡◌, ℕ, zero, suc, ◌+◌, ◌<◌, ◌≤◌, Bool, true, false, cond, List, [], ◌∷◌, ◌++◌, length, take, get_or, refl, sym, ap, ◌∙◌}
+use Rattle.std.proofs.Common.{arith, append_assoc, le-leb, inl, inr, eqb-true}
 use Rattle.std.specs.Prelude.{not, nat_le, ◌&&◌, ◌==◌, if◌then◌else◌, decimal}
 use Rattle.std.specs.List.{slice_split, onto_first, list_all}
 use Rattle.std.proofs.lemmas.List.{take_more}

@@ -12,7 +12,8 @@ branches_deepest end [] = refl
 branches_deepest end (b ∷ bs) = ap (max (branch_depth b.opened)) (branches_deepest b.end bs)
 
 -- a loop over branches at its end
-pub branches_seen : (bs left : List ClosedBranch) (depth end : ℕ) → left ≡ [] → limited (max depth (deepest left)) ≡ limited (max 0 (deepest bs)) → depth ≤ 65 → depth ≡ limited (branches_depth (branches end bs))
+pub branches_seen : (bs left : List ClosedBranch) (depth end : ℕ) → left ≡ [] → limited (max depth (deepest left)) ≡ limited (max 0 (deepest bs)) → depth ≤ 65
+    → depth ≡ limited (branches_depth (branches end bs))
 branches_seen bs left depth end none seen small =
     let h = branches_deepest end bs in
     let e : limited (max depth 0) ≡ limited (max 0 (deepest bs)) = subst (λ l. limited (max depth (deepest l)) ≡ limited (max 0 (deepest bs))) none seen in

@@ -17,9 +17,33 @@ use Rattle.edi_tree.specs.declared.expressions.Sign.{Sign}
 use Rattle.edi_tree.specs.declared.expressions.Sign.TheVariants as sign
 use Rattle.edi_tree.specs.declared.expressions.Root.{Root}
 use Rattle.edi_tree.specs.declared.expressions.Root.TheVariants as root
-use Rattle.edi_tree.specs.Tree.{Names, no_name, next_name, ConstDecls, no_const_decl, next_const_decl, ConstList, const_list, Group, group, Groups, no_group, next_group, TypeDecl, enum_decl, record_decl, array_decl, set_decl, VarList, var_list, Heading, heading, Params, no_params, params, MoreParams, no_param, next_param, Param, value_param, var_param, procedure_param, Expr, expr, Comparison, no_comparison, compared, Exprs, no_expr, next_expr, Simple, simple, Addend, addend, Addends, no_addend, next_addend, Term, term, Multiplier, multiplier, Multipliers, no_multiplier, next_multiplier, Factor, numeral, string, not_factor, parenthesized, call_factor, variable_factor, Args, args, Variable, variable, Selector, field, index, Selectors, no_selector, next_selector, StatementList, list, Statements, no_statement, next_statement, Statement, skip, assignment, call, if_statement, while_statement, when_statement, cobegin, Conditions, conditions, Condition, condition, Else, no_else, next_else, Branch, branch, Branches, no_branch, next_branch, Procedure, procedure, Item, const_item, type_item, var_item, procedure_item, pre_item, post_item, Module, module_with, Member, item_member, exported_member, module_member, Members, no_member, next_member, Declaration, item_declaration, module_declaration, Declarations, no_declaration, next_declaration, Global, const_global, type_global, Globals, no_global, next_global, Program, program}
-use Rattle.edi_tree.specs.Depth.{constant_depth, const_decl_depth, const_decls_depth, const_list_depth, type_decl_depth, heading_depth, params_depth, more_params_depth, param_depth, expr_depth, comparison_depth, exprs_depth, simple_depth, addend_depth, addends_depth, term_depth, multiplier_depth, multipliers_depth, factor_depth, args_depth, variable_depth, selector_depth, selectors_depth, optional_args_depth, list_depth, statements_depth, statement_depth, conditions_depth, condition_depth, else_depth, branch_depth, branches_depth, procedure_depth, item_depth, module_depth, member_depth, members_depth, declaration_depth, declarations_depth, global_depth, globals_depth, depth}
-use Rattle.edi_tree.specs.Levels.{Element, mark, level_end, word, kept, named, opens, with_symbol, one_less, greatest_level, names_elements, constant_elements, const_decl_elements, const_decls_elements, const_list_elements, group_elements, groups_elements, type_decl_elements, var_list_elements, result_elements, heading_elements, params_elements, more_params_elements, param_elements, sign_elements, root_elements, expr_elements, comparison_elements, exprs_elements, simple_elements, addend_elements, addends_elements, term_elements, multiplier_elements, multipliers_elements, factor_elements, args_elements, variable_elements, selector_elements, selectors_elements, optional_args_elements, list_elements, statements_elements, statement_elements, conditions_elements, condition_elements, else_elements, branch_elements, branches_elements, procedure_elements, item_elements, module_elements, member_elements, members_elements, declaration_elements, declarations_elements, global_elements, globals_elements, program_elements, elements}
+use Rattle.edi_tree.specs.Tree.{Names, no_name, next_name, ConstDecls, no_const_decl, next_const_decl, ConstList, const_list, Group, group, Groups, no_group}
+use Rattle.edi_tree.specs.Tree.{next_group, TypeDecl, enum_decl, record_decl, array_decl, set_decl, VarList, var_list, Heading, heading, Params, no_params}
+use Rattle.edi_tree.specs.Tree.{params, MoreParams, no_param, next_param, Param, value_param, var_param, procedure_param, Expr, expr, Comparison}
+use Rattle.edi_tree.specs.Tree.{no_comparison, compared, Exprs, no_expr, next_expr, Simple, simple, Addend, addend, Addends, no_addend, next_addend, Term}
+use Rattle.edi_tree.specs.Tree.{term, Multiplier, multiplier, Multipliers, no_multiplier, next_multiplier, Factor, numeral, string, not_factor}
+use Rattle.edi_tree.specs.Tree.{parenthesized, call_factor, variable_factor, Args, args, Variable, variable, Selector, field, index, Selectors, no_selector}
+use Rattle.edi_tree.specs.Tree.{next_selector, StatementList, list, Statements, no_statement, next_statement, Statement, skip, assignment, call}
+use Rattle.edi_tree.specs.Tree.{if_statement, while_statement, when_statement, cobegin, Conditions, conditions, Condition, condition, Else, no_else}
+use Rattle.edi_tree.specs.Tree.{next_else, Branch, branch, Branches, no_branch, next_branch, Procedure, procedure, Item, const_item, type_item, var_item}
+use Rattle.edi_tree.specs.Tree.{procedure_item, pre_item, post_item, Module, module_with, Member, item_member, exported_member, module_member, Members}
+use Rattle.edi_tree.specs.Tree.{no_member, next_member, Declaration, item_declaration, module_declaration, Declarations, no_declaration, next_declaration}
+use Rattle.edi_tree.specs.Tree.{Global, const_global, type_global, Globals, no_global, next_global, Program, program}
+use Rattle.edi_tree.specs.Depth.{constant_depth, const_decl_depth, const_decls_depth, const_list_depth, type_decl_depth, heading_depth, params_depth}
+use Rattle.edi_tree.specs.Depth.{more_params_depth, param_depth, expr_depth, comparison_depth, exprs_depth, simple_depth, addend_depth, addends_depth}
+use Rattle.edi_tree.specs.Depth.{term_depth, multiplier_depth, multipliers_depth, factor_depth, args_depth, variable_depth, selector_depth, selectors_depth}
+use Rattle.edi_tree.specs.Depth.{optional_args_depth, list_depth, statements_depth, statement_depth, conditions_depth, condition_depth, else_depth}
+use Rattle.edi_tree.specs.Depth.{branch_depth, branches_depth, procedure_depth, item_depth, module_depth, member_depth, members_depth, declaration_depth}
+use Rattle.edi_tree.specs.Depth.{declarations_depth, global_depth, globals_depth, depth}
+use Rattle.edi_tree.specs.Levels.{Element, mark, level_end, word, kept, named, opens, with_symbol, one_less, greatest_level, names_elements}
+use Rattle.edi_tree.specs.Levels.{constant_elements, const_decl_elements, const_decls_elements, const_list_elements, group_elements, groups_elements}
+use Rattle.edi_tree.specs.Levels.{type_decl_elements, var_list_elements, result_elements, heading_elements, params_elements, more_params_elements}
+use Rattle.edi_tree.specs.Levels.{param_elements, sign_elements, root_elements, expr_elements, comparison_elements, exprs_elements, simple_elements}
+use Rattle.edi_tree.specs.Levels.{addend_elements, addends_elements, term_elements, multiplier_elements, multipliers_elements, factor_elements}
+use Rattle.edi_tree.specs.Levels.{args_elements, variable_elements, selector_elements, selectors_elements, optional_args_elements, list_elements}
+use Rattle.edi_tree.specs.Levels.{statements_elements, statement_elements, conditions_elements, condition_elements, else_elements, branch_elements}
+use Rattle.edi_tree.specs.Levels.{branches_elements, procedure_elements, item_elements, module_elements, member_elements, members_elements}
+use Rattle.edi_tree.specs.Levels.{declaration_elements, declarations_elements, global_elements, globals_elements, program_elements, elements}
 
 -- the level is not below what it was
 least_with : (more : List Element) (b : Bool) (k : ℕ) → ((k : ℕ) → k ≤ greatest_level k more) → k ≤ greatest_level (if b then suc k else k) more
@@ -55,21 +79,27 @@ names_greatest : (x : Names) (k : ℕ) (more : List Element) → greatest_level 
 names_greatest no_name k more = refl
 names_greatest (next_name n ns) k more = rw (names_greatest ns k more) refl
 
-constant_greatest : (x : Constant) (k : ℕ) (more : List Element) → greatest_level k (constant_elements x more) ≡ max (k + constant_depth x) (greatest_level k more)
+constant_greatest : (x : Constant) (k : ℕ) (more : List Element) → greatest_level k (constant_elements x more) ≡ max (k + constant_depth x)
+    (greatest_level k more)
 constant_greatest (constant.Numeral v) k more = grind (arith, least more k)
 constant_greatest (constant.Char c) k more = grind (arith, least more k)
 constant_greatest (constant.Name n None) k more = grind (arith, least more k)
 constant_greatest (constant.Name n (Some v)) k more = grind (arith, least more k)
 
-const_decl_greatest : (x : ConstDecl) (k : ℕ) (more : List Element) → greatest_level k (const_decl_elements x more) ≡ max (k + const_decl_depth x) (greatest_level k more)
+const_decl_greatest : (x : ConstDecl) (k : ℕ) (more : List Element) → greatest_level k (const_decl_elements x more) ≡ max (k + const_decl_depth x)
+    (greatest_level k more)
 const_decl_greatest d k more = let h1 = constant_greatest d.constant k more in grind (arith, h1, least more k)
 
-const_decls_greatest : (x : ConstDecls) (k : ℕ) (more : List Element) → greatest_level k (const_decls_elements x more) ≡ max (k + const_decls_depth x) (greatest_level k more)
+const_decls_greatest : (x : ConstDecls) (k : ℕ) (more : List Element) → greatest_level k (const_decls_elements x more) ≡ max (k + const_decls_depth x)
+    (greatest_level k more)
 const_decls_greatest no_const_decl k more = grind (arith, least more k)
-const_decls_greatest (next_const_decl d ds) k more = let h1 = const_decl_greatest d k (const_decls_elements ds more) in let h2 = const_decls_greatest ds k more in grind (arith, h1, h2, least more k)
+const_decls_greatest (next_const_decl d ds) k more = let h1 = const_decl_greatest d k (const_decls_elements ds more) in
+    let h2 = const_decls_greatest ds k more in grind (arith, h1, h2, least more k)
 
-const_list_greatest : (x : ConstList) (k : ℕ) (more : List Element) → greatest_level k (const_list_elements x more) ≡ max (k + const_list_depth x) (greatest_level k more)
-const_list_greatest (const_list d ds) k more = let h1 = const_decl_greatest d k (const_decls_elements ds more) in let h2 = const_decls_greatest ds k more in grind (arith, h1, h2, least more k)
+const_list_greatest : (x : ConstList) (k : ℕ) (more : List Element) → greatest_level k (const_list_elements x more) ≡ max (k + const_list_depth x)
+    (greatest_level k more)
+const_list_greatest (const_list d ds) k more = let h1 = const_decl_greatest d k (const_decls_elements ds more) in let h2 = const_decls_greatest ds k more in
+    grind (arith, h1, h2, least more k)
 
 group_greatest : (x : Group) (k : ℕ) (more : List Element) → greatest_level k (group_elements x more) ≡ greatest_level k more
 group_greatest (group n ns t) k more = rw (names_greatest ns k (word is.Colon ∷ named t ∷ more)) refl
@@ -78,10 +108,15 @@ groups_greatest : (x : Groups) (k : ℕ) (more : List Element) → greatest_leve
 groups_greatest no_group k more = refl
 groups_greatest (next_group g gs) k more = rw (group_greatest g k (groups_elements gs more), groups_greatest gs k more) refl
 
-type_decl_greatest : (x : TypeDecl) (k : ℕ) (more : List Element) → greatest_level k (type_decl_elements x more) ≡ max (k + type_decl_depth x) (greatest_level k more)
+type_decl_greatest : (x : TypeDecl) (k : ℕ) (more : List Element) → greatest_level k (type_decl_elements x more) ≡ max (k + type_decl_depth x)
+    (greatest_level k more)
 type_decl_greatest (enum_decl n m ms) k more = let h1 = names_greatest ms (suc k) (word is.Close ∷ level_end ∷ more) in grind (arith, h1, least more k)
-type_decl_greatest (record_decl n g gs) k more = let h1 = group_greatest g (suc k) (groups_elements gs (word is.Close ∷ level_end ∷ more)) in let h2 = groups_greatest gs (suc k) (word is.Close ∷ level_end ∷ more) in grind (arith, h1, h2, least more k)
-type_decl_greatest (array_decl n line lower upper e) k more = let h1 = constant_greatest lower (suc k) (word is.Colon ∷ constant_elements upper (word is.CloseBracket ∷ level_end ∷ word is.Open ∷ named e ∷ word is.Close ∷ level_end ∷ more)) in let h2 = constant_greatest upper (suc k) (word is.CloseBracket ∷ level_end ∷ word is.Open ∷ named e ∷ word is.Close ∷ level_end ∷ more) in grind (arith, h1, h2, least more k)
+type_decl_greatest (record_decl n g gs) k more = let h1 = group_greatest g (suc k) (groups_elements gs (word is.Close ∷ level_end ∷ more)) in
+    let h2 = groups_greatest gs (suc k) (word is.Close ∷ level_end ∷ more) in grind (arith, h1, h2, least more k)
+type_decl_greatest (array_decl n line lower upper e) k more = let h1 = constant_greatest lower (suc k)
+    (word is.Colon ∷ constant_elements upper (word is.CloseBracket ∷ level_end ∷ word is.Open ∷ named e ∷ word is.Close ∷ level_end ∷ more)) in
+    let h2 = constant_greatest upper (suc k) (word is.CloseBracket ∷ level_end ∷ word is.Open ∷ named e ∷ word is.Close ∷ level_end ∷ more) in
+    grind (arith, h1, h2, least more k)
 type_decl_greatest (set_decl n b) k more = grind (arith, least more k)
 
 var_list_greatest : (x : VarList) (k : ℕ) (more : List Element) → greatest_level k (var_list_elements x more) ≡ greatest_level k more
@@ -95,16 +130,21 @@ heading_opens : (h : Heading) → 1 ≤ heading_depth h
 heading_opens (heading n ps r) = omega arith
 
 mutual
-  heading_greatest : (x : Heading) (k : ℕ) (more : List Element) → greatest_level k (heading_elements x more) ≡ max (k + heading_depth x) (greatest_level (suc k) more)
-  heading_greatest (heading n ps r) k more = let h1 = params_greatest ps (suc k) (result_elements r more) in let h2 = result_greatest r (suc k) more in grind (arith, h1, h2, least more (suc k))
+  heading_greatest : (x : Heading) (k : ℕ) (more : List Element) → greatest_level k (heading_elements x more) ≡ max (k + heading_depth x)
+      (greatest_level (suc k) more)
+  heading_greatest (heading n ps r) k more = let h1 = params_greatest ps (suc k) (result_elements r more) in let h2 = result_greatest r (suc k) more in
+      grind (arith, h1, h2, least more (suc k))
 
   params_greatest : (x : Params) (k : ℕ) (more : List Element) → greatest_level k (params_elements x more) ≡ max (k + params_depth x) (greatest_level k more)
   params_greatest no_params k more = grind (arith, least more k)
-  params_greatest (params p ps) k more = let h1 = param_greatest p (suc k) (more_params_elements ps (word is.Close ∷ level_end ∷ more)) in let h2 = more_params_greatest ps (suc k) (word is.Close ∷ level_end ∷ more) in grind (arith, h1, h2, least more k)
+  params_greatest (params p ps) k more = let h1 = param_greatest p (suc k) (more_params_elements ps (word is.Close ∷ level_end ∷ more)) in
+      let h2 = more_params_greatest ps (suc k) (word is.Close ∷ level_end ∷ more) in grind (arith, h1, h2, least more k)
 
-  more_params_greatest : (x : MoreParams) (k : ℕ) (more : List Element) → greatest_level k (more_params_elements x more) ≡ max (k + more_params_depth x) (greatest_level k more)
+  more_params_greatest : (x : MoreParams) (k : ℕ) (more : List Element) → greatest_level k (more_params_elements x more) ≡ max (k + more_params_depth x)
+      (greatest_level k more)
   more_params_greatest no_param k more = grind (arith, least more k)
-  more_params_greatest (next_param p ps) k more = let h1 = param_greatest p k (more_params_elements ps more) in let h2 = more_params_greatest ps k more in grind (arith, h1, h2, least more k)
+  more_params_greatest (next_param p ps) k more = let h1 = param_greatest p k (more_params_elements ps more) in let h2 = more_params_greatest ps k more in
+      grind (arith, h1, h2, least more k)
 
   param_greatest : (x : Param) (k : ℕ) (more : List Element) → greatest_level k (param_elements x more) ≡ max (k + param_depth x) (greatest_level k more)
   param_greatest (value_param g) k more = let h1 = group_greatest g k more in grind (arith, h1, least more k)
@@ -122,35 +162,45 @@ root_greatest (root.Val n) k more = refl
 
 mutual
   expr_greatest : (x : Expr) (k : ℕ) (more : List Element) → greatest_level k (expr_elements x more) ≡ max (k + expr_depth x) (greatest_level k more)
-  expr_greatest (expr s c) k more = let h1 = simple_greatest s k (comparison_elements c more) in let h2 = comparison_greatest c k more in grind (arith, h1, h2, least more k)
+  expr_greatest (expr s c) k more = let h1 = simple_greatest s k (comparison_elements c more) in let h2 = comparison_greatest c k more in
+      grind (arith, h1, h2, least more k)
 
-  comparison_greatest : (x : Comparison) (k : ℕ) (more : List Element) → greatest_level k (comparison_elements x more) ≡ max (k + comparison_depth x) (greatest_level k more)
+  comparison_greatest : (x : Comparison) (k : ℕ) (more : List Element) → greatest_level k (comparison_elements x more) ≡ max (k + comparison_depth x)
+      (greatest_level k more)
   comparison_greatest no_comparison k more = grind (arith, least more k)
   comparison_greatest (compared r line s) k more = rw (stays_relation k r) (let h1 = simple_greatest s k more in grind (arith, h1, least more k))
 
   exprs_greatest : (x : Exprs) (k : ℕ) (more : List Element) → greatest_level k (exprs_elements x more) ≡ max (k + exprs_depth x) (greatest_level k more)
   exprs_greatest no_expr k more = grind (arith, least more k)
-  exprs_greatest (next_expr e es) k more = let h1 = expr_greatest e k (exprs_elements es more) in let h2 = exprs_greatest es k more in grind (arith, h1, h2, least more k)
+  exprs_greatest (next_expr e es) k more = let h1 = expr_greatest e k (exprs_elements es more) in let h2 = exprs_greatest es k more in
+      grind (arith, h1, h2, least more k)
 
   simple_greatest : (x : Simple) (k : ℕ) (more : List Element) → greatest_level k (simple_elements x more) ≡ max (k + simple_depth x) (greatest_level k more)
-  simple_greatest (simple s t ts) k more = let h1 = sign_greatest s k (term_elements t (addends_elements ts more)) in let h2 = term_greatest t k (addends_elements ts more) in let h3 = addends_greatest ts k more in grind (arith, h1, h2, h3, least more k)
+  simple_greatest (simple s t ts) k more = let h1 = sign_greatest s k (term_elements t (addends_elements ts more)) in
+      let h2 = term_greatest t k (addends_elements ts more) in let h3 = addends_greatest ts k more in grind (arith, h1, h2, h3, least more k)
 
   addend_greatest : (x : Addend) (k : ℕ) (more : List Element) → greatest_level k (addend_elements x more) ≡ max (k + addend_depth x) (greatest_level k more)
   addend_greatest (addend o line t) k more = rw (stays_addition k o) (let h1 = term_greatest t k more in grind (arith, h1, least more k))
 
-  addends_greatest : (x : Addends) (k : ℕ) (more : List Element) → greatest_level k (addends_elements x more) ≡ max (k + addends_depth x) (greatest_level k more)
+  addends_greatest : (x : Addends) (k : ℕ) (more : List Element) → greatest_level k (addends_elements x more) ≡ max (k + addends_depth x)
+      (greatest_level k more)
   addends_greatest no_addend k more = grind (arith, least more k)
-  addends_greatest (next_addend t ts) k more = let h1 = addend_greatest t k (addends_elements ts more) in let h2 = addends_greatest ts k more in grind (arith, h1, h2, least more k)
+  addends_greatest (next_addend t ts) k more = let h1 = addend_greatest t k (addends_elements ts more) in let h2 = addends_greatest ts k more in
+      grind (arith, h1, h2, least more k)
 
   term_greatest : (x : Term) (k : ℕ) (more : List Element) → greatest_level k (term_elements x more) ≡ max (k + term_depth x) (greatest_level k more)
-  term_greatest (term f fs) k more = let h1 = factor_greatest f k (multipliers_elements fs more) in let h2 = multipliers_greatest fs k more in grind (arith, h1, h2, least more k)
+  term_greatest (term f fs) k more = let h1 = factor_greatest f k (multipliers_elements fs more) in let h2 = multipliers_greatest fs k more in
+      grind (arith, h1, h2, least more k)
 
-  multiplier_greatest : (x : Multiplier) (k : ℕ) (more : List Element) → greatest_level k (multiplier_elements x more) ≡ max (k + multiplier_depth x) (greatest_level k more)
+  multiplier_greatest : (x : Multiplier) (k : ℕ) (more : List Element) → greatest_level k (multiplier_elements x more) ≡ max (k + multiplier_depth x)
+      (greatest_level k more)
   multiplier_greatest (multiplier o line f) k more = rw (stays_multiplication k o) (let h1 = factor_greatest f k more in grind (arith, h1, least more k))
 
-  multipliers_greatest : (x : Multipliers) (k : ℕ) (more : List Element) → greatest_level k (multipliers_elements x more) ≡ max (k + multipliers_depth x) (greatest_level k more)
+  multipliers_greatest : (x : Multipliers) (k : ℕ) (more : List Element) → greatest_level k (multipliers_elements x more) ≡ max (k + multipliers_depth x)
+      (greatest_level k more)
   multipliers_greatest no_multiplier k more = grind (arith, least more k)
-  multipliers_greatest (next_multiplier f fs) k more = let h1 = multiplier_greatest f k (multipliers_elements fs more) in let h2 = multipliers_greatest fs k more in grind (arith, h1, h2, least more k)
+  multipliers_greatest (next_multiplier f fs) k more = let h1 = multiplier_greatest f k (multipliers_elements fs more) in
+      let h2 = multipliers_greatest fs k more in grind (arith, h1, h2, least more k)
 
   factor_greatest : (x : Factor) (k : ℕ) (more : List Element) → greatest_level k (factor_elements x more) ≡ max (k + factor_depth x) (greatest_level k more)
   factor_greatest (numeral v) k more = grind (arith, least more k)
@@ -161,60 +211,86 @@ mutual
   factor_greatest (variable_factor v) k more = let h1 = variable_greatest v k more in grind (arith, h1, least more k)
 
   args_greatest : (x : Args) (k : ℕ) (more : List Element) → greatest_level k (args_elements x more) ≡ max (k + args_depth x) (greatest_level k more)
-  args_greatest (args e es) k more = let h1 = expr_greatest e (suc k) (exprs_elements es (word is.Close ∷ level_end ∷ more)) in let h2 = exprs_greatest es (suc k) (word is.Close ∷ level_end ∷ more) in grind (arith, h1, h2, least more k)
+  args_greatest (args e es) k more = let h1 = expr_greatest e (suc k) (exprs_elements es (word is.Close ∷ level_end ∷ more)) in
+      let h2 = exprs_greatest es (suc k) (word is.Close ∷ level_end ∷ more) in grind (arith, h1, h2, least more k)
 
-  variable_greatest : (x : Variable) (k : ℕ) (more : List Element) → greatest_level k (variable_elements x more) ≡ max (k + variable_depth x) (greatest_level k more)
-  variable_greatest (variable r ss) k more = let h1 = root_greatest r k (selectors_elements ss more) in let h2 = selectors_greatest ss k more in grind (arith, h1, h2, least more k)
+  variable_greatest : (x : Variable) (k : ℕ) (more : List Element) → greatest_level k (variable_elements x more) ≡ max (k + variable_depth x)
+      (greatest_level k more)
+  variable_greatest (variable r ss) k more = let h1 = root_greatest r k (selectors_elements ss more) in let h2 = selectors_greatest ss k more in
+      grind (arith, h1, h2, least more k)
 
-  selector_greatest : (x : Selector) (k : ℕ) (more : List Element) → greatest_level k (selector_elements x more) ≡ max (k + selector_depth x) (greatest_level k more)
+  selector_greatest : (x : Selector) (k : ℕ) (more : List Element) → greatest_level k (selector_elements x more) ≡ max (k + selector_depth x)
+      (greatest_level k more)
   selector_greatest (field line n) k more = grind (arith, least more k)
   selector_greatest (index line e) k more = let h1 = expr_greatest e (suc k) (word is.CloseBracket ∷ level_end ∷ more) in grind (arith, h1, least more k)
 
-  selectors_greatest : (x : Selectors) (k : ℕ) (more : List Element) → greatest_level k (selectors_elements x more) ≡ max (k + selectors_depth x) (greatest_level k more)
+  selectors_greatest : (x : Selectors) (k : ℕ) (more : List Element) → greatest_level k (selectors_elements x more) ≡ max (k + selectors_depth x)
+      (greatest_level k more)
   selectors_greatest no_selector k more = grind (arith, least more k)
-  selectors_greatest (next_selector s ss) k more = let h1 = selector_greatest s k (selectors_elements ss more) in let h2 = selectors_greatest ss k more in grind (arith, h1, h2, least more k)
+  selectors_greatest (next_selector s ss) k more = let h1 = selector_greatest s k (selectors_elements ss more) in let h2 = selectors_greatest ss k more in
+      grind (arith, h1, h2, least more k)
 
-optional_args_greatest : (x : Option Args) (k : ℕ) (more : List Element) → greatest_level k (optional_args_elements x more) ≡ max (k + optional_args_depth x) (greatest_level k more)
+optional_args_greatest : (x : Option Args) (k : ℕ) (more : List Element) → greatest_level k (optional_args_elements x more) ≡ max (k + optional_args_depth x)
+    (greatest_level k more)
 optional_args_greatest None k more = grind (arith, least more k)
 optional_args_greatest (Some a) k more = let h1 = args_greatest a k more in grind (arith, h1, least more k)
 
 mutual
   list_greatest : (x : StatementList) (k : ℕ) (more : List Element) → greatest_level k (list_elements x more) ≡ max (k + list_depth x) (greatest_level k more)
-  list_greatest (list s ss) k more = let h1 = statement_greatest s k (statements_elements ss more) in let h2 = statements_greatest ss k more in grind (arith, h1, h2, least more k)
+  list_greatest (list s ss) k more = let h1 = statement_greatest s k (statements_elements ss more) in let h2 = statements_greatest ss k more in
+      grind (arith, h1, h2, least more k)
 
-  statements_greatest : (x : Statements) (k : ℕ) (more : List Element) → greatest_level k (statements_elements x more) ≡ max (k + statements_depth x) (greatest_level k more)
+  statements_greatest : (x : Statements) (k : ℕ) (more : List Element) → greatest_level k (statements_elements x more) ≡ max (k + statements_depth x)
+      (greatest_level k more)
   statements_greatest no_statement k more = grind (arith, least more k)
-  statements_greatest (next_statement s ss) k more = let h1 = statement_greatest s k (statements_elements ss more) in let h2 = statements_greatest ss k more in grind (arith, h1, h2, least more k)
+  statements_greatest (next_statement s ss) k more = let h1 = statement_greatest s k (statements_elements ss more) in
+      let h2 = statements_greatest ss k more in grind (arith, h1, h2, least more k)
 
-  statement_greatest : (x : Statement) (k : ℕ) (more : List Element) → greatest_level k (statement_elements x more) ≡ max (k + statement_depth x) (greatest_level k more)
+  statement_greatest : (x : Statement) (k : ℕ) (more : List Element) → greatest_level k (statement_elements x more) ≡ max (k + statement_depth x)
+      (greatest_level k more)
   statement_greatest skip k more = grind (arith, least more k)
-  statement_greatest (assignment v line e) k more = let h1 = variable_greatest v k (kept is.Becomes line ∷ expr_elements e more) in let h2 = expr_greatest e k more in grind (arith, h1, h2, least more k)
+  statement_greatest (assignment v line e) k more = let h1 = variable_greatest v k (kept is.Becomes line ∷ expr_elements e more) in
+      let h2 = expr_greatest e k more in grind (arith, h1, h2, least more k)
   statement_greatest (call n a) k more = let h1 = optional_args_greatest a k more in grind (arith, h1, least more k)
   statement_greatest (if_statement cs) k more = let h1 = conditions_greatest cs (suc k) (word is.End ∷ level_end ∷ more) in grind (arith, h1, least more k)
   statement_greatest (while_statement cs) k more = let h1 = conditions_greatest cs (suc k) (word is.End ∷ level_end ∷ more) in grind (arith, h1, least more k)
-  statement_greatest (when_statement line cs) k more = let h1 = conditions_greatest cs (suc k) (word is.End ∷ level_end ∷ more) in grind (arith, h1, least more k)
-  statement_greatest (cobegin line b bs) k more = let h1 = branch_greatest b (suc k) (branches_elements bs more) in let h2 = branches_greatest bs k more in grind (arith, h1, h2, least more k)
+  statement_greatest (when_statement line cs) k more = let h1 = conditions_greatest cs (suc k) (word is.End ∷ level_end ∷ more) in
+      grind (arith, h1, least more k)
+  statement_greatest (cobegin line b bs) k more = let h1 = branch_greatest b (suc k) (branches_elements bs more) in let h2 = branches_greatest bs k more in
+      grind (arith, h1, h2, least more k)
 
-  conditions_greatest : (x : Conditions) (k : ℕ) (more : List Element) → greatest_level k (conditions_elements x more) ≡ max (k + conditions_depth x) (greatest_level k more)
-  conditions_greatest (conditions c cs) k more = let h1 = condition_greatest c k (else_elements cs more) in let h2 = else_greatest cs k more in grind (arith, h1, h2, least more k)
+  conditions_greatest : (x : Conditions) (k : ℕ) (more : List Element) → greatest_level k (conditions_elements x more) ≡ max (k + conditions_depth x)
+      (greatest_level k more)
+  conditions_greatest (conditions c cs) k more = let h1 = condition_greatest c k (else_elements cs more) in let h2 = else_greatest cs k more in
+      grind (arith, h1, h2, least more k)
 
-  condition_greatest : (x : Condition) (k : ℕ) (more : List Element) → greatest_level k (condition_elements x more) ≡ max (k + condition_depth x) (greatest_level k more)
-  condition_greatest (condition e line l) k more = let h1 = expr_greatest e k (kept is.Do line ∷ list_elements l more) in let h2 = list_greatest l k more in grind (arith, h1, h2, least more k)
+  condition_greatest : (x : Condition) (k : ℕ) (more : List Element) → greatest_level k (condition_elements x more) ≡ max (k + condition_depth x)
+      (greatest_level k more)
+  condition_greatest (condition e line l) k more = let h1 = expr_greatest e k (kept is.Do line ∷ list_elements l more) in let h2 = list_greatest l k more in
+      grind (arith, h1, h2, least more k)
 
   else_greatest : (x : Else) (k : ℕ) (more : List Element) → greatest_level k (else_elements x more) ≡ max (k + else_depth x) (greatest_level k more)
   else_greatest no_else k more = grind (arith, least more k)
-  else_greatest (next_else c cs) k more = let h1 = condition_greatest c k (else_elements cs more) in let h2 = else_greatest cs k more in grind (arith, h1, h2, least more k)
+  else_greatest (next_else c cs) k more = let h1 = condition_greatest c k (else_elements cs more) in let h2 = else_greatest cs k more in
+      grind (arith, h1, h2, least more k)
 
   branch_greatest : (x : Branch) (k : ℕ) (more : List Element) → greatest_level k (branch_elements x more) ≡ max (k + branch_depth x) (greatest_level k more)
-  branch_greatest (branch c line l) k more = let h1 = constant_greatest c k (kept is.Do line ∷ list_elements l more) in let h2 = list_greatest l k more in grind (arith, h1, h2, least more k)
+  branch_greatest (branch c line l) k more = let h1 = constant_greatest c k (kept is.Do line ∷ list_elements l more) in let h2 = list_greatest l k more in
+      grind (arith, h1, h2, least more k)
 
-  branches_greatest : (x : Branches) (k : ℕ) (more : List Element) → greatest_level (suc k) (branches_elements x more) ≡ max (suc k + branches_depth x) (greatest_level k more)
+  branches_greatest : (x : Branches) (k : ℕ) (more : List Element) → greatest_level (suc k) (branches_elements x more) ≡ max (suc k + branches_depth x)
+      (greatest_level k more)
   branches_greatest (no_branch end) k more = grind (arith, least more k)
-  branches_greatest (next_branch also b bs) k more = let h1 = branch_greatest b (suc k) (branches_elements bs more) in let h2 = branches_greatest bs k more in grind (arith, h1, h2, least more k)
+  branches_greatest (next_branch also b bs) k more = let h1 = branch_greatest b (suc k) (branches_elements bs more) in let h2 = branches_greatest bs k more in
+      grind (arith, h1, h2, least more k)
 
 mutual
-  procedure_greatest : (x : Procedure) (k : ℕ) (more : List Element) → greatest_level k (procedure_elements x more) ≡ max (k + procedure_depth x) (greatest_level k more)
-  procedure_greatest (procedure h ds l end) k more = let h1 = heading_greatest h k (declarations_elements ds (word is.Begin ∷ list_elements l (kept is.End end ∷ level_end ∷ more))) in let h2 = declarations_greatest ds (suc k) (word is.Begin ∷ list_elements l (kept is.End end ∷ level_end ∷ more)) in let h3 = list_greatest l (suc k) (kept is.End end ∷ level_end ∷ more) in grind (arith, h1, h2, h3, least more k)
+  procedure_greatest : (x : Procedure) (k : ℕ) (more : List Element) → greatest_level k (procedure_elements x more) ≡ max (k + procedure_depth x)
+      (greatest_level k more)
+  procedure_greatest (procedure h ds l end) k more = let h1 = heading_greatest h k
+      (declarations_elements ds (word is.Begin ∷ list_elements l (kept is.End end ∷ level_end ∷ more))) in
+      let h2 = declarations_greatest ds (suc k) (word is.Begin ∷ list_elements l (kept is.End end ∷ level_end ∷ more)) in
+      let h3 = list_greatest l (suc k) (kept is.End end ∷ level_end ∷ more) in grind (arith, h1, h2, h3, least more k)
 
   item_greatest : (x : Item) (k : ℕ) (more : List Element) → greatest_level k (item_elements x more) ≡ max (k + item_depth x) (greatest_level k more)
   item_greatest (const_item l) k more = let h1 = const_list_greatest l k more in grind (arith, h1, least more k)
@@ -225,24 +301,30 @@ mutual
   item_greatest (post_item p) k more = let h1 = procedure_greatest p k more in grind (arith, h1, least more k)
 
   module_greatest : (x : Module) (k : ℕ) (more : List Element) → greatest_level k (module_elements x more) ≡ max (k + module_depth x) (greatest_level k more)
-  module_greatest (module_with ms l) k more = let h1 = members_greatest ms (suc k) (word is.Begin ∷ list_elements l (word is.End ∷ level_end ∷ more)) in let h2 = list_greatest l (suc k) (word is.End ∷ level_end ∷ more) in grind (arith, h1, h2, least more k)
+  module_greatest (module_with ms l) k more = let h1 = members_greatest ms (suc k) (word is.Begin ∷ list_elements l (word is.End ∷ level_end ∷ more)) in
+      let h2 = list_greatest l (suc k) (word is.End ∷ level_end ∷ more) in grind (arith, h1, h2, least more k)
 
   member_greatest : (x : Member) (k : ℕ) (more : List Element) → greatest_level k (member_elements x more) ≡ max (k + member_depth x) (greatest_level k more)
   member_greatest (item_member i) k more = let h1 = item_greatest i k more in grind (arith, h1, least more k)
   member_greatest (exported_member i) k more = let h1 = item_greatest i k more in grind (arith, h1, least more k)
   member_greatest (module_member m) k more = let h1 = module_greatest m k more in grind (arith, h1, least more k)
 
-  members_greatest : (x : Members) (k : ℕ) (more : List Element) → greatest_level k (members_elements x more) ≡ max (k + members_depth x) (greatest_level k more)
+  members_greatest : (x : Members) (k : ℕ) (more : List Element) → greatest_level k (members_elements x more) ≡ max (k + members_depth x)
+      (greatest_level k more)
   members_greatest no_member k more = grind (arith, least more k)
-  members_greatest (next_member m ms) k more = let h1 = member_greatest m k (members_elements ms more) in let h2 = members_greatest ms k more in grind (arith, h1, h2, least more k)
+  members_greatest (next_member m ms) k more = let h1 = member_greatest m k (members_elements ms more) in let h2 = members_greatest ms k more in
+      grind (arith, h1, h2, least more k)
 
-  declaration_greatest : (x : Declaration) (k : ℕ) (more : List Element) → greatest_level k (declaration_elements x more) ≡ max (k + declaration_depth x) (greatest_level k more)
+  declaration_greatest : (x : Declaration) (k : ℕ) (more : List Element) → greatest_level k (declaration_elements x more) ≡ max (k + declaration_depth x)
+      (greatest_level k more)
   declaration_greatest (item_declaration i) k more = let h1 = item_greatest i k more in grind (arith, h1, least more k)
   declaration_greatest (module_declaration m) k more = let h1 = module_greatest m k more in grind (arith, h1, least more k)
 
-  declarations_greatest : (x : Declarations) (k : ℕ) (more : List Element) → greatest_level k (declarations_elements x more) ≡ max (k + declarations_depth x) (greatest_level k more)
+  declarations_greatest : (x : Declarations) (k : ℕ) (more : List Element) → greatest_level k (declarations_elements x more) ≡ max (k + declarations_depth x)
+      (greatest_level k more)
   declarations_greatest no_declaration k more = grind (arith, least more k)
-  declarations_greatest (next_declaration d ds) k more = let h1 = declaration_greatest d k (declarations_elements ds more) in let h2 = declarations_greatest ds k more in grind (arith, h1, h2, least more k)
+  declarations_greatest (next_declaration d ds) k more = let h1 = declaration_greatest d k (declarations_elements ds more) in
+      let h2 = declarations_greatest ds k more in grind (arith, h1, h2, least more k)
 
 global_greatest : (x : Global) (k : ℕ) (more : List Element) → greatest_level k (global_elements x more) ≡ max (k + global_depth x) (greatest_level k more)
 global_greatest (const_global l) k more = let h1 = const_list_greatest l k more in grind (arith, h1, least more k)
@@ -250,10 +332,12 @@ global_greatest (type_global d) k more = let h1 = type_decl_greatest d k more in
 
 globals_greatest : (x : Globals) (k : ℕ) (more : List Element) → greatest_level k (globals_elements x more) ≡ max (k + globals_depth x) (greatest_level k more)
 globals_greatest no_global k more = grind (arith, least more k)
-globals_greatest (next_global g gs) k more = let h1 = global_greatest g k (globals_elements gs more) in let h2 = globals_greatest gs k more in grind (arith, h1, h2, least more k)
+globals_greatest (next_global g gs) k more = let h1 = global_greatest g k (globals_elements gs more) in let h2 = globals_greatest gs k more in
+    grind (arith, h1, h2, least more k)
 
 program_greatest : (x : Program) (k : ℕ) (more : List Element) → greatest_level k (program_elements x more) ≡ max (k + depth x) (greatest_level k more)
-program_greatest (program gs p) k more = let h1 = globals_greatest gs k (procedure_elements p more) in let h2 = procedure_greatest p k more in grind (arith, h1, h2, least more k)
+program_greatest (program gs p) k more = let h1 = globals_greatest gs k (procedure_elements p more) in let h2 = procedure_greatest p k more in
+    grind (arith, h1, h2, least more k)
 
 pub greatest_is_depth : (tree : Program) → greatest_level 0 (elements tree) ≡ depth tree
 greatest_is_depth tree = let h = program_greatest tree 0 [] in grind (arith, h)

@@ -9,9 +9,34 @@ use Rattle.edi_tree.specs.declared.expressions.Sign.{Sign}
 use Rattle.edi_tree.specs.declared.expressions.Sign.TheVariants as sign
 use Rattle.edi_tree.specs.declared.expressions.Root.{Root}
 use Rattle.edi_tree.specs.declared.expressions.Root.TheVariants as root
-use Rattle.edi_tree.specs.Tree.{Names, no_name, next_name, ConstDecls, no_const_decl, next_const_decl, ConstList, const_list, Group, group, Groups, no_group, next_group, TypeDecl, enum_decl, record_decl, array_decl, set_decl, VarList, var_list, Heading, heading, Params, no_params, params, MoreParams, no_param, next_param, Param, value_param, var_param, procedure_param, Expr, expr, Comparison, no_comparison, compared, Exprs, no_expr, next_expr, Simple, simple, Addend, addend, Addends, no_addend, next_addend, Term, term, Multiplier, multiplier, Multipliers, no_multiplier, next_multiplier, Factor, numeral, string, not_factor, parenthesized, call_factor, variable_factor, Args, args, Variable, variable, Selector, field, index, Selectors, no_selector, next_selector, StatementList, list, Statements, no_statement, next_statement, Statement, skip, assignment, call, if_statement, while_statement, when_statement, cobegin, Conditions, conditions, Condition, condition, Else, no_else, next_else, Branch, branch, Branches, no_branch, next_branch, Procedure, procedure, Item, const_item, type_item, var_item, procedure_item, pre_item, post_item, Module, module_with, Member, item_member, exported_member, module_member, Members, no_member, next_member, Declaration, item_declaration, module_declaration, Declarations, no_declaration, next_declaration, Global, const_global, type_global, Globals, no_global, next_global, Program, program}
-use Rattle.edi_tree.specs.Spelled.{names_then, constant_then, const_decl_then, const_decls_then, const_list_then, group_then, groups_then, type_decl_then, var_list_then, result_then, heading_then, params_then, more_params_then, param_then, sign_then, root_then, expr_then, comparison_then, exprs_then, simple_then, addend_then, addends_then, term_then, multiplier_then, multipliers_then, factor_then, args_then, variable_then, selector_then, selectors_then, optional_args_then, list_then, statements_then, statement_then, conditions_then, condition_then, else_then, branch_then, branches_then, procedure_then, item_then, module_then, member_then, members_then, declaration_then, declarations_then, global_then, globals_then, program_then, spelled}
-use Rattle.edi_tree.specs.Levels.{Element, level_end, word, kept, named, marks_among, names_elements, constant_elements, const_decl_elements, const_decls_elements, const_list_elements, group_elements, groups_elements, type_decl_elements, var_list_elements, result_elements, heading_elements, params_elements, more_params_elements, param_elements, sign_elements, root_elements, expr_elements, comparison_elements, exprs_elements, simple_elements, addend_elements, addends_elements, term_elements, multiplier_elements, multipliers_elements, factor_elements, args_elements, variable_elements, selector_elements, selectors_elements, optional_args_elements, list_elements, statements_elements, statement_elements, conditions_elements, condition_elements, else_elements, branch_elements, branches_elements, procedure_elements, item_elements, module_elements, member_elements, members_elements, declaration_elements, declarations_elements, global_elements, globals_elements, program_elements, elements}
+use Rattle.edi_tree.specs.Tree.{Names, no_name, next_name, ConstDecls, no_const_decl, next_const_decl, ConstList, const_list, Group, group, Groups, no_group}
+use Rattle.edi_tree.specs.Tree.{next_group, TypeDecl, enum_decl, record_decl, array_decl, set_decl, VarList, var_list, Heading, heading, Params, no_params}
+use Rattle.edi_tree.specs.Tree.{params, MoreParams, no_param, next_param, Param, value_param, var_param, procedure_param, Expr, expr, Comparison}
+use Rattle.edi_tree.specs.Tree.{no_comparison, compared, Exprs, no_expr, next_expr, Simple, simple, Addend, addend, Addends, no_addend, next_addend, Term}
+use Rattle.edi_tree.specs.Tree.{term, Multiplier, multiplier, Multipliers, no_multiplier, next_multiplier, Factor, numeral, string, not_factor}
+use Rattle.edi_tree.specs.Tree.{parenthesized, call_factor, variable_factor, Args, args, Variable, variable, Selector, field, index, Selectors, no_selector}
+use Rattle.edi_tree.specs.Tree.{next_selector, StatementList, list, Statements, no_statement, next_statement, Statement, skip, assignment, call}
+use Rattle.edi_tree.specs.Tree.{if_statement, while_statement, when_statement, cobegin, Conditions, conditions, Condition, condition, Else, no_else}
+use Rattle.edi_tree.specs.Tree.{next_else, Branch, branch, Branches, no_branch, next_branch, Procedure, procedure, Item, const_item, type_item, var_item}
+use Rattle.edi_tree.specs.Tree.{procedure_item, pre_item, post_item, Module, module_with, Member, item_member, exported_member, module_member, Members}
+use Rattle.edi_tree.specs.Tree.{no_member, next_member, Declaration, item_declaration, module_declaration, Declarations, no_declaration, next_declaration}
+use Rattle.edi_tree.specs.Tree.{Global, const_global, type_global, Globals, no_global, next_global, Program, program}
+use Rattle.edi_tree.specs.Spelled.{names_then, constant_then, const_decl_then, const_decls_then, const_list_then, group_then, groups_then, type_decl_then}
+use Rattle.edi_tree.specs.Spelled.{var_list_then, result_then, heading_then, params_then, more_params_then, param_then, sign_then, root_then, expr_then}
+use Rattle.edi_tree.specs.Spelled.{comparison_then, exprs_then, simple_then, addend_then, addends_then, term_then, multiplier_then, multipliers_then}
+use Rattle.edi_tree.specs.Spelled.{factor_then, args_then, variable_then, selector_then, selectors_then, optional_args_then, list_then, statements_then}
+use Rattle.edi_tree.specs.Spelled.{statement_then, conditions_then, condition_then, else_then, branch_then, branches_then, procedure_then, item_then}
+use Rattle.edi_tree.specs.Spelled.{module_then, member_then, members_then, declaration_then, declarations_then, global_then, globals_then, program_then}
+use Rattle.edi_tree.specs.Spelled.{spelled}
+use Rattle.edi_tree.specs.Levels.{Element, level_end, word, kept, named, marks_among, names_elements, constant_elements, const_decl_elements}
+use Rattle.edi_tree.specs.Levels.{const_decls_elements, const_list_elements, group_elements, groups_elements, type_decl_elements, var_list_elements}
+use Rattle.edi_tree.specs.Levels.{result_elements, heading_elements, params_elements, more_params_elements, param_elements, sign_elements, root_elements}
+use Rattle.edi_tree.specs.Levels.{expr_elements, comparison_elements, exprs_elements, simple_elements, addend_elements, addends_elements, term_elements}
+use Rattle.edi_tree.specs.Levels.{multiplier_elements, multipliers_elements, factor_elements, args_elements, variable_elements, selector_elements}
+use Rattle.edi_tree.specs.Levels.{selectors_elements, optional_args_elements, list_elements, statements_elements, statement_elements, conditions_elements}
+use Rattle.edi_tree.specs.Levels.{condition_elements, else_elements, branch_elements, branches_elements, procedure_elements, item_elements, module_elements}
+use Rattle.edi_tree.specs.Levels.{member_elements, members_elements, declaration_elements, declarations_elements, global_elements, globals_elements}
+use Rattle.edi_tree.specs.Levels.{program_elements, elements}
 
 names_marks : (x : Names) (more : List Element) → marks_among (names_elements x more) ≡ names_then x (marks_among more)
 names_marks no_name more = refl
@@ -42,8 +67,14 @@ groups_marks (next_group g gs) more = rw (group_marks g (groups_elements gs more
 
 type_decl_marks : (x : TypeDecl) (more : List Element) → marks_among (type_decl_elements x more) ≡ type_decl_then x (marks_among more)
 type_decl_marks (enum_decl n m ms) more = rw (names_marks ms (word is.Close ∷ level_end ∷ more)) refl
-type_decl_marks (record_decl n g gs) more = rw (group_marks g (groups_elements gs (word is.Close ∷ level_end ∷ more)), groups_marks gs (word is.Close ∷ level_end ∷ more)) refl
-type_decl_marks (array_decl n line lower upper e) more = rw (constant_marks lower (word is.Colon ∷ constant_elements upper (word is.CloseBracket ∷ level_end ∷ word is.Open ∷ named e ∷ word is.Close ∷ level_end ∷ more)), constant_marks upper (word is.CloseBracket ∷ level_end ∷ word is.Open ∷ named e ∷ word is.Close ∷ level_end ∷ more)) refl
+type_decl_marks (record_decl n g gs) more =
+    rw (group_marks g (groups_elements gs (word is.Close ∷ level_end ∷ more)), groups_marks gs (word is.Close ∷ level_end ∷ more)) refl
+type_decl_marks (array_decl n line lower upper e) more =
+    rw (
+      constant_marks lower (word is.Colon ∷ constant_elements upper
+          (word is.CloseBracket ∷ level_end ∷ word is.Open ∷ named e ∷ word is.Close ∷ level_end ∷ more)),
+      constant_marks upper (word is.CloseBracket ∷ level_end ∷ word is.Open ∷ named e ∷ word is.Close ∷ level_end ∷ more),
+    ) refl
 type_decl_marks (set_decl n b) more = refl
 
 var_list_marks : (x : VarList) (more : List Element) → marks_among (var_list_elements x more) ≡ var_list_then x (marks_among more)
@@ -59,7 +90,10 @@ mutual
 
   params_marks : (x : Params) (more : List Element) → marks_among (params_elements x more) ≡ params_then x (marks_among more)
   params_marks no_params more = refl
-  params_marks (params p ps) more = rw (param_marks p (more_params_elements ps (word is.Close ∷ level_end ∷ more)), more_params_marks ps (word is.Close ∷ level_end ∷ more)) refl
+  params_marks (params p ps) more = rw (
+    param_marks p (more_params_elements ps (word is.Close ∷ level_end ∷ more)),
+    more_params_marks ps (word is.Close ∷ level_end ∷ more),
+  ) refl
 
   more_params_marks : (x : MoreParams) (more : List Element) → marks_among (more_params_elements x more) ≡ more_params_then x (marks_among more)
   more_params_marks no_param more = refl
@@ -92,7 +126,11 @@ mutual
   exprs_marks (next_expr e es) more = rw (expr_marks e (exprs_elements es more), exprs_marks es more) refl
 
   simple_marks : (x : Simple) (more : List Element) → marks_among (simple_elements x more) ≡ simple_then x (marks_among more)
-  simple_marks (simple s t ts) more = rw (sign_marks s (term_elements t (addends_elements ts more)), term_marks t (addends_elements ts more), addends_marks ts more) refl
+  simple_marks (simple s t ts) more = rw (
+    sign_marks s (term_elements t (addends_elements ts more)),
+    term_marks t (addends_elements ts more),
+    addends_marks ts more,
+  ) refl
 
   addend_marks : (x : Addend) (more : List Element) → marks_among (addend_elements x more) ≡ addend_then x (marks_among more)
   addend_marks (addend o line t) more = rw (term_marks t more) refl
@@ -173,7 +211,12 @@ mutual
 
 mutual
   procedure_marks : (x : Procedure) (more : List Element) → marks_among (procedure_elements x more) ≡ procedure_then x (marks_among more)
-  procedure_marks (procedure h ds l end) more = rw (heading_marks h (declarations_elements ds (word is.Begin ∷ list_elements l (kept is.End end ∷ level_end ∷ more))), declarations_marks ds (word is.Begin ∷ list_elements l (kept is.End end ∷ level_end ∷ more)), list_marks l (kept is.End end ∷ level_end ∷ more)) refl
+  procedure_marks (procedure h ds l end) more =
+      rw (
+        heading_marks h (declarations_elements ds (word is.Begin ∷ list_elements l (kept is.End end ∷ level_end ∷ more))),
+        declarations_marks ds (word is.Begin ∷ list_elements l (kept is.End end ∷ level_end ∷ more)),
+        list_marks l (kept is.End end ∷ level_end ∷ more),
+      ) refl
 
   item_marks : (x : Item) (more : List Element) → marks_among (item_elements x more) ≡ item_then x (marks_among more)
   item_marks (const_item l) more = rw (const_list_marks l more) refl
@@ -184,7 +227,10 @@ mutual
   item_marks (post_item p) more = rw (procedure_marks p more) refl
 
   module_marks : (x : Module) (more : List Element) → marks_among (module_elements x more) ≡ module_then x (marks_among more)
-  module_marks (module_with ms l) more = rw (members_marks ms (word is.Begin ∷ list_elements l (word is.End ∷ level_end ∷ more)), list_marks l (word is.End ∷ level_end ∷ more)) refl
+  module_marks (module_with ms l) more = rw (
+    members_marks ms (word is.Begin ∷ list_elements l (word is.End ∷ level_end ∷ more)),
+    list_marks l (word is.End ∷ level_end ∷ more),
+  ) refl
 
   member_marks : (x : Member) (more : List Element) → marks_among (member_elements x more) ≡ member_then x (marks_among more)
   member_marks (item_member i) more = rw (item_marks i more) refl

@@ -10,10 +10,33 @@ use Rattle.edi_tree.specs.declared.expressions.Sign.{Sign}
 use Rattle.edi_tree.specs.declared.expressions.Sign.TheVariants as sign
 use Rattle.edi_tree.specs.declared.expressions.Root.{Root}
 use Rattle.edi_tree.specs.declared.expressions.Root.TheVariants as root
-use Rattle.edi_tree.specs.Tree.{Names, no_name, next_name, ConstDecls, no_const_decl, next_const_decl, ConstList, const_list, Group, group, Groups, no_group, next_group, TypeDecl, enum_decl, record_decl, array_decl, set_decl, VarList, var_list, Heading, heading, Params, no_params, params, MoreParams, no_param, next_param, Param, value_param, var_param, procedure_param, Expr, expr, Comparison, no_comparison, compared, Exprs, no_expr, next_expr, Simple, simple, Addend, addend, Addends, no_addend, next_addend, Term, term, Multiplier, multiplier, Multipliers, no_multiplier, next_multiplier, Factor, numeral, string, not_factor, parenthesized, call_factor, variable_factor, Args, args, Variable, variable, Selector, field, index, Selectors, no_selector, next_selector, StatementList, list, Statements, no_statement, next_statement, Statement, skip, assignment, call, if_statement, while_statement, when_statement, cobegin, Conditions, conditions, Condition, condition, Else, no_else, next_else, Branch, branch, Branches, no_branch, next_branch, Procedure, procedure, Item, const_item, type_item, var_item, procedure_item, pre_item, post_item, Module, module_with, Member, item_member, exported_member, module_member, Members, no_member, next_member, Declaration, item_declaration, module_declaration, Declarations, no_declaration, next_declaration, Global, const_global, type_global, Globals, no_global, next_global, Program, program}
-use Rattle.edi_tree.specs.Spelled.{Spelled, spelled, on, just, name_mark, relation_symbol, addition_symbol, multiplication_symbol, names_then, constant_then, const_decl_then, const_decls_then, const_list_then, group_then, groups_then, type_decl_then, var_list_then, result_then, heading_then, params_then, more_params_then, param_then, sign_then, root_then, expr_then, comparison_then, exprs_then, simple_then, addend_then, addends_then, term_then, multiplier_then, multipliers_then, factor_then, args_then, variable_then, selector_then, selectors_then, optional_args_then, list_then, statements_then, statement_then, conditions_then, condition_then, else_then, branch_then, branches_then, procedure_then, item_then, module_then, member_then, members_then, declaration_then, declarations_then, global_then, globals_then, program_then}
+use Rattle.edi_tree.specs.Tree.{Names, no_name, next_name, ConstDecls, no_const_decl, next_const_decl, ConstList, const_list, Group, group, Groups, no_group}
+use Rattle.edi_tree.specs.Tree.{next_group, TypeDecl, enum_decl, record_decl, array_decl, set_decl, VarList, var_list, Heading, heading, Params, no_params}
+use Rattle.edi_tree.specs.Tree.{params, MoreParams, no_param, next_param, Param, value_param, var_param, procedure_param, Expr, expr, Comparison}
+use Rattle.edi_tree.specs.Tree.{no_comparison, compared, Exprs, no_expr, next_expr, Simple, simple, Addend, addend, Addends, no_addend, next_addend, Term}
+use Rattle.edi_tree.specs.Tree.{term, Multiplier, multiplier, Multipliers, no_multiplier, next_multiplier, Factor, numeral, string, not_factor}
+use Rattle.edi_tree.specs.Tree.{parenthesized, call_factor, variable_factor, Args, args, Variable, variable, Selector, field, index, Selectors, no_selector}
+use Rattle.edi_tree.specs.Tree.{next_selector, StatementList, list, Statements, no_statement, next_statement, Statement, skip, assignment, call}
+use Rattle.edi_tree.specs.Tree.{if_statement, while_statement, when_statement, cobegin, Conditions, conditions, Condition, condition, Else, no_else}
+use Rattle.edi_tree.specs.Tree.{next_else, Branch, branch, Branches, no_branch, next_branch, Procedure, procedure, Item, const_item, type_item, var_item}
+use Rattle.edi_tree.specs.Tree.{procedure_item, pre_item, post_item, Module, module_with, Member, item_member, exported_member, module_member, Members}
+use Rattle.edi_tree.specs.Tree.{no_member, next_member, Declaration, item_declaration, module_declaration, Declarations, no_declaration, next_declaration}
+use Rattle.edi_tree.specs.Tree.{Global, const_global, type_global, Globals, no_global, next_global, Program, program}
+use Rattle.edi_tree.specs.Spelled.{Spelled, spelled, on, just, name_mark, relation_symbol, addition_symbol, multiplication_symbol, names_then, constant_then}
+use Rattle.edi_tree.specs.Spelled.{const_decl_then, const_decls_then, const_list_then, group_then, groups_then, type_decl_then, var_list_then, result_then}
+use Rattle.edi_tree.specs.Spelled.{heading_then, params_then, more_params_then, param_then, sign_then, root_then, expr_then, comparison_then, exprs_then}
+use Rattle.edi_tree.specs.Spelled.{simple_then, addend_then, addends_then, term_then, multiplier_then, multipliers_then, factor_then, args_then}
+use Rattle.edi_tree.specs.Spelled.{variable_then, selector_then, selectors_then, optional_args_then, list_then, statements_then, statement_then}
+use Rattle.edi_tree.specs.Spelled.{conditions_then, condition_then, else_then, branch_then, branches_then, procedure_then, item_then, module_then}
+use Rattle.edi_tree.specs.Spelled.{member_then, members_then, declaration_then, declarations_then, global_then, globals_then, program_then}
 use Rattle.edi_tree.specs.Printed.{text_of, gap, line_at, printed_from, printed}
-use Rattle.edi_tree.specs.Printing.{put, put_text, print_names, print_constant, print_const_decl, print_const_decls, print_const_list, print_group, print_groups, print_type_decl, print_var_list, print_result, print_heading, print_params, print_more_params, print_param, print_sign, print_root, print_expr, print_comparison, print_exprs, print_simple, print_addend, print_addends, print_term, print_multiplier, print_multipliers, print_factor, print_args, print_variable, print_selector, print_selectors, print_optional_args, print_list, print_statements, print_statement, print_conditions, print_condition, print_else, print_branch, print_branches, print_procedure, print_item, print_module, print_member, print_members, print_declaration, print_declarations, print_global, print_globals, print_program}
+use Rattle.edi_tree.specs.Printing.{put, put_text, print_names, print_constant, print_const_decl, print_const_decls, print_const_list, print_group}
+use Rattle.edi_tree.specs.Printing.{print_groups, print_type_decl, print_var_list, print_result, print_heading, print_params, print_more_params, print_param}
+use Rattle.edi_tree.specs.Printing.{print_sign, print_root, print_expr, print_comparison, print_exprs, print_simple, print_addend, print_addends, print_term}
+use Rattle.edi_tree.specs.Printing.{print_multiplier, print_multipliers, print_factor, print_args, print_variable, print_selector, print_selectors}
+use Rattle.edi_tree.specs.Printing.{print_optional_args, print_list, print_statements, print_statement, print_conditions, print_condition, print_else}
+use Rattle.edi_tree.specs.Printing.{print_branch, print_branches, print_procedure, print_item, print_module, print_member, print_members, print_declaration}
+use Rattle.edi_tree.specs.Printing.{print_declarations, print_global, print_globals, print_program}
 use Rattle.edi_tree.specs.declared.printer.Printer.{Printer}
 
 abbrev pub put_all : Printer → List Spelled → Printer
@@ -37,26 +60,36 @@ const_decl_printed d out more = constant_printed d.constant (put (just is.Equal)
 
 const_decls_printed : (x : ConstDecls) (out : Printer) (more : List Spelled) → put_all (print_const_decls x out) more ≡ put_all out (const_decls_then x more)
 const_decls_printed no_const_decl out more = refl
-const_decls_printed (next_const_decl d ds) out more = const_decls_printed ds (print_const_decl d (put (just is.Semicolon) out)) more ∙ const_decl_printed d (put (just is.Semicolon) out) (const_decls_then ds more)
+const_decls_printed (next_const_decl d ds) out more = const_decls_printed ds (print_const_decl d (put (just is.Semicolon) out)) more
+    ∙ const_decl_printed d (put (just is.Semicolon) out) (const_decls_then ds more)
 
 const_list_printed : (x : ConstList) (out : Printer) (more : List Spelled) → put_all (print_const_list x out) more ≡ put_all out (const_list_then x more)
-const_list_printed (const_list d ds) out more = const_decls_printed ds (print_const_decl d (put (just is.Const) out)) more ∙ const_decl_printed d (put (just is.Const) out) (const_decls_then ds more)
+const_list_printed (const_list d ds) out more = const_decls_printed ds (print_const_decl d (put (just is.Const) out)) more
+    ∙ const_decl_printed d (put (just is.Const) out) (const_decls_then ds more)
 
 group_printed : (x : Group) (out : Printer) (more : List Spelled) → put_all (print_group x out) more ≡ put_all out (group_then x more)
 group_printed (group n ns t) out more = names_printed ns (put (name_mark n) out) (just is.Colon ∷ name_mark t ∷ more)
 
 groups_printed : (x : Groups) (out : Printer) (more : List Spelled) → put_all (print_groups x out) more ≡ put_all out (groups_then x more)
 groups_printed no_group out more = refl
-groups_printed (next_group g gs) out more = groups_printed gs (print_group g (put (just is.Semicolon) out)) more ∙ group_printed g (put (just is.Semicolon) out) (groups_then gs more)
+groups_printed (next_group g gs) out more = groups_printed gs (print_group g (put (just is.Semicolon) out)) more
+    ∙ group_printed g (put (just is.Semicolon) out) (groups_then gs more)
 
 type_decl_printed : (x : TypeDecl) (out : Printer) (more : List Spelled) → put_all (print_type_decl x out) more ≡ put_all out (type_decl_then x more)
-type_decl_printed (enum_decl n m ms) out more = names_printed ms (put (name_mark m) (put (just is.Open) (put (name_mark n) (put (just is.Enum) out)))) (just is.Close ∷ more)
-type_decl_printed (record_decl n g gs) out more = groups_printed gs (print_group g (put (just is.Open) (put (name_mark n) (put (just is.Record) out)))) (just is.Close ∷ more) ∙ group_printed g (put (just is.Open) (put (name_mark n) (put (just is.Record) out))) (groups_then gs (just is.Close ∷ more))
-type_decl_printed (array_decl n line lower upper e) out more = constant_printed upper (put (just is.Colon) (print_constant lower (put (on is.OpenBracket line) (put (name_mark n) (put (just is.Array) out))))) (just is.CloseBracket ∷ just is.Open ∷ name_mark e ∷ just is.Close ∷ more) ∙ constant_printed lower (put (on is.OpenBracket line) (put (name_mark n) (put (just is.Array) out))) (just is.Colon ∷ constant_then upper (just is.CloseBracket ∷ just is.Open ∷ name_mark e ∷ just is.Close ∷ more))
+type_decl_printed (enum_decl n m ms) out more = names_printed ms (put (name_mark m) (put (just is.Open) (put (name_mark n) (put (just is.Enum) out))))
+    (just is.Close ∷ more)
+type_decl_printed (record_decl n g gs) out more = groups_printed gs (print_group g (put (just is.Open) (put (name_mark n) (put (just is.Record) out))))
+    (just is.Close ∷ more) ∙ group_printed g (put (just is.Open) (put (name_mark n) (put (just is.Record) out))) (groups_then gs (just is.Close ∷ more))
+type_decl_printed (array_decl n line lower upper e) out more = constant_printed upper
+    (put (just is.Colon) (print_constant lower (put (on is.OpenBracket line) (put (name_mark n) (put (just is.Array) out)))))
+    (just is.CloseBracket ∷ just is.Open ∷ name_mark e ∷ just is.Close ∷ more)
+    ∙ constant_printed lower (put (on is.OpenBracket line) (put (name_mark n) (put (just is.Array) out)))
+    (just is.Colon ∷ constant_then upper (just is.CloseBracket ∷ just is.Open ∷ name_mark e ∷ just is.Close ∷ more))
 type_decl_printed (set_decl n b) out more = refl
 
 var_list_printed : (x : VarList) (out : Printer) (more : List Spelled) → put_all (print_var_list x out) more ≡ put_all out (var_list_then x more)
-var_list_printed (var_list g gs) out more = groups_printed gs (print_group g (put (just is.Var) out)) more ∙ group_printed g (put (just is.Var) out) (groups_then gs more)
+var_list_printed (var_list g gs) out more = groups_printed gs (print_group g (put (just is.Var) out)) more ∙ group_printed g (put (just is.Var) out)
+    (groups_then gs more)
 
 -- ---- headings
 
@@ -66,15 +99,18 @@ result_printed (Some n) out more = refl
 
 mutual
   heading_printed : (x : Heading) (out : Printer) (more : List Spelled) → put_all (print_heading x out) more ≡ put_all out (heading_then x more)
-  heading_printed (heading n ps r) out more = result_printed r (print_params ps (put (name_mark n) (put (just is.Proc) out))) more ∙ params_printed ps (put (name_mark n) (put (just is.Proc) out)) (result_then r more)
+  heading_printed (heading n ps r) out more = result_printed r (print_params ps (put (name_mark n) (put (just is.Proc) out))) more
+      ∙ params_printed ps (put (name_mark n) (put (just is.Proc) out)) (result_then r more)
 
   params_printed : (x : Params) (out : Printer) (more : List Spelled) → put_all (print_params x out) more ≡ put_all out (params_then x more)
   params_printed no_params out more = refl
-  params_printed (params p ps) out more = more_params_printed ps (print_param p (put (just is.Open) out)) (just is.Close ∷ more) ∙ param_printed p (put (just is.Open) out) (more_params_then ps (just is.Close ∷ more))
+  params_printed (params p ps) out more = more_params_printed ps (print_param p (put (just is.Open) out)) (just is.Close ∷ more)
+      ∙ param_printed p (put (just is.Open) out) (more_params_then ps (just is.Close ∷ more))
 
   more_params_printed : (x : MoreParams) (out : Printer) (more : List Spelled) → put_all (print_more_params x out) more ≡ put_all out (more_params_then x more)
   more_params_printed no_param out more = refl
-  more_params_printed (next_param p ps) out more = more_params_printed ps (print_param p (put (just is.Semicolon) out)) more ∙ param_printed p (put (just is.Semicolon) out) (more_params_then ps more)
+  more_params_printed (next_param p ps) out more = more_params_printed ps (print_param p (put (just is.Semicolon) out)) more
+      ∙ param_printed p (put (just is.Semicolon) out) (more_params_then ps more)
 
   param_printed : (x : Param) (out : Printer) (more : List Spelled) → put_all (print_param x out) more ≡ put_all out (param_then x more)
   param_printed (value_param g) out more = group_printed g out more
@@ -102,10 +138,12 @@ mutual
 
   exprs_printed : (x : Exprs) (out : Printer) (more : List Spelled) → put_all (print_exprs x out) more ≡ put_all out (exprs_then x more)
   exprs_printed no_expr out more = refl
-  exprs_printed (next_expr e es) out more = exprs_printed es (print_expr e (put (just is.Comma) out)) more ∙ expr_printed e (put (just is.Comma) out) (exprs_then es more)
+  exprs_printed (next_expr e es) out more = exprs_printed es (print_expr e (put (just is.Comma) out)) more ∙ expr_printed e (put (just is.Comma) out)
+      (exprs_then es more)
 
   simple_printed : (x : Simple) (out : Printer) (more : List Spelled) → put_all (print_simple x out) more ≡ put_all out (simple_then x more)
-  simple_printed (simple s t ts) out more = addends_printed ts (print_term t (print_sign s out)) more ∙ term_printed t (print_sign s out) (addends_then ts more) ∙ sign_printed s out (term_then t (addends_then ts more))
+  simple_printed (simple s t ts) out more = addends_printed ts (print_term t (print_sign s out)) more ∙ term_printed t (print_sign s out)
+      (addends_then ts more) ∙ sign_printed s out (term_then t (addends_then ts more))
 
   addend_printed : (x : Addend) (out : Printer) (more : List Spelled) → put_all (print_addend x out) more ≡ put_all out (addend_then x more)
   addend_printed (addend o line t) out more = term_printed t (put (on (addition_symbol o) line) out) more
@@ -122,7 +160,8 @@ mutual
 
   multipliers_printed : (x : Multipliers) (out : Printer) (more : List Spelled) → put_all (print_multipliers x out) more ≡ put_all out (multipliers_then x more)
   multipliers_printed no_multiplier out more = refl
-  multipliers_printed (next_multiplier f fs) out more = multipliers_printed fs (print_multiplier f out) more ∙ multiplier_printed f out (multipliers_then fs more)
+  multipliers_printed (next_multiplier f fs) out more = multipliers_printed fs (print_multiplier f out) more
+      ∙ multiplier_printed f out (multipliers_then fs more)
 
   factor_printed : (x : Factor) (out : Printer) (more : List Spelled) → put_all (print_factor x out) more ≡ put_all out (factor_then x more)
   factor_printed (numeral v) out more = refl
@@ -133,7 +172,8 @@ mutual
   factor_printed (variable_factor v) out more = variable_printed v out more
 
   args_printed : (x : Args) (out : Printer) (more : List Spelled) → put_all (print_args x out) more ≡ put_all out (args_then x more)
-  args_printed (args e es) out more = exprs_printed es (print_expr e (put (just is.Open) out)) (just is.Close ∷ more) ∙ expr_printed e (put (just is.Open) out) (exprs_then es (just is.Close ∷ more))
+  args_printed (args e es) out more = exprs_printed es (print_expr e (put (just is.Open) out)) (just is.Close ∷ more)
+      ∙ expr_printed e (put (just is.Open) out) (exprs_then es (just is.Close ∷ more))
 
   variable_printed : (x : Variable) (out : Printer) (more : List Spelled) → put_all (print_variable x out) more ≡ put_all out (variable_then x more)
   variable_printed (variable r ss) out more = selectors_printed ss (print_root r out) more ∙ root_printed r out (selectors_then ss more)
@@ -148,7 +188,8 @@ mutual
 
 -- ---- statements
 
-optional_args_printed : (x : Option Args) (out : Printer) (more : List Spelled) → put_all (print_optional_args x out) more ≡ put_all out (optional_args_then x more)
+optional_args_printed : (x : Option Args) (out : Printer) (more : List Spelled) → put_all (print_optional_args x out) more ≡ put_all out
+    (optional_args_then x more)
 optional_args_printed None out more = refl
 optional_args_printed (Some a) out more = args_printed a out more
 
@@ -158,39 +199,48 @@ mutual
 
   statements_printed : (x : Statements) (out : Printer) (more : List Spelled) → put_all (print_statements x out) more ≡ put_all out (statements_then x more)
   statements_printed no_statement out more = refl
-  statements_printed (next_statement s ss) out more = statements_printed ss (print_statement s (put (just is.Semicolon) out)) more ∙ statement_printed s (put (just is.Semicolon) out) (statements_then ss more)
+  statements_printed (next_statement s ss) out more = statements_printed ss (print_statement s (put (just is.Semicolon) out)) more
+      ∙ statement_printed s (put (just is.Semicolon) out) (statements_then ss more)
 
   statement_printed : (x : Statement) (out : Printer) (more : List Spelled) → put_all (print_statement x out) more ≡ put_all out (statement_then x more)
   statement_printed skip out more = refl
-  statement_printed (assignment v line e) out more = expr_printed e (put (on is.Becomes line) (print_variable v out)) more ∙ variable_printed v out (on is.Becomes line ∷ expr_then e more)
+  statement_printed (assignment v line e) out more = expr_printed e (put (on is.Becomes line) (print_variable v out)) more
+      ∙ variable_printed v out (on is.Becomes line ∷ expr_then e more)
   statement_printed (call n a) out more = optional_args_printed a (put (name_mark n) out) more
   statement_printed (if_statement cs) out more = conditions_printed cs (put (just is.If) out) (just is.End ∷ more)
   statement_printed (while_statement cs) out more = conditions_printed cs (put (just is.While) out) (just is.End ∷ more)
   statement_printed (when_statement line cs) out more = conditions_printed cs (put (on is.When line) out) (just is.End ∷ more)
-  statement_printed (cobegin line b bs) out more = branches_printed bs (print_branch b (put (on is.Cobegin line) out)) more ∙ branch_printed b (put (on is.Cobegin line) out) (branches_then bs more)
+  statement_printed (cobegin line b bs) out more = branches_printed bs (print_branch b (put (on is.Cobegin line) out)) more
+      ∙ branch_printed b (put (on is.Cobegin line) out) (branches_then bs more)
 
   conditions_printed : (x : Conditions) (out : Printer) (more : List Spelled) → put_all (print_conditions x out) more ≡ put_all out (conditions_then x more)
   conditions_printed (conditions c cs) out more = else_printed cs (print_condition c out) more ∙ condition_printed c out (else_then cs more)
 
   condition_printed : (x : Condition) (out : Printer) (more : List Spelled) → put_all (print_condition x out) more ≡ put_all out (condition_then x more)
-  condition_printed (condition e line l) out more = list_printed l (put (on is.Do line) (print_expr e out)) more ∙ expr_printed e out (on is.Do line ∷ list_then l more)
+  condition_printed (condition e line l) out more = list_printed l (put (on is.Do line) (print_expr e out)) more
+      ∙ expr_printed e out (on is.Do line ∷ list_then l more)
 
   else_printed : (x : Else) (out : Printer) (more : List Spelled) → put_all (print_else x out) more ≡ put_all out (else_then x more)
   else_printed no_else out more = refl
-  else_printed (next_else c cs) out more = else_printed cs (print_condition c (put (just is.Else) out)) more ∙ condition_printed c (put (just is.Else) out) (else_then cs more)
+  else_printed (next_else c cs) out more = else_printed cs (print_condition c (put (just is.Else) out)) more ∙ condition_printed c (put (just is.Else) out)
+      (else_then cs more)
 
   branch_printed : (x : Branch) (out : Printer) (more : List Spelled) → put_all (print_branch x out) more ≡ put_all out (branch_then x more)
-  branch_printed (branch c line l) out more = list_printed l (put (on is.Do line) (print_constant c out)) more ∙ constant_printed c out (on is.Do line ∷ list_then l more)
+  branch_printed (branch c line l) out more = list_printed l (put (on is.Do line) (print_constant c out)) more
+      ∙ constant_printed c out (on is.Do line ∷ list_then l more)
 
   branches_printed : (x : Branches) (out : Printer) (more : List Spelled) → put_all (print_branches x out) more ≡ put_all out (branches_then x more)
   branches_printed (no_branch end) out more = refl
-  branches_printed (next_branch also b bs) out more = branches_printed bs (print_branch b (put (on is.Also also) out)) more ∙ branch_printed b (put (on is.Also also) out) (branches_then bs more)
+  branches_printed (next_branch also b bs) out more = branches_printed bs (print_branch b (put (on is.Also also) out)) more
+      ∙ branch_printed b (put (on is.Also also) out) (branches_then bs more)
 
 -- ---- declarations
 
 mutual
   procedure_printed : (x : Procedure) (out : Printer) (more : List Spelled) → put_all (print_procedure x out) more ≡ put_all out (procedure_then x more)
-  procedure_printed (procedure h ds l end) out more = list_printed l (put (just is.Begin) (print_declarations ds (print_heading h out))) (on is.End end ∷ more) ∙ declarations_printed ds (print_heading h out) (just is.Begin ∷ list_then l (on is.End end ∷ more)) ∙ heading_printed h out (declarations_then ds (just is.Begin ∷ list_then l (on is.End end ∷ more)))
+  procedure_printed (procedure h ds l end) out more = list_printed l (put (just is.Begin) (print_declarations ds (print_heading h out)))
+      (on is.End end ∷ more) ∙ declarations_printed ds (print_heading h out) (just is.Begin ∷ list_then l (on is.End end ∷ more))
+      ∙ heading_printed h out (declarations_then ds (just is.Begin ∷ list_then l (on is.End end ∷ more)))
 
   item_printed : (x : Item) (out : Printer) (more : List Spelled) → put_all (print_item x out) more ≡ put_all out (item_then x more)
   item_printed (const_item l) out more = const_list_printed l out more
@@ -201,7 +251,8 @@ mutual
   item_printed (post_item p) out more = procedure_printed p (put (just is.Post) out) more
 
   module_printed : (x : Module) (out : Printer) (more : List Spelled) → put_all (print_module x out) more ≡ put_all out (module_then x more)
-  module_printed (module_with ms l) out more = list_printed l (put (just is.Begin) (print_members ms (put (just is.Module) out))) (just is.End ∷ more) ∙ members_printed ms (put (just is.Module) out) (just is.Begin ∷ list_then l (just is.End ∷ more))
+  module_printed (module_with ms l) out more = list_printed l (put (just is.Begin) (print_members ms (put (just is.Module) out))) (just is.End ∷ more)
+      ∙ members_printed ms (put (just is.Module) out) (just is.Begin ∷ list_then l (just is.End ∷ more))
 
   member_printed : (x : Member) (out : Printer) (more : List Spelled) → put_all (print_member x out) more ≡ put_all out (member_then x more)
   member_printed (item_member i) out more = item_printed i out more
@@ -216,9 +267,11 @@ mutual
   declaration_printed (item_declaration i) out more = item_printed i out more
   declaration_printed (module_declaration m) out more = module_printed m out more
 
-  declarations_printed : (x : Declarations) (out : Printer) (more : List Spelled) → put_all (print_declarations x out) more ≡ put_all out (declarations_then x more)
+  declarations_printed : (x : Declarations) (out : Printer) (more : List Spelled) → put_all (print_declarations x out) more ≡ put_all out
+      (declarations_then x more)
   declarations_printed no_declaration out more = refl
-  declarations_printed (next_declaration d ds) out more = declarations_printed ds (print_declaration d out) more ∙ declaration_printed d out (declarations_then ds more)
+  declarations_printed (next_declaration d ds) out more = declarations_printed ds (print_declaration d out) more
+      ∙ declaration_printed d out (declarations_then ds more)
 
 -- ---- programs
 
@@ -246,4 +299,5 @@ put_text_of (s ∷ ss) out =
 
 -- printing begins with nothing, on line 1
 pub program_text : (tree : Program) (out : Printer) → out ≡ record { text = []; line = 1; begun = false } → (print_program tree out).text ≡ printed tree
-program_text tree out empty = ap (λ p. p.text) (program_printed tree out []) ∙ put_text_of (spelled tree) out ∙ ap (λ p. p.text ++ printed_from p.begun p.line (spelled tree)) empty
+program_text tree out empty = ap (λ p. p.text) (program_printed tree out []) ∙ put_text_of (spelled tree) out
+    ∙ ap (λ p. p.text ++ printed_from p.begun p.line (spelled tree)) empty

@@ -1,5 +1,6 @@
 -- The printed text of a tree scans to marks that the tree spells.
-use Rattle.std.proofs.Common.{◌≡◌, ℕ, zero, suc, ◌+◌, ◌-◌, ◌≤◌, ◌<◌, max, Bool, true, false, ◌||◌, ◌&&◌, cond, eqb, leb, ltb, List, [], ◌∷◌, ◌++◌, replicate, Option, Some, None, Ok, Err, pos, negsuc, refl, sym, ap, ◌∙◌, subst, arith, append_assoc, decimal}
+use Rattle.std.proofs.Common.{◌≡◌, ℕ, zero, suc, ◌+◌, ◌-◌, ◌≤◌, ◌<◌, max, Bool, true, false, ◌||◌, ◌&&◌, cond, eqb, leb, ltb, List, [], ◌∷◌, ◌++◌, replicate}
+use Rattle.std.proofs.Common.{Option, Some, None, Ok, Err, pos, negsuc, refl, sym, ap, ◌∙◌, subst, arith, append_assoc, decimal}
 use Rattle.std.specs.Prelude.{codes, is_none, unwrap_or}
 use Rattle.std.specs.List.{list_all}
 use Rattle.std.proofs.Math.Bool.{Bool-set}
@@ -15,7 +16,8 @@ use Rattle.edi_lex.specs.declared.symbol.Symbol.{Symbol}
 use Rattle.edi_lex.specs.declared.symbol.Symbol.TheVariants as is
 use Rattle.edi_lex.specs.declared.symbol.Mark.{Mark}
 use Rattle.edi_lex.specs.declared.fault.LexFault.TheVariants.{TooLong}
-use Rattle.edi_lex.proofs.Runs.{marked, both, same_byte, stops, name_first, numeral_first, string_first, apostrophe_first, special_first, pair_first, space_first}
+use Rattle.edi_lex.proofs.Runs.{marked, both, same_byte, stops, name_first, numeral_first, string_first, apostrophe_first, special_first, pair_first}
+use Rattle.edi_lex.proofs.Runs.{space_first}
 use Rattle.edi_tree.specs.Tree.{Program}
 use Rattle.edi_tree.specs.Spelled.{Spelled, spelled}
 use Rattle.edi_tree.specs.Spells.{StandAsMarks, IsOn, IsBounded}
@@ -54,15 +56,18 @@ either_string : (b : ℕ) (rest : List ℕ) (line : ℕ) (t : Bool) → is_strin
     → symbols_from (39 ∷ b ∷ 39 ∷ rest) 0 line ≡ marked (is.Chars (b ∷ [])) line (symbols_from rest 0 line)
 either_string b rest line true h e = string_first b [] rest line (rw h refl)
 either_string b rest line false h e =
-    subst (λ x. symbols_from (39 ∷ x ∷ 39 ∷ rest) 0 line ≡ marked (is.Chars (x ∷ [])) line (symbols_from rest 0 line)) (sym (same_byte b 39 e)) (apostrophe_first rest line)
+    subst (λ x. symbols_from (39 ∷ x ∷ 39 ∷ rest) 0 line ≡ marked (is.Chars (x ∷ [])) line (symbols_from rest 0 line)) (sym (same_byte b 39 e))
+    (apostrophe_first rest line)
 
-string_scans : (text rest : List ℕ) (line : ℕ) → is_string text ≡ true → symbols_from (39 ∷ (text ++ 39 ∷ rest)) 0 line ≡ marked (is.Chars text) line (symbols_from rest 0 line)
+string_scans : (text rest : List ℕ) (line : ℕ) → is_string text ≡ true → symbols_from (39 ∷ (text ++ 39 ∷ rest)) 0 line ≡ marked (is.Chars text) line
+    (symbols_from rest 0 line)
 string_scans [] rest line h = absurd (cc)
 string_scans (b ∷ []) rest line h = either_string b rest line (is_string_byte b) refl h
 string_scans (b ∷ c ∷ more) rest line h = string_first b (c ∷ more) rest line h
 
 -- a symbol that is written in front of such a rest is scanned, and the rest behind it
-symbol_scans : (s : Symbol) (rest : List ℕ) (line : ℕ) → is_spelled s ≡ true → Behind rest → symbols_from (text_of s ++ rest) 0 line ≡ marked s line (symbols_from rest 0 line)
+symbol_scans : (s : Symbol) (rest : List ℕ) (line : ℕ) → is_spelled s ≡ true → Behind rest → symbols_from (text_of s ++ rest) 0 line ≡ marked s line
+    (symbols_from rest 0 line)
 symbol_scans (is.Name text) rest line h e =
     let parts = both (is_name text) (is_none (word_of text)) h in
     name_first text rest line parts.0 (ends_name rest e) ∙ ap (λ s. marked s line (symbols_from rest 0 line)) (no_word (word_of text) text parts.1)
@@ -139,7 +144,8 @@ separator_first : (begun : Bool) (rest : List ℕ) (line : ℕ) → symbols_from
 separator_first true rest line = blank_first rest line
 separator_first false rest line = refl
 
-lines_first : (begun : Bool) (rest : List ℕ) (line kept : ℕ) (t : Bool) → ltb line kept ≡ t → symbols_from (cond t (replicate (kept - line) 10) (separator begun) ++ rest) 0 line ≡ symbols_from rest 0 (max line kept)
+lines_first : (begun : Bool) (rest : List ℕ) (line kept : ℕ) (t : Bool) → ltb line kept ≡ t
+    → symbols_from (cond t (replicate (kept - line) 10) (separator begun) ++ rest) 0 line ≡ symbols_from rest 0 (max line kept)
 lines_first begun rest line kept true h =
     let same : line + (kept - line) ≡ max line kept = grind (arith, nat_tests) in
     feeds_first (kept - line) rest line ∙ ap (symbols_from rest 0) same
@@ -147,7 +153,8 @@ lines_first begun rest line kept false h =
     let same : line ≡ max line kept = grind (arith, nat_tests) in
     separator_first begun rest line ∙ ap (symbols_from rest 0) same
 
-gap_first : (begun : Bool) (rest : List ℕ) (line : ℕ) (kept : Option ℕ) → symbols_from (gap begun line kept ++ rest) 0 line ≡ symbols_from rest 0 (line_at line kept)
+gap_first : (begun : Bool) (rest : List ℕ) (line : ℕ) (kept : Option ℕ) → symbols_from (gap begun line kept ++ rest) 0 line ≡ symbols_from rest 0
+    (line_at line kept)
 gap_first begun rest line None = separator_first begun rest line
 gap_first begun rest line (Some kept) = lines_first begun rest line kept (ltb line kept) refl
 
@@ -182,7 +189,8 @@ last_line line (s ∷ ss) = last_line (line_at line s.line) ss
 abbrev all_spelled : List Spelled → Bool
 all_spelled ss = list_all (λ s. is_spelled s.symbol) ss
 
-printed_scans : (ss : List Spelled) (begun : Bool) (line : ℕ) → all_spelled ss ≡ true → symbols_from (printed_from begun line ss) 0 line ≡ Ok (placed line ss, last_line line ss)
+printed_scans : (ss : List Spelled) (begun : Bool) (line : ℕ) → all_spelled ss ≡ true → symbols_from (printed_from begun line ss) 0 line ≡ Ok
+    (placed line ss, last_line line ss)
 unfolding symbols_from placed last_line
 printed_scans [] begun line h = refl
 printed_scans (s ∷ ss) begun line h =
@@ -231,7 +239,8 @@ below : (line at : ℕ) (kept : Option ℕ) → IsOn kept at → line ≤ at →
 below line at None h e = e
 below line at (Some kept) h e = omega (arith, h, e)
 
-all_are_rising : (ss : List Spelled) (marks : List Mark) (line from last : ℕ) → StandAsMarks ss marks → is_orderly from marks last ≡ true → line ≤ from → are_rising line ss ≡ true
+all_are_rising : (ss : List Spelled) (marks : List Mark) (line from last : ℕ) → StandAsMarks ss marks → is_orderly from marks last ≡ true → line ≤ from
+    → are_rising line ss ≡ true
 all_are_rising [] marks line from last h e low = refl
 all_are_rising (s ∷ ss) [] line from last h e low = absurd h
 all_are_rising (s ∷ ss) (m ∷ marks) line from last h e low =

@@ -4,7 +4,17 @@ use Rattle.std.specs.Prelude.{ℕ, suc, max, min, Option, Some, None}
 use Rattle.edi_tree.specs.declared.constants.Constant.{Constant}
 use Rattle.edi_tree.specs.declared.constants.Constant.TheVariants as constant
 use Rattle.edi_tree.specs.declared.constants.ConstDecl.{ConstDecl}
-use Rattle.edi_tree.specs.Tree.{ConstDecls, no_const_decl, next_const_decl, ConstList, const_list, TypeDecl, enum_decl, record_decl, array_decl, set_decl, Heading, heading, Params, no_params, params, MoreParams, no_param, next_param, Param, value_param, var_param, procedure_param, Expr, expr, Comparison, no_comparison, compared, Exprs, no_expr, next_expr, Simple, simple, Addend, addend, Addends, no_addend, next_addend, Term, term, Multiplier, multiplier, Multipliers, no_multiplier, next_multiplier, Factor, numeral, string, not_factor, parenthesized, call_factor, variable_factor, Args, args, Variable, variable, Selector, field, index, Selectors, no_selector, next_selector, StatementList, list, Statements, no_statement, next_statement, Statement, skip, assignment, call, if_statement, while_statement, when_statement, cobegin, Conditions, conditions, Condition, condition, Else, no_else, next_else, Branch, branch, Branches, no_branch, next_branch, Procedure, procedure, Item, const_item, type_item, var_item, procedure_item, pre_item, post_item, Module, module_with, Member, item_member, exported_member, module_member, Members, no_member, next_member, Declaration, item_declaration, module_declaration, Declarations, no_declaration, next_declaration, Global, const_global, type_global, Globals, no_global, next_global, Program, program}
+use Rattle.edi_tree.specs.Tree.{ConstDecls, no_const_decl, next_const_decl, ConstList, const_list, TypeDecl, enum_decl, record_decl, array_decl, set_decl}
+use Rattle.edi_tree.specs.Tree.{Heading, heading, Params, no_params, params, MoreParams, no_param, next_param, Param, value_param, var_param}
+use Rattle.edi_tree.specs.Tree.{procedure_param, Expr, expr, Comparison, no_comparison, compared, Exprs, no_expr, next_expr, Simple, simple, Addend, addend}
+use Rattle.edi_tree.specs.Tree.{Addends, no_addend, next_addend, Term, term, Multiplier, multiplier, Multipliers, no_multiplier, next_multiplier, Factor}
+use Rattle.edi_tree.specs.Tree.{numeral, string, not_factor, parenthesized, call_factor, variable_factor, Args, args, Variable, variable, Selector, field}
+use Rattle.edi_tree.specs.Tree.{index, Selectors, no_selector, next_selector, StatementList, list, Statements, no_statement, next_statement, Statement, skip}
+use Rattle.edi_tree.specs.Tree.{assignment, call, if_statement, while_statement, when_statement, cobegin, Conditions, conditions, Condition, condition, Else}
+use Rattle.edi_tree.specs.Tree.{no_else, next_else, Branch, branch, Branches, no_branch, next_branch, Procedure, procedure, Item, const_item, type_item}
+use Rattle.edi_tree.specs.Tree.{var_item, procedure_item, pre_item, post_item, Module, module_with, Member, item_member, exported_member, module_member}
+use Rattle.edi_tree.specs.Tree.{Members, no_member, next_member, Declaration, item_declaration, module_declaration, Declarations, no_declaration}
+use Rattle.edi_tree.specs.Tree.{next_declaration, Global, const_global, type_global, Globals, no_global, next_global, Program, program}
 
 -- ---- constants and types
 

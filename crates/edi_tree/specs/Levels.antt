@@ -14,7 +14,18 @@ use Rattle.edi_tree.specs.declared.expressions.Sign.{Sign}
 use Rattle.edi_tree.specs.declared.expressions.Sign.TheVariants as sign
 use Rattle.edi_tree.specs.declared.expressions.Root.{Root}
 use Rattle.edi_tree.specs.declared.expressions.Root.TheVariants as root
-use Rattle.edi_tree.specs.Tree.{Names, no_name, next_name, ConstDecls, no_const_decl, next_const_decl, ConstList, const_list, Group, group, Groups, no_group, next_group, TypeDecl, enum_decl, record_decl, array_decl, set_decl, VarList, var_list, Heading, heading, Params, no_params, params, MoreParams, no_param, next_param, Param, value_param, var_param, procedure_param, Expr, expr, Comparison, no_comparison, compared, Exprs, no_expr, next_expr, Simple, simple, Addend, addend, Addends, no_addend, next_addend, Term, term, Multiplier, multiplier, Multipliers, no_multiplier, next_multiplier, Factor, numeral, string, not_factor, parenthesized, call_factor, variable_factor, Args, args, Variable, variable, Selector, field, index, Selectors, no_selector, next_selector, StatementList, list, Statements, no_statement, next_statement, Statement, skip, assignment, call, if_statement, while_statement, when_statement, cobegin, Conditions, conditions, Condition, condition, Else, no_else, next_else, Branch, branch, Branches, no_branch, next_branch, Procedure, procedure, Item, const_item, type_item, var_item, procedure_item, pre_item, post_item, Module, module_with, Member, item_member, exported_member, module_member, Members, no_member, next_member, Declaration, item_declaration, module_declaration, Declarations, no_declaration, next_declaration, Global, const_global, type_global, Globals, no_global, next_global, Program, program}
+use Rattle.edi_tree.specs.Tree.{Names, no_name, next_name, ConstDecls, no_const_decl, next_const_decl, ConstList, const_list, Group, group, Groups, no_group}
+use Rattle.edi_tree.specs.Tree.{next_group, TypeDecl, enum_decl, record_decl, array_decl, set_decl, VarList, var_list, Heading, heading, Params, no_params}
+use Rattle.edi_tree.specs.Tree.{params, MoreParams, no_param, next_param, Param, value_param, var_param, procedure_param, Expr, expr, Comparison}
+use Rattle.edi_tree.specs.Tree.{no_comparison, compared, Exprs, no_expr, next_expr, Simple, simple, Addend, addend, Addends, no_addend, next_addend, Term}
+use Rattle.edi_tree.specs.Tree.{term, Multiplier, multiplier, Multipliers, no_multiplier, next_multiplier, Factor, numeral, string, not_factor}
+use Rattle.edi_tree.specs.Tree.{parenthesized, call_factor, variable_factor, Args, args, Variable, variable, Selector, field, index, Selectors, no_selector}
+use Rattle.edi_tree.specs.Tree.{next_selector, StatementList, list, Statements, no_statement, next_statement, Statement, skip, assignment, call}
+use Rattle.edi_tree.specs.Tree.{if_statement, while_statement, when_statement, cobegin, Conditions, conditions, Condition, condition, Else, no_else}
+use Rattle.edi_tree.specs.Tree.{next_else, Branch, branch, Branches, no_branch, next_branch, Procedure, procedure, Item, const_item, type_item, var_item}
+use Rattle.edi_tree.specs.Tree.{procedure_item, pre_item, post_item, Module, module_with, Member, item_member, exported_member, module_member, Members}
+use Rattle.edi_tree.specs.Tree.{no_member, next_member, Declaration, item_declaration, module_declaration, Declarations, no_declaration, next_declaration}
+use Rattle.edi_tree.specs.Tree.{Global, const_global, type_global, Globals, no_global, next_global, Program, program}
 use Rattle.edi_tree.specs.Spelled.{Spelled, on, just, name_mark, chars_mark, char_mark, relation_symbol, addition_symbol, multiplication_symbol}
 use Rattle.edi_tree.specs.Spells.{StandsAsMark, StandAsMarks}
 
@@ -113,8 +124,11 @@ groups_elements (next_group g gs) more = word is.Semicolon ∷ group_elements g 
 -- Set = "set" Name "(" Name ")"
 abbrev pub type_decl_elements : TypeDecl → List Element → List Element
 type_decl_elements (enum_decl n m ms) more = word is.Enum ∷ named n ∷ word is.Open ∷ named m ∷ names_elements ms (word is.Close ∷ level_end ∷ more)
-type_decl_elements (record_decl n g gs) more = word is.Record ∷ named n ∷ word is.Open ∷ group_elements g (groups_elements gs (word is.Close ∷ level_end ∷ more))
-type_decl_elements (array_decl n line lower upper e) more = word is.Array ∷ named n ∷ kept is.OpenBracket line ∷ constant_elements lower (word is.Colon ∷ constant_elements upper (word is.CloseBracket ∷ level_end ∷ word is.Open ∷ named e ∷ word is.Close ∷ level_end ∷ more))
+type_decl_elements (record_decl n g gs) more = word is.Record ∷ named n ∷ word is.Open
+    ∷ group_elements g (groups_elements gs (word is.Close ∷ level_end ∷ more))
+type_decl_elements (array_decl n line lower upper e) more = word is.Array ∷ named n ∷ kept is.OpenBracket line
+    ∷ constant_elements lower (word is.Colon
+    ∷ constant_elements upper (word is.CloseBracket ∷ level_end ∷ word is.Open ∷ named e ∷ word is.Close ∷ level_end ∷ more))
 type_decl_elements (set_decl n b) more = word is.Set ∷ named n ∷ word is.Open ∷ named b ∷ word is.Close ∷ level_end ∷ more
 
 -- VarList = "var" Group { ";" Group }
@@ -275,7 +289,8 @@ abbrev mutual
 abbrev mutual
   -- Procedure = Heading { Declaration } "begin" List "end"
   pub procedure_elements : Procedure → List Element → List Element
-  procedure_elements (procedure h ds l end) more = heading_elements h (declarations_elements ds (word is.Begin ∷ list_elements l (kept is.End end ∷ level_end ∷ more)))
+  procedure_elements (procedure h ds l end) more = heading_elements h
+      (declarations_elements ds (word is.Begin ∷ list_elements l (kept is.End end ∷ level_end ∷ more)))
 
   -- Item = ConstList | TypeDecl | VarList | Procedure | Pre | Post
   -- Pre = "pre" Heading
@@ -332,4 +347,5 @@ elements p = program_elements p []
 
 -- some program spells marks that begin with these and then with this one, with which so many levels are open
 abbrev pub Level : List Mark → Mark → ℕ → Type 0
-Level front m level = (tree : Program) × (before : List Element) × (s : Spelled) × (after : List Element) × (elements tree ≡ before ++ mark s ∷ after) × StandAsMarks (marks_among before) front × StandsAsMark s m × (level ≡ level_behind 0 (before ++ mark s ∷ []))
+Level front m level = (tree : Program) × (before : List Element) × (s : Spelled) × (after : List Element) × (elements tree ≡ before ++ mark s ∷ after)
+    × StandAsMarks (marks_among before) front × StandsAsMark s m × (level ≡ level_behind 0 (before ++ mark s ∷ []))

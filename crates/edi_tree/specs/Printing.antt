@@ -10,7 +10,18 @@ use Rattle.edi_tree.specs.declared.expressions.Sign.{Sign}
 use Rattle.edi_tree.specs.declared.expressions.Sign.TheVariants as sign
 use Rattle.edi_tree.specs.declared.expressions.Root.{Root}
 use Rattle.edi_tree.specs.declared.expressions.Root.TheVariants as root
-use Rattle.edi_tree.specs.Tree.{Names, no_name, next_name, ConstDecls, no_const_decl, next_const_decl, ConstList, const_list, Group, group, Groups, no_group, next_group, TypeDecl, enum_decl, record_decl, array_decl, set_decl, VarList, var_list, Heading, heading, Params, no_params, params, MoreParams, no_param, next_param, Param, value_param, var_param, procedure_param, Expr, expr, Comparison, no_comparison, compared, Exprs, no_expr, next_expr, Simple, simple, Addend, addend, Addends, no_addend, next_addend, Term, term, Multiplier, multiplier, Multipliers, no_multiplier, next_multiplier, Factor, numeral, string, not_factor, parenthesized, call_factor, variable_factor, Args, args, Variable, variable, Selector, field, index, Selectors, no_selector, next_selector, StatementList, list, Statements, no_statement, next_statement, Statement, skip, assignment, call, if_statement, while_statement, when_statement, cobegin, Conditions, conditions, Condition, condition, Else, no_else, next_else, Branch, branch, Branches, no_branch, next_branch, Procedure, procedure, Item, const_item, type_item, var_item, procedure_item, pre_item, post_item, Module, module_with, Member, item_member, exported_member, module_member, Members, no_member, next_member, Declaration, item_declaration, module_declaration, Declarations, no_declaration, next_declaration, Global, const_global, type_global, Globals, no_global, next_global, Program, program}
+use Rattle.edi_tree.specs.Tree.{Names, no_name, next_name, ConstDecls, no_const_decl, next_const_decl, ConstList, const_list, Group, group, Groups, no_group}
+use Rattle.edi_tree.specs.Tree.{next_group, TypeDecl, enum_decl, record_decl, array_decl, set_decl, VarList, var_list, Heading, heading, Params, no_params}
+use Rattle.edi_tree.specs.Tree.{params, MoreParams, no_param, next_param, Param, value_param, var_param, procedure_param, Expr, expr, Comparison}
+use Rattle.edi_tree.specs.Tree.{no_comparison, compared, Exprs, no_expr, next_expr, Simple, simple, Addend, addend, Addends, no_addend, next_addend, Term}
+use Rattle.edi_tree.specs.Tree.{term, Multiplier, multiplier, Multipliers, no_multiplier, next_multiplier, Factor, numeral, string, not_factor}
+use Rattle.edi_tree.specs.Tree.{parenthesized, call_factor, variable_factor, Args, args, Variable, variable, Selector, field, index, Selectors, no_selector}
+use Rattle.edi_tree.specs.Tree.{next_selector, StatementList, list, Statements, no_statement, next_statement, Statement, skip, assignment, call}
+use Rattle.edi_tree.specs.Tree.{if_statement, while_statement, when_statement, cobegin, Conditions, conditions, Condition, condition, Else, no_else}
+use Rattle.edi_tree.specs.Tree.{next_else, Branch, branch, Branches, no_branch, next_branch, Procedure, procedure, Item, const_item, type_item, var_item}
+use Rattle.edi_tree.specs.Tree.{procedure_item, pre_item, post_item, Module, module_with, Member, item_member, exported_member, module_member, Members}
+use Rattle.edi_tree.specs.Tree.{no_member, next_member, Declaration, item_declaration, module_declaration, Declarations, no_declaration, next_declaration}
+use Rattle.edi_tree.specs.Tree.{Global, const_global, type_global, Globals, no_global, next_global, Program, program}
 use Rattle.edi_tree.specs.Spelled.{Spelled, on, just, name_mark, chars_mark, char_mark, relation_symbol, addition_symbol, multiplication_symbol}
 use Rattle.edi_tree.specs.Printed.{text_of, gap, line_at}
 use Rattle.edi_tree.specs.declared.printer.Printer.{Printer}
@@ -63,9 +74,13 @@ print_groups (next_group g gs) out = print_groups gs (print_group g (put (just i
 -- Array = "array" Name "[" Constant ":" Constant "]" "(" Name ")"
 -- Set = "set" Name "(" Name ")"
 abbrev pub print_type_decl : TypeDecl → Printer → Printer
-print_type_decl (enum_decl n m ms) out = put (just is.Close) (print_names ms (put (name_mark m) (put (just is.Open) (put (name_mark n) (put (just is.Enum) out)))))
-print_type_decl (record_decl n g gs) out = put (just is.Close) (print_groups gs (print_group g (put (just is.Open) (put (name_mark n) (put (just is.Record) out)))))
-print_type_decl (array_decl n line lower upper e) out = put (just is.Close) (put (name_mark e) (put (just is.Open) (put (just is.CloseBracket) (print_constant upper (put (just is.Colon) (print_constant lower (put (on is.OpenBracket line) (put (name_mark n) (put (just is.Array) out)))))))))
+print_type_decl (enum_decl n m ms) out = put (just is.Close)
+    (print_names ms (put (name_mark m) (put (just is.Open) (put (name_mark n) (put (just is.Enum) out)))))
+print_type_decl (record_decl n g gs) out = put (just is.Close)
+    (print_groups gs (print_group g (put (just is.Open) (put (name_mark n) (put (just is.Record) out)))))
+print_type_decl (array_decl n line lower upper e) out = put (just is.Close)
+    (put (name_mark e) (put (just is.Open) (put (just is.CloseBracket)
+    (print_constant upper (put (just is.Colon) (print_constant lower (put (on is.OpenBracket line) (put (name_mark n) (put (just is.Array) out)))))))))
 print_type_decl (set_decl n b) out = put (just is.Close) (put (name_mark b) (put (just is.Open) (put (name_mark n) (put (just is.Set) out))))
 
 -- VarList = "var" Group { ";" Group }
@@ -283,4 +298,5 @@ print_name_in_parentheses n out = put (just is.Close) (put (name_mark n) (put (j
 
 -- "[" Constant ":" Constant "]"
 abbrev pub print_bounds : ℕ → Constant → Constant → Printer → Printer
-print_bounds line lower upper out = put (just is.CloseBracket) (print_constant upper (put (just is.Colon) (print_constant lower (put (on is.OpenBracket line) out))))
+print_bounds line lower upper out = put (just is.CloseBracket)
+    (print_constant upper (put (just is.Colon) (print_constant lower (put (on is.OpenBracket line) out))))

@@ -11,7 +11,15 @@ use Rattle.edi_tree.specs.declared.expressions.Sign.TheVariants as sign
 use Rattle.edi_tree.specs.declared.expressions.Addition.TheVariants as addition
 use Rattle.edi_tree.specs.declared.expressions.Multiplication.TheVariants as multiplication
 use Rattle.edi_tree.specs.declared.expressions.Root.TheVariants as root
-use Rattle.edi_tree.specs.Tree.{no_name, next_name, no_const_decl, next_const_decl, const_list, group, no_group, next_group, enum_decl, record_decl, array_decl, set_decl, var_list, heading, no_params, params, no_param, next_param, value_param, var_param, procedure_param, expr, no_comparison, compared, no_expr, next_expr, simple, addend, no_addend, next_addend, term, multiplier, no_multiplier, next_multiplier, numeral, string, not_factor, parenthesized, call_factor, variable_factor, args, variable, field, index, no_selector, next_selector, list, no_statement, next_statement, skip, assignment, call, if_statement, while_statement, when_statement, cobegin, conditions, condition, no_else, next_else, branch, no_branch, next_branch, procedure, const_item, var_item, procedure_item, pre_item, post_item, module_with, item_member, exported_member, module_member, no_member, next_member, item_declaration, module_declaration, no_declaration, next_declaration, const_global, type_global, no_global, next_global, Program, program}
+use Rattle.edi_tree.specs.Tree.{no_name, next_name, no_const_decl, next_const_decl, const_list, group, no_group, next_group, enum_decl, record_decl}
+use Rattle.edi_tree.specs.Tree.{array_decl, set_decl, var_list, heading, no_params, params, no_param, next_param, value_param, var_param, procedure_param}
+use Rattle.edi_tree.specs.Tree.{expr, no_comparison, compared, no_expr, next_expr, simple, addend, no_addend, next_addend, term, multiplier, no_multiplier}
+use Rattle.edi_tree.specs.Tree.{next_multiplier, numeral, string, not_factor, parenthesized, call_factor, variable_factor, args, variable, field, index}
+use Rattle.edi_tree.specs.Tree.{no_selector, next_selector, list, no_statement, next_statement, skip, assignment, call, if_statement, while_statement}
+use Rattle.edi_tree.specs.Tree.{when_statement, cobegin, conditions, condition, no_else, next_else, branch, no_branch, next_branch, procedure, const_item}
+use Rattle.edi_tree.specs.Tree.{var_item, procedure_item, pre_item, post_item, module_with, item_member, exported_member, module_member, no_member}
+use Rattle.edi_tree.specs.Tree.{next_member, item_declaration, module_declaration, no_declaration, next_declaration, const_global, type_global, no_global}
+use Rattle.edi_tree.specs.Tree.{next_global, Program, program}
 use Rattle.edi_tree.specs.Printed.{printed}
 use Rattle.edi_tree.specs.Depth.{depth}
 

@@ -18,7 +18,18 @@ use Rattle.edi_tree.specs.declared.expressions.Multiplication.{Multiplication}
 use Rattle.edi_tree.specs.declared.expressions.Multiplication.TheVariants as multiplication
 use Rattle.edi_tree.specs.declared.expressions.Root.{Root}
 use Rattle.edi_tree.specs.declared.expressions.Root.TheVariants as root
-use Rattle.edi_tree.specs.Tree.{Names, no_name, next_name, ConstDecls, no_const_decl, next_const_decl, ConstList, const_list, Group, group, Groups, no_group, next_group, TypeDecl, enum_decl, record_decl, array_decl, set_decl, VarList, var_list, Heading, heading, Params, no_params, params, MoreParams, no_param, next_param, Param, value_param, var_param, procedure_param, Expr, expr, Comparison, no_comparison, compared, Exprs, no_expr, next_expr, Simple, simple, Addend, addend, Addends, no_addend, next_addend, Term, term, Multiplier, multiplier, Multipliers, no_multiplier, next_multiplier, Factor, numeral, string, not_factor, parenthesized, call_factor, variable_factor, Args, args, Variable, variable, Selector, field, index, Selectors, no_selector, next_selector, StatementList, list, Statements, no_statement, next_statement, Statement, skip, assignment, call, if_statement, while_statement, when_statement, cobegin, Conditions, conditions, Condition, condition, Else, no_else, next_else, Branch, branch, Branches, no_branch, next_branch, Procedure, procedure, Item, const_item, type_item, var_item, procedure_item, pre_item, post_item, Module, module_with, Member, item_member, exported_member, module_member, Members, no_member, next_member, Declaration, item_declaration, module_declaration, Declarations, no_declaration, next_declaration, Global, const_global, type_global, Globals, no_global, next_global, Program, program}
+use Rattle.edi_tree.specs.Tree.{Names, no_name, next_name, ConstDecls, no_const_decl, next_const_decl, ConstList, const_list, Group, group, Groups, no_group}
+use Rattle.edi_tree.specs.Tree.{next_group, TypeDecl, enum_decl, record_decl, array_decl, set_decl, VarList, var_list, Heading, heading, Params, no_params}
+use Rattle.edi_tree.specs.Tree.{params, MoreParams, no_param, next_param, Param, value_param, var_param, procedure_param, Expr, expr, Comparison}
+use Rattle.edi_tree.specs.Tree.{no_comparison, compared, Exprs, no_expr, next_expr, Simple, simple, Addend, addend, Addends, no_addend, next_addend, Term}
+use Rattle.edi_tree.specs.Tree.{term, Multiplier, multiplier, Multipliers, no_multiplier, next_multiplier, Factor, numeral, string, not_factor}
+use Rattle.edi_tree.specs.Tree.{parenthesized, call_factor, variable_factor, Args, args, Variable, variable, Selector, field, index, Selectors, no_selector}
+use Rattle.edi_tree.specs.Tree.{next_selector, StatementList, list, Statements, no_statement, next_statement, Statement, skip, assignment, call}
+use Rattle.edi_tree.specs.Tree.{if_statement, while_statement, when_statement, cobegin, Conditions, conditions, Condition, condition, Else, no_else}
+use Rattle.edi_tree.specs.Tree.{next_else, Branch, branch, Branches, no_branch, next_branch, Procedure, procedure, Item, const_item, type_item, var_item}
+use Rattle.edi_tree.specs.Tree.{procedure_item, pre_item, post_item, Module, module_with, Member, item_member, exported_member, module_member, Members}
+use Rattle.edi_tree.specs.Tree.{no_member, next_member, Declaration, item_declaration, module_declaration, Declarations, no_declaration, next_declaration}
+use Rattle.edi_tree.specs.Tree.{Global, const_global, type_global, Globals, no_global, next_global, Program, program}
 
 -- a symbol, and its line where the tree keeps it; else the symbol may stand on any line
 pub record Spelled : Type 0 where
@@ -86,7 +97,8 @@ groups_then (next_group g gs) more = just is.Semicolon ∷ group_then g (groups_
 abbrev pub type_decl_then : TypeDecl → List Spelled → List Spelled
 type_decl_then (enum_decl n m ms) more = just is.Enum ∷ name_mark n ∷ just is.Open ∷ name_mark m ∷ names_then ms (just is.Close ∷ more)
 type_decl_then (record_decl n g gs) more = just is.Record ∷ name_mark n ∷ just is.Open ∷ group_then g (groups_then gs (just is.Close ∷ more))
-type_decl_then (array_decl n line lower upper e) more = just is.Array ∷ name_mark n ∷ on is.OpenBracket line ∷ constant_then lower (just is.Colon ∷ constant_then upper (just is.CloseBracket ∷ just is.Open ∷ name_mark e ∷ just is.Close ∷ more))
+type_decl_then (array_decl n line lower upper e) more = just is.Array ∷ name_mark n ∷ on is.OpenBracket line
+    ∷ constant_then lower (just is.Colon ∷ constant_then upper (just is.CloseBracket ∷ just is.Open ∷ name_mark e ∷ just is.Close ∷ more))
 type_decl_then (set_decl n b) more = just is.Set ∷ name_mark n ∷ just is.Open ∷ name_mark b ∷ just is.Close ∷ more
 
 -- VarList = "var" Group { ";" Group }

@@ -12,8 +12,10 @@ use Rattle.edi_tree.specs.declared.headings.Heading as code_heading
 use Rattle.edi_tree.specs.declared.headings.Param as code_param
 use Rattle.edi_tree.specs.declared.headings.Param.TheOpen.{Param-F, Heading-F}
 use Rattle.edi_tree.specs.declared.headings.Param.TheFolds.{fold-Param, fold-Heading}
-use Rattle.edi_tree.specs.declared.expressions.Factor.TheOpen.{Factor-F, Selector-F, Addend-F, Args-F, Comparison-F, Expr-F, Multiplier-F, Simple-F, Term-F, Variable-F}
-use Rattle.edi_tree.specs.declared.expressions.Factor.TheFolds.{fold-Factor, fold-Selector, fold-Addend, fold-Args, fold-Comparison, fold-Expr, fold-Multiplier, fold-Simple, fold-Term, fold-Variable}
+use Rattle.edi_tree.specs.declared.expressions.Factor.TheOpen.{Factor-F, Selector-F, Addend-F, Args-F, Comparison-F, Expr-F, Multiplier-F, Simple-F, Term-F}
+use Rattle.edi_tree.specs.declared.expressions.Factor.TheOpen.{Variable-F}
+use Rattle.edi_tree.specs.declared.expressions.Factor.TheFolds.{fold-Factor, fold-Selector, fold-Addend, fold-Args, fold-Comparison, fold-Expr}
+use Rattle.edi_tree.specs.declared.expressions.Factor.TheFolds.{fold-Multiplier, fold-Simple, fold-Term, fold-Variable}
 use Rattle.edi_tree.specs.declared.expressions.Factor as code_factor
 use Rattle.edi_tree.specs.declared.expressions.Selector as code_selector
 use Rattle.edi_tree.specs.declared.expressions.Addend as code_addend
@@ -25,7 +27,8 @@ use Rattle.edi_tree.specs.declared.expressions.Simple as code_simple
 use Rattle.edi_tree.specs.declared.expressions.Term as code_term
 use Rattle.edi_tree.specs.declared.expressions.Variable as code_variable
 use Rattle.edi_tree.specs.declared.statements.Statement.TheOpen.{Statement-F, Branch-F, Cobegin-F, Condition-F, Conditions-F, List-F, When-F}
-use Rattle.edi_tree.specs.declared.statements.Statement.TheFolds.{fold-Statement, fold-Branch, fold-Cobegin, fold-Condition, fold-Conditions, fold-List, fold-When}
+use Rattle.edi_tree.specs.declared.statements.Statement.TheFolds.{fold-Statement, fold-Branch, fold-Cobegin, fold-Condition, fold-Conditions, fold-List}
+use Rattle.edi_tree.specs.declared.statements.Statement.TheFolds.{fold-When}
 use Rattle.edi_tree.specs.declared.statements.Statement as code_statement
 use Rattle.edi_tree.specs.declared.statements.Branch as code_branch
 use Rattle.edi_tree.specs.declared.statements.Cobegin as code_cobegin
@@ -45,7 +48,18 @@ use Rattle.edi_tree.specs.declared.declarations.Procedure as code_procedure
 use Rattle.edi_tree.specs.declared.sequence.Sequence as code_sequence
 use Rattle.edi_tree.specs.declared.programs.Global as code_global
 use Rattle.edi_tree.specs.declared.programs.Global.TheVariants as global
-use Rattle.edi_tree.specs.Tree.{Names, no_name, next_name, ConstDecls, no_const_decl, next_const_decl, ConstList, const_list, Group, group, Groups, no_group, next_group, TypeDecl, enum_decl, record_decl, array_decl, set_decl, VarList, var_list, Heading, heading, Params, no_params, params, MoreParams, no_param, next_param, Param, value_param, var_param, procedure_param, Expr, expr, Comparison, no_comparison, compared, Exprs, no_expr, next_expr, Simple, simple, Addend, addend, Addends, no_addend, next_addend, Term, term, Multiplier, multiplier, Multipliers, no_multiplier, next_multiplier, Factor, numeral, string, not_factor, parenthesized, call_factor, variable_factor, Args, args, Variable, variable, Selector, field, index, Selectors, no_selector, next_selector, StatementList, list, Statements, no_statement, next_statement, Statement, skip, assignment, call, if_statement, while_statement, when_statement, cobegin, Conditions, conditions, Condition, condition, Else, no_else, next_else, Branch, branch, Branches, no_branch, next_branch, Procedure, procedure, Item, const_item, type_item, var_item, procedure_item, pre_item, post_item, Module, module_with, Member, item_member, exported_member, module_member, Members, no_member, next_member, Declaration, item_declaration, module_declaration, Declarations, no_declaration, next_declaration, Global, const_global, type_global, Globals, no_global, next_global, Program, program}
+use Rattle.edi_tree.specs.Tree.{Names, no_name, next_name, ConstDecls, no_const_decl, next_const_decl, ConstList, const_list, Group, group, Groups, no_group}
+use Rattle.edi_tree.specs.Tree.{next_group, TypeDecl, enum_decl, record_decl, array_decl, set_decl, VarList, var_list, Heading, heading, Params, no_params}
+use Rattle.edi_tree.specs.Tree.{params, MoreParams, no_param, next_param, Param, value_param, var_param, procedure_param, Expr, expr, Comparison}
+use Rattle.edi_tree.specs.Tree.{no_comparison, compared, Exprs, no_expr, next_expr, Simple, simple, Addend, addend, Addends, no_addend, next_addend, Term}
+use Rattle.edi_tree.specs.Tree.{term, Multiplier, multiplier, Multipliers, no_multiplier, next_multiplier, Factor, numeral, string, not_factor}
+use Rattle.edi_tree.specs.Tree.{parenthesized, call_factor, variable_factor, Args, args, Variable, variable, Selector, field, index, Selectors, no_selector}
+use Rattle.edi_tree.specs.Tree.{next_selector, StatementList, list, Statements, no_statement, next_statement, Statement, skip, assignment, call}
+use Rattle.edi_tree.specs.Tree.{if_statement, while_statement, when_statement, cobegin, Conditions, conditions, Condition, condition, Else, no_else}
+use Rattle.edi_tree.specs.Tree.{next_else, Branch, branch, Branches, no_branch, next_branch, Procedure, procedure, Item, const_item, type_item, var_item}
+use Rattle.edi_tree.specs.Tree.{procedure_item, pre_item, post_item, Module, module_with, Member, item_member, exported_member, module_member, Members}
+use Rattle.edi_tree.specs.Tree.{no_member, next_member, Declaration, item_declaration, module_declaration, Declarations, no_declaration, next_declaration}
+use Rattle.edi_tree.specs.Tree.{Global, const_global, type_global, Globals, no_global, next_global, Program, program}
 
 -- ---- names, constants, types, variables
 

@@ -1,7 +1,8 @@
 //! Printing of headings, procedures and modules.
 
 ghost use Rattle.std.specs.Prelude.{◌≡◌, OnOk};
-ghost use Rattle.edi_tree.specs.View.{declaration_of, declarations_of, heading_of, item_of, member_of, members_of, module_of, param_of, params_of, procedure_of};
+ghost use Rattle.edi_tree.specs.View.{declaration_of, declarations_of, heading_of, item_of, member_of, members_of, module_of, param_of, params_of};
+ghost use Rattle.edi_tree.specs.View.{procedure_of};
 ghost use Rattle.edi_tree.specs.Printing as spec;
 
 use crate::declarations::{Declaration, Declarations, Item, Member, Members, Module, Procedure};

@@ -1,7 +1,8 @@
 //! Printing of expressions.
 
 ghost use Rattle.std.specs.Prelude.{◌≡◌, OnOk};
-ghost use Rattle.edi_tree.specs.View.{addend_of, args_of, comparison_of, expr_of, exprs_of, factor_of, multiplier_of, selector_of, simple_of, term_of, variable_of};
+ghost use Rattle.edi_tree.specs.View.{addend_of, args_of, comparison_of, expr_of, exprs_of, factor_of, multiplier_of, selector_of, simple_of, term_of};
+ghost use Rattle.edi_tree.specs.View.{variable_of};
 ghost use Rattle.edi_tree.specs.Printing as spec;
 
 use crate::expressions::{

@@ -35,13 +35,16 @@ first_is_bounded = record {
   is_bounded = record { spelled = refl; orderly = refl; few = omega arith; bounded = omega arith };
 }
 
-is_first : (gs : code_sequence.Sequence code_global.Global) (p : code_procedure.Procedure) → items_of gs ≡ [] → procedure_of p ≡ procedure_main → program_with gs p ≡ first
+is_first : (gs : code_sequence.Sequence code_global.Global) (p : code_procedure.Procedure) → items_of gs ≡ [] → procedure_of p ≡ procedure_main
+    → program_with gs p ≡ first
 unfolding first
 is_first gs p none is = ap (λ l. program (globals (map global_of l)) (procedure_of p)) none ∙ ap (program no_global) is
 
-pub is_bounded : (gs : code_sequence.Sequence code_global.Global) (p : code_procedure.Procedure) → items_of gs ≡ [] → procedure_of p ≡ procedure_main → ∥ IsBounded (program_with gs p) ∥₁
+pub is_bounded : (gs : code_sequence.Sequence code_global.Global) (p : code_procedure.Procedure) → items_of gs ≡ [] → procedure_of p ≡ procedure_main
+    → ∥ IsBounded (program_with gs p) ∥₁
 is_bounded gs p none is = subst (λ t. ∥ IsBounded t ∥₁) (sym (is_first gs p none is)) ∣ first_is_bounded ∣₁
 
-pub shallow : (gs : code_sequence.Sequence code_global.Global) (p : code_procedure.Procedure) → items_of gs ≡ [] → procedure_of p ≡ procedure_main → depth (program_with gs p) ≤ 64
+pub shallow : (gs : code_sequence.Sequence code_global.Global) (p : code_procedure.Procedure) → items_of gs ≡ [] → procedure_of p ≡ procedure_main
+    → depth (program_with gs p) ≤ 64
 unfolding first procedure_main body main display shows letter
 shallow gs p none is = subst (λ t. depth t ≤ 64) (sym (is_first gs p none is)) (omega arith)

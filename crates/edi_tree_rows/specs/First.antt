@@ -2,7 +2,9 @@
 use Rattle.std.specs.Prelude.{ℕ, List, Option, Some, None, codes}
 use Rattle.edi_tree.specs.declared.names.Name.{Name}
 use Rattle.edi_tree.specs.declared.names.Chars.{Chars}
-use Rattle.edi_tree.specs.Tree.{group, no_name, Heading, heading, params, no_param, value_param, procedure_param, Expr, expr, no_comparison, no_expr, simple, no_addend, term, no_multiplier, string, args, StatementList, list, no_statement, Statement, call, Procedure, procedure, no_declaration}
+use Rattle.edi_tree.specs.Tree.{group, no_name, Heading, heading, params, no_param, value_param, procedure_param, Expr, expr, no_comparison, no_expr, simple}
+use Rattle.edi_tree.specs.Tree.{no_addend, term, no_multiplier, string, args, StatementList, list, no_statement, Statement, call, Procedure, procedure}
+use Rattle.edi_tree.specs.Tree.{no_declaration}
 
 abbrev pub on_line_1 : List ℕ → Name
 on_line_1 text = record { text = text; line = 1 }

@@ -23,17 +23,20 @@ module _ {A : Type 0} (rule : (ℕ → A) → Shape → A) (d : A) where
       ∙ get_or-append known (rule (λ t. get_or known t d) s ∷ []) d t before
 
   -- the entries of the types of a table stay where types follow
-  pub entries-before : (types more : List Shape) (t : ℕ) → t < length types → get_or (entries rule d [] (types ++ more)) t d ≡ get_or (entries rule d [] types) t d
+  pub entries-before : (types more : List Shape) (t : ℕ) → t < length types → get_or (entries rule d [] (types ++ more)) t d ≡ get_or
+      (entries rule d [] types) t d
   entries-before types more t before =
       ap (λ l. get_or l t d) (entries-append [] types more)
       ∙ entries-known (entries rule d [] types) more t (omega (arith, length-entries [] types))
 
   -- the entry of a type is made by the rule from the entries of the types before it
-  pub entries-at : (types : List Shape) (s : Shape) (more : List Shape) → get_or (entries rule d [] (types ++ s ∷ more)) (length types) d ≡ rule (λ t. get_or (entries rule d [] types) t d) s
+  pub entries-at : (types : List Shape) (s : Shape) (more : List Shape) → get_or (entries rule d [] (types ++ s ∷ more)) (length types) d ≡ rule
+      (λ t. get_or (entries rule d [] types) t d) s
   entries-at types s more =
       let known = entries rule d [] types in
       let long : length known ≡ length types = length-entries [] types ∙ omega arith in
       ap (λ l. get_or l (length types) d) (entries-append [] types (s ∷ more))
-      ∙ entries-known (known ++ rule (λ t. get_or known t d) s ∷ []) more (length types) (omega (arith, length-append known (rule (λ t. get_or known t d) s ∷ [])))
+      ∙ entries-known (known ++ rule (λ t. get_or known t d) s ∷ []) more (length types)
+      (omega (arith, length-append known (rule (λ t. get_or known t d) s ∷ [])))
       ∙ ap (λ n. get_or (known ++ rule (λ t. get_or known t d) s ∷ []) n d) (sym long)
       ∙ get_or-append_seam known (rule (λ t. get_or known t d) s) [] d

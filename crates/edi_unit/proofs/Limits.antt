@@ -13,26 +13,35 @@ drop_item xs i x within is =
 
 module _ (types : List Shape) (blocks : List Block) (b : ℕ) where
   -- the words before the parts count up to the limit alone
-  compound_limited : (m n : ℕ) (es : Expressions) → limited m ≡ limited n → limited (compound_height types blocks b m es) ≡ limited (compound_height types blocks b n es)
+  compound_limited : (m n : ℕ) (es : Expressions) → limited m ≡ limited n → limited (compound_height types blocks b m es) ≡ limited
+      (compound_height types blocks b n es)
   compound_limited m n no_expression same = refl
   compound_limited m n (expression_then e es) same =
       let rest = compound_limited (m + size types (expression_type types blocks b e)) (n + size types (expression_type types blocks b e)) es (omega arith) in
       omega (arith, rest)
 
-  arguments_limited : (m n : ℕ) (xs : Arguments) → limited m ≡ limited n → limited (arguments_height types blocks b m xs) ≡ limited (arguments_height types blocks b n xs)
+  arguments_limited : (m n : ℕ) (xs : Arguments) → limited m ≡ limited n → limited (arguments_height types blocks b m xs) ≡ limited
+      (arguments_height types blocks b n xs)
   arguments_limited m n no_argument same = refl
   arguments_limited m n (argument_then x xs) same =
       let rest = arguments_limited (m + argument_words types blocks b x) (n + argument_words types blocks b x) xs (omega arith) in
       omega (arith, rest)
 
   -- one more part
-  pub compound_step : (e : Expression) (es : Expressions) (before after words more height here all : ℕ) → height ≡ limited (expression_height types blocks b e) → here ≡ limited (before + height) → more ≡ max words here → after ≡ limited (before + size types (expression_type types blocks b e)) → limited (max words (compound_height types blocks b before (expression_then e es))) ≡ all → limited (max more (compound_height types blocks b after es)) ≡ all
+  pub compound_step : (e : Expression) (es : Expressions) (before after words more height here all : ℕ)
+      → height ≡ limited (expression_height types blocks b e) → here ≡ limited (before + height) → more ≡ max words here
+      → after ≡ limited (before + size types (expression_type types blocks b e))
+      → limited (max words (compound_height types blocks b before (expression_then e es))) ≡ all → limited (max more (compound_height types blocks b after es))
+      ≡ all
   compound_step e es before after words more height here all he hh hm ha hi =
       let rest = compound_limited after (before + size types (expression_type types blocks b e)) es (omega arith) in
       omega (arith, rest)
 
   -- one more argument
-  pub arguments_step : (x : Argument) (xs : Arguments) (before after words more height here all : ℕ) → height ≡ limited (argument_height types blocks b x) → here ≡ limited (before + height) → more ≡ max words here → after ≡ limited (before + argument_words types blocks b x) → limited (max words (arguments_height types blocks b before (argument_then x xs))) ≡ all → limited (max more (arguments_height types blocks b after xs)) ≡ all
+  pub arguments_step : (x : Argument) (xs : Arguments) (before after words more height here all : ℕ) → height ≡ limited (argument_height types blocks b x)
+      → here ≡ limited (before + height) → more ≡ max words here → after ≡ limited (before + argument_words types blocks b x)
+      → limited (max words (arguments_height types blocks b before (argument_then x xs))) ≡ all → limited (max more (arguments_height types blocks b after xs))
+      ≡ all
   arguments_step x xs before after words more height here all he hh hm ha hi =
       let rest = arguments_limited after (before + argument_words types blocks b x) xs (omega arith) in
       omega (arith, rest)

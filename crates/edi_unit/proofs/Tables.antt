@@ -1,5 +1,6 @@
 -- Lemmas on tables of types: the size of a type from the sizes of the types that it names, and what a declaration keeps.
-use Rattle.std.proofs.Common.{◌≡◌, ℕ, zero, suc, ◌+◌, ◌-◌, ◌*◌, ◌^◌, ◌<◌, ◌≤◌, List, [], ◌∷◌, ◌++◌, length, get_or, take, drop, drop-cons, refl, sym, ap, ◌∙◌, subst, arith, inl, inr, length-append}
+use Rattle.std.proofs.Common.{◌≡◌, ℕ, zero, suc, ◌+◌, ◌-◌, ◌*◌, ◌^◌, ◌<◌, ◌≤◌, List, [], ◌∷◌, ◌++◌, length, get_or, take, drop, drop-cons, refl, sym, ap}
+use Rattle.std.proofs.Common.{◌∙◌, subst, arith, inl, inr, length-append}
 use Rattle.std.specs.Prelude.{sum_by, All, IfSome, slice_get}
 use Rattle.std.proofs.lemmas.Bool.{cases_eq}
 use Rattle.std.proofs.lemmas.List.Sums.{sum_by-cons}
@@ -7,7 +8,8 @@ use Rattle.std.proofs.lemmas.List.{take-append-drop, take-append-le, length-take
 use Rattle.std.proofs.Math.ListN.{get_or-append, get_or-eq_default}
 use Rattle.std.proofs.Math.Seq.{get_or-append_seam, take-append_seam}
 use Rattle.edi_unit.proofs.Entries.{length-entries, entries-append, entries-before, entries-at}
-use Rattle.edi_unit.specs.Types.{Shape, int, char, bool, enumeration, record_of, array_of, set_of, shape_at, shape_size, element_count, named_types, size, type_sizes, greatest_size, field_type, fields_of, IsDeclarable, AreDeclared, IsTypeTable}
+use Rattle.edi_unit.specs.Types.{Shape, int, char, bool, enumeration, record_of, array_of, set_of, shape_at, shape_size, element_count, named_types, size}
+use Rattle.edi_unit.specs.Types.{type_sizes, greatest_size, field_type, fields_of, IsDeclarable, AreDeclared, IsTypeTable}
 
 pub length-type_sizes : (types : List Shape) → length (type_sizes types) ≡ length types
 length-type_sizes types = length-entries shape_size 0 [] types ∙ omega arith
@@ -102,7 +104,8 @@ table-push types s table new room = record {
 pub named_known : (types : List Shape) (s : Shape) (kept : List ℕ) → kept ≡ type_sizes types → IsDeclarable types s → All (λ t. t < length kept) (named_types s)
 named_known types s kept same new = λ k d h. let known = new.known k d h in let long = ap length same ∙ length-type_sizes types in omega (arith, known, long)
 
-pub small_kept : (types : List Shape) (s : Shape) (kept : List ℕ) → kept ≡ type_sizes types → IsDeclarable types s → shape_size (λ t. get_or kept t 0) s ≤ greatest_size
+pub small_kept : (types : List Shape) (s : Shape) (kept : List ℕ) → kept ≡ type_sizes types → IsDeclarable types s → shape_size (λ t. get_or kept t 0) s ≤
+    greatest_size
 unfolding size
 small_kept types s kept same new = subst (λ l. shape_size (λ t. get_or l t 0) s ≤ greatest_size) (sym same) new.small
 
@@ -110,7 +113,9 @@ sizes-push : (types : List Shape) (s : Shape) → type_sizes (types ++ s ∷ [])
 sizes-push types s = entries-append shape_size 0 [] types (s ∷ [])
 
 -- the lists after a declaration
-pub table_kept : (types next : List Shape) (s : Shape) (kept longer : List ℕ) (n : ℕ) → kept ≡ type_sizes types → IsTypeTable types → IsDeclarable types s → length types < 2 ^ 32 - 1 → n ≡ shape_size (λ t. get_or kept t 0) s → longer ≡ kept ++ n ∷ [] → next ≡ types ++ s ∷ [] → (longer ≡ type_sizes next) × IsTypeTable next
+pub table_kept : (types next : List Shape) (s : Shape) (kept longer : List ℕ) (n : ℕ) → kept ≡ type_sizes types → IsTypeTable types → IsDeclarable types s
+    → length types < 2 ^ 32 - 1 → n ≡ shape_size (λ t. get_or kept t 0) s → longer ≡ kept ++ n ∷ [] → next ≡ types ++ s ∷ [] → (longer ≡ type_sizes next)
+    × IsTypeTable next
 table_kept types next s kept longer n same table new room count long more = (
   long ∙ ap (λ k. kept ++ k ∷ []) count ∙ ap (λ l. l ++ shape_size (λ t. get_or l t 0) s ∷ []) same ∙ sym (sizes-push types s) ∙ sym (ap type_sizes more),
   subst IsTypeTable (sym more) (table-push types s table new room),

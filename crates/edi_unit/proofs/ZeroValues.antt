@@ -4,7 +4,8 @@ use Rattle.std.specs.Prelude.{All, map, replicate, true}
 use Rattle.std.proofs.lemmas.Int.{ints}
 use Rattle.edi_unit.proofs.Entries.{entries-before, entries-at}
 use Rattle.edi_unit.proofs.Tables.{types-split, length-before}
-use Rattle.edi_unit.specs.Types.{Shape, int, char, bool, enumeration, record_of, array_of, set_of, shape_at, element_count, named_types, is_ordinal_of, has_parts, is_set_shape, part_types, IsTypeTable}
+use Rattle.edi_unit.specs.Types.{Shape, int, char, bool, enumeration, record_of, array_of, set_of, shape_at, element_count, named_types, is_ordinal_of}
+use Rattle.edi_unit.specs.Types.{has_parts, is_set_shape, part_types, IsTypeTable}
 use Rattle.edi_unit.specs.Values.{Value, ordinal, compound, values, shape_zero, zero_value, IsOf, AreOf}
 use Rattle.edi_unit.specs.Fits.{ShapeFits, ShapesFit}
 
@@ -47,7 +48,8 @@ first_constant : (k : ℕ) → 0 < k → is_ordinal_of (enumeration k) (pos 0) �
 first_constant k some = grind (arith, ints)
 
 module _ (types : List Shape) where
-  zero_fields : (n : ℕ) (ts : List ℕ) → All (λ t. t < n) ts → ((t : ℕ) → t < n → IsOf types (zero_value types t) t) → AreOf types (values (map (zero_value types) ts)) ts
+  zero_fields : (n : ℕ) (ts : List ℕ) → All (λ t. t < n) ts → ((t : ℕ) → t < n → IsOf types (zero_value types t) t)
+      → AreOf types (values (map (zero_value types) ts)) ts
   zero_fields n [] below earlier = tt
   zero_fields n (t ∷ ts) below earlier = (earlier t (below 0 0 (omega arith)), zero_fields n ts (λ k d h. below (suc k) d (omega arith)) earlier)
 
@@ -55,15 +57,19 @@ module _ (types : List Shape) where
   zero_elements v t zero is = tt
   zero_elements v t (suc k) is = (is, zero_elements v t k is)
 
-  zero_of_shape : (t : ℕ) (s : Shape) → shape_at types t ≡ s → All (λ u. u < t) (named_types s) → ShapeFits types s → ((u : ℕ) → u < t → IsOf types (zero_value types u) u) → IsOf types (shape_zero (zero_value types) s) t
+  zero_of_shape : (t : ℕ) (s : Shape) → shape_at types t ≡ s → All (λ u. u < t) (named_types s) → ShapeFits types s
+      → ((u : ℕ) → u < t → IsOf types (zero_value types u) u) → IsOf types (shape_zero (zero_value types) s) t
   zero_of_shape t int e below fits earlier = ap (λ s. is_ordinal_of s (pos 0)) e
   zero_of_shape t char e below fits earlier = ap (λ s. is_ordinal_of s (pos 0)) e
   zero_of_shape t bool e below fits earlier = ap (λ s. is_ordinal_of s (pos 0)) e
   zero_of_shape t (enumeration k) e below fits earlier = ap (λ s. is_ordinal_of s (pos 0)) e ∙ first_constant k fits.0
   zero_of_shape t (record_of fs) e below fits earlier =
       (ap has_parts e, subst (λ s. AreOf types (values (map (zero_value types) fs)) (part_types s)) (sym e) (zero_fields t fs below earlier))
-  zero_of_shape t (array_of i lo hi x) e below fits earlier =
-      (ap has_parts e, subst (λ s. AreOf types (values (replicate (element_count lo hi) (zero_value types x))) (part_types s)) (sym e) (zero_elements (zero_value types x) x (element_count lo hi) (earlier x (below 1 0 (omega arith)))))
+  zero_of_shape t (array_of i lo hi x) e below fits earlier = (
+    ap has_parts e,
+    subst (λ s. AreOf types (values (replicate (element_count lo hi) (zero_value types x))) (part_types s)) (sym e)
+        (zero_elements (zero_value types x) x (element_count lo hi) (earlier x (below 1 0 (omega arith)))),
+  )
   zero_of_shape t (set_of b) e below fits earlier = (ap is_set_shape e, tt)
 
   zero_below : (n t : ℕ) → IsTypeTable types → ShapesFit types → t < n → t < length types → IsOf types (zero_value types t) t

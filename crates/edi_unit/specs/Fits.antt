@@ -1,6 +1,7 @@
 -- What the checks of a program's text have made sure of: a unit that fits can be run and translated, and nothing in it
 -- names what is not there.
-use Rattle.std.specs.Prelude.{◌≡◌, ◌≢◌, ℕ, suc, ◌<◌, ◌≤◌, ◌^◌, pos, Bool, true, false, ◌||◌, ◌==◌, IsTrue, IsSome, List, [], ◌∷◌, length, slice_index, All, AllPairs, Option, Some, None}
+use Rattle.std.specs.Prelude.{◌≡◌, ◌≢◌, ℕ, suc, ◌<◌, ◌≤◌, ◌^◌, pos, Bool, true, false, ◌||◌, ◌==◌, IsTrue, IsSome, List, [], ◌∷◌, length, slice_index, All}
+use Rattle.std.specs.Prelude.{AllPairs, Option, Some, None}
 use Rattle.edi_unit.specs.declared.expressions.Operator.{Operator}
 use Rattle.edi_unit.specs.declared.expressions.Operator.TheVariants as op
 use Rattle.edi_unit.specs.declared.expressions.Callee.{Callee}
@@ -9,8 +10,12 @@ use Rattle.edi_unit.specs.declared.units.Parameter.{Parameter}
 use Rattle.edi_unit.specs.declared.units.Parameter.TheVariants as slot
 use Rattle.edi_unit.specs.declared.units.BlockKind.{BlockKind}
 use Rattle.edi_unit.specs.declared.units.BlockKind.TheVariants as kind
-use Rattle.edi_unit.specs.Types.{Shape, array_of, record_of, set_of, int, char, bool, enumeration, shape_at, int_type, char_type, bool_type, field_type, part_types, is_elementary, is_ordinal_of, is_set_shape, greatest_size, IsTypeTable}
-use Rattle.edi_unit.specs.Tree.{Expression, constant, load, not_of, sign_of, chain, make, convert, apply_of, Expressions, no_expression, expression_then, link, Links, no_link, link_then, Place, place, Part, field, index, Parts, no_part, part_then, by_value, by_variable, by_procedure, Arguments, no_argument, argument_then, Act, skip, assign, call, halt, if_act, while_act, when_act, cobegin, Acts, no_act, act_then, Clause, clause, Clauses, no_clause, clause_then, Block, ProgramUnit}
+use Rattle.edi_unit.specs.Types.{Shape, array_of, record_of, set_of, int, char, bool, enumeration, shape_at, int_type, char_type, bool_type, field_type}
+use Rattle.edi_unit.specs.Types.{part_types, is_elementary, is_ordinal_of, is_set_shape, greatest_size, IsTypeTable}
+use Rattle.edi_unit.specs.Tree.{Expression, constant, load, not_of, sign_of, chain, make, convert, apply_of, Expressions, no_expression, expression_then}
+use Rattle.edi_unit.specs.Tree.{link, Links, no_link, link_then, Place, place, Part, field, index, Parts, no_part, part_then, by_value, by_variable}
+use Rattle.edi_unit.specs.Tree.{by_procedure, Arguments, no_argument, argument_then, Act, skip, assign, call, halt, if_act, while_act, when_act, cobegin}
+use Rattle.edi_unit.specs.Tree.{Acts, no_act, act_then, Clause, clause, Clauses, no_clause, clause_then, Block, ProgramUnit}
 use Rattle.edi_unit.specs.Need.{block_at, outer, slot_at, slot_type, slots, part_type, operator_type, callee_result, place_type, expression_type, need}
 
 -- ---- types

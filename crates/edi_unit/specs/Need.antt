@@ -1,5 +1,6 @@
 -- The words of memory that the evaluation of a construct takes above its frame, and the words that a block needs.
-use Rattle.std.specs.Prelude.{ℕ, zero, suc, ◌+◌, max, min, if◌then◌else◌, List, [], ◌++◌, map, sum_by, slice_get, slice_index_or, Option, Some, None, option_to_list, unwrap_or}
+use Rattle.std.specs.Prelude.{ℕ, zero, suc, ◌+◌, max, min, if◌then◌else◌, List, [], ◌++◌, map, sum_by, slice_get, slice_index_or, Option, Some, None}
+use Rattle.std.specs.Prelude.{option_to_list, unwrap_or}
 use Rattle.std.specs.Option.{option_map_or}
 use Rattle.edi_unit.specs.declared.expressions.Operator.{Operator}
 use Rattle.edi_unit.specs.declared.expressions.Operator.TheVariants as op
@@ -9,7 +10,10 @@ use Rattle.edi_unit.specs.declared.units.Parameter.{Parameter}
 use Rattle.edi_unit.specs.declared.units.Parameter.TheVariants as slot
 use Rattle.edi_unit.specs.declared.units.BlockKind.TheVariants as kind
 use Rattle.edi_unit.specs.Types.{Shape, array_of, shape_at, int_type, bool_type, field_type, is_set_shape, size}
-use Rattle.edi_unit.specs.Tree.{Expression, constant, load, not_of, sign_of, chain, make, convert, apply_of, Expressions, no_expression, expression_then, link, Links, no_link, link_then, Place, place, Part, field, index, Parts, no_part, part_then, Argument, by_value, by_variable, by_procedure, Arguments, no_argument, argument_then, Act, skip, assign, call, halt, if_act, while_act, when_act, cobegin, Acts, no_act, act_then, Clause, clause, Clauses, no_clause, clause_then, Block}
+use Rattle.edi_unit.specs.Tree.{Expression, constant, load, not_of, sign_of, chain, make, convert, apply_of, Expressions, no_expression, expression_then}
+use Rattle.edi_unit.specs.Tree.{link, Links, no_link, link_then, Place, place, Part, field, index, Parts, no_part, part_then, Argument, by_value}
+use Rattle.edi_unit.specs.Tree.{by_variable, by_procedure, Arguments, no_argument, argument_then, Act, skip, assign, call, halt, if_act, while_act, when_act}
+use Rattle.edi_unit.specs.Tree.{cobegin, Acts, no_act, act_then, Clause, clause, Clauses, no_clause, clause_then, Block}
 
 -- ---- blocks and their variables
 

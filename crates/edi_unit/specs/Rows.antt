@@ -113,7 +113,8 @@ unfolding size
 row_fits = refl
 
 -- a set is made above its 8 words, and with no member takes these alone
-pub row_member : expression_height (standard_types ++ set_of int_type ∷ []) calling 0 (make 3 (expression_then (constant int_type (pos 127)) no_expression) 1) ≡ 9
+pub row_member : expression_height (standard_types ++ set_of int_type ∷ []) calling 0 (make 3 (expression_then (constant int_type (pos 127)) no_expression) 1)
+    ≡ 9
 row_member = refl
 
 pub row_no_members : expression_height (standard_types ++ set_of int_type ∷ []) calling 0 (make 3 no_expression 1) ≡ 8

@@ -6,18 +6,21 @@ use Rattle.edi_tree.specs.declared.expressions.Addend as code_addend
 use Rattle.edi_tree.specs.declared.expressions.Multiplier as code_multiplier
 use Rattle.edi_tree.specs.declared.expressions.Selector as code_selector
 use Rattle.edi_tree.specs.declared.names.Name.{Name}
-use Rattle.edi_tree.specs.Tree.{Factor, Simple, Term, no_comparison, compared, expr, simple, term, variable, variable_factor, no_addend, next_addend, no_multiplier, next_multiplier}
+use Rattle.edi_tree.specs.Tree.{Factor, Simple, Term, no_comparison, compared, expr, simple, term, variable, variable_factor, no_addend, next_addend}
+use Rattle.edi_tree.specs.Tree.{no_multiplier, next_multiplier}
 use Rattle.edi_tree.specs.View.{addends, addend_of, multipliers, multiplier_of, selectors, selector_of}
 use Rattle.edi_static.specs.Fitting.{only_factor, name_of_factor}
 use Rattle.edi_values.specs.Parts.{term_factor, simple_factor}
 
 -- ---- terms
 
-pub multiplied : (f : Factor) (ms : List code_multiplier.Multiplier) → (length ms == 0) ≡ false → None ≡ term_factor (term f (multipliers (map multiplier_of ms)))
+pub multiplied : (f : Factor) (ms : List code_multiplier.Multiplier) → (length ms == 0) ≡ false
+    → None ≡ term_factor (term f (multipliers (map multiplier_of ms)))
 multiplied f [] h = absurd (grind (arith, h))
 multiplied f (m ∷ ms) h = refl
 
-pub unmultiplied : (f : Factor) (ms : List code_multiplier.Multiplier) → (length ms == 0) ≡ true → Some f ≡ term_factor (term f (multipliers (map multiplier_of ms)))
+pub unmultiplied : (f : Factor) (ms : List code_multiplier.Multiplier) → (length ms == 0) ≡ true
+    → Some f ≡ term_factor (term f (multipliers (map multiplier_of ms)))
 unmultiplied f [] h = refl
 unmultiplied f (m ∷ ms) h = absurd (grind (arith, h))
 

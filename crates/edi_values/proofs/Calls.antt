@@ -16,13 +16,15 @@ use Rattle.edi_values.specs.Parts.{construction, invocation}
 use Rattle.edi_values.proofs.Behind.{bind_bind, bind_same}
 
 -- a list of a first part and further ones, and what is made of it
-listed_then : {A B C D : Type 0} (m : Judged A) (n : Judged B) (g : A → B → C) (k : C → Judged D) → ((m >>= λ a. n >>= λ b. gives (g a b)) >>= k) ≡ (m >>= λ a. n >>= λ b. k (g a b))
+listed_then : {A B C D : Type 0} (m : Judged A) (n : Judged B) (g : A → B → C) (k : C → Judged D) → ((m >>= λ a. n >>= λ b. gives (g a b)) >>= k)
+    ≡ (m >>= λ a. n >>= λ b. k (g a b))
 listed_then (gives a) n g k = bind_bind n (λ b. gives (g a b)) k
 listed_then (faults why line) n g k = refl
 
 construction_is : (env : Environment) (line of : ℕ) (xs : text.Args) → construction env line of xs ≡ rule.applied env line (constructs of) xs
 construction_is env line of (text.args e es) =
-    listed_then (rule.element env (takes_strings (shape_at env.types of)) e (rule.expression env e)) (rule.more_elements env (takes_strings (shape_at env.types of)) es) (λ vs ws. vs ++ ws) (constructed env line of)
+    listed_then (rule.element env (takes_strings (shape_at env.types of)) e (rule.expression env e))
+    (rule.more_elements env (takes_strings (shape_at env.types of)) es) (λ vs ws. vs ++ ws) (constructed env line of)
 
 invocation_is : (env : Environment) (line : ℕ) (c : Called) (xs : text.Args) → invocation env line c xs ≡ rule.applied env line (calls c) xs
 invocation_is env line c (text.args e es) =

@@ -28,31 +28,36 @@ addend_more env of a more l ls h =
     ap (λ m. behind_links ls (m >>= λ x. rule.addends env x.of more >>= λ c. gives (record { links = unit.link_then x.what c.links; of = c.of }))) h
     ∙ link_more ls l.what (rule.addends env l.of more)
 
-pub addend_fails : (env : Environment) (of : ℕ) (a : text.Addend) (more : text.Addends) (ls : List unit.Link) (why : StaticKind) (line : ℕ) → rule.addend env of a ≡ faults why line →
+pub addend_fails : (env : Environment) (of : ℕ) (a : text.Addend) (more : text.Addends) (ls : List unit.Link) (why : StaticKind) (line : ℕ)
+    → rule.addend env of a ≡ faults why line →
     behind_links ls (rule.addends env of (text.next_addend a more)) ≡ faults why line
 addend_fails env of a more ls why line h =
     ap (λ m. behind_links ls (m >>= λ x. rule.addends env x.of more >>= λ c. gives (record { links = unit.link_then x.what c.links; of = c.of }))) h
 
-pub multiplier_more : (env : Environment) (of : ℕ) (a : text.Multiplier) (more : text.Multipliers) (l : Linked) (ls : List unit.Link) → rule.multiplier env of a ≡ gives l →
+pub multiplier_more : (env : Environment) (of : ℕ) (a : text.Multiplier) (more : text.Multipliers) (l : Linked) (ls : List unit.Link)
+    → rule.multiplier env of a ≡ gives l →
     behind_links ls (rule.multipliers env of (text.next_multiplier a more)) ≡ behind_links (ls ++ l.what ∷ []) (rule.multipliers env l.of more)
 multiplier_more env of a more l ls h =
     ap (λ m. behind_links ls (m >>= λ x. rule.multipliers env x.of more >>= λ c. gives (record { links = unit.link_then x.what c.links; of = c.of }))) h
     ∙ link_more ls l.what (rule.multipliers env l.of more)
 
-pub multiplier_fails : (env : Environment) (of : ℕ) (a : text.Multiplier) (more : text.Multipliers) (ls : List unit.Link) (why : StaticKind) (line : ℕ) → rule.multiplier env of a ≡ faults why line →
+pub multiplier_fails : (env : Environment) (of : ℕ) (a : text.Multiplier) (more : text.Multipliers) (ls : List unit.Link) (why : StaticKind) (line : ℕ)
+    → rule.multiplier env of a ≡ faults why line →
     behind_links ls (rule.multipliers env of (text.next_multiplier a more)) ≡ faults why line
 multiplier_fails env of a more ls why line h =
     ap (λ m. behind_links ls (m >>= λ x. rule.multipliers env x.of more >>= λ c. gives (record { links = unit.link_then x.what c.links; of = c.of }))) h
 
 -- ---- parts of variables
 
-pub selector_more : (env : Environment) (of : ℕ) (s : text.Selector) (more : text.Selectors) (p : Parted) (ps : List unit.Part) → rule.selector env of s ≡ gives p →
+pub selector_more : (env : Environment) (of : ℕ) (s : text.Selector) (more : text.Selectors) (p : Parted) (ps : List unit.Part)
+    → rule.selector env of s ≡ gives p →
     behind_parts ps (rule.selectors env of (text.next_selector s more)) ≡ behind_parts (ps ++ p.what ∷ []) (rule.selectors env p.of more)
 selector_more env of s more p ps h =
     ap (λ m. behind_parts ps (m >>= λ x. rule.selectors env x.of more >>= λ r. gives (record { parts = unit.part_then x.what r.parts; of = r.of }))) h
     ∙ part_more ps p.what (rule.selectors env p.of more)
 
-pub selector_fails : (env : Environment) (of : ℕ) (s : text.Selector) (more : text.Selectors) (ps : List unit.Part) (why : StaticKind) (line : ℕ) → rule.selector env of s ≡ faults why line →
+pub selector_fails : (env : Environment) (of : ℕ) (s : text.Selector) (more : text.Selectors) (ps : List unit.Part) (why : StaticKind) (line : ℕ)
+    → rule.selector env of s ≡ faults why line →
     behind_parts ps (rule.selectors env of (text.next_selector s more)) ≡ faults why line
 selector_fails env of s more ps why line h =
     ap (λ m. behind_parts ps (m >>= λ x. rule.selectors env x.of more >>= λ r. gives (record { parts = unit.part_then x.what r.parts; of = r.of }))) h
@@ -61,7 +66,8 @@ selector_fails env of s more ps why line h =
 
 pub argument_next : (env : Environment) (line : ℕ) (e : text.Expr) (more : text.Exprs) (fs : Formals) (a : unit.Argument) (xs : List unit.Argument) →
     rule.argument env line e (rule.expression env e) fs ≡ gives a →
-    behind_arguments xs (rule.more_arguments env line (text.next_expr e more) fs) ≡ behind_arguments (xs ++ a ∷ []) (rule.more_arguments env line more (rest_of fs))
+    behind_arguments xs (rule.more_arguments env line (text.next_expr e more) fs) ≡ behind_arguments (xs ++ a ∷ [])
+    (rule.more_arguments env line more (rest_of fs))
 argument_next env line e more fs a xs h =
     ap (λ m. behind_arguments xs (m >>= λ x. rule.more_arguments env line more (rest_of fs) >>= λ ys. gives (unit.argument_then x ys))) h
     ∙ argument_more xs a (rule.more_arguments env line more (rest_of fs))
@@ -104,7 +110,8 @@ element_more env strings e more vs ws h = and_then (rule.element env strings e (
 pub element_fails : (env : Environment) (strings : Bool) (e : text.Expr) (more : text.Exprs) (vs : List Typed) (why : StaticKind) (line : ℕ) →
     behind vs (rule.element env strings e (rule.expression env e)) ≡ faults why line →
     behind vs (rule.more_elements env strings (text.next_expr e more)) ≡ faults why line
-element_fails env strings e more vs why line h = or_fails (rule.element env strings e (rule.expression env e)) (rule.more_elements env strings more) vs why line h
+element_fails env strings e more vs why line h = or_fails (rule.element env strings e (rule.expression env e)) (rule.more_elements env strings more) vs why
+    line h
 
 -- ---- variables as values
 
@@ -112,7 +119,8 @@ abbrev IsNone : {A : Type 0} → Option A → Type 0
 IsNone None = Unit {0}
 IsNone (Some a) = ⊥
 
-of_steps : (m : Judged Reached) (r : Rooted) → (m >>= λ steps. gives (loaded (located r steps))) ≡ ((m >>= λ steps. gives (located r steps)) >>= λ l. gives (loaded l))
+of_steps : (m : Judged Reached) (r : Rooted) → (m >>= λ steps. gives (loaded (located r steps)))
+    ≡ ((m >>= λ steps. gives (located r steps)) >>= λ l. gives (loaded l))
 of_steps (gives steps) r = refl
 of_steps (faults why line) r = refl
 
@@ -136,7 +144,8 @@ whole_is env (text.variable (root.Val n) ss) name h = absurd (subst IsNone (sym 
 
 not_whole_is : (env : Environment) (v : text.Variable) → None ≡ whole_name v → place_value env v ≡ rule.variable_value env v
 not_whole_is env (text.variable (root.Name n) text.no_selector) h = absurd (subst IsNone h tt)
-not_whole_is env (text.variable (root.Name n) (text.next_selector s ss)) h = of_place (rule.rooted env (root.Name n)) (λ r. rule.selectors env r.of (text.next_selector s ss))
+not_whole_is env (text.variable (root.Name n) (text.next_selector s ss)) h = of_place (rule.rooted env (root.Name n))
+    (λ r. rule.selectors env r.of (text.next_selector s ss))
 not_whole_is env (text.variable (root.Val n) ss) h = of_place (rule.rooted env (root.Val n)) (λ r. rule.selectors env r.of ss)
 
 pub whole : (env : Environment) (v : text.Variable) (name : Name) (result : Result code_typed.Typed StaticFault) → Some name ≡ whole_name v →

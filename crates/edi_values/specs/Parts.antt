@@ -9,7 +9,8 @@ use Rattle.edi_static.specs.declared.faults.StaticKind.TheVariants as kind
 use Rattle.edi_static.specs.Judged.{Judged, gives, ◌>>=◌, must}
 use Rattle.edi_static.specs.Environment.{Environment}
 use Rattle.edi_static.specs.Operators.{Typed, Linked, relation_operator, operated, with_links}
-use Rattle.edi_static.specs.Fitting.{Called, constructed, function_called, invoked, is_variable_alone, name_alone, string_alone, takes_strings, variable_argument}
+use Rattle.edi_static.specs.Fitting.{Called, constructed, function_called, invoked, is_variable_alone, name_alone, string_alone, takes_strings}
+use Rattle.edi_static.specs.Fitting.{variable_argument}
 use Rattle.edi_static.specs.Expressions.{expression, element, more_elements, procedure_argument, args_count, all_arguments, variable_place, loaded}
 use Rattle.edi_static.specs.Views.{One, value, variable, procedure}
 

@@ -69,7 +69,8 @@ fn made(
 
 /// Whether a constructor of a type takes these parts.
 fn fits(known: &Known, of: u32, parts: &[Typed]) -> bool
-    ensures exact { result ≡ spec.takes_parts (environment known.now).types (shape_at (environment known.now).types of) (map (λ v. v.of) (map typed_of parts.now)) }
+    ensures exact { result ≡ spec.takes_parts (environment known.now).types (shape_at (environment known.now).types of)
+        (map (λ v. v.of) (map typed_of parts.now)) }
 {
     takes_parts(known, known.shape(of), parts)
 }

@@ -274,7 +274,8 @@ pub fn arguments(
     args: &Args,
     formals: &[Formal],
 ) -> Result<Arguments, StaticFault>
-    ensures exact { JudgedAnswers arguments_of result (rule.all_arguments (environment known.now) line (args_of args.now) (view.formals (map formal_of formals.now))) }
+    ensures exact { JudgedAnswers arguments_of result
+        (rule.all_arguments (environment known.now) line (args_of args.now) (view.formals (map formal_of formals.now))) }
 {
     let mut arguments = List::new(alloc);
     let first = argument(known, alloc, line, &args.first, formals)?;

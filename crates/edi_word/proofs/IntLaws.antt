@@ -54,7 +54,8 @@ signed-fits word small = grind (arith, ints)
 pub unsigned-lt : (z : ℤ) → FitsSigned w16 z → unsigned z < 2 ^ 16
 unsigned-lt z fits = omega (arith, ints)
 
-remainder_of : (b : Bool) (x y : ℤ) → 0 < unsigned_abs y → FitsSigned w16 y → IfSome (option_map (λ q. x -ℤ q *ℤ y) (cond b (Some (int_div x y)) None)) (FitsSigned w16)
+remainder_of : (b : Bool) (x y : ℤ) → 0 < unsigned_abs y → FitsSigned w16 y → IfSome (option_map (λ q. x -ℤ q *ℤ y) (cond b (Some (int_div x y)) None))
+    (FitsSigned w16)
 remainder_of true x y divides fits =
     let small : unsigned_abs (int_rem x y) < 2 ^ 15 = omega (arith, ints, rem_below x y divides) in
     rw (← remainder_is x y) (fits_signed_from_abs w16 (int_rem x y) small)
@@ -72,7 +73,8 @@ as_words (Some z) fits = unsigned-lt z fits
 -- an operation that gives values of `int` gives words on words
 pub words_follow : (f : ℤ → ℤ → Option ℤ) → ((x y : ℤ) → FitsSigned w16 y → IfSome (f x y) (FitsSigned w16)) → WordsFollow f (on_words f)
 words_follow f gives x y is also =
-    let same : on_words f (unsigned x) (unsigned y) ≡ option_map unsigned (f x y) = rw (signed-unsigned x (fits_from_is_int x is), signed-unsigned y (fits_from_is_int y also)) refl in
+    let same : on_words f (unsigned x) (unsigned y) ≡ option_map unsigned (f x y) =
+    rw (signed-unsigned x (fits_from_is_int x is), signed-unsigned y (fits_from_is_int y also)) refl in
     (same, rw same (as_words (f x y) (gives x y (fits_from_is_int y also))))
 
 pub word_add_follows : WordsFollow int_sum word_add
@@ -91,5 +93,7 @@ pub word_modulo_follows : WordsFollow int_remainder word_modulo
 word_modulo_follows = words_follow int_remainder int_remainder-fits
 
 pub words_stand_for_int : WordsStandForInt
-words_stand_for_int =
-    (λ word small. (is_int_from_fits (signed word) (signed-fits word small), unsigned-signed word small), λ z is. (unsigned-lt z (fits_from_is_int z is), signed-unsigned z (fits_from_is_int z is)))
+words_stand_for_int = (
+  λ word small. (is_int_from_fits (signed word) (signed-fits word small), unsigned-signed word small),
+  λ z is. (unsigned-lt z (fits_from_is_int z is), signed-unsigned z (fits_from_is_int z is)),
+)

@@ -1,5 +1,6 @@
 -- Laws of sets, as lists of members and as words.
-use Rattle.std.proofs.Common.{◌≡◌, ℕ, zero, suc, ◌+◌, ◌-◌, ◌/◌, ◌%◌, ◌^◌, ◌<◌, ◌≤◌, min, max, Bool, true, false, not, cond, ◌&&◌, ◌||◌, List, [], ◌∷◌, length, get_or, set, refl, sym, ap, ap₂, ◌∙◌, inl, inr, arith, eqb, eq-eqb, ne_eqb, ltb, lt-ltb, le-ltb, w16, bit_and, bit_or}
+use Rattle.std.proofs.Common.{◌≡◌, ℕ, zero, suc, ◌+◌, ◌-◌, ◌/◌, ◌%◌, ◌^◌, ◌<◌, ◌≤◌, min, max, Bool, true, false, not, cond, ◌&&◌, ◌||◌, List, [], ◌∷◌}
+use Rattle.std.proofs.Common.{length, get_or, set, refl, sym, ap, ap₂, ◌∙◌, inl, inr, arith, eqb, eq-eqb, ne_eqb, ltb, lt-ltb, le-ltb, w16, bit_and, bit_or}
 use Rattle.std.specs.Prelude.{◌==◌, nat_lt, ℤ, pos, negsuc}
 use Rattle.std.specs.Cmp.Lexicographic.{pointwise}
 use Rattle.std.specs.List.{filter, range_with_len}
@@ -10,12 +11,15 @@ use Rattle.std.proofs.lemmas.List.Elements.{All-from_get_or, All-set}
 use Rattle.std.proofs.lemmas.List.{get_or-set_same, get_or-set_other, length-set}
 use Rattle.std.proofs.lemmas.Nat.{or_lt, and_le_l, pow_below}
 use Rattle.std.proofs.lemmas.Nat.Bits.{bit_at-lt, bit_at_and, bit_at_or, bit_at_not, bit_at-pow_same, bit_at-pow_other, shr_and_one}
-use Rattle.edi_word.specs.Sets.{IsIncreasingFrom, IsOrdinalSet, set_has, set_has_int, members_where, with_member, set_union, set_minus, set_meet, word_has, members_of, words_of_members, each_word, words_with, words_union, words_minus, words_meet, AreSetWords, words_have, ViewsAreOne, ViewsAgree, ViewsAgreeOnWith, ViewsAgreeOnHas}
+use Rattle.edi_word.specs.Sets.{IsIncreasingFrom, IsOrdinalSet, set_has, set_has_int, members_where, with_member, set_union, set_minus, set_meet, word_has}
+use Rattle.edi_word.specs.Sets.{members_of, words_of_members, each_word, words_with, words_union, words_minus, words_meet, AreSetWords, words_have}
+use Rattle.edi_word.specs.Sets.{ViewsAreOne, ViewsAgree, ViewsAgreeOnWith, ViewsAgreeOnHas}
 use Rattle.edi_word.specs.SetViews.{AreSetWords-words_where, set_has-members_where, word_has-words_where, words_of_members-members_of}
 
 -- ---- lists of members
 
-agree_within : (p q : ℕ → Bool) (a count : ℕ) → ((n : ℕ) → a ≤ n → n < a + count → p n ≡ q n) → filter p (range_with_len a count) ≡ filter q (range_with_len a count)
+agree_within : (p q : ℕ → Bool) (a count : ℕ) → ((n : ℕ) → a ≤ n → n < a + count → p n ≡ q n) → filter p (range_with_len a count) ≡ filter q
+    (range_with_len a count)
 agree_within p q a zero same = refl
 agree_within p q a (suc count) same =
     ap₂ (λ b xs. cond b (a ∷ xs) xs) (same a (omega arith) (omega arith)) (agree_within p q (a + 1) count (λ n from to. same n (omega arith) (omega arith)))
@@ -59,10 +63,13 @@ found_again a (suc count) [] whole set = found_again (a + 1) count [] (omega ari
 found_again a (suc count) (x ∷ xs) whole set =
     elim (cases_eq x a) [
       | inl same ↦
-          ap (λ b. cond (b || set_has xs a) (a ∷ filter (set_has (x ∷ xs)) (range_with_len (a + 1) count)) (filter (set_has (x ∷ xs)) (range_with_len (a + 1) count))) (eq-eqb x a same)
-          ∙ ap₂ (λ y ys. y ∷ ys) (sym same) (without_first x (a + 1) count xs (omega arith) ∙ found_again (a + 1) count xs (omega arith) (less_bound (a + 1) (x + 1) xs (omega arith) set.2))
+          ap (λ b. cond (b || set_has xs a) (a ∷ filter (set_has (x ∷ xs)) (range_with_len (a + 1) count))
+          (filter (set_has (x ∷ xs)) (range_with_len (a + 1) count))) (eq-eqb x a same)
+          ∙ ap₂ (λ y ys. y ∷ ys) (sym same) (without_first x (a + 1) count xs (omega arith) ∙ found_again (a + 1) count xs (omega arith)
+          (less_bound (a + 1) (x + 1) xs (omega arith) set.2))
       | inr differs ↦
-          ap (λ b. cond b (a ∷ filter (set_has (x ∷ xs)) (range_with_len (a + 1) count)) (filter (set_has (x ∷ xs)) (range_with_len (a + 1) count))) (ap (λ b. b || set_has xs a) (ne_eqb x a differs) ∙ none_below (x + 1) a xs set.2 (omega arith))
+          ap (λ b. cond b (a ∷ filter (set_has (x ∷ xs)) (range_with_len (a + 1) count)) (filter (set_has (x ∷ xs)) (range_with_len (a + 1) count)))
+          (ap (λ b. b || set_has xs a) (ne_eqb x a differs) ∙ none_below (x + 1) a xs set.2 (omega arith))
           ∙ found_again (a + 1) count (x ∷ xs) (omega arith) (omega arith, set.1, set.2)
     ]
 
@@ -93,15 +100,18 @@ length-each_word f [] ys same = refl
 length-each_word f (x ∷ xs) [] same = absurd (omega arith)
 length-each_word f (x ∷ xs) (y ∷ ys) same = ap suc (length-each_word f xs ys (omega arith))
 
-pub get_or-each_word : (f : ℕ → ℕ → ℕ) (xs ys : List ℕ) (i : ℕ) → i < length xs → i < length ys → get_or (each_word f xs ys) i 0 ≡ f (get_or xs i 0) (get_or ys i 0)
+pub get_or-each_word : (f : ℕ → ℕ → ℕ) (xs ys : List ℕ) (i : ℕ) → i < length xs → i < length ys → get_or (each_word f xs ys) i 0 ≡ f (get_or xs i 0)
+    (get_or ys i 0)
 get_or-each_word f [] ys i within other = absurd (omega arith)
 get_or-each_word f (x ∷ xs) [] i within other = absurd (omega arith)
 get_or-each_word f (x ∷ xs) (y ∷ ys) zero within other = refl
 get_or-each_word f (x ∷ xs) (y ∷ ys) (suc i) within other = get_or-each_word f xs ys i (omega arith) (omega arith)
 
 -- an operation f on words that does to each bit what g does to tests
-module _ (f : ℕ → ℕ → ℕ) (g : Bool → Bool → Bool) (at_each_bit : (x y k : ℕ) → x < 2 ^ 16 → y < 2 ^ 16 → k < 16 → (bit_at (f x y) k == 1) ≡ g (bit_at x k == 1) (bit_at y k == 1)) where
-  word_has-each_word : (one other : List ℕ) → AreSetWords one → AreSetWords other → (n : ℕ) → n < 128 → word_has (each_word f one other) n ≡ g (word_has one n) (word_has other n)
+module _ (f : ℕ → ℕ → ℕ) (g : Bool → Bool → Bool)
+    (at_each_bit : (x y k : ℕ) → x < 2 ^ 16 → y < 2 ^ 16 → k < 16 → (bit_at (f x y) k == 1) ≡ g (bit_at x k == 1) (bit_at y k == 1)) where
+  word_has-each_word : (one other : List ℕ) → AreSetWords one → AreSetWords other → (n : ℕ) → n < 128 → word_has (each_word f one other) n ≡ g
+      (word_has one n) (word_has other n)
   word_has-each_word one other are both n ordinal =
       let here : n / 16 < length one = omega (arith, are.eight) in
       let there : n / 16 < length other = omega (arith, both.eight) in
@@ -109,11 +119,14 @@ module _ (f : ℕ → ℕ → ℕ) (g : Bool → Bool → Bool) (at_each_bit : (
       ap (λ w. bit_at w (n % 16) == 1) (get_or-each_word f one other (n / 16) here there)
       ∙ at_each_bit _ _ (n % 16) (are.small (n / 16) 0 here) (both.small (n / 16) 0 there) bit
 
-  members_of-each_word : (one other : List ℕ) → AreSetWords one → AreSetWords other → members_of (each_word f one other) ≡ members_where (λ n. g (set_has (members_of one) n) (set_has (members_of other) n))
+  members_of-each_word : (one other : List ℕ) → AreSetWords one → AreSetWords other → members_of (each_word f one other) ≡ members_where
+      (λ n. g (set_has (members_of one) n) (set_has (members_of other) n))
   members_of-each_word one other are both =
-      members_where-agree _ _ (λ n ordinal. word_has-each_word one other are both n ordinal ∙ ap₂ g (word_has-members_of one n ordinal) (word_has-members_of other n ordinal))
+      members_where-agree _ _ (λ n ordinal. word_has-each_word one other are both n ordinal ∙ ap₂ g (word_has-members_of one n ordinal)
+      (word_has-members_of other n ordinal))
 
-AreSetWords-each_word : (f : ℕ → ℕ → ℕ) → ((x y : ℕ) → x < 2 ^ 16 → y < 2 ^ 16 → f x y < 2 ^ 16) → (one other : List ℕ) → AreSetWords one → AreSetWords other → AreSetWords (each_word f one other)
+AreSetWords-each_word : (f : ℕ → ℕ → ℕ) → ((x y : ℕ) → x < 2 ^ 16 → y < 2 ^ 16 → f x y < 2 ^ 16) → (one other : List ℕ) → AreSetWords one → AreSetWords other
+    → AreSetWords (each_word f one other)
 AreSetWords-each_word f keeps one other are both =
     let long : length (each_word f one other) ≡ length one = length-each_word f one other (are.eight ∙ sym both.eight) in
     record {
@@ -149,15 +162,18 @@ first_bit (suc (suc a)) b small other = absurd (omega arith)
 first_bit a (suc (suc b)) small other = absurd (omega arith)
 
 -- the members of the union of two sets of words are the union of their members
-pub members_of-words_union : (one other : List ℕ) → AreSetWords one → AreSetWords other → members_of (words_union one other) ≡ set_union (members_of one) (members_of other)
+pub members_of-words_union : (one other : List ℕ) → AreSetWords one → AreSetWords other → members_of (words_union one other) ≡ set_union (members_of one)
+    (members_of other)
 members_of-words_union =
     members_of-each_word bit_or (λ a b. a || b) (λ x y k _ _ _. ap (λ b. b == 1) (bit_at_or x y k) ∙ either_bit _ _ (bit_at-lt x k) (bit_at-lt y k))
 
-pub members_of-words_meet : (one other : List ℕ) → AreSetWords one → AreSetWords other → members_of (words_meet one other) ≡ set_meet (members_of one) (members_of other)
+pub members_of-words_meet : (one other : List ℕ) → AreSetWords one → AreSetWords other → members_of (words_meet one other) ≡ set_meet (members_of one)
+    (members_of other)
 members_of-words_meet =
     members_of-each_word bit_and (λ a b. a && b) (λ x y k _ _ _. ap (λ b. b == 1) (bit_at_and x y k) ∙ both_bits _ _ (bit_at-lt x k) (bit_at-lt y k))
 
-pub members_of-words_minus : (one other : List ℕ) → AreSetWords one → AreSetWords other → members_of (words_minus one other) ≡ set_minus (members_of one) (members_of other)
+pub members_of-words_minus : (one other : List ℕ) → AreSetWords one → AreSetWords other → members_of (words_minus one other) ≡ set_minus (members_of one)
+    (members_of other)
 members_of-words_minus =
     members_of-each_word (λ x y. bit_and x (bit_not w16 y)) (λ a b. a && not b) (λ x y k _ small bit.
     ap (λ b. b == 1) (bit_at_and x (bit_not w16 y) k ∙ ap (min (bit_at x k)) (bit_at_not w16 y k small bit))
@@ -189,17 +205,20 @@ word_has-words_with words n m are ordinal other =
     elim (cases_eq (m / 16) (n / 16)) [
       | inl word ↦
           let old : ℕ = get_or words (n / 16) 0 in
-          let now : get_or (words_with words n) (m / 16) 0 ≡ bit_or (get_or words (n / 16) 0) (2 ^ (n % 16)) = ap (λ i. get_or (words_with words n) i 0) word ∙ get_or-set_same words (n / 16) _ 0 within in
+          let now : get_or (words_with words n) (m / 16) 0 ≡ bit_or (get_or words (n / 16) 0) (2 ^ (n % 16)) = ap (λ i. get_or (words_with words n) i 0) word
+          ∙ get_or-set_same words (n / 16) _ 0 within in
           elim (cases_eq (m % 16) (n % 16)) [
             | inl bit ↦
                 let same : m ≡ n = omega arith in
                 ap₂ (λ w k. bit_at w k == 1) now bit
-                ∙ ap (λ b. b == 1) (bit_at_or (get_or words (n / 16) 0) (2 ^ (n % 16)) (n % 16) ∙ ap (max (bit_at (get_or words (n / 16) 0) (n % 16))) (bit_at-pow_same (n % 16)))
+                ∙ ap (λ b. b == 1) (bit_at_or (get_or words (n / 16) 0) (2 ^ (n % 16)) (n % 16) ∙ ap (max (bit_at (get_or words (n / 16) 0) (n % 16)))
+                (bit_at-pow_same (n % 16)))
                 ∙ bit_set _ (bit_at-lt (get_or words (n / 16) 0) (n % 16))
                 ∙ sym (ap (λ b. b || word_has words m) (eq-eqb m n same))
             | inr differs ↦
                 ap (λ w. bit_at w (m % 16) == 1) now
-                ∙ ap (λ b. b == 1) (bit_at_or (get_or words (n / 16) 0) (2 ^ (n % 16)) (m % 16) ∙ ap (max (bit_at (get_or words (n / 16) 0) (m % 16))) (bit_at-pow_other (n % 16) (m % 16) differs) ∙ bit_kept _)
+                ∙ ap (λ b. b == 1) (bit_at_or (get_or words (n / 16) 0) (2 ^ (n % 16)) (m % 16) ∙ ap (max (bit_at (get_or words (n / 16) 0) (m % 16)))
+                (bit_at-pow_other (n % 16) (m % 16) differs) ∙ bit_kept _)
                 ∙ ap (λ i. bit_at (get_or words i 0) (m % 16) == 1) (sym word)
                 ∙ sym (ap (λ b. b || word_has words m) (ne_eqb m n (λ same. differs (ap (λ i. i % 16) same))))
           ]
@@ -222,14 +241,16 @@ AreSetWords-words_with words n are ordinal =
     }
 
 -- eight words that a program made, each by the operation at its place
-pub each_word_from : (f : ℕ → ℕ → ℕ) (one other made : List ℕ) → AreSetWords one → AreSetWords other → length made ≡ 8 → ((i : ℕ) → i < 8 → get_or made i 0 ≡ f (get_or one i 0) (get_or other i 0)) → made ≡ each_word f one other
+pub each_word_from : (f : ℕ → ℕ → ℕ) (one other made : List ℕ) → AreSetWords one → AreSetWords other → length made ≡ 8
+    → ((i : ℕ) → i < 8 → get_or made i 0 ≡ f (get_or one i 0) (get_or other i 0)) → made ≡ each_word f one other
 each_word_from f one other made are both long at =
     let same : length (each_word f one other) ≡ length one = length-each_word f one other (are.eight ∙ sym both.eight) in
     same_number_lists made (each_word f one other) (long ∙ sym (same ∙ are.eight)) (λ i within.
     at i (omega (arith, long)) ∙ sym (get_or-each_word f one other i (omega (arith, long, are.eight)) (omega (arith, long, both.eight))))
 
 -- the test of one bit that a program makes
-pub has_from_bit : (words : List ℕ) (z : ℤ) (n : ℕ) → z ≡ pos n → n < 128 → (bit_and (get_or words (n / 16) 0 / 2 ^ (n % 16)) 1 == 1) ≡ set_has_int (members_of words) z
+pub has_from_bit : (words : List ℕ) (z : ℤ) (n : ℕ) → z ≡ pos n → n < 128 → (bit_and (get_or words (n / 16) 0 / 2 ^ (n % 16)) 1 == 1) ≡ set_has_int
+    (members_of words) z
 has_from_bit words z n is ordinal =
     ap (λ b. b == 1) (shr_and_one (get_or words (n / 16) 0) (n % 16))
     ∙ word_has-members_of words n ordinal
@@ -239,14 +260,17 @@ words_found : (words xs : List ℕ) → AreSetWords words → members_of words �
 words_found words xs are is = ap words_of_members (sym is) ∙ words_of_members-members_of words are
 
 -- the test whether two sets' words are the same, said of their members
-pub same_words_test : (r : Bool) (one other xs ys : List ℕ) → r ≡ pointwise eqb one other → AreSetWords one → AreSetWords other → members_of one ≡ xs → members_of other ≡ ys → r ≡ pointwise eqb (words_of_members xs) (words_of_members ys)
+pub same_words_test : (r : Bool) (one other xs ys : List ℕ) → r ≡ pointwise eqb one other → AreSetWords one → AreSetWords other → members_of one ≡ xs
+    → members_of other ≡ ys → r ≡ pointwise eqb (words_of_members xs) (words_of_members ys)
 same_words_test r one other xs ys test are both is also = rw (words_found one xs are is, words_found other ys both also) test
 
 -- ---- the two views agree
 
 pub views_are_one : ViewsAreOne
-views_are_one =
-    (λ words are. (IsOrdinalSet-members_where (word_has words), words_of_members-members_of words are), λ xs set. (AreSetWords-words_where (set_has xs), members_of-words_of_members xs set))
+views_are_one = (
+  λ words are. (IsOrdinalSet-members_where (word_has words), words_of_members-members_of words are),
+  λ xs set. (AreSetWords-words_where (set_has xs), members_of-words_of_members xs set),
+)
 
 pub union_agrees : ViewsAgree words_union set_union
 union_agrees one other are both = (AreSetWords-words_union one other are both, members_of-words_union one other are both)
@@ -260,7 +284,8 @@ meet_agrees one other are both = (AreSetWords-words_meet one other are both, mem
 pub with_agrees : ViewsAgreeOnWith
 with_agrees words n are ordinal = (AreSetWords-words_with words n are ordinal, members_of-words_with words n are ordinal)
 
-has_of_sign : (words : List ℕ) (word : ℕ) (z : ℤ) → z ≡ cond (ltb word (2 ^ 15)) (pos word) (negsuc (2 ^ 16 - suc word)) → words_have words word ≡ set_has_int (members_of words) z
+has_of_sign : (words : List ℕ) (word : ℕ) (z : ℤ) → z ≡ cond (ltb word (2 ^ 15)) (pos word) (negsuc (2 ^ 16 - suc word)) → words_have words word ≡ set_has_int
+    (members_of words) z
 has_of_sign words word z is =
     elim (cases_lt word 128) [
       | inl ordinal ↦
@@ -269,7 +294,8 @@ has_of_sign words word z is =
       | inr past ↦
           ap (λ b. b && word_has words word) (le-ltb word 128 past)
           ∙ elim (cases_Bool (ltb word (2 ^ 15))) [
-            | inl above ↦ sym (ap (set_has_int (members_of words)) (is ∙ ap (λ b. cond b (pos word) (negsuc (2 ^ 16 - suc word))) above) ∙ ap (λ b. b && set_has (members_of words) word) (le-ltb word 128 past))
+            | inl above ↦ sym (ap (set_has_int (members_of words)) (is ∙ ap (λ b. cond b (pos word) (negsuc (2 ^ 16 - suc word))) above)
+                ∙ ap (λ b. b && set_has (members_of words) word) (le-ltb word 128 past))
             | inr below ↦ sym (ap (set_has_int (members_of words)) (is ∙ ap (λ b. cond b (pos word) (negsuc (2 ^ 16 - suc word))) below))
           ]
     ]

@@ -1,5 +1,6 @@
 -- A set's members and its eight words tell the same: lemmas on `members_where` and `words_where`.
-use Rattle.std.proofs.Common.{◌≡◌, ℕ, zero, suc, ◌+◌, ◌-◌, ◌*◌, ◌/◌, ◌%◌, ◌^◌, ◌<◌, ◌≤◌, Bool, true, false, cond, ◌||◌, List, ◌∷◌, length, get_or, refl, sym, ap, ◌∙◌, inl, inr, arith, eq-eqb, ne_eqb}
+use Rattle.std.proofs.Common.{◌≡◌, ℕ, zero, suc, ◌+◌, ◌-◌, ◌*◌, ◌/◌, ◌%◌, ◌^◌, ◌<◌, ◌≤◌, Bool, true, false, cond, ◌||◌, List, ◌∷◌, length, get_or, refl, sym}
+use Rattle.std.proofs.Common.{ap, ◌∙◌, inl, inr, arith, eq-eqb, ne_eqb}
 use Rattle.std.specs.Prelude.{◌==◌}
 use Rattle.std.specs.List.{filter, range_with_len}
 use Rattle.std.specs.Int.{bit_at}
@@ -69,7 +70,8 @@ bit_at-bits_where test zero k below = absurd (omega arith)
 bit_at-bits_where test (suc count) k below =
     elim (cases_eq k count) [
       | inl same ↦
-          let high : bit_at (bits_where test (suc count)) k ≡ bit_at (cond (test count) 1 0) (k - count) = bit_at_cat_high (cond (test count) 1 0) count (bits_where test count) k (bits_where-lt test count) (omega arith) in
+          let high : bit_at (bits_where test (suc count)) k ≡ bit_at (cond (test count) 1 0) (k - count) = bit_at_cat_high (cond (test count) 1 0) count
+          (bits_where test count) k (bits_where-lt test count) (omega arith) in
           let first : k - count ≡ 0 = omega arith in
           ap (λ b. b == 1) (high ∙ ap (bit_at (cond (test count) 1 0)) first) ∙ flag_bit (test count) ∙ ap test (sym same)
       | inr differs ↦
@@ -87,7 +89,9 @@ length-words_where test = length-map-range_with_len (λ i. bits_where (λ k. tes
 pub AreSetWords-words_where : (test : ℕ → Bool) → AreSetWords (words_where test)
 AreSetWords-words_where test = record {
   eight = length-words_where test;
-  small = All-from_get_or (λ word. word < 2 ^ 16) (words_where test) 0 (λ i within. let small : bits_where (λ k. test (i * 16 + k)) 16 < 2 ^ 16 = bits_where-lt (λ k. test (i * 16 + k)) 16 in let here : i < 8 = omega (arith, length-words_where test) in rw (get_or-words_where test i here) small);
+  small = All-from_get_or (λ word. word < 2 ^ 16) (words_where test) 0
+      (λ i within. let small : bits_where (λ k. test (i * 16 + k)) 16 < 2 ^ 16 = bits_where-lt (λ k. test (i * 16 + k)) 16 in
+      let here : i < 8 = omega (arith, length-words_where test) in rw (get_or-words_where test i here) small);
 }
 
 -- an ordinal is a member exactly where the test holds of it

@@ -1,5 +1,6 @@
 -- Sets of ordinals 0 to 127: as increasing lists of their members, and as eight words of 16 bits.
-use Rattle.std.specs.Prelude.{◌≡◌, ℕ, zero, suc, ◌+◌, ◌*◌, ◌/◌, ◌%◌, ◌^◌, ◌<◌, ◌≤◌, Bool, false, not, ◌&&◌, ◌||◌, ◌==◌, nat_lt, if◌then◌else◌, ℤ, pos, negsuc, List, [], ◌∷◌, map, length, slice_index, slice_set, bit_and, bit_or, ⊤}
+use Rattle.std.specs.Prelude.{◌≡◌, ℕ, zero, suc, ◌+◌, ◌*◌, ◌/◌, ◌%◌, ◌^◌, ◌<◌, ◌≤◌, Bool, false, not, ◌&&◌, ◌||◌, ◌==◌, nat_lt, if◌then◌else◌, ℤ, pos}
+use Rattle.std.specs.Prelude.{negsuc, List, [], ◌∷◌, map, length, slice_index, slice_set, bit_and, bit_or, ⊤}
 use Rattle.std.specs.List.{All, filter, list_any, range_with_len}
 use Rattle.std.specs.Int.{w16, bit_at, bit_not}
 use Rattle.edi_word.specs.Words.{signed}
@@ -99,15 +100,18 @@ words_meet one other = each_word bit_and one other
 
 -- the words and the members are found from each other
 abbrev pub ViewsAreOne : Type 0
-ViewsAreOne = ((words : List ℕ) → AreSetWords words → IsOrdinalSet (members_of words) × (words_of_members (members_of words) ≡ words)) × ((set : List ℕ) → IsOrdinalSet set → AreSetWords (words_of_members set) × (members_of (words_of_members set) ≡ set))
+ViewsAreOne = ((words : List ℕ) → AreSetWords words → IsOrdinalSet (members_of words) × (words_of_members (members_of words) ≡ words))
+    × ((set : List ℕ) → IsOrdinalSet set → AreSetWords (words_of_members set) × (members_of (words_of_members set) ≡ set))
 
 -- f makes of the words of two sets the words of the set that g makes of their members
 abbrev pub ViewsAgree : (List ℕ → List ℕ → List ℕ) → (List ℕ → List ℕ → List ℕ) → Type 0
-ViewsAgree f g = (one other : List ℕ) → AreSetWords one → AreSetWords other → AreSetWords (f one other) × (members_of (f one other) ≡ g (members_of one) (members_of other))
+ViewsAgree f g = (one other : List ℕ) → AreSetWords one → AreSetWords other → AreSetWords (f one other)
+    × (members_of (f one other) ≡ g (members_of one) (members_of other))
 
 -- to set its bit makes an ordinal a member
 abbrev pub ViewsAgreeOnWith : Type 0
-ViewsAgreeOnWith = (words : List ℕ) (n : ℕ) → AreSetWords words → n < 128 → AreSetWords (words_with words n) × (members_of (words_with words n) ≡ with_member (members_of words) n)
+ViewsAgreeOnWith = (words : List ℕ) (n : ℕ) → AreSetWords words → n < 128 → AreSetWords (words_with words n)
+    × (members_of (words_with words n) ≡ with_member (members_of words) n)
 
 -- to read the bit of a word tells whether the value of `int` that it stands for is a member
 abbrev pub ViewsAgreeOnHas : Type 0

@@ -33,8 +33,10 @@ word_modulo x y = on_words int_remainder x y
 
 -- words and the values of `int` stand for each other one to one
 abbrev pub WordsStandForInt : Type 0
-WordsStandForInt = ((word : ℕ) → word < 2 ^ 16 → IsTrue (is_int (signed word)) × (unsigned (signed word) ≡ word)) × ((z : ℤ) → IsTrue (is_int z) → (unsigned z < 2 ^ 16) × (signed (unsigned z) ≡ z))
+WordsStandForInt = ((word : ℕ) → word < 2 ^ 16 → IsTrue (is_int (signed word)) × (unsigned (signed word) ≡ word))
+    × ((z : ℤ) → IsTrue (is_int z) → (unsigned z < 2 ^ 16) × (signed (unsigned z) ≡ z))
 
 -- g does to the words of two values of `int` what f does to the values, and what it gives is a word
 abbrev pub WordsFollow : (ℤ → ℤ → Option ℤ) → (ℕ → ℕ → Option ℕ) → Type 0
-WordsFollow f g = (x y : ℤ) → IsTrue (is_int x) → IsTrue (is_int y) → (g (unsigned x) (unsigned y) ≡ option_map unsigned (f x y)) × IfSome (g (unsigned x) (unsigned y)) (λ word. word < 2 ^ 16)
+WordsFollow f g = (x y : ℤ) → IsTrue (is_int x) → IsTrue (is_int y) → (g (unsigned x) (unsigned y) ≡ option_map unsigned (f x y))
+    × IfSome (g (unsigned x) (unsigned y)) (λ word. word < 2 ^ 16)

@@ -1,11 +1,13 @@
 -- The words of the parts of a value: those of a part stand among those of the value, and another value of its type may be put there.
-use Rattle.std.proofs.Common.{◌≡◌, ℕ, zero, suc, ◌<◌, ℤ, List, [], ◌∷◌, ◌++◌, length, take, All, IsTrue, sum_by, refl, sym, ap, ◌∙◌, arith, append_assoc, length-append}
+use Rattle.std.proofs.Common.{◌≡◌, ℕ, zero, suc, ◌<◌, ℤ, List, [], ◌∷◌, ◌++◌, length, take, All, IsTrue, sum_by, refl, sym, ap, ◌∙◌, arith, append_assoc}
+use Rattle.std.proofs.Common.{length-append}
 use Rattle.std.specs.Prelude.{slice_index_or}
 use Rattle.std.proofs.lemmas.Bool.{false≢true}
 use Rattle.std.proofs.lemmas.List.{append-nil}
 use Rattle.std.proofs.lemmas.List.Elements.{All-tail}
 use Rattle.std.proofs.lemmas.List.Sums.{sum_by-cons}
-use Rattle.edi_unit.specs.Types.{Shape, int, char, bool, enumeration, record_of, array_of, set_of, shape_at, int_type, part_types, has_parts, is_set_shape, is_ordinal_of, size}
+use Rattle.edi_unit.specs.Types.{Shape, int, char, bool, enumeration, record_of, array_of, set_of, shape_at, int_type, part_types, has_parts, is_set_shape}
+use Rattle.edi_unit.specs.Types.{is_ordinal_of, size}
 use Rattle.edi_unit.specs.Values.{Value, ordinal, compound, members, Values, no_value, value_then, IsOf, AreOf}
 use Rattle.edi_meaning.specs.Parts.{nth, with_nth, with_part}
 use Rattle.edi_worded.specs.Words.{value_words, values_words, nth_type, IsPath, Splits, IsTable, PartsStand}

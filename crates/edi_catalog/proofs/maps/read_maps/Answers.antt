@@ -20,7 +20,8 @@ returns-in-Err-check_map-clause-checks g c =
     (λ blocks a h. second_map_fails c.in-Err-check_map.fault c.args.used.now.items c.check_map.new.used.items blocks c.args.slot c.args.file.now
     c.file.inside.first_map c.in-Some.map c.file.inside.second_map c.pages_of-count.result c.min-first.result
     (ap (λ (r : FileRecord). r.maps) c.file.view_is) c.in-Some.is
-    (c.pages_of-count.ensures.exact ∙ ap (λ (r : FileRecord). pages_of r.length) c.file.view_is) c.pages_of-count.ensures.most c.min-first.ensures a.0 a.1.used h)
+    (c.pages_of-count.ensures.exact ∙ ap (λ (r : FileRecord). pages_of r.length) c.file.view_is) c.pages_of-count.ensures.most c.min-first.ensures a.0
+    a.1.used h)
     c.in-Ok.ensures.checks c.in-Err-check_map.ensures.checks
 
 pub returns-in-Ok-check_map-clause-checks : goal.returns-in-Ok-check_map-clause-checks
@@ -30,5 +31,6 @@ returns-in-Ok-check_map-clause-checks g c =
     c.check_map.new.into.items c.check_map-in-Some.new.into.items blocks c.args.slot c.args.file.now
     c.file.inside.first_map c.in-Some.map c.file.inside.second_map c.pages_of-count.result c.min-first.result
     (ap (λ (r : FileRecord). r.maps) c.file.view_is) c.in-Some.is
-    (c.pages_of-count.ensures.exact ∙ ap (λ (r : FileRecord). pages_of r.length) c.file.view_is) c.pages_of-count.ensures.most c.min-first.ensures c.new-into.ensures a b)
+    (c.pages_of-count.ensures.exact ∙ ap (λ (r : FileRecord). pages_of r.length) c.file.view_is) c.pages_of-count.ensures.most c.min-first.ensures
+    c.new-into.ensures a b)
     c.in-Ok.ensures.checks c.in-Ok-check_map.ensures.checks

@@ -86,7 +86,8 @@ loop-i-preserved g c =
 pub returns : goal.returns
 returns g c = record {
   puts = subst
-      (λ n. PutsBlocks g.D.Drive.contents g.D.Drive.count g.D.Drive.faults disk.Ok (used_in (Some c.args.file.now)) (content_of c.args.file.now c.args.bytes.now) n
+      (λ n. PutsBlocks g.D.Drive.contents g.D.Drive.count g.D.Drive.faults disk.Ok (used_in (Some c.args.file.now))
+      (content_of c.args.file.now c.args.bytes.now) n
       c.args.disk.now c.loop-i.disk)
       (sym (all_within (g.D.Drive.count (drive_of c.args.disk.now)) c.args.file.now (length c.args.bytes.now) c.blocks_of-i-end.result c.loop-i.i
       c.requires.stored c.requires.size c.blocks_of-i-end.ensures.exact c.loop-i-test.false (omega arith)))

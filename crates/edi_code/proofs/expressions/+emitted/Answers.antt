@@ -8,7 +8,9 @@ use Rattle.edi_unit.proofs.Limits.{drop_item}
 use Rattle.edi_scheme.specs.Pieces.{words_of_code}
 use Rattle.edi_code.specs.Emits.{Emits}
 use Rattle.edi_code.specs.Scope.{types_in, blocks_in}
-use Rattle.edi_code.specs.InScope.{operator_of, expression_length, expressions_length, members_length, links_length, part_length, parts_length, argument_length, arguments_length, expression_code, expressions_code, members_code, links_code, part_code, parts_code, argument_code, arguments_code, ExpressionsAreWritable, LinksAreWritable, PartsAreWritable, ArgumentsAreWritable}
+use Rattle.edi_code.specs.InScope.{operator_of, expression_length, expressions_length, members_length, links_length, part_length, parts_length}
+use Rattle.edi_code.specs.InScope.{argument_length, arguments_length, expression_code, expressions_code, members_code, links_code, part_code, parts_code}
+use Rattle.edi_code.specs.InScope.{argument_code, arguments_code, ExpressionsAreWritable, LinksAreWritable, PartsAreWritable, ArgumentsAreWritable}
 use Rattle.edi_code.proofs.Emitting.{two, three, rest_words}
 use Rattle.edi_code.proofs.Layers.{chain_seen}
 use Rattle.edi_code.proofs.Links.{member_words, linked_words, link_is, links_room, links_writable}
@@ -23,13 +25,18 @@ emit_values-loop-value-preserved t c =
     let part = drop_item items i c.value-item.result c.loop-value-test.true c.value-item.is in
     let x = expression_of c.value-item.result in
     let rest = expressions (map expression_of (drop (i + 1) items)) in
-    let writable : ExpressionsAreWritable s (expression_then x rest) = subst (λ l. ExpressionsAreWritable s (expressions (map expression_of l))) part c.loop-value.invariant.writable in
-    let room : here + expressions_length s (expression_then x rest) ≡ c.args.at + expressions_length s (expressions (map expression_of items)) = subst (λ l. here + expressions_length s (expressions (map expression_of l)) ≡ c.args.at + expressions_length s (expressions (map expression_of items))) part c.loop-value.invariant.room in
-    let words = subst (λ l. c.loop-value.out.items ++ words_of_code (expressions_code s here (expressions (map expression_of l))) ≡ c.args.out.now.items ++ words_of_code (expressions_code s c.args.at (expressions (map expression_of items)))) part c.loop-value.invariant.words in
+    let writable : ExpressionsAreWritable s (expression_then x rest) = subst (λ l. ExpressionsAreWritable s (expressions (map expression_of l))) part
+    c.loop-value.invariant.writable in
+    let room : here + expressions_length s (expression_then x rest) ≡ c.args.at + expressions_length s (expressions (map expression_of items)) = subst
+    (λ l. here + expressions_length s (expressions (map expression_of l)) ≡ c.args.at + expressions_length s (expressions (map expression_of items))) part
+    c.loop-value.invariant.room in
+    let words = subst (λ l. c.loop-value.out.items ++ words_of_code (expressions_code s here (expressions (map expression_of l))) ≡ c.args.out.now.items
+    ++ words_of_code (expressions_code s c.args.at (expressions (map expression_of items)))) part c.loop-value.invariant.words in
     record {
       writable = writable.1;
       room = omega (arith, room, c.value_length-here.ensures.exact);
-      words = rest_words c.loop-value.out.items _ _ (expression_code s here x) (λ h k. expressions_code s h rest) here (expression_length s x) c.value_length-here.result 0 0 c.value_length-here.ensures.exact refl c.in_ok-emit_value.ensures.emits words;
+      words = rest_words c.loop-value.out.items _ _ (expression_code s here x) (λ h k. expressions_code s h rest) here (expression_length s x)
+          c.value_length-here.result 0 0 c.value_length-here.ensures.exact refl c.in_ok-emit_value.ensures.emits words;
     }
 
 pub emit_arguments-loop-argument-preserved : goal.emit_arguments-loop-argument-preserved
@@ -41,13 +48,18 @@ emit_arguments-loop-argument-preserved t c =
     let part = drop_item items i c.argument-item.result c.loop-argument-test.true c.argument-item.is in
     let x = argument_of c.argument-item.result in
     let rest = arguments (map argument_of (drop (i + 1) items)) in
-    let writable : ArgumentsAreWritable s (argument_then x rest) = subst (λ l. ArgumentsAreWritable s (arguments (map argument_of l))) part c.loop-argument.invariant.writable in
-    let room : here + arguments_length s (argument_then x rest) ≡ c.args.at + arguments_length s (arguments (map argument_of items)) = subst (λ l. here + arguments_length s (arguments (map argument_of l)) ≡ c.args.at + arguments_length s (arguments (map argument_of items))) part c.loop-argument.invariant.room in
-    let words = subst (λ l. c.loop-argument.out.items ++ words_of_code (arguments_code s here (arguments (map argument_of l))) ≡ c.args.out.now.items ++ words_of_code (arguments_code s c.args.at (arguments (map argument_of items)))) part c.loop-argument.invariant.words in
+    let writable : ArgumentsAreWritable s (argument_then x rest) = subst (λ l. ArgumentsAreWritable s (arguments (map argument_of l))) part
+    c.loop-argument.invariant.writable in
+    let room : here + arguments_length s (argument_then x rest) ≡ c.args.at + arguments_length s (arguments (map argument_of items)) = subst
+    (λ l. here + arguments_length s (arguments (map argument_of l)) ≡ c.args.at + arguments_length s (arguments (map argument_of items))) part
+    c.loop-argument.invariant.room in
+    let words = subst (λ l. c.loop-argument.out.items ++ words_of_code (arguments_code s here (arguments (map argument_of l))) ≡ c.args.out.now.items
+    ++ words_of_code (arguments_code s c.args.at (arguments (map argument_of items)))) part c.loop-argument.invariant.words in
     record {
       writable = writable.1;
       room = omega (arith, room, c.argument_length-here.ensures.exact);
-      words = rest_words c.loop-argument.out.items _ _ (argument_code s here x) (λ h k. arguments_code s h rest) here (argument_length s x) c.argument_length-here.result 0 0 c.argument_length-here.ensures.exact refl c.in_ok-emit_argument.ensures.emits words;
+      words = rest_words c.loop-argument.out.items _ _ (argument_code s here x) (λ h k. arguments_code s h rest) here (argument_length s x)
+          c.argument_length-here.result 0 0 c.argument_length-here.ensures.exact refl c.in_ok-emit_argument.ensures.emits words;
     }
 
 pub emit_members-loop-member-preserved : goal.emit_members-loop-member-preserved
@@ -59,13 +71,19 @@ emit_members-loop-member-preserved t c =
     let part = drop_item items i c.member-item.result c.loop-member-test.true c.member-item.is in
     let x = expression_of c.member-item.result in
     let rest = expressions (map expression_of (drop (i + 1) items)) in
-    let writable : ExpressionsAreWritable s (expression_then x rest) = subst (λ l. ExpressionsAreWritable s (expressions (map expression_of l))) part c.loop-member.invariant.writable in
-    let room : here + members_length s (expression_then x rest) ≡ c.args.at + members_length s (expressions (map expression_of items)) = subst (λ l. here + members_length s (expressions (map expression_of l)) ≡ c.args.at + members_length s (expressions (map expression_of items))) part c.loop-member.invariant.room in
-    let words = subst (λ l. c.loop-member.out.items ++ words_of_code (members_code s here c.args.line (expressions (map expression_of l))) ≡ c.args.out.now.items ++ words_of_code (members_code s c.args.at c.args.line (expressions (map expression_of items)))) part c.loop-member.invariant.words in
+    let writable : ExpressionsAreWritable s (expression_then x rest) = subst (λ l. ExpressionsAreWritable s (expressions (map expression_of l))) part
+    c.loop-member.invariant.writable in
+    let room : here + members_length s (expression_then x rest) ≡ c.args.at + members_length s (expressions (map expression_of items)) = subst
+    (λ l. here + members_length s (expressions (map expression_of l)) ≡ c.args.at + members_length s (expressions (map expression_of items))) part
+    c.loop-member.invariant.room in
+    let words = subst (λ l. c.loop-member.out.items ++ words_of_code (members_code s here c.args.line (expressions (map expression_of l)))
+    ≡ c.args.out.now.items ++ words_of_code (members_code s c.args.at c.args.line (expressions (map expression_of items)))) part
+    c.loop-member.invariant.words in
     record {
       writable = writable.1;
       room = omega (arith, room, c.value_length.ensures.exact);
-      words = member_words s c.loop-member.out.items _ _ _ here c.args.line c.value_length.result x rest c.value_length.ensures.exact c.in_ok-emit_value.ensures.emits c.in_ok-put.ensures.emits words;
+      words = member_words s c.loop-member.out.items _ _ _ here c.args.line c.value_length.result x rest c.value_length.ensures.exact
+          c.in_ok-emit_value.ensures.emits c.in_ok-put.ensures.emits words;
     }
 
 pub emit_parts-loop-part-preserved : goal.emit_parts-loop-part-preserved
@@ -79,12 +97,17 @@ emit_parts-loop-part-preserved t c =
     let x = part_of c.part-item.result in
     let rest = parts (map part_of (drop (i + 1) items)) in
     let writable : PartsAreWritable s (part_then x rest) = subst (λ l. PartsAreWritable s (parts (map part_of l))) part c.loop-part.invariant.writable in
-    let room : here + parts_length s of (part_then x rest) ≡ c.args.at + parts_length s c.args.root (parts (map part_of items)) = subst (λ l. here + parts_length s of (parts (map part_of l)) ≡ c.args.at + parts_length s c.args.root (parts (map part_of items))) part c.loop-part.invariant.room in
-    let words = subst (λ l. c.loop-part.out.items ++ words_of_code (parts_code s here of (parts (map part_of l))) ≡ c.args.out.now.items ++ words_of_code (parts_code s c.args.at c.args.root (parts (map part_of items)))) part c.loop-part.invariant.words in
+    let room : here + parts_length s of (part_then x rest) ≡ c.args.at + parts_length s c.args.root (parts (map part_of items)) = subst
+    (λ l. here + parts_length s of (parts (map part_of l)) ≡ c.args.at + parts_length s c.args.root (parts (map part_of items))) part
+    c.loop-part.invariant.room in
+    let words = subst (λ l. c.loop-part.out.items ++ words_of_code (parts_code s here of (parts (map part_of l))) ≡ c.args.out.now.items
+    ++ words_of_code (parts_code s c.args.at c.args.root (parts (map part_of items)))) part c.loop-part.invariant.words in
     record {
       writable = writable.1;
       room = omega (arith, room, c.part_length-here.ensures.exact, ap (λ k. parts_length s k rest) c.part_type-of.ensures.exact);
-      words = rest_words c.loop-part.out.items _ _ (part_code s here of x) (λ h k. parts_code s h k rest) here (part_length s of x) c.part_length-here.result (need.part_type (types_in s) of x) c.part_type-of.result c.part_length-here.ensures.exact c.part_type-of.ensures.exact c.in_ok-emit_part.ensures.emits words;
+      words = rest_words c.loop-part.out.items _ _ (part_code s here of x) (λ h k. parts_code s h k rest) here (part_length s of x) c.part_length-here.result
+          (need.part_type (types_in s) of x) c.part_type-of.result c.part_length-here.ensures.exact c.part_type-of.ensures.exact c.in_ok-emit_part.ensures.emits
+          words;
     }
 
 pub emit_links-loop-link-preserved : goal.emit_links-loop-link-preserved
@@ -97,23 +120,30 @@ emit_links-loop-link-preserved t c =
     let part = drop_item items i c.link-item.result c.loop-link-test.true c.link-item.is in
     let x = link_of c.link-item.result in
     let rest = links (map link_of (drop (i + 1) items)) in
-    let next : c.operator_type-of.result ≡ operator_type (operator_of x) of = c.operator_type-of.ensures.exact ∙ ap (λ o. operator_type o of) c.operator_of.ensures.exact in
+    let next : c.operator_type-of.result ≡ operator_type (operator_of x) of = c.operator_type-of.ensures.exact ∙ ap (λ o. operator_type o of)
+    c.operator_of.ensures.exact in
     let writable = links_writable s of x rest (subst (λ l. LinksAreWritable s of (links (map link_of l))) part c.loop-link.invariant.writable) in
-    let room : here + links_length s of (link_then x rest) ≡ c.args.at + links_length s c.args.left (links (map link_of items)) = subst (λ l. here + links_length s of (links (map link_of l)) ≡ c.args.at + links_length s c.args.left (links (map link_of items))) part c.loop-link.invariant.room in
-    let words = subst (λ l. c.loop-link.out.items ++ words_of_code (links_code s here of (links (map link_of l))) ≡ c.args.out.now.items ++ words_of_code (links_code s c.args.at c.args.left (links (map link_of items)))) part c.loop-link.invariant.words in
+    let room : here + links_length s of (link_then x rest) ≡ c.args.at + links_length s c.args.left (links (map link_of items)) = subst
+    (λ l. here + links_length s of (links (map link_of l)) ≡ c.args.at + links_length s c.args.left (links (map link_of items))) part
+    c.loop-link.invariant.room in
+    let words = subst (λ l. c.loop-link.out.items ++ words_of_code (links_code s here of (links (map link_of l))) ≡ c.args.out.now.items
+    ++ words_of_code (links_code s c.args.at c.args.left (links (map link_of items)))) part c.loop-link.invariant.words in
     record {
       writable = subst (λ k. LinksAreWritable s k rest) (sym next) writable;
       room = omega (arith, room, links_room s of x rest, c.in_ok-here.ensures.behind, ap (λ k. links_length s k rest) next);
-      words = linked_words s c.loop-link.out.items _ _ here of c.in_ok-here.here c.operator_type-of.result x rest c.in_ok-here.ensures.behind next c.in_ok-here.ensures.emits words;
+      words = linked_words s c.loop-link.out.items _ _ here of c.in_ok-here.here c.operator_type-of.result x rest c.in_ok-here.ensures.behind next
+          c.in_ok-here.ensures.emits words;
     }
 
 pub emit_right-returns-clause-emits : goal.emit_right-returns-clause-emits
 emit_right-returns-clause-emits t c =
-    three _ _ _ _ _ _ _ _ _ _ _ c.in_ok-put_any.ensures.emits c.in_ok-emit_value.ensures.emits c.in_ok-put_any-2.ensures.emits c.decision.ensures.exact refl c.operation.ensures.exact
+    three _ _ _ _ _ _ _ _ _ _ _ c.in_ok-put_any.ensures.emits c.in_ok-emit_value.ensures.emits c.in_ok-put_any-2.ensures.emits c.decision.ensures.exact refl
+    c.operation.ensures.exact
     (link_is c.args.scope.now c.args.at c.args.left c.args.operator (expression_of c.args.right.now) c.args.line _ _
     (ap (λ k. c.args.at + k) (c.decision_length.ensures.exact 0))
     (ap (λ k. c.args.at + c.decision_length.result + k + c.operation_length-long.result) c.value_length.ensures.exact
-    ∙ ap (λ k. c.args.at + c.decision_length.result + expression_length c.args.scope.now (expression_of c.args.right.now) + k) (c.operation_length-long.ensures.exact c.args.line)))
+    ∙ ap (λ k. c.args.at + c.decision_length.result + expression_length c.args.scope.now (expression_of c.args.right.now) + k)
+    (c.operation_length-long.ensures.exact c.args.line)))
 
 pub emit_load-returns : goal.emit_load-returns
 emit_load-returns t c = record { emits = two c.put.result _ _ _ _ _ _ _ c.in_ok-emit_place.ensures.emits c.put.ensures.emits refl (search rules) }
@@ -130,9 +160,12 @@ emit_value-returns-in_ok-emit_value-in-Chain t c =
     let first = expression_of c.in-Chain.first.value in
     let rest = links_of c.in-Chain.links in
     let seen : expression_of c.args.value.now ≡ chain first rest = ap expression_of c.in-Chain.is ∙ chain_seen c.in-Chain.first c.in-Chain.links in
-    let long : c.value_length.result ≡ expression_length s first = c.value_length.ensures.exact ∙ ap (λ v. expression_length s (expression_of v)) c.deref-in-Chain-2.ensures in
-    let typed : c.expression_type-left.result ≡ expression_type (types_in s) (blocks_in s) s.block first = c.expression_type-left.ensures.exact ∙ ap (λ v. expression_type (types_in s) (blocks_in s) s.block (expression_of v)) c.deref-in-Chain.ensures in
-    let begun = subst (λ v. Emits c.args.out.now.items c.emit_value.new.out.items (expression_code s c.args.at (expression_of v))) c.deref-in-Chain-3.ensures c.in_ok-emit_value-in-Chain.ensures.emits in
+    let long : c.value_length.result ≡ expression_length s first = c.value_length.ensures.exact ∙ ap (λ v. expression_length s (expression_of v))
+    c.deref-in-Chain-2.ensures in
+    let typed : c.expression_type-left.result ≡ expression_type (types_in s) (blocks_in s) s.block first = c.expression_type-left.ensures.exact
+    ∙ ap (λ v. expression_type (types_in s) (blocks_in s) s.block (expression_of v)) c.deref-in-Chain.ensures in
+    let begun = subst (λ v. Emits c.args.out.now.items c.emit_value.new.out.items (expression_code s c.args.at (expression_of v))) c.deref-in-Chain-3.ensures
+    c.in_ok-emit_value-in-Chain.ensures.emits in
     record {
       emits =
           subst (λ v. OnOk c.emit_links.result (Emits c.args.out.now.items c.emit_links.new.out.items (expression_code s c.args.at v))) (sym seen)

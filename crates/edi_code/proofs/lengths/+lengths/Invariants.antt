@@ -5,16 +5,21 @@ use Rattle.edi_code.specs.InScope.{expressions_length, members_length, links_len
 use Rattle.edi_code.proofs.lengths.+lengths.Given as goal
 
 abbrev pub invariant-values_length-loop-value : goal.invariant-values_length-loop-value
-invariant-values_length-loop-value l = l.words + expressions_length l.scope (expressions (map expression_of (drop l.value-index l.value-items))) ≡ expressions_length l.scope (expressions (map expression_of l.value-items))
+invariant-values_length-loop-value l = l.words + expressions_length l.scope (expressions (map expression_of (drop l.value-index l.value-items)))
+    ≡ expressions_length l.scope (expressions (map expression_of l.value-items))
 
 abbrev pub invariant-members_length-loop-member : goal.invariant-members_length-loop-member
-invariant-members_length-loop-member l = l.words + members_length l.scope (expressions (map expression_of (drop l.member-index l.member-items))) ≡ members_length l.scope (expressions (map expression_of l.member-items))
+invariant-members_length-loop-member l = l.words + members_length l.scope (expressions (map expression_of (drop l.member-index l.member-items)))
+    ≡ members_length l.scope (expressions (map expression_of l.member-items))
 
 abbrev pub invariant-links_length-loop-link : goal.invariant-links_length-loop-link
-invariant-links_length-loop-link l = l.words + links_length l.scope l.of (links (map link_of (drop l.link-index l.link-items))) ≡ links_length l.scope l.left (links (map link_of l.link-items))
+invariant-links_length-loop-link l = l.words + links_length l.scope l.of (links (map link_of (drop l.link-index l.link-items))) ≡ links_length l.scope l.left
+    (links (map link_of l.link-items))
 
 abbrev pub invariant-parts_length-loop-part : goal.invariant-parts_length-loop-part
-invariant-parts_length-loop-part l = l.words + parts_length l.scope l.of (parts (map part_of (drop l.part-index l.part-items))) ≡ parts_length l.scope l.root (parts (map part_of l.part-items))
+invariant-parts_length-loop-part l = l.words + parts_length l.scope l.of (parts (map part_of (drop l.part-index l.part-items))) ≡ parts_length l.scope l.root
+    (parts (map part_of l.part-items))
 
 abbrev pub invariant-arguments_length-loop-argument : goal.invariant-arguments_length-loop-argument
-invariant-arguments_length-loop-argument l = l.words + arguments_length l.scope (arguments (map argument_of (drop l.argument-index l.argument-items))) ≡ arguments_length l.scope (arguments (map argument_of l.argument-items))
+invariant-arguments_length-loop-argument l = l.words + arguments_length l.scope (arguments (map argument_of (drop l.argument-index l.argument-items)))
+    ≡ arguments_length l.scope (arguments (map argument_of l.argument-items))

@@ -6,13 +6,25 @@ use Rattle.edi_code.proofs.pieces.slot_offset.Goals as goal
 
 pub loop-before-preserved : goal.loop-before-preserved
 loop-before-preserved c =
-    offset_next (types_in c.args.scope.now) (block_at (blocks_in c.args.scope.now) c.outer-home.result) c.loop-before.before c.loop-before.words c.words_at-words.result
+    offset_next (types_in c.args.scope.now) (block_at (blocks_in c.args.scope.now) c.outer-home.result) c.loop-before.before c.loop-before.words
+    c.words_at-words.result
     c.loop-before.invariant c.words_at-words.ensures.exact
 
 pub overflow_add-words : goal.overflow_add-words
 overflow_add-words c =
-    omega (arith, c.loop-before.invariant, c.words_at-words.ensures.small, offset_small (types_in c.args.scope.now) (blocks_in c.args.scope.now) c.outer-home.result c.loop-before.before c.requires.scope.frames)
+    omega (
+      arith,
+      c.loop-before.invariant,
+      c.words_at-words.ensures.small,
+      offset_small (types_in c.args.scope.now) (blocks_in c.args.scope.now)
+          c.outer-home.result c.loop-before.before c.requires.scope.frames,
+    )
 
 pub overflow_cast-result : goal.overflow_cast-result
 overflow_cast-result c =
-    omega (arith, c.loop-before.invariant, offset_small (types_in c.args.scope.now) (blocks_in c.args.scope.now) c.outer-home.result c.loop-before.before c.requires.scope.frames)
+    omega (
+      arith,
+      c.loop-before.invariant,
+      offset_small (types_in c.args.scope.now) (blocks_in c.args.scope.now) c.outer-home.result c.loop-before.before
+          c.requires.scope.frames,
+    )

@@ -14,7 +14,13 @@ block_words-here-requires-clause-small c =
     let types = c.args.types.now in
     let blocks = map block_of c.args.blocks.now in
     let i = c.loop-block.block in
-    omega (arith, c.requires.room, entry_next types blocks i, entry_before types blocks (i + 1) (length c.args.blocks.now) (omega (arith, c.loop-block-test.true)))
+    omega (
+      arith,
+      c.requires.room,
+      entry_next types blocks i,
+      entry_before types blocks (i + 1) (length c.args.blocks.now)
+          (omega (arith, c.loop-block-test.true)),
+    )
 
 pub overflow_add-here : goal.overflow_add-here
 overflow_add-here c =
@@ -22,4 +28,12 @@ overflow_add-here c =
     let blocks = map block_of c.args.blocks.now in
     let i = c.loop-block.block in
     let words : c.block_words-here.result ≡ block_length types blocks i = c.block_words-here.ensures.exact in
-    omega (arith, c.requires.room, c.loop-block.invariant.here, words, entry_next types blocks i, entry_before types blocks (i + 1) (length c.args.blocks.now) (omega (arith, c.loop-block-test.true)))
+    omega (
+      arith,
+      c.requires.room,
+      c.loop-block.invariant.here,
+      words,
+      entry_next types blocks i,
+      entry_before types blocks (i + 1) (length c.args.blocks.now)
+          (omega (arith, c.loop-block-test.true)),
+    )

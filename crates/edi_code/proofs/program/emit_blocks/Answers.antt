@@ -18,7 +18,12 @@ emit_block-requires-clause-room c =
     let blocks = map block_of c.args.blocks.now in
     let i = c.loop-block.block in
     let all = length-map c.args.blocks.now block_of in
-    omega (arith, c.requires.writable.room, entry_next types blocks i, entry_before types blocks (i + 1) (length blocks) (omega (arith, all, c.loop-block-test.true)))
+    omega (
+      arith,
+      c.requires.writable.room,
+      entry_next types blocks i,
+      entry_before types blocks (i + 1) (length blocks) (omega (arith, all, c.loop-block-test.true)),
+    )
 
 pub loop-block-preserved : goal.loop-block-preserved
 loop-block-preserved c =

@@ -10,4 +10,5 @@ check-requires-clause-number c =
 pub unreachable-requires : goal.unreachable-requires
 unreachable-requires c =
     c.in_default.not-NoMemory
-    (no_fault (unit_of c.args.unit.now) c.requires.fits c.requires.parts c.requires.short _ _ _ c.in_ok-words.ensures.exact c.items.ensures.exact c.in-Err.ensures.err)
+    (no_fault (unit_of c.args.unit.now) c.requires.fits c.requires.parts c.requires.short _ _ _ c.in_ok-words.ensures.exact c.items.ensures.exact
+    c.in-Err.ensures.err)

@@ -5,7 +5,8 @@ use Rattle.edi_meaning.specs.Step as step
 use Rattle.edi_code.proofs.quiet.+calls.Given as goal
 
 abbrev pub invariant-any_calls-loop-value : goal.invariant-any_calls-loop-value
-invariant-any_calls-loop-value l = step.any_calls (expressions (map expression_of (drop l.value-index l.value-items))) ≡ step.any_calls (expressions (map expression_of l.value-items))
+invariant-any_calls-loop-value l = step.any_calls (expressions (map expression_of (drop l.value-index l.value-items))) ≡ step.any_calls
+    (expressions (map expression_of l.value-items))
 
 abbrev pub invariant-links_call-loop-link : goal.invariant-links_call-loop-link
 invariant-links_call-loop-link l = step.links_call (links (map link_of (drop l.link-index l.link-items))) ≡ step.links_call (links (map link_of l.link-items))

@@ -6,4 +6,5 @@ use Rattle.edi_scheme.specs.Pieces.{constant_words}
 use Rattle.edi_code.proofs.rows.constant_row.Given as goal
 
 abbrev pub invariant-loop-value : goal.invariant-loop-value
-invariant-loop-value l = option_map (λ (ws : List ℕ). l.words.items ++ ws) (constant_words (expressions (map expression_of (drop l.value-index l.value-items)))) ≡ constant_words (expressions (map expression_of l.value-items))
+invariant-loop-value l = option_map (λ (ws : List ℕ). l.words.items ++ ws)
+    (constant_words (expressions (map expression_of (drop l.value-index l.value-items)))) ≡ constant_words (expressions (map expression_of l.value-items))

@@ -17,7 +17,9 @@ clauses_length-loop-clause-preserved t c =
     let part = drop_item items i c.clause-item.result c.loop-clause-test.true c.clause-item.is in
     let x = clause_of c.clause-item.result in
     let rest = clauses (map clause_of (drop (i + 1) items)) in
-    let words : c.loop-clause.words + clauses_length s choice (clause_then x rest) ≡ clauses_length s choice (clauses (map clause_of items)) = subst (λ l. c.loop-clause.words + clauses_length s choice (clauses (map clause_of l)) ≡ clauses_length s choice (clauses (map clause_of items))) part c.loop-clause.invariant.words in
+    let words : c.loop-clause.words + clauses_length s choice (clause_then x rest) ≡ clauses_length s choice (clauses (map clause_of items)) = subst
+    (λ l. c.loop-clause.words + clauses_length s choice (clauses (map clause_of l)) ≡ clauses_length s choice (clauses (map clause_of items))) part
+    c.loop-clause.invariant.words in
     let behind : c.loop-clause.behind - 1 + (i + 1) ≡ length items = omega (arith, c.loop-clause.invariant.behind, c.loop-clause-test.true) in
     let closes = c.close_length.ensures.exact 0 rest (end_is clause_of items i (c.loop-clause.behind - 1) behind) in
     record { behind = behind; words = omega (arith, words, closes, c.clause_length.ensures.exact) }
@@ -31,10 +33,20 @@ clauses_length-overflow_add-words t c =
     let part = drop_item items i c.clause-item.result c.loop-clause-test.true c.clause-item.is in
     let x = clause_of c.clause-item.result in
     let rest = clauses (map clause_of (drop (i + 1) items)) in
-    let words : c.loop-clause.words + clauses_length s choice (clause_then x rest) ≡ clauses_length s choice (clauses (map clause_of items)) = subst (λ l. c.loop-clause.words + clauses_length s choice (clauses (map clause_of l)) ≡ clauses_length s choice (clauses (map clause_of items))) part c.loop-clause.invariant.words in
+    let words : c.loop-clause.words + clauses_length s choice (clause_then x rest) ≡ clauses_length s choice (clauses (map clause_of items)) = subst
+    (λ l. c.loop-clause.words + clauses_length s choice (clauses (map clause_of l)) ≡ clauses_length s choice (clauses (map clause_of items))) part
+    c.loop-clause.invariant.words in
     let behind : c.loop-clause.behind - 1 + (i + 1) ≡ length items = omega (arith, c.loop-clause.invariant.behind, c.loop-clause-test.true) in
     let closes = c.close_length.ensures.exact 0 rest (end_is clause_of items i (c.loop-clause.behind - 1) behind) in
-    omega (arith, words, closes, c.clause_length.ensures.exact, c.requires.small, ap (λ l. clauses_length s choice (clauses (map clause_of l))) c.items-clause-items.ensures.exact)
+    omega (
+      arith,
+      words,
+      closes,
+      c.clause_length.ensures.exact,
+      c.requires.small,
+      ap (λ l. clauses_length s choice (clauses (map clause_of l)))
+          c.items-clause-items.ensures.exact,
+    )
 
 pub clauses_length-overflow_add-words-in-loop-clause : goal.clauses_length-overflow_add-words-in-loop-clause
 clauses_length-overflow_add-words-in-loop-clause t c =
@@ -45,7 +57,17 @@ clauses_length-overflow_add-words-in-loop-clause t c =
     let part = drop_item items i c.clause-item.result c.loop-clause-test.true c.clause-item.is in
     let x = clause_of c.clause-item.result in
     let rest = clauses (map clause_of (drop (i + 1) items)) in
-    let words : c.loop-clause.words + clauses_length s choice (clause_then x rest) ≡ clauses_length s choice (clauses (map clause_of items)) = subst (λ l. c.loop-clause.words + clauses_length s choice (clauses (map clause_of l)) ≡ clauses_length s choice (clauses (map clause_of items))) part c.loop-clause.invariant.words in
+    let words : c.loop-clause.words + clauses_length s choice (clause_then x rest) ≡ clauses_length s choice (clauses (map clause_of items)) = subst
+    (λ l. c.loop-clause.words + clauses_length s choice (clauses (map clause_of l)) ≡ clauses_length s choice (clauses (map clause_of items))) part
+    c.loop-clause.invariant.words in
     let behind : c.loop-clause.behind - 1 + (i + 1) ≡ length items = omega (arith, c.loop-clause.invariant.behind, c.loop-clause-test.true) in
     let closes = c.close_length.ensures.exact 0 rest (end_is clause_of items i (c.loop-clause.behind - 1) behind) in
-    omega (arith, words, closes, c.clause_length.ensures.exact, c.requires.small, ap (λ l. clauses_length s choice (clauses (map clause_of l))) c.items-clause-items.ensures.exact)
+    omega (
+      arith,
+      words,
+      closes,
+      c.clause_length.ensures.exact,
+      c.requires.small,
+      ap (λ l. clauses_length s choice (clauses (map clause_of l)))
+          c.items-clause-items.ensures.exact,
+    )

@@ -10,13 +10,17 @@ abbrev pub invariant-emit_acts-loop-act : goal.invariant-emit_acts-loop-act
 invariant-emit_acts-loop-act l = record {
   writable : ActsAreWritable l.scope (acts (map act_of (drop l.act-index l.act-items)));
   room : l.here + acts_length l.scope (acts (map act_of (drop l.act-index l.act-items))) ≡ l.at + acts_length l.scope (acts (map act_of l.act-items));
-  words : l.out.items ++ words_of_code (acts_code l.scope l.here (acts (map act_of (drop l.act-index l.act-items)))) ≡ l.fn.out.items ++ words_of_code (acts_code l.scope l.at (acts (map act_of l.act-items)));
+  words : l.out.items ++ words_of_code (acts_code l.scope l.here (acts (map act_of (drop l.act-index l.act-items)))) ≡ l.fn.out.items
+      ++ words_of_code (acts_code l.scope l.at (acts (map act_of l.act-items)));
 }
 
 abbrev pub invariant-emit_clauses-loop-clause : goal.invariant-emit_clauses-loop-clause
 invariant-emit_clauses-loop-clause l = record {
   behind : l.behind + l.clause-index ≡ length l.clause-items;
   writable : ClausesAreWritable l.scope (clauses (map clause_of (drop l.clause-index l.clause-items)));
-  room : l.here + clauses_length l.scope (clause_kind_of l.closing) (clauses (map clause_of (drop l.clause-index l.clause-items))) ≡ l.at + clauses_length l.scope (clause_kind_of l.closing) (clauses (map clause_of l.clause-items));
-  words : l.out.items ++ words_of_code (clauses_code l.scope (clause_kind_of l.closing) l.target l.here (clauses (map clause_of (drop l.clause-index l.clause-items)))) ≡ l.fn.out.items ++ words_of_code (clauses_code l.scope (clause_kind_of l.closing) l.target l.at (clauses (map clause_of l.clause-items)));
+  room : l.here + clauses_length l.scope (clause_kind_of l.closing) (clauses (map clause_of (drop l.clause-index l.clause-items))) ≡ l.at + clauses_length
+      l.scope (clause_kind_of l.closing) (clauses (map clause_of l.clause-items));
+  words : l.out.items ++ words_of_code (clauses_code l.scope (clause_kind_of l.closing) l.target l.here
+      (clauses (map clause_of (drop l.clause-index l.clause-items)))) ≡ l.fn.out.items
+      ++ words_of_code (clauses_code l.scope (clause_kind_of l.closing) l.target l.at (clauses (map clause_of l.clause-items)));
 }

@@ -17,9 +17,13 @@ put-requires c =
     let numbers = list_items c.args.branches.now in
     let f : ℕ → Branch = λ n. record { need = (block_at (blocks_in scope) n).need; address = entry_in scope n } in
     let same : length (branches_in scope numbers) ≡ length numbers = length-map numbers f in
-    let frames = frames_true f numbers (length (blocks_in scope)) (λ n l. let fits = c.requires.scope.frames n l in omega (arith, fits.roomy)) c.requires.writable.1 in
+    let frames = frames_true f numbers (length (blocks_in scope)) (λ n l. let fits = c.requires.scope.frames n l in
+    omega (arith, fits.roomy)) c.requires.writable.1 in
     let words : c.deref.result.now ≡ branch_words (branches_in scope numbers) = search rules in
-    record { allowed = cobegin_whole (branches_in scope numbers) c.deref.result.now words (omega (arith, same, c.requires.writable.0.0)) (omega (arith, same, c.requires.writable.0.1)) frames }
+    record {
+      allowed = cobegin_whole (branches_in scope numbers) c.deref.result.now words (omega (arith, same, c.requires.writable.0.0))
+          (omega (arith, same, c.requires.writable.0.1)) frames;
+    }
 
 pub returns : goal.returns
 returns c =
@@ -28,5 +32,6 @@ returns c =
     let words : c.deref.result.now ≡ branch_words (branches_in scope numbers) = search rules in
     record {
       emits =
-          stated c.put.result _ _ _ _ (ap (λ l. instruction.cobegin c.args.line l ∷ []) (ap branches_of words ∙ branches_again (branches_in scope numbers))) c.put.ensures.emits;
+          stated c.put.result _ _ _ _ (ap (λ l. instruction.cobegin c.args.line l ∷ []) (ap branches_of words ∙ branches_again (branches_in scope numbers)))
+          c.put.ensures.emits;
     }

@@ -7,13 +7,17 @@ use Rattle.edi_codefile.proofs.packing.pack.Goals as goal
 pub returns-clause-sound : goal.returns-clause-sound
 unfolding code_bytes
 returns-clause-sound c =
-    let file : c.put_words.new.bytes.items ≡ code_bytes c.args.code.now = grind (arith, common_steps, c.in_ok-put_words.ensures, c.in_ok-put_calls.ensures, c.in_ok-put_start.ensures, c.in_ok-bytes.ensures.items) in
-    let bytes : IsFileOf c.put_words.new.bytes.items c.args.code.now = subst (λ b. IsFileOf b c.args.code.now) (sym file) (file_of_sound c.args.code.now c.words-words.ensures.sound) in
+    let file : c.put_words.new.bytes.items ≡ code_bytes c.args.code.now =
+    grind (arith, common_steps, c.in_ok-put_words.ensures, c.in_ok-put_calls.ensures, c.in_ok-put_start.ensures, c.in_ok-bytes.ensures.items) in
+    let bytes : IsFileOf c.put_words.new.bytes.items c.args.code.now = subst (λ b. IsFileOf b c.args.code.now) (sym file)
+    (file_of_sound c.args.code.now c.words-words.ensures.sound) in
     no_fault_of c.put_words.new.bytes.items c.args.code.now bytes c.words-words.ensures.sound
 
 pub returns-clause-again : goal.returns-clause-again
 unfolding code_bytes
 returns-clause-again c =
-    let file : c.put_words.new.bytes.items ≡ code_bytes c.args.code.now = grind (arith, common_steps, c.in_ok-put_words.ensures, c.in_ok-put_calls.ensures, c.in_ok-put_start.ensures, c.in_ok-bytes.ensures.items) in
-    let bytes : IsFileOf c.put_words.new.bytes.items c.args.code.now = subst (λ b. IsFileOf b c.args.code.now) (sym file) (file_of_sound c.args.code.now c.words-words.ensures.sound) in
+    let file : c.put_words.new.bytes.items ≡ code_bytes c.args.code.now =
+    grind (arith, common_steps, c.in_ok-put_words.ensures, c.in_ok-put_calls.ensures, c.in_ok-put_start.ensures, c.in_ok-bytes.ensures.items) in
+    let bytes : IsFileOf c.put_words.new.bytes.items c.args.code.now = subst (λ b. IsFileOf b c.args.code.now) (sym file)
+    (file_of_sound c.args.code.now c.words-words.ensures.sound) in
     same_code_of c.put_words.new.bytes.items c.args.code.now bytes

@@ -8,7 +8,8 @@ returns c =
     let calls : List ℕ = c.args.calls.now in
     let old : List ℕ = c.args.bytes.now.items in
     let zeros : c.split_at.result.1.now ≡ replicate (19 - length calls) 0 = c.split_at.ensures.back ∙ drop-replicate (length calls) 19 0 in
-    appended c.extend_from_slice-2.result c.extend_from_slice-2.new.self.items (c.extend_from_slice.new.self.items ++ c.split_at.result.1.now) c.extend_from_slice.new.self.items (old ++ length calls ∷ (calls ++ replicate (19 - length calls) 0)) c.extend_from_slice-2.ensures.items
+    appended c.extend_from_slice-2.result c.extend_from_slice-2.new.self.items (c.extend_from_slice.new.self.items ++ c.split_at.result.1.now)
+    c.extend_from_slice.new.self.items (old ++ length calls ∷ (calls ++ replicate (19 - length calls) 0)) c.extend_from_slice-2.ensures.items
     (ap (λ x. x ++ c.split_at.result.1.now) (c.in_ok-extend_from_slice.ensures.items ∙ ap (λ x. x ++ calls) c.in_ok-push.ensures.items)
     ∙ ap (λ x. old ++ length calls ∷ [] ++ calls ++ x) zeros
     ∙ append_assoc (old ++ length calls ∷ []) calls (replicate (19 - length calls) 0)

@@ -20,103 +20,236 @@ use Rattle.edi_declarations.proofs.Pushes as push
 use Rattle.edi_declarations.proofs.declarations.+declaration.Goals as goal
 
 pub parse_procedure-returns-in_err-behind_proc-clause-halts : goal.parse_procedure-returns-in_err-behind_proc-clause-halts
-parse_procedure-returns-in_err-behind_proc-clause-halts t c = let p = err_from_is_err_and c.from_residual.result c.from_residual.ensures.1 in rw (p.1, p.2) (refused (into (token kind.Proc ∷ part g.Head ∷ part g.Declarations ∷ token kind.Begin ∷ part g.StatementList ∷ token kind.End ∷ item.level_end ∷ []) (waits g.Procedure _ _) refl) refl (omega arith) c.in_err-behind_proc.ensures.none)
+parse_procedure-returns-in_err-behind_proc-clause-halts t c = let p = err_from_is_err_and c.from_residual.result c.from_residual.ensures.1 in
+    rw (p.1, p.2) (refused (into (token kind.Proc ∷ part g.Head ∷ part g.Declarations ∷ token kind.Begin ∷ part g.StatementList ∷ token kind.End
+    ∷ item.level_end ∷ []) (waits g.Procedure _ _) refl) refl (omega arith) c.in_err-behind_proc.ensures.none)
 
 pub parse_procedure-returns-in_err-heading-clause-halts : goal.parse_procedure-returns-in_err-heading-clause-halts
-parse_procedure-returns-in_err-heading-clause-halts t c = let p = err_from_is_err_and c.from_residual-in_err-heading.result c.from_residual-in_err-heading.ensures.1 in rw (p.1, p.2) (halts (over_open (just is.Proc) (at_line is.Proc c.in_ok-behind_proc.field-0-0) (into (token kind.Proc ∷ part g.Head ∷ part g.Declarations ∷ token kind.Begin ∷ part g.StatementList ∷ token kind.End ∷ item.level_end ∷ []) (waits g.Procedure _ _) refl) c.in_ok-behind_proc.ensures.found refl (omega (arith, c.in_ok-behind_proc.ensures.room)) (refl, tt)) (omega arith) c.in_err-heading.ensures.halts)
+parse_procedure-returns-in_err-heading-clause-halts t c = let p = err_from_is_err_and c.from_residual-in_err-heading.result
+    c.from_residual-in_err-heading.ensures.1 in
+    rw (p.1, p.2) (halts (over_open (just is.Proc) (at_line is.Proc c.in_ok-behind_proc.field-0-0)
+    (into (token kind.Proc ∷ part g.Head ∷ part g.Declarations ∷ token kind.Begin ∷ part g.StatementList ∷ token kind.End ∷ item.level_end ∷ [])
+    (waits g.Procedure _ _) refl) c.in_ok-behind_proc.ensures.found refl (omega (arith, c.in_ok-behind_proc.ensures.room)) (refl, tt)) (omega arith)
+    c.in_err-heading.ensures.halts)
 
 pub parse_procedure-returns-in_err-declarations-clause-halts : goal.parse_procedure-returns-in_err-declarations-clause-halts
-parse_procedure-returns-in_err-declarations-clause-halts t c = let p = err_from_is_err_and c.from_residual-in_err-declarations.result c.from_residual-in_err-declarations.ensures.1 in rw (p.1, p.2) (halts (over_part (over_open (just is.Proc) (at_line is.Proc c.in_ok-behind_proc.field-0-0) (into (token kind.Proc ∷ part g.Head ∷ part g.Declarations ∷ token kind.Begin ∷ part g.StatementList ∷ token kind.End ∷ item.level_end ∷ []) (waits g.Procedure _ _) refl) c.in_ok-behind_proc.ensures.found refl (omega (arith, c.in_ok-behind_proc.ensures.room)) (refl, tt)) c.in_ok-heading.ensures.passes (omega arith)) (omega arith) c.in_err-declarations.ensures.halts)
+parse_procedure-returns-in_err-declarations-clause-halts t c = let p = err_from_is_err_and c.from_residual-in_err-declarations.result
+    c.from_residual-in_err-declarations.ensures.1 in
+    rw (p.1, p.2) (halts (over_part (over_open (just is.Proc) (at_line is.Proc c.in_ok-behind_proc.field-0-0)
+    (into (token kind.Proc ∷ part g.Head ∷ part g.Declarations ∷ token kind.Begin ∷ part g.StatementList ∷ token kind.End ∷ item.level_end ∷ [])
+    (waits g.Procedure _ _) refl) c.in_ok-behind_proc.ensures.found refl (omega (arith, c.in_ok-behind_proc.ensures.room)) (refl, tt))
+    c.in_ok-heading.ensures.passes (omega arith)) (omega arith) c.in_err-declarations.ensures.halts)
 
 pub parse_procedure-returns-in_err-behind_begin-clause-halts : goal.parse_procedure-returns-in_err-behind_begin-clause-halts
-parse_procedure-returns-in_err-behind_begin-clause-halts t c = let p = err_from_is_err_and c.from_residual-in_err-behind_begin.result c.from_residual-in_err-behind_begin.ensures.1 in rw (p.1, p.2) (lacks (over_part (over_part (over_open (just is.Proc) (at_line is.Proc c.in_ok-behind_proc.field-0-0) (into (token kind.Proc ∷ part g.Head ∷ part g.Declarations ∷ token kind.Begin ∷ part g.StatementList ∷ token kind.End ∷ item.level_end ∷ []) (waits g.Procedure _ _) refl) c.in_ok-behind_proc.ensures.found refl (omega (arith, c.in_ok-behind_proc.ensures.room)) (refl, tt)) c.in_ok-heading.ensures.passes (omega arith)) c.in_ok-declarations.ensures.passes (omega arith)) c.in_err-behind_begin.ensures.none)
+parse_procedure-returns-in_err-behind_begin-clause-halts t c = let p = err_from_is_err_and c.from_residual-in_err-behind_begin.result
+    c.from_residual-in_err-behind_begin.ensures.1 in
+    rw (p.1, p.2) (lacks (over_part (over_part
+    (over_open (just is.Proc) (at_line is.Proc c.in_ok-behind_proc.field-0-0)
+    (into (token kind.Proc ∷ part g.Head ∷ part g.Declarations ∷ token kind.Begin ∷ part g.StatementList ∷ token kind.End ∷ item.level_end ∷ [])
+    (waits g.Procedure _ _) refl) c.in_ok-behind_proc.ensures.found refl (omega (arith, c.in_ok-behind_proc.ensures.room)) (refl, tt))
+    c.in_ok-heading.ensures.passes (omega arith)) c.in_ok-declarations.ensures.passes (omega arith)) c.in_err-behind_begin.ensures.none)
 
 pub parse_procedure-returns-in_err-list-clause-halts : goal.parse_procedure-returns-in_err-list-clause-halts
-parse_procedure-returns-in_err-list-clause-halts t c = let p = err_from_is_err_and c.from_residual-in_err-list.result c.from_residual-in_err-list.ensures.1 in rw (p.1, p.2) (halts (over_mark (just is.Begin) (at_line is.Begin c.in_ok-behind_begin.field-0-0) (over_part (over_part (over_open (just is.Proc) (at_line is.Proc c.in_ok-behind_proc.field-0-0) (into (token kind.Proc ∷ part g.Head ∷ part g.Declarations ∷ token kind.Begin ∷ part g.StatementList ∷ token kind.End ∷ item.level_end ∷ []) (waits g.Procedure _ _) refl) c.in_ok-behind_proc.ensures.found refl (omega (arith, c.in_ok-behind_proc.ensures.room)) (refl, tt)) c.in_ok-heading.ensures.passes (omega arith)) c.in_ok-declarations.ensures.passes (omega arith)) c.in_ok-behind_begin.ensures.found refl refl (refl, tt)) (omega arith) c.in_err-list.ensures.halts)
+parse_procedure-returns-in_err-list-clause-halts t c = let p = err_from_is_err_and c.from_residual-in_err-list.result c.from_residual-in_err-list.ensures.1 in
+    rw (p.1, p.2) (halts (over_mark (just is.Begin) (at_line is.Begin c.in_ok-behind_begin.field-0-0)
+    (over_part (over_part (over_open (just is.Proc) (at_line is.Proc c.in_ok-behind_proc.field-0-0)
+    (into (token kind.Proc ∷ part g.Head ∷ part g.Declarations ∷ token kind.Begin ∷ part g.StatementList ∷ token kind.End ∷ item.level_end ∷ [])
+    (waits g.Procedure _ _) refl) c.in_ok-behind_proc.ensures.found refl (omega (arith, c.in_ok-behind_proc.ensures.room)) (refl, tt))
+    c.in_ok-heading.ensures.passes (omega arith)) c.in_ok-declarations.ensures.passes (omega arith)) c.in_ok-behind_begin.ensures.found refl refl (refl, tt))
+    (omega arith) c.in_err-list.ensures.halts)
 
 pub parse_procedure-returns-in_err-end-clause-halts : goal.parse_procedure-returns-in_err-end-clause-halts
-parse_procedure-returns-in_err-end-clause-halts t c = let p = err_from_is_err_and c.from_residual-in_err-end.result c.from_residual-in_err-end.ensures.1 in rw (p.1, p.2) (lacks (over_part (over_mark (just is.Begin) (at_line is.Begin c.in_ok-behind_begin.field-0-0) (over_part (over_part (over_open (just is.Proc) (at_line is.Proc c.in_ok-behind_proc.field-0-0) (into (token kind.Proc ∷ part g.Head ∷ part g.Declarations ∷ token kind.Begin ∷ part g.StatementList ∷ token kind.End ∷ item.level_end ∷ []) (waits g.Procedure _ _) refl) c.in_ok-behind_proc.ensures.found refl (omega (arith, c.in_ok-behind_proc.ensures.room)) (refl, tt)) c.in_ok-heading.ensures.passes (omega arith)) c.in_ok-declarations.ensures.passes (omega arith)) c.in_ok-behind_begin.ensures.found refl refl (refl, tt)) c.in_ok-list.ensures.passes (omega arith)) c.in_err-end.ensures.none)
+parse_procedure-returns-in_err-end-clause-halts t c = let p = err_from_is_err_and c.from_residual-in_err-end.result c.from_residual-in_err-end.ensures.1 in
+    rw (p.1, p.2) (lacks (over_part (over_mark (just is.Begin) (at_line is.Begin c.in_ok-behind_begin.field-0-0)
+    (over_part (over_part (over_open (just is.Proc) (at_line is.Proc c.in_ok-behind_proc.field-0-0)
+    (into (token kind.Proc ∷ part g.Head ∷ part g.Declarations ∷ token kind.Begin ∷ part g.StatementList ∷ token kind.End ∷ item.level_end ∷ [])
+    (waits g.Procedure _ _) refl) c.in_ok-behind_proc.ensures.found refl (omega (arith, c.in_ok-behind_proc.ensures.room)) (refl, tt))
+    c.in_ok-heading.ensures.passes (omega arith)) c.in_ok-declarations.ensures.passes (omega arith)) c.in_ok-behind_begin.ensures.found refl refl (refl, tt))
+    c.in_ok-list.ensures.passes (omega arith)) c.in_err-end.ensures.none)
 
 pub parse_procedure-returns-clause-passes : goal.parse_procedure-returns-clause-passes
-parse_procedure-returns-clause-passes t c = written (over_end (over_mark (on is.End c.in_ok-end.end) (at_line is.End c.in_ok-end.end) (over_part (over_mark (just is.Begin) (at_line is.Begin c.in_ok-behind_begin.field-0-0) (over_part (over_part (over_open (just is.Proc) (at_line is.Proc c.in_ok-behind_proc.field-0-0) (into (token kind.Proc ∷ part g.Head ∷ part g.Declarations ∷ token kind.Begin ∷ part g.StatementList ∷ token kind.End ∷ item.level_end ∷ []) (waits g.Procedure _ _) refl) c.in_ok-behind_proc.ensures.found refl (omega (arith, c.in_ok-behind_proc.ensures.room)) (refl, tt)) c.in_ok-heading.ensures.passes (omega arith)) c.in_ok-declarations.ensures.passes (omega arith)) c.in_ok-behind_begin.ensures.found refl refl (refl, tt)) c.in_ok-list.ensures.passes (omega arith)) c.in_ok-end.ensures.found refl refl (refl, refl))) (λ es. sym (heading_split (view.heading_of c.in_ok-heading.heading) (elements.declarations_elements (view.declarations_of c.in_ok-declarations.declarations) (elements.word is.Begin ∷ elements.list_elements (view.list_of c.in_ok-list.list) (elements.kept is.End c.in_ok-end.end ∷ elements.level_end ∷ es)))) ∙ ap (λ t. elements.procedure_elements t es) (sym c.make_procedure.ensures.seen))
+parse_procedure-returns-clause-passes t c = written
+    (over_end (over_mark (on is.End c.in_ok-end.end) (at_line is.End c.in_ok-end.end)
+    (over_part (over_mark (just is.Begin) (at_line is.Begin c.in_ok-behind_begin.field-0-0)
+    (over_part (over_part (over_open (just is.Proc) (at_line is.Proc c.in_ok-behind_proc.field-0-0)
+    (into (token kind.Proc ∷ part g.Head ∷ part g.Declarations ∷ token kind.Begin ∷ part g.StatementList ∷ token kind.End ∷ item.level_end ∷ [])
+    (waits g.Procedure _ _) refl) c.in_ok-behind_proc.ensures.found refl (omega (arith, c.in_ok-behind_proc.ensures.room)) (refl, tt))
+    c.in_ok-heading.ensures.passes (omega arith)) c.in_ok-declarations.ensures.passes (omega arith)) c.in_ok-behind_begin.ensures.found refl refl (refl, tt))
+    c.in_ok-list.ensures.passes (omega arith)) c.in_ok-end.ensures.found refl refl (refl, refl)))
+    (λ es. sym (heading_split (view.heading_of c.in_ok-heading.heading)
+    (elements.declarations_elements (view.declarations_of c.in_ok-declarations.declarations)
+    (elements.word is.Begin ∷ elements.list_elements (view.list_of c.in_ok-list.list) (elements.kept is.End c.in_ok-end.end ∷ elements.level_end ∷ es))))
+    ∙ ap (λ t. elements.procedure_elements t es) (sym c.make_procedure.ensures.seen))
 
 pub parse_procedure_item-returns-in_err-procedure-clause-halts : goal.parse_procedure_item-returns-in_err-procedure-clause-halts
-parse_procedure_item-returns-in_err-procedure-clause-halts t c = let p = err_from_is_err_and c.from_residual.result c.from_residual.ensures.1 in rw (p.1, p.2) (halts (into (part g.Procedure ∷ []) (waits g.Item _ _) (item_procedure (front c.args.marks.now) c.requires.chosen)) (omega arith) c.in_err-procedure.ensures.halts)
+parse_procedure_item-returns-in_err-procedure-clause-halts t c = let p = err_from_is_err_and c.from_residual.result c.from_residual.ensures.1 in
+    rw (p.1, p.2) (halts (into (part g.Procedure ∷ []) (waits g.Item _ _) (item_procedure (front c.args.marks.now) c.requires.chosen)) (omega arith)
+    c.in_err-procedure.ensures.halts)
 
 pub parse_procedure_item-returns-clause-passes : goal.parse_procedure_item-returns-clause-passes
-parse_procedure_item-returns-clause-passes t c = written (over_part (into (part g.Procedure ∷ []) (waits g.Item _ _) (item_procedure (front c.args.marks.now) c.requires.chosen)) c.in_ok-procedure.ensures.passes (omega arith)) (λ es. ap (λ t. elements.item_elements t es) (sym c.make_procedure_item.ensures.seen))
+parse_procedure_item-returns-clause-passes t c = written
+    (over_part (into (part g.Procedure ∷ []) (waits g.Item _ _) (item_procedure (front c.args.marks.now) c.requires.chosen)) c.in_ok-procedure.ensures.passes
+    (omega arith)) (λ es. ap (λ t. elements.item_elements t es) (sym c.make_procedure_item.ensures.seen))
 
 pub parse_post-returns-in_err-behind_post-clause-halts : goal.parse_post-returns-in_err-behind_post-clause-halts
-parse_post-returns-in_err-behind_post-clause-halts t c = let p = err_from_is_err_and c.from_residual.result c.from_residual.ensures.1 in rw (p.1, p.2) (lacks (into (token kind.Post ∷ part g.Procedure ∷ []) (waits g.Item _ _) (ap (λ a. rule_at edison g.Item a) c.requires.chosen)) c.in_err-behind_post.ensures.none)
+parse_post-returns-in_err-behind_post-clause-halts t c = let p = err_from_is_err_and c.from_residual.result c.from_residual.ensures.1 in
+    rw (p.1, p.2) (lacks (into (token kind.Post ∷ part g.Procedure ∷ []) (waits g.Item _ _) (ap (λ a. rule_at edison g.Item a) c.requires.chosen))
+    c.in_err-behind_post.ensures.none)
 
 pub parse_post-returns-in_err-procedure-clause-halts : goal.parse_post-returns-in_err-procedure-clause-halts
-parse_post-returns-in_err-procedure-clause-halts t c = let p = err_from_is_err_and c.from_residual-in_err-procedure.result c.from_residual-in_err-procedure.ensures.1 in rw (p.1, p.2) (halts (over_mark (just is.Post) (at_line is.Post c.in_ok-behind_post.field-0-0) (into (token kind.Post ∷ part g.Procedure ∷ []) (waits g.Item _ _) (ap (λ a. rule_at edison g.Item a) c.requires.chosen)) c.in_ok-behind_post.ensures.found refl refl (refl, tt)) (omega arith) c.in_err-procedure.ensures.halts)
+parse_post-returns-in_err-procedure-clause-halts t c = let p = err_from_is_err_and c.from_residual-in_err-procedure.result
+    c.from_residual-in_err-procedure.ensures.1 in
+    rw (p.1, p.2) (halts (over_mark (just is.Post) (at_line is.Post c.in_ok-behind_post.field-0-0)
+    (into (token kind.Post ∷ part g.Procedure ∷ []) (waits g.Item _ _) (ap (λ a. rule_at edison g.Item a) c.requires.chosen)) c.in_ok-behind_post.ensures.found
+    refl refl (refl, tt)) (omega arith) c.in_err-procedure.ensures.halts)
 
 pub parse_post-returns-clause-passes : goal.parse_post-returns-clause-passes
-parse_post-returns-clause-passes t c = written (over_part (over_mark (just is.Post) (at_line is.Post c.in_ok-behind_post.field-0-0) (into (token kind.Post ∷ part g.Procedure ∷ []) (waits g.Item _ _) (ap (λ a. rule_at edison g.Item a) c.requires.chosen)) c.in_ok-behind_post.ensures.found refl refl (refl, tt)) c.in_ok-procedure.ensures.passes (omega arith)) (λ es. ap (λ t. elements.item_elements t es) (sym c.make_post.ensures.seen))
+parse_post-returns-clause-passes t c = written
+    (over_part (over_mark (just is.Post) (at_line is.Post c.in_ok-behind_post.field-0-0)
+    (into (token kind.Post ∷ part g.Procedure ∷ []) (waits g.Item _ _) (ap (λ a. rule_at edison g.Item a) c.requires.chosen)) c.in_ok-behind_post.ensures.found
+    refl refl (refl, tt)) c.in_ok-procedure.ensures.passes (omega arith)) (λ es. ap (λ t. elements.item_elements t es) (sym c.make_post.ensures.seen))
 
 pub parse_module-returns-in_err-behind_module-clause-halts : goal.parse_module-returns-in_err-behind_module-clause-halts
-parse_module-returns-in_err-behind_module-clause-halts t c = let p = err_from_is_err_and c.from_residual.result c.from_residual.ensures.1 in rw (p.1, p.2) (refused (into (token kind.Module ∷ part g.Members ∷ token kind.Begin ∷ part g.StatementList ∷ token kind.End ∷ item.level_end ∷ []) (waits g.Module _ _) refl) refl (omega arith) c.in_err-behind_module.ensures.none)
+parse_module-returns-in_err-behind_module-clause-halts t c = let p = err_from_is_err_and c.from_residual.result c.from_residual.ensures.1 in
+    rw (p.1, p.2) (refused (into (token kind.Module ∷ part g.Members ∷ token kind.Begin ∷ part g.StatementList ∷ token kind.End ∷ item.level_end ∷ [])
+    (waits g.Module _ _) refl) refl (omega arith) c.in_err-behind_module.ensures.none)
 
 pub parse_module-returns-in_err-members-clause-halts : goal.parse_module-returns-in_err-members-clause-halts
-parse_module-returns-in_err-members-clause-halts t c = let p = err_from_is_err_and c.from_residual-in_err-members.result c.from_residual-in_err-members.ensures.1 in rw (p.1, p.2) (halts (over_open (just is.Module) (at_line is.Module c.in_ok-behind_module.field-0-0) (into (token kind.Module ∷ part g.Members ∷ token kind.Begin ∷ part g.StatementList ∷ token kind.End ∷ item.level_end ∷ []) (waits g.Module _ _) refl) c.in_ok-behind_module.ensures.found refl (omega (arith, c.in_ok-behind_module.ensures.room)) (refl, tt)) (omega arith) c.in_err-members.ensures.halts)
+parse_module-returns-in_err-members-clause-halts t c = let p = err_from_is_err_and c.from_residual-in_err-members.result
+    c.from_residual-in_err-members.ensures.1 in
+    rw (p.1, p.2) (halts (over_open (just is.Module) (at_line is.Module c.in_ok-behind_module.field-0-0)
+    (into (token kind.Module ∷ part g.Members ∷ token kind.Begin ∷ part g.StatementList ∷ token kind.End ∷ item.level_end ∷ []) (waits g.Module _ _) refl)
+    c.in_ok-behind_module.ensures.found refl (omega (arith, c.in_ok-behind_module.ensures.room)) (refl, tt)) (omega arith) c.in_err-members.ensures.halts)
 
 pub parse_module-returns-in_err-behind_begin-clause-halts : goal.parse_module-returns-in_err-behind_begin-clause-halts
-parse_module-returns-in_err-behind_begin-clause-halts t c = let p = err_from_is_err_and c.from_residual-in_err-behind_begin.result c.from_residual-in_err-behind_begin.ensures.1 in rw (p.1, p.2) (lacks (over_part (over_open (just is.Module) (at_line is.Module c.in_ok-behind_module.field-0-0) (into (token kind.Module ∷ part g.Members ∷ token kind.Begin ∷ part g.StatementList ∷ token kind.End ∷ item.level_end ∷ []) (waits g.Module _ _) refl) c.in_ok-behind_module.ensures.found refl (omega (arith, c.in_ok-behind_module.ensures.room)) (refl, tt)) c.in_ok-members.ensures.passes (omega arith)) c.in_err-behind_begin.ensures.none)
+parse_module-returns-in_err-behind_begin-clause-halts t c = let p = err_from_is_err_and c.from_residual-in_err-behind_begin.result
+    c.from_residual-in_err-behind_begin.ensures.1 in
+    rw (p.1, p.2) (lacks (over_part (over_open (just is.Module) (at_line is.Module c.in_ok-behind_module.field-0-0)
+    (into (token kind.Module ∷ part g.Members ∷ token kind.Begin ∷ part g.StatementList ∷ token kind.End ∷ item.level_end ∷ []) (waits g.Module _ _) refl)
+    c.in_ok-behind_module.ensures.found refl (omega (arith, c.in_ok-behind_module.ensures.room)) (refl, tt)) c.in_ok-members.ensures.passes (omega arith))
+    c.in_err-behind_begin.ensures.none)
 
 pub parse_module-returns-in_err-list-clause-halts : goal.parse_module-returns-in_err-list-clause-halts
-parse_module-returns-in_err-list-clause-halts t c = let p = err_from_is_err_and c.from_residual-in_err-list.result c.from_residual-in_err-list.ensures.1 in rw (p.1, p.2) (halts (over_mark (just is.Begin) (at_line is.Begin c.in_ok-behind_begin.field-0-0) (over_part (over_open (just is.Module) (at_line is.Module c.in_ok-behind_module.field-0-0) (into (token kind.Module ∷ part g.Members ∷ token kind.Begin ∷ part g.StatementList ∷ token kind.End ∷ item.level_end ∷ []) (waits g.Module _ _) refl) c.in_ok-behind_module.ensures.found refl (omega (arith, c.in_ok-behind_module.ensures.room)) (refl, tt)) c.in_ok-members.ensures.passes (omega arith)) c.in_ok-behind_begin.ensures.found refl refl (refl, tt)) (omega arith) c.in_err-list.ensures.halts)
+parse_module-returns-in_err-list-clause-halts t c = let p = err_from_is_err_and c.from_residual-in_err-list.result c.from_residual-in_err-list.ensures.1 in
+    rw (p.1, p.2) (halts (over_mark (just is.Begin) (at_line is.Begin c.in_ok-behind_begin.field-0-0)
+    (over_part (over_open (just is.Module) (at_line is.Module c.in_ok-behind_module.field-0-0)
+    (into (token kind.Module ∷ part g.Members ∷ token kind.Begin ∷ part g.StatementList ∷ token kind.End ∷ item.level_end ∷ []) (waits g.Module _ _) refl)
+    c.in_ok-behind_module.ensures.found refl (omega (arith, c.in_ok-behind_module.ensures.room)) (refl, tt)) c.in_ok-members.ensures.passes (omega arith))
+    c.in_ok-behind_begin.ensures.found refl refl (refl, tt)) (omega arith) c.in_err-list.ensures.halts)
 
 pub parse_module-returns-in_err-rest-clause-halts : goal.parse_module-returns-in_err-rest-clause-halts
-parse_module-returns-in_err-rest-clause-halts t c = let p = err_from_is_err_and c.from_residual-in_err-rest.result c.from_residual-in_err-rest.ensures.1 in rw (p.1, p.2) (lacks (over_part (over_mark (just is.Begin) (at_line is.Begin c.in_ok-behind_begin.field-0-0) (over_part (over_open (just is.Module) (at_line is.Module c.in_ok-behind_module.field-0-0) (into (token kind.Module ∷ part g.Members ∷ token kind.Begin ∷ part g.StatementList ∷ token kind.End ∷ item.level_end ∷ []) (waits g.Module _ _) refl) c.in_ok-behind_module.ensures.found refl (omega (arith, c.in_ok-behind_module.ensures.room)) (refl, tt)) c.in_ok-members.ensures.passes (omega arith)) c.in_ok-behind_begin.ensures.found refl refl (refl, tt)) c.in_ok-list.ensures.passes (omega arith)) c.in_err-rest.ensures.none)
+parse_module-returns-in_err-rest-clause-halts t c = let p = err_from_is_err_and c.from_residual-in_err-rest.result c.from_residual-in_err-rest.ensures.1 in
+    rw (p.1, p.2) (lacks (over_part (over_mark (just is.Begin) (at_line is.Begin c.in_ok-behind_begin.field-0-0)
+    (over_part (over_open (just is.Module) (at_line is.Module c.in_ok-behind_module.field-0-0)
+    (into (token kind.Module ∷ part g.Members ∷ token kind.Begin ∷ part g.StatementList ∷ token kind.End ∷ item.level_end ∷ []) (waits g.Module _ _) refl)
+    c.in_ok-behind_module.ensures.found refl (omega (arith, c.in_ok-behind_module.ensures.room)) (refl, tt)) c.in_ok-members.ensures.passes (omega arith))
+    c.in_ok-behind_begin.ensures.found refl refl (refl, tt)) c.in_ok-list.ensures.passes (omega arith)) c.in_err-rest.ensures.none)
 
 pub parse_module-returns-clause-passes : goal.parse_module-returns-clause-passes
-parse_module-returns-clause-passes t c = written (over_end (over_mark (just is.End) (at_line is.End c.in_ok-rest.field-0-0) (over_part (over_mark (just is.Begin) (at_line is.Begin c.in_ok-behind_begin.field-0-0) (over_part (over_open (just is.Module) (at_line is.Module c.in_ok-behind_module.field-0-0) (into (token kind.Module ∷ part g.Members ∷ token kind.Begin ∷ part g.StatementList ∷ token kind.End ∷ item.level_end ∷ []) (waits g.Module _ _) refl) c.in_ok-behind_module.ensures.found refl (omega (arith, c.in_ok-behind_module.ensures.room)) (refl, tt)) c.in_ok-members.ensures.passes (omega arith)) c.in_ok-behind_begin.ensures.found refl refl (refl, tt)) c.in_ok-list.ensures.passes (omega arith)) c.in_ok-rest.ensures.found refl refl (refl, tt))) (λ es. ap (λ t. elements.module_elements t es) (sym c.make_module.ensures.seen))
+parse_module-returns-clause-passes t c = written
+    (over_end (over_mark (just is.End) (at_line is.End c.in_ok-rest.field-0-0)
+    (over_part (over_mark (just is.Begin) (at_line is.Begin c.in_ok-behind_begin.field-0-0)
+    (over_part (over_open (just is.Module) (at_line is.Module c.in_ok-behind_module.field-0-0)
+    (into (token kind.Module ∷ part g.Members ∷ token kind.Begin ∷ part g.StatementList ∷ token kind.End ∷ item.level_end ∷ []) (waits g.Module _ _) refl)
+    c.in_ok-behind_module.ensures.found refl (omega (arith, c.in_ok-behind_module.ensures.room)) (refl, tt)) c.in_ok-members.ensures.passes (omega arith))
+    c.in_ok-behind_begin.ensures.found refl refl (refl, tt)) c.in_ok-list.ensures.passes (omega arith)) c.in_ok-rest.ensures.found refl refl (refl, tt)))
+    (λ es. ap (λ t. elements.module_elements t es) (sym c.make_module.ensures.seen))
 
 pub parse_member-returns-in_err-exported-clause-halts : goal.parse_member-returns-in_err-exported-clause-halts
-parse_member-returns-in_err-exported-clause-halts t c = let p = err_from_is_err_and c.from_residual.result c.from_residual.ensures.1 in rw (p.1, p.2) (halts (over_mark (just is.Star) (at_line is.Star c.in-Some.field-0-0) (into (token kind.Star ∷ part g.Item ∷ []) (waits g.Member _ _) (ap (λ q. rule_at edison g.Member (front q)) c.in-Some.ensures.found)) c.in-Some.ensures.found refl refl (refl, tt)) (omega arith) c.in_err-exported.ensures.halts)
+parse_member-returns-in_err-exported-clause-halts t c = let p = err_from_is_err_and c.from_residual.result c.from_residual.ensures.1 in
+    rw (p.1, p.2) (halts (over_mark (just is.Star) (at_line is.Star c.in-Some.field-0-0)
+    (into (token kind.Star ∷ part g.Item ∷ []) (waits g.Member _ _) (ap (λ q. rule_at edison g.Member (front q)) c.in-Some.ensures.found))
+    c.in-Some.ensures.found refl refl (refl, tt)) (omega arith) c.in_err-exported.ensures.halts)
 
 pub parse_member-returns-in-Some-clause-passes : goal.parse_member-returns-in-Some-clause-passes
-parse_member-returns-in-Some-clause-passes t c = written (over_part (over_mark (just is.Star) (at_line is.Star c.in-Some.field-0-0) (into (token kind.Star ∷ part g.Item ∷ []) (waits g.Member _ _) (ap (λ q. rule_at edison g.Member (front q)) c.in-Some.ensures.found)) c.in-Some.ensures.found refl refl (refl, tt)) c.in_ok-exported.ensures.passes (omega arith)) (λ es. ap (λ t. elements.member_elements t es) (sym c.make_exported.ensures.seen))
+parse_member-returns-in-Some-clause-passes t c = written
+    (over_part (over_mark (just is.Star) (at_line is.Star c.in-Some.field-0-0)
+    (into (token kind.Star ∷ part g.Item ∷ []) (waits g.Member _ _) (ap (λ q. rule_at edison g.Member (front q)) c.in-Some.ensures.found))
+    c.in-Some.ensures.found refl refl (refl, tt)) c.in_ok-exported.ensures.passes (omega arith))
+    (λ es. ap (λ t. elements.member_elements t es) (sym c.make_exported.ensures.seen))
 
 pub parse_member-returns-in_err-inner-clause-halts : goal.parse_member-returns-in_err-inner-clause-halts
-parse_member-returns-in_err-inner-clause-halts t c = let p = err_from_is_err_and c.from_residual-in_err-inner.result c.from_residual-in_err-inner.ensures.1 in rw (p.1, p.2) (halts (into (part g.Module ∷ []) (waits g.Member _ _) (ap (λ a. rule_at edison g.Member a) (eqb-true (front c.args.marks.now) kind.Module (sym c.at.ensures.exact ∙ c.if-at.true)))) (omega arith) c.in_err-inner.ensures.halts)
+parse_member-returns-in_err-inner-clause-halts t c = let p = err_from_is_err_and c.from_residual-in_err-inner.result c.from_residual-in_err-inner.ensures.1 in
+    rw (p.1, p.2) (halts (into (part g.Module ∷ []) (waits g.Member _ _)
+    (ap (λ a. rule_at edison g.Member a) (eqb-true (front c.args.marks.now) kind.Module (sym c.at.ensures.exact ∙ c.if-at.true)))) (omega arith)
+    c.in_err-inner.ensures.halts)
 
 pub parse_member-returns-then-at-clause-passes : goal.parse_member-returns-then-at-clause-passes
-parse_member-returns-then-at-clause-passes t c = written (over_part (into (part g.Module ∷ []) (waits g.Member _ _) (ap (λ a. rule_at edison g.Member a) (eqb-true (front c.args.marks.now) kind.Module (sym c.at.ensures.exact ∙ c.if-at.true)))) c.in_ok-inner.ensures.passes (omega arith)) (λ es. ap (λ t. elements.member_elements t es) (sym c.make_module_member.ensures.seen))
+parse_member-returns-then-at-clause-passes t c = written
+    (over_part (into (part g.Module ∷ []) (waits g.Member _ _)
+    (ap (λ a. rule_at edison g.Member a) (eqb-true (front c.args.marks.now) kind.Module (sym c.at.ensures.exact ∙ c.if-at.true)))) c.in_ok-inner.ensures.passes
+    (omega arith)) (λ es. ap (λ t. elements.member_elements t es) (sym c.make_module_member.ensures.seen))
 
 pub parse_member-returns-in_err-plain-clause-halts : goal.parse_member-returns-in_err-plain-clause-halts
-parse_member-returns-in_err-plain-clause-halts t c = let p = err_from_is_err_and c.from_residual-in_err-plain.result c.from_residual-in_err-plain.ensures.1 in rw (p.1, p.2) (halts (into (part g.Item ∷ []) (waits g.Member _ _) (rw (ne_eqb (front _) kind.Star c.in_default.ensures.none, sym c.at.ensures.exact ∙ c.if-at.false) refl)) (omega arith) c.in_err-plain.ensures.halts)
+parse_member-returns-in_err-plain-clause-halts t c = let p = err_from_is_err_and c.from_residual-in_err-plain.result c.from_residual-in_err-plain.ensures.1 in
+    rw (p.1, p.2) (halts (into (part g.Item ∷ []) (waits g.Member _ _)
+    (rw (ne_eqb (front _) kind.Star c.in_default.ensures.none, sym c.at.ensures.exact ∙ c.if-at.false) refl)) (omega arith) c.in_err-plain.ensures.halts)
 
 pub parse_member-returns-clause-passes : goal.parse_member-returns-clause-passes
-parse_member-returns-clause-passes t c = written (over_part (into (part g.Item ∷ []) (waits g.Member _ _) (rw (ne_eqb (front _) kind.Star c.in_default.ensures.none, sym c.at.ensures.exact ∙ c.if-at.false) refl)) c.in_ok-plain.ensures.passes (omega arith)) (λ es. ap (λ t. elements.member_elements t es) (sym c.make_item_member.ensures.seen))
+parse_member-returns-clause-passes t c = written
+    (over_part (into (part g.Item ∷ []) (waits g.Member _ _)
+    (rw (ne_eqb (front _) kind.Star c.in_default.ensures.none, sym c.at.ensures.exact ∙ c.if-at.false) refl)) c.in_ok-plain.ensures.passes (omega arith))
+    (λ es. ap (λ t. elements.member_elements t es) (sym c.make_item_member.ensures.seen))
 
 pub parse_declaration-returns-in_err-inner-clause-halts : goal.parse_declaration-returns-in_err-inner-clause-halts
-parse_declaration-returns-in_err-inner-clause-halts t c = let p = err_from_is_err_and c.from_residual.result c.from_residual.ensures.1 in rw (p.1, p.2) (halts (into (part g.Module ∷ []) (waits g.Declaration _ _) (ap (λ a. rule_at edison g.Declaration a) (eqb-true (front c.args.marks.now) kind.Module (sym c.at.ensures.exact ∙ c.if-at.true)))) (omega arith) c.in_err-inner.ensures.halts)
+parse_declaration-returns-in_err-inner-clause-halts t c = let p = err_from_is_err_and c.from_residual.result c.from_residual.ensures.1 in
+    rw (p.1, p.2) (halts (into (part g.Module ∷ []) (waits g.Declaration _ _)
+    (ap (λ a. rule_at edison g.Declaration a) (eqb-true (front c.args.marks.now) kind.Module (sym c.at.ensures.exact ∙ c.if-at.true)))) (omega arith)
+    c.in_err-inner.ensures.halts)
 
 pub parse_declaration-returns-then-at-clause-passes : goal.parse_declaration-returns-then-at-clause-passes
-parse_declaration-returns-then-at-clause-passes t c = written (over_part (into (part g.Module ∷ []) (waits g.Declaration _ _) (ap (λ a. rule_at edison g.Declaration a) (eqb-true (front c.args.marks.now) kind.Module (sym c.at.ensures.exact ∙ c.if-at.true)))) c.in_ok-inner.ensures.passes (omega arith)) (λ es. ap (λ t. elements.declaration_elements t es) (sym c.make_module_declaration.ensures.seen))
+parse_declaration-returns-then-at-clause-passes t c = written
+    (over_part (into (part g.Module ∷ []) (waits g.Declaration _ _)
+    (ap (λ a. rule_at edison g.Declaration a) (eqb-true (front c.args.marks.now) kind.Module (sym c.at.ensures.exact ∙ c.if-at.true))))
+    c.in_ok-inner.ensures.passes (omega arith)) (λ es. ap (λ t. elements.declaration_elements t es) (sym c.make_module_declaration.ensures.seen))
 
 pub parse_declaration-returns-in_err-item-clause-halts : goal.parse_declaration-returns-in_err-item-clause-halts
-parse_declaration-returns-in_err-item-clause-halts t c = let p = err_from_is_err_and c.from_residual-in_err-item.result c.from_residual-in_err-item.ensures.1 in rw (p.1, p.2) (halts (into (part g.Item ∷ []) (waits g.Declaration _ _) (rw (sym c.at.ensures.exact ∙ c.if-at.false) refl)) (omega arith) c.in_err-item.ensures.halts)
+parse_declaration-returns-in_err-item-clause-halts t c = let p = err_from_is_err_and c.from_residual-in_err-item.result
+    c.from_residual-in_err-item.ensures.1 in
+    rw (p.1, p.2) (halts (into (part g.Item ∷ []) (waits g.Declaration _ _) (rw (sym c.at.ensures.exact ∙ c.if-at.false) refl)) (omega arith)
+    c.in_err-item.ensures.halts)
 
 pub parse_declaration-returns-clause-passes : goal.parse_declaration-returns-clause-passes
-parse_declaration-returns-clause-passes t c = written (over_part (into (part g.Item ∷ []) (waits g.Declaration _ _) (rw (sym c.at.ensures.exact ∙ c.if-at.false) refl)) c.in_ok-item.ensures.passes (omega arith)) (λ es. ap (λ t. elements.declaration_elements t es) (sym c.make_item_declaration.ensures.seen))
+parse_declaration-returns-clause-passes t c = written
+    (over_part (into (part g.Item ∷ []) (waits g.Declaration _ _) (rw (sym c.at.ensures.exact ∙ c.if-at.false) refl)) c.in_ok-item.ensures.passes (omega arith))
+    (λ es. ap (λ t. elements.declaration_elements t es) (sym c.make_item_declaration.ensures.seen))
 
 pub parse_members-returns-in_err-member-clause-halts : goal.parse_members-returns-in_err-member-clause-halts
-parse_members-returns-in_err-member-clause-halts t c = let p = err_from_is_err_and c.from_residual.result c.from_residual.ensures.1 in rw (p.1, p.2) (halts (into (part g.Member ∷ part g.Members ∷ []) c.loop-alloc.invariant.goes (members_more (front c.loop-alloc.rest.now) (sym c.at_member.ensures.exact ∙ c.loop-alloc-test.true))) (omega arith) c.in_err-member.ensures.halts)
+parse_members-returns-in_err-member-clause-halts t c = let p = err_from_is_err_and c.from_residual.result c.from_residual.ensures.1 in
+    rw (p.1, p.2) (halts (into (part g.Member ∷ part g.Members ∷ []) c.loop-alloc.invariant.goes
+    (members_more (front c.loop-alloc.rest.now) (sym c.at_member.ensures.exact ∙ c.loop-alloc-test.true))) (omega arith) c.in_err-member.ensures.halts)
 
 pub parse_members-loop-alloc-preserved : goal.parse_members-loop-alloc-preserved
-parse_members-loop-alloc-preserved t c = record { goes = written (over_part (into (part g.Member ∷ part g.Members ∷ []) c.loop-alloc.invariant.goes (members_more (front c.loop-alloc.rest.now) (sym c.at_member.ensures.exact ∙ c.loop-alloc-test.true))) c.in_ok-member.ensures.passes (omega arith)) (push.members_push view.member_of c.loop-alloc.members.items c.push.new.self.items c.in_ok-member.member (search rules)); shorter = omega (arith, c.loop-alloc.invariant.shorter, c.in_ok-member.ensures.shorter) }
+parse_members-loop-alloc-preserved t c =
+    record {
+      goes = written (over_part (into (part g.Member ∷ part g.Members ∷ []) c.loop-alloc.invariant.goes
+          (members_more (front c.loop-alloc.rest.now) (sym c.at_member.ensures.exact ∙ c.loop-alloc-test.true))) c.in_ok-member.ensures.passes (omega arith))
+          (push.members_push view.member_of c.loop-alloc.members.items c.push.new.self.items c.in_ok-member.member (search rules));
+      shorter = omega (arith, c.loop-alloc.invariant.shorter, c.in_ok-member.ensures.shorter);
+    }
 
 pub parse_members-returns-clause-passes : goal.parse_members-returns-clause-passes
-parse_members-returns-clause-passes t c = written (into [] c.loop-alloc.invariant.goes (members_end (front c.loop-alloc.rest.now) (sym c.at_member.ensures.exact ∙ c.loop-alloc-test.false))) (λ es. ap (λ l. elements.members_elements (view.members (map view.member_of l)) es) (sym c.from_vec.ensures.exact))
+parse_members-returns-clause-passes t c = written
+    (into [] c.loop-alloc.invariant.goes (members_end (front c.loop-alloc.rest.now) (sym c.at_member.ensures.exact ∙ c.loop-alloc-test.false)))
+    (λ es. ap (λ l. elements.members_elements (view.members (map view.member_of l)) es) (sym c.from_vec.ensures.exact))
 
 pub parse_declarations-returns-in_err-declaration-clause-halts : goal.parse_declarations-returns-in_err-declaration-clause-halts
-parse_declarations-returns-in_err-declaration-clause-halts t c = let p = err_from_is_err_and c.from_residual.result c.from_residual.ensures.1 in rw (p.1, p.2) (halts (into (part g.Declaration ∷ part g.Declarations ∷ []) c.loop-alloc.invariant.goes (declarations_more (front c.loop-alloc.rest.now) (sym c.at_declaration.ensures.exact ∙ c.loop-alloc-test.true))) (omega arith) c.in_err-declaration.ensures.halts)
+parse_declarations-returns-in_err-declaration-clause-halts t c = let p = err_from_is_err_and c.from_residual.result c.from_residual.ensures.1 in
+    rw (p.1, p.2) (halts (into (part g.Declaration ∷ part g.Declarations ∷ []) c.loop-alloc.invariant.goes
+    (declarations_more (front c.loop-alloc.rest.now) (sym c.at_declaration.ensures.exact ∙ c.loop-alloc-test.true))) (omega arith)
+    c.in_err-declaration.ensures.halts)
 
 pub parse_declarations-loop-alloc-preserved : goal.parse_declarations-loop-alloc-preserved
-parse_declarations-loop-alloc-preserved t c = record { goes = written (over_part (into (part g.Declaration ∷ part g.Declarations ∷ []) c.loop-alloc.invariant.goes (declarations_more (front c.loop-alloc.rest.now) (sym c.at_declaration.ensures.exact ∙ c.loop-alloc-test.true))) c.in_ok-declaration.ensures.passes (omega arith)) (push.declarations_push view.declaration_of c.loop-alloc.declarations.items c.push.new.self.items c.in_ok-declaration.declaration (search rules)); shorter = omega (arith, c.loop-alloc.invariant.shorter, c.in_ok-declaration.ensures.shorter) }
+parse_declarations-loop-alloc-preserved t c =
+    record {
+      goes = written (over_part (into (part g.Declaration ∷ part g.Declarations ∷ []) c.loop-alloc.invariant.goes
+          (declarations_more (front c.loop-alloc.rest.now) (sym c.at_declaration.ensures.exact ∙ c.loop-alloc-test.true))) c.in_ok-declaration.ensures.passes
+          (omega arith)) (push.declarations_push view.declaration_of c.loop-alloc.declarations.items c.push.new.self.items c.in_ok-declaration.declaration
+          (search rules));
+      shorter = omega (arith, c.loop-alloc.invariant.shorter, c.in_ok-declaration.ensures.shorter);
+    }
 
 pub parse_declarations-returns-clause-passes : goal.parse_declarations-returns-clause-passes
-parse_declarations-returns-clause-passes t c = written (into [] c.loop-alloc.invariant.goes (declarations_end (front c.loop-alloc.rest.now) (sym c.at_declaration.ensures.exact ∙ c.loop-alloc-test.false))) (λ es. ap (λ l. elements.declarations_elements (view.declarations (map view.declaration_of l)) es) (sym c.from_vec.ensures.exact))
+parse_declarations-returns-clause-passes t c = written
+    (into [] c.loop-alloc.invariant.goes (declarations_end (front c.loop-alloc.rest.now) (sym c.at_declaration.ensures.exact ∙ c.loop-alloc-test.false)))
+    (λ es. ap (λ l. elements.declarations_elements (view.declarations (map view.declaration_of l)) es) (sym c.from_vec.ensures.exact))

@@ -44,7 +44,8 @@ decreases-parse_members-loop-alloc l = length l.rest
 
 abbrev pub invariant-parse_declarations-loop-alloc : goal.invariant-parse_declarations-loop-alloc
 invariant-parse_declarations-loop-alloc l = record {
-  goes : Goes g.Declarations l.fn.level (elements.declarations_elements (view.declarations (map view.declaration_of l.declarations.items))) (part g.Declarations ∷ []) l.marks l.rest;
+  goes : Goes g.Declarations l.fn.level (elements.declarations_elements (view.declarations (map view.declaration_of l.declarations.items)))
+      (part g.Declarations ∷ []) l.marks l.rest;
   shorter : length l.rest ≤ length l.marks;
 }
 

@@ -11,13 +11,22 @@ use Rattle.edi_phrases.proofs.Moves.{waits, over_part, into, halts}
 use Rattle.edi_declarations.proofs.globals.parse_global.Goals as goal
 
 pub returns-in_err-const_list-clause-halts : goal.returns-in_err-const_list-clause-halts
-returns-in_err-const_list-clause-halts c = let p = err_from_is_err_and c.from_residual.result c.from_residual.ensures.1 in rw (p.1, p.2) (halts (into (part g.ConstList ∷ []) (waits g.Global _ _) (ap (λ a. rule_at edison g.Global a) (eqb-true (front c.args.marks.now) kind.Const (sym c.at.ensures.exact ∙ c.if-at.true)))) (omega arith) c.in_err-const_list.ensures.halts)
+returns-in_err-const_list-clause-halts c = let p = err_from_is_err_and c.from_residual.result c.from_residual.ensures.1 in
+    rw (p.1, p.2) (halts (into (part g.ConstList ∷ []) (waits g.Global _ _)
+    (ap (λ a. rule_at edison g.Global a) (eqb-true (front c.args.marks.now) kind.Const (sym c.at.ensures.exact ∙ c.if-at.true)))) (omega arith)
+    c.in_err-const_list.ensures.halts)
 
 pub returns-then-at-clause-passes : goal.returns-then-at-clause-passes
-returns-then-at-clause-passes c = over_part (into (part g.ConstList ∷ []) (waits g.Global _ _) (ap (λ a. rule_at edison g.Global a) (eqb-true (front c.args.marks.now) kind.Const (sym c.at.ensures.exact ∙ c.if-at.true)))) c.in_ok-const_list.ensures.passes (omega arith)
+returns-then-at-clause-passes c = over_part
+    (into (part g.ConstList ∷ []) (waits g.Global _ _)
+    (ap (λ a. rule_at edison g.Global a) (eqb-true (front c.args.marks.now) kind.Const (sym c.at.ensures.exact ∙ c.if-at.true))))
+    c.in_ok-const_list.ensures.passes (omega arith)
 
 pub returns-in_err-type_decl-clause-halts : goal.returns-in_err-type_decl-clause-halts
-returns-in_err-type_decl-clause-halts c = let p = err_from_is_err_and c.from_residual-in_err-type_decl.result c.from_residual-in_err-type_decl.ensures.1 in rw (p.1, p.2) (halts (into (part g.TypeDecl ∷ []) (waits g.Global _ _) (rw (sym c.at.ensures.exact ∙ c.if-at.false) refl)) (omega arith) c.in_err-type_decl.ensures.halts)
+returns-in_err-type_decl-clause-halts c = let p = err_from_is_err_and c.from_residual-in_err-type_decl.result c.from_residual-in_err-type_decl.ensures.1 in
+    rw (p.1, p.2) (halts (into (part g.TypeDecl ∷ []) (waits g.Global _ _) (rw (sym c.at.ensures.exact ∙ c.if-at.false) refl)) (omega arith)
+    c.in_err-type_decl.ensures.halts)
 
 pub returns-clause-passes : goal.returns-clause-passes
-returns-clause-passes c = over_part (into (part g.TypeDecl ∷ []) (waits g.Global _ _) (rw (sym c.at.ensures.exact ∙ c.if-at.false) refl)) c.in_ok-type_decl.ensures.passes (omega arith)
+returns-clause-passes c = over_part (into (part g.TypeDecl ∷ []) (waits g.Global _ _) (rw (sym c.at.ensures.exact ∙ c.if-at.false) refl))
+    c.in_ok-type_decl.ensures.passes (omega arith)

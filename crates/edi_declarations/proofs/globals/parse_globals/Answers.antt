@@ -11,10 +11,20 @@ use Rattle.edi_declarations.proofs.Pushes as push
 use Rattle.edi_declarations.proofs.globals.parse_globals.Goals as goal
 
 pub returns-in_err-global-clause-halts : goal.returns-in_err-global-clause-halts
-returns-in_err-global-clause-halts c = let p = err_from_is_err_and c.from_residual.result c.from_residual.ensures.1 in rw (p.1, p.2) (halts (into (part g.Global ∷ part g.Globals ∷ []) c.loop-alloc.invariant.goes (globals_more (front c.loop-alloc.rest.now) (sym c.at_global.ensures.exact ∙ c.loop-alloc-test.true))) (omega arith) c.in_err-global.ensures.halts)
+returns-in_err-global-clause-halts c = let p = err_from_is_err_and c.from_residual.result c.from_residual.ensures.1 in
+    rw (p.1, p.2) (halts (into (part g.Global ∷ part g.Globals ∷ []) c.loop-alloc.invariant.goes
+    (globals_more (front c.loop-alloc.rest.now) (sym c.at_global.ensures.exact ∙ c.loop-alloc-test.true))) (omega arith) c.in_err-global.ensures.halts)
 
 pub loop-alloc-preserved : goal.loop-alloc-preserved
-loop-alloc-preserved c = record { goes = written (over_part (into (part g.Global ∷ part g.Globals ∷ []) c.loop-alloc.invariant.goes (globals_more (front c.loop-alloc.rest.now) (sym c.at_global.ensures.exact ∙ c.loop-alloc-test.true))) c.in_ok-global.ensures.passes (omega arith)) (push.globals_push view.global_of c.loop-alloc.globals.items c.push.new.self.items c.in_ok-global.global (search rules)); shorter = omega (arith, c.loop-alloc.invariant.shorter, c.in_ok-global.ensures.shorter) }
+loop-alloc-preserved c = record {
+  goes = written
+      (over_part (into (part g.Global ∷ part g.Globals ∷ []) c.loop-alloc.invariant.goes
+      (globals_more (front c.loop-alloc.rest.now) (sym c.at_global.ensures.exact ∙ c.loop-alloc-test.true))) c.in_ok-global.ensures.passes (omega arith))
+      (push.globals_push view.global_of c.loop-alloc.globals.items c.push.new.self.items c.in_ok-global.global (search rules));
+  shorter = omega (arith, c.loop-alloc.invariant.shorter, c.in_ok-global.ensures.shorter);
+}
 
 pub returns-clause-passes : goal.returns-clause-passes
-returns-clause-passes c = written (into [] c.loop-alloc.invariant.goes (globals_end (front c.loop-alloc.rest.now) (sym c.at_global.ensures.exact ∙ c.loop-alloc-test.false))) (λ es. ap (λ l. elements.globals_elements (view.globals (map view.global_of l)) es) (sym c.from_vec.ensures.exact))
+returns-clause-passes c = written (into [] c.loop-alloc.invariant.goes
+    (globals_end (front c.loop-alloc.rest.now) (sym c.at_global.ensures.exact ∙ c.loop-alloc-test.false)))
+    (λ es. ap (λ l. elements.globals_elements (view.globals (map view.global_of l)) es) (sym c.from_vec.ensures.exact))

@@ -11,4 +11,5 @@ to_back-requires c =
 pub returns : goal.returns
 returns c =
     let full : 16 ≤ length (list_at c.args.order.now 0) = omega (arith, c.len-used.ensures.exact) in
-    order.vacates_first c.args.order.now c.to_back.new.self c.unwrap-first.result c.requires c.to_back.ensures.sound full (sym c.front.ensures.exact ∙ c.unwrap-first.ensures) c.to_back.ensures.exact
+    order.vacates_first c.args.order.now c.to_back.new.self c.unwrap-first.result c.requires c.to_back.ensures.sound full
+    (sym c.front.ensures.exact ∙ c.unwrap-first.ensures) c.to_back.ensures.exact

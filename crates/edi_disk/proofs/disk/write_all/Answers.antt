@@ -7,11 +7,13 @@ use Rattle.edi_disk.proofs.disk.write_all.Goals as goal
 
 pub returns-in-Fault-clause-writes : goal.returns-in-Fault-clause-writes
 returns-in-Fault-clause-writes g c =
-    writing.writes_then g.D.Drive.contents g.D.Drive.count g.D.Drive.faults g.met.D.Drive.counted c.args.cache.now c.args.drive.now c.loop-i.drive c.write_one.new.drive c.loop-i.invariant.writes c.write_one.ensures.writes
+    writing.writes_then g.D.Drive.contents g.D.Drive.count g.D.Drive.faults g.met.D.Drive.counted c.args.cache.now c.args.drive.now c.loop-i.drive
+    c.write_one.new.drive c.loop-i.invariant.writes c.write_one.ensures.writes
 
 pub loop-i-preserved : goal.loop-i-preserved
 loop-i-preserved g c = record {
-  writes = writing.writes_then g.D.Drive.contents g.D.Drive.count g.D.Drive.faults g.met.D.Drive.counted c.args.cache.now c.args.drive.now c.loop-i.drive c.write_one.new.drive c.loop-i.invariant.writes c.write_one.ensures.writes;
+  writes = writing.writes_then g.D.Drive.contents g.D.Drive.count g.D.Drive.faults g.met.D.Drive.counted c.args.cache.now c.args.drive.now c.loop-i.drive
+      c.write_one.new.drive c.loop-i.invariant.writes c.write_one.ensures.writes;
   on = c.write_one.ensures.more c.in-Ok.is c.loop-i.invariant.on;
 }
 

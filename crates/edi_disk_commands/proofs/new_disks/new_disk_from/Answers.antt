@@ -37,7 +37,8 @@ returns-in-Ok-migrate-clause-means g c =
 pub returns-in-Image-clause-means : goal.returns-in-Image-clause-means
 returns-in-Image-clause-means g c =
     let f = c.in-Ok.ensures.fetched in
-    migrated_means first_bytes_decide (end.Image c.in-Image.broken) c.args.blocks c.requires.least c.args.file.now c.deref.result.now (g.F.Files.contents c.args.files.now)
+    migrated_means first_bytes_decide (end.Image c.in-Image.broken) c.args.blocks c.requires.least c.args.file.now c.deref.result.now
+    (g.F.Files.contents c.args.files.now)
     (g.F.Files.contents c.fetch.new.files) (g.D.Drive.contents c.args.drive.now) (g.D.Drive.contents c.migrate.new.drive)
     (record {
       all = f.0;
@@ -51,7 +52,8 @@ returns-in-Image-clause-means g c =
 pub returns-in-Full-clause-means : goal.returns-in-Full-clause-means
 returns-in-Full-clause-means g c =
     let f = c.in-Ok.ensures.fetched in
-    migrated_means first_bytes_decide (end.Full c.in-Full.wanted c.in-Full.free) c.args.blocks c.requires.least c.args.file.now c.deref.result.now (g.F.Files.contents c.args.files.now)
+    migrated_means first_bytes_decide (end.Full c.in-Full.wanted c.in-Full.free) c.args.blocks c.requires.least c.args.file.now c.deref.result.now
+    (g.F.Files.contents c.args.files.now)
     (g.F.Files.contents c.fetch.new.files) (g.D.Drive.contents c.args.drive.now) (g.D.Drive.contents c.migrate.new.drive)
     (record {
       all = f.0;

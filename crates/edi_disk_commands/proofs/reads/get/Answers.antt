@@ -10,7 +10,8 @@ use Rattle.edi_disk_commands.proofs.reads.get.Goals as goal
 pub returns-in-Err-clause-means : goal.returns-in-Err-clause-means
 returns-in-Err-clause-means g c =
     let files = g.F.Files.contents c.args.files.now in
-    subst (λ title. MeansOnDisk (get title c.args.file.now) c.in-Err.status files files (g.D.Drive.contents c.args.drive.now) (g.D.Drive.contents c.read_on.new.drive))
+    subst (λ title. MeansOnDisk (get title c.args.file.now) c.in-Err.status files files (g.D.Drive.contents c.args.drive.now)
+    (g.D.Drive.contents c.read_on.new.drive))
     c.title_of-title.ensures.exact
     (not_read c.in-Err.status c.title_of-title.result c.args.file.now c.read_on.new.into files files (g.D.Drive.contents c.args.drive.now)
     (g.D.Drive.contents c.read_on.new.drive) c.in-Err.ensures.kind (record { files = itself files; blocks = c.in-Err.ensures.reads }))
@@ -31,7 +32,11 @@ returns-clause-means g c =
     subst (λ s. MeansOnDisk (get c.args.title.now c.args.file.now) s old new held holds) (sym c.kept.ensures.exact)
     (subst (λ title. MeansOnDisk (get title c.args.file.now) (status_kept c.keep.result) old new held holds) c.title_of-title.ensures.exact
     (has_read c.keep.result c.in-Ok-read_on.count c.title_of-title.result c.args.file.now c.read_on.new.into c.split_at.result.0.now old new held holds
-    (record { files = c.keep.ensures.leaves; bytes_are = c.split_at.ensures.front ∙ ap (λ x. take c.in-Ok-read_on.count x) (c.deref.ensures.value ∙ back); blocks = c.in-Ok-read_on.ensures.reads })))
+    (record {
+      files = c.keep.ensures.leaves;
+      bytes_are = c.split_at.ensures.front ∙ ap (λ x. take c.in-Ok-read_on.count x) (c.deref.ensures.value ∙ back);
+      blocks = c.in-Ok-read_on.ensures.reads;
+    })))
 
 pub returns-clause-kind : goal.returns-clause-kind
 returns-clause-kind g c = subst (λ s. IsOfDisk s) (sym c.kept.ensures.exact) (kept_of_disk c.keep.result)

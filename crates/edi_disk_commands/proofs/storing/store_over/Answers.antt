@@ -21,7 +21,8 @@ returns-then-stands-clause-leaves g c =
     let r = c.store-answer.result in
     let stores = told_both _ _ _ _ (Stores r title kind bytes) (λ x y a l. record { answers = a; leaves = l })
     c.store-answer.ensures.exact c.store-answer.ensures.changes.leaves in
-    let many = counts_stay _ _ _ _ (g.met.D.Drive.counted (drive_of (disk_of c.args.catalog.now))) (g.met.D.Drive.counted (drive_of (disk_of c.store-answer.new.self)))
+    let many = counts_stay _ _ _ _ (g.met.D.Drive.counted (drive_of (disk_of c.args.catalog.now)))
+    (g.met.D.Drive.counted (drive_of (disk_of c.store-answer.new.self)))
     c.store-answer.ensures.changes.count_stays _ stores in
     told_both _ _ _ _ (StoresOver r title bytes)
     (λ x y n s. stored_over title kind bytes c.requires.most c.kind_of-kind.ensures.exact r x y n
@@ -36,12 +37,16 @@ returns-in-Ok-clause-leaves g c =
     let is = protection c.store-answer.result (sym c.stands.ensures.exact ∙ c.if-stands.false) in
     let same : first ≡ c.args.catalog.now = subst (λ r. Untouched r c.args.catalog.now first) is c.store-answer.ensures.changes.untouched in
     let refused = subst (λ r. WhereTold (g.D.Drive.contents (drive_of (disk_of c.args.catalog.now))) (g.D.Drive.contents (drive_of (disk_of first)))
-    (λ old new. SlotsAnswer r (no_room title (length bytes) (free_in old) (slots_of old)) (slots_of old) (slots_stored title c.kind_of-kind.result bytes (slots_of old)) (slots_of new)))
+    (λ old new. SlotsAnswer r (no_room title (length bytes) (free_in old) (slots_of old)) (slots_of old)
+    (slots_stored title c.kind_of-kind.result bytes (slots_of old)) (slots_of new)))
     is c.store-answer.ensures.exact in
     let here = subst (λ k. WhereTold (g.D.Drive.contents (drive_of (disk_of k))) (g.D.Drive.contents (drive_of (disk_of first)))
     (λ old new. (no_room title (length bytes) (free_in old) (slots_of old) ≡ Some cat.Protected) × (slots_of new ≡ slots_of old))) (sym same) refused in
-    subst (λ k. WhereTold (g.D.Drive.contents (drive_of (disk_of k))) (g.D.Drive.contents (drive_of (disk_of c.store.new.self))) (StoresOver c.store.result title bytes)) same
-    (released_then title c.kind_of-kind.result bytes c.requires.most c.kind_of-kind.ensures.exact c.store.result (g.D.Drive.contents (drive_of (disk_of first))) (g.D.Drive.contents (drive_of (disk_of c.release.new.self))) (g.D.Drive.contents (drive_of (disk_of c.store.new.self))) _ _ _
+    subst (λ k. WhereTold (g.D.Drive.contents (drive_of (disk_of k))) (g.D.Drive.contents (drive_of (disk_of c.store.new.self)))
+    (StoresOver c.store.result title bytes)) same
+    (released_then title c.kind_of-kind.result bytes c.requires.most c.kind_of-kind.ensures.exact c.store.result
+    (g.D.Drive.contents (drive_of (disk_of first))) (g.D.Drive.contents (drive_of (disk_of c.release.new.self)))
+    (g.D.Drive.contents (drive_of (disk_of c.store.new.self))) _ _ _
     (g.met.D.Drive.counted (drive_of (disk_of first))) (g.met.D.Drive.counted (drive_of (disk_of c.release.new.self)))
     (g.met.D.Drive.counted (drive_of (disk_of c.store.new.self))) c.release.ensures.changes.count_stays c.store.ensures.changes.count_stays
     (told_so _ (λ old new. no_room title (length bytes) (free_in old) (slots_of old) ≡ Some cat.Protected) _ _ (λ x y h. h.0) here)

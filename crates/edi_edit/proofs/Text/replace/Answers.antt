@@ -12,7 +12,11 @@ invariant_of-self-2 c =
 pub returns-clause-exact : goal.returns-clause-exact
 returns-clause-exact c =
     let done = c.in_ok-was.ensures.exact in
-    rw (← c.self.view_is) (done.0, rw (c.keep_step.ensures.kept, done.1) (replace_pushed _ _ _ _ _ _ c.requires.one_line c.self.invariant done.0 c.in_ok-was.ensures.was).view)
+    rw (← c.self.view_is) (
+      done.0,
+      rw (c.keep_step.ensures.kept, done.1)
+          (replace_pushed _ _ _ _ _ _ c.requires.one_line c.self.invariant done.0 c.in_ok-was.ensures.was).view,
+    )
 
 pub returns-clause-undos : goal.returns-clause-undos
 returns-clause-undos c =

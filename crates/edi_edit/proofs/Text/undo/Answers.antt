@@ -24,7 +24,8 @@ returns-in-Err-clause-undos c =
     let last = popped _ _ _ _ c.self.invariant (sym c.in-Some.ensures.value) in
     let same = c.in-Err.ensures.err in
     let room : length c.self.inside.steps.items ≤ c.self.inside.steps.capacity = let kept = c.self.invariant in omega arith in
-    rw (length-earlier c.keep_step.new.steps.items _, c.keep_step.ensures.kept, c.in-Some.ensures.items, same.0, kept_again _ _ _ _ last.again room) c.self.invariant.few
+    rw (length-earlier c.keep_step.new.steps.items _, c.keep_step.ensures.kept, c.in-Some.ensures.items, same.0, kept_again _ _ _ _ last.again room)
+    c.self.invariant.few
 
 pub invariant_of-self-in_default-take_step : goal.invariant_of-self-in_default-take_step
 invariant_of-self-in_default-take_step c =

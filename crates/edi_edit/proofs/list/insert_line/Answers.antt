@@ -16,7 +16,8 @@ returns c =
     let count : c.len.result ≡ length lines = c.len.ensures ∙ counted c.args.lines.now in
     let sized : c.size.result ≡ size_of lines = c.size.ensures.exact ∙ ap (λ ls. size_of (plain ls)) c.deref.ensures.value in
     let small : size_of (insert lines (c.args.at - 1) c.args.line.now) ≤ ROOM = omega (arith, size-insert lines (c.args.at - 1) c.args.line.now) in
-    let free : refusal (is_index c.args.at (length lines + 1)) (insert lines (c.args.at - 1) c.args.line.now) ≡ None = accepted (is_index c.args.at (length lines + 1)) (insert lines (c.args.at - 1) c.args.line.now) (rw (← count) found.0) small in
+    let free : refusal (is_index c.args.at (length lines + 1)) (insert lines (c.args.at - 1) c.args.line.now) ≡ None = accepted
+    (is_index c.args.at (length lines + 1)) (insert lines (c.args.at - 1) c.args.line.now) (rw (← count) found.0) small in
     record {
       exact =
           elim c.match-insert.branch [

@@ -9,7 +9,8 @@ use Rattle.edi_execute.proofs.execution.execute.Goals as goal
 pub returns-clause-exact : goal.returns-clause-exact
 returns-clause-exact g c = λ few.
     told_then _ _ _ _ _ _
-    (λ x y z same runs. subst (λ s. RunsTo c.args.code.now s c.args.bound c.args.choices.now c.run.result c.run.new.self.store c.run.new.self.used z c.run.new.choices) same runs)
+    (λ x y z same runs. subst (λ s. RunsTo c.args.code.now s c.args.bound c.args.choices.now c.run.result c.run.new.self.store c.run.new.self.used z
+    c.run.new.choices) same runs)
     c.begin_program.ensures.exact (c.run.ensures.exact few)
 
 pub returns-clause-moment : goal.returns-clause-moment
@@ -24,15 +25,19 @@ returns-clause-ready g c = still_ready g.D.Drive.contents g.D.Drive.count c.run.
 
 pub returns-clause-told : goal.returns-clause-told
 returns-clause-told g c =
-    keeps_told_on g.D.Drive.contents g.S.Source.left g.T.Sink.taken g.P.Sink.taken c.args.system.now c.begin_program.new.self c.run.new.calls c.begin_program.ensures.told
+    keeps_told_on g.D.Drive.contents g.S.Source.left g.T.Sink.taken g.P.Sink.taken c.args.system.now c.begin_program.new.self c.run.new.calls
+    c.begin_program.ensures.told
     (told_lasting g.D.Drive.contents g.S.Source.left g.T.Sink.taken g.P.Sink.taken c.begin_program.new.self c.run.new.calls c.run.ensures.lasting
     (valid_ready g.D.Drive.contents g.D.Drive.count c.begin_program.new.self c.begin_program.ensures.ready))
 
 pub returns-clause-due : goal.returns-clause-due
 returns-clause-due g c = λ start since.
-    due_lasting g.D.Drive.contents g.S.Source.left g.T.Sink.taken g.P.Sink.taken c.begin_program.new.self c.run.new.calls c.run.ensures.lasting start (c.begin_program.ensures.due start since)
+    due_lasting g.D.Drive.contents g.S.Source.left g.T.Sink.taken g.P.Sink.taken c.begin_program.new.self c.run.new.calls c.run.ensures.lasting start
+    (c.begin_program.ensures.due start since)
 
 pub returns-clause-keeps : goal.returns-clause-keeps
 returns-clause-keeps g c =
-    keeps_on g.D.Drive.faults g.S.Source.faults g.T.Sink.faults g.P.Sink.faults _ c.args.system.now c.begin_program.new.self c.run.new.calls c.begin_program.ensures.keeps
-    (run_keeps g.D.Drive.faults g.S.Source.faults g.T.Sink.faults g.P.Sink.faults _ c.begin_program.new.self c.run.new.calls c.run.ensures.references c.run.ensures.later (blamed g.D.Drive.contents g.D.Drive.count c.run.new.calls _ _ c.run.result c.run.ensures.blame))
+    keeps_on g.D.Drive.faults g.S.Source.faults g.T.Sink.faults g.P.Sink.faults _ c.args.system.now c.begin_program.new.self c.run.new.calls
+    c.begin_program.ensures.keeps
+    (run_keeps g.D.Drive.faults g.S.Source.faults g.T.Sink.faults g.P.Sink.faults _ c.begin_program.new.self c.run.new.calls c.run.ensures.references
+    c.run.ensures.later (blamed g.D.Drive.contents g.D.Drive.count c.run.new.calls _ _ c.run.result c.run.ensures.blame))

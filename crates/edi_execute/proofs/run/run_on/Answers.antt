@@ -6,15 +6,24 @@ use Rattle.edi_execute.proofs.run.run_on.Goals as goal
 pub returns-clause-leaves : goal.returns-clause-leaves
 returns-clause-leaves g c =
     run_leaves g.D.Drive.contents g.S.Source.left g.T.Sink.taken g.P.Sink.taken c.new-system.result c.execute-ending.new.system _ _
-    (record { drive = only_read g.D.Drive.contents (drive_of c.attach-disk.result) (drive_of c.check.new.disk) _ _ _ c.in-Ok-check.ensures.leaves (search rules) (search rules); input = search rules; terminal = search rules; printer = search rules })
+    (record {
+      drive = only_read g.D.Drive.contents (drive_of c.attach-disk.result) (drive_of c.check.new.disk) _ _ _ c.in-Ok-check.ensures.leaves
+          (search rules) (search rules);
+      input = search rules;
+      terminal = search rules;
+      printer = search rules;
+    })
     (record { drive = search rules; input = search rules; terminal = search rules; printer = search rules })
     c.args.code.now c.args.bound c.args.choices.now (record { ending = c.execute-ending.result; failed = c.failed.result; due = c.due.result }) _ _ _
-    c.new-system.ensures.begins c.execute-ending.ensures.exact c.execute-ending.ensures.moment c.due.ensures.exact c.execute-ending.ensures.told c.execute-ending.ensures.due
+    c.new-system.ensures.begins c.execute-ending.ensures.exact c.execute-ending.ensures.moment c.due.ensures.exact c.execute-ending.ensures.told
+    c.execute-ending.ensures.due
 
 pub returns-clause-mounted : goal.returns-clause-mounted
 returns-clause-mounted g c =
-    mounted_run g.D.Drive.contents g.S.Source.left g.T.Sink.taken g.P.Sink.taken c.new-system.result c.execute-ending.new.system g.D.Drive.count _ _ c.new-system.ensures.ready
-    (only_read g.D.Drive.contents (drive_of c.attach-disk.result) (drive_of c.check.new.disk) _ _ _ c.in-Ok-check.ensures.leaves (search rules) (search rules)) (search rules)
+    mounted_run g.D.Drive.contents g.S.Source.left g.T.Sink.taken g.P.Sink.taken c.new-system.result c.execute-ending.new.system g.D.Drive.count _ _
+    c.new-system.ensures.ready
+    (only_read g.D.Drive.contents (drive_of c.attach-disk.result) (drive_of c.check.new.disk) _ _ _ c.in-Ok-check.ensures.leaves (search rules)
+    (search rules)) (search rules)
     c.execute-ending.ensures.told
 
 pub returns-clause-valid : goal.returns-clause-valid

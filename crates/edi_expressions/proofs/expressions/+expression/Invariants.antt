@@ -65,7 +65,8 @@ decreases-parse_exprs-loop-behind_comma l = length l.rest
 
 abbrev pub invariant-parse_multipliers-loop-operator : goal.invariant-parse_multipliers-loop-operator
 invariant-parse_multipliers-loop-operator l = record {
-  goes : Goes g.Multipliers l.fn.level (elements.multipliers_elements (view.multipliers (map view.multiplier_of l.multipliers.items))) (part g.Multipliers ∷ []) l.marks l.rest;
+  goes : Goes g.Multipliers l.fn.level (elements.multipliers_elements (view.multipliers (map view.multiplier_of l.multipliers.items)))
+      (part g.Multipliers ∷ []) l.marks l.rest;
   shorter : length l.rest ≤ length l.marks;
 }
 
@@ -83,7 +84,8 @@ decreases-parse_addends-loop-operator l = length l.rest
 
 abbrev pub invariant-parse_selectors-loop-alloc : goal.invariant-parse_selectors-loop-alloc
 invariant-parse_selectors-loop-alloc l = record {
-  goes : Goes g.Selectors l.fn.level (elements.selectors_elements (view.selectors (map view.selector_of l.selectors.items))) (part g.Selectors ∷ []) l.marks l.rest;
+  goes : Goes g.Selectors l.fn.level (elements.selectors_elements (view.selectors (map view.selector_of l.selectors.items))) (part g.Selectors ∷ []) l.marks
+      l.rest;
   shorter : length l.rest ≤ length l.marks;
 }
 

@@ -7,7 +7,9 @@ use Rattle.edi_expressions.proofs.Strings.{over_string, no_string}
 use Rattle.edi_expressions.proofs.expressions.parse_string.Goals as goal
 
 pub returns-in_err-chars-clause-halts : goal.returns-in_err-chars-clause-halts
-returns-in_err-chars-clause-halts c = let p = err_from_is_err_and c.from_residual.result c.from_residual.ensures.1 in rw (p.1, p.2) (no_string _ _ _ _ c.requires.chosen c.in_err-chars.ensures.none)
+returns-in_err-chars-clause-halts c = let p = err_from_is_err_and c.from_residual.result c.from_residual.ensures.1 in
+    rw (p.1, p.2) (no_string _ _ _ _ c.requires.chosen c.in_err-chars.ensures.none)
 
 pub returns-clause-passes : goal.returns-clause-passes
-returns-clause-passes c = written (over_string (waits g.Factor _ _) c.in_ok-chars.chars.text c.in_ok-chars.chars.line c.in_ok-chars.ensures.found) (λ es. ap (λ t. elements.factor_elements t es) (sym c.make_string.ensures.seen))
+returns-clause-passes c = written (over_string (waits g.Factor _ _) c.in_ok-chars.chars.text c.in_ok-chars.chars.line c.in_ok-chars.ensures.found)
+    (λ es. ap (λ t. elements.factor_elements t es) (sym c.make_string.ensures.seen))

@@ -19,58 +19,134 @@ use Rattle.edi_headings.proofs.Seen as seen
 use Rattle.edi_headings.proofs.headings.+heading.Goals as goal
 
 pub parse_param-returns-in_err-group-clause-halts : goal.parse_param-returns-in_err-group-clause-halts
-parse_param-returns-in_err-group-clause-halts t c = let p = err_from_is_err_and c.from_residual.result c.from_residual.ensures.1 in rw (p.1, p.2) (halts (over_mark (just is.Var) (at_line is.Var c.in-Some.field-0-0) (into (token kind.Var ∷ part g.Group ∷ []) (waits g.Param _ _) (ap (λ q. rule_at edison g.Param (front q)) c.in-Some.ensures.found)) c.in-Some.ensures.found refl refl (refl, tt)) (omega arith) c.in_err-group.ensures.halts)
+parse_param-returns-in_err-group-clause-halts t c = let p = err_from_is_err_and c.from_residual.result c.from_residual.ensures.1 in
+    rw (p.1, p.2) (halts (over_mark (just is.Var) (at_line is.Var c.in-Some.field-0-0)
+    (into (token kind.Var ∷ part g.Group ∷ []) (waits g.Param _ _) (ap (λ q. rule_at edison g.Param (front q)) c.in-Some.ensures.found)) c.in-Some.ensures.found
+    refl refl (refl, tt)) (omega arith) c.in_err-group.ensures.halts)
 
 pub parse_param-returns-in-Some-clause-passes : goal.parse_param-returns-in-Some-clause-passes
-parse_param-returns-in-Some-clause-passes t c = written (over_part (over_mark (just is.Var) (at_line is.Var c.in-Some.field-0-0) (into (token kind.Var ∷ part g.Group ∷ []) (waits g.Param _ _) (ap (λ q. rule_at edison g.Param (front q)) c.in-Some.ensures.found)) c.in-Some.ensures.found refl refl (refl, tt)) c.in_ok-group.ensures.passes (omega arith)) (seen.var_seen c.in_ok-group.group)
+parse_param-returns-in-Some-clause-passes t c = written
+    (over_part (over_mark (just is.Var) (at_line is.Var c.in-Some.field-0-0)
+    (into (token kind.Var ∷ part g.Group ∷ []) (waits g.Param _ _) (ap (λ q. rule_at edison g.Param (front q)) c.in-Some.ensures.found)) c.in-Some.ensures.found
+    refl refl (refl, tt)) c.in_ok-group.ensures.passes (omega arith)) (seen.var_seen c.in_ok-group.group)
 
 pub parse_param-returns-in_err-behind_proc-clause-halts : goal.parse_param-returns-in_err-behind_proc-clause-halts
-parse_param-returns-in_err-behind_proc-clause-halts t c = let p = err_from_is_err_and c.from_residual-in_err-behind_proc.result c.from_residual-in_err-behind_proc.ensures.1 in rw (p.1, p.2) (refused (into (token kind.Proc ∷ part g.Head ∷ item.level_end ∷ []) (waits g.Param _ _) (ap (λ a. rule_at edison g.Param a) (eqb-true (front c.args.marks.now) kind.Proc (sym c.at.ensures.exact ∙ c.if-at.true)))) refl (omega arith) c.in_err-behind_proc.ensures.none)
+parse_param-returns-in_err-behind_proc-clause-halts t c = let p = err_from_is_err_and c.from_residual-in_err-behind_proc.result
+    c.from_residual-in_err-behind_proc.ensures.1 in
+    rw (p.1, p.2) (refused (into (token kind.Proc ∷ part g.Head ∷ item.level_end ∷ []) (waits g.Param _ _)
+    (ap (λ a. rule_at edison g.Param a) (eqb-true (front c.args.marks.now) kind.Proc (sym c.at.ensures.exact ∙ c.if-at.true)))) refl (omega arith)
+    c.in_err-behind_proc.ensures.none)
 
 pub parse_param-returns-in_err-heading-clause-halts : goal.parse_param-returns-in_err-heading-clause-halts
-parse_param-returns-in_err-heading-clause-halts t c = let p = err_from_is_err_and c.from_residual-in_err-heading.result c.from_residual-in_err-heading.ensures.1 in rw (p.1, p.2) (halts (over_open (just is.Proc) (at_line is.Proc c.in_ok-behind_proc.field-0-0) (into (token kind.Proc ∷ part g.Head ∷ item.level_end ∷ []) (waits g.Param _ _) (ap (λ a. rule_at edison g.Param a) (eqb-true (front c.args.marks.now) kind.Proc (sym c.at.ensures.exact ∙ c.if-at.true)))) c.in_ok-behind_proc.ensures.found refl (omega (arith, c.in_ok-behind_proc.ensures.room)) (refl, tt)) (omega arith) c.in_err-heading.ensures.halts)
+parse_param-returns-in_err-heading-clause-halts t c = let p = err_from_is_err_and c.from_residual-in_err-heading.result
+    c.from_residual-in_err-heading.ensures.1 in
+    rw (p.1, p.2) (halts (over_open (just is.Proc) (at_line is.Proc c.in_ok-behind_proc.field-0-0)
+    (into (token kind.Proc ∷ part g.Head ∷ item.level_end ∷ []) (waits g.Param _ _)
+    (ap (λ a. rule_at edison g.Param a) (eqb-true (front c.args.marks.now) kind.Proc (sym c.at.ensures.exact ∙ c.if-at.true))))
+    c.in_ok-behind_proc.ensures.found refl (omega (arith, c.in_ok-behind_proc.ensures.room)) (refl, tt)) (omega arith) c.in_err-heading.ensures.halts)
 
 pub parse_param-returns-then-at-clause-passes : goal.parse_param-returns-then-at-clause-passes
-parse_param-returns-then-at-clause-passes t c = written (over_end (over_part (over_open (just is.Proc) (at_line is.Proc c.in_ok-behind_proc.field-0-0) (into (token kind.Proc ∷ part g.Head ∷ item.level_end ∷ []) (waits g.Param _ _) (ap (λ a. rule_at edison g.Param a) (eqb-true (front c.args.marks.now) kind.Proc (sym c.at.ensures.exact ∙ c.if-at.true)))) c.in_ok-behind_proc.ensures.found refl (omega (arith, c.in_ok-behind_proc.ensures.room)) (refl, tt)) c.in_ok-heading.ensures.passes (omega arith))) (seen.procedure_seen c.in_ok-heading.heading)
+parse_param-returns-then-at-clause-passes t c = written
+    (over_end (over_part (over_open (just is.Proc) (at_line is.Proc c.in_ok-behind_proc.field-0-0)
+    (into (token kind.Proc ∷ part g.Head ∷ item.level_end ∷ []) (waits g.Param _ _)
+    (ap (λ a. rule_at edison g.Param a) (eqb-true (front c.args.marks.now) kind.Proc (sym c.at.ensures.exact ∙ c.if-at.true))))
+    c.in_ok-behind_proc.ensures.found refl (omega (arith, c.in_ok-behind_proc.ensures.room)) (refl, tt)) c.in_ok-heading.ensures.passes (omega arith)))
+    (seen.procedure_seen c.in_ok-heading.heading)
 
 pub parse_param-returns-in_err-value-clause-halts : goal.parse_param-returns-in_err-value-clause-halts
-parse_param-returns-in_err-value-clause-halts t c = let p = err_from_is_err_and c.from_residual-in_err-value.result c.from_residual-in_err-value.ensures.1 in rw (p.1, p.2) (halts (into (part g.Group ∷ []) (waits g.Param _ _) (rw (ne_eqb (front _) kind.Var c.in_default.ensures.none, sym c.at.ensures.exact ∙ c.if-at.false) refl)) (omega arith) c.in_err-value.ensures.halts)
+parse_param-returns-in_err-value-clause-halts t c = let p = err_from_is_err_and c.from_residual-in_err-value.result c.from_residual-in_err-value.ensures.1 in
+    rw (p.1, p.2) (halts (into (part g.Group ∷ []) (waits g.Param _ _)
+    (rw (ne_eqb (front _) kind.Var c.in_default.ensures.none, sym c.at.ensures.exact ∙ c.if-at.false) refl)) (omega arith) c.in_err-value.ensures.halts)
 
 pub parse_param-returns-clause-passes : goal.parse_param-returns-clause-passes
-parse_param-returns-clause-passes t c = written (over_part (into (part g.Group ∷ []) (waits g.Param _ _) (rw (ne_eqb (front _) kind.Var c.in_default.ensures.none, sym c.at.ensures.exact ∙ c.if-at.false) refl)) c.in_ok-value.ensures.passes (omega arith)) (seen.value_seen c.in_ok-value.value)
+parse_param-returns-clause-passes t c = written
+    (over_part (into (part g.Group ∷ []) (waits g.Param _ _)
+    (rw (ne_eqb (front _) kind.Var c.in_default.ensures.none, sym c.at.ensures.exact ∙ c.if-at.false) refl)) c.in_ok-value.ensures.passes (omega arith))
+    (seen.value_seen c.in_ok-value.value)
 
 pub parse_some_params-returns-in_err-behind_open-clause-halts : goal.parse_some_params-returns-in_err-behind_open-clause-halts
-parse_some_params-returns-in_err-behind_open-clause-halts t c = let p = err_from_is_err_and c.from_residual.result c.from_residual.ensures.1 in rw (p.1, p.2) (refused (into (token kind.Open ∷ part g.Param ∷ part g.MoreParams ∷ token kind.Close ∷ item.level_end ∷ []) (waits g.Params _ _) (ap (λ a. rule_at edison g.Params a) c.requires.chosen)) refl (omega arith) c.in_err-behind_open.ensures.none)
+parse_some_params-returns-in_err-behind_open-clause-halts t c = let p = err_from_is_err_and c.from_residual.result c.from_residual.ensures.1 in
+    rw (p.1, p.2) (refused (into (token kind.Open ∷ part g.Param ∷ part g.MoreParams ∷ token kind.Close ∷ item.level_end ∷ []) (waits g.Params _ _)
+    (ap (λ a. rule_at edison g.Params a) c.requires.chosen)) refl (omega arith) c.in_err-behind_open.ensures.none)
 
 pub parse_some_params-returns-in_err-first-clause-halts : goal.parse_some_params-returns-in_err-first-clause-halts
-parse_some_params-returns-in_err-first-clause-halts t c = let p = err_from_is_err_and c.from_residual-in_err-first.result c.from_residual-in_err-first.ensures.1 in rw (p.1, p.2) (halts (over_open (just is.Open) (at_line is.Open c.in_ok-behind_open.field-0-0) (into (token kind.Open ∷ part g.Param ∷ part g.MoreParams ∷ token kind.Close ∷ item.level_end ∷ []) (waits g.Params _ _) (ap (λ a. rule_at edison g.Params a) c.requires.chosen)) c.in_ok-behind_open.ensures.found refl (omega (arith, c.in_ok-behind_open.ensures.room)) (refl, tt)) (omega arith) c.in_err-first.ensures.halts)
+parse_some_params-returns-in_err-first-clause-halts t c = let p = err_from_is_err_and c.from_residual-in_err-first.result
+    c.from_residual-in_err-first.ensures.1 in
+    rw (p.1, p.2) (halts (over_open (just is.Open) (at_line is.Open c.in_ok-behind_open.field-0-0)
+    (into (token kind.Open ∷ part g.Param ∷ part g.MoreParams ∷ token kind.Close ∷ item.level_end ∷ []) (waits g.Params _ _)
+    (ap (λ a. rule_at edison g.Params a) c.requires.chosen)) c.in_ok-behind_open.ensures.found refl (omega (arith, c.in_ok-behind_open.ensures.room))
+    (refl, tt)) (omega arith) c.in_err-first.ensures.halts)
 
 pub parse_some_params-loop-behind_semicolon-init : goal.parse_some_params-loop-behind_semicolon-init
-parse_some_params-loop-behind_semicolon-init t c = record { some = search rules; goes = written (over_part (over_open (just is.Open) (at_line is.Open c.in_ok-behind_open.field-0-0) (into (token kind.Open ∷ part g.Param ∷ part g.MoreParams ∷ token kind.Close ∷ item.level_end ∷ []) (waits g.Params _ _) (ap (λ a. rule_at edison g.Params a) c.requires.chosen)) c.in_ok-behind_open.ensures.found refl (omega (arith, c.in_ok-behind_open.ensures.room)) (refl, tt)) c.in_ok-first.ensures.passes (omega arith)) (push.open_params_first view.param_of c.push.new.self.items c.in_ok-first.first (search rules)); shorter = search rules }
+parse_some_params-loop-behind_semicolon-init t c =
+    record {
+      some = search rules;
+      goes = written
+          (over_part (over_open (just is.Open) (at_line is.Open c.in_ok-behind_open.field-0-0)
+          (into (token kind.Open ∷ part g.Param ∷ part g.MoreParams ∷ token kind.Close ∷ item.level_end ∷ []) (waits g.Params _ _)
+          (ap (λ a. rule_at edison g.Params a) c.requires.chosen)) c.in_ok-behind_open.ensures.found refl (omega (arith, c.in_ok-behind_open.ensures.room))
+          (refl, tt)) c.in_ok-first.ensures.passes (omega arith)) (push.open_params_first view.param_of c.push.new.self.items c.in_ok-first.first (search rules));
+      shorter = search rules;
+    }
 
 pub parse_some_params-returns-in_err-param-clause-halts : goal.parse_some_params-returns-in_err-param-clause-halts
-parse_some_params-returns-in_err-param-clause-halts t c = let p = err_from_is_err_and c.from_residual-in_err-param.result c.from_residual-in_err-param.ensures.1 in rw (p.1, p.2) (halts (over_mark (just is.Semicolon) (at_line is.Semicolon c.in-Some.field-0-0) (into (token kind.Semicolon ∷ part g.Param ∷ part g.MoreParams ∷ []) (c.loop-behind_semicolon.invariant.goes) (ap (λ q. rule_at edison g.MoreParams (front q)) c.in-Some.ensures.found)) c.in-Some.ensures.found refl refl (refl, tt)) (omega arith) c.in_err-param.ensures.halts)
+parse_some_params-returns-in_err-param-clause-halts t c = let p = err_from_is_err_and c.from_residual-in_err-param.result
+    c.from_residual-in_err-param.ensures.1 in
+    rw (p.1, p.2) (halts (over_mark (just is.Semicolon) (at_line is.Semicolon c.in-Some.field-0-0)
+    (into (token kind.Semicolon ∷ part g.Param ∷ part g.MoreParams ∷ []) (c.loop-behind_semicolon.invariant.goes)
+    (ap (λ q. rule_at edison g.MoreParams (front q)) c.in-Some.ensures.found)) c.in-Some.ensures.found refl refl (refl, tt)) (omega arith)
+    c.in_err-param.ensures.halts)
 
 pub parse_some_params-loop-behind_semicolon-preserved : goal.parse_some_params-loop-behind_semicolon-preserved
-parse_some_params-loop-behind_semicolon-preserved t c = record { some = search rules; goes = written (over_part (over_mark (just is.Semicolon) (at_line is.Semicolon c.in-Some.field-0-0) (into (token kind.Semicolon ∷ part g.Param ∷ part g.MoreParams ∷ []) (c.loop-behind_semicolon.invariant.goes) (ap (λ q. rule_at edison g.MoreParams (front q)) c.in-Some.ensures.found)) c.in-Some.ensures.found refl refl (refl, tt)) c.in_ok-param.ensures.passes (omega arith)) (push.open_params_push view.param_of c.loop-behind_semicolon.params.items c.push-in-Some.new.self.items c.in_ok-param.param c.loop-behind_semicolon.invariant.some (search rules)); shorter = omega (arith, c.loop-behind_semicolon.invariant.shorter, c.in-Some.ensures.shorter, c.in_ok-param.ensures.shorter) }
+parse_some_params-loop-behind_semicolon-preserved t c =
+    record {
+      some = search rules;
+      goes = written
+          (over_part (over_mark (just is.Semicolon) (at_line is.Semicolon c.in-Some.field-0-0)
+          (into (token kind.Semicolon ∷ part g.Param ∷ part g.MoreParams ∷ []) (c.loop-behind_semicolon.invariant.goes)
+          (ap (λ q. rule_at edison g.MoreParams (front q)) c.in-Some.ensures.found)) c.in-Some.ensures.found refl refl (refl, tt)) c.in_ok-param.ensures.passes
+          (omega arith)) (push.open_params_push view.param_of c.loop-behind_semicolon.params.items c.push-in-Some.new.self.items c.in_ok-param.param
+          c.loop-behind_semicolon.invariant.some (search rules));
+      shorter = omega (arith, c.loop-behind_semicolon.invariant.shorter, c.in-Some.ensures.shorter, c.in_ok-param.ensures.shorter);
+    }
 
 pub parse_some_params-returns-in_err-rest-clause-halts : goal.parse_some_params-returns-in_err-rest-clause-halts
-parse_some_params-returns-in_err-rest-clause-halts t c = let p = err_from_is_err_and c.from_residual-in_err-rest.result c.from_residual-in_err-rest.ensures.1 in rw (p.1, p.2) (lacks (into ([]) (c.loop-behind_semicolon.invariant.goes) (rw (ne_eqb (front _) kind.Semicolon c.in_default.ensures.none) refl)) c.in_err-rest.ensures.none)
+parse_some_params-returns-in_err-rest-clause-halts t c = let p = err_from_is_err_and c.from_residual-in_err-rest.result
+    c.from_residual-in_err-rest.ensures.1 in
+    rw (p.1, p.2) (lacks (into ([]) (c.loop-behind_semicolon.invariant.goes) (rw (ne_eqb (front _) kind.Semicolon c.in_default.ensures.none) refl))
+    c.in_err-rest.ensures.none)
 
 pub parse_some_params-returns-clause-passes : goal.parse_some_params-returns-clause-passes
-parse_some_params-returns-clause-passes t c = written (over_end (over_mark (just is.Close) (at_line is.Close c.in_ok-rest.field-0-0) (into ([]) (c.loop-behind_semicolon.invariant.goes) (rw (ne_eqb (front _) kind.Semicolon c.in_default.ensures.none) refl)) c.in_ok-rest.ensures.found refl refl (refl, tt))) (push.open_params_end view.param_of c.loop-behind_semicolon.params.items _ c.loop-behind_semicolon.invariant.some (search rules))
+parse_some_params-returns-clause-passes t c = written
+    (over_end (over_mark (just is.Close) (at_line is.Close c.in_ok-rest.field-0-0)
+    (into ([]) (c.loop-behind_semicolon.invariant.goes) (rw (ne_eqb (front _) kind.Semicolon c.in_default.ensures.none) refl)) c.in_ok-rest.ensures.found refl
+    refl (refl, tt))) (push.open_params_end view.param_of c.loop-behind_semicolon.params.items _ c.loop-behind_semicolon.invariant.some (search rules))
 
 pub parse_params-returns-clause-passes : goal.parse_params-returns-clause-passes
-parse_params-returns-clause-passes t c = written (into ([]) (waits g.Params _ _) (rw (sym c.at.ensures.exact ∙ c.if-at.false) refl)) (λ es. ap (λ l. elements.params_elements (view.optional_params (map view.param_of l)) es) (sym c.new.ensures.exact))
+parse_params-returns-clause-passes t c = written (into ([]) (waits g.Params _ _) (rw (sym c.at.ensures.exact ∙ c.if-at.false) refl))
+    (λ es. ap (λ l. elements.params_elements (view.optional_params (map view.param_of l)) es) (sym c.new.ensures.exact))
 
 pub parse_head-returns-in_err-name-clause-halts : goal.parse_head-returns-in_err-name-clause-halts
-parse_head-returns-in_err-name-clause-halts t c = let p = err_from_is_err_and c.from_residual.result c.from_residual.ensures.1 in rw (p.1, p.2) (lacks (into (token kind.Name ∷ part g.Params ∷ part g.Result ∷ []) (waits g.Head _ _) (refl)) c.in_err-name.ensures.none)
+parse_head-returns-in_err-name-clause-halts t c = let p = err_from_is_err_and c.from_residual.result c.from_residual.ensures.1 in
+    rw (p.1, p.2) (lacks (into (token kind.Name ∷ part g.Params ∷ part g.Result ∷ []) (waits g.Head _ _) (refl)) c.in_err-name.ensures.none)
 
 pub parse_head-returns-in_err-params-clause-halts : goal.parse_head-returns-in_err-params-clause-halts
-parse_head-returns-in_err-params-clause-halts t c = let p = err_from_is_err_and c.from_residual-in_err-params.result c.from_residual-in_err-params.ensures.1 in rw (p.1, p.2) (halts (over_mark (name_mark c.in_ok-name.name) (at_line (is.Name c.in_ok-name.name.text) c.in_ok-name.name.line) (into (token kind.Name ∷ part g.Params ∷ part g.Result ∷ []) (waits g.Head _ _) (refl)) c.in_ok-name.ensures.found refl refl (refl, refl)) (omega arith) c.in_err-params.ensures.halts)
+parse_head-returns-in_err-params-clause-halts t c = let p = err_from_is_err_and c.from_residual-in_err-params.result
+    c.from_residual-in_err-params.ensures.1 in
+    rw (p.1, p.2) (halts (over_mark (name_mark c.in_ok-name.name) (at_line (is.Name c.in_ok-name.name.text) c.in_ok-name.name.line)
+    (into (token kind.Name ∷ part g.Params ∷ part g.Result ∷ []) (waits g.Head _ _) (refl)) c.in_ok-name.ensures.found refl refl (refl, refl)) (omega arith)
+    c.in_err-params.ensures.halts)
 
 pub parse_head-returns-in_err-result_name-clause-halts : goal.parse_head-returns-in_err-result_name-clause-halts
-parse_head-returns-in_err-result_name-clause-halts t c = let p = err_from_is_err_and c.from_residual-in_err-result_name.result c.from_residual-in_err-result_name.ensures.1 in rw (p.1, p.2) (halts (over_part (over_mark (name_mark c.in_ok-name.name) (at_line (is.Name c.in_ok-name.name.text) c.in_ok-name.name.line) (into (token kind.Name ∷ part g.Params ∷ part g.Result ∷ []) (waits g.Head _ _) (refl)) c.in_ok-name.ensures.found refl refl (refl, refl)) c.in_ok-params.ensures.passes (omega arith)) (omega arith) c.in_err-result_name.ensures.halts)
+parse_head-returns-in_err-result_name-clause-halts t c = let p = err_from_is_err_and c.from_residual-in_err-result_name.result
+    c.from_residual-in_err-result_name.ensures.1 in
+    rw (p.1, p.2) (halts (over_part (over_mark (name_mark c.in_ok-name.name) (at_line (is.Name c.in_ok-name.name.text) c.in_ok-name.name.line)
+    (into (token kind.Name ∷ part g.Params ∷ part g.Result ∷ []) (waits g.Head _ _) (refl)) c.in_ok-name.ensures.found refl refl (refl, refl))
+    c.in_ok-params.ensures.passes (omega arith)) (omega arith) c.in_err-result_name.ensures.halts)
 
 pub parse_head-returns-clause-passes : goal.parse_head-returns-clause-passes
-parse_head-returns-clause-passes t c = written (over_part (over_part (over_mark (name_mark c.in_ok-name.name) (at_line (is.Name c.in_ok-name.name.text) c.in_ok-name.name.line) (into (token kind.Name ∷ part g.Params ∷ part g.Result ∷ []) (waits g.Head _ _) (refl)) c.in_ok-name.ensures.found refl refl (refl, refl)) c.in_ok-params.ensures.passes (omega arith)) c.in_ok-result_name.ensures.passes (omega arith)) (seen.head_seen c.in_ok-name.name c.in_ok-params.params c.in_ok-result_name.result_name)
+parse_head-returns-clause-passes t c = written
+    (over_part (over_part (over_mark (name_mark c.in_ok-name.name) (at_line (is.Name c.in_ok-name.name.text) c.in_ok-name.name.line)
+    (into (token kind.Name ∷ part g.Params ∷ part g.Result ∷ []) (waits g.Head _ _) (refl)) c.in_ok-name.ensures.found refl refl (refl, refl))
+    c.in_ok-params.ensures.passes (omega arith)) c.in_ok-result_name.ensures.passes (omega arith))
+    (seen.head_seen c.in_ok-name.name c.in_ok-params.params c.in_ok-result_name.result_name)

@@ -23,7 +23,8 @@ decreases-parse_head l = (64 - l.level) * 4 + 2
 abbrev pub invariant-parse_some_params-loop-behind_semicolon : goal.invariant-parse_some_params-loop-behind_semicolon
 invariant-parse_some_params-loop-behind_semicolon l = record {
   some : 0 < length l.params.items;
-  goes : Goes g.Params l.fn.level (open_params (map param_of l.params.items)) (part g.MoreParams ∷ token kind.Close ∷ item.level_end ∷ []) l.marks l.behind_params;
+  goes : Goes g.Params l.fn.level (open_params (map param_of l.params.items)) (part g.MoreParams ∷ token kind.Close ∷ item.level_end ∷ []) l.marks
+      l.behind_params;
   shorter : length l.behind_params < length l.marks;
 }
 

@@ -17,7 +17,13 @@ pub returns-in_default-clause-passes : goal.returns-in_default-clause-passes
 returns-in_default-clause-passes c = into ([]) (waits g.Result _ _) (rw (ne_eqb (front _) kind.Colon c.in_default.ensures.none) refl)
 
 pub returns-in_err-name-clause-halts : goal.returns-in_err-name-clause-halts
-returns-in_err-name-clause-halts c = let p = err_from_is_err_and c.from_residual.result c.from_residual.ensures.1 in rw (p.1, p.2) (lacks (over_mark (just is.Colon) (at_line is.Colon c.in-Some.field-0-0) (into (token kind.Colon ∷ token kind.Name ∷ []) (waits g.Result _ _) (ap (λ q. rule_at edison g.Result (front q)) c.in-Some.ensures.found)) c.in-Some.ensures.found refl refl (refl, tt)) c.in_err-name.ensures.none)
+returns-in_err-name-clause-halts c = let p = err_from_is_err_and c.from_residual.result c.from_residual.ensures.1 in
+    rw (p.1, p.2) (lacks (over_mark (just is.Colon) (at_line is.Colon c.in-Some.field-0-0)
+    (into (token kind.Colon ∷ token kind.Name ∷ []) (waits g.Result _ _) (ap (λ q. rule_at edison g.Result (front q)) c.in-Some.ensures.found))
+    c.in-Some.ensures.found refl refl (refl, tt)) c.in_err-name.ensures.none)
 
 pub returns-clause-passes : goal.returns-clause-passes
-returns-clause-passes c = over_mark (name_mark c.in_ok-name.name) (at_line (is.Name c.in_ok-name.name.text) c.in_ok-name.name.line) (over_mark (just is.Colon) (at_line is.Colon c.in-Some.field-0-0) (into (token kind.Colon ∷ token kind.Name ∷ []) (waits g.Result _ _) (ap (λ q. rule_at edison g.Result (front q)) c.in-Some.ensures.found)) c.in-Some.ensures.found refl refl (refl, tt)) c.in_ok-name.ensures.found refl refl (refl, refl)
+returns-clause-passes c = over_mark (name_mark c.in_ok-name.name) (at_line (is.Name c.in_ok-name.name.text) c.in_ok-name.name.line)
+    (over_mark (just is.Colon) (at_line is.Colon c.in-Some.field-0-0)
+    (into (token kind.Colon ∷ token kind.Name ∷ []) (waits g.Result _ _) (ap (λ q. rule_at edison g.Result (front q)) c.in-Some.ensures.found))
+    c.in-Some.ensures.found refl refl (refl, tt)) c.in_ok-name.ensures.found refl refl (refl, refl)

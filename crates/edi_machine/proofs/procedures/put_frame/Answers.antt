@@ -12,6 +12,9 @@ returns c =
     record {
       exact =
           c.clear-2.ensures.exact
-          ∙ ap (λ m. cleared m (a.at + 5 + b.results + b.parameters) rest) (c.copy.ensures.exact ∙ ap (λ m. copied m a.top (a.at + 5 + b.results) b.parameters) (c.clear.ensures.exact ∙ ap (λ m. cleared m (a.at + 5) b.results) c.put_words.ensures.exact))
-          ∙ frame_written a.store.now a.at (a.link ∷ a.base ∷ high_word a.back ∷ low_word a.back ∷ a.top ∷ []) b.results a.top b.parameters rest c.put_words.ensures.was_whole refl c.requires.arguments (omega arith);
+          ∙ ap (λ m. cleared m (a.at + 5 + b.results + b.parameters) rest)
+          (c.copy.ensures.exact ∙ ap (λ m. copied m a.top (a.at + 5 + b.results) b.parameters)
+          (c.clear.ensures.exact ∙ ap (λ m. cleared m (a.at + 5) b.results) c.put_words.ensures.exact))
+          ∙ frame_written a.store.now a.at (a.link ∷ a.base ∷ high_word a.back ∷ low_word a.back ∷ a.top ∷ []) b.results a.top b.parameters rest
+          c.put_words.ensures.was_whole refl c.requires.arguments (omega arith);
     }

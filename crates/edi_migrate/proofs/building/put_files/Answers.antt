@@ -21,7 +21,8 @@ loop-file-preserved c =
       so_far =
           file_on c.args.old.now c.args.files.now c.loop-file.bytes.items _ _ c.loop-file.file-index c.loop-file.first c.in-Ok.next c.file-item.result next
           c.loop-file.invariant.so_far c.in-Ok.ensures.puts c.in-Ok.ensures.next;
-      many = count_on c.args.files.now c.loop-file.file-index c.loop-file.first c.in-Ok.next _ c.file-item.result next c.loop-file.invariant.many c.in-Ok.ensures.next;
+      many = count_on c.args.files.now c.loop-file.file-index c.loop-file.first c.in-Ok.next _ c.file-item.result next c.loop-file.invariant.many
+          c.in-Ok.ensures.next;
       stored = (stored_on (length c.args.old.now) c.args.files.now c.loop-file.file-index c.file-item.result next c.loop-file.invariant.stored).1;
     }
 

@@ -8,7 +8,8 @@ use Rattle.edi_migrate.proofs.migrating.migrate.Goals as goal
 
 pub returns-in-Err-clause-leaves : goal.returns-in-Err-clause-leaves
 returns-in-Err-clause-leaves g c =
-    told_same (g.D.Drive.contents c.args.drive.now) (MigrateLeaves c.in-Err.end c.args.blocks (blocks_of c.args.old.now)) (λ before. refuses_leaves c.in-Err.end c.args.blocks (blocks_of c.args.old.now) before c.in-Err.ensures.0)
+    told_same (g.D.Drive.contents c.args.drive.now) (MigrateLeaves c.in-Err.end c.args.blocks (blocks_of c.args.old.now))
+    (λ before. refuses_leaves c.in-Err.end c.args.blocks (blocks_of c.args.old.now) before c.in-Err.ensures.0)
 
 pub returns-in-Err-clause-answers : goal.returns-in-Err-clause-answers
 returns-in-Err-clause-answers g c =

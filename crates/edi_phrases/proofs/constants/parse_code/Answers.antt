@@ -18,16 +18,37 @@ use mir.Syntax.{w16}
 use Rattle.edi_phrases.proofs.constants.parse_code.Goals as goal
 
 pub returns-in_err-behind_open-clause-halts : goal.returns-in_err-behind_open-clause-halts
-returns-in_err-behind_open-clause-halts c = let p = err_from_is_err_and c.from_residual.result c.from_residual.ensures.1 in rw (p.1, p.2) (refused (into (token kind.Open ∷ token kind.Numeral ∷ token kind.Close ∷ item.level_end ∷ []) (waits g.Code _ _) (ap (λ a. rule_at edison g.Code a) (eqb-true (front c.args.marks.now) kind.Open (sym c.at.ensures.exact ∙ c.if-at.true)))) refl (omega arith) c.in_err-behind_open.ensures.none)
+returns-in_err-behind_open-clause-halts c = let p = err_from_is_err_and c.from_residual.result c.from_residual.ensures.1 in
+    rw (p.1, p.2) (refused (into (token kind.Open ∷ token kind.Numeral ∷ token kind.Close ∷ item.level_end ∷ []) (waits g.Code _ _)
+    (ap (λ a. rule_at edison g.Code a) (eqb-true (front c.args.marks.now) kind.Open (sym c.at.ensures.exact ∙ c.if-at.true)))) refl (omega arith)
+    c.in_err-behind_open.ensures.none)
 
 pub returns-in_err-value-clause-halts : goal.returns-in_err-value-clause-halts
-returns-in_err-value-clause-halts c = let p = err_from_is_err_and c.from_residual-in_err-value.result c.from_residual-in_err-value.ensures.1 in rw (p.1, p.2) (lacks (over_open (just is.Open) (at_line is.Open c.in_ok-behind_open.field-0-0) (into (token kind.Open ∷ token kind.Numeral ∷ token kind.Close ∷ item.level_end ∷ []) (waits g.Code _ _) (ap (λ a. rule_at edison g.Code a) (eqb-true (front c.args.marks.now) kind.Open (sym c.at.ensures.exact ∙ c.if-at.true)))) c.in_ok-behind_open.ensures.found refl (omega (arith, c.in_ok-behind_open.ensures.room)) (refl, tt)) c.in_err-value.ensures.none)
+returns-in_err-value-clause-halts c = let p = err_from_is_err_and c.from_residual-in_err-value.result c.from_residual-in_err-value.ensures.1 in
+    rw (p.1, p.2) (lacks (over_open (just is.Open) (at_line is.Open c.in_ok-behind_open.field-0-0)
+    (into (token kind.Open ∷ token kind.Numeral ∷ token kind.Close ∷ item.level_end ∷ []) (waits g.Code _ _)
+    (ap (λ a. rule_at edison g.Code a) (eqb-true (front c.args.marks.now) kind.Open (sym c.at.ensures.exact ∙ c.if-at.true)))) c.in_ok-behind_open.ensures.found
+    refl (omega (arith, c.in_ok-behind_open.ensures.room)) (refl, tt)) c.in_err-value.ensures.none)
 
 pub returns-in_err-behind_value-clause-halts : goal.returns-in_err-behind_value-clause-halts
-returns-in_err-behind_value-clause-halts c = let p = err_from_is_err_and c.from_residual-in_err-behind_value.result c.from_residual-in_err-behind_value.ensures.1 in rw (p.1, p.2) (lacks (over_mark (just (is.Numeral c.in_ok-value.value)) (at_line (is.Numeral c.in_ok-value.value) c.in_ok-value.ensures.found.0) (over_open (just is.Open) (at_line is.Open c.in_ok-behind_open.field-0-0) (into (token kind.Open ∷ token kind.Numeral ∷ token kind.Close ∷ item.level_end ∷ []) (waits g.Code _ _) (ap (λ a. rule_at edison g.Code a) (eqb-true (front c.args.marks.now) kind.Open (sym c.at.ensures.exact ∙ c.if-at.true)))) c.in_ok-behind_open.ensures.found refl (omega (arith, c.in_ok-behind_open.ensures.room)) (refl, tt)) c.in_ok-value.ensures.found.1 refl refl (refl, tt)) c.in_err-behind_value.ensures.none)
+returns-in_err-behind_value-clause-halts c = let p = err_from_is_err_and c.from_residual-in_err-behind_value.result
+    c.from_residual-in_err-behind_value.ensures.1 in
+    rw (p.1, p.2) (lacks (over_mark (just (is.Numeral c.in_ok-value.value)) (at_line (is.Numeral c.in_ok-value.value) c.in_ok-value.ensures.found.0)
+    (over_open (just is.Open) (at_line is.Open c.in_ok-behind_open.field-0-0)
+    (into (token kind.Open ∷ token kind.Numeral ∷ token kind.Close ∷ item.level_end ∷ []) (waits g.Code _ _)
+    (ap (λ a. rule_at edison g.Code a) (eqb-true (front c.args.marks.now) kind.Open (sym c.at.ensures.exact ∙ c.if-at.true)))) c.in_ok-behind_open.ensures.found
+    refl (omega (arith, c.in_ok-behind_open.ensures.room)) (refl, tt)) c.in_ok-value.ensures.found.1 refl refl (refl, tt)) c.in_err-behind_value.ensures.none)
 
 pub returns-then-at-clause-passes : goal.returns-then-at-clause-passes
-returns-then-at-clause-passes c = written (over_end (over_mark (just is.Close) (at_line is.Close c.in_ok-behind_value.field-0-0) (over_mark (just (is.Numeral c.in_ok-value.value)) (at_line (is.Numeral c.in_ok-value.value) c.in_ok-value.ensures.found.0) (over_open (just is.Open) (at_line is.Open c.in_ok-behind_open.field-0-0) (into (token kind.Open ∷ token kind.Numeral ∷ token kind.Close ∷ item.level_end ∷ []) (waits g.Code _ _) (ap (λ a. rule_at edison g.Code a) (eqb-true (front c.args.marks.now) kind.Open (sym c.at.ensures.exact ∙ c.if-at.true)))) c.in_ok-behind_open.ensures.found refl (omega (arith, c.in_ok-behind_open.ensures.room)) (refl, tt)) c.in_ok-value.ensures.found.1 refl refl (refl, tt)) c.in_ok-behind_value.ensures.found refl refl (refl, tt))) (λ es. ap (λ v. elements.word is.Open ∷ elements.word (is.Numeral v) ∷ elements.word is.Close ∷ elements.level_end ∷ es) (sym (to_z-of_z w16 c.in_ok-value.value (search rules))))
+returns-then-at-clause-passes c = written
+    (over_end (over_mark (just is.Close) (at_line is.Close c.in_ok-behind_value.field-0-0)
+    (over_mark (just (is.Numeral c.in_ok-value.value)) (at_line (is.Numeral c.in_ok-value.value) c.in_ok-value.ensures.found.0)
+    (over_open (just is.Open) (at_line is.Open c.in_ok-behind_open.field-0-0)
+    (into (token kind.Open ∷ token kind.Numeral ∷ token kind.Close ∷ item.level_end ∷ []) (waits g.Code _ _)
+    (ap (λ a. rule_at edison g.Code a) (eqb-true (front c.args.marks.now) kind.Open (sym c.at.ensures.exact ∙ c.if-at.true)))) c.in_ok-behind_open.ensures.found
+    refl (omega (arith, c.in_ok-behind_open.ensures.room)) (refl, tt)) c.in_ok-value.ensures.found.1 refl refl (refl, tt)) c.in_ok-behind_value.ensures.found
+    refl refl (refl, tt))) (λ es. ap (λ v. elements.word is.Open ∷ elements.word (is.Numeral v) ∷ elements.word is.Close ∷ elements.level_end ∷ es)
+    (sym (to_z-of_z w16 c.in_ok-value.value (search rules))))
 
 pub returns-clause-passes : goal.returns-clause-passes
 returns-clause-passes c = into ([]) (waits g.Code _ _) (rw (sym c.at.ensures.exact ∙ c.if-at.false) refl)

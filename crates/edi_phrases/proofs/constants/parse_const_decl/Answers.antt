@@ -10,13 +10,25 @@ use Rattle.edi_phrases.proofs.Moves.{waits, over_mark, over_part, into, lacks, h
 use Rattle.edi_phrases.proofs.constants.parse_const_decl.Goals as goal
 
 pub returns-in_err-name-clause-halts : goal.returns-in_err-name-clause-halts
-returns-in_err-name-clause-halts c = let p = err_from_is_err_and c.from_residual.result c.from_residual.ensures.1 in rw (p.1, p.2) (lacks (into (token kind.Name ∷ token kind.Equal ∷ part g.Constant ∷ []) (waits g.ConstDecl _ _) (refl)) c.in_err-name.ensures.none)
+returns-in_err-name-clause-halts c = let p = err_from_is_err_and c.from_residual.result c.from_residual.ensures.1 in
+    rw (p.1, p.2) (lacks (into (token kind.Name ∷ token kind.Equal ∷ part g.Constant ∷ []) (waits g.ConstDecl _ _) (refl)) c.in_err-name.ensures.none)
 
 pub returns-in_err-behind_equal-clause-halts : goal.returns-in_err-behind_equal-clause-halts
-returns-in_err-behind_equal-clause-halts c = let p = err_from_is_err_and c.from_residual-in_err-behind_equal.result c.from_residual-in_err-behind_equal.ensures.1 in rw (p.1, p.2) (lacks (over_mark (name_mark c.in_ok-name.name) (at_line (is.Name c.in_ok-name.name.text) c.in_ok-name.name.line) (into (token kind.Name ∷ token kind.Equal ∷ part g.Constant ∷ []) (waits g.ConstDecl _ _) (refl)) c.in_ok-name.ensures.found refl refl (refl, refl)) c.in_err-behind_equal.ensures.none)
+returns-in_err-behind_equal-clause-halts c = let p = err_from_is_err_and c.from_residual-in_err-behind_equal.result
+    c.from_residual-in_err-behind_equal.ensures.1 in
+    rw (p.1, p.2) (lacks (over_mark (name_mark c.in_ok-name.name) (at_line (is.Name c.in_ok-name.name.text) c.in_ok-name.name.line)
+    (into (token kind.Name ∷ token kind.Equal ∷ part g.Constant ∷ []) (waits g.ConstDecl _ _) (refl)) c.in_ok-name.ensures.found refl refl (refl, refl))
+    c.in_err-behind_equal.ensures.none)
 
 pub returns-in_err-constant-clause-halts : goal.returns-in_err-constant-clause-halts
-returns-in_err-constant-clause-halts c = let p = err_from_is_err_and c.from_residual-in_err-constant.result c.from_residual-in_err-constant.ensures.1 in rw (p.1, p.2) (halts (over_mark (just is.Equal) (at_line is.Equal c.in_ok-behind_equal.field-0-0) (over_mark (name_mark c.in_ok-name.name) (at_line (is.Name c.in_ok-name.name.text) c.in_ok-name.name.line) (into (token kind.Name ∷ token kind.Equal ∷ part g.Constant ∷ []) (waits g.ConstDecl _ _) (refl)) c.in_ok-name.ensures.found refl refl (refl, refl)) c.in_ok-behind_equal.ensures.found refl refl (refl, tt)) (omega arith) c.in_err-constant.ensures.halts)
+returns-in_err-constant-clause-halts c = let p = err_from_is_err_and c.from_residual-in_err-constant.result c.from_residual-in_err-constant.ensures.1 in
+    rw (p.1, p.2) (halts (over_mark (just is.Equal) (at_line is.Equal c.in_ok-behind_equal.field-0-0)
+    (over_mark (name_mark c.in_ok-name.name) (at_line (is.Name c.in_ok-name.name.text) c.in_ok-name.name.line)
+    (into (token kind.Name ∷ token kind.Equal ∷ part g.Constant ∷ []) (waits g.ConstDecl _ _) (refl)) c.in_ok-name.ensures.found refl refl (refl, refl))
+    c.in_ok-behind_equal.ensures.found refl refl (refl, tt)) (omega arith) c.in_err-constant.ensures.halts)
 
 pub returns-clause-passes : goal.returns-clause-passes
-returns-clause-passes c = over_part (over_mark (just is.Equal) (at_line is.Equal c.in_ok-behind_equal.field-0-0) (over_mark (name_mark c.in_ok-name.name) (at_line (is.Name c.in_ok-name.name.text) c.in_ok-name.name.line) (into (token kind.Name ∷ token kind.Equal ∷ part g.Constant ∷ []) (waits g.ConstDecl _ _) (refl)) c.in_ok-name.ensures.found refl refl (refl, refl)) c.in_ok-behind_equal.ensures.found refl refl (refl, tt)) c.in_ok-constant.ensures.passes (omega arith)
+returns-clause-passes c = over_part (over_mark (just is.Equal) (at_line is.Equal c.in_ok-behind_equal.field-0-0)
+    (over_mark (name_mark c.in_ok-name.name) (at_line (is.Name c.in_ok-name.name.text) c.in_ok-name.name.line)
+    (into (token kind.Name ∷ token kind.Equal ∷ part g.Constant ∷ []) (waits g.ConstDecl _ _) (refl)) c.in_ok-name.ensures.found refl refl (refl, refl))
+    c.in_ok-behind_equal.ensures.found refl refl (refl, tt)) c.in_ok-constant.ensures.passes (omega arith)

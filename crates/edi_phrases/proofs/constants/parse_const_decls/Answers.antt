@@ -17,10 +17,21 @@ use Rattle.edi_phrases.proofs.Pushes as push
 use Rattle.edi_phrases.proofs.constants.parse_const_decls.Goals as goal
 
 pub returns-in_err-decl-clause-halts : goal.returns-in_err-decl-clause-halts
-returns-in_err-decl-clause-halts c = let p = err_from_is_err_and c.from_residual.result c.from_residual.ensures.1 in rw (p.1, p.2) (halts (over_mark (just is.Semicolon) (at_line is.Semicolon c.in-Some.field-0-0) (into (token kind.Semicolon ∷ part g.ConstDecl ∷ part g.ConstDecls ∷ []) (c.loop-behind_semicolon.invariant.goes) (ap (λ q. rule_at edison g.ConstDecls (front q)) c.in-Some.ensures.found)) c.in-Some.ensures.found refl refl (refl, tt)) (omega arith) c.in_err-decl.ensures.halts)
+returns-in_err-decl-clause-halts c = let p = err_from_is_err_and c.from_residual.result c.from_residual.ensures.1 in
+    rw (p.1, p.2) (halts (over_mark (just is.Semicolon) (at_line is.Semicolon c.in-Some.field-0-0)
+    (into (token kind.Semicolon ∷ part g.ConstDecl ∷ part g.ConstDecls ∷ []) (c.loop-behind_semicolon.invariant.goes)
+    (ap (λ q. rule_at edison g.ConstDecls (front q)) c.in-Some.ensures.found)) c.in-Some.ensures.found refl refl (refl, tt)) (omega arith)
+    c.in_err-decl.ensures.halts)
 
 pub loop-behind_semicolon-preserved : goal.loop-behind_semicolon-preserved
-loop-behind_semicolon-preserved c = record { goes = written (over_part (over_mark (just is.Semicolon) (at_line is.Semicolon c.in-Some.field-0-0) (into (token kind.Semicolon ∷ part g.ConstDecl ∷ part g.ConstDecls ∷ []) (c.loop-behind_semicolon.invariant.goes) (ap (λ q. rule_at edison g.ConstDecls (front q)) c.in-Some.ensures.found)) c.in-Some.ensures.found refl refl (refl, tt)) c.in_ok-decl.ensures.passes (omega arith)) (push.const_decls_push c.loop-behind_semicolon.decls.items c.push.new.self.items c.in_ok-decl.decl (search rules)); shorter = omega (arith, c.loop-behind_semicolon.invariant.shorter, c.in-Some.ensures.shorter, c.in_ok-decl.ensures.shorter) }
+loop-behind_semicolon-preserved c = record {
+  goes = written (over_part (over_mark (just is.Semicolon) (at_line is.Semicolon c.in-Some.field-0-0)
+      (into (token kind.Semicolon ∷ part g.ConstDecl ∷ part g.ConstDecls ∷ []) (c.loop-behind_semicolon.invariant.goes)
+      (ap (λ q. rule_at edison g.ConstDecls (front q)) c.in-Some.ensures.found)) c.in-Some.ensures.found refl refl (refl, tt)) c.in_ok-decl.ensures.passes
+      (omega arith)) (push.const_decls_push c.loop-behind_semicolon.decls.items c.push.new.self.items c.in_ok-decl.decl (search rules));
+  shorter = omega (arith, c.loop-behind_semicolon.invariant.shorter, c.in-Some.ensures.shorter, c.in_ok-decl.ensures.shorter);
+}
 
 pub returns-clause-passes : goal.returns-clause-passes
-returns-clause-passes c = written (into ([]) (c.loop-behind_semicolon.invariant.goes) (rw (ne_eqb (front _) kind.Semicolon c.in_default.ensures.none) refl)) (λ es. ap (λ l. elements.const_decls_elements (view.const_decls l) es) (sym c.from_vec.ensures.exact))
+returns-clause-passes c = written (into ([]) (c.loop-behind_semicolon.invariant.goes) (rw (ne_eqb (front _) kind.Semicolon c.in_default.ensures.none) refl))
+    (λ es. ap (λ l. elements.const_decls_elements (view.const_decls l) es) (sym c.from_vec.ensures.exact))

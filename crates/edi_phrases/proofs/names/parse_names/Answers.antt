@@ -17,10 +17,22 @@ use Rattle.edi_phrases.proofs.Pushes as push
 use Rattle.edi_phrases.proofs.names.parse_names.Goals as goal
 
 pub returns-in_err-name-clause-halts : goal.returns-in_err-name-clause-halts
-returns-in_err-name-clause-halts c = let p = err_from_is_err_and c.from_residual.result c.from_residual.ensures.1 in rw (p.1, p.2) (lacks (over_mark (just is.Comma) (at_line is.Comma c.in-Some.field-0-0) (into (token kind.Comma ∷ token kind.Name ∷ part g.Names ∷ []) (c.loop-behind_comma.invariant.goes) (ap (λ q. rule_at edison g.Names (front q)) c.in-Some.ensures.found)) c.in-Some.ensures.found refl refl (refl, tt)) c.in_err-name.ensures.none)
+returns-in_err-name-clause-halts c = let p = err_from_is_err_and c.from_residual.result c.from_residual.ensures.1 in
+    rw (p.1, p.2) (lacks (over_mark (just is.Comma) (at_line is.Comma c.in-Some.field-0-0)
+    (into (token kind.Comma ∷ token kind.Name ∷ part g.Names ∷ []) (c.loop-behind_comma.invariant.goes)
+    (ap (λ q. rule_at edison g.Names (front q)) c.in-Some.ensures.found)) c.in-Some.ensures.found refl refl (refl, tt)) c.in_err-name.ensures.none)
 
 pub loop-behind_comma-preserved : goal.loop-behind_comma-preserved
-loop-behind_comma-preserved c = record { goes = written (over_mark (name_mark c.in_ok-name.name) (at_line (is.Name c.in_ok-name.name.text) c.in_ok-name.name.line) (over_mark (just is.Comma) (at_line is.Comma c.in-Some.field-0-0) (into (token kind.Comma ∷ token kind.Name ∷ part g.Names ∷ []) (c.loop-behind_comma.invariant.goes) (ap (λ q. rule_at edison g.Names (front q)) c.in-Some.ensures.found)) c.in-Some.ensures.found refl refl (refl, tt)) c.in_ok-name.ensures.found refl refl (refl, refl)) (push.names_push c.loop-behind_comma.names.items c.push.new.self.items c.in_ok-name.name (search rules)); shorter = omega (arith, c.loop-behind_comma.invariant.shorter, c.in-Some.ensures.shorter, c.in_ok-name.ensures.shorter) }
+loop-behind_comma-preserved c = record {
+  goes = written
+      (over_mark (name_mark c.in_ok-name.name) (at_line (is.Name c.in_ok-name.name.text) c.in_ok-name.name.line)
+      (over_mark (just is.Comma) (at_line is.Comma c.in-Some.field-0-0)
+      (into (token kind.Comma ∷ token kind.Name ∷ part g.Names ∷ []) (c.loop-behind_comma.invariant.goes)
+      (ap (λ q. rule_at edison g.Names (front q)) c.in-Some.ensures.found)) c.in-Some.ensures.found refl refl (refl, tt)) c.in_ok-name.ensures.found refl refl
+      (refl, refl)) (push.names_push c.loop-behind_comma.names.items c.push.new.self.items c.in_ok-name.name (search rules));
+  shorter = omega (arith, c.loop-behind_comma.invariant.shorter, c.in-Some.ensures.shorter, c.in_ok-name.ensures.shorter);
+}
 
 pub returns-clause-passes : goal.returns-clause-passes
-returns-clause-passes c = written (into ([]) (c.loop-behind_comma.invariant.goes) (rw (ne_eqb (front _) kind.Comma c.in_default.ensures.none) refl)) (λ es. ap (λ l. elements.names_elements (view.names l) es) (sym c.from_vec.ensures.exact))
+returns-clause-passes c = written (into ([]) (c.loop-behind_comma.invariant.goes) (rw (ne_eqb (front _) kind.Comma c.in_default.ensures.none) refl))
+    (λ es. ap (λ l. elements.names_elements (view.names l) es) (sym c.from_vec.ensures.exact))

@@ -13,16 +13,19 @@ pub returns-in_err-node-clause-sound : goal.returns-in_err-node-clause-sound
 returns-in_err-node-clause-sound g c = calls.sound _ _ _ _ _ _ _ c.self.invariant c.self.view_is c.self.told c.self.told2 c.self.told3 c.self.told4
 
 pub bounds-self-inside-node : goal.bounds-self-inside-node
-bounds-self-inside-node g c = calls.index_within _ _ _ _ _ _ _ c.self.invariant c.self.view_is c.self.told c.self.told2 c.self.told3 c.self.told4 c.args.list c.loop-step._step c.in_ok-node.node (sym c.loop-step.invariant ∙ c.in_ok-node.was)
+bounds-self-inside-node g c = calls.index_within _ _ _ _ _ _ _ c.self.invariant c.self.view_is c.self.told c.self.told2 c.self.told3 c.self.told4 c.args.list
+    c.loop-step._step c.in_ok-node.node (sym c.loop-step.invariant ∙ c.in_ok-node.was)
 
 pub offset_bounds-self-inside-node : goal.offset_bounds-self-inside-node
 offset_bounds-self-inside-node g c =
-    let lt = calls.index_within _ _ _ _ _ _ _ c.self.invariant c.self.view_is c.self.told c.self.told2 c.self.told3 c.self.told4 c.args.list c.loop-step._step c.in_ok-node.node (sym c.loop-step.invariant ∙ c.in_ok-node.was) in
+    let lt = calls.index_within _ _ _ _ _ _ _ c.self.invariant c.self.view_is c.self.told c.self.told2 c.self.told3 c.self.told4 c.args.list c.loop-step._step
+    c.in_ok-node.node (sym c.loop-step.invariant ∙ c.in_ok-node.was) in
     search rules
 
 pub loop-step-preserved : goal.loop-step-preserved
 loop-step-preserved g c =
-    calls.next_index _ _ _ _ _ _ _ c.self.invariant c.self.view_is c.self.told c.self.told2 c.self.told3 c.self.told4 c.args.list c.loop-step._step c.in_ok-node.node c.requires (sym c.loop-step.invariant ∙ c.in_ok-node.was)
+    calls.next_index _ _ _ _ _ _ _ c.self.invariant c.self.view_is c.self.told c.self.told2 c.self.told3 c.self.told4 c.args.list c.loop-step._step
+    c.in_ok-node.node c.requires (sym c.loop-step.invariant ∙ c.in_ok-node.was)
 
 pub returns-clause-exact : goal.returns-clause-exact
 returns-clause-exact g c =

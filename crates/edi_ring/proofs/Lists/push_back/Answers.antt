@@ -5,31 +5,37 @@ use Rattle.edi_ring.proofs.Lists.push_back.Goals as goal
 pub redirect-requires : goal.redirect-requires
 redirect-requires g c = (
   search rules,
-  calls.last_within _ _ _ _ _ _ _ c.self.invariant c.self.view_is c.self.told c.self.told2 c.self.told3 c.self.told4 _ _ c.requires.list_in_range c.requires.node_in_range c.requires.free,
+  calls.last_within _ _ _ _ _ _ _ c.self.invariant c.self.view_is c.self.told c.self.told2 c.self.told3 c.self.told4 _ _ c.requires.list_in_range
+      c.requires.node_in_range c.requires.free,
 )
 
 pub overflow_add-ends : goal.overflow_add-ends
 overflow_add-ends g c =
     let room =
-    calls.room _ _ _ _ _ _ _ c.self.invariant c.self.view_is c.self.told c.self.told2 c.self.told3 c.self.told4 _ _ c.requires.list_in_range c.requires.node_in_range c.requires.free in
+    calls.room _ _ _ _ _ _ _ c.self.invariant c.self.view_is c.self.told c.self.told2 c.self.told3 c.self.told4 _ _ c.requires.list_in_range
+    c.requires.node_in_range c.requires.free in
     omega (arith, g.N.fits)
 
 pub invariant_of-self : goal.invariant_of-self
 invariant_of-self g c =
     rw (c.redirect.ensures.links, c.redirect.ensures.end)
-    (calls.push_leaves _ _ _ _ _ _ _ c.self.invariant c.self.view_is c.self.told c.self.told2 c.self.told3 c.self.told4 _ _ c.requires.list_in_range c.requires.node_in_range c.requires.free).still_linked
+    (calls.push_leaves _ _ _ _ _ _ _ c.self.invariant c.self.view_is c.self.told c.self.told2 c.self.told3 c.self.told4 _ _ c.requires.list_in_range
+    c.requires.node_in_range c.requires.free).still_linked
 
 pub returns-clause-exact : goal.returns-clause-exact
 returns-clause-exact g c =
     rw (c.redirect.ensures.links, c.redirect.ensures.end)
-    (calls.push_leaves _ _ _ _ _ _ _ c.self.invariant c.self.view_is c.self.told c.self.told2 c.self.told3 c.self.told4 _ _ c.requires.list_in_range c.requires.node_in_range c.requires.free).exact
+    (calls.push_leaves _ _ _ _ _ _ _ c.self.invariant c.self.view_is c.self.told c.self.told2 c.self.told3 c.self.told4 _ _ c.requires.list_in_range
+    c.requires.node_in_range c.requires.free).exact
 
 pub returns-clause-homes : goal.returns-clause-homes
 returns-clause-homes g c =
     rw (c.redirect.ensures.links, c.redirect.ensures.end)
-    (calls.push_leaves _ _ _ _ _ _ _ c.self.invariant c.self.view_is c.self.told c.self.told2 c.self.told3 c.self.told4 _ _ c.requires.list_in_range c.requires.node_in_range c.requires.free).homes_are
+    (calls.push_leaves _ _ _ _ _ _ _ c.self.invariant c.self.view_is c.self.told c.self.told2 c.self.told3 c.self.told4 _ _ c.requires.list_in_range
+    c.requires.node_in_range c.requires.free).homes_are
 
 pub returns-clause-sound : goal.returns-clause-sound
 returns-clause-sound g c =
     rw (c.redirect.ensures.links, c.redirect.ensures.end)
-    (calls.push_leaves _ _ _ _ _ _ _ c.self.invariant c.self.view_is c.self.told c.self.told2 c.self.told3 c.self.told4 _ _ c.requires.list_in_range c.requires.node_in_range c.requires.free).sound
+    (calls.push_leaves _ _ _ _ _ _ _ c.self.invariant c.self.view_is c.self.told c.self.told2 c.self.told3 c.self.told4 _ _ c.requires.list_in_range
+    c.requires.node_in_range c.requires.free).sound

@@ -10,17 +10,20 @@ pub push_back-requires : goal.push_back-requires
 push_back-requires g c = (
   search rules,
   (
-    calls.is_list _ _ _ _ _ _ _ c.self.invariant c.self.view_is c.self.told c.self.told2 c.self.told3 c.self.told4 _ c.requires.node_in_range c.requires.listed _ c.unwrap-list.ensures,
+    calls.is_list _ _ _ _ _ _ _ c.self.invariant c.self.view_is c.self.told c.self.told2 c.self.told3 c.self.told4 _ c.requires.node_in_range
+        c.requires.listed _ c.unwrap-list.ensures,
     (c.requires.node_in_range, calls.gone _ _ _ c.take.ensures.homes),
   ),
 )
 
 pub returns-clause-exact : goal.returns-clause-exact
 returns-clause-exact g c =
-    let was = calls.home_is _ _ _ _ _ _ _ c.self.invariant c.self.view_is c.self.told c.self.told2 c.self.told3 c.self.told4 c.args.node ∙ c.unwrap-list.ensures in
+    let was = calls.home_is _ _ _ _ _ _ _ c.self.invariant c.self.view_is c.self.told c.self.told2 c.self.told3 c.self.told4 c.args.node
+    ∙ c.unwrap-list.ensures in
     rw (was, ← c.take.ensures.exact) c.push_back.ensures.exact
 
 pub returns-clause-homes : goal.returns-clause-homes
 returns-clause-homes g c =
-    let was = calls.home_is _ _ _ _ _ _ _ c.self.invariant c.self.view_is c.self.told c.self.told2 c.self.told3 c.self.told4 c.args.node ∙ c.unwrap-list.ensures in
+    let was = calls.home_is _ _ _ _ _ _ _ c.self.invariant c.self.view_is c.self.told c.self.told2 c.self.told3 c.self.told4 c.args.node
+    ∙ c.unwrap-list.ensures in
     calls.homes_again _ _ _ _ _ was c.take.ensures.homes c.push_back.ensures.homes

@@ -14,5 +14,6 @@ returns-in_ok-found c =
       exact =
           ap (λ bs. gives (record (environment c.args.known.now) { blocks = bs }))
           (sym (block_changed blocks.items c.args.block c.in-Some.found.now _ (with_statements (acts_of c.args.acts)) lt c.in-Some.ensures.value
-          (ap (λ s. record (block_of c.in-Some.found.now) { body = s }) (c.in_ok-found.ensures.ok ∙ ap (λ s. acts_append (acts_of s) (acts_of c.args.acts)) c.replace-body.ensures.value))));
+          (ap (λ s. record (block_of c.in-Some.found.now) { body = s })
+          (c.in_ok-found.ensures.ok ∙ ap (λ s. acts_append (acts_of s) (acts_of c.args.acts)) c.replace-body.ensures.value))));
     }

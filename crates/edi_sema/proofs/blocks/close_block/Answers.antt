@@ -17,5 +17,7 @@ returns c =
     record {
       exact =
           ap (with_need n line) (given (add_statements n (acts_of c.args.acts) (environment c.args.known.now)) mid c.in_ok-add_statements.ensures.exact)
-          ∙ (need_stated n line c.need-words.result mid (c.need-words.ensures.exact ∙ ap (λ bs. limited (need mid.types (map block_of bs) n)) c.as_slice.ensures.value) c.in_ok-must.ensures.exact ∙ ap gives (sym c.set_need.ensures.exact));
+          ∙ (need_stated n line c.need-words.result mid
+          (c.need-words.ensures.exact ∙ ap (λ bs. limited (need mid.types (map block_of bs) n)) c.as_slice.ensures.value) c.in_ok-must.ensures.exact
+          ∙ ap gives (sym c.set_need.ensures.exact));
     }

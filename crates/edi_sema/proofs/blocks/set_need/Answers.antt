@@ -10,5 +10,6 @@ returns-in-Some c =
     record {
       exact =
           ap (λ bs. record (environment c.args.known.now) { blocks = bs })
-          (block_changed blocks.items c.args.block c.in-Some.found.now (record c.in-Some.found.now { need = c.args.words }) (λ b. record b { need = c.args.words }) lt c.in-Some.ensures.value refl);
+          (block_changed blocks.items c.args.block c.in-Some.found.now (record c.in-Some.found.now { need = c.args.words })
+          (λ b. record b { need = c.args.words }) lt c.in-Some.ensures.value refl);
     }

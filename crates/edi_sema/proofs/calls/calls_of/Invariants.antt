@@ -10,6 +10,7 @@ use Rattle.edi_sema.proofs.calls.calls_of.Given as goal
 abbrev pub invariant-loop-param : goal.invariant-loop-param
 invariant-loop-param l = record {
   left :
-      behind_numbers (list_items l.calls) (calls_of_more l.known.types (more_params (map param_of (drop l.param-index l.params))) (formals (map formal_of l.formals)))
+      behind_numbers (list_items l.calls) (calls_of_more l.known.types (more_params (map param_of (drop l.param-index l.params)))
+      (formals (map formal_of l.formals)))
       ≡ calls_of_more l.known.types (more_params (map param_of l.params)) (formals (map formal_of l.initial.formals));
 }

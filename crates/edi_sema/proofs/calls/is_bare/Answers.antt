@@ -11,5 +11,6 @@ returns-then-not-is_procedure c =
 pub returns : goal.returns
 returns c =
     record {
-      exact = c.is_empty.ensures ∙ sym (bare_stated (asked_of c.args.asked.now) c.formals_of.result.now c.formals_of.ensures.exact (sym c.is_procedure.ensures.exact ∙ c.if-not-is_procedure.false));
+      exact = c.is_empty.ensures ∙ sym (bare_stated (asked_of c.args.asked.now) c.formals_of.result.now c.formals_of.ensures.exact
+          (sym c.is_procedure.ensures.exact ∙ c.if-not-is_procedure.false));
     }

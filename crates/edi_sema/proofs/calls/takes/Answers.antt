@@ -7,11 +7,17 @@ use Rattle.edi_sema.proofs.calls.takes.Goals as goal
 
 pub returns-then-formals-ne1 : goal.returns-then-formals-ne1
 returns-then-formals-ne1 c =
-    record { exact = sym (not_one (asked_of c.args.asked.now) c.formals_of-formals.result.now (value c.args.of) c.formals_of-formals.ensures.exact c.if-formals-ne1.true) }
+    record {
+      exact = sym (not_one (asked_of c.args.asked.now) c.formals_of-formals.result.now (value c.args.of) c.formals_of-formals.ensures.exact
+          c.if-formals-ne1.true);
+    }
 
 pub returns-then-not-is_procedure : goal.returns-then-not-is_procedure
 returns-then-not-is_procedure c =
-    record { exact = sym (with_result (asked_of c.args.asked.now) (heading (value_then c.args.of no_formal) None) (sym c.is_procedure.ensures.exact ∙ c.if-not-is_procedure.true)) }
+    record {
+      exact = sym (with_result (asked_of c.args.asked.now) (heading (value_then c.args.of no_formal) None)
+          (sym c.is_procedure.ensures.exact ∙ c.if-not-is_procedure.true));
+    }
 
 pub returns : goal.returns
 returns c =
@@ -21,5 +27,6 @@ returns c =
       exact =
           c.is_value.ensures.exact
           ∙ sym (with_no_result (same_one (formal_of x) (value c.args.of)) h (sym c.is_procedure.ensures.exact ∙ c.if-not-is_procedure.false))
-          ∙ sym (one_stated h c.formals_of-formals.result.now x (value c.args.of) c.formals_of-formals.ensures.exact c.if-formals-ne1.false c.index-formals-0.is);
+          ∙ sym (one_stated h c.formals_of-formals.result.now x (value c.args.of) c.formals_of-formals.ensures.exact c.if-formals-ne1.false
+          c.index-formals-0.is);
     }

@@ -38,14 +38,16 @@ procedure_rest-returns-in_err-declare-clause-exact t c =
     let now = environment c.loop-declaration.known in
     let opened = environment c.open_block.new.known in
     let at : enter_block block env ≡ opened = given (enter_block block env) opened c.in_ok-begun.ensures.exact in
-    let begin : spec.declarations (declarations (map declaration_of (items_of p.declarations))) (enter_block block env) ≡ spec.declarations (declarations (map declaration_of (drop i items))) now =
+    let begin : spec.declarations (declarations (map declaration_of (items_of p.declarations))) (enter_block block env) ≡ spec.declarations
+    (declarations (map declaration_of (drop i items))) now =
     ap (λ xs. spec.declarations (declarations (map declaration_of xs)) (enter_block block env)) (sym c.items-declaration-items.ensures.exact)
     ∙ (ap (spec.declarations (declarations (map declaration_of items))) at ∙ sym c.loop-declaration.invariant.left) in
     let q = err_from_is_err_and c.from_residual-in_err-declare.result c.from_residual-in_err-declare.ensures.1 in
     rw (q.1, q.2) (part_faults c.in_err-declare.field-0.0 _ _ c.in_err-declare.ensures.exact (λ why line e.
     ap (λ p. whole_procedure block p env) (procedure_seen c.args.procedure.now)
     ∙ rest_faults block (heading_of p.heading) ds (list_of p.list) p.end env why line
-    (begin ∙ (ap (λ xs. spec.declarations (declarations (map declaration_of xs)) now) (drop_item items i c.declaration-item.result c.loop-declaration-test.true c.declaration-item.is)
+    (begin ∙ (ap (λ xs. spec.declarations (declarations (map declaration_of xs)) now)
+    (drop_item items i c.declaration-item.result c.loop-declaration-test.true c.declaration-item.is)
     ∙ ap (λ m. m >>= spec.declarations (declarations (map declaration_of (drop (i + 1) items)))) e))))
 
 pub procedure_rest-returns-in_err-finish_block-clause-exact : goal.procedure_rest-returns-in_err-finish_block-clause-exact
@@ -59,7 +61,8 @@ procedure_rest-returns-in_err-finish_block-clause-exact t c =
     let now = environment c.loop-declaration.known in
     let opened = environment c.open_block.new.known in
     let at : enter_block block env ≡ opened = given (enter_block block env) opened c.in_ok-begun.ensures.exact in
-    let begin : spec.declarations (declarations (map declaration_of (items_of p.declarations))) (enter_block block env) ≡ spec.declarations (declarations (map declaration_of (drop i items))) now =
+    let begin : spec.declarations (declarations (map declaration_of (items_of p.declarations))) (enter_block block env) ≡ spec.declarations
+    (declarations (map declaration_of (drop i items))) now =
     ap (λ xs. spec.declarations (declarations (map declaration_of xs)) (enter_block block env)) (sym c.items-declaration-items.ensures.exact)
     ∙ (ap (spec.declarations (declarations (map declaration_of items))) at ∙ sym c.loop-declaration.invariant.left) in
     let stated : spec.declarations (declarations (map declaration_of (items_of p.declarations))) (enter_block block env) ≡ gives now =
@@ -85,7 +88,8 @@ procedure_rest-returns-clause-exact t c =
     let now = environment c.loop-declaration.known in
     let opened = environment c.open_block.new.known in
     let at : enter_block block env ≡ opened = given (enter_block block env) opened c.in_ok-begun.ensures.exact in
-    let begin : spec.declarations (declarations (map declaration_of (items_of p.declarations))) (enter_block block env) ≡ spec.declarations (declarations (map declaration_of (drop i items))) now =
+    let begin : spec.declarations (declarations (map declaration_of (items_of p.declarations))) (enter_block block env) ≡ spec.declarations
+    (declarations (map declaration_of (drop i items))) now =
     ap (λ xs. spec.declarations (declarations (map declaration_of xs)) (enter_block block env)) (sym c.items-declaration-items.ensures.exact)
     ∙ (ap (spec.declarations (declarations (map declaration_of items))) at ∙ sym c.loop-declaration.invariant.left) in
     let stated : spec.declarations (declarations (map declaration_of (items_of p.declarations))) (enter_block block env) ≡ gives now =
@@ -96,7 +100,8 @@ procedure_rest-returns-clause-exact t c =
     let closed : environment c.close_scope.new.known ≡ leave (with_begun begun (outside_block after)) =
     c.close_scope.ensures.exact ∙ ap (λ e. leave (with_begun begun e)) c.leave_around.ensures.exact in
     ap (λ p. whole_procedure block p env) (procedure_seen c.args.procedure.now)
-    ∙ (rest_stated block (heading_of p.heading) ds (list_of p.list) p.end env now after begun c.in_ok-begun.ensures.begun body c.in_ok-finish_block.ensures.comes stated c.in_ok-finish_block.ensures.exact
+    ∙ (rest_stated block (heading_of p.heading) ds (list_of p.list) p.end env now after begun c.in_ok-begun.ensures.begun body
+    c.in_ok-finish_block.ensures.comes stated c.in_ok-finish_block.ensures.exact
     ∙ ap gives (sym closed))
 
 pub procedure_rest-returns-clause-leaves : goal.procedure_rest-returns-clause-leaves
@@ -110,7 +115,8 @@ procedure_rest-returns-clause-leaves t c =
     let now = environment c.loop-declaration.known in
     let opened = environment c.open_block.new.known in
     let at : enter_block block env ≡ opened = given (enter_block block env) opened c.in_ok-begun.ensures.exact in
-    let begin : spec.declarations (declarations (map declaration_of (items_of p.declarations))) (enter_block block env) ≡ spec.declarations (declarations (map declaration_of (drop i items))) now =
+    let begin : spec.declarations (declarations (map declaration_of (items_of p.declarations))) (enter_block block env) ≡ spec.declarations
+    (declarations (map declaration_of (drop i items))) now =
     ap (λ xs. spec.declarations (declarations (map declaration_of xs)) (enter_block block env)) (sym c.items-declaration-items.ensures.exact)
     ∙ (ap (spec.declarations (declarations (map declaration_of items))) at ∙ sym c.loop-declaration.invariant.left) in
     let after = environment c.finish_block.new.known in
@@ -119,12 +125,15 @@ procedure_rest-returns-clause-leaves t c =
     let closed : environment c.close_scope.new.known ≡ leave (with_begun begun (outside_block after)) =
     c.close_scope.ensures.exact ∙ ap (λ e. leave (with_begun begun e)) c.leave_around.ensures.exact in
     subst (Leaves env) (sym closed)
-    (rest_leaves block env now after begun c.in_ok-begun.ensures.begun body c.in_ok-finish_block.ensures.comes (subst Proper closed c.close_scope.ensures.proper))
+    (rest_leaves block env now after begun c.in_ok-begun.ensures.begun body c.in_ok-finish_block.ensures.comes
+    (subst Proper closed c.close_scope.ensures.proper))
 
 pub item-returns-in_ok-procedure_rest-in-Post-clause-comes : goal.item-returns-in_ok-procedure_rest-in-Post-clause-comes
 item-returns-in_ok-procedure_rest-in-Post-clause-comes t c =
     let env = environment c.args.known.now in
     let after = environment c.procedure_rest-in-Post.new.known in
     let h : Comes env after =
-    procedure_comes env (environment c.begin_post.new.known) after c.requires.stands c.in_ok-block-in-Post.ensures.begins c.in_ok-procedure_rest-in-Post.ensures.leaves in
-    subst (Comes env) (sym c.completed.ensures.exact) (completed_comes env after _ h (All-filter _ (λ b. b.block < length after.headings) after.begun h.stands.begun_fit))
+    procedure_comes env (environment c.begin_post.new.known) after c.requires.stands c.in_ok-block-in-Post.ensures.begins
+    c.in_ok-procedure_rest-in-Post.ensures.leaves in
+    subst (Comes env) (sym c.completed.ensures.exact)
+    (completed_comes env after _ h (All-filter _ (λ b. b.block < length after.headings) after.begun h.stands.begun_fit))

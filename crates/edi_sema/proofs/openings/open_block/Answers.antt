@@ -10,5 +10,6 @@ use Rattle.edi_sema.proofs.openings.open_block.Goals as goal
 pub returns-clause-stands : goal.returns-clause-stands
 returns-clause-stands c =
     let env = environment c.args.known.now in
-    subst EnvironmentStands (sym (c.take_begun.ensures.exact ∙ ap (with_begun []) (sym (given (inside_block c.args.block env) (environment c.enter_around.new.known) c.in_ok-enter_around.ensures.exact))))
+    subst EnvironmentStands (sym (c.take_begun.ensures.exact
+    ∙ ap (with_begun []) (sym (given (inside_block c.args.block env) (environment c.enter_around.new.known) c.in_ok-enter_around.ensures.exact))))
     (open_stands c.args.block env c.requires.stands)

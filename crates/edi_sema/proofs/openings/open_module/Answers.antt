@@ -10,5 +10,6 @@ use Rattle.edi_sema.proofs.openings.open_module.Goals as goal
 pub returns-clause-stands : goal.returns-clause-stands
 returns-clause-stands c =
     let env = environment c.args.known.now in
-    subst EnvironmentStands (sym (c.take_begun.ensures.exact ∙ ap (with_begun []) (sym (given (enter true env) (environment c.enter.new.self) c.in_ok-enter.ensures.exact))))
+    subst EnvironmentStands (sym (c.take_begun.ensures.exact
+    ∙ ap (with_begun []) (sym (given (enter true env) (environment c.enter.new.self) c.in_ok-enter.ensures.exact))))
     (module_stands env c.requires.stands)

@@ -18,11 +18,13 @@ complete-requires-clause-fits c =
     let env = environment c.args.known.now in
     let name = (out-Heading c.args.heading.now).name in
     let found : c.begun_named-found.result ≡ block_named env.begun name.text =
-    c.begun_named-found.ensures.exact ∙ (ap (λ bs. block_named (map begun_of bs) c.as_slice-2.result.now) c.as_slice.ensures.value ∙ ap (block_named env.begun) c.as_slice-2.ensures.all) in
+    c.begun_named-found.ensures.exact ∙ (ap (λ bs. block_named (map begun_of bs) c.as_slice-2.result.now) c.as_slice.ensures.value
+    ∙ ap (block_named env.begun) c.as_slice-2.ensures.all) in
     let n : c.in_ok-block.block ≡ unwrap_or c.begun_named-found.result (length env.blocks) =
     sym (given (unwrap_or c.begun_named-found.result (length env.blocks)) c.in_ok-block.block c.in_ok-block.ensures.exact) in
     let headed : Headed = record { env = environment c.heading_parts.new.known; asks = asked_of c.in_ok-asked.asked } in
-    post_fits env (environment c.heading_parts.new.known).headings c.begun_named-found.result name.text c.in_ok-block.block (length env.blocks) c.requires.stands.begun_fit
+    post_fits env (environment c.heading_parts.new.known).headings c.begun_named-found.result name.text c.in_ok-block.block (length env.blocks)
+    c.requires.stands.begun_fit
     (headings_kept c.in_ok-block.block (heading_of c.args.heading.now) env headed c.in_ok-asked.ensures.exact) found n
 
 pub returns-clause-exact : goal.returns-clause-exact
@@ -30,7 +32,8 @@ returns-clause-exact c =
     let env = environment c.args.known.now in
     let name = (out-Heading c.args.heading.now).name in
     let found : c.begun_named-found.result ≡ block_named env.begun name.text =
-    c.begun_named-found.ensures.exact ∙ (ap (λ bs. block_named (map begun_of bs) c.as_slice-2.result.now) c.as_slice.ensures.value ∙ ap (block_named env.begun) c.as_slice-2.ensures.all) in
+    c.begun_named-found.ensures.exact ∙ (ap (λ bs. block_named (map begun_of bs) c.as_slice-2.result.now) c.as_slice.ensures.value
+    ∙ ap (block_named env.begun) c.as_slice-2.ensures.all) in
     let n : c.in_ok-block.block ≡ unwrap_or c.begun_named-found.result (length env.blocks) =
     sym (given (unwrap_or c.begun_named-found.result (length env.blocks)) c.in_ok-block.block c.in_ok-block.ensures.exact) in
     let headed : Headed = record { env = environment c.heading_parts.new.known; asks = asked_of c.in_ok-asked.asked } in
@@ -44,19 +47,22 @@ returns-clause-number c =
     let env = environment c.args.known.now in
     let name = (out-Heading c.args.heading.now).name in
     let found : c.begun_named-found.result ≡ block_named env.begun name.text =
-    c.begun_named-found.ensures.exact ∙ (ap (λ bs. block_named (map begun_of bs) c.as_slice-2.result.now) c.as_slice.ensures.value ∙ ap (block_named env.begun) c.as_slice-2.ensures.all) in
+    c.begun_named-found.ensures.exact ∙ (ap (λ bs. block_named (map begun_of bs) c.as_slice-2.result.now) c.as_slice.ensures.value
+    ∙ ap (block_named env.begun) c.as_slice-2.ensures.all) in
     let n : c.in_ok-block.block ≡ unwrap_or c.begun_named-found.result (length env.blocks) =
     sym (given (unwrap_or c.begun_named-found.result (length env.blocks)) c.in_ok-block.block c.in_ok-block.ensures.exact) in
     let headed : Headed = record { env = environment c.heading_parts.new.known; asks = asked_of c.in_ok-asked.asked } in
     IfOk-weaker c.complete.result (λ b. b ≡ c.in_ok-block.block) (λ b. b ≡ post_block (heading_of c.args.heading.now) env)
-    (λ b e. e ∙ post_number (heading_of c.args.heading.now) name env c.begun_named-found.result c.in_ok-block.block (sym (name_seen c.args.heading.now)) found n) c.complete.ensures.number
+    (λ b e. e ∙ post_number (heading_of c.args.heading.now) name env c.begun_named-found.result c.in_ok-block.block (sym (name_seen c.args.heading.now)) found
+    n) c.complete.ensures.number
 
 pub returns-clause-begins : goal.returns-clause-begins
 returns-clause-begins c =
     let env = environment c.args.known.now in
     let name = (out-Heading c.args.heading.now).name in
     let found : c.begun_named-found.result ≡ block_named env.begun name.text =
-    c.begun_named-found.ensures.exact ∙ (ap (λ bs. block_named (map begun_of bs) c.as_slice-2.result.now) c.as_slice.ensures.value ∙ ap (block_named env.begun) c.as_slice-2.ensures.all) in
+    c.begun_named-found.ensures.exact ∙ (ap (λ bs. block_named (map begun_of bs) c.as_slice-2.result.now) c.as_slice.ensures.value
+    ∙ ap (block_named env.begun) c.as_slice-2.ensures.all) in
     let n : c.in_ok-block.block ≡ unwrap_or c.begun_named-found.result (length env.blocks) =
     sym (given (unwrap_or c.begun_named-found.result (length env.blocks)) c.in_ok-block.block c.in_ok-block.ensures.exact) in
     let headed : Headed = record { env = environment c.heading_parts.new.known; asks = asked_of c.in_ok-asked.asked } in

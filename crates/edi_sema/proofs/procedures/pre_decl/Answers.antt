@@ -27,8 +27,10 @@ returns-clause-comes c =
     let env = environment c.args.known.now in
     let inside = environment c.begin_procedure.new.known in
     let b : Begun = record { name = c.in_ok-name.name; block = c.in_ok-block.block } in
-    answered (Comes env) (environment c.begin_split.new.known) c.begin_split.result (gives (with_begun ((environment c.leave.new.self).begun ++ b ∷ []) (environment c.leave.new.self)))
+    answered (Comes env) (environment c.begin_split.new.known) c.begin_split.result
+    (gives (with_begun ((environment c.leave.new.self).begun ++ b ∷ []) (environment c.leave.new.self)))
     c.begin_split.ensures.exact
     (subst (λ e. Comes env (with_begun (e.begun ++ b ∷ []) e)) (sym c.leave.ensures.exact)
     (pre_comes env inside b c.requires.stands c.in_ok-block.ensures.begins (subst Proper c.leave.ensures.exact c.leave.ensures.proper)
-    (begun_block c.args.marked (heading_of c.args.heading.now) env inside c.in_ok-block.block c.in_ok-block.ensures.exact c.requires.stands.proper c.in_ok-block.ensures.number)))
+    (begun_block c.args.marked (heading_of c.args.heading.now) env inside c.in_ok-block.block c.in_ok-block.ensures.exact c.requires.stands.proper
+    c.in_ok-block.ensures.number)))

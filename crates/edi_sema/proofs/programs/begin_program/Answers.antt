@@ -14,5 +14,6 @@ returns-clause-begins c =
     let after = environment c.begin_block_of.new.known in
     let headed : Headed = record { env = environment c.heading_parts.new.known; asks = asked_of c.in_ok-asked.asked } in
     on_ok c.program_heading.result (begins env after
-    (program_inner false (out-Heading c.args.heading.now).name 0 0 (heading_of c.args.heading.now) env after block_kind.Program headed c.in_ok-asked.ensures.exact c.in_ok-begin_block_of.ensures.exact)
+    (program_inner false (out-Heading c.args.heading.now).name 0 0 (heading_of c.args.heading.now) env after block_kind.Program headed
+    c.in_ok-asked.ensures.exact c.in_ok-begin_block_of.ensures.exact)
     c.in_ok-begin_block_of.ensures.proper)

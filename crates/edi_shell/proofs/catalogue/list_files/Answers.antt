@@ -17,7 +17,8 @@ returns-in_err-list_slot-clause-exact g c = λ s a t.
     let wide = c.free-free.ensures.slots s a first in
     let p = err_from_is_err_and c.from_residual.result c.from_residual.ensures.1 in
     rw p.1
-    (stands_later g.C.ShellCalls.stands (shown_by (first_lines (c.loop-i.i + 1) (state_in s).slots) s) (shown_by (catalogue_text (state_in s)) s) c.list_slot.new.calls (part_on (c.loop-i.i + 1) s)
+    (stands_later g.C.ShellCalls.stands (shown_by (first_lines (c.loop-i.i + 1) (state_in s).slots) s) (shown_by (catalogue_text (state_in s)) s)
+    c.list_slot.new.calls (part_on (c.loop-i.i + 1) s)
     (subst (λ u. StandsIn g.C.ShellCalls.stands u c.list_slot.new.calls) (behind_slot c.loop-i.i s (omega (arith, low, wide)))
     (c.in_err-list_slot.ensures.exact (shown_by (first_lines c.loop-i.i (state_in s).slots) s) (c.loop-i.invariant.exact s a before) t)))
 
@@ -42,5 +43,6 @@ returns-clause-exact g c = λ s a t.
     let first = law.lasts_told _ _ c.loop-i.invariant.lasts before in
     let end : c.loop-i.i ≡ 256 = search rules in
     subst (λ u. Leads g.C.ShellCalls.at g.C.ShellCalls.stands c.say.result u c.say.new.calls)
-    (behind_all c.loop-i.i c.free-free.result c.free_line.result.items s (c.free-free.ensures.slots s a first ∙ sym end) (c.free-free.ensures.exact s a first) c.free_line.ensures.exact)
+    (behind_all c.loop-i.i c.free-free.result c.free_line.result.items s (c.free-free.ensures.slots s a first ∙ sym end) (c.free-free.ensures.exact s a first)
+    c.free_line.ensures.exact)
     (c.say.ensures.exact (shown_by (first_lines c.loop-i.i (state_in s).slots) s) (c.loop-i.invariant.exact s a before) t)

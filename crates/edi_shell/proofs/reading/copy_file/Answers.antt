@@ -17,5 +17,6 @@ returns-in_err-kind-clause-exact g c = λ s a t.
     rw p.1
     (any_reading_broke g.C.ShellCalls.at g.C.ShellCalls.stands c.args.f.now c.read_file.new.room (copies_to to) (file_in s c.args.f.now) s c.read_file.new.calls
     c.in_err-kind.field-0.0
-    (λ file. answered_on (no_room to (length file.bytes) (free (state_in s)) (state_in s).slots) to to (slots_stored to file.kind file.bytes (state_in s).slots) s)
+    (λ file. answered_on (no_room to (length file.bytes) (free (state_in s)) (state_in s).slots) to to
+    (slots_stored to file.kind file.bytes (state_in s).slots) s)
     (c.in_err-kind.ensures.exact s a t))

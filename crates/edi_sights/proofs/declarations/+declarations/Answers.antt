@@ -39,7 +39,8 @@ procedure_met-returns-clause-exact t c =
     let now = environment c.loop-declaration.known in
     let opened = environment c.open_block.new.known in
     let at : enter_block block env ≡ opened = given (enter_block block env) opened c.in_ok-begun.ensures.exact in
-    let begin : rule.declarations (declarations (map declaration_of (items_of p.declarations))) (enter_block block env) ≡ rule.declarations (declarations (map declaration_of (drop i items))) now =
+    let begin : rule.declarations (declarations (map declaration_of (items_of p.declarations))) (enter_block block env) ≡ rule.declarations
+    (declarations (map declaration_of (drop i items))) now =
     ap (λ xs. rule.declarations (declarations (map declaration_of xs)) (enter_block block env)) (sym c.items-declaration-items.ensures.exact)
     ∙ (ap (rule.declarations (declarations (map declaration_of items))) at ∙ sym c.loop-declaration.invariant.left) in
     let stated : rule.declarations (declarations (map declaration_of (items_of p.declarations))) (enter_block block env) ≡ gives now =
@@ -50,7 +51,8 @@ procedure_met-returns-clause-exact t c =
     let closed : environment c.close_scope.new.known ≡ leave (with_begun begun (outside_block after)) =
     c.close_scope.ensures.exact ∙ ap (λ e. leave (with_begun begun e)) c.leave_around.ensures.exact in
     ap (λ p. whole_procedure block p env) (procedure_seen c.args.procedure.now)
-    ∙ (rest_stated block (heading_of p.heading) ds (list_of p.list) p.end env now after begun c.in_ok-begun.ensures.begun body c.in_ok-finish_block_met.ensures.comes stated c.in_ok-finish_block_met.ensures.exact
+    ∙ (rest_stated block (heading_of p.heading) ds (list_of p.list) p.end env now after begun c.in_ok-begun.ensures.begun body
+    c.in_ok-finish_block_met.ensures.comes stated c.in_ok-finish_block_met.ensures.exact
     ∙ ap gives (sym closed))
 
 pub item_met-returns-in_ok-procedure_met-in-Post-clause-comes : goal.item_met-returns-in_ok-procedure_met-in-Post-clause-comes
@@ -58,8 +60,10 @@ item_met-returns-in_ok-procedure_met-in-Post-clause-comes t c =
     let env = environment c.args.known.now in
     let after = environment c.procedure_met-in-Post.new.known in
     let h : Comes env after =
-    procedure_comes env (environment c.begin_post.new.known) after c.requires.stands c.in_ok-block-in-Post.ensures.begins c.in_ok-procedure_met-in-Post.ensures.leaves in
-    subst (Comes env) (sym c.completed.ensures.exact) (completed_comes env after _ h (All-filter _ (λ b. b.block < length after.headings) after.begun h.stands.begun_fit))
+    procedure_comes env (environment c.begin_post.new.known) after c.requires.stands c.in_ok-block-in-Post.ensures.begins
+    c.in_ok-procedure_met-in-Post.ensures.leaves in
+    subst (Comes env) (sym c.completed.ensures.exact)
+    (completed_comes env after _ h (All-filter _ (λ b. b.block < length after.headings) after.begun h.stands.begun_fit))
 
 pub procedure_met-returns-clause-awaits : goal.procedure_met-returns-clause-awaits
 procedure_met-returns-clause-awaits t c =
@@ -80,7 +84,8 @@ procedure_met-returns-clause-awaits t c =
     ∙ (sym c.loop-declaration.invariant.left
     ∙ ap (λ xs. rule.declarations (declarations (map declaration_of xs)) now) (drop_of_length-le items c.loop-declaration-test.false))) in
     let met : c.loop-declaration.awaits.items ≡ spec.declarations_met name ds (enter_block block env) start =
-    ap (λ xs. spec.declarations_met name (declarations (map declaration_of xs)) now c.loop-declaration.awaits.items) (sym (drop_of_length-le items c.loop-declaration-test.false))
+    ap (λ xs. spec.declarations_met name (declarations (map declaration_of xs)) now c.loop-declaration.awaits.items)
+    (sym (drop_of_length-le items c.loop-declaration-test.false))
     ∙ (c.loop-declaration.invariant.met
     ∙ (ap (λ e. spec.declarations_met name (declarations (map declaration_of items)) e start) (sym at)
     ∙ ap (λ xs. spec.declarations_met name (declarations (map declaration_of xs)) (enter_block block env) start) c.items-declaration-items.ensures.exact)) in

@@ -9,5 +9,6 @@ pub returns-clause-awaits : goal.returns-clause-awaits
 returns-clause-awaits c =
     let env = environment c.args.known.now in
     let now = environment c.body_met.new.known in
-    finished_answer c.args.name.now c.args.block (list_of c.args.list.now) c.args.end env now (environment c.finish_block.new.known) c.args.awaits.now.items c.body_met.new.awaits.items
+    finished_answer c.args.name.now c.args.block (list_of c.args.list.now) c.args.end env now (environment c.finish_block.new.known) c.args.awaits.now.items
+    c.body_met.new.awaits.items
     c.finish_block.result c.finish_block.ensures.exact (sym (given env now c.in_ok-body_met.ensures.exact)) c.in_ok-body_met.ensures.awaits

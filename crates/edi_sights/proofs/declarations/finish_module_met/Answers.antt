@@ -10,5 +10,6 @@ pub returns-clause-awaits : goal.returns-clause-awaits
 returns-clause-awaits c =
     let env = environment c.args.known.now in
     let now = environment c.body_met.new.known in
-    module_answer c.args.name.now (here now) (list_of c.args.list.now) env now (environment c.finish_module.new.known) c.args.awaits.now.items c.body_met.new.awaits.items
+    module_answer c.args.name.now (here now) (list_of c.args.list.now) env now (environment c.finish_module.new.known) c.args.awaits.now.items
+    c.body_met.new.awaits.items
     c.finish_module.result c.finish_module.ensures.exact (sym (given env now c.in_ok-body_met.ensures.exact)) c.in_ok-body_met.ensures.awaits

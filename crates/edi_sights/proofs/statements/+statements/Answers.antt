@@ -24,7 +24,8 @@ list_met-returns-clause-exact t c =
     (ap (map statement_of) (drop_of_length-le items c.loop-one-test.false))
     ∙ (sym (statements_folded name (map statement_of items) env first)
     ∙ (ap (λ xs. spec.statements_counted name (tree.statements (map statement_of xs)) env first) c.items-one-items.ensures.exact
-    ∙ (ap (spec.statements_counted name (tree.statements (map statement_of (items_of l.more))) env) (c.in_ok-statement_met.ensures.exact ∙ ap (λ s. spec.statement_counted name (statement_of s) env (met_of c.args.met.now)) c.deref.ensures)
+    ∙ (ap (spec.statements_counted name (tree.statements (map statement_of (items_of l.more))) env)
+    (c.in_ok-statement_met.ensures.exact ∙ ap (λ s. spec.statement_counted name (statement_of s) env (met_of c.args.met.now)) c.deref.ensures)
     ∙ ap (λ l. spec.list_counted name l env (met_of c.args.met.now)) (sym (list_seen c.args.list.now)))))
 
 pub conditions_met-returns-clause-exact : goal.conditions_met-returns-clause-exact

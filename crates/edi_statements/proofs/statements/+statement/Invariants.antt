@@ -54,7 +54,8 @@ decreases-parse_else-loop-behind_else l = length l.rest
 
 abbrev pub invariant-parse_statements-loop-behind_semicolon : goal.invariant-parse_statements-loop-behind_semicolon
 invariant-parse_statements-loop-behind_semicolon l = record {
-  goes : Goes g.Statements l.fn.level (elements.statements_elements (view.statements (map view.statement_of l.statements.items))) (part g.Statements ∷ []) l.marks l.rest;
+  goes : Goes g.Statements l.fn.level (elements.statements_elements (view.statements (map view.statement_of l.statements.items))) (part g.Statements ∷ [])
+      l.marks l.rest;
   shorter : length l.rest ≤ length l.marks;
 }
 
@@ -63,7 +64,8 @@ decreases-parse_statements-loop-behind_semicolon l = length l.rest
 
 abbrev pub invariant-parse_cobegin-loop-behind_also : goal.invariant-parse_cobegin-loop-behind_also
 invariant-parse_cobegin-loop-behind_also l = record {
-  goes : Goes g.Statement l.fn.level (λ es. elements.kept is.Cobegin l.line ∷ elements.branch_elements (view.branch_of l.first).opened (also_branches (view.branch_of l.first).end (map view.branch_of l.branches.items) es)) (part g.Branches ∷ item.level_end ∷ []) l.marks l.rest;
+  goes : Goes g.Statement l.fn.level (λ es. elements.kept is.Cobegin l.line ∷ elements.branch_elements (view.branch_of l.first).opened
+      (also_branches (view.branch_of l.first).end (map view.branch_of l.branches.items) es)) (part g.Branches ∷ item.level_end ∷ []) l.marks l.rest;
   closed : last_end (view.branch_of l.first).end (map view.branch_of l.branches.items) ≡ front_line l.rest;
   shorter : length l.rest ≤ length l.marks;
 }

@@ -11,5 +11,6 @@ invariant-loop-declaration l = record {
   exporting : IsTrue l.marked → IsTrue (in_module l.known.scopes);
   proper : Proper (environment l.known);
   depth : length l.known.scopes ≡ length l.initial.known.scopes;
-  left : const_decls l.marked (listed (drop l.declaration-index l.declaration-items)) (environment l.known) ≡ const_decls l.marked (listed l.declaration-items) (environment l.initial.known);
+  left : const_decls l.marked (listed (drop l.declaration-index l.declaration-items)) (environment l.known) ≡ const_decls l.marked
+      (listed l.declaration-items) (environment l.initial.known);
 }

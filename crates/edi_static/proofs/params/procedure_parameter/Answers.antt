@@ -15,7 +15,8 @@ returns-clause-exact c =
     let kept : length (map asked_of c.args.known.now.shapes.items) ≡ c.len.result =
     length-map c.args.known.now.shapes.items asked_of ∙ omega (arith, c.len.ensures, c.args.known.now.shapes.ok.0)
     in
-    procedure_behind c.args.owner.block c.args.owner.before c.args.name.now fs _ (headed_of c.args.known.now c.args.asked) (environment c.leave.new.self) _ _ _ _
+    procedure_behind c.args.owner.block c.args.owner.before c.args.name.now fs _ (headed_of c.args.known.now c.args.asked) (environment c.leave.new.self) _ _
+    _ _
     c.in_ok-next_parameter.ensures.exact
     (ap gives kept ∙ c.in_ok-number.ensures.exact)
     c.leave.ensures.exact c.in_ok-keep_shape.ensures.exact c.in_ok-declare.ensures.exact

@@ -5,5 +5,6 @@ use Rattle.edi_static.proofs.parts.place_of_name.Given as goal
 abbrev pub invariant-loop-field : goal.invariant-loop-field
 invariant-loop-field l = record {
   at : l.place ≡ l.field-index;
-  left : option_map (λ n. l.place + n) (place_of_name (map (λ f. f.items) (drop l.field-index l.fields)) l.name) ≡ place_of_name (map (λ f. f.items) l.fields) l.name;
+  left : option_map (λ n. l.place + n) (place_of_name (map (λ f. f.items) (drop l.field-index l.fields)) l.name) ≡ place_of_name (map (λ f. f.items) l.fields)
+      l.name;
 }

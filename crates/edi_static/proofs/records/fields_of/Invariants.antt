@@ -8,5 +8,6 @@ use Rattle.edi_static.proofs.records.fields_of.Given as goal
 abbrev pub invariant-loop-group : goal.invariant-loop-group
 invariant-loop-group l = record {
   known : All (λ t. t < length l.known.types) (list_items l.fields.types);
-  left : fields_of_groups (environment l.known) (listed (map group_of (drop l.group-index l.group-items))) (fields_of l.fields) ≡ fields_of_groups (environment l.known) (listed (map group_of l.group-items)) (fields_of l.initial.fields);
+  left : fields_of_groups (environment l.known) (listed (map group_of (drop l.group-index l.group-items))) (fields_of l.fields) ≡ fields_of_groups
+      (environment l.known) (listed (map group_of l.group-items)) (fields_of l.initial.fields);
 }

@@ -14,5 +14,6 @@ invariant-loop-name l = record {
   depth : length l.known.scopes ≡ length l.initial.known.scopes;
   fits : (l.of < length l.known.types) × IsTrue (is_elementary l.known.types l.of);
   at : l.ordinal ≡ 1 + l.name-index;
-  left : enum_constants l.marked l.of l.ordinal (listed (drop l.name-index l.name-items)) (environment l.known) ≡ enum_constants l.marked l.of 1 (listed l.name-items) (environment l.initial.known);
+  left : enum_constants l.marked l.of l.ordinal (listed (drop l.name-index l.name-items)) (environment l.known) ≡ enum_constants l.marked l.of 1
+      (listed l.name-items) (environment l.initial.known);
 }

@@ -11,5 +11,6 @@ invariant-loop-group l = record {
   exporting : IsTrue l.marked → IsTrue (in_module l.known.scopes);
   proper : Proper (environment l.known);
   depth : length l.known.scopes ≡ length l.initial.known.scopes;
-  left : variables_of_groups l.marked (listed (map group_of (drop l.group-index l.group-items))) (environment l.known) ≡ variables_of_groups l.marked (listed (map group_of l.group-items)) (environment l.initial.known);
+  left : variables_of_groups l.marked (listed (map group_of (drop l.group-index l.group-items))) (environment l.known) ≡ variables_of_groups l.marked
+      (listed (map group_of l.group-items)) (environment l.initial.known);
 }

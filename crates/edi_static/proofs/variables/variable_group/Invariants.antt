@@ -12,5 +12,6 @@ invariant-loop-name l = record {
   proper : Proper (environment l.known);
   depth : length l.known.scopes ≡ length l.initial.known.scopes;
   fits : l.of < length l.known.types;
-  left : variables_named l.marked l.of (listed (drop l.name-index l.name-items)) (environment l.known) ≡ variables_named l.marked l.of (listed l.name-items) (environment l.initial.known);
+  left : variables_named l.marked l.of (listed (drop l.name-index l.name-items)) (environment l.known) ≡ variables_named l.marked l.of (listed l.name-items)
+      (environment l.initial.known);
 }

@@ -7,7 +7,8 @@ loop-mark-init c = record { waits = ([], refl, refl); few = omega arith }
 
 pub loop-mark-preserved : goal.loop-mark-preserved
 loop-mark-preserved c = record {
-  waits = waits_on c.loop-mark.count c.count_behind-count.result c.loop-mark.mark-index c.args.marks.now c.mark-item.result c.loop-mark-test.true c.mark-item.is c.loop-mark.invariant.waits c.count_behind-count.ensures.exact;
+  waits = waits_on c.loop-mark.count c.count_behind-count.result c.loop-mark.mark-index c.args.marks.now c.mark-item.result c.loop-mark-test.true
+      c.mark-item.is c.loop-mark.invariant.waits c.count_behind-count.ensures.exact;
   few = omega (arith, c.loop-mark.invariant.few, c.count_behind-count.ensures.small);
 }
 

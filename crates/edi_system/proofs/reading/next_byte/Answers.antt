@@ -12,7 +12,8 @@ returns-then-reading-clause-byte g c =
     told_same_blocks _ _ _
     (λ blocks told. (
       told,
-      sym (byte_none g.D.Drive.contents g.D.Drive.count c.args.catalog.now c.args.page.now c.args.reading.now blocks c.requires.mounted c.requires.reading c.if-reading.true told),
+      sym (byte_none g.D.Drive.contents g.D.Drive.count c.args.catalog.now c.args.page.now c.args.reading.now blocks c.requires.mounted c.requires.reading
+          c.if-reading.true told),
     ))
 
 pub returns-in-Ok-clause-byte : goal.returns-in-Ok-clause-byte
@@ -25,7 +26,8 @@ returns-in-Ok-clause-byte g c =
       told_back _ _ c.load.ensures.blocks blocks told,
       sym (ap (λ t. byte_in blocks t c.args.reading.now.position) (sym title)
           ∙ ap (byte_in blocks c.load.new.reading.title) (sym position)
-          ∙ byte_some g.D.Drive.contents g.D.Drive.count g.met.D.Drive.counted g.met.D.Drive.sized c.load.new.catalog c.load.new.page c.load.new.reading blocks c.in-Ok.ensures.mounted c.in-Ok.ensures.reading
+          ∙ byte_some g.D.Drive.contents g.D.Drive.count g.met.D.Drive.counted g.met.D.Drive.sized c.load.new.catalog c.load.new.page c.load.new.reading
+          blocks c.in-Ok.ensures.mounted c.in-Ok.ensures.reading
           (omega (arith, c.if-reading.false, position, length_)) c.in-Ok.ensures.loaded told),
     ))
 

@@ -7,4 +7,5 @@ use Rattle.edi_target.proofs.targets.targets_fault.Goals as goal
 pub returns-in-Cobegin : goal.returns-in-Cobegin
 returns-in-Cobegin c =
     let a = c.args in
-    rw c.in-Cobegin.is (c.branches_fault.ensures ∙ branches_begin a.words.now a.starts.now (starts_of a.words.now) a.at (branches_of c.in-Cobegin.branches.now) c.requires.marked)
+    rw c.in-Cobegin.is (c.branches_fault.ensures ∙ branches_begin a.words.now a.starts.now (starts_of a.words.now) a.at
+    (branches_of c.in-Cobegin.branches.now) c.requires.marked)

@@ -9,4 +9,5 @@ pub returns-in-Ok-clause-codes : goal.returns-in-Ok-clause-codes
 returns-in-Ok-clause-codes g c =
     let f = c.in-Ok.ensures.fetched in
     let o : Outside = files_only (still_told (g.F.Files.contents c.args.files.now) (g.F.Files.contents c.fetch.new.files)) in
-    file_coded (λ (v : Vec ℕ Global). v.items) o c.args.file.now c.deref.result.now f.0 c.code_text.result f.1 (c.deref.ensures.value ∙ f.2) c.code_text.ensures.codes
+    file_coded (λ (v : Vec ℕ Global). v.items) o c.args.file.now c.deref.result.now f.0 c.code_text.result f.1 (c.deref.ensures.value ∙ f.2)
+    c.code_text.ensures.codes

@@ -23,7 +23,8 @@ loop-rest-preserved c =
     c.push.ensures.items ∙ ap (λ b. if b then list ++ value ∷ [] else list) (c.is_err.ensures.negation ∙ ap not c.if-is_err.false) in
     let line : IsLine c.in-Some.digits.now value =
     choice_some c.in-Some.digits.now value (sym c.in-Some-choice_of.is ∙ c.choice_of.ensures) in
-    let stands = stands_more list _ _ c.in-Some.digits.now c.in-Some.after.now c.loop-rest.invariant.stands cut line.good (omega (arith, c.len-in-loop-rest.ensures)) in
+    let stands = stands_more list _ _ c.in-Some.digits.now c.in-Some.after.now c.loop-rest.invariant.stands cut line.good
+    (omega (arith, c.len-in-loop-rest.ensures)) in
     record {
       stands = subst (λ xs. LinesStand xs c.in-Some.after.now c.args.bytes.now) (ap (λ v. list ++ v ∷ []) line.value_is ∙ sym grown) stands;
       bound = omega (arith, ap length grown, length-append list (value ∷ []), c.len-in-loop-rest.ensures);

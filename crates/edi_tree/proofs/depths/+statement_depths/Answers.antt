@@ -10,5 +10,6 @@ pub branches_depth-returns-clause-exact : goal.branches_depth-returns-clause-exa
 branches_depth-returns-clause-exact t c end =
     let items = c.items-branch-items.result.now in
     let none = ap (map branch_of) (drop_of_length-le items c.loop-branch-test.false) in
-    let seen = branches_seen (map branch_of items) (map branch_of (drop c.loop-branch.branch-index items)) c.loop-branch.depth end none c.loop-branch.invariant.height c.loop-branch.invariant.small in
+    let seen = branches_seen (map branch_of items) (map branch_of (drop c.loop-branch.branch-index items)) c.loop-branch.depth end none
+    c.loop-branch.invariant.height c.loop-branch.invariant.small in
     seen ∙ ap (λ l. limited (branches_depth (branches end (map branch_of l)))) c.items-branch-items.ensures.exact

@@ -18,8 +18,12 @@ compound_words-loop-part-preserved t c =
       height =
           compound_step c.args.types.now blocks c.args.block (expression_of c.part-item.result) (expressions (map expression_of (drop (i + 1) items)))
           c.loop-part.before c.sum-before.result c.loop-part.words c.max-words.result c.value_words.result c.sum.result _
-          c.value_words.ensures.exact c.sum.ensures.exact c.max-words.ensures (c.sum-before.ensures.exact ∙ ap (λ n. limited (c.loop-part.before + n)) (c.type_words.ensures.exact ∙ ap (size c.args.types.now) c.expression_type.ensures.exact))
-          (ap (λ l. limited (max c.loop-part.words (compound_height c.args.types.now blocks c.args.block c.loop-part.before (expressions (map expression_of l))))) (sym part) ∙ c.loop-part.invariant.height);
+          c.value_words.ensures.exact c.sum.ensures.exact c.max-words.ensures
+          (c.sum-before.ensures.exact ∙ ap (λ n. limited (c.loop-part.before + n))
+          (c.type_words.ensures.exact ∙ ap (size c.args.types.now) c.expression_type.ensures.exact))
+          (ap (λ l. limited (max c.loop-part.words
+          (compound_height c.args.types.now blocks c.args.block c.loop-part.before (expressions (map expression_of l))))) (sym part)
+          ∙ c.loop-part.invariant.height);
     }
 
 pub arguments_words-loop-argument-preserved : goal.arguments_words-loop-argument-preserved
@@ -34,6 +38,9 @@ arguments_words-loop-argument-preserved t c =
       height =
           arguments_step c.args.types.now blocks c.args.block (argument_of c.argument-item.result) (arguments (map argument_of (drop (i + 1) items)))
           c.loop-argument.before c.sum-before.result c.loop-argument.words c.max-words.result c.argument_words_above.result c.sum.result _
-          c.argument_words_above.ensures.exact c.sum.ensures.exact c.max-words.ensures (c.sum-before.ensures.exact ∙ ap (λ n. limited (c.loop-argument.before + n)) c.passed_words.ensures.exact)
-          (ap (λ l. limited (max c.loop-argument.words (arguments_height c.args.types.now blocks c.args.block c.loop-argument.before (arguments (map argument_of l))))) (sym argument) ∙ c.loop-argument.invariant.height);
+          c.argument_words_above.ensures.exact c.sum.ensures.exact c.max-words.ensures
+          (c.sum-before.ensures.exact ∙ ap (λ n. limited (c.loop-argument.before + n)) c.passed_words.ensures.exact)
+          (ap (λ l. limited (max c.loop-argument.words
+          (arguments_height c.args.types.now blocks c.args.block c.loop-argument.before (arguments (map argument_of l))))) (sym argument)
+          ∙ c.loop-argument.invariant.height);
     }

@@ -8,31 +8,39 @@ abbrev pub invariant-members_words-loop-member : goal.invariant-members_words-lo
 invariant-members_words-loop-member l = record {
   least : 8 ≤ l.words;
   small : l.words ≤ too_large;
-  height : limited (max l.words (members_height l.types (map block_of l.blocks) l.block (expressions (map expression_of (drop l.member-index l.member-items))))) ≡ limited (members_height l.types (map block_of l.blocks) l.block (expressions (map expression_of l.member-items)));
+  height : limited (max l.words (members_height l.types (map block_of l.blocks) l.block
+      (expressions (map expression_of (drop l.member-index l.member-items))))) ≡ limited
+      (members_height l.types (map block_of l.blocks) l.block (expressions (map expression_of l.member-items)));
 }
 
 abbrev pub invariant-compound_words-loop-part : goal.invariant-compound_words-loop-part
 invariant-compound_words-loop-part l = record {
   small : l.words ≤ too_large;
   short : l.before ≤ too_large;
-  height : limited (max l.words (compound_height l.types (map block_of l.blocks) l.block l.before (expressions (map expression_of (drop l.part-index l.part-items))))) ≡ limited (compound_height l.types (map block_of l.blocks) l.block 0 (expressions (map expression_of l.part-items)));
+  height : limited (max l.words (compound_height l.types (map block_of l.blocks) l.block l.before
+      (expressions (map expression_of (drop l.part-index l.part-items))))) ≡ limited
+      (compound_height l.types (map block_of l.blocks) l.block 0 (expressions (map expression_of l.part-items)));
 }
 
 abbrev pub invariant-links_words-loop-link : goal.invariant-links_words-loop-link
 invariant-links_words-loop-link l = record {
   small : l.words ≤ too_large;
-  height : limited (max l.words (links_height l.types (map block_of l.blocks) l.block l.of (links (map link_of (drop l.link-index l.link-items))))) ≡ limited (links_height l.types (map block_of l.blocks) l.block l.left (links (map link_of l.link-items)));
+  height : limited (max l.words (links_height l.types (map block_of l.blocks) l.block l.of (links (map link_of (drop l.link-index l.link-items))))) ≡ limited
+      (links_height l.types (map block_of l.blocks) l.block l.left (links (map link_of l.link-items)));
 }
 
 abbrev pub invariant-parts_words-loop-part : goal.invariant-parts_words-loop-part
 invariant-parts_words-loop-part l = record {
   small : l.words ≤ too_large;
-  height : limited (max l.words (parts_height l.types (map block_of l.blocks) l.block (parts (map part_of (drop l.part-index l.part-items))))) ≡ limited (parts_height l.types (map block_of l.blocks) l.block (parts (map part_of l.part-items)));
+  height : limited (max l.words (parts_height l.types (map block_of l.blocks) l.block (parts (map part_of (drop l.part-index l.part-items))))) ≡ limited
+      (parts_height l.types (map block_of l.blocks) l.block (parts (map part_of l.part-items)));
 }
 
 abbrev pub invariant-arguments_words-loop-argument : goal.invariant-arguments_words-loop-argument
 invariant-arguments_words-loop-argument l = record {
   small : l.words ≤ too_large;
   short : l.before ≤ too_large;
-  height : limited (max l.words (arguments_height l.types (map block_of l.blocks) l.block l.before (arguments (map argument_of (drop l.argument-index l.argument-items))))) ≡ limited (arguments_height l.types (map block_of l.blocks) l.block 0 (arguments (map argument_of l.argument-items)));
+  height : limited (max l.words (arguments_height l.types (map block_of l.blocks) l.block l.before
+      (arguments (map argument_of (drop l.argument-index l.argument-items))))) ≡ limited
+      (arguments_height l.types (map block_of l.blocks) l.block 0 (arguments (map argument_of l.argument-items)));
 }

@@ -7,11 +7,13 @@ use Rattle.edi_unit.proofs.needs.+needs.Given as goal
 abbrev pub invariant-acts_words-loop-act : goal.invariant-acts_words-loop-act
 invariant-acts_words-loop-act l = record {
   small : l.words ≤ too_large;
-  height : limited (max l.words (acts_height l.types (map block_of l.blocks) l.block (acts (map act_of (drop l.act-index l.act-items))))) ≡ limited (acts_height l.types (map block_of l.blocks) l.block (acts (map act_of l.act-items)));
+  height : limited (max l.words (acts_height l.types (map block_of l.blocks) l.block (acts (map act_of (drop l.act-index l.act-items))))) ≡ limited
+      (acts_height l.types (map block_of l.blocks) l.block (acts (map act_of l.act-items)));
 }
 
 abbrev pub invariant-clauses_words-loop-clause : goal.invariant-clauses_words-loop-clause
 invariant-clauses_words-loop-clause l = record {
   small : l.words ≤ too_large;
-  height : limited (max l.words (clauses_height l.types (map block_of l.blocks) l.block (clauses (map clause_of (drop l.clause-index l.clause-items))))) ≡ limited (clauses_height l.types (map block_of l.blocks) l.block (clauses (map clause_of l.clause-items)));
+  height : limited (max l.words (clauses_height l.types (map block_of l.blocks) l.block (clauses (map clause_of (drop l.clause-index l.clause-items)))))
+      ≡ limited (clauses_height l.types (map block_of l.blocks) l.block (clauses (map clause_of l.clause-items)));
 }

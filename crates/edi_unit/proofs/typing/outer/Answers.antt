@@ -6,12 +6,14 @@ use Rattle.edi_unit.specs.Need.{block_at}
 use Rattle.edi_unit.specs.Need as spec
 use Rattle.edi_unit.proofs.typing.outer.Goals as goal
 
-one_step : (blocks : List Block) (b up levels level : ℕ) → level < levels → up ≡ (block_at blocks b).up → spec.outer blocks b (levels - level) ≡ spec.outer blocks up (levels - (level + 1))
+one_step : (blocks : List Block) (b up levels level : ℕ) → level < levels → up ≡ (block_at blocks b).up → spec.outer blocks b (levels - level) ≡ spec.outer
+    blocks up (levels - (level + 1))
 one_step blocks b up levels level more same =
     let next : levels - level ≡ suc (levels - (level + 1)) = omega arith in
     ap (spec.outer blocks b) next ∙ ap (λ u. spec.outer blocks u (levels - (level + 1))) (sym same)
 
 pub loop-level-preserved : goal.loop-level-preserved
 loop-level-preserved c =
-    sym (one_step (map block_of c.args.blocks.now) c.loop-level.found c.up-found.result c.args.levels c.loop-level._level c.loop-level-test.true c.up-found.ensures.exact)
+    sym (one_step (map block_of c.args.blocks.now) c.loop-level.found c.up-found.result c.args.levels c.loop-level._level c.loop-level-test.true
+    c.up-found.ensures.exact)
     ∙ c.loop-level.invariant

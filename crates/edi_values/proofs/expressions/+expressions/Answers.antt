@@ -66,7 +66,8 @@ addends-returns t c =
 
 pub multipliers-loop-one-init : goal.multipliers-loop-one-init
 multipliers-loop-one-init t c = record {
-  left = loop.multipliers_start (environment c.args.known.now) (list_items c.new-links.result) c.args.left c.items-one-items.result.now c.new-links.ensures.exact;
+  left = loop.multipliers_start (environment c.args.known.now) (list_items c.new-links.result) c.args.left c.items-one-items.result.now
+      c.new-links.ensures.exact;
 }
 
 pub multipliers-returns-in_err-linked : goal.multipliers-returns-in_err-linked
@@ -92,7 +93,8 @@ multipliers-loop-one-preserved t c =
     let here : drop i items ≡ one ∷ drop (i + 1) items = drop_more items i one (omega arith) ∙ ap (λ x. x ∷ drop (i + 1) items) (sym c.one-item.is) in
     record {
       left = loop.multipliers_step env (list_items c.loop-one.links) (list_items c.add.new.list) c.loop-one.of (drop i items) (drop (i + 1) items) one
-          c.in_ok-linked.linked (rule.multipliers env c.args.left (see.multipliers (map multiplier_of items))) here c.in_ok-add.ensures.ok c.in_ok-linked.ensures.exact
+          c.in_ok-linked.linked (rule.multipliers env c.args.left (see.multipliers (map multiplier_of items))) here c.in_ok-add.ensures.ok
+          c.in_ok-linked.ensures.exact
           c.loop-one.invariant.left;
     }
 
@@ -161,7 +163,8 @@ arguments-returns-in_err-first t c =
     let seen : text.args (expr_of c.deref.result.now) es ≡ see.args_of a = ap (λ x. text.args (expr_of x) es) c.deref.ensures ∙ sym (args_seen a) in
     let p = err_from_is_err_and c.from_residual.result c.from_residual.ensures.1 in
     record {
-      exact = rw (p.1, p.2) (loop.arguments_first env c.args.line (expr_of c.deref.result.now) es (see.args_of a) fs c.in_err-first.field-0.0 seen c.in_err-first.ensures.exact);
+      exact = rw (p.1, p.2) (loop.arguments_first env c.args.line (expr_of c.deref.result.now) es (see.args_of a) fs c.in_err-first.field-0.0 seen
+          c.in_err-first.ensures.exact);
     }
 
 pub arguments-returns-in_err-one : goal.arguments-returns-in_err-one
@@ -178,10 +181,13 @@ arguments-returns-in_err-one t c =
     let i = c.loop-expr.expr-index in
     let one = c.expr-item.result in
     let here : drop i items ≡ one ∷ drop (i + 1) items = drop_more items i one (omega arith) ∙ ap (λ x. x ∷ drop (i + 1) items) (sym c.expr-item.is) in
-    let whole = loop.arguments_all env line (expr_of c.deref.result.now) (see.exprs (map expr_of items)) fs (formals (map formal_of c.rest_of-rest.result.now)) c.in_ok-first.first (list_items c.new-arguments.result) (list_items c.add.new.list) c.new-arguments.ensures.exact c.in_ok-add.ensures.ok c.rest_of-rest.ensures.exact c.in_ok-first.ensures.exact in
+    let whole = loop.arguments_all env line (expr_of c.deref.result.now) (see.exprs (map expr_of items)) fs
+    (formals (map formal_of c.rest_of-rest.result.now)) c.in_ok-first.first (list_items c.new-arguments.result) (list_items c.add.new.list)
+    c.new-arguments.ensures.exact c.in_ok-add.ensures.ok c.rest_of-rest.ensures.exact c.in_ok-first.ensures.exact in
     let p = err_from_is_err_and c.from_residual-in_err-one.result c.from_residual-in_err-one.ensures.1 in
     record {
-      exact = rw (p.1, p.2) (loop.arguments_fault env line (list_items c.loop-expr.arguments) (drop i items) (drop (i + 1) items) one (formals (map formal_of c.loop-expr.rest.now))
+      exact = rw (p.1, p.2) (loop.arguments_fault env line (list_items c.loop-expr.arguments) (drop i items) (drop (i + 1) items) one
+          (formals (map formal_of c.loop-expr.rest.now))
           (rule.all_arguments env line (see.args_of a) fs) c.in_err-one.field-0.0 here c.in_err-one.ensures.exact
           (c.loop-expr.invariant.left ∙ whole ∙ ap (λ xs. rule.all_arguments env line xs fs) seen));
     }
@@ -211,7 +217,9 @@ arguments-returns t c =
     ap (λ xs. text.args (expr_of c.deref.result.now) (see.exprs (map expr_of xs))) c.items-expr-items.ensures.exact
     ∙ ap (λ x. text.args (expr_of x) (see.exprs_of (out-Args a).more)) c.deref.ensures
     ∙ sym (args_seen a) in
-    let whole = loop.arguments_all env line (expr_of c.deref.result.now) (see.exprs (map expr_of items)) fs (formals (map formal_of c.rest_of-rest.result.now)) c.in_ok-first.first (list_items c.new-arguments.result) (list_items c.add.new.list) c.new-arguments.ensures.exact c.in_ok-add.ensures.ok c.rest_of-rest.ensures.exact c.in_ok-first.ensures.exact in
+    let whole = loop.arguments_all env line (expr_of c.deref.result.now) (see.exprs (map expr_of items)) fs
+    (formals (map formal_of c.rest_of-rest.result.now)) c.in_ok-first.first (list_items c.new-arguments.result) (list_items c.add.new.list)
+    c.new-arguments.ensures.exact c.in_ok-add.ensures.ok c.rest_of-rest.ensures.exact c.in_ok-first.ensures.exact in
     record {
       exact = loop.arguments_end env line (list_items c.loop-expr.arguments) (drop c.loop-expr.expr-index items) (formals (map formal_of c.loop-expr.rest.now))
           (rule.all_arguments env line (see.args_of a) fs) (drop_of_length-le items c.loop-expr-test.false)
@@ -230,7 +238,8 @@ parts-returns-in_err-add_element t c =
     let given : Vec code_typed.Typed Global → List Typed = λ parts. map typed_of parts.items in
     let p = err_from_is_err_and c.from_residual.result c.from_residual.ensures.1 in
     record {
-      exact = rw (p.1, p.2) (loop.elements_first env c.args.strings (expr_of c.deref.result.now) es (see.args_of a) c.new-parts.result.items c.in_err-add_element.field-0.0
+      exact = rw (p.1, p.2) (loop.elements_first env c.args.strings (expr_of c.deref.result.now) es (see.args_of a) c.new-parts.result.items
+          c.in_err-add_element.field-0.0
           stated given c.new-parts.ensures.items seen c.in_err-add_element.ensures.exact);
     }
 
@@ -247,7 +256,8 @@ parts-returns-in_err-add_element-2 t c =
     let i = c.loop-expr.expr-index in
     let one = c.expr-item.result in
     let here : drop i items ≡ one ∷ drop (i + 1) items = drop_more items i one (omega arith) ∙ ap (λ x. x ∷ drop (i + 1) items) (sym c.expr-item.is) in
-    let whole = loop.elements_all env strings (expr_of c.deref.result.now) (see.exprs (map expr_of items)) c.new-parts.result.items c.add_element.new.parts.items c.new-parts.ensures.items c.in_ok-add_element.ensures.exact in
+    let whole = loop.elements_all env strings (expr_of c.deref.result.now) (see.exprs (map expr_of items)) c.new-parts.result.items
+    c.add_element.new.parts.items c.new-parts.ensures.items c.in_ok-add_element.ensures.exact in
     let stated : Unit {0} → List Typed = λ _. map typed_of c.add_element-in-loop-expr.new.parts.items in
     let given : Vec code_typed.Typed Global → List Typed = λ parts. map typed_of parts.items in
     let p = err_from_is_err_and c.from_residual-in_err-add_element-2.result c.from_residual-in_err-add_element-2.ensures.1 in
@@ -280,8 +290,10 @@ parts-returns t c =
     ap (λ xs. text.args (expr_of c.deref.result.now) (see.exprs (map expr_of xs))) c.items-expr-items.ensures.exact
     ∙ ap (λ x. text.args (expr_of x) (see.exprs_of (out-Args a).more)) c.deref.ensures
     ∙ sym (args_seen a) in
-    let whole = loop.elements_all env strings (expr_of c.deref.result.now) (see.exprs (map expr_of items)) c.new-parts.result.items c.add_element.new.parts.items c.new-parts.ensures.items c.in_ok-add_element.ensures.exact in
+    let whole = loop.elements_all env strings (expr_of c.deref.result.now) (see.exprs (map expr_of items)) c.new-parts.result.items
+    c.add_element.new.parts.items c.new-parts.ensures.items c.in_ok-add_element.ensures.exact in
     record {
-      exact = loop.elements_end env strings c.loop-expr.parts.items (drop c.loop-expr.expr-index items) (part.elements env strings (see.args_of a)) (drop_of_length-le items c.loop-expr-test.false)
+      exact = loop.elements_end env strings c.loop-expr.parts.items (drop c.loop-expr.expr-index items) (part.elements env strings (see.args_of a))
+          (drop_of_length-le items c.loop-expr-test.false)
           (c.loop-expr.invariant.left ∙ whole ∙ ap (λ xs. part.elements env strings xs) seen);
     }

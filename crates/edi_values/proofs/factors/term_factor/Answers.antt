@@ -10,9 +10,15 @@ use Rattle.edi_values.proofs.factors.term_factor.Goals as goal
 pub returns-then-is_empty : goal.returns-then-is_empty
 returns-then-is_empty c =
     let t = out-Term c.args.term.now in
-    record { exact = unmultiplied (factor_of t.first) (items_of t.more) (sym c.is_empty.ensures.exact ∙ c.if-is_empty.true) ∙ ap term_factor (sym (term_seen c.args.term.now)) }
+    record {
+      exact = unmultiplied (factor_of t.first) (items_of t.more) (sym c.is_empty.ensures.exact ∙ c.if-is_empty.true)
+          ∙ ap term_factor (sym (term_seen c.args.term.now));
+    }
 
 pub returns-else-is_empty : goal.returns-else-is_empty
 returns-else-is_empty c =
     let t = out-Term c.args.term.now in
-    record { exact = multiplied (factor_of t.first) (items_of t.more) (sym c.is_empty.ensures.exact ∙ c.if-is_empty.false) ∙ ap term_factor (sym (term_seen c.args.term.now)) }
+    record {
+      exact = multiplied (factor_of t.first) (items_of t.more) (sym c.is_empty.ensures.exact ∙ c.if-is_empty.false)
+          ∙ ap term_factor (sym (term_seen c.args.term.now));
+    }

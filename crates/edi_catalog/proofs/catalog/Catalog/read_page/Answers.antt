@@ -45,7 +45,8 @@ returns-in-Err-clause-reads g c =
 
 pub returns-in-Ok-clause-page : goal.returns-in-Ok-clause-page
 returns-in-Ok-clause-page g c =
-    page_in_slots _ _ g.D.Drive.faults g.met.D.Drive.counted g.met.D.Drive.sized {X = Unit {0}} CatEnd tt c.args.self.now (record c.args.self.now { disk = c.block.new.disk })
+    page_in_slots _ _ g.D.Drive.faults g.met.D.Drive.counted g.met.D.Drive.sized {X = Unit {0}} CatEnd tt c.args.self.now
+    (record c.args.self.now { disk = c.block.new.disk })
     c.args.title.now c.args.i c.in-Ok.bytes c.requires.mounted (search rules) c.requires.page (returns-in-Ok-clause-reads g c)
 
 pub returns-in-Err-clause-page : goal.returns-in-Err-clause-page

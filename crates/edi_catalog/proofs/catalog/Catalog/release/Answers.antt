@@ -6,6 +6,7 @@ use Rattle.edi_catalog.proofs.catalog.Catalog.release.Goals as goal
 
 pub returns-clause-exact : goal.returns-clause-exact
 returns-clause-exact g c =
-    changes_in_slots _ _ _ g.met.D.Drive.counted g.met.D.Drive.sized c.set_protected.result _ (λ slots. no_such (find_file slots c.args.title.now)) _ _ c.args.self.now c.set_protected.new.self c.requires.mounted
+    changes_in_slots _ _ _ g.met.D.Drive.counted g.met.D.Drive.sized c.set_protected.result _ (λ slots. no_such (find_file slots c.args.title.now)) _ _
+    c.args.self.now c.set_protected.new.self c.requires.mounted
     (λ blocks sized many kept. such_told blocks _ (files_of c.args.self.now) sized many c.requires.mounted.stored kept c.args.title.now)
     c.set_protected.ensures.changes

@@ -6,7 +6,8 @@ use Rattle.edi_catalog.specs.Writing.{file_as, kept_as, record_renamed}
 use Rattle.std.specs.Prelude.{is_some}
 use Rattle.edi_catalog.specs.declared.ends.CatEnd.TheVariants as cat
 use Rattle.edi_image.proofs.KeptFiles.{file_of}
-use Rattle.edi_catalog.proofs.Changing.{changes_as, entry_is, has_file, inside, none_there, not_changed, protection_is, record_at, rename_refusal, some_title, titled_some, untitled_none}
+use Rattle.edi_catalog.proofs.Changing.{changes_as, entry_is, has_file, inside, none_there, not_changed, protection_is, record_at, rename_refusal}
+use Rattle.edi_catalog.proofs.Changing.{some_title, titled_some, untitled_none}
 use Rattle.edi_catalog.proofs.catalog.Catalog.rename_kept.Goals as goal
 
 pub returns-then-is_some : goal.returns-then-is_some

@@ -15,7 +15,12 @@ pub returns-in-Ok : goal.returns-in-Ok
 returns-in-Ok g c = record {
   changes =
       changes_done g.D.Drive.contents g.D.Drive.count g.D.Drive.faults g.met.D.Drive.counted c.args.self.now
-      (record { disk = c.write_kept.new.disk; room = re_v (record { files = with_item c.write_kept.new.room.files c.args.index (Some c.lay_file-file.result); entries = c.write_kept.new.room.entries }) (re_v c.write_kept.new.room c.args.self.now.room) })
+      (record {
+        disk = c.write_kept.new.disk;
+        room = re_v
+            (record { files = with_item c.write_kept.new.room.files c.args.index (Some c.lay_file-file.result); entries = c.write_kept.new.room.entries })
+            (re_v c.write_kept.new.room c.args.self.now.room);
+      })
       c.args.title.now c.args.kind c.args.bytes.now
       c.args.index c.lay_file-file.result c.requires.mounted
       (stores_from (g.D.Drive.count (drive_of (disk_of c.args.self.now))) (files_of c.args.self.now) c.args.title.now c.args.kind c.args.bytes.now
@@ -24,7 +29,8 @@ returns-in-Ok g c = record {
       (subst (λ fs. AreFree (g.D.Drive.count (drive_of (disk_of c.args.self.now))) fs (used_in (Some c.lay_file-file.result))) c.deref.ensures.value
       (subst (λ n. AreFree n c.deref.result.now (used_in (Some c.lay_file-file.result))) c.blocks-count.ensures.count c.lay_file-file.ensures.free))
       c.lay_file-file.ensures.entry c.requires.index c.requires.open)
-      c.in-Ok.ensures.writes refl (ap (λ files. set files c.args.index (Some c.lay_file-file.result)) c.in-Ok.ensures.files) (c.requires.mounted.room (omega (arith, c.requires.room)))
+      c.in-Ok.ensures.writes refl (ap (λ files. set files c.args.index (Some c.lay_file-file.result)) c.in-Ok.ensures.files)
+      (c.requires.mounted.room (omega (arith, c.requires.room)))
       (c.in-Ok.ensures.kept refl);
 }
 

@@ -6,87 +6,137 @@ use Rattle.edi_disk.proofs.Writing as writing
 use Rattle.edi_disk.proofs.disk.Disk.page.Goals as goal
 
 pub returns-then-recall-clause-works : goal.returns-then-recall-clause-works
-returns-then-recall-clause-works g c = λ _. let f = c.recall.ensures.found c.if-recall.true in calls.page_hit_works g.D.Drive.contents g.D.Drive.count g.D.Drive.faults g.met.D.Drive.counted c.args.self.now.drive.now c.args.self.now.cache c.recall.new.self c.args.n f.0 c.requires.works c.recall.ensures.bound f.1 f.3
+returns-then-recall-clause-works g c = λ _. let f = c.recall.ensures.found c.if-recall.true in
+    calls.page_hit_works g.D.Drive.contents g.D.Drive.count g.D.Drive.faults g.met.D.Drive.counted c.args.self.now.drive.now c.args.self.now.cache
+    c.recall.new.self c.args.n f.0 c.requires.works c.recall.ensures.bound f.1 f.3
 
 pub returns-then-recall-clause-gives : goal.returns-then-recall-clause-gives
-returns-then-recall-clause-gives g c = let f = c.recall.ensures.found c.if-recall.true in calls.page_hit_gives g.D.Drive.contents g.D.Drive.count g.D.Drive.faults g.met.D.Drive.counted c.args.self.now.drive.now c.args.self.now.cache c.recall.new.self c.args.n f.0 c.requires.works c.recall.ensures.bound f.1 c.recall.new.into f.2 f.3
+returns-then-recall-clause-gives g c = let f = c.recall.ensures.found c.if-recall.true in
+    calls.page_hit_gives g.D.Drive.contents g.D.Drive.count g.D.Drive.faults g.met.D.Drive.counted c.args.self.now.drive.now c.args.self.now.cache
+    c.recall.new.self c.args.n f.0 c.requires.works c.recall.ensures.bound f.1 c.recall.new.into f.2 f.3
 
 pub returns-then-recall-clause-since : goal.returns-then-recall-clause-since
-returns-then-recall-clause-since g c = let f = c.recall.ensures.found c.if-recall.true in calls.page_hit_since g.D.Drive.contents g.D.Drive.count g.D.Drive.faults g.met.D.Drive.counted c.args.self.now.drive.now c.args.self.now.cache c.recall.new.self c.args.n f.0 c.requires.works c.recall.ensures.bound f.1 f.3
+returns-then-recall-clause-since g c = let f = c.recall.ensures.found c.if-recall.true in
+    calls.page_hit_since g.D.Drive.contents g.D.Drive.count g.D.Drive.faults g.met.D.Drive.counted c.args.self.now.drive.now c.args.self.now.cache
+    c.recall.new.self c.args.n f.0 c.requires.works c.recall.ensures.bound f.1 f.3
 
 pub returns-then-recall-clause-order : goal.returns-then-recall-clause-order
-returns-then-recall-clause-order g c = λ _. let f = c.recall.ensures.found c.if-recall.true in calls.page_hit_order g.D.Drive.contents g.D.Drive.count g.D.Drive.faults g.met.D.Drive.counted c.args.self.now.drive.now c.args.self.now.cache c.recall.new.self c.args.n f.0 c.requires.works c.recall.ensures.bound f.1 f.3
+returns-then-recall-clause-order g c = λ _. let f = c.recall.ensures.found c.if-recall.true in
+    calls.page_hit_order g.D.Drive.contents g.D.Drive.count g.D.Drive.faults g.met.D.Drive.counted c.args.self.now.drive.now c.args.self.now.cache
+    c.recall.new.self c.args.n f.0 c.requires.works c.recall.ensures.bound f.1 f.3
 
 pub returns-in-Ok-read-clause-works : goal.returns-in-Ok-read-clause-works
 returns-in-Ok-read-clause-works g c = λ _.
     let f = c.recall.ensures.absent c.if-recall.false in
-    let read = calls.reads g.D.Drive.contents g.D.Drive.count g.D.Drive.faults g.met.D.Drive.counted c.make_room.new.drive c.read.new.self c.recall.new.self c.args.n c.read.new.into _ c.read.ensures.leaves c.read.ensures.count c.read.ensures.later c.make_room.ensures.writes.backed in
-    let wrote = writing.writes_then g.D.Drive.contents g.D.Drive.count g.D.Drive.faults g.met.D.Drive.counted c.recall.new.self c.args.self.now.drive.now c.make_room.new.drive c.read.new.self c.make_room.ensures.writes read in
-    let first = λ (full : 16 ≤ length c.recall.new.self). calls.still_on g.D.Drive.contents g.D.Drive.count g.D.Drive.faults g.met.D.Drive.counted c.make_room.new.drive c.read.new.self c.recall.new.self c.args.n c.read.new.into _ c.read.ensures.leaves c.read.ensures.count c.read.ensures.later (take 1 c.recall.new.self) (c.make_room.ensures.first c.in-Ok.is full) in
-    let on = calls.read_on g.D.Drive.contents g.D.Drive.count g.D.Drive.faults g.met.D.Drive.counted c.make_room.new.drive c.read.new.self c.recall.new.self c.args.n c.read.new.into _ c.read.ensures.leaves c.read.ensures.count c.read.ensures.later c.in-Ok-read.is in
-    calls.page_works g.D.Drive.contents g.D.Drive.count g.D.Drive.faults g.met.D.Drive.counted c.args.self.now.drive.now c.read.new.self c.args.self.now.cache c.recall.new.self c.hold.new.self c.args.n (cached_slot c.args.n c.read.new.into false) f.1 c.requires.in_range f.0 wrote first refl c.hold.ensures c.read.new.into refl on
+    let read = calls.reads g.D.Drive.contents g.D.Drive.count g.D.Drive.faults g.met.D.Drive.counted c.make_room.new.drive c.read.new.self c.recall.new.self
+    c.args.n c.read.new.into _ c.read.ensures.leaves c.read.ensures.count c.read.ensures.later c.make_room.ensures.writes.backed in
+    let wrote = writing.writes_then g.D.Drive.contents g.D.Drive.count g.D.Drive.faults g.met.D.Drive.counted c.recall.new.self c.args.self.now.drive.now
+    c.make_room.new.drive c.read.new.self c.make_room.ensures.writes read in
+    let first = λ (full : 16 ≤ length c.recall.new.self). calls.still_on g.D.Drive.contents g.D.Drive.count g.D.Drive.faults g.met.D.Drive.counted
+    c.make_room.new.drive c.read.new.self c.recall.new.self c.args.n c.read.new.into _ c.read.ensures.leaves c.read.ensures.count c.read.ensures.later
+    (take 1 c.recall.new.self) (c.make_room.ensures.first c.in-Ok.is full) in
+    let on = calls.read_on g.D.Drive.contents g.D.Drive.count g.D.Drive.faults g.met.D.Drive.counted c.make_room.new.drive c.read.new.self c.recall.new.self
+    c.args.n c.read.new.into _ c.read.ensures.leaves c.read.ensures.count c.read.ensures.later c.in-Ok-read.is in
+    calls.page_works g.D.Drive.contents g.D.Drive.count g.D.Drive.faults g.met.D.Drive.counted c.args.self.now.drive.now c.read.new.self c.args.self.now.cache
+    c.recall.new.self c.hold.new.self c.args.n (cached_slot c.args.n c.read.new.into false) f.1 c.requires.in_range f.0 wrote first refl c.hold.ensures
+    c.read.new.into refl on
 
 pub returns-in-Ok-read-clause-gives : goal.returns-in-Ok-read-clause-gives
 returns-in-Ok-read-clause-gives g c =
     let f = c.recall.ensures.absent c.if-recall.false in
-    let read = calls.reads g.D.Drive.contents g.D.Drive.count g.D.Drive.faults g.met.D.Drive.counted c.make_room.new.drive c.read.new.self c.recall.new.self c.args.n c.read.new.into _ c.read.ensures.leaves c.read.ensures.count c.read.ensures.later c.make_room.ensures.writes.backed in
-    let wrote = writing.writes_then g.D.Drive.contents g.D.Drive.count g.D.Drive.faults g.met.D.Drive.counted c.recall.new.self c.args.self.now.drive.now c.make_room.new.drive c.read.new.self c.make_room.ensures.writes read in
-    let first = λ (full : 16 ≤ length c.recall.new.self). calls.still_on g.D.Drive.contents g.D.Drive.count g.D.Drive.faults g.met.D.Drive.counted c.make_room.new.drive c.read.new.self c.recall.new.self c.args.n c.read.new.into _ c.read.ensures.leaves c.read.ensures.count c.read.ensures.later (take 1 c.recall.new.self) (c.make_room.ensures.first c.in-Ok.is full) in
-    let on = calls.read_on g.D.Drive.contents g.D.Drive.count g.D.Drive.faults g.met.D.Drive.counted c.make_room.new.drive c.read.new.self c.recall.new.self c.args.n c.read.new.into _ c.read.ensures.leaves c.read.ensures.count c.read.ensures.later c.in-Ok-read.is in
-    calls.page_gives g.D.Drive.contents g.D.Drive.count g.D.Drive.faults g.met.D.Drive.counted c.args.self.now.drive.now c.read.new.self c.args.self.now.cache c.recall.new.self c.hold.new.self c.args.n (cached_slot c.args.n c.read.new.into false) f.1 c.requires.in_range f.0 wrote first refl c.hold.ensures c.read.new.into refl on
+    let read = calls.reads g.D.Drive.contents g.D.Drive.count g.D.Drive.faults g.met.D.Drive.counted c.make_room.new.drive c.read.new.self c.recall.new.self
+    c.args.n c.read.new.into _ c.read.ensures.leaves c.read.ensures.count c.read.ensures.later c.make_room.ensures.writes.backed in
+    let wrote = writing.writes_then g.D.Drive.contents g.D.Drive.count g.D.Drive.faults g.met.D.Drive.counted c.recall.new.self c.args.self.now.drive.now
+    c.make_room.new.drive c.read.new.self c.make_room.ensures.writes read in
+    let first = λ (full : 16 ≤ length c.recall.new.self). calls.still_on g.D.Drive.contents g.D.Drive.count g.D.Drive.faults g.met.D.Drive.counted
+    c.make_room.new.drive c.read.new.self c.recall.new.self c.args.n c.read.new.into _ c.read.ensures.leaves c.read.ensures.count c.read.ensures.later
+    (take 1 c.recall.new.self) (c.make_room.ensures.first c.in-Ok.is full) in
+    let on = calls.read_on g.D.Drive.contents g.D.Drive.count g.D.Drive.faults g.met.D.Drive.counted c.make_room.new.drive c.read.new.self c.recall.new.self
+    c.args.n c.read.new.into _ c.read.ensures.leaves c.read.ensures.count c.read.ensures.later c.in-Ok-read.is in
+    calls.page_gives g.D.Drive.contents g.D.Drive.count g.D.Drive.faults g.met.D.Drive.counted c.args.self.now.drive.now c.read.new.self c.args.self.now.cache
+    c.recall.new.self c.hold.new.self c.args.n (cached_slot c.args.n c.read.new.into false) f.1 c.requires.in_range f.0 wrote first refl c.hold.ensures
+    c.read.new.into refl on
 
 pub returns-in-Ok-read-clause-since : goal.returns-in-Ok-read-clause-since
 returns-in-Ok-read-clause-since g c =
     let f = c.recall.ensures.absent c.if-recall.false in
-    let read = calls.reads g.D.Drive.contents g.D.Drive.count g.D.Drive.faults g.met.D.Drive.counted c.make_room.new.drive c.read.new.self c.recall.new.self c.args.n c.read.new.into _ c.read.ensures.leaves c.read.ensures.count c.read.ensures.later c.make_room.ensures.writes.backed in
-    let wrote = writing.writes_then g.D.Drive.contents g.D.Drive.count g.D.Drive.faults g.met.D.Drive.counted c.recall.new.self c.args.self.now.drive.now c.make_room.new.drive c.read.new.self c.make_room.ensures.writes read in
-    let first = λ (full : 16 ≤ length c.recall.new.self). calls.still_on g.D.Drive.contents g.D.Drive.count g.D.Drive.faults g.met.D.Drive.counted c.make_room.new.drive c.read.new.self c.recall.new.self c.args.n c.read.new.into _ c.read.ensures.leaves c.read.ensures.count c.read.ensures.later (take 1 c.recall.new.self) (c.make_room.ensures.first c.in-Ok.is full) in
-    let on = calls.read_on g.D.Drive.contents g.D.Drive.count g.D.Drive.faults g.met.D.Drive.counted c.make_room.new.drive c.read.new.self c.recall.new.self c.args.n c.read.new.into _ c.read.ensures.leaves c.read.ensures.count c.read.ensures.later c.in-Ok-read.is in
-    calls.page_since g.D.Drive.contents g.D.Drive.count g.D.Drive.faults g.met.D.Drive.counted c.args.self.now.drive.now c.read.new.self c.args.self.now.cache c.recall.new.self c.hold.new.self c.args.n (cached_slot c.args.n c.read.new.into false) f.1 c.requires.in_range f.0 wrote first refl c.hold.ensures c.read.new.into refl on
+    let read = calls.reads g.D.Drive.contents g.D.Drive.count g.D.Drive.faults g.met.D.Drive.counted c.make_room.new.drive c.read.new.self c.recall.new.self
+    c.args.n c.read.new.into _ c.read.ensures.leaves c.read.ensures.count c.read.ensures.later c.make_room.ensures.writes.backed in
+    let wrote = writing.writes_then g.D.Drive.contents g.D.Drive.count g.D.Drive.faults g.met.D.Drive.counted c.recall.new.self c.args.self.now.drive.now
+    c.make_room.new.drive c.read.new.self c.make_room.ensures.writes read in
+    let first = λ (full : 16 ≤ length c.recall.new.self). calls.still_on g.D.Drive.contents g.D.Drive.count g.D.Drive.faults g.met.D.Drive.counted
+    c.make_room.new.drive c.read.new.self c.recall.new.self c.args.n c.read.new.into _ c.read.ensures.leaves c.read.ensures.count c.read.ensures.later
+    (take 1 c.recall.new.self) (c.make_room.ensures.first c.in-Ok.is full) in
+    let on = calls.read_on g.D.Drive.contents g.D.Drive.count g.D.Drive.faults g.met.D.Drive.counted c.make_room.new.drive c.read.new.self c.recall.new.self
+    c.args.n c.read.new.into _ c.read.ensures.leaves c.read.ensures.count c.read.ensures.later c.in-Ok-read.is in
+    calls.page_since g.D.Drive.contents g.D.Drive.count g.D.Drive.faults g.met.D.Drive.counted c.args.self.now.drive.now c.read.new.self c.args.self.now.cache
+    c.recall.new.self c.hold.new.self c.args.n (cached_slot c.args.n c.read.new.into false) f.1 c.requires.in_range f.0 wrote first refl c.hold.ensures
+    c.read.new.into refl on
 
 pub returns-in-Ok-read-clause-order : goal.returns-in-Ok-read-clause-order
 returns-in-Ok-read-clause-order g c = λ _.
     let f = c.recall.ensures.absent c.if-recall.false in
-    let read = calls.reads g.D.Drive.contents g.D.Drive.count g.D.Drive.faults g.met.D.Drive.counted c.make_room.new.drive c.read.new.self c.recall.new.self c.args.n c.read.new.into _ c.read.ensures.leaves c.read.ensures.count c.read.ensures.later c.make_room.ensures.writes.backed in
-    let wrote = writing.writes_then g.D.Drive.contents g.D.Drive.count g.D.Drive.faults g.met.D.Drive.counted c.recall.new.self c.args.self.now.drive.now c.make_room.new.drive c.read.new.self c.make_room.ensures.writes read in
-    let first = λ (full : 16 ≤ length c.recall.new.self). calls.still_on g.D.Drive.contents g.D.Drive.count g.D.Drive.faults g.met.D.Drive.counted c.make_room.new.drive c.read.new.self c.recall.new.self c.args.n c.read.new.into _ c.read.ensures.leaves c.read.ensures.count c.read.ensures.later (take 1 c.recall.new.self) (c.make_room.ensures.first c.in-Ok.is full) in
-    calls.taken_order g.D.Drive.contents g.D.Drive.count g.D.Drive.faults g.met.D.Drive.counted c.args.self.now.drive.now c.read.new.self c.args.self.now.cache c.recall.new.self c.hold.new.self c.args.n (cached_slot c.args.n c.read.new.into false) f.1 c.requires.in_range f.0 wrote first refl c.hold.ensures
+    let read = calls.reads g.D.Drive.contents g.D.Drive.count g.D.Drive.faults g.met.D.Drive.counted c.make_room.new.drive c.read.new.self c.recall.new.self
+    c.args.n c.read.new.into _ c.read.ensures.leaves c.read.ensures.count c.read.ensures.later c.make_room.ensures.writes.backed in
+    let wrote = writing.writes_then g.D.Drive.contents g.D.Drive.count g.D.Drive.faults g.met.D.Drive.counted c.recall.new.self c.args.self.now.drive.now
+    c.make_room.new.drive c.read.new.self c.make_room.ensures.writes read in
+    let first = λ (full : 16 ≤ length c.recall.new.self). calls.still_on g.D.Drive.contents g.D.Drive.count g.D.Drive.faults g.met.D.Drive.counted
+    c.make_room.new.drive c.read.new.self c.recall.new.self c.args.n c.read.new.into _ c.read.ensures.leaves c.read.ensures.count c.read.ensures.later
+    (take 1 c.recall.new.self) (c.make_room.ensures.first c.in-Ok.is full) in
+    calls.taken_order g.D.Drive.contents g.D.Drive.count g.D.Drive.faults g.met.D.Drive.counted c.args.self.now.drive.now c.read.new.self
+    c.args.self.now.cache c.recall.new.self c.hold.new.self c.args.n (cached_slot c.args.n c.read.new.into false) f.1 c.requires.in_range f.0 wrote first
+    refl c.hold.ensures
 
 pub returns-in-Ok-read-clause-without_drive : goal.returns-in-Ok-read-clause-without_drive
-returns-in-Ok-read-clause-without_drive g c = λ listed. calls.not_listed g.D.Drive.contents g.D.Drive.count g.D.Drive.faults g.met.D.Drive.counted c.args.self.now.cache c.args.n (c.recall.ensures.absent c.if-recall.false).0 listed
+returns-in-Ok-read-clause-without_drive g c = λ listed. calls.not_listed g.D.Drive.contents g.D.Drive.count g.D.Drive.faults g.met.D.Drive.counted
+    c.args.self.now.cache c.args.n (c.recall.ensures.absent c.if-recall.false).0 listed
 
 pub returns-in-Failed-clause-since : goal.returns-in-Failed-clause-since
 returns-in-Failed-clause-since g c =
     let f = c.recall.ensures.absent c.if-recall.false in
-    let read = calls.reads g.D.Drive.contents g.D.Drive.count g.D.Drive.faults g.met.D.Drive.counted c.make_room.new.drive c.read.new.self c.recall.new.self c.args.n c.read.new.into _ c.read.ensures.leaves c.read.ensures.count c.read.ensures.later c.make_room.ensures.writes.backed in
-    let wrote = writing.writes_then g.D.Drive.contents g.D.Drive.count g.D.Drive.faults g.met.D.Drive.counted c.recall.new.self c.args.self.now.drive.now c.make_room.new.drive c.read.new.self c.make_room.ensures.writes read in
-    calls.still_kept g.D.Drive.contents g.D.Drive.count g.D.Drive.faults g.met.D.Drive.counted c.args.self.now.drive.now c.read.new.self c.args.self.now.cache c.recall.new.self f.1 wrote
+    let read = calls.reads g.D.Drive.contents g.D.Drive.count g.D.Drive.faults g.met.D.Drive.counted c.make_room.new.drive c.read.new.self c.recall.new.self
+    c.args.n c.read.new.into _ c.read.ensures.leaves c.read.ensures.count c.read.ensures.later c.make_room.ensures.writes.backed in
+    let wrote = writing.writes_then g.D.Drive.contents g.D.Drive.count g.D.Drive.faults g.met.D.Drive.counted c.recall.new.self c.args.self.now.drive.now
+    c.make_room.new.drive c.read.new.self c.make_room.ensures.writes read in
+    calls.still_kept g.D.Drive.contents g.D.Drive.count g.D.Drive.faults g.met.D.Drive.counted c.args.self.now.drive.now c.read.new.self c.args.self.now.cache
+    c.recall.new.self f.1 wrote
 
 pub returns-in-Failed-clause-without_drive : goal.returns-in-Failed-clause-without_drive
-returns-in-Failed-clause-without_drive g c = λ listed. calls.not_listed g.D.Drive.contents g.D.Drive.count g.D.Drive.faults g.met.D.Drive.counted c.args.self.now.cache c.args.n (c.recall.ensures.absent c.if-recall.false).0 listed
+returns-in-Failed-clause-without_drive g c = λ listed. calls.not_listed g.D.Drive.contents g.D.Drive.count g.D.Drive.faults g.met.D.Drive.counted
+    c.args.self.now.cache c.args.n (c.recall.ensures.absent c.if-recall.false).0 listed
 
 pub returns-in-Fault-clause-since : goal.returns-in-Fault-clause-since
 returns-in-Fault-clause-since g c =
     let f = c.recall.ensures.absent c.if-recall.false in
-    calls.still_kept g.D.Drive.contents g.D.Drive.count g.D.Drive.faults g.met.D.Drive.counted c.args.self.now.drive.now c.make_room.new.drive c.args.self.now.cache c.recall.new.self f.1 c.make_room.ensures.writes
+    calls.still_kept g.D.Drive.contents g.D.Drive.count g.D.Drive.faults g.met.D.Drive.counted c.args.self.now.drive.now c.make_room.new.drive
+    c.args.self.now.cache c.recall.new.self f.1 c.make_room.ensures.writes
 
 pub returns-in-Fault-clause-without_drive : goal.returns-in-Fault-clause-without_drive
-returns-in-Fault-clause-without_drive g c = λ listed. calls.not_listed g.D.Drive.contents g.D.Drive.count g.D.Drive.faults g.met.D.Drive.counted c.args.self.now.cache c.args.n (c.recall.ensures.absent c.if-recall.false).0 listed
+returns-in-Fault-clause-without_drive g c = λ listed. calls.not_listed g.D.Drive.contents g.D.Drive.count g.D.Drive.faults g.met.D.Drive.counted
+    c.args.self.now.cache c.args.n (c.recall.ensures.absent c.if-recall.false).0 listed
 
 pub returns-then-recall-clause-drives_out : goal.returns-then-recall-clause-drives_out
-returns-then-recall-clause-drives_out g c = writing.only_none g.D.Drive.contents g.D.Drive.count g.D.Drive.faults g.met.D.Drive.counted c.args.self.now.drive.now (driven_out c.args.n (numbers_of c.args.self.now.cache))
+returns-then-recall-clause-drives_out g c = writing.only_none g.D.Drive.contents g.D.Drive.count g.D.Drive.faults g.met.D.Drive.counted
+    c.args.self.now.drive.now (driven_out c.args.n (numbers_of c.args.self.now.cache))
 
 pub returns-in-Ok-read-clause-drives_out : goal.returns-in-Ok-read-clause-drives_out
 returns-in-Ok-read-clause-drives_out g c =
     let f = c.recall.ensures.absent c.if-recall.false in
-    calls.taken_only g.D.Drive.contents g.D.Drive.count g.D.Drive.faults g.met.D.Drive.counted c.args.self.now.drive.now c.make_room.new.drive c.read.new.self c.args.self.now.cache c.recall.new.self c.args.n f.1 f.0 c.make_room.ensures.only (calls.old_is g.D.Drive.contents g.D.Drive.count g.D.Drive.faults g.met.D.Drive.counted c.make_room.new.drive c.read.new.self c.recall.new.self c.args.n c.read.new.into _ c.read.ensures.leaves c.read.ensures.count c.read.ensures.later)
+    calls.taken_only g.D.Drive.contents g.D.Drive.count g.D.Drive.faults g.met.D.Drive.counted c.args.self.now.drive.now c.make_room.new.drive c.read.new.self
+    c.args.self.now.cache c.recall.new.self c.args.n f.1 f.0 c.make_room.ensures.only
+    (calls.old_is g.D.Drive.contents g.D.Drive.count g.D.Drive.faults g.met.D.Drive.counted c.make_room.new.drive c.read.new.self c.recall.new.self c.args.n
+    c.read.new.into _ c.read.ensures.leaves c.read.ensures.count c.read.ensures.later)
 
 pub returns-in-Failed-clause-drives_out : goal.returns-in-Failed-clause-drives_out
 returns-in-Failed-clause-drives_out g c =
     let f = c.recall.ensures.absent c.if-recall.false in
-    calls.taken_only g.D.Drive.contents g.D.Drive.count g.D.Drive.faults g.met.D.Drive.counted c.args.self.now.drive.now c.make_room.new.drive c.read.new.self c.args.self.now.cache c.recall.new.self c.args.n f.1 f.0 c.make_room.ensures.only (calls.old_is g.D.Drive.contents g.D.Drive.count g.D.Drive.faults g.met.D.Drive.counted c.make_room.new.drive c.read.new.self c.recall.new.self c.args.n c.read.new.into _ c.read.ensures.leaves c.read.ensures.count c.read.ensures.later)
+    calls.taken_only g.D.Drive.contents g.D.Drive.count g.D.Drive.faults g.met.D.Drive.counted c.args.self.now.drive.now c.make_room.new.drive c.read.new.self
+    c.args.self.now.cache c.recall.new.self c.args.n f.1 f.0 c.make_room.ensures.only
+    (calls.old_is g.D.Drive.contents g.D.Drive.count g.D.Drive.faults g.met.D.Drive.counted c.make_room.new.drive c.read.new.self c.recall.new.self c.args.n
+    c.read.new.into _ c.read.ensures.leaves c.read.ensures.count c.read.ensures.later)
 
 pub returns-in-Fault-clause-drives_out : goal.returns-in-Fault-clause-drives_out
 returns-in-Fault-clause-drives_out g c =
     let f = c.recall.ensures.absent c.if-recall.false in
-    calls.taken_only g.D.Drive.contents g.D.Drive.count g.D.Drive.faults g.met.D.Drive.counted c.args.self.now.drive.now c.make_room.new.drive c.make_room.new.drive c.args.self.now.cache c.recall.new.self c.args.n f.1 f.0 c.make_room.ensures.only (λ _ e. e)
+    calls.taken_only g.D.Drive.contents g.D.Drive.count g.D.Drive.faults g.met.D.Drive.counted c.args.self.now.drive.now c.make_room.new.drive
+    c.make_room.new.drive c.args.self.now.cache c.recall.new.self c.args.n f.1 f.0 c.make_room.ensures.only (λ _ e. e)

@@ -7,12 +7,15 @@ use Rattle.edi_kernel.proofs.state.KernelState.choose.Goals as goal
 pub returns-clause-exact : goal.returns-clause-exact
 returns-clause-exact c =
     λ drawn m names h.
-    chooses c.args.self.now (record c.args.self.now { table = c.next-slot.new.self; taken = Some c.next-slot.result }) c.pick-at.result c.next-slot.result c.args.choices.now c.pick-at.new.choices
-    c.requires.kernel c.requires.free c.next-slot.ensures.slot c.next-slot.ensures.was c.next-slot.ensures.taken refl refl c.ready.result c.ready.ensures.exact c.pick-at.ensures.inside c.pick-at.ensures.exact drawn m names h
+    chooses c.args.self.now (record c.args.self.now { table = c.next-slot.new.self; taken = Some c.next-slot.result }) c.pick-at.result c.next-slot.result
+    c.args.choices.now c.pick-at.new.choices
+    c.requires.kernel c.requires.free c.next-slot.ensures.slot c.next-slot.ensures.was c.next-slot.ensures.taken refl refl c.ready.result
+    c.ready.ensures.exact c.pick-at.ensures.inside c.pick-at.ensures.exact drawn m names h
 
 pub returns-clause-kernel : goal.returns-clause-kernel
 returns-clause-kernel c =
-    chosen_kernel c.args.self.now (record c.args.self.now { table = c.next-slot.new.self; taken = Some c.next-slot.result }) c.pick-at.result c.next-slot.result c.args.choices.now c.pick-at.new.choices
+    chosen_kernel c.args.self.now (record c.args.self.now { table = c.next-slot.new.self; taken = Some c.next-slot.result }) c.pick-at.result
+    c.next-slot.result c.args.choices.now c.pick-at.new.choices
     c.requires.kernel c.requires.free c.next-slot.ensures.slot c.next-slot.ensures.was c.next-slot.ensures.taken refl refl
 
 pub returns-clause-takes : goal.returns-clause-takes

@@ -7,14 +7,18 @@ use Rattle.edi_kernel.proofs.state.KernelState.round.Goals as goal
 pub returns-in-Some-clause-exact : goal.returns-in-Some-clause-exact
 returns-in-Some-clause-exact g c =
     λ drawn.
-    told_round_ends c.args.code.now.words c.args.bound c.args.self.now c.go-end.new.self (record c.go-end.new.self { used = c.go-end.new.self.used + c.used_in.result }) c.args.choices.now
-    (c.args.bound - c.args.self.now.used) c.go-end.result _ _ (omega (arith, c.go-end.ensures.turns, c.used_in.ensures, c.go-end.ensures.used, c.requires.used)) refl c.in-Some.ending (sym c.in-Some.ensures) c.go-end.ensures.exact
+    told_round_ends c.args.code.now.words c.args.bound c.args.self.now c.go-end.new.self
+    (record c.go-end.new.self { used = c.go-end.new.self.used + c.used_in.result }) c.args.choices.now
+    (c.args.bound - c.args.self.now.used) c.go-end.result _ _
+    (omega (arith, c.go-end.ensures.turns, c.used_in.ensures, c.go-end.ensures.used, c.requires.used)) refl c.in-Some.ending (sym c.in-Some.ensures)
+    c.go-end.ensures.exact
 
 pub returns-clause-exact : goal.returns-clause-exact
 returns-clause-exact g c =
     λ drawn.
     told_round_goes c.args.code.now.words c.args.bound c.args.self.now c.go-end.new.self c.proceed.new.self c.args.choices.now
-    (c.args.bound - c.args.self.now.used) c.go-end.result _ _ (omega (arith, c.go-end.ensures.turns, c.used_in.ensures, c.go-end.ensures.used, c.requires.used, c.proceed.ensures.turns)) c.proceed.ensures.store
+    (c.args.bound - c.args.self.now.used) c.go-end.result _ _
+    (omega (arith, c.go-end.ensures.turns, c.used_in.ensures, c.go-end.ensures.used, c.requires.used, c.proceed.ensures.turns)) c.proceed.ensures.store
     c.proceed.result c.proceed.new.choices (sym c.ended_by.ensures ∙ c.in_default.is)
     (λ n names k.
     c.proceed.ensures.exact drawn n names
@@ -26,4 +30,5 @@ returns-in-Some-clause-standing g c = stands_at_end c.go-end.result c.in-Some.en
 
 pub returns-clause-standing : goal.returns-clause-standing
 returns-clause-standing g c =
-    stands_unready c.go-end.result _ _ c.proceed.result (record c.go-end.new.self { used = c.go-end.new.self.used + c.used_in.result }) c.proceed.new.self (sym c.ended_by.ensures ∙ c.in_default.is) c.proceed.ensures.nobody c.go-end.ensures.standing
+    stands_unready c.go-end.result _ _ c.proceed.result (record c.go-end.new.self { used = c.go-end.new.self.used + c.used_in.result }) c.proceed.new.self
+    (sym c.ended_by.ensures ∙ c.in_default.is) c.proceed.ensures.nobody c.go-end.ensures.standing

@@ -7,7 +7,8 @@ use Rattle.edi_kernel.proofs.state.KernelState.run.Goals as goal
 pub returns-then-bound-eq0-clause-exact : goal.returns-then-bound-eq0-clause-exact
 returns-then-bound-eq0-clause-exact g c =
     λ small.
-    told_never c.args.code.now c.args.bound c.args.choices.now (g.C.Calls.state c.args.calls.now) c.start.new.self (record c.start.new.self { entering = false }) c.start.ensures c.if-bound-eq0.true c.start.ensures.used
+    told_never c.args.code.now c.args.bound c.args.choices.now (g.C.Calls.state c.args.calls.now) c.start.new.self
+    (record c.start.new.self { entering = false }) c.start.ensures c.if-bound-eq0.true c.start.ensures.used
 
 pub rounds-init : goal.rounds-init
 rounds-init g c = record {
@@ -21,14 +22,17 @@ rounds-init g c = record {
   drawn = omega arith;
   later = λ outside. omega arith;
   exact = λ small.
-      told_begins c.args.code.now c.args.bound c.args.choices.now (g.C.Calls.state c.args.calls.now) c.start.new.self (record c.start.new.self { entering = false; used = 1 }) c.start.ensures (omega (arith, c.if-bound-eq0.false)) refl refl refl refl;
+      told_begins c.args.code.now c.args.bound c.args.choices.now (g.C.Calls.state c.args.calls.now) c.start.new.self
+      (record c.start.new.self { entering = false; used = 1 }) c.start.ensures (omega (arith, c.if-bound-eq0.false)) refl refl refl refl;
 }
 
 pub returns-in-Some-clause-exact : goal.returns-in-Some-clause-exact
 returns-in-Some-clause-exact g c =
     λ small.
-    told_ends c.args.code.now c.args.bound c.args.choices.now (g.C.Calls.state c.args.calls.now) (g.C.Calls.state c.rounds.calls) (g.C.Calls.state c.round.new.calls) c.rounds.self c.round.new.self c.rounds.choices c.round.new.choices c.in-Some.ending
-    c.rounds.invariant.source c.round.ensures.used (c.rounds.invariant.exact small) (c.in-Some.ensures.exact (omega (arith, small, c.rounds.invariant.drawn, c.rounds.invariant.used)))
+    told_ends c.args.code.now c.args.bound c.args.choices.now (g.C.Calls.state c.args.calls.now) (g.C.Calls.state c.rounds.calls)
+    (g.C.Calls.state c.round.new.calls) c.rounds.self c.round.new.self c.rounds.choices c.round.new.choices c.in-Some.ending
+    c.rounds.invariant.source c.round.ensures.used (c.rounds.invariant.exact small)
+    (c.in-Some.ensures.exact (omega (arith, small, c.rounds.invariant.drawn, c.rounds.invariant.used)))
 
 pub rounds-preserved : goal.rounds-preserved
 rounds-preserved g c = record {
@@ -42,6 +46,8 @@ rounds-preserved g c = record {
   drawn = omega (arith, c.in_default.ensures.drawn, c.in_default.ensures.spent refl, c.rounds.invariant.drawn);
   later = λ outside. omega (arith, c.in_default.ensures.later outside, c.rounds.invariant.later outside);
   exact = λ small.
-      told_more c.args.code.now c.args.bound c.args.choices.now (g.C.Calls.state c.args.calls.now) (g.C.Calls.state c.rounds.calls) (g.C.Calls.state c.round.new.calls) c.rounds.self c.round.new.self c.rounds.choices c.round.new.choices
-      c.rounds.invariant.source (c.rounds.invariant.exact small) (c.in_default.ensures.exact (omega (arith, small, c.rounds.invariant.drawn, c.rounds.invariant.used)));
+      told_more c.args.code.now c.args.bound c.args.choices.now (g.C.Calls.state c.args.calls.now) (g.C.Calls.state c.rounds.calls)
+      (g.C.Calls.state c.round.new.calls) c.rounds.self c.round.new.self c.rounds.choices c.round.new.choices
+      c.rounds.invariant.source (c.rounds.invariant.exact small)
+      (c.in_default.ensures.exact (omega (arith, small, c.rounds.invariant.drawn, c.rounds.invariant.used)));
 }

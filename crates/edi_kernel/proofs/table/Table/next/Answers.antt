@@ -7,7 +7,8 @@ pub withdraw-requires-clause-slot : goal.withdraw-requires-clause-slot
 withdraw-requires-clause-slot c = listed_below _ 0 _ _ c.requires.sound (sym c.nth.ensures.exact ∙ c.unwrap-slot.ensures)
 
 pub withdraw-requires-clause-listed : goal.withdraw-requires-clause-listed
-withdraw-requires-clause-listed c = some_home c.args.self.now.lists c.unwrap-slot.result 0 (listed _ 0 _ _ c.requires.sound (omega arith) (sym c.nth.ensures.exact ∙ c.unwrap-slot.ensures))
+withdraw-requires-clause-listed c = some_home c.args.self.now.lists c.unwrap-slot.result 0
+    (listed _ 0 _ _ c.requires.sound (omega arith) (sym c.nth.ensures.exact ∙ c.unwrap-slot.ensures))
 
 pub returns-clause-slot : goal.returns-clause-slot
 returns-clause-slot c = listed_below _ 0 _ _ c.requires.sound (sym c.nth.ensures.exact ∙ c.unwrap-slot.ensures)

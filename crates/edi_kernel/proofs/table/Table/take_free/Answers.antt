@@ -7,7 +7,8 @@ pub withdraw-requires-clause-slot : goal.withdraw-requires-clause-slot
 withdraw-requires-clause-slot c = listed_below _ 1 _ _ c.requires.sound (sym c.front.ensures.exact ∙ c.unwrap-slot.ensures)
 
 pub withdraw-requires-clause-listed : goal.withdraw-requires-clause-listed
-withdraw-requires-clause-listed c = some_home c.args.self.now.lists c.unwrap-slot.result 1 (listed _ 1 _ _ c.requires.sound (omega arith) (sym c.front.ensures.exact ∙ c.unwrap-slot.ensures))
+withdraw-requires-clause-listed c = some_home c.args.self.now.lists c.unwrap-slot.result 1
+    (listed _ 1 _ _ c.requires.sound (omega arith) (sym c.front.ensures.exact ∙ c.unwrap-slot.ensures))
 
 pub returns-clause-was : goal.returns-clause-was
 returns-clause-was c = listed _ 1 _ _ c.requires.sound (omega arith) (sym c.front.ensures.exact ∙ c.unwrap-slot.ensures)

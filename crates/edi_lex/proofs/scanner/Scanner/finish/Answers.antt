@@ -7,7 +7,8 @@ pub returns-in-Some-clause-exact : goal.returns-in-Some-clause-exact
 unfolding HasRead
 returns-in-Some-clause-exact c = λ text h.
     let self = c.args.self in
-    fault_ends c.in-Some.fault self.cutter self.line self.bytes text self.counted self.lined (subst (λ o. ReadsTo o self.cutter self.line self.bytes text) c.in-Some.is h)
+    fault_ends c.in-Some.fault self.cutter self.line self.bytes text self.counted self.lined
+    (subst (λ o. ReadsTo o self.cutter self.line self.bytes text) c.in-Some.is h)
 
 pub invariant_of-result : goal.invariant_of-result
 invariant_of-result c =
@@ -21,11 +22,13 @@ unfolding HasRead
 returns-in-Ok-clause-exact c = λ text h.
     let self = c.args.self in
     let none : c.args.self.fault ≡ None = search rules in
-    end_symbols self.cutter c.end.new.self self.line self.bytes text self.counted self.lined (self.sound none) (subst (λ o. ReadsTo o self.cutter self.line self.bytes text) none h) c.in-Ok.ensures.exact
+    end_symbols self.cutter c.end.new.self self.line self.bytes text self.counted self.lined (self.sound none)
+    (subst (λ o. ReadsTo o self.cutter self.line self.bytes text) none h) c.in-Ok.ensures.exact
 
 pub returns-in-Err-clause-exact : goal.returns-in-Err-clause-exact
 unfolding HasRead
 returns-in-Err-clause-exact c = λ text h.
     let self = c.args.self in
     let none : c.args.self.fault ≡ None = search rules in
-    end_fault c.in-Err.fault self.cutter c.end.new.self self.line self.bytes text self.counted self.lined (self.sound none) (subst (λ o. ReadsTo o self.cutter self.line self.bytes text) none h) c.in-Err.ensures.exact
+    end_fault c.in-Err.fault self.cutter c.end.new.self self.line self.bytes text self.counted self.lined (self.sound none)
+    (subst (λ o. ReadsTo o self.cutter self.line self.bytes text) none h) c.in-Err.ensures.exact

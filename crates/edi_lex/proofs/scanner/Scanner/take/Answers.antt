@@ -22,7 +22,8 @@ pub invariant_of-self-2-clause-sound : goal.invariant_of-self-2-clause-sound
 invariant_of-self-2-clause-sound c = λ none.
     let self = c.args.self.now in
     rw c.feeds_at.ensures.exact
-    (sound_more self.fault c.fault_with-fault.result self.cutter c.fault_with-fault.new.cutter c.args.byte self.line self.bytes self.sound c.fault_with-fault.ensures.exact none)
+    (sound_more self.fault c.fault_with-fault.result self.cutter c.fault_with-fault.new.cutter c.args.byte self.line self.bytes self.sound
+    c.fault_with-fault.ensures.exact none)
 
 pub returns-clause-read : goal.returns-clause-read
 unfolding HasRead HasFailed
@@ -31,4 +32,5 @@ returns-clause-read c = λ text h.
     let other : c.args.self.now.fault ≡ Some TooLong → ⊥ = search rules in
     let works : c.fault_with-fault.result ≡ Some NoMemory → ⊥ = search rules in
     rw c.feeds_at.ensures.exact
-    (reads_more self.fault c.fault_with-fault.result self.cutter c.fault_with-fault.new.cutter c.args.byte self.line self.bytes text self.sound c.fault_with-fault.ensures.exact other works h)
+    (reads_more self.fault c.fault_with-fault.result self.cutter c.fault_with-fault.new.cutter c.args.byte self.line self.bytes text self.sound
+    c.fault_with-fault.ensures.exact other works h)

@@ -9,10 +9,12 @@ returns-in_err-insert-clause-err c =
     let p = err_from_is_err_and c.from_residual-in_err-insert.result c.from_residual-in_err-insert.ensures.1 in
     let was : get_by (name_cmp c.args.name.now) c.make_list.new.self.lists ≡ Some c.in-Some.list.now = sym c.in-Some.ensures.value in
     rw p.1
-    (λ q. listed-same c.make_list.new.self (record { lists = c.get_mut.follows.lender c.insert.new.self }) c.args.name.now c.in-Some.list.now c.insert.new.self was ((c.get_mut.follows.holds c.insert.new.self).3 (search rules)) c.in_err-insert.ensures.items q ∙ c.in_ok-make_list.ensures.same q)
+    (λ q. listed-same c.make_list.new.self (record { lists = c.get_mut.follows.lender c.insert.new.self }) c.args.name.now c.in-Some.list.now
+    c.insert.new.self was ((c.get_mut.follows.holds c.insert.new.self).3 (search rules)) c.in_err-insert.ensures.items q ∙ c.in_ok-make_list.ensures.same q)
 
 pub returns-clause-ok : goal.returns-clause-ok
 returns-clause-ok c = λ q.
     let was : get_by (name_cmp c.args.name.now) c.make_list.new.self.lists ≡ Some c.in-Some.list.now = sym c.in-Some.ensures.value in
     rw (← c.in_ok-make_list.ensures.same q)
-    (listed-change c.make_list.new.self (record { lists = c.get_mut.follows.lender c.insert.new.self }) c.args.name.now c.in-Some.list.now c.insert.new.self (λ l. insert l c.args.at c.args.declaration) was ((c.get_mut.follows.holds c.insert.new.self).3 (search rules)) c.in_ok-insert.ensures.items q)
+    (listed-change c.make_list.new.self (record { lists = c.get_mut.follows.lender c.insert.new.self }) c.args.name.now c.in-Some.list.now c.insert.new.self
+    (λ l. insert l c.args.at c.args.declaration) was ((c.get_mut.follows.holds c.insert.new.self).3 (search rules)) c.in_ok-insert.ensures.items q)

@@ -7,5 +7,7 @@ pub returns : goal.returns
 returns c =
     let was : get_by (name_cmp c.args.name.now) c.args.self.now.lists ≡ Some c.in-Some.list.now = sym c.in-Some.ensures.value in
     record {
-      exact = λ q. listed-change c.args.self.now (record { lists = c.get_mut.follows.lender c.remove-removed.new.self }) c.args.name.now c.in-Some.list.now c.remove-removed.new.self (λ l. remove l c.args.at) was ((c.get_mut.follows.holds c.remove-removed.new.self).3 (search rules)) c.remove-removed.ensures.items q;
+      exact = λ q. listed-change c.args.self.now (record { lists = c.get_mut.follows.lender c.remove-removed.new.self }) c.args.name.now c.in-Some.list.now
+          c.remove-removed.new.self (λ l. remove l c.args.at) was ((c.get_mut.follows.holds c.remove-removed.new.self).3 (search rules))
+          c.remove-removed.ensures.items q;
     }

@@ -4,4 +4,5 @@ use Rattle.edi_scope.proofs.scopes.Scopes.declare_beyond.Goals as goal
 
 pub add_at-requires-in-Ok-clause-inside : goal.add_at-requires-in-Ok-clause-inside
 add_at-requires-in-Ok-clause-inside c =
-    subst (λ s. 2 < length s) (sym c.in-Ok.ensures.ok) (omega (arith, c.has_beyond.ensures.beyond, length-with_name_at 1 c.args.name.now c.args.entity c.args.self.now))
+    subst (λ s. 2 < length s) (sym c.in-Ok.ensures.ok)
+    (omega (arith, c.has_beyond.ensures.beyond, length-with_name_at 1 c.args.name.now c.args.entity c.args.self.now))

@@ -8,7 +8,8 @@ use Rattle.edi_scope.proofs.scopes.Scopes.has_outside.Goals as goal
 
 pub returns : goal.returns
 returns c =
-    let round : 1 < length (scopes_of c.self.inside.scopes) = round_module (scopes_of c.self.inside.scopes) c.self.invariant.outermost (subst (λ s. IsTrue (in_module s)) (sym c.self.view_is) c.requires) in
+    let round : 1 < length (scopes_of c.self.inside.scopes) = round_module (scopes_of c.self.inside.scopes) c.self.invariant.outermost
+    (subst (λ s. IsTrue (in_module s)) (sym c.self.view_is) c.requires) in
     let len : length (scopes_of c.self.inside.scopes) ≡ c.len.result = length-scopes_of c.self.inside.scopes ∙ omega (arith, c.len.ensures) in
     record {
       exact = c.is_at.ensures.exact

@@ -9,5 +9,6 @@ use Rattle.edi_shell_calls.proofs.on_system.SystemShellCalls.protect.Goals as go
 pub returns-clause-exact : goal.returns-clause-exact
 returns-clause-exact g c = λ s at tells.
     answers g.D.Drive.contents g.S.Source.left g.T.Sink.taken g.P.Sink.taken c.args.self.now c.protect.new.self s at tells c.protect.ensures.due
-    (λ (x : State). no_such (find_file x.slots c.args.title.now)) (λ (x : State). slots_changed (file_protected true) c.args.title.now x.slots) left_open (λ x. refl) (λ x. refl) (λ x slots. refl)
+    (λ (x : State). no_such (find_file x.slots c.args.title.now)) (λ (x : State). slots_changed (file_protected true) c.args.title.now x.slots) left_open
+    (λ x. refl) (λ x. refl) (λ x slots. refl)
     c.protect.result c.protect.ensures.exact

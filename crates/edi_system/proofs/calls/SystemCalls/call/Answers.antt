@@ -29,16 +29,21 @@ returns-in-Err-FileLimit-clause-exact g c =
     c.in-Err-FileLimit.ensures.exact
 
 pub returns-in-Ok-Some-clause-lasting : goal.returns-in-Ok-Some-clause-lasting
-returns-in-Ok-Some-clause-lasting g c = lasts g.D.Drive.contents g.S.Source.left g.T.Sink.taken g.P.Sink.taken c.args.self.now c.program_call.new.self c.in-Ok-Some.ensures.told c.in-Ok-Some.ensures.due
+returns-in-Ok-Some-clause-lasting g c = lasts g.D.Drive.contents g.S.Source.left g.T.Sink.taken g.P.Sink.taken c.args.self.now c.program_call.new.self
+    c.in-Ok-Some.ensures.told c.in-Ok-Some.ensures.due
 
 pub returns-in-Ok-None-clause-lasting : goal.returns-in-Ok-None-clause-lasting
-returns-in-Ok-None-clause-lasting g c = lasts g.D.Drive.contents g.S.Source.left g.T.Sink.taken g.P.Sink.taken c.args.self.now c.program_call.new.self c.in-Ok-None.ensures.told c.in-Ok-None.ensures.due
+returns-in-Ok-None-clause-lasting g c = lasts g.D.Drive.contents g.S.Source.left g.T.Sink.taken g.P.Sink.taken c.args.self.now c.program_call.new.self
+    c.in-Ok-None.ensures.told c.in-Ok-None.ensures.due
 
 pub returns-in-Err-NoFile-clause-lasting : goal.returns-in-Err-NoFile-clause-lasting
-returns-in-Err-NoFile-clause-lasting g c = lasts g.D.Drive.contents g.S.Source.left g.T.Sink.taken g.P.Sink.taken c.args.self.now c.program_call.new.self c.in-Err-NoFile.ensures.told c.in-Err-NoFile.ensures.due
+returns-in-Err-NoFile-clause-lasting g c = lasts g.D.Drive.contents g.S.Source.left g.T.Sink.taken g.P.Sink.taken c.args.self.now c.program_call.new.self
+    c.in-Err-NoFile.ensures.told c.in-Err-NoFile.ensures.due
 
 pub returns-in-Err-FileLimit-clause-lasting : goal.returns-in-Err-FileLimit-clause-lasting
-returns-in-Err-FileLimit-clause-lasting g c = lasts g.D.Drive.contents g.S.Source.left g.T.Sink.taken g.P.Sink.taken c.args.self.now c.program_call.new.self c.in-Err-FileLimit.ensures.told c.in-Err-FileLimit.ensures.due
+returns-in-Err-FileLimit-clause-lasting g c = lasts g.D.Drive.contents g.S.Source.left g.T.Sink.taken g.P.Sink.taken c.args.self.now c.program_call.new.self
+    c.in-Err-FileLimit.ensures.told c.in-Err-FileLimit.ensures.due
 
 pub returns-in-Err-Fault-clause-lasting : goal.returns-in-Err-Fault-clause-lasting
-returns-in-Err-Fault-clause-lasting g c = lasts g.D.Drive.contents g.S.Source.left g.T.Sink.taken g.P.Sink.taken c.args.self.now c.program_call.new.self c.in-Err-Fault.ensures.told c.in-Err-Fault.ensures.due
+returns-in-Err-Fault-clause-lasting g c = lasts g.D.Drive.contents g.S.Source.left g.T.Sink.taken g.P.Sink.taken c.args.self.now c.program_call.new.self
+    c.in-Err-Fault.ensures.told c.in-Err-Fault.ensures.due

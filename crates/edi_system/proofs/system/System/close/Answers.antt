@@ -6,23 +6,36 @@ use Rattle.edi_system.proofs.system.System.close.Goals as goal
 
 pub returns-then-is_refused-clause-exact : goal.returns-then-is_refused-clause-exact
 returns-then-is_refused-clause-exact g c =
-    close_refused_told g.D.Drive.contents g.S.Source.left g.T.Sink.taken g.P.Sink.taken g.D.Drive.count g.D.Drive.faults g.met.D.Drive.counted g.met.D.Drive.sized
+    close_refused_told g.D.Drive.contents g.S.Source.left g.T.Sink.taken g.P.Sink.taken g.D.Drive.count g.D.Drive.faults g.met.D.Drive.counted
+    g.met.D.Drive.sized
     c.args.self.now (record c.args.self.now { catalog = c.store-answer.new.self; failed = c.failed_at-self.result })
     c.store-answer.result c.in-Some-title_of.title c.args.words.now c.requires.ready.mounted (sym c.in-Some-title_of.ensures) refl refl refl
-    c.in-Some.bytes.now _ c.word_of-then-is_refused.ensures c.in-Some.ensures.most (sym c.is_refused.ensures ∙ c.if-is_refused.true) c.store-answer.ensures.changes
+    c.in-Some.bytes.now _ c.word_of-then-is_refused.ensures c.in-Some.ensures.most (sym c.is_refused.ensures ∙ c.if-is_refused.true)
+    c.store-answer.ensures.changes
     (sym c.in-Some.ensures.exact) refl refl
 
 pub returns-clause-exact : goal.returns-clause-exact
 returns-clause-exact g c =
     closes_told g.D.Drive.contents g.S.Source.left g.T.Sink.taken g.P.Sink.taken g.D.Drive.count g.D.Drive.faults g.met.D.Drive.counted g.met.D.Drive.sized
-    c.args.self.now (record c.args.self.now { catalog = c.store-answer.new.self; failed = c.failed_at-self.result; found = c.drop_titled.new.found; buffer = re_v c.leave.new.self c.args.self.now.buffer })
+    c.args.self.now (record c.args.self.now {
+      catalog = c.store-answer.new.self;
+      failed = c.failed_at-self.result;
+      found = c.drop_titled.new.found;
+      buffer = re_v c.leave.new.self c.args.self.now.buffer;
+    })
     c.store-answer.result c.in-Some-title_of.title c.args.words.now c.requires.ready.mounted (sym c.in-Some-title_of.ensures) refl refl refl
     c.in-Some.bytes.now c.done.result c.done.ensures (sym c.is_refused.ensures ∙ c.if-is_refused.false) c.store-answer.ensures.changes
     (sym c.in-Some.ensures.exact) c.drop_titled.ensures c.leave.ensures
 
 pub returns-clause-ready : goal.returns-clause-ready
 returns-clause-ready g c =
-    closes_ready g.D.Drive.contents g.D.Drive.count g.D.Drive.faults c.args.self.now (record c.args.self.now { catalog = c.store-answer.new.self; failed = c.failed_at-self.result; found = c.drop_titled.new.found; buffer = re_v c.leave.new.self c.args.self.now.buffer })
+    closes_ready g.D.Drive.contents g.D.Drive.count g.D.Drive.faults c.args.self.now
+    (record c.args.self.now {
+      catalog = c.store-answer.new.self;
+      failed = c.failed_at-self.result;
+      found = c.drop_titled.new.found;
+      buffer = re_v c.leave.new.self c.args.self.now.buffer;
+    })
     c.store-answer.result c.in-Some-title_of.title c.done.result c.done.ensures
     (sym c.is_refused.ensures ∙ c.if-is_refused.false) c.requires.ready c.failed_at-self.ensures c.drop_titled.ensures refl _ _ _ c.store-answer.ensures.changes
 

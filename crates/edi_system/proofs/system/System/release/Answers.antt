@@ -14,13 +14,15 @@ use Rattle.edi_system.proofs.system.System.release.Goals as goal
 pub returns-then-is_refused-clause-untouched : goal.returns-then-is_refused-clause-untouched
 returns-then-is_refused-clause-untouched g c =
     untouched_if _ c.args.self.now (record c.args.self.now { catalog = c.release-answer.new.self; failed = c.failed_at-self.result })
-    (λ refused. refused_system c.args.self.now c.release-answer.new.self _ _ refused c.release-answer.ensures.changes.untouched c.failed_at-self.ensures c.requires.ready.nothing_failed)
+    (λ refused. refused_system c.args.self.now c.release-answer.new.self _ _ refused c.release-answer.ensures.changes.untouched c.failed_at-self.ensures
+    c.requires.ready.nothing_failed)
 
 pub returns-then-is_refused-clause-ready : goal.returns-then-is_refused-clause-ready
 returns-then-is_refused-clause-ready g c = λ _.
     let refused : is_refused c.release-answer.result ≡ true = sym c.is_refused.ensures ∙ c.if-is_refused.true in
     subst (IsReady g.D.Drive.contents g.D.Drive.count)
-    (sym (refused_system c.args.self.now c.release-answer.new.self _ _ refused c.release-answer.ensures.changes.untouched c.failed_at-self.ensures c.requires.ready.nothing_failed)) c.requires.ready
+    (sym (refused_system c.args.self.now c.release-answer.new.self _ _ refused c.release-answer.ensures.changes.untouched c.failed_at-self.ensures
+    c.requires.ready.nothing_failed)) c.requires.ready
 
 pub returns-clause-untouched : goal.returns-clause-untouched
 returns-clause-untouched g c =
@@ -45,7 +47,8 @@ returns-then-is_refused-clause-exact g c =
 pub returns-clause-exact : goal.returns-clause-exact
 returns-clause-exact g c =
     keeps_files g.D.Drive.contents g.S.Source.left g.T.Sink.taken g.P.Sink.taken g.D.Drive.count g.D.Drive.faults g.met.D.Drive.counted g.met.D.Drive.sized
-    c.args.self.now (record c.args.self.now { catalog = c.release-answer.new.self; failed = c.failed_at-self.result; found = c.forget_page.new.found }) c.release-answer.result
+    c.args.self.now (record c.args.self.now { catalog = c.release-answer.new.self; failed = c.failed_at-self.result; found = c.forget_page.new.found })
+    c.release-answer.result
     (λ n slots. no_such (find_file slots c.args.title.now)) (slots_changed (file_protected false) c.args.title.now) refl refl refl
     c.release-answer.ensures.changes.count_stays (returns-clause-stays g c) c.release-answer.ensures.exact
 

@@ -15,13 +15,15 @@ use Rattle.edi_system.proofs.system.System.rename.Goals as goal
 pub returns-then-is_refused-clause-untouched : goal.returns-then-is_refused-clause-untouched
 returns-then-is_refused-clause-untouched g c =
     untouched_if _ c.args.self.now (record c.args.self.now { catalog = c.rename-answer.new.self; failed = c.failed_at-self.result })
-    (λ refused. refused_system c.args.self.now c.rename-answer.new.self _ _ refused c.rename-answer.ensures.changes.untouched c.failed_at-self.ensures c.requires.ready.nothing_failed)
+    (λ refused. refused_system c.args.self.now c.rename-answer.new.self _ _ refused c.rename-answer.ensures.changes.untouched c.failed_at-self.ensures
+    c.requires.ready.nothing_failed)
 
 pub returns-then-is_refused-clause-ready : goal.returns-then-is_refused-clause-ready
 returns-then-is_refused-clause-ready g c = λ _.
     let refused : is_refused c.rename-answer.result ≡ true = sym c.is_refused.ensures ∙ c.if-is_refused.true in
     subst (IsReady g.D.Drive.contents g.D.Drive.count)
-    (sym (refused_system c.args.self.now c.rename-answer.new.self _ _ refused c.rename-answer.ensures.changes.untouched c.failed_at-self.ensures c.requires.ready.nothing_failed)) c.requires.ready
+    (sym (refused_system c.args.self.now c.rename-answer.new.self _ _ refused c.rename-answer.ensures.changes.untouched c.failed_at-self.ensures
+    c.requires.ready.nothing_failed)) c.requires.ready
 
 pub returns-clause-untouched : goal.returns-clause-untouched
 returns-clause-untouched g c =
@@ -31,14 +33,21 @@ pub returns-then-is_refused-clause-exact : goal.returns-then-is_refused-clause-e
 returns-then-is_refused-clause-exact g c =
     closes_files g.D.Drive.contents g.S.Source.left g.T.Sink.taken g.P.Sink.taken g.D.Drive.count g.D.Drive.faults g.met.D.Drive.counted g.met.D.Drive.sized
     c.args.self.now (record c.args.self.now { catalog = c.rename-answer.new.self; failed = c.failed_at-self.result }) c.rename-answer.result
-    (λ n slots. no_renaming (find_file slots c.args.old.now) (find_file slots c.args.new.now)) (slots_changed (file_renamed c.args.new.now) c.args.old.now) refl refl refl c.rename-answer.ensures.changes.count_stays
+    (λ n slots. no_renaming (find_file slots c.args.old.now) (find_file slots c.args.new.now)) (slots_changed (file_renamed c.args.new.now) c.args.old.now)
+    refl refl refl c.rename-answer.ensures.changes.count_stays
     (inl (sym c.is_refused.ensures ∙ c.if-is_refused.true, (refl, refl))) c.rename-answer.ensures.exact
 
 pub returns-clause-exact : goal.returns-clause-exact
 returns-clause-exact g c =
     closes_files g.D.Drive.contents g.S.Source.left g.T.Sink.taken g.P.Sink.taken g.D.Drive.count g.D.Drive.faults g.met.D.Drive.counted g.met.D.Drive.sized
-    c.args.self.now (record c.args.self.now { catalog = c.rename-answer.new.self; failed = c.failed_at-self.result; found = None; buffer = re_v c.leave.new.self c.args.self.now.buffer }) c.rename-answer.result
-    (λ n slots. no_renaming (find_file slots c.args.old.now) (find_file slots c.args.new.now)) (slots_changed (file_renamed c.args.new.now) c.args.old.now) refl refl refl c.rename-answer.ensures.changes.count_stays
+    c.args.self.now (record c.args.self.now {
+      catalog = c.rename-answer.new.self;
+      failed = c.failed_at-self.result;
+      found = None;
+      buffer = re_v c.leave.new.self c.args.self.now.buffer;
+    }) c.rename-answer.result
+    (λ n slots. no_renaming (find_file slots c.args.old.now) (find_file slots c.args.new.now)) (slots_changed (file_renamed c.args.new.now) c.args.old.now)
+    refl refl refl c.rename-answer.ensures.changes.count_stays
     (inr (sym c.is_refused.ensures ∙ c.if-is_refused.false, (refl, c.leave.ensures))) c.rename-answer.ensures.exact
 
 pub returns-then-is_refused-clause-told : goal.returns-then-is_refused-clause-told

@@ -22,7 +22,8 @@ pub invariant_of-self-2 : goal.invariant_of-self-2
 invariant_of-self-2 c =
     let types = map shape_of c.self.inside.shapes.items in
     let same : length types ≡ length c.args.self.now = ap length c.self.view_is in
-    table_kept types (map shape_of c.push_reserved.new.self.items) (shape_of c.args.shape) c.as_slice.result.now c.push.new.self.items c.size_of_shape-size.result
+    table_kept types (map shape_of c.push_reserved.new.self.items) (shape_of c.args.shape) c.as_slice.result.now c.push.new.self.items
+    c.size_of_shape-size.result
     (c.as_slice.ensures.value ∙ c.self.invariant.0) c.self.invariant.1
     (subst (λ l. IsDeclarable l (shape_of c.args.shape)) (sym c.self.view_is) c.requires.declarable)
     (omega (arith, same, c.requires.room))

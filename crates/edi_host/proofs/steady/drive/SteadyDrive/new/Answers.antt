@@ -8,5 +8,6 @@ pub invariant_of-result : goal.invariant_of-result
 invariant_of-result c =
     let within : 512 * (length c.args.bytes.now / 512) ≤ length c.args.bytes.now = omega arith in (
       search rules,
-      ap (list_all is_block) (c.in_ok-from_slice.ensures.items ∙ c.as_chunks.ensures.front) ∙ chunks_are_blocks (length c.args.bytes.now / 512) c.args.bytes.now within,
+      ap (list_all is_block) (c.in_ok-from_slice.ensures.items ∙ c.as_chunks.ensures.front) ∙ chunks_are_blocks (length c.args.bytes.now / 512)
+          c.args.bytes.now within,
     )
