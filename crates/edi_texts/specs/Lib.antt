@@ -1,4 +1,5 @@
 pub mod Kinds
+pub mod Lines
 pub mod Refusals
 pub mod Texts
 pub mod Answers
