@@ -2,8 +2,6 @@ pub mod Blanks
 pub mod Lasting
 pub mod Parts
 pub mod Indices
-pub mod Reached
-pub mod Rising
 pub mod Sound
 pub mod Storing
 pub mod Tables

@@ -4,8 +4,5 @@ pub mod Ends
 pub mod Outcome
 pub mod Choice
 pub mod Names
-pub mod Memory
-pub mod Counts
-pub mod MemoryCalls
 pub mod Laws
 pub mod Ready

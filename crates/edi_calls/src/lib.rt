@@ -1,22 +1,16 @@
-//! The system that a program sees: its files, its terminal and printer, and its ten calls.
+//! The system that a program sees: its files, its terminal and printer, and its ten calls. What language and machine
+//! share: process names, the ready list, choices, outcomes, and a system with its past.
 #![tactic(auto)]
 
+mod blocks;
 mod calls;
 mod ends;
-mod faults;
 mod kinds;
 pub mod laws;
-mod memory;
-mod slots;
-mod state;
-mod steps;
-mod stored;
 mod titles;
 
+pub use blocks::blocks_of;
 pub use calls::{Calls, words_of};
 pub use ends::{CallEnd, Outside};
 pub use kinds::{Cause, FileKind};
-pub use memory::MemoryCalls;
-pub use slots::blocks_of;
-pub use stored::StoredFile;
 pub use titles::is_title;

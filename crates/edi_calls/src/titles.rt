@@ -1,13 +1,8 @@
-//! Titles of files, as the words of a call spell them.
+//! Titles of files.
 
-ghost use Rattle.std.specs.Prelude.{◌≡◌, ◌%◌, IfOk, map, length, take};
+ghost use Rattle.std.specs.Prelude.{◌≡◌};
 ghost use Rattle.std.specs.List.{list_all};
-ghost use Rattle.std.specs.Option.{option_map};
-ghost use Rattle.edi_calls.specs.State.{is_title, is_letter, is_title_character, title_of, without_blanks, character};
-
-use std::alloc::{AllocError, Global};
-
-const BLANK: u8 = 32;
+ghost use Rattle.edi_calls.specs.State.{is_title, is_letter, is_title_character};
 
 fn is_letter(c: u8) -> bool
     ensures { result ≡ is_letter c }
@@ -35,34 +30,4 @@ pub fn is_title(title: &[u8]) -> bool
         return false;
     };
     is_letter(*first) && are_title_characters(rest) && rest.len() < 24
-}
-
-/// Each word as a character: the words are taken modulo 128.
-fn characters(alloc: Global, words: &[u16]) -> Result<Vec<u8>, AllocError>
-    ensures { IfOk result (λ v. v.items ≡ map character words.now) }
-{
-    words.iter().map(|word| (*word % 128) as u8).collect(alloc)
-}
-
-/// The number of characters without the blanks at the end.
-fn kept_length(title: &[u8]) -> usize
-    ensures { take result title.now ≡ without_blanks title.now }
-{
-    let mut kept = 0;
-    for (index, c) in title.iter().enumerate() {
-        if *c != BLANK {
-            kept = index + 1;
-        }
-    }
-    kept
-}
-
-/// The title that the words of a call spell, without the blanks at its end; none where they spell no title.
-pub(crate) fn title_of(alloc: Global, words: &[u16]) -> Result<Option<Vec<u8>>, AllocError>
-    ensures { IfOk result (λ title. option_map (λ v. v.items) title ≡ title_of words.now) }
-{
-    let mut title = characters(alloc, words)?;
-    let kept = kept_length(&title);
-    title.truncate(kept);
-    Ok(if is_title(&title) { Some(title) } else { None })
 }

@@ -2,7 +2,8 @@
 
 ghost use Rattle.std.specs.Prelude.{◌≡◌, ◌≤◌};
 
-use edi_calls::{CallEnd, Calls, FileKind, MemoryCalls, Outside, blocks_of, is_title, words_of};
+use edi_calls::{CallEnd, Calls, FileKind, Outside, blocks_of, is_title, words_of};
+use edi_memory::MemoryCalls;
 use std::process::Abort;
 use std::test::Fail;
 

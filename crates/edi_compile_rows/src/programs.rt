@@ -1,6 +1,6 @@
 //! Programs that are compiled and run.
 
-use edi_calls::MemoryCalls;
+use edi_memory::MemoryCalls;
 use edi_compile::compile;
 use edi_kernel::{Ending, Kernel};
 use edi_machine::Cause;

@@ -1,6 +1,6 @@
 //! Random words that are a code: each run of them ends.
 
-use edi_calls::MemoryCalls;
+use edi_memory::MemoryCalls;
 use edi_kernel::{Ending, Kernel};
 use edi_target::Code;
 use edi_trace::Choices;

@@ -2,7 +2,7 @@
 
 ghost use Rattle.std.specs.Prelude.{◌≤◌, ◌<◌, length};
 
-use edi_calls::MemoryCalls;
+use edi_memory::MemoryCalls;
 use edi_kernel::{Ending, Kernel, StintEnd};
 use edi_machine::Cause;
 use edi_target::Code;

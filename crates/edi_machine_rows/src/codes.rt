@@ -1,10 +1,10 @@
 //! Codes, run by a loop over `step` for one process.
 
 ghost use Rattle.std.specs.Prelude.{◌≡◌, None};
-ghost use Rattle.edi_calls.specs.MemoryCalls.{failed_of};
+ghost use Rattle.edi_memory.specs.MemoryCalls.{failed_of};
 ghost use Rattle.edi_machine.specs.Activities.{IsOrdered};
 
-use edi_calls::MemoryCalls;
+use edi_memory::MemoryCalls;
 use edi_machine::{Activity, Cause, StepEnd, TurnKind, begin, branch, step};
 use edi_store::{Segment, Store};
 use edi_target::Code;

@@ -3,7 +3,7 @@
 //! which gives up its turn at a `when` (20 million turns). Without a word it runs each for a short time.
 #![tactic(auto)]
 
-use edi_calls::MemoryCalls;
+use edi_memory::MemoryCalls;
 use edi_kernel::{Ending, Kernel};
 use edi_target::Code;
 use edi_trace::Choices;

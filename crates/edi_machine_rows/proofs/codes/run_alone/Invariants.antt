@@ -1,5 +1,5 @@
 use Rattle.std.proofs.Common.{◌≡◌, None}
-use Rattle.edi_calls.specs.MemoryCalls.{failed_of}
+use Rattle.edi_memory.specs.MemoryCalls.{failed_of}
 use Rattle.edi_machine.specs.Activities.{IsOrdered}
 use Rattle.edi_machine_rows.proofs.codes.run_alone.Given as goal
 
