@@ -1,4 +1,4 @@
--- The editing of a text: what a change makes of it, and what taking a change back.
+-- Definition. The editing of a text: what a change makes of it, and what taking a change back.
 use Rattle.std.specs.Prelude.{◌≡◌, ℕ, zero, suc, ◌-◌, ◌≤◌, ◌&&◌, nat_le, Bool, true, false, ◌<◌, if◌then◌else◌, Option, Some, None, Result, Ok, Err, List}
 use Rattle.std.specs.Prelude.{[], ◌∷◌, ◌++◌, length, drop, take, slice_index_or}
 use Rattle.edi_edit.specs.declared.EditEnd.{EditEnd}

@@ -1,4 +1,4 @@
--- A text as a list of lines.
+-- Definition. A text as a list of lines.
 use Rattle.std.specs.Prelude.{◌≡◌, false, ℕ, zero, suc, ◌+◌, ◌==◌, if◌then◌else◌, Option, None, List, [], ◌∷◌, ◌++◌, length, sum_by, slice_get, Bool}
 use Rattle.std.specs.List.{list_any}
 

@@ -1,4 +1,4 @@
--- The steps back that are kept in place of the earlier texts.
+-- Helper. The steps back that are kept in place of the earlier texts.
 use Rattle.std.specs.Prelude.{◌≡◌, ℕ, ◌<◌, ◌≤◌, List, [], ◌∷◌, length, map, insert, remove, slice_set}
 use Rattle.std.specs.Prelude.{Vec, ◌+◌}
 use Rattle.edi_edit.specs.declared.TheConstants.{ROOM, UNDOS}

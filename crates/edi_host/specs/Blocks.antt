@@ -1,4 +1,4 @@
--- The blocks of a drive, each a list of 512 bytes.
+-- Words of contracts. The blocks of a drive, each a list of 512 bytes.
 use Rattle.std.specs.Prelude.{◌≡◌, ◌⊎◌, ℕ, ◌-◌, ◌/◌, Bool, true, false, ◌==◌, List, ◌++◌, length, take, replicate, slice_get, slice_set, flat_map, Some, ⊤}
 use Rattle.std.specs.Simd.{first_chunks}
 use Rattle.edi_host.specs.declared.drive.DriveEnd.{DriveEnd}

@@ -1,4 +1,4 @@
--- What the calls on files answer and leave.
+-- Words of contracts. What the calls on files answer and leave.
 use Rattle.std.specs.Prelude.{◌≡◌, ℕ, Bool, true, false, List, [], take, Option, None, ⊤, IsSome, IsSomeAnd}
 use Rattle.std.specs.Ordering.{nat_cmp}
 use Rattle.std.specs.Cmp.Lexicographic.{slice_cmp}

@@ -1,4 +1,4 @@
--- What the forms in memory are seen as.
+-- Words of contracts. What the forms in memory are seen as.
 use Rattle.std.specs.Prelude.{ℕ, List, map, Bool, String, Vec, refl}
 use Rattle.std.specs.String.{string_bytes}
 use Rattle.std.specs.declared.alloc.Global.{Global}

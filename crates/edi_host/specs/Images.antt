@@ -1,4 +1,4 @@
--- What the name of a drive's file stands for.
+-- Words of contracts. What the name of a drive's file stands for.
 use Rattle.std.specs.Prelude.{Bool, true, false}
 use Rattle.edi_host.specs.declared.host.drive.Image.{Image}
 use Rattle.edi_host.specs.declared.host.drive.Image.TheVariants.{Missing, Open, Broken}

@@ -1,4 +1,4 @@
--- Which calls on a form in memory fail.
+-- Words of contracts. Which calls on a form in memory fail.
 use Rattle.std.specs.Prelude.{ℕ, ◌+◌, ◌-◌, ◌^◌, Bool, List, ◌==◌, nat_lt, if◌then◌else◌}
 use Rattle.std.specs.List.{list_any}
 

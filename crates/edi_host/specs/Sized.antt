@@ -1,4 +1,4 @@
--- Each block of a form in memory has 512 bytes.
+-- Words of contracts. Each block of a form in memory has 512 bytes.
 use Rattle.std.proofs.Common.{◌≡◌, ℕ, ◌+◌, true, ◌&&◌, List, [], ◌∷◌, ◌++◌, length, map, take, replicate, refl, ap, subst, ◌∙◌, arith}
 use Rattle.std.specs.List.{list_all}
 use Rattle.std.proofs.lemmas.Bool.{eq-eqb}

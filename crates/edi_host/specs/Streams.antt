@@ -1,4 +1,4 @@
--- What the calls on a source and a sink take.
+-- Words of contracts. What the calls on a source and a sink take.
 use Rattle.std.specs.Prelude.{◌≡◌, ℕ, ◌<◌, min, Bool, true, false, if◌then◌else◌, nat_lt, List, [], ◌∷◌, length}
 use Rattle.edi_host.specs.declared.source.Next.{Next}
 use Rattle.edi_host.specs.declared.source.Next.TheVariants as next

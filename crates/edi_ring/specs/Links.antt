@@ -1,4 +1,4 @@
--- How the arrays hold the lists.
+-- Helper. How the arrays hold the lists.
 use Rattle.std.specs.Prelude.{◌≡◌, ℕ, zero, suc, ◌<◌, ◌⊎◌, Option, Some, None, List, [], ◌∷◌, length, map, slice_index_or, slice_set}
 use Rattle.edi_ring.specs.declared.Ends.{Ends}
 use Rattle.edi_ring.specs.Lists.{list_at}

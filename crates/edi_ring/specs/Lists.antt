@@ -1,4 +1,4 @@
--- What callers see: a list of lists of nodes, and what each call makes of it.
+-- Words of contracts. What callers see: a list of lists of nodes, and what each call makes of it.
 use Rattle.std.specs.Prelude.{◌≡◌, ℕ, ◌<◌, Bool, true, not, nat_eq, Option, List, [], ◌∷◌, ◌++◌, length, map, filter, slice_index_or, slice_set}
 use Rattle.std.specs.List.{list_any, position_from, IsDistinct}
 

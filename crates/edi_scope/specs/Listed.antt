@@ -1,4 +1,4 @@
--- The declarations that are kept for a spelling.
+-- Helper. The declarations that are kept for a spelling.
 use Rattle.std.specs.Prelude.{ℕ, List, []}
 use Rattle.std.specs.Option.{option_map_or}
 use Rattle.std.specs.Ordering.{nat_cmp}

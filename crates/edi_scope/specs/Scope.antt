@@ -1,4 +1,4 @@
--- Scopes as callers see them, and what a name means in them.
+-- Definition. Scopes as callers see them, and what a name means in them.
 use Rattle.std.specs.Prelude.{ℕ, zero, suc, Bool, false, Option, None, List, [], ◌∷◌, codes, drop, pos}
 use Rattle.std.specs.Option.{option_or}
 use Rattle.std.specs.Map.{lookup}

@@ -1,4 +1,4 @@
--- How the scopes are kept, and the declarations of each name beside them.
+-- Helper. How the scopes are kept, and the declarations of each name beside them.
 use Rattle.std.specs.Prelude.{◌≡◌, ℕ, false, Option, Some, None, List, [], ◌∷◌, ◌++◌, length, map, reverse, drop, Vec}
 use Rattle.std.specs.Global.{Global}
 use Rattle.edi_scope.specs.declared.entity.Entity.{Entity}

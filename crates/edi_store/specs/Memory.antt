@@ -1,4 +1,4 @@
--- Memory as the list of its words, which are numbers below 65,536.
+-- Definition. Memory as the list of its words, which are numbers below 65,536.
 use Rattle.std.specs.Prelude.{◌≡◌, ℕ, ◌+◌, ◌^◌, ◌<◌, List, ◌++◌, length, take, drop, replicate}
 use Rattle.std.specs.List.{All}
 

@@ -1,4 +1,4 @@
--- Segments of memory, and the equal shares that the branches of a process get of its room.
+-- Definition. Segments of memory, and the equal shares that the branches of a process get of its room.
 use Rattle.std.specs.Prelude.{ℕ, ◌+◌, ◌-◌, ◌*◌, ◌/◌, ◌<◌, ◌≤◌}
 use Rattle.edi_store.specs.declared.segment.Segment.{Segment}
 

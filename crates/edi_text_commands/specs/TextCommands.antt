@@ -1,4 +1,4 @@
--- Words for the functions inside. What the passes of `compile` answer, by the steps of commands.
+-- Helper. What the passes of `compile` answer, by the steps of commands.
 use Rattle.std.specs.Prelude.{◌≡◌, ◌⊎◌, ℕ, List, Result, Ok, Err}
 use Rattle.edi_target.specs.Check.{CodeParts}
 use Rattle.edi_target.specs.File.{code_bytes}

@@ -1,4 +1,4 @@
--- Counts of faults. A count never falls, and stands still at its last value.
+-- Definition. Counts of faults. A count never falls, and stands still at its last value.
 use Rattle.std.specs.Prelude.{ℕ, ◌+◌, ◌-◌, ◌^◌, ◌≤◌, min}
 
 -- the count is greater after the call than before it, or it stands at its last value

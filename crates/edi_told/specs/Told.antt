@@ -1,4 +1,4 @@
--- What an object of the outside tells of its contents. An adapter over a real file tells nothing.
+-- Definition. What an object of the outside tells of its contents. An adapter over a real file tells nothing.
 use Rattle.std.specs.Prelude.{Option, Some, None, ⊤}
 
 -- what is told at the end of a call was told at its start, and the two are so related; nothing is said

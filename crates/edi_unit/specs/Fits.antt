@@ -1,4 +1,4 @@
--- What the checks of a program's text have made sure of: a unit that fits can be run and translated, and nothing in it
+-- Definition. What the checks of a program's text have made sure of: a unit that fits can be run and translated, and nothing in it
 -- names what is not there.
 use Rattle.std.specs.Prelude.{◌≡◌, ◌≢◌, ℕ, suc, ◌<◌, ◌≤◌, ◌^◌, pos, Bool, true, false, ◌||◌, ◌==◌, IsTrue, IsSome, List, [], ◌∷◌, length, slice_index, All}
 use Rattle.std.specs.Prelude.{AllPairs, Option, Some, None}

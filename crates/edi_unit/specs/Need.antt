@@ -1,4 +1,4 @@
--- The words of memory that the evaluation of a construct takes above its frame, and the words that a block needs.
+-- Definition. The words of memory that the evaluation of a construct takes above its frame, and the words that a block needs.
 use Rattle.std.specs.Prelude.{ℕ, zero, suc, ◌+◌, max, min, if◌then◌else◌, List, [], ◌++◌, map, sum_by, slice_get, slice_index_or, Option, Some, None}
 use Rattle.std.specs.Prelude.{option_to_list, unwrap_or}
 use Rattle.std.specs.Option.{option_map_or}

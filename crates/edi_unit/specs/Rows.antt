@@ -1,4 +1,4 @@
--- Worked examples: what the definitions give on small inputs.
+-- Computed rows. What the definitions give on small inputs.
 use Rattle.std.specs.Prelude.{◌≡◌, ℕ, false, ◌/◌, ◌-◌, pos, negsuc, List, [], ◌∷◌, ◌++◌, Some, None, replicate, refl}
 use Rattle.edi_word.specs.Sets.{members_where}
 use Rattle.edi_unit.specs.declared.expressions.Operator.TheVariants as op

@@ -1,4 +1,4 @@
--- What a type is, seen without the memory that the code keeps it in.
+-- Words of contracts. What a type is, seen without the memory that the code keeps it in.
 use Rattle.edi_unit.specs.declared.types.Shape as code_shape
 use Rattle.edi_unit.specs.declared.types.Shape.TheVariants as code
 use Rattle.edi_unit.specs.Lists.{list_items}

@@ -1,4 +1,4 @@
--- The resolved tree as plain data: what a program is once each of its names has been replaced by the number of a type,
+-- Definition. The resolved tree as plain data: what a program is once each of its names has been replaced by the number of a type,
 -- a block or a variable. A line is that of the symbol at which a failure of the construct is told.
 -- `Expression` is the tree that the code calls `Value`; a value of the definitions is one at run time.
 use Rattle.std.specs.Prelude.{ℕ, ℤ, List, Option}

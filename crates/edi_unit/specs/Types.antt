@@ -1,4 +1,4 @@
--- Types by number. A table lists what each type is; types 0, 1 and 2 are `int`, `char` and `bool`, and the declared
+-- Definition. Types by number. A table lists what each type is; types 0, 1 and 2 are `int`, `char` and `bool`, and the declared
 -- types follow. A type names earlier types by their numbers.
 use Rattle.std.specs.Prelude.{◌≡◌, ℕ, ◌*◌, ◌<◌, ◌≤◌, ◌^◌, ℤ, pos, negsuc, ◌+ℤ◌, ◌-ℤ◌, ◌≤ℤ◌, int_le, Bool, true, false, ◌&&◌, IsTrue, List, [], ◌∷◌, ◌++◌}
 use Rattle.std.specs.Prelude.{sum_by, replicate, length, take, All, Option, slice_get, slice_index_or}

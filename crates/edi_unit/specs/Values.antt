@@ -1,4 +1,4 @@
--- Values, the values that belong to a type, and what the operators give.
+-- Definition. Values, the values that belong to a type, and what the operators give.
 use Rattle.std.specs.Prelude.{ℕ, ℤ, pos, negsuc, ◌-ℤ◌, int_le, int_lt, Bool, true, false, not, ◌&&◌, ◌||◌, ◌==◌, nat_lt, IsTrue, if◌then◌else◌, List, []}
 use Rattle.std.specs.Prelude.{◌∷◌, map, replicate, slice_index_or, Option, Some, None, option_map}
 use Rattle.std.specs.Ordering.{int_eq}

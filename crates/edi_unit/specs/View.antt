@@ -1,4 +1,4 @@
--- The plain tree for which a tree of the code stands: the same parts, without memory.
+-- Words of contracts. The plain tree for which a tree of the code stands: the same parts, without memory.
 use Rattle.std.specs.Prelude.{List, [], ◌∷◌, map}
 use Rattle.edi_unit.specs.declared.expressions.Argument as code_argument
 use Rattle.edi_unit.specs.declared.expressions.Argument.TheOpen.{Argument-F, Part-F, Value-F, Link-F, Place-F}

@@ -1,4 +1,4 @@
--- A helper of private functions. The texts of a table.
+-- Helper. The texts of a table.
 use Rattle.std.specs.Prelude.{ℕ, List, map}
 use Rattle.std.specs.Borrow.{Bor}
 

@@ -1,4 +1,4 @@
--- The arithmetic of `int`, whose values are the integers from -32768 to 32767.
+-- Definition. The arithmetic of `int`, whose values are the integers from -32768 to 32767.
 use Rattle.std.specs.Prelude.{zero, ℤ, pos, negsuc, ◌-ℤ◌, ◌+ℤ◌, ◌*ℤ◌, Bool, ◌&&◌, Option, Some, None, int_le, int_div, if◌then◌else◌}
 use Rattle.std.specs.Option.{option_map}
 

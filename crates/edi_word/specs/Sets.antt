@@ -1,4 +1,4 @@
--- Sets of ordinals 0 to 127: as increasing lists of their members, and as eight words of 16 bits.
+-- Definition. Sets of ordinals 0 to 127: as increasing lists of their members, and as eight words of 16 bits.
 use Rattle.std.specs.Prelude.{◌≡◌, ℕ, zero, suc, ◌+◌, ◌*◌, ◌/◌, ◌%◌, ◌^◌, ◌<◌, ◌≤◌, Bool, false, not, ◌&&◌, ◌||◌, ◌==◌, nat_lt, if◌then◌else◌, ℤ, pos}
 use Rattle.std.specs.Prelude.{negsuc, List, [], ◌∷◌, map, length, slice_index, slice_set, bit_and, bit_or, ⊤}
 use Rattle.std.specs.List.{All, filter, list_any, range_with_len}

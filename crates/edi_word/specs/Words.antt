@@ -1,4 +1,4 @@
--- Words of 16 bits, which are numbers below 65,536, as integers in two's complement.
+-- Definition. Words of 16 bits, which are numbers below 65,536, as integers in two's complement.
 use Rattle.std.specs.Prelude.{◌≡◌, ℕ, ◌^◌, ◌<◌, ℤ, Option, IsTrue, IfSome}
 use Rattle.std.specs.Option.{option_map}
 use Rattle.std.specs.Int.{w16, cast_signed, cast_unsigned}
