@@ -51,8 +51,8 @@ pub trait Calls {
     /// The references that it holds to objects of others. A call keeps them, so whoever lent them sees what it has done.
     ghost references: { Self → List ℕ };
 
-    /// For each number a fact about the object that every call keeps, whatever it answers.
-    ghost lasting: { Self → ℕ → Type 0 };
+    /// What calls in a row leave, whatever they answer: how this object may be behind them, told by how it was before the first.
+    ghost leads: { Self → Self → Type 0 };
 
     /// Makes the system call of this number, 1 to 10. `args` and `answer` have the lengths that `words_of` gives;
     /// `answer` takes the answer words; it is as it was where the call is refused, and open after a fault.
@@ -68,7 +68,7 @@ pub trait Calls {
         ensures later { (outside : Outside) → faults self.old outside ≤ faults self.new outside }
         ensures blame { Blames result (failed self.new) (faults self.old) (faults self.new) }
         ensures references { references self.new ≡ references self.old }
-        ensures lasting { (n : ℕ) → lasting self.old n → lasting self.new n };
+        ensures leads { (start : Self) → leads start self.old → leads start self.new };
 
     /// What has failed is one: this object, or nothing.
     ghost one_failed: { (calls : Self) (one other : Option Outside) → failed calls one → failed calls other → one ≡ other };

@@ -1,7 +1,6 @@
 -- A run of code on a system, from a run of the kernel on it.
-use Rattle.std.proofs.Common.{◌≡◌, ℕ, zero, suc, ◌+◌, ◌*◌, ◌≤◌, Bool, true, false, List, [], ◌∷◌, Option, Some, None, refl, sym, ap, subst, ◌∙◌}
-use Rattle.std.specs.Prelude.{slice_get, IfSome, IsSome, ◌↔◌}
-use Rattle.edi_told.specs.Told.{WhereTold}
+use Rattle.std.proofs.Common.{◌≡◌, ℕ, ◌≤◌, Bool, true, false, List, [], ◌∷◌, Option, Some, None, refl, sym, subst}
+use Rattle.std.specs.Prelude.{IsSome, ◌↔◌}
 use Rattle.edi_calls.specs.declared.ends.Outside.{Outside}
 use Rattle.edi_calls.specs.State.{State}
 use Rattle.edi_kernel.specs.declared.ends.Ending.{Ending}
@@ -10,12 +9,10 @@ use Rattle.edi_kernel.specs.Kernel.{fault_of}
 use Rattle.edi_kernel.specs.Runs.{FailsIn, RunsTo}
 use Rattle.edi_kernel.specs.Stretch.{Blamed}
 use Rattle.edi_kernel.proofs.Passed.{fault_is_moment}
-use Rattle.edi_system.specs.AsCalls.{byte_number, references_in, HasFailed, KeepsDue, Lasts}
+use Rattle.edi_system.specs.AsCalls.{references_in, HasFailed}
 use Rattle.edi_system.specs.Ends.{Blames, Keeps}
-use Rattle.edi_system.specs.Parts.{Grows, IsValid, KeepsTold}
-use Rattle.edi_system.specs.State.{drive_in, failed_in, faults_of, terminal_in, IsReady}
+use Rattle.edi_system.specs.State.{failed_in, faults_of, IsReady}
 use Rattle.edi_system.specs.declared.system.System.{System}
-use Rattle.edi_system.proofs.Lasting.{byte_known, due_known, front_is}
 use Rattle.edi_target.specs.Check.{CodeParts}
 use Rattle.edi_trace.specs.Drawn.{Drawn}
 use Rattle.edi_execute.specs.Execution.{is_fault, IsAtMoment}
@@ -86,30 +83,3 @@ run_keeps drive input terminal printer fault before after same later blame =
       later = later;
       blame = blame;
     }
-
-module _ {D S T P : Type 0} (contents : D → Option (List (List ℕ))) (left : S → Option (List ℕ)) (shown : T → Option (List ℕ)) (printed : P → Option (List ℕ))
-    (before after : System D S T P) (lasts : (n : ℕ) → Lasts contents left shown printed before n → Lasts contents left shown printed after n) where
-  -- what the terminal had taken is the first part of what it has taken
-  grown : WhereTold (shown (terminal_in before)) (shown (terminal_in after)) Grows
-  grown = go (shown (terminal_in before)) (shown (terminal_in after)) refl refl where
-    go : (a b : Option (List ℕ)) → shown (terminal_in before) ≡ a → shown (terminal_in after) ≡ b → WhereTold a b Grows
-    go a None e e' = tt
-    go None (Some now) e e' = absurd (let wrong : Some now ≡ None = sym e' ∙ lasts (suc (suc zero)) e in cc)
-    go (Some taken) (Some now) e e' =
-        front_is taken now
-        (λ k c h. subst (λ x. IfSome x (λ bytes. slice_get bytes k ≡ Some c)) e'
-        ((lasts (suc (suc (suc (suc (suc (2 * byte_number k c + 1))))))
-        (byte_known shown before k c (subst (λ x. IfSome x (λ bytes. slice_get bytes k ≡ Some c)) (sym e) h))).byte k c refl))
-
-  pub told_lasting : IsValid (contents (drive_in before)) → KeepsTold contents left shown printed before after
-  told_lasting valid = record {
-    drive = lasts zero;
-    source = lasts (suc zero);
-    terminal = lasts (suc (suc zero));
-    printer = lasts (suc (suc (suc zero)));
-    valid = lasts (suc (suc (suc (suc zero)))) valid;
-    grows = grown;
-  }
-
-  pub due_lasting : KeepsDue shown before after
-  due_lasting = λ start since. (lasts (suc (suc (suc (suc (suc (2 * start)))))) (due_known shown before start since)).due start refl

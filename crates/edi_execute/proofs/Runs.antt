@@ -9,7 +9,7 @@ use Rattle.edi_image.specs.Image.{mount_fault_of}
 use Rattle.edi_kernel.specs.declared.ends.Ending.TheVariants as ending
 use Rattle.edi_kernel.specs.Runs.{RunsTo}
 use Rattle.edi_system.specs.AsCalls.{IsDueFrom, IsDueSince, KeepsDue}
-use Rattle.edi_system.specs.Parts.{due_after, Grows, IsValid, KeepsTold, SystemBegins, ToldStays}
+use Rattle.edi_system.specs.Parts.{due_after, Grows, IsValid, KeepsTold, Shrinks, SystemBegins, ToldStays}
 use Rattle.edi_system.proofs.Lasting.{none_stays, valid_ready}
 use Rattle.edi_system.specs.State.{all_told, drive_in, due_in, faults_of, input_in, printer_in, state_of, state_with, terminal_in, IsReady}
 use Rattle.edi_system.specs.declared.system.System.{System}
@@ -150,6 +150,10 @@ module _ {D S T P : Type 0} (contents : D → Option (List (List ℕ))) (left : 
     valid = subst IsValid (sym (ap contents are'.drive)) told.valid;
     grows = subst (λ x. WhereTold (shown x) (shown o'.terminal) Grows) (sym are.terminal)
         (subst (λ x. WhereTold (shown (terminal_in before)) (shown x) Grows) (sym are'.terminal) told.grows);
+    shrinks = subst (λ x. WhereTold (left x) (left o'.input) Shrinks) (sym are.input)
+        (subst (λ x. WhereTold (left (input_in before)) (left x) Shrinks) (sym are'.input) told.shrinks);
+    prints = subst (λ x. WhereTold (printed x) (printed o'.printer) Grows) (sym are.printer)
+        (subst (λ x. WhereTold (printed (printer_in before)) (printed x) Grows) (sym are'.printer) told.prints);
   }
 
   -- whether a line is due

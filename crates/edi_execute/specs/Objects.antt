@@ -77,8 +77,9 @@ pub record StandsAtMoment (code : CodeParts) (bound : ℕ) (old : Drawn) (before
   pub shows : Show moment after
 
 -- What a run leaves: where the four objects tell what they hold, what the kernel's run leaves; after a fault, what a state has
--- through which it comes; what is told in the end was told at the start, what the terminal has taken only grows, and the drive is
--- a valid image; and whether a line is due is told by the bytes that the terminal has taken in between.
+-- through which it comes; what is told in the end was told at the start, the input only loses its first bytes, what the terminal and
+-- the printer have taken only grows, and the drive is a valid image; and whether a line is due is told by the bytes that the
+-- terminal has taken in between.
 pub record RunLeaves {D S T P : Type 0} (contents : D → Option (List (List ℕ))) (left : S → Option (List ℕ)) (shown : T → Option (List ℕ))
     (printed : P → Option (List ℕ)) (code : CodeParts) (bound : ℕ) (old : Drawn) (ran : Ran) (words : List ℕ) (used : ℕ) (new : Drawn)
     (before after : Objects D S T P) : Type 0 where

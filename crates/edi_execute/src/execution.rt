@@ -8,7 +8,7 @@ ghost use Rattle.edi_kernel.specs.Runs.{RunsTo};
 ghost use Rattle.edi_system.specs.AsCalls.{KeepsDue};
 ghost use Rattle.edi_system.specs.Ends.{Keeps};
 ghost use Rattle.edi_system.specs.Parts.{KeepsTold};
-ghost use Rattle.edi_system.specs.State.{failed_in, state_of, IsReady};
+ghost use Rattle.edi_system.specs.State.{drive_in, failed_in, state_of, IsReady};
 ghost use Rattle.edi_execute.specs.Execution.{is_fault, IsAtMoment};
 
 use edi_host::{Drive, Sink, Source};
@@ -41,6 +41,8 @@ pub fn execute<D: Drive, S: Source, T: Sink, P: Sink>(
     ensures ready { is_fault result ≡ false → IsReady D.contents D.count system.new }
     ensures due { KeepsDue T.taken system.old system.new }
     ensures told { KeepsTold D.contents S.left T.taken P.taken system.old system.new }
+    // The drive has as many blocks as before.
+    ensures size { D.count (drive_in system.new) ≡ D.count (drive_in system.old) }
     ensures keeps { Keeps D.faults S.faults T.faults P.faults (is_fault result) system.old system.new }
     ensures used { kernel.new.used ≤ bound }
     ensures standing { StandsAtEnd (Some result) kernel.new.table kernel.new.arrived }

@@ -52,6 +52,8 @@ pub fn run_on<D: Drive, S: Source, T: Sink, P: Sink>(
     ensures leaves { IfOk result (λ ran. RunLeaves D.contents S.left T.taken P.taken code.now bound choices.old ran kernel.new.store kernel.new.used choices.new
         (objects drive.old input.old terminal.old printer.old) (objects drive.new input.new terminal.new printer.new)) }
     ensures valid { IfOk result (λ ran. IsValid (D.contents drive.new)) }
+    // The drive has as many blocks as before, whatever the answer.
+    ensures size { D.count drive.new ≡ D.count drive.old }
     // The drive was a valid image before, and the kernel took no more turns than the bound.
     ensures mounted { IfOk result (λ ran. WhereTold (D.contents drive.old) (D.contents drive.new) (λ old new. mount_fault_of old ≡ None)) }
     ensures used { IfOk result (λ ran. kernel.new.used ≤ bound) }

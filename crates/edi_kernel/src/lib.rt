@@ -125,7 +125,7 @@ impl Kernel {
         ensures later { (outside : Outside) → C.faults calls.old outside ≤ C.faults calls.new outside }
         ensures blame { Blamed (faulted result) (C.failed calls.new) (C.faults calls.old) (C.faults calls.new) }
         ensures references { C.references calls.new ≡ C.references calls.old }
-        ensures lasting { (n : ℕ) → C.lasting calls.old n → C.lasting calls.new n }
+        ensures leads { (start : C) → C.leads start calls.old → C.leads start calls.new }
         ensures turns { self.new.used ≡ min (self.old.used + used_in result) (2 ^ 64 - 1) }
     {
         self.state.stint(code, calls, turns_left)
@@ -172,7 +172,7 @@ impl Kernel {
         ensures later { (outside : Outside) → C.faults calls.old outside ≤ C.faults calls.new outside }
         ensures blame { Blamed (fault_of (Some result)) (C.failed calls.new) (C.faults calls.old) (C.faults calls.new) }
         ensures references { C.references calls.new ≡ C.references calls.old }
-        ensures lasting { (n : ℕ) → C.lasting calls.old n → C.lasting calls.new n }
+        ensures leads { (start : C) → C.leads start calls.old → C.leads start calls.new }
     {
         self.state.run(code, calls, bound, choices)
     }

@@ -164,7 +164,7 @@ impl KernelState {
         ensures later { (outside : Outside) → C.faults calls.old outside ≤ C.faults calls.new outside }
         ensures blame { Blamed (fault_of result) (C.failed calls.new) (C.faults calls.old) (C.faults calls.new) }
         ensures references { C.references calls.new ≡ C.references calls.old }
-        ensures lasting { (n : ℕ) → C.lasting calls.old n → C.lasting calls.new n }
+        ensures leads { (start : C) → C.leads start calls.old → C.leads start calls.new }
     {
         let end = self.go(code, calls, bound - self.used);
         self.used += used_in(end);
@@ -193,7 +193,7 @@ impl KernelState {
         ensures later { (outside : Outside) → C.faults calls.old outside ≤ C.faults calls.new outside }
         ensures blame { Blamed (fault_of (Some result)) (C.failed calls.new) (C.faults calls.old) (C.faults calls.new) }
         ensures references { C.references calls.new ≡ C.references calls.old }
-        ensures lasting { (n : ℕ) → C.lasting calls.old n → C.lasting calls.new n }
+        ensures leads { (start : C) → C.leads start calls.old → C.leads start calls.new }
     {
         self.start(code);
         self.entering = false;
@@ -230,7 +230,7 @@ impl KernelState {
         ensures later { (outside : Outside) → C.faults calls.old outside ≤ C.faults calls.new outside }
         ensures blame { Blamed (faulted result) (C.failed calls.new) (C.faults calls.old) (C.faults calls.new) }
         ensures references { C.references calls.new ≡ C.references calls.old }
-        ensures lasting { (n : ℕ) → C.lasting calls.old n → C.lasting calls.new n }
+        ensures leads { (start : C) → C.leads start calls.old → C.leads start calls.new }
         ensures turns { self.new.used ≡ min (self.old.used + used_in result) (2 ^ 64 - 1) }
     {
         let used_before = self.used;

@@ -189,7 +189,7 @@ impl KernelState {
         ensures later { (outside : Outside) → C.faults calls.old outside ≤ C.faults calls.new outside }
         ensures blame { Blamed (Some result.0) (C.failed calls.new) (C.faults calls.old) (C.faults calls.new) }
         ensures references { C.references calls.new ≡ C.references calls.old }
-        ensures lasting { (n : ℕ) → C.lasting calls.old n → C.lasting calls.new n }
+        ensures leads { (start : C) → C.leads start calls.old → C.leads start calls.new }
         ensures ordered { IsOrdered result.1.activity }
     {
         let mut progress = Progress {
@@ -218,7 +218,7 @@ impl KernelState {
         ensures later { (outside : Outside) → C.faults calls.old outside ≤ C.faults calls.new outside }
         ensures blame { Blamed (faulted result) (C.failed calls.new) (C.faults calls.old) (C.faults calls.new) }
         ensures references { C.references calls.new ≡ C.references calls.old }
-        ensures lasting { (n : ℕ) → C.lasting calls.old n → C.lasting calls.new n }
+        ensures leads { (start : C) → C.leads start calls.old → C.leads start calls.new }
         ensures entering { self.new.entering ≡ self.old.entering }
         ensures turns { self.new.used ≡ self.old.used }
     {

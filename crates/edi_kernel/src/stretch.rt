@@ -136,7 +136,7 @@ fn instruct<C: Calls>(
     ensures later { (outside : Outside) → C.faults calls.old outside ≤ C.faults calls.new outside }
     ensures blame { Blamed result (C.failed calls.new) (C.faults calls.old) (C.faults calls.new) }
     ensures references { C.references calls.new ≡ C.references calls.old }
-    ensures lasting { (n : ℕ) → C.lasting calls.old n → C.lasting calls.new n }
+    ensures leads { (start : C) → C.leads start calls.old → C.leads start calls.new }
     ensures ordered { IsOrdered progress.new.activity }
     ensures was_whole { IsMemory store.old }
     ensures whole { IsMemory store.new }
@@ -171,7 +171,7 @@ pub(crate) fn advance<C: Calls>(
     ensures later { (outside : Outside) → C.faults calls.old outside ≤ C.faults calls.new outside }
     ensures blame { Blamed (Some result) (C.failed calls.new) (C.faults calls.old) (C.faults calls.new) }
     ensures references { C.references calls.new ≡ C.references calls.old }
-    ensures lasting { (n : ℕ) → C.lasting calls.old n → C.lasting calls.new n }
+    ensures leads { (start : C) → C.leads start calls.old → C.leads start calls.new }
     ensures ordered { IsOrdered progress.new.activity }
     ensures whole { IsMemory store.new }
 {

@@ -54,7 +54,7 @@ fn make_call<C: Calls>(calls: &mut C, number: u8, arguments: &[u16]) -> Made
     ensures later { (outside : Outside) → C.faults calls.old outside ≤ C.faults calls.new outside }
     ensures blame { ends.Blames result.end (C.failed calls.new) (C.faults calls.old) (C.faults calls.new) }
     ensures references { C.references calls.new ≡ C.references calls.old }
-    ensures lasting { (n : ℕ) → C.lasting calls.old n → C.lasting calls.new n }
+    ensures leads { (start : C) → C.leads start calls.old → C.leads start calls.new }
 {
     let (_, answers) = words_of(number);
     let mut answer = [0; 1];
@@ -104,7 +104,7 @@ fn ask<C: Calls>(
     ensures later { (outside : Outside) → C.faults calls.old outside ≤ C.faults calls.new outside }
     ensures blame { Blames result (C.failed calls.new) (C.faults calls.old) (C.faults calls.new) }
     ensures references { C.references calls.new ≡ C.references calls.old }
-    ensures lasting { (n : ℕ) → C.lasting calls.old n → C.lasting calls.new n }
+    ensures leads { (start : C) → C.leads start calls.old → C.leads start calls.new }
     ensures ordered { IsOrdered activity.new }
 {
     let (count, _) = words_of(number);
@@ -145,7 +145,7 @@ pub fn system_call<C: Calls>(
     ensures later { (outside : Outside) → C.faults calls.old outside ≤ C.faults calls.new outside }
     ensures blame { Blames result (C.failed calls.new) (C.faults calls.old) (C.faults calls.new) }
     ensures references { C.references calls.new ≡ C.references calls.old }
-    ensures lasting { (n : ℕ) → C.lasting calls.old n → C.lasting calls.new n }
+    ensures leads { (start : C) → C.leads start calls.old → C.leads start calls.new }
     ensures ordered { IsOrdered activity.new }
 {
     if number < 1 || number > 10 {
@@ -203,7 +203,7 @@ pub fn call_described<C: Calls>(
     ensures later { (outside : Outside) → C.faults calls.old outside ≤ C.faults calls.new outside }
     ensures blame { Blames result (C.failed calls.new) (C.faults calls.old) (C.faults calls.new) }
     ensures references { C.references calls.new ≡ C.references calls.old }
-    ensures lasting { (n : ℕ) → C.lasting calls.old n → C.lasting calls.new n }
+    ensures leads { (start : C) → C.leads start calls.old → C.leads start calls.new }
     ensures ordered { IsOrdered activity.new }
 {
     let base = level_base(store, count, activity.base as u16);

@@ -157,7 +157,7 @@ impl Calls for MemoryCalls {
 
     ghost references = { λ calls. [] };
 
-    ghost lasting = { λ calls n. ⊤ };
+    ghost leads = { λ start calls. ⊤ };
 
     ghost one_failed = { λ calls one other p q. sym p ∙ q };
 

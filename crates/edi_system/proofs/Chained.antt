@@ -1,13 +1,15 @@
 -- Two calls, one after the other: what both keep the two keep together.
-use Rattle.std.proofs.Common.{◌≡◌, ℕ, ◌≤◌, Bool, true, false, List, [], ◌∷◌, length, take, Option, Some, None, refl, ap, ◌∙◌, arith}
+use Rattle.std.proofs.Common.{◌≡◌, ℕ, zero, suc, ◌+◌, ◌≤◌, Bool, true, false, List, [], ◌∷◌, drop, length, take, Option, Some, None, refl, sym, ap, ◌∙◌, arith}
+use Rattle.std.proofs.Math.Seq.{drop-nil}
 use Rattle.edi_told.specs.Faults.{CountRose}
 use Rattle.edi_told.specs.Told.{WhereTold}
 use Rattle.edi_calls.specs.declared.ends.Outside.{Outside}
-use Rattle.edi_system.specs.AsCalls.{KeepsDue}
+use Rattle.edi_system.specs.AsCalls.{IsBehind, KeepsDue}
 use Rattle.edi_system.specs.Ends.{Blames, Keeps}
-use Rattle.edi_system.specs.Parts.{Grows, KeepsTold, ToldStays}
-use Rattle.edi_system.specs.State.{failed_in, faults_of}
+use Rattle.edi_system.specs.Parts.{Grows, IsValid, KeepsTold, Shrinks, ToldStays}
+use Rattle.edi_system.specs.State.{drive_in, failed_in, faults_of, input_in, printer_in, terminal_in}
 use Rattle.edi_system.specs.declared.system.System.{System}
+use Rattle.edi_system.proofs.Lasting.{grows_same, shrinks_same}
 
 -- what is told of each of two calls
 pub told_then : {A : Type 0} (P Q R : A → A → Type 0) (a b c : Option A) → ((x y z : A) → P x y → Q y z → R x z) → WhereTold a b P → WhereTold b c Q
@@ -29,6 +31,14 @@ front_of_front (a ∷ x) (b ∷ y) (c ∷ z) one two =
     let other : take (length y) z ≡ y = cc in
     ap (λ n. n ∷ take (length x) z) head ∙ ap (λ ns. a ∷ ns) (front_of_front x y z rest other))
 
+drop_more : (n m : ℕ) (x : List ℕ) → drop m (drop n x) ≡ drop (n + m) x
+drop_more zero m x = ap (λ k. drop k x) (omega arith)
+drop_more (suc n) m [] = drop-nil m ∙ sym (drop-nil (suc n + m))
+drop_more (suc n) m (a ∷ x) = drop_more n m x ∙ ap (λ k. drop k (a ∷ x)) (let e : suc (n + m) ≡ suc n + m = omega arith in e)
+
+less_of_less : (x y z : List ℕ) → Shrinks x y → Shrinks y z → Shrinks x z
+less_of_less x y z one two = (one.0 + two.0, two.1 ∙ ap (drop two.0) one.1 ∙ drop_more one.0 two.0 x)
+
 -- what is told stays so
 pub told_on : (d d' d'' : Option (List (List ℕ))) (i i' i'' t t' t'' p p' p'' : Option (List ℕ))
     → ToldStays d d' i i' t t' p p' → ToldStays d' d'' i' i'' t' t'' p' p'' → ToldStays d d'' i i'' t t'' p p''
@@ -38,7 +48,9 @@ told_on d d' d'' i i' i'' t t' t'' p p' p'' one two = record {
   terminal = λ none. two.terminal (one.terminal none);
   printer = λ none. two.printer (one.printer none);
   valid = two.valid;
+  shrinks = told_then Shrinks Shrinks Shrinks i i' i'' less_of_less one.shrinks two.shrinks;
   grows = told_then Grows Grows Grows t t' t'' front_of_front one.grows two.grows;
+  prints = told_then Grows Grows Grows p p' p'' front_of_front one.prints two.prints;
 }
 
 -- the count rose in the second call, and did not fall in the first
@@ -75,3 +87,49 @@ module _ {D S T P : Type 0} (contents : D → Option (List (List ℕ))) (left : 
     -- whether a line is due stays told
     pub due_on : (a b c : System D S T P) → KeepsDue shown a b → KeepsDue shown b c → KeepsDue shown a c
     due_on a b c one two = λ start since. two start (one start since)
+
+module _ {D S T P : Type 0} (contents : D → Option (List (List ℕ))) (count : D → ℕ) (left : S → Option (List ℕ)) (shown : T → Option (List ℕ))
+    (printed : P → Option (List ℕ)) where
+  -- before any call, and with one call more
+  pub behind_none : (a : System D S T P) → IsBehind contents count left shown printed a a
+  behind_none a = record {
+    drive = λ none. none;
+    source = λ none. none;
+    terminal = λ none. none;
+    printer = λ none. none;
+    valid = λ valid. valid;
+    count_ = refl;
+    shrinks = shrinks_same (left (input_in a));
+    grows = grows_same (shown (terminal_in a));
+    prints = grows_same (printed (printer_in a));
+    due = λ start since. since;
+  }
+
+  pub behind_one_more : (start old new : System D S T P) → KeepsTold contents left shown printed old new → count (drive_in new) ≡ count (drive_in old)
+      → KeepsDue shown old new → IsBehind contents count left shown printed start old → IsBehind contents count left shown printed start new
+  behind_one_more start old new told size due led = record {
+    drive = λ none. told.drive (led.drive none);
+    source = λ none. told.source (led.source none);
+    terminal = λ none. told.terminal (led.terminal none);
+    printer = λ none. told.printer (led.printer none);
+    valid = λ valid. told.valid;
+    count_ = size ∙ led.count_;
+    shrinks = told_then Shrinks Shrinks Shrinks _ _ _ less_of_less led.shrinks told.shrinks;
+    grows = told_then Grows Grows Grows _ _ _ front_of_front led.grows told.grows;
+    prints = told_then Grows Grows Grows _ _ _ front_of_front led.prints told.prints;
+    due = λ from since. due from (led.due from since);
+  }
+
+  -- what is told where the drive was a valid image
+  pub told_behind : (a b : System D S T P) → IsValid (contents (drive_in a)) → IsBehind contents count left shown printed a b
+      → KeepsTold contents left shown printed a b
+  told_behind a b valid led = record {
+    drive = led.drive;
+    source = led.source;
+    terminal = led.terminal;
+    printer = led.printer;
+    valid = led.valid valid;
+    shrinks = led.shrinks;
+    grows = led.grows;
+    prints = led.prints;
+  }

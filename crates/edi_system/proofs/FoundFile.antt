@@ -1,17 +1,19 @@
 -- The found file of a system.
-use Rattle.std.proofs.Common.{◌≡◌, ℕ, List, [], ◌∷◌, Option, Some, None, refl, sym, ap, subst, ◌∙◌}
-use Rattle.std.specs.Prelude.{is_some, IfSome, Ok}
+use Rattle.std.proofs.Common.{◌≡◌, ◌⊎◌, inl, inr, ◌<◌, ◌≤◌, ℕ, List, [], ◌∷◌, get_or, length, Option, Some, None, refl, sym, ap, subst, ◌∙◌}
+use Rattle.std.proofs.lemmas.Bool.{le-ltb, lt-ltb}
+use Rattle.std.proofs.lemmas.Option.{slice_get_cases}
+use Rattle.std.specs.Prelude.{is_some, nat_lt, slice_get, IfSome, Ok}
 use Rattle.std.specs.Option.{option_map, option_and_then}
 use Rattle.edi_told.specs.Told.{WhereTold}
-use Rattle.edi_calls.specs.State.{title_of}
-use Rattle.edi_calls.specs.Calls.{find, found_in, word_of}
+use Rattle.edi_calls.specs.State.{Found, State, title_of}
+use Rattle.edi_calls.specs.Calls.{find, found_bytes, found_in, more, more_of, word_of}
 use Rattle.edi_catalog.specs.Files.{entry_of, file_titled}
 use Rattle.edi_catalog.specs.Mounted.{files_of, IsMounted}
 use Rattle.edi_image.specs.Stored.{IsKeptOf}
 use Rattle.edi_catalog.proofs.Mounts.{told_same_blocks}
 use Rattle.edi_system.specs.State.{buffer_in, catalog_in, drive_in, found_of, input_in, printer_in, state_of, state_with, terminal_in, IsReading, IsReady}
 use Rattle.edi_system.specs.Ends.{Reaches}
-use Rattle.edi_system.specs.Reading.{text_of, text_spelled}
+use Rattle.edi_system.specs.Reading.{text_of, text_spelled, LooksAt}
 use Rattle.edi_system.specs.declared.reading.Reading.{Reading}
 use Rattle.edi_system.specs.declared.system.System.{System}
 use Rattle.edi_system.proofs.Told.{told_same, told_together}
@@ -73,3 +75,19 @@ found_ready contents count before words found ready is = record {
       (IsReading contents (catalog_in before) before.page)
   go None = tt
   go (Some title) = text_ready contents (catalog_in before) before.page title
+
+-- there is an element exactly below the length
+there : (xs : List ℕ) (k : ℕ) → is_some (slice_get xs k) ≡ nat_lt k (length xs)
+there xs k = go (slice_get_cases xs k).1 where
+  go : ((x : ℕ) × (k < length xs) × (slice_get xs k ≡ Some x) × (get_or xs k x ≡ x)) ⊎ ((length xs ≤ k) × (slice_get xs k ≡ None))
+      → is_some (slice_get xs k) ≡ nat_lt k (length xs)
+  go (inl found) = ap is_some found.2 ∙ sym (lt-ltb k (length xs) found.1)
+  go (inr none) = ap is_some none.1 ∙ sym (le-ltb k (length xs) none.0)
+
+-- whether bytes are left, from whether there is a next one
+pub more_is : (byte : Option ℕ) (word : ℕ) (found : Option Found) (before after : State) → word ≡ word_of (is_some byte) → before.found ≡ found
+    → LooksAt (Ok byte) found before after → Reaches (more before) (Ok (Some word)) before after
+more_is byte word None before after is e looks = absurd looks
+more_is byte word (Some found) before after is e looks =
+    subst (λ o. Reaches (more_of o before) (Ok (Some word)) before after) (sym e)
+    (ap (λ w. w ∷ []) (is ∙ ap word_of (ap is_some looks.0 ∙ there (found_bytes before found) found.position)), looks.1)

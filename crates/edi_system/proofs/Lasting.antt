@@ -1,8 +1,10 @@
 -- What every call keeps: what is not told stays so, and the blocks of the drive are a valid image.
-use Rattle.std.proofs.Common.{◌≡◌, ◌⊎◌, inl, inr, ℕ, zero, suc, ◌+◌, ◌*◌, List, [], ◌∷◌, ◌++◌, length, take, Option, Some, None, refl, sym, ap, subst, ◌∙◌}
-use Rattle.std.proofs.Common.{arith}
-use Rattle.std.specs.Prelude.{slice_get, IfSome, Result, Ok, Err}
+use Rattle.std.proofs.Common.{◌≡◌, ◌⊎◌, inl, inr, ℕ, List, [], ◌∷◌, ◌++◌, drop, length, take, Option, Some, None, refl, sym, ap, subst, ◌∙◌}
+use Rattle.std.specs.Prelude.{Result, Ok, Err}
 use Rattle.edi_told.specs.Told.{WhereTold}
+use Rattle.edi_host.specs.declared.source.Next.{Next}
+use Rattle.edi_host.specs.declared.source.Next.TheVariants as next
+use Rattle.edi_host.specs.Streams.{Takes}
 use Rattle.edi_disk.specs.Shown.{drive_of}
 use Rattle.edi_calls.specs.State.{File}
 use Rattle.edi_image.specs.Image.{mount_fault_of, slots_of, Holds}
@@ -14,9 +16,8 @@ use Rattle.edi_catalog.specs.Storing.{slots_stored, StoreChanges}
 use Rattle.edi_calls.specs.declared.kinds.FileKind.{FileKind}
 use Rattle.edi_image.specs.Stored.{StoredFile}
 use Rattle.edi_catalog.specs.Mounted.{IsMounted, disk_of}
-use Rattle.edi_system.specs.AsCalls.{byte_number, IsDueSince, KeepsDue, Lasts, LastsShown}
-use Rattle.edi_system.specs.Parts.{Grows, IsValid, KeepsTold, ToldStays}
-use Rattle.edi_system.specs.State.{catalog_in, drive_in, terminal_in, IsReady}
+use Rattle.edi_system.specs.Parts.{Grows, IsValid, Shrinks, ToldStays}
+use Rattle.edi_system.specs.State.{catalog_in, drive_in, IsReady}
 use Rattle.edi_system.specs.declared.system.System.{System}
 
 -- ---- told
@@ -78,7 +79,7 @@ take_front : (xs ys : List ℕ) → take (length xs) (xs ++ ys) ≡ xs
 take_front [] ys = refl
 take_front (x ∷ xs) ys = ap (λ zs. x ∷ zs) (take_front xs ys)
 
-grows_same : (t : Option (List ℕ)) → WhereTold t t Grows
+pub grows_same : (t : Option (List ℕ)) → WhereTold t t Grows
 grows_same None = tt
 grows_same (Some x) = take_all x
 
@@ -87,36 +88,21 @@ grows_more t None more told = tt
 grows_more None (Some new) more told = absurd told
 grows_more (Some old) (Some new) more told = ap (take (length old)) told ∙ take_front old more
 
--- a byte of the first part is one of all
-get_front : (old new : List ℕ) → take (length old) new ≡ old → (k c : ℕ) → slice_get old k ≡ Some c → slice_get new k ≡ Some c
-get_front [] new e k c h = absurd (let wrong : None ≡ Some c = h in cc)
-get_front (x ∷ old) [] e k c h = absurd (let wrong : [] ≡ x ∷ old = e in cc)
-get_front (x ∷ old) (y ∷ new) e zero c h = (let all : y ∷ take (length old) new ≡ x ∷ old = e in let same : y ≡ x = cc in ap Some same ∙ h)
-get_front (x ∷ old) (y ∷ new) e (suc k) c h = (let all : y ∷ take (length old) new ≡ x ∷ old = e in let same : take (length old) new ≡ old = cc in
-    get_front old new same k c h)
+-- ---- what is left
 
-byte_stays : (t t' : Option (List ℕ)) → WhereTold t t' Grows → (k c : ℕ) → IfSome t (λ bytes. slice_get bytes k ≡ Some c)
-    → IfSome t' (λ bytes. slice_get bytes k ≡ Some c)
-byte_stays t None told k c was = tt
-byte_stays None (Some new) told k c was = absurd told
-byte_stays (Some old) (Some new) told k c was = get_front old new told k c was
+pub shrinks_same : (t : Option (List ℕ)) → WhereTold t t Shrinks
+shrinks_same None = tt
+shrinks_same (Some x) = (0, refl)
 
--- and a list whose bytes are all there is the first part
-pub front_is : (xs ys : List ℕ) → ((k c : ℕ) → slice_get xs k ≡ Some c → slice_get ys k ≡ Some c) → take (length xs) ys ≡ xs
-front_is [] ys all = refl
-front_is (x ∷ xs) [] all = absurd (let wrong : None ≡ Some x = all zero x refl in cc)
-front_is (x ∷ xs) (y ∷ ys) all =
-    (let first : Some y ≡ Some x = all zero x refl in
-    let same : y ≡ x = cc in ap (λ z. z ∷ take (length xs) ys) same ∙ ap (λ zs. x ∷ zs) (front_is xs ys (λ k c h. all (suc k) c h)))
+shrinks_by : (answer : Next) (old new : List ℕ) → Takes answer old new → Shrinks old new
+shrinks_by (next.Byte b) old new takes = (1, sym (ap (drop 1) takes))
+shrinks_by next.End old new takes = (0, takes.1 ∙ sym takes.0)
+shrinks_by next.Failed old new takes = (0, takes.1)
 
-odd_even : (a b : ℕ) → 2 * a + 1 ≡ 2 * b → ⊥
-odd_even a b e = omega (arith, e)
-
-number_same : (k c k' c' : ℕ) → byte_number k c ≡ byte_number k' c' → (k ≡ k') × (c ≡ c')
-number_same zero c zero c' e = (refl, omega (arith, e))
-number_same zero c (suc k') c' e = absurd (odd_even c (byte_number k' c') e)
-number_same (suc k) c zero c' e = absurd (odd_even c' (byte_number k c) (sym e))
-number_same (suc k) c (suc k') c' e = (let r = number_same k c k' c' (omega (arith, e)) in (ap suc r.0, r.1))
+shrinks_taken : (answer : Next) (t t' : Option (List ℕ)) → WhereTold t t' (Takes answer) → WhereTold t t' Shrinks
+shrinks_taken answer t None told = tt
+shrinks_taken answer None (Some new) told = absurd told
+shrinks_taken answer (Some old) (Some new) told = shrinks_by answer old new told
 
 -- ---- the facts together
 
@@ -128,19 +114,23 @@ told_alone d i t p valid = record {
   terminal = λ none. none;
   printer = λ none. none;
   valid = valid;
+  shrinks = shrinks_same i;
   grows = grows_same t;
+  prints = grows_same p;
 }
 
 -- one was
-pub told_input : (d : Option (List (List ℕ))) (i i' t p : Option (List ℕ)) (Q : List ℕ → List ℕ → Type 0) → IsValid d → WhereTold i i' Q
+pub told_input : (d : Option (List (List ℕ))) (i i' t p : Option (List ℕ)) (answer : Next) → IsValid d → WhereTold i i' (Takes answer)
     → ToldStays d d i i' t t p p
-told_input d i i' t p Q valid told = record {
+told_input d i i' t p answer valid told = record {
   drive = λ none. none;
-  source = none_stays Q i i' told;
+  source = none_stays (Takes answer) i i' told;
   terminal = λ none. none;
   printer = λ none. none;
   valid = valid;
+  shrinks = shrinks_taken answer i i' told;
   grows = grows_same t;
+  prints = grows_same p;
 }
 
 pub told_terminal : (d : Option (List (List ℕ))) (i t t' p : Option (List ℕ)) (more : List ℕ) → IsValid d → WhereTold t t' (λ old new. new ≡ old ++ more)
@@ -151,18 +141,22 @@ told_terminal d i t t' p more valid told = record {
   terminal = none_stays (λ old new. new ≡ old ++ more) t t' told;
   printer = λ none. none;
   valid = valid;
+  shrinks = shrinks_same i;
   grows = grows_more t t' more told;
+  prints = grows_same p;
 }
 
-pub told_printer : (d : Option (List (List ℕ))) (i t p p' : Option (List ℕ)) (Q : List ℕ → List ℕ → Type 0) → IsValid d → WhereTold p p' Q
+pub told_printer : (d : Option (List (List ℕ))) (i t p p' : Option (List ℕ)) (more : List ℕ) → IsValid d → WhereTold p p' (λ old new. new ≡ old ++ more)
     → ToldStays d d i i t t p p'
-told_printer d i t p p' Q valid told = record {
+told_printer d i t p p' more valid told = record {
   drive = λ none. none;
   source = λ none. none;
   terminal = λ none. none;
-  printer = none_stays Q p p' told;
+  printer = none_stays (λ old new. new ≡ old ++ more) p p' told;
   valid = valid;
+  shrinks = shrinks_same i;
   grows = grows_same t;
+  prints = grows_more p p' more told;
 }
 
 -- the drive was read
@@ -175,7 +169,9 @@ told_read d d' i t p Q valid told = record {
   terminal = λ none. none;
   printer = λ none. none;
   valid = valid_read Q d d' valid told;
+  shrinks = shrinks_same i;
   grows = grows_same t;
+  prints = grows_same p;
 }
 
 -- a file was changed
@@ -188,7 +184,9 @@ told_changed result wanted d d' i t p valid told = record {
   terminal = λ none. none;
   printer = λ none. none;
   valid = valid_changed result wanted d d' valid told;
+  shrinks = shrinks_same i;
   grows = grows_same t;
+  prints = grows_same p;
 }
 
 pub told_changes : {D X : Type 0} (contents : D → Option (List (List ℕ))) (count faults : D → ℕ) (result : Result X CatEnd) (refusal : Option CatEnd)
@@ -207,37 +205,3 @@ pub told_stores : {D X : Type 0} (contents : D → Option (List (List ℕ))) (co
 told_stores contents count faults result refusal title kind bytes one other i t p mounted changes =
     told_changed result (slots_stored title kind bytes) (contents (drive_of (disk_of one))) (contents (drive_of (disk_of other))) i t p
     (valid_mounted contents count one mounted) changes.leaves
-
--- every fact of the list lasts
-pub lasts : {D S T P : Type 0} (contents : D → Option (List (List ℕ))) (left : S → Option (List ℕ)) (shown : T → Option (List ℕ))
-    (printed : P → Option (List ℕ)) (before after : System D S T P)
-    → KeepsTold contents left shown printed before after → KeepsDue shown before after
-    → (n : ℕ) → Lasts contents left shown printed before n → Lasts contents left shown printed after n
-lasts contents left shown printed before after told due zero = told.drive
-lasts contents left shown printed before after told due (suc zero) = told.source
-lasts contents left shown printed before after told due (suc (suc zero)) = told.terminal
-lasts contents left shown printed before after told due (suc (suc (suc zero))) = told.printer
-lasts contents left shown printed before after told due (suc (suc (suc (suc zero)))) = λ valid. told.valid
-lasts contents left shown printed before after told due (suc (suc (suc (suc (suc m))))) = λ was. record {
-  due = λ start e. due start (was.due start e);
-  byte = λ k c e. byte_stays (shown (terminal_in before)) (shown (terminal_in after)) told.grows k c (was.byte k c e);
-}
-
--- what a system knows of the bytes that were shown before it
-pub due_known : {D S T P : Type 0} (shown : T → Option (List ℕ)) (system : System D S T P) (start : ℕ) → IsDueSince shown system start
-    → LastsShown shown system (2 * start)
-due_known shown system start since = record {
-  due = λ other e. subst (IsDueSince shown system) (let same : start ≡ other = omega (arith, e) in same) since;
-  byte = λ k c e. absurd (odd_even (byte_number k c) start (sym e));
-}
-
-pub byte_known : {D S T P : Type 0} (shown : T → Option (List ℕ)) (system : System D S T P) (k c : ℕ) → IfSome (shown (terminal_in system))
-    (λ bytes. slice_get bytes k ≡ Some c)
-    → LastsShown shown system (2 * byte_number k c + 1)
-byte_known shown system k c there = record {
-  due = λ start e. absurd (odd_even (byte_number k c) start e);
-  byte = λ k' c' e.
-      (let same = number_same k c k' c' (omega (arith, e)) in
-      subst (λ n. IfSome (shown (terminal_in system)) (λ bytes. slice_get bytes n ≡ Some c')) same.0
-      (subst (λ n. IfSome (shown (terminal_in system)) (λ bytes. slice_get bytes k ≡ Some n)) same.1 there));
-}

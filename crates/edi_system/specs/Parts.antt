@@ -1,5 +1,5 @@
 -- Words of contracts. What the calls on one object leave of a system.
-use Rattle.std.specs.Prelude.{◌≡◌, ℕ, ◌-◌, ◌≤◌, Bool, true, false, not, ◌==◌, List, [], ◌∷◌, ◌++◌, take, length, slice_get, Option, None, IfSome}
+use Rattle.std.specs.Prelude.{◌≡◌, ℕ, ◌-◌, ◌≤◌, Bool, true, false, not, ◌==◌, List, [], ◌∷◌, ◌++◌, drop, take, length, slice_get, Option, None, IfSome}
 use Rattle.std.specs.Option.{option_map_or}
 use Rattle.edi_told.specs.Told.{WhereTold}
 use Rattle.edi_host.specs.declared.source.Next.{Next}
@@ -17,15 +17,21 @@ IsValid disk = IfSome disk (λ blocks. mount_fault_of blocks ≡ None)
 abbrev pub Grows : (taken now : List ℕ) → Type 0
 Grows taken now = take (length taken) now ≡ taken
 
+-- what is left is what was left but for a first part
+abbrev pub Shrinks : (left now : List ℕ) → Type 0
+Shrinks left now = (n : ℕ) × (now ≡ drop n left)
+
 -- What is told of a drive, an input, a terminal and a printer before and after: what is told in the end was told at the start,
--- the blocks are a valid image, and what the terminal has taken only grows.
+-- the blocks are a valid image, the input only loses its first bytes, and what the terminal and the printer have taken only grows.
 pub record ToldStays (disk disk' : Option (List (List ℕ))) (input input' shown shown' printed printed' : Option (List ℕ)) : Type 0 where
   pub drive : disk ≡ None → disk' ≡ None
   pub source : input ≡ None → input' ≡ None
   pub terminal : shown ≡ None → shown' ≡ None
   pub printer : printed ≡ None → printed' ≡ None
   pub valid : IsValid disk'
+  pub shrinks : WhereTold input input' Shrinks
   pub grows : WhereTold shown shown' Grows
+  pub prints : WhereTold printed printed' Grows
 
 -- the same of the objects of a system, whatever a call answers
 abbrev pub KeepsTold : {D S T P : Type 0} → (contents : D → Option (List (List ℕ))) → (left : S → Option (List ℕ)) → (shown : T → Option (List ℕ))

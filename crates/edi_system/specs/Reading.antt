@@ -3,6 +3,7 @@ use Rattle.std.specs.Prelude.{◌≡◌, ℕ, ◌≤◌, ◌+◌, Bool, true, fa
 use Rattle.std.specs.Option.{option_map, option_and_then}
 use Rattle.std.specs.Str.{bytes_eq}
 use Rattle.edi_told.specs.Faults.{CountRose}
+use Rattle.edi_told.specs.Told.{WhereTold}
 use Rattle.edi_disk.specs.Shown.{drive_of, reference_of}
 use Rattle.edi_calls.specs.State.{Found, State, find_file, title_of}
 use Rattle.edi_calls.specs.Calls.{bytes_of, found_bytes, is_text, word_of}
@@ -60,6 +61,12 @@ GivesByte (Err e) there = ⊤
 -- the byte of the file of a title at a position, in the image that blocks are
 abbrev pub byte_in : (blocks : List (List ℕ)) → (title : List ℕ) → (position : ℕ) → Option ℕ
 byte_in blocks title position = slice_get (bytes_of (find_file (slots_of blocks) title)) position
+
+-- what is kept of the files, the blocks of the drive and their number are as they were
+pub record CatalogRests {D : Type 0} (contents : D → Option (List (List ℕ))) (count : D → ℕ) (before after : Catalog D) : Type 0 where
+  pub files : files_of after ≡ files_of before
+  pub blocks : WhereTold (contents (drive_of (disk_of before))) (contents (drive_of (disk_of after))) (λ old new. new ≡ old)
+  pub count_ : count (drive_of (disk_of after)) ≡ count (drive_of (disk_of before))
 
 -- The catalogue is only read, and is as it was where the drive has not failed.
 pub record OnlyReads {D : Type 0} (faults : D → ℕ) (fault : Bool) (before after : Catalog D) : Type 0 where

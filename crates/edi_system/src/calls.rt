@@ -3,7 +3,7 @@
 ghost use Rattle.std.specs.Prelude.{◌≡◌, ◌≤◌, false, length};
 ghost use Rattle.edi_told.specs.Told.{WhereTold};
 ghost use Rattle.edi_calls.specs.Calls.{argument_words, call};
-ghost use Rattle.edi_system.specs.State.{state_of, IsReady};
+ghost use Rattle.edi_system.specs.State.{drive_in, state_of, IsReady};
 ghost use Rattle.edi_system.specs.AsCalls.{KeepsDue};
 ghost use Rattle.edi_system.specs.Does.{Does};
 ghost use Rattle.edi_system.specs.Ends.{is_fault, Keeps, Reaches};
@@ -25,10 +25,11 @@ impl<D: Drive, S: Source, T: Sink, P: Sink> System<'_, '_, '_, '_, '_, '_, D, S,
         ensures exact { WhereTold (state_of D.contents S.left T.taken P.taken self.old) (state_of D.contents S.left T.taken P.taken self.new)
             (λ before after. Reaches (call number args.now before) result before after) }
         // What it leaves of the open files and of the kept catalogue, and the objects that it uses: also where none is told.
-        ensures does { Does D.count T.taken P.taken number args.now result self.old self.new }
+        ensures does { Does D.contents D.count S.left T.taken P.taken number args.now result self.old self.new }
         ensures ready { is_fault result ≡ false → IsReady D.contents D.count self.new }
         ensures due { KeepsDue T.taken self.old self.new }
         ensures told { KeepsTold D.contents S.left T.taken P.taken self.old self.new }
+        ensures size { D.count (drive_in self.new) ≡ D.count (drive_in self.old) }
         ensures keeps { Keeps D.faults S.faults T.faults P.faults (is_fault result) self.old self.new }
     {
         match number {
@@ -50,7 +51,7 @@ impl<'d, 'c, 'i, 't, 'p, 'b, D: Drive, S: Source, T: Sink, P: Sink> Calls
     for System<'d, 'c, 'i, 't, 'p, 'b, D, S, T, P> {
     ghost use Rattle.std.proofs.Common.{sym, ◌∙◌};
     ghost use Rattle.edi_system.specs.State.{faults_of, state_of};
-    ghost use Rattle.edi_system.specs.AsCalls.{HasFailed, Lasts, references_in};
+    ghost use Rattle.edi_system.specs.AsCalls.{HasFailed, IsBehind, references_in};
 
     ghost state = { λ system. state_of D.contents S.left T.taken P.taken system };
 
@@ -60,7 +61,7 @@ impl<'d, 'c, 'i, 't, 'p, 'b, D: Drive, S: Source, T: Sink, P: Sink> Calls
 
     ghost references = { λ system. references_in system };
 
-    ghost lasting = { λ system n. Lasts D.contents S.left T.taken P.taken system n };
+    ghost leads = { λ start system. IsBehind D.contents D.count S.left T.taken P.taken start system };
 
     ghost one_failed = { λ system one other p q. sym p.is ∙ q.is };
 

@@ -4,12 +4,12 @@ ghost use Rattle.std.specs.Prelude.{◌≡◌, ◌<◌, ◌↔◌, false, length
 ghost use Rattle.edi_told.specs.Told.{WhereTold};
 ghost use Rattle.edi_calls.specs.Calls.{find, more, read, word_of};
 ghost use Rattle.edi_catalog.specs.Mounted.{files_of};
-ghost use Rattle.edi_system.specs.State.{catalog_in, state_of, IsReady};
+ghost use Rattle.edi_system.specs.State.{catalog_in, drive_in, state_of, IsReady};
 ghost use Rattle.edi_system.specs.Catalogue.{OnlyReading};
 ghost use Rattle.edi_system.specs.Ends.{is_fault, Keeps, Reaches};
 ghost use Rattle.edi_system.specs.AsCalls.{KeepsDue};
 ghost use Rattle.edi_system.specs.Parts.{KeepsTold, OnlyOpenFiles};
-ghost use Rattle.edi_system.specs.Reading.{text_spelled, LooksAt, LooksIn, MoreIs, ReadsOn};
+ghost use Rattle.edi_system.specs.Reading.{text_spelled, CatalogRests, LooksAt, LooksIn, MoreIs, ReadsOn};
 
 use crate::ends::Stop;
 use crate::reading::{next_byte, text_spelled};
@@ -31,6 +31,7 @@ impl<D: Drive, S: Source, T: Sink, P: Sink> System<'_, '_, '_, '_, '_, '_, D, S,
         ensures ready { IsReady D.contents D.count self.new }
         ensures due { KeepsDue T.taken self.old self.new }
         ensures told { KeepsTold D.contents S.left T.taken P.taken self.old self.new }
+        ensures size { D.count (drive_in self.new) ≡ D.count (drive_in self.old) }
         ensures keeps { Keeps D.faults S.faults T.faults P.faults (is_fault result) self.old self.new }
     {
         let found = text_spelled(&self.catalog, words);
@@ -47,6 +48,7 @@ impl<D: Drive, S: Source, T: Sink, P: Sink> System<'_, '_, '_, '_, '_, '_, D, S,
         ensures no_file { (result ≡ Err Stop.NoFile) ↔ (self.old.found ≡ None) }
         ensures looks { IfOk result (λ byte. LooksIn (is_some byte) self.old.found self.new.found) }
         ensures only { OnlyReading self.old self.new }
+        ensures rests { CatalogRests D.contents D.count (catalog_in self.old) (catalog_in self.new) }
         ensures ready { is_fault result ≡ false → IsReady D.contents D.count self.new }
         ensures inside { IfOk result (λ byte. IsSome byte → IfSome self.new.found (λ reading. reading.position < reading.length)) }
         ensures due { KeepsDue T.taken self.old self.new }
@@ -76,9 +78,11 @@ impl<D: Drive, S: Source, T: Sink, P: Sink> System<'_, '_, '_, '_, '_, '_, D, S,
         ensures no_file { (result ≡ Err Stop.NoFile) ↔ (self.old.found ≡ None) }
         ensures tells { IfOk result (λ word. MoreIs word self.old.found self.new.found) }
         ensures only { OnlyReading self.old self.new }
+        ensures rests { CatalogRests D.contents D.count (catalog_in self.old) (catalog_in self.new) }
         ensures ready { is_fault result ≡ false → IsReady D.contents D.count self.new }
         ensures due { KeepsDue T.taken self.old self.new }
         ensures told { KeepsTold D.contents S.left T.taken P.taken self.old self.new }
+        ensures size { D.count (drive_in self.new) ≡ D.count (drive_in self.old) }
         ensures keeps { Keeps D.faults S.faults T.faults P.faults (is_fault result) self.old self.new }
     {
         match self.next_found() {
@@ -95,9 +99,11 @@ impl<D: Drive, S: Source, T: Sink, P: Sink> System<'_, '_, '_, '_, '_, '_, D, S,
         ensures no_file { (result ≡ Err Stop.NoFile) ↔ (self.old.found ≡ None) }
         ensures moves { IfOk result (λ word. ReadsOn word self.old.found self.new.found) }
         ensures only { OnlyReading self.old self.new }
+        ensures rests { CatalogRests D.contents D.count (catalog_in self.old) (catalog_in self.new) }
         ensures ready { is_fault result ≡ false → IsReady D.contents D.count self.new }
         ensures due { KeepsDue T.taken self.old self.new }
         ensures told { KeepsTold D.contents S.left T.taken P.taken self.old self.new }
+        ensures size { D.count (drive_in self.new) ≡ D.count (drive_in self.old) }
         ensures keeps { Keeps D.faults S.faults T.faults P.faults (is_fault result) self.old self.new }
     {
         match self.next_found() {

@@ -8,7 +8,7 @@ ghost use Rattle.edi_calls.specs.State.{title_of};
 ghost use Rattle.edi_catalog.specs.Files.{entry_of, file_titled};
 ghost use Rattle.edi_catalog.specs.Mounted.{IsMounted, disk_of, files_of};
 ghost use Rattle.edi_system.specs.State.{IsReading};
-ghost use Rattle.edi_system.specs.Reading.{byte_in, forgotten, is_err, is_kept, not_titled, text_of, text_spelled, GivesByte, OnlyReads};
+ghost use Rattle.edi_system.specs.Reading.{byte_in, forgotten, is_err, is_kept, not_titled, text_of, text_spelled, CatalogRests, GivesByte, OnlyReads};
 
 use crate::streams::character;
 use crate::system::PAGE;
@@ -116,7 +116,7 @@ fn load<D: Drive>(
     ensures loaded { OnOk result (reading.new.kept ≡ Some (reading.new.position / PAGE)) }
     ensures same { reading.new ≡ record reading.old { kept = reading.new.kept } }
     ensures reads { OnlyReads D.faults (is_err result) catalog.old catalog.new }
-    ensures blocks { WhereTold (D.contents (drive_of (disk_of catalog.old))) (D.contents (drive_of (disk_of catalog.new))) (λ old new. new ≡ old) }
+    ensures rests { CatalogRests D.contents D.count catalog.old catalog.new }
 {
     let wanted = reading.position / (PAGE as u32);
     if is_kept(reading.kept, wanted) {
@@ -145,6 +145,7 @@ pub(crate) fn next_byte<D: Drive>(
     ensures there { IfOk result (λ byte. is_some byte ≡ nat_lt reading.old.position reading.old.length) }
     ensures same { reading.new ≡ record reading.old { kept = reading.new.kept } }
     ensures reads { OnlyReads D.faults (is_err result) catalog.old catalog.new }
+    ensures rests { CatalogRests D.contents D.count catalog.old catalog.new }
     ensures byte { WhereTold (D.contents (drive_of (disk_of catalog.old))) (D.contents (drive_of (disk_of catalog.new)))
         (λ old new. (new ≡ old) × GivesByte result (byte_in old reading.old.title reading.old.position)) }
 {

@@ -4,9 +4,10 @@ ghost use Rattle.std.specs.Prelude.{◌≡◌, ◌%◌, true, false, not, None, 
 ghost use Rattle.edi_told.specs.Told.{WhereTold};
 ghost use Rattle.edi_host.specs.Streams.{Takes, next_fault};
 ghost use Rattle.edi_calls.specs.Calls.{accept, display, print, word_of};
-ghost use Rattle.edi_system.specs.State.{due_in, failed_in, input_in, state_of, IsReady};
+ghost use Rattle.edi_system.specs.State.{drive_in, due_in, failed_in, input_in, state_of, IsReady};
 ghost use Rattle.edi_system.specs.Ends.{is_fault, Keeps, Reaches};
 ghost use Rattle.edi_system.specs.AsCalls.{KeepsDue};
+ghost use Rattle.edi_system.specs.Does.{AcceptsByte};
 ghost use Rattle.edi_system.specs.Parts.{due_after, line_end, KeepsTold, OnlyInput, OnlyPrinter, OnlyTerminal, Prints, PrintsMore, Shows, ShowsMore, TakesByte};
 
 use crate::ends::Stop;
@@ -140,10 +141,12 @@ impl<D: Drive, S: Source, T: Sink, P: Sink> System<'_, '_, '_, '_, '_, '_, D, S,
         requires ready { IsReady D.contents D.count self.old }
         ensures exact { WhereTold (state_of D.contents S.left T.taken P.taken self.old) (state_of D.contents S.left T.taken P.taken self.new)
             (λ before after. Reaches (accept before) result before after) }
+        ensures accepts { WhereTold (S.left (input_in self.old)) (S.left (input_in self.new)) (AcceptsByte result) }
         ensures only { OnlyInput self.old self.new }
         ensures ready { is_fault result ≡ false → IsReady D.contents D.count self.new }
         ensures due { KeepsDue T.taken self.old self.new }
         ensures told { KeepsTold D.contents S.left T.taken P.taken self.old self.new }
+        ensures size { D.count (drive_in self.new) ≡ D.count (drive_in self.old) }
         ensures keeps { Keeps D.faults S.faults T.faults P.faults (is_fault result) self.old self.new }
     {
         match self.take() {
@@ -163,6 +166,7 @@ impl<D: Drive, S: Source, T: Sink, P: Sink> System<'_, '_, '_, '_, '_, '_, D, S,
         ensures ready { is_fault result ≡ false → IsReady D.contents D.count self.new }
         ensures due { KeepsDue T.taken self.old self.new }
         ensures told { KeepsTold D.contents S.left T.taken P.taken self.old self.new }
+        ensures size { D.count (drive_in self.new) ≡ D.count (drive_in self.old) }
         ensures keeps { Keeps D.faults S.faults T.faults P.faults (is_fault result) self.old self.new }
     {
         if self.show(&[character(word)]) {
@@ -182,6 +186,7 @@ impl<D: Drive, S: Source, T: Sink, P: Sink> System<'_, '_, '_, '_, '_, '_, D, S,
         ensures ready { is_fault result ≡ false → IsReady D.contents D.count self.new }
         ensures due { KeepsDue T.taken self.old self.new }
         ensures told { KeepsTold D.contents S.left T.taken P.taken self.old self.new }
+        ensures size { D.count (drive_in self.new) ≡ D.count (drive_in self.old) }
         ensures keeps { Keeps D.faults S.faults T.faults P.faults (is_fault result) self.old self.new }
     {
         if self.print_out(&[character(word)]) {

@@ -4,8 +4,8 @@ ghost use Rattle.std.specs.Prelude.{◌≡◌, false, None};
 ghost use Rattle.edi_calls.specs.State.{fresh};
 ghost use Rattle.edi_catalog.specs.Mounted.{IsMounted};
 ghost use Rattle.edi_told.specs.Told.{WhereTold};
-ghost use Rattle.edi_system.specs.State.{buffer_reference, catalog_in, due_in, failed_in, input_in, input_reference, printer_in, printer_reference, state_of};
-ghost use Rattle.edi_system.specs.State.{terminal_in, terminal_reference, IsReady};
+ghost use Rattle.edi_system.specs.State.{buffer_reference, catalog_in, drive_in, due_in, failed_in, input_in, input_reference, printer_in, printer_reference};
+ghost use Rattle.edi_system.specs.State.{state_of, terminal_in, terminal_reference, IsReady};
 ghost use Rattle.edi_system.specs.AsCalls.{KeepsDue};
 ghost use Rattle.edi_system.specs.Ends.{Keeps};
 ghost use Rattle.edi_system.specs.Catalogue.{IsClosed};
@@ -91,6 +91,7 @@ impl<'d, 'c, 'i, 't, 'p, 'b, D: Drive, S: Source, T: Sink, P: Sink> System<
         ensures closes { IsClosed self.new }
         ensures due { KeepsDue T.taken self.old self.new }
         ensures told { KeepsTold D.contents S.left T.taken P.taken self.old self.new }
+        ensures size { D.count (drive_in self.new) ≡ D.count (drive_in self.old) }
         ensures ready { IsReady D.contents D.count self.new }
         ensures keeps { Keeps D.faults S.faults T.faults P.faults false self.old self.new }
     {

@@ -7,7 +7,7 @@ ghost use Rattle.edi_calls.specs.Calls.{close, fresh_buffer, remove, write};
 ghost use Rattle.edi_system.specs.Buffers.{WritesTo};
 ghost use Rattle.edi_system.specs.Catalogue.{done, is_refused, OnlyFiles};
 ghost use Rattle.edi_system.specs.Closing.{Closes, Removes};
-ghost use Rattle.edi_system.specs.State.{buffer_in, state_of, IsReady};
+ghost use Rattle.edi_system.specs.State.{buffer_in, drive_in, state_of, IsReady};
 ghost use Rattle.edi_system.specs.AsCalls.{KeepsDue};
 ghost use Rattle.edi_system.specs.Ends.{is_fault, Keeps, Reaches};
 ghost use Rattle.edi_system.specs.Parts.{KeepsTold, OnlyOpenFiles};
@@ -43,6 +43,7 @@ impl<D: Drive, S: Source, T: Sink, P: Sink> System<'_, '_, '_, '_, '_, '_, D, S,
         ensures ready { IsReady D.contents D.count self.new }
         ensures due { KeepsDue T.taken self.old self.new }
         ensures told { KeepsTold D.contents S.left T.taken P.taken self.old self.new }
+        ensures size { D.count (drive_in self.new) ≡ D.count (drive_in self.old) }
         ensures keeps { Keeps D.faults S.faults T.faults P.faults (is_fault result) self.old self.new }
     {
         self.buffer.begin();
@@ -60,6 +61,7 @@ impl<D: Drive, S: Source, T: Sink, P: Sink> System<'_, '_, '_, '_, '_, '_, D, S,
         ensures ready { IsReady D.contents D.count self.new }
         ensures due { KeepsDue T.taken self.old self.new }
         ensures told { KeepsTold D.contents S.left T.taken P.taken self.old self.new }
+        ensures size { D.count (drive_in self.new) ≡ D.count (drive_in self.old) }
         ensures keeps { Keeps D.faults S.faults T.faults P.faults (is_fault result) self.old self.new }
     {
         match self.buffer.write(character(word)) {
@@ -75,11 +77,12 @@ impl<D: Drive, S: Source, T: Sink, P: Sink> System<'_, '_, '_, '_, '_, '_, D, S,
         ensures exact { WhereTold (state_of D.contents S.left T.taken P.taken self.old) (state_of D.contents S.left T.taken P.taken self.new)
             (λ before after. Reaches (close words.now before) result before after) }
         ensures no_file { (result ≡ Err Stop.NoFile) ↔ (buffer_in self.old ≡ None) }
-        ensures stores { IfSome (buffer_in self.old) (λ bytes. Closes D.count result (title_of words.now) bytes self.old self.new) }
+        ensures stores { IfSome (buffer_in self.old) (λ bytes. Closes D.contents D.count result (title_of words.now) bytes self.old self.new) }
         ensures only { OnlyFiles self.old self.new }
         ensures ready { is_fault result ≡ false → IsReady D.contents D.count self.new }
         ensures due { KeepsDue T.taken self.old self.new }
         ensures told { KeepsTold D.contents S.left T.taken P.taken self.old self.new }
+        ensures size { D.count (drive_in self.new) ≡ D.count (drive_in self.old) }
         ensures keeps { Keeps D.faults S.faults T.faults P.faults (is_fault result) self.old self.new }
     {
         let Some(bytes) = self.buffer.bytes() else {
@@ -104,11 +107,12 @@ impl<D: Drive, S: Source, T: Sink, P: Sink> System<'_, '_, '_, '_, '_, '_, D, S,
         requires words { length words.now ≡ 12 }
         ensures exact { WhereTold (state_of D.contents S.left T.taken P.taken self.old) (state_of D.contents S.left T.taken P.taken self.new)
             (λ before after. Reaches (remove words.now before) result before after) }
-        ensures removes { Removes result (title_of words.now) self.old self.new }
+        ensures removes { Removes D.contents D.count result (title_of words.now) self.old self.new }
         ensures only { OnlyFiles self.old self.new }
         ensures ready { is_fault result ≡ false → IsReady D.contents D.count self.new }
         ensures due { KeepsDue T.taken self.old self.new }
         ensures told { KeepsTold D.contents S.left T.taken P.taken self.old self.new }
+        ensures size { D.count (drive_in self.new) ≡ D.count (drive_in self.old) }
         ensures keeps { Keeps D.faults S.faults T.faults P.faults (is_fault result) self.old self.new }
     {
         let Some(title) = title_of(words) else {

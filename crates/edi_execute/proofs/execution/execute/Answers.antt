@@ -1,9 +1,9 @@
-use Rattle.std.proofs.Common.{subst}
+use Rattle.std.proofs.Common.{subst, ◌∙◌}
 use Rattle.edi_kernel.specs.Runs.{RunsTo}
-use Rattle.edi_system.proofs.Chained.{keeps_on, keeps_told_on, told_then}
+use Rattle.edi_system.proofs.Chained.{behind_none, keeps_on, keeps_told_on, told_behind, told_then}
 use Rattle.edi_system.proofs.Lasting.{valid_ready}
 use Rattle.edi_system.proofs.Told.{told_map}
-use Rattle.edi_execute.proofs.Executing.{at_moment, blamed, due_lasting, named, run_keeps, still_ready, told_lasting}
+use Rattle.edi_execute.proofs.Executing.{at_moment, blamed, named, run_keeps, still_ready}
 use Rattle.edi_execute.proofs.execution.execute.Goals as goal
 
 pub returns-clause-exact : goal.returns-clause-exact
@@ -27,13 +27,22 @@ pub returns-clause-told : goal.returns-clause-told
 returns-clause-told g c =
     keeps_told_on g.D.Drive.contents g.S.Source.left g.T.Sink.taken g.P.Sink.taken c.args.system.now c.begin_program.new.self c.run.new.calls
     c.begin_program.ensures.told
-    (told_lasting g.D.Drive.contents g.S.Source.left g.T.Sink.taken g.P.Sink.taken c.begin_program.new.self c.run.new.calls c.run.ensures.lasting
-    (valid_ready g.D.Drive.contents g.D.Drive.count c.begin_program.new.self c.begin_program.ensures.ready))
+    (told_behind g.D.Drive.contents g.D.Drive.count g.S.Source.left g.T.Sink.taken g.P.Sink.taken c.begin_program.new.self c.run.new.calls
+    (valid_ready g.D.Drive.contents g.D.Drive.count c.begin_program.new.self c.begin_program.ensures.ready)
+    (c.run.ensures.leads c.begin_program.new.self
+    (behind_none g.D.Drive.contents g.D.Drive.count g.S.Source.left g.T.Sink.taken g.P.Sink.taken c.begin_program.new.self)))
 
 pub returns-clause-due : goal.returns-clause-due
 returns-clause-due g c = λ start since.
-    due_lasting g.D.Drive.contents g.S.Source.left g.T.Sink.taken g.P.Sink.taken c.begin_program.new.self c.run.new.calls c.run.ensures.lasting start
-    (c.begin_program.ensures.due start since)
+    (c.run.ensures.leads c.begin_program.new.self
+    (behind_none g.D.Drive.contents g.D.Drive.count g.S.Source.left g.T.Sink.taken g.P.Sink.taken c.begin_program.new.self)).due
+    start (c.begin_program.ensures.due start since)
+
+pub returns-clause-size : goal.returns-clause-size
+returns-clause-size g c =
+    (c.run.ensures.leads c.begin_program.new.self
+    (behind_none g.D.Drive.contents g.D.Drive.count g.S.Source.left g.T.Sink.taken g.P.Sink.taken c.begin_program.new.self)).count_
+    ∙ c.begin_program.ensures.size
 
 pub returns-clause-keeps : goal.returns-clause-keeps
 returns-clause-keeps g c =

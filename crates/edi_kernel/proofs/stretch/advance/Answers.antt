@@ -24,7 +24,7 @@ stretch-preserved g c = record {
       _ (g.C.Calls.state c.stretch.calls) _ c.stretch.invariant.reached c.in_default.ensures.exact;
   working = c.in_default.ensures.blame;
   references = c.in_default.ensures.references ∙ c.stretch.invariant.references;
-  lasting = λ n h. c.in_default.ensures.lasting n (c.stretch.invariant.lasting n h);
+  leads = λ start led. c.in_default.ensures.leads start (c.stretch.invariant.leads start led);
   ordered = c.in_default.ensures.ordered;
   less = omega (arith, c.in_default.ensures.less, c.stretch.invariant.less);
   later = λ outside. omega (arith, c.in_default.ensures.later outside, c.stretch.invariant.later outside);

@@ -12,7 +12,7 @@ invariant-stretch g l = record {
       (running_in l.store l.progress.activity t l.progress.left) l.progress.cleared);
   working : g.C.Calls.failed l.calls None;
   references : g.C.Calls.references l.calls ≡ g.C.Calls.references l.initial.calls;
-  lasting : (n : ℕ) → g.C.Calls.lasting l.initial.calls n → g.C.Calls.lasting l.calls n;
+  leads : (start : g.row.C.Denot) → g.C.Calls.leads start l.initial.calls → g.C.Calls.leads start l.calls;
   ordered : IsOrdered l.progress.activity;
   less : l.progress.left ≤ l.initial.progress.left;
   later : (outside : Outside) → g.C.Calls.faults l.initial.calls outside ≤ g.C.Calls.faults l.calls outside;

@@ -23,7 +23,7 @@ returns-in-Ok-clause-byte g c =
     let length_ : c.load.new.reading.length ≡ c.args.reading.now.length = ap (λ (r : Reading). r.length) c.load.ensures.same in
     told_same_blocks _ _ _
     (λ blocks told. (
-      told_back _ _ c.load.ensures.blocks blocks told,
+      told_back _ _ c.load.ensures.rests.blocks blocks told,
       sym (ap (λ t. byte_in blocks t c.args.reading.now.position) (sym title)
           ∙ ap (byte_in blocks c.load.new.reading.title) (sym position)
           ∙ byte_some g.D.Drive.contents g.D.Drive.count g.met.D.Drive.counted g.met.D.Drive.sized c.load.new.catalog c.load.new.page c.load.new.reading

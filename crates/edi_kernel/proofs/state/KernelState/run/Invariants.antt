@@ -12,7 +12,7 @@ invariant-rounds g l = record {
   taken : IsSome l.self.taken;
   working : g.C.Calls.failed l.calls None;
   references : g.C.Calls.references l.calls ≡ g.C.Calls.references l.initial.calls;
-  lasting : (n : ℕ) → g.C.Calls.lasting l.initial.calls n → g.C.Calls.lasting l.calls n;
+  leads : (start : g.row.C.Denot) → g.C.Calls.leads start l.initial.calls → g.C.Calls.leads start l.calls;
   used : l.self.used ≤ l.bound;
   source : l.choices.source ≡ l.initial.choices.source;
   drawn : l.choices.drawn + 1 ≤ l.initial.choices.drawn + l.self.used;
