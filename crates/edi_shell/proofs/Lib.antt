@@ -4,3 +4,4 @@ pub mod Opening
 pub mod Rows
 pub mod Running
 pub mod SlotLines
+pub mod Entered

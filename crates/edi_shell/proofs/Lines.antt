@@ -11,7 +11,7 @@ use Rattle.edi_calls.specs.declared.ends.Outside.{Outside}
 use Rattle.edi_session.proofs.Later.{Later, take_line_on}
 use Rattle.edi_shell_calls.specs.Standing.{At, StandsIn, IsFault, IsLeft, Leads}
 use Rattle.edi_shell.specs.Taking.{GivesNone, GivesLine, Stops}
-use Rattle.edi_shell.proofs.Standing.{stands_later, fault_stops}
+use Rattle.edi_shell.proofs.Standing.{stands_later, fault_stops, nothing_stops}
 
 -- So much of the line has been taken: from here on the rest comes to what the whole does.
 pub record Underway {C : Type 0} (at : C → State → ℕ → Type 0) (echo : Bool) (most : ℕ) (result : Taken) (kept : List ℕ) (count : ℕ) (c : C) : Type 0 where
@@ -50,22 +50,9 @@ module _ {C : Type 0} (at : C → State → ℕ → Type 0) (stands : C → Stat
   -- no byte is taken, and so no line
   pub none_stops : (echo : Bool) (line : List ℕ) (s : Shell) (result : Taken) (e : SessionEnd) (c : C) → take_line echo (state_in s).input line s ≡ result
       → GivesNone at stands e s c → Stops at stands e result c
-  none_stops echo line s result end.Halted c is none = absurd none
-  none_stops echo line s result end.InputEnd c is none = absurd none
-  none_stops echo line s result end.Limit c is none =
-      subst (λ r. Stops at stands end.Limit r c) (sym (limited_line echo (state_in s).input line s none.0) ∙ is) none.1
-  none_stops echo line s result end.DriveFault c is st = on st where
-    on : StandsIn stands s c → StandsIn stands (shell_of result) c
-    on st = stands_later stands s (shell_of result) c (subst (λ r. Later s (shell_of r)) is (take_line_on echo (state_in s).input line s)) st
-  none_stops echo line s result end.InputFault c is st = on st where
-    on : StandsIn stands s c → StandsIn stands (shell_of result) c
-    on st = stands_later stands s (shell_of result) c (subst (λ r. Later s (shell_of r)) is (take_line_on echo (state_in s).input line s)) st
-  none_stops echo line s result end.TerminalFault c is st = on st where
-    on : StandsIn stands s c → StandsIn stands (shell_of result) c
-    on st = stands_later stands s (shell_of result) c (subst (λ r. Later s (shell_of r)) is (take_line_on echo (state_in s).input line s)) st
-  none_stops echo line s result end.PrinterFault c is st = on st where
-    on : StandsIn stands s c → StandsIn stands (shell_of result) c
-    on st = stands_later stands s (shell_of result) c (subst (λ r. Later s (shell_of r)) is (take_line_on echo (state_in s).input line s)) st
+  none_stops echo line s result e c is none =
+      nothing_stops at stands s result e c (λ full. sym is ∙ limited_line echo (state_in s).input line s full)
+      (subst (λ r. Later s (shell_of r)) is (take_line_on echo (state_in s).input line s)) none
 
   -- the input has ended, and no line was begun
   pub ends_empty : (echo : Bool) (most : ℕ) (line : List ℕ) (s : Shell) (result : Taken) (c : C) → take_line echo (state_in s).input line s ≡ result

@@ -5,6 +5,8 @@ use Rattle.edi_calls.specs.Choice.{Choices}
 use Rattle.edi_calls.specs.Outcome as outcome
 use Rattle.edi_calls.specs.State.{State}
 use Rattle.edi_kernel.specs.declared.ends.Ending.{Ending}
+use Rattle.edi_kernel.specs.declared.ends.Ending.TheVariants as ending
+use Rattle.edi_kernel.specs.Kernel.{EndsAs}
 use Rattle.edi_calls.specs.State.{File}
 use Rattle.edi_calls.specs.declared.kinds.FileKind.{FileKind}
 use Rattle.edi_calls.specs.declared.kinds.FileKind.TheVariants as file_kind
@@ -17,12 +19,62 @@ use Rattle.edi_session.specs.Session.{Next, goes, ExecutesBytes, ExecutesCode, E
 use Rattle.edi_session.specs.Shell.{Shell, says, shown_by, on_fresh_line}
 use Rattle.edi_session.specs.Texts.{ending_line}
 use Rattle.edi_session.proofs.Later.{ends_on, says_on}
+use Rattle.edi_shell_lines.specs.Endings.{line_for}
 use Rattle.edi_shell_calls.specs.Standing.{At, StandsIn, Leads, HasRun, RunsTo, RunBreaks}
-use Rattle.edi_shell.specs.Rows.{IsLike, GoesOn, Breaks, Does}
+use Rattle.edi_shell.specs.Rows.{IsLike, LineGoesOn, LineBreaks, LineDoes}
 use Rattle.edi_shell.specs.Files.{Reads, code_refusal}
-use Rattle.edi_shell.proofs.Rows.{with_feed, execute_refused, execute_opened, leads_does, like_says}
+use Rattle.edi_shell.proofs.Rows.{execute_refused, execute_opened, leads_does, like_says}
 use Rattle.edi_shell.proofs.Opening.{some_same}
 use Rattle.edi_shell.proofs.Standing.{stands_later}
+
+-- the line of an ending
+abbrev pub with_feed : Option (List ℕ) → Option (List ℕ)
+with_feed None = None
+with_feed (Some text) = Some (text ++ 10 ∷ [])
+
+pub same_line : (f : List ℕ) (end : outcome.Ending) (e : Ending) → EndsAs end e → line_for f e ≡ with_feed (ending_line f end)
+same_line f outcome.done ending.Done h = refl
+same_line f outcome.done (ending.Halted at) h = absurd h
+same_line f outcome.done (ending.Failed c at) h = absurd h
+same_line f outcome.done ending.Turns h = absurd h
+same_line f outcome.done ending.Standstill h = absurd h
+same_line f outcome.done (ending.Bad at) h = absurd h
+same_line f outcome.done ending.Fault h = absurd h
+same_line f (outcome.halted line) ending.Done h = absurd h
+same_line f (outcome.halted line) (ending.Halted at) h = ap (λ n. line_for f (ending.Halted n)) h
+same_line f (outcome.halted line) (ending.Failed c at) h = absurd h
+same_line f (outcome.halted line) ending.Turns h = absurd h
+same_line f (outcome.halted line) ending.Standstill h = absurd h
+same_line f (outcome.halted line) (ending.Bad at) h = absurd h
+same_line f (outcome.halted line) ending.Fault h = absurd h
+same_line f (outcome.failed cause line) ending.Done h = absurd h
+same_line f (outcome.failed cause line) (ending.Halted at) h = absurd h
+same_line f (outcome.failed cause line) (ending.Failed c at) h = ap (λ n. line_for f (ending.Failed c n)) h.1 ∙ ap (λ k. line_for f (ending.Failed k line)) h.0
+same_line f (outcome.failed cause line) ending.Turns h = absurd h
+same_line f (outcome.failed cause line) ending.Standstill h = absurd h
+same_line f (outcome.failed cause line) (ending.Bad at) h = absurd h
+same_line f (outcome.failed cause line) ending.Fault h = absurd h
+same_line f outcome.turns ending.Done h = absurd h
+same_line f outcome.turns (ending.Halted at) h = absurd h
+same_line f outcome.turns (ending.Failed c at) h = absurd h
+same_line f outcome.turns ending.Turns h = refl
+same_line f outcome.turns ending.Standstill h = absurd h
+same_line f outcome.turns (ending.Bad at) h = absurd h
+same_line f outcome.turns ending.Fault h = absurd h
+same_line f outcome.standstill ending.Done h = absurd h
+same_line f outcome.standstill (ending.Halted at) h = absurd h
+same_line f outcome.standstill (ending.Failed c at) h = absurd h
+same_line f outcome.standstill ending.Turns h = absurd h
+same_line f outcome.standstill ending.Standstill h = refl
+same_line f outcome.standstill (ending.Bad at) h = absurd h
+same_line f outcome.standstill ending.Fault h = absurd h
+same_line f (outcome.bad address) ending.Done h = absurd h
+same_line f (outcome.bad address) (ending.Halted at) h = absurd h
+same_line f (outcome.bad address) (ending.Failed c at) h = absurd h
+same_line f (outcome.bad address) ending.Turns h = absurd h
+same_line f (outcome.bad address) ending.Standstill h = absurd h
+same_line f (outcome.bad address) (ending.Bad at) h = refl
+same_line f (outcome.bad address) ending.Fault h = absurd h
 
 -- the line that is shown is that of the ending
 pub feed_some : (items : List ℕ) (line : Option (List ℕ)) → Some items ≡ with_feed line → (text : List ℕ) × (line ≡ Some text) × (items ≡ text ++ 10 ∷ [])
@@ -51,7 +103,7 @@ module _ {C : Type 0} (at : C → State → ℕ → Type 0) (stands : C → Stat
     next_is = ap (λ u. goes (ends_with (ending_line f end) u)) r.is;
   }
 
-  pub run_broke : (s : Shell) (c : C) → RunBreaks at stands code bound choices s c → Breaks at stands (ExecutesCode bound choices f code) s c
+  pub run_broke : (s : Shell) (c : C) → RunBreaks at stands code bound choices s c → LineBreaks at stands (ExecutesCode bound choices f code) s c
   run_broke s c b = record {
     next = goes (ends_with (ending_line f b.ending_) b.after);
     row = row_of b.ending_ b.drawn s b.after b.runs;
@@ -61,7 +113,7 @@ module _ {C : Type 0} (at : C → State → ℕ → Type 0) (stands : C → Stat
   -- the line of the ending could not be begun
   pub fresh_broke : (e : Ending) (drawn : ℕ) (s : Shell) (c d : C) (r : RunsTo at stands code bound choices e drawn s c) (text : List ℕ)
       → ending_line f r.ending_ ≡ Some text
-      → StandsIn stands (on_fresh_line r.after) d → Breaks at stands (ExecutesCode bound choices f code) s d
+      → StandsIn stands (on_fresh_line r.after) d → LineBreaks at stands (ExecutesCode bound choices f code) s d
   fresh_broke e drawn s c d r text is st = record {
     next = goes (ends_with (ending_line f r.ending_) r.after);
     row = row_of r.ending_ drawn s r.after r.runs;
@@ -73,7 +125,7 @@ module _ {C : Type 0} (at : C → State → ℕ → Type 0) (stands : C → Stat
   pub run_says : (e : Ending) (drawn : ℕ) (s : Shell) (c d : C) (r : RunsTo at stands code bound choices e drawn s c) (text items : List ℕ)
       (result : Result (Unit {0}) SessionEnd)
       → ending_line f r.ending_ ≡ Some text → items ≡ text ++ 10 ∷ [] → Leads at stands result (shown_by items (on_fresh_line r.after)) d
-      → Does at stands (ExecutesCode bound choices f code) result drawn s d
+      → LineDoes at stands (ExecutesCode bound choices f code) result drawn s d
   run_says e drawn s c d r text items (Ok x) is line l = record {
     after = says text (on_fresh_line r.after);
     row = subst (λ k. ExecutesCode bound choices f code s (goes (ends_with k r.after))) is (row_of r.ending_ drawn s r.after r.runs);
@@ -89,7 +141,7 @@ module _ {C : Type 0} (at : C → State → ℕ → Type 0) (stands : C → Stat
 
   -- a program that came to its end has no line
   pub run_ended : (e : Ending) (drawn : ℕ) (s : Shell) (c : C) (r : RunsTo at stands code bound choices e drawn s c) → ending_line f r.ending_ ≡ None
-      → GoesOn at stands (ExecutesCode bound choices f code) s drawn c
+      → LineGoesOn at stands (ExecutesCode bound choices f code) s drawn c
   run_ended e drawn s c r is = record {
     after = r.after;
     row = subst (λ k. ExecutesCode bound choices f code s (goes (ends_with k r.after))) is (row_of r.ending_ drawn s r.after r.runs);
@@ -118,7 +170,7 @@ refused_bytes bound choices f bytes known s (fault.Jump at target) h = inl
 module _ {C : Type 0} (at : C → State → ℕ → Type 0) (stands : C → State → Type 0) (f : List ℕ) (bound : ℕ) (choices : Choices) where
   pub execute_reading_broke : (into : List ℕ) (file : Option File) (s : Shell) (c : C) (e : SessionEnd) → Reads at stands (Err e) (Some file_kind.Code) file f
       into s c
-      → Breaks at stands (ExecutesFile bound choices f file) s c
+      → LineBreaks at stands (ExecutesFile bound choices f file) s c
   execute_reading_broke into file s c e (inl r) = record { next = goes r.after; row = execute_refused bound choices f file s r.after r.is; in_ = r.in_ }
   execute_reading_broke into file s c e (inr r) = record {
     next = goes (says_no_memory s);
@@ -130,9 +182,9 @@ module _ {C : Type 0} (at : C → State → ℕ → Type 0) (stands : C → Stat
   pub execute_not_loaded : (into front : List ℕ) (file : Option File) (kind : FileKind) (n drawn : ℕ) (s : Shell) (c d : C) (why : CodeFault)
       (result : Result (Unit {0}) SessionEnd) → front ≡ take n into
       → Reads at stands (Ok (Some (kind, n))) (Some file_kind.Code) file f into s c → IsFault why (code_fault_of front) → s.drawn ≡ drawn
-      → Leads at stands result (says (code_refusal f why) s) d → Does at stands (ExecutesFile bound choices f file) result drawn s d
+      → Leads at stands result (says (code_refusal f why) s) d → LineDoes at stands (ExecutesFile bound choices f file) result drawn s d
   execute_not_loaded into front file kind n drawn s c d why result part r h e l =
-      subst (λ k. Does at stands (ExecutesFile bound choices f file) result k s d) e
+      subst (λ k. LineDoes at stands (ExecutesFile bound choices f file) result k s d) e
       (leads_does at stands (ExecutesFile bound choices f file) s (says (code_refusal f why) s) result d
       (execute_opened bound choices f file r.0 s (goes (says (code_refusal f why) s)) r.1
       (refused_bytes bound choices f r.0.bytes (code_fault_of r.0.bytes) s why (subst (λ b. IsFault why (code_fault_of b)) (part ∙ r.3) h)))
@@ -142,7 +194,7 @@ module _ {C : Type 0} (at : C → State → ℕ → Type 0) (stands : C → Stat
   pub execute_loaded : (into front : List ℕ) (file : Option File) (kind : FileKind) (n drawn : ℕ) (s : Shell) (c d : C) (code : CodeParts)
       (result : Result (Unit {0}) SessionEnd) → front ≡ take n into
       → Reads at stands (Ok (Some (kind, n))) (Some file_kind.Code) file f into s c → code_fault_of front ≡ None → code ≡ code_of front
-      → Does at stands (ExecutesCode bound choices f code) result drawn s d → Does at stands (ExecutesFile bound choices f file) result drawn s d
+      → LineDoes at stands (ExecutesCode bound choices f code) result drawn s d → LineDoes at stands (ExecutesFile bound choices f file) result drawn s d
   execute_loaded into front file kind n drawn s c d code result part r sound is does = go result does where
     row : (next : Next) → ExecutesCode bound choices f code s next → ExecutesFile bound choices f file s next
     row next ran =
@@ -150,7 +202,7 @@ module _ {C : Type 0} (at : C → State → ℕ → Type 0) (stands : C → Stat
         (inl (subst (λ k. ExecutesBytes bound choices f r.0.bytes k s next) (sym sound ∙ ap code_fault_of (part ∙ r.3))
         (subst (λ p. ExecutesCode bound choices f p s next) (is ∙ ap code_of (part ∙ r.3)) ran)))
 
-    go : (result : Result (Unit {0}) SessionEnd) → Does at stands (ExecutesCode bound choices f code) result drawn s d
-        → Does at stands (ExecutesFile bound choices f file) result drawn s d
+    go : (result : Result (Unit {0}) SessionEnd) → LineDoes at stands (ExecutesCode bound choices f code) result drawn s d
+        → LineDoes at stands (ExecutesFile bound choices f file) result drawn s d
     go (Ok x) g = record { after = g.after; row = row (goes g.after) g.row; like = g.like; draws = g.draws; at_ = g.at_ }
     go (Err e) b = record { next = b.next; row = row b.next b.row; in_ = b.in_ }

@@ -1,11 +1,18 @@
 -- Words of contracts. What is taken of the input, and where the object stands then.
-use Rattle.std.specs.Prelude.{◌≡◌, ℕ, true, false, nat_le, List, [], ◌∷◌, take, Option, Some, None, Result, Ok, Err}
+use Rattle.std.specs.Prelude.{◌≡◌, ℕ, ◌+◌, Bool, true, false, nat_le, List, [], ◌∷◌, length, take, Option, Some, None, Result, Ok, Err}
 use Rattle.edi_calls.specs.declared.ends.Outside.{Outside}
 use Rattle.edi_calls.specs.State.{State}
 use Rattle.edi_session.specs.declared.end.SessionEnd.{SessionEnd}
 use Rattle.edi_session.specs.declared.end.SessionEnd.TheVariants as end
-use Rattle.edi_session.specs.Shell.{Shell, Taken, took, ended, limited, shell_of, limit, state_in, took_byte}
+use Rattle.edi_session.specs.Shell.{Shell, Taken, took, ended, limited, shell_of, limit, state_in, took_byte, is_end}
 use Rattle.edi_shell_calls.specs.Standing.{At, StandsIn, failed_by}
+
+-- So many bytes of a text have been taken, so many of them are its whole lines, and this tells whether the line behind them is the
+-- one that ends it.
+pub record IsSoFar (count whole : ℕ) (dot : Bool) (text line : List ℕ) : Type 0 where
+  pub all : count ≡ length text + length line
+  pub lines_ : whole ≡ length text
+  pub ends : dot ≡ is_end line
 
 module _ {C : Type 0} (ready : C → Type 0) (failed : C → Option Outside) where
   -- a further call may be made, unless an object has failed
@@ -55,3 +62,9 @@ module _ {C : Type 0} (at : C → State → ℕ → Type 0) (stands : C → Stat
   GivesLine most (Ok x) (took bytes s) kept count c = (kept ≡ take most bytes) × (s.taken ≡ count) × At at c s
   GivesLine most (Ok x) _ kept count c = ⊥
   GivesLine most (Err e) taken kept count c = Stops e taken c
+
+  -- A text is taken, of so many bytes. The room has the first of them, and so many bytes have been taken in the session.
+  abbrev pub GivesText : Result ℕ SessionEnd → Taken → (room : List ℕ) → (count : ℕ) → C → Type 0
+  GivesText (Ok n) (took text s) room count c = (n ≡ length text) × (take n room ≡ take (length room) text) × (s.taken ≡ count) × At at c s
+  GivesText (Ok n) _ room count c = ⊥
+  GivesText (Err e) taken room count c = Stops e taken c

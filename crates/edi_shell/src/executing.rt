@@ -6,7 +6,7 @@ ghost use Rattle.edi_session.specs.Files.{file_in};
 ghost use Rattle.edi_session.specs.Session.{ExecutesCode, ExecutesFile};
 ghost use Rattle.edi_session.specs.Shell.{Shell, says};
 ghost use Rattle.edi_shell_calls.specs.Standing.{At, IsLeft, Leads};
-ghost use Rattle.edi_shell.specs.Rows.{Does};
+ghost use Rattle.edi_shell.specs.Rows.{LineDoes};
 ghost use Rattle.edi_shell.specs.Files.{code_refusal};
 
 use crate::reading::read_file;
@@ -33,7 +33,7 @@ fn run_code<C: ShellCalls>(
 ) -> Result<(), SessionEnd>
     requires ready { C.ready calls.old }
     ensures exact { choices.old.drawn + bound < 2 ^ 64 → (s : Shell) → s.drawn ≡ choices.old.drawn → At C.at calls.old s → C.tells calls.new →
-        Does C.at C.stands (ExecutesCode bound choices.old.source f.now code.now) result choices.new.drawn s calls.new }
+        LineDoes C.at C.stands (ExecutesCode bound choices.old.source f.now code.now) result choices.new.drawn s calls.new }
     ensures source { choices.new.source ≡ choices.old.source }
     ensures drawn { choices.new.drawn ≤ choices.old.drawn + bound }
     ensures left { IsLeft C.ready C.failed result calls.new }
@@ -79,7 +79,7 @@ pub fn execute_file<C: ShellCalls>(
     requires ready { C.ready calls.old }
     requires room { most_bytes ≤ length room.old }
     ensures exact { choices.old.drawn + bound < 2 ^ 64 → (s : Shell) → s.drawn ≡ choices.old.drawn → At C.at calls.old s → C.tells calls.new →
-        Does C.at C.stands (ExecutesFile bound choices.old.source f.now (file_in s f.now)) result choices.new.drawn s calls.new }
+        LineDoes C.at C.stands (ExecutesFile bound choices.old.source f.now (file_in s f.now)) result choices.new.drawn s calls.new }
     ensures source { choices.new.source ≡ choices.old.source }
     ensures drawn { choices.new.drawn ≤ choices.old.drawn + bound }
     ensures left { IsLeft C.ready C.failed result calls.new }

@@ -12,7 +12,7 @@ use edi_session::SessionEnd;
 use edi_shell_calls::ShellCalls;
 
 /// Stores bytes as a file, or shows why not.
-pub(crate) fn store_file<C: ShellCalls>(
+pub fn store_file<C: ShellCalls>(
     calls: &mut C,
     title: &Title,
     kind: FileKind,

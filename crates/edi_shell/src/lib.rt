@@ -2,6 +2,7 @@
 #![tactic(auto)]
 
 mod catalogue;
+mod entering;
 mod executing;
 mod files;
 mod reading;
@@ -9,7 +10,9 @@ mod saying;
 mod taking;
 
 pub use catalogue::list_files;
+pub use entering::enter_file;
 pub use executing::execute_file;
-pub use files::{delete_file, protect_file, release_file, rename_file};
-pub use reading::{copy_file, print_file, show_file};
-pub use taking::{LIMIT, LineBytes, take_command};
+pub use files::{delete_file, protect_file, release_file, rename_file, store_file};
+pub use reading::{copy_file, open, print_file, read_file, show_file};
+pub use saying::say;
+pub use taking::{LIMIT, LineBytes, next_byte, take_command};

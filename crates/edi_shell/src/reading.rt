@@ -29,7 +29,7 @@ fn wrong(wanted: Option<FileKind>, kind: FileKind) -> Option<&'static str>
 }
 
 /// The file of this title, of the kind that is wanted, if one is; where there is none, shows why.
-pub(crate) fn open<C: ShellCalls>(
+pub fn open<C: ShellCalls>(
     calls: &mut C,
     f: &Title,
     wanted: Option<FileKind>,
@@ -52,7 +52,7 @@ pub(crate) fn open<C: ShellCalls>(
 
 /// Reads the file of this title into `room`, and gives its kind and the number of its bytes; where there is none of the kind that
 /// is wanted, shows why.
-pub(crate) fn read_file<C: ShellCalls>(
+pub fn read_file<C: ShellCalls>(
     calls: &mut C,
     f: &Title,
     wanted: Option<FileKind>,

@@ -15,7 +15,7 @@ use edi_shell_calls::ShellCalls;
 use edi_shell_lines::{Shown, change_refusal};
 
 /// Shows a line with its line feed.
-pub(crate) fn say<C: ShellCalls>(calls: &mut C, line: &Shown) -> Result<(), SessionEnd>
+pub fn say<C: ShellCalls>(calls: &mut C, line: &Shown) -> Result<(), SessionEnd>
     requires ready { C.ready calls.old }
     ensures exact { (s : Shell) → At C.at calls.old s → C.tells calls.new → Leads C.at C.stands result (shown_by line.now.items s) calls.new }
     ensures left { IsLeft C.ready C.failed result calls.new }

@@ -18,10 +18,7 @@ pub type LineBytes = ArrayVec<u8, 81>;
 const LINE_FEED: u8 = 10;
 
 /// The next byte of the input, or none where the input has ended. `taken` counts the bytes that the shell has taken.
-pub(crate) fn next_byte<C: ShellCalls>(
-    calls: &mut C,
-    taken: &mut u32,
-) -> Result<Option<u8>, SessionEnd>
+pub fn next_byte<C: ShellCalls>(calls: &mut C, taken: &mut u32) -> Result<Option<u8>, SessionEnd>
     requires ready { C.ready calls.old }
     requires limit { taken.old ≤ LIMIT }
     ensures exact { (s : Shell) → s.taken ≡ taken.old → At C.at calls.old s → C.tells calls.new → GivesByte C.at C.stands result s calls.new }

@@ -3,8 +3,7 @@ use Rattle.std.proofs.Common.{◌∙◌}
 use Rattle.std.proofs.lemmas.Result.{err_from_is_err_and}
 use Rattle.edi_session.specs.Shell.{on_fresh_line}
 use Rattle.edi_session.specs.Texts.{ending_line}
-use Rattle.edi_shell.proofs.Rows.{same_line}
-use Rattle.edi_shell.proofs.Running.{feed_some, fresh_broke, run_broke, run_says}
+use Rattle.edi_shell.proofs.Running.{feed_some, fresh_broke, run_broke, run_says, same_line}
 use Rattle.edi_shell.proofs.executing.run_code.Goals as goal
 
 pub returns-in_err-ending-clause-exact : goal.returns-in_err-ending-clause-exact
