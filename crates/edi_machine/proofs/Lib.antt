@@ -1,5 +1,6 @@
 pub mod Frames
 pub mod Fetching
+pub mod Commonly
 pub mod NewFrames
 pub mod SetWords
 pub mod SystemCalls

@@ -1,17 +1,18 @@
 -- What a step's answer tells of its effect.
-use Rattle.std.proofs.Common.{◌≡◌, ℕ, Bool, true, false, nat_eq, List, Option, Some, None, refl, sym, ap, ap₂, subst, ◌∙◌, inl, inr}
+use Rattle.std.proofs.Common.{◌≡◌, ℕ, ◌+◌, Bool, true, false, nat_eq, if◌then◌else◌, List, drop, Option, Some, None, refl, sym, ap, ap₂, subst, ◌∙◌, inl, inr}
 use Rattle.std.specs.Prelude.{◌&&◌}
 use Rattle.std.proofs.lemmas.Bool.{cases_eq, ne_eqb}
 use Rattle.edi_calls.specs.State.{State}
 use Rattle.edi_target.specs.Op.{Instruction, Branch, is_allowed}
 use Rattle.edi_target.specs.Fetch.{fetch}
-use Rattle.edi_target.specs.Perform.{perform}
+use Rattle.edi_target.specs.Decode.{decode, if_allowed, shaped}
 use Rattle.edi_target.specs.Effect.{Local, Effect, entering, leaving, looping, arriving, again, forking, exiting, finishing, goes, released, asks, due}
 use Rattle.edi_target.specs.Effect.{fails, bad}
 use Rattle.edi_target.specs.Mach.{answer_at, effect_at}
 use Rattle.edi_machine.specs.declared.ends.TurnKind.TheVariants as kind
 use Rattle.edi_machine.specs.declared.ends.StepEnd.{StepEnd}
 use Rattle.edi_machine.specs.declared.ends.StepEnd.TheVariants as end
+use Rattle.edi_machine.specs.Numbers.{placed}
 use Rattle.edi_machine.specs.Starts.{IsFork, branches_at}
 use Rattle.edi_machine.specs.Steps.{CanFork, Forks, Takes, effect_of, ends_phase, is_released}
 use Rattle.edi_machine.proofs.Laws.{Lawful, each_law}
@@ -107,28 +108,46 @@ can_fork words (end.Turn (kind.Fork at)) bad before after old new takes fork = a
 can_fork words (end.Turn k) e before after old new takes fork = tt
 can_fork words answer e before after old new takes fork = tt
 
--- both of the instruction that was read
-module _ (code words : List ℕ) (live : ℕ) (is_first : Bool) (l : Local) (i : Instruction) (next : ℕ) (same : words ≡ code)
-    (here : Some (i, next) ≡ fetch words l.pc) (allowed : is_allowed i ≡ true) where
-  law : Lawful words l.pc l.held (perform (fetch words) live is_first i next l)
-  law = (each_law words l.pc live is_first i next l (sym here) allowed).law
+-- ---- the effect of what stands at the program counter
 
-  pub phase_of_step : (answer : StepEnd) (after : Local) (old new : Option State) → Takes (perform (fetch words) live is_first i next l) answer l after old
-      new → ends_phase answer l after ≡ is_released (effect_of code live is_first l)
+some_is : (x y : Instruction × ℕ) → Some x ≡ Some y → x ≡ y
+some_is x y e = cc
+
+allowed_of : (x : Option (Instruction × ℕ)) (at : ℕ) (found : Instruction × ℕ) → placed at (if_allowed x) ≡ Some found → is_allowed found.0 ≡ true
+allowed_of None at found e = absurd (cc)
+allowed_of (Some y) at found e = by_test (is_allowed y.0) refl e
+  where
+    by_test : (b : Bool) → is_allowed y.0 ≡ b → placed at (if◌then◌else◌ {A = Option (Instruction × ℕ)} b (Some y) None) ≡ Some found
+        → is_allowed found.0 ≡ true
+    by_test true t e = subst (λ (z : Instruction × ℕ). is_allowed z.0 ≡ true) (some_is (y.0, at + y.1) found e) t
+    by_test false t e = absurd (cc)
+
+allowed_there : (words : List ℕ) (at : ℕ) (found : Instruction × ℕ) → fetch words at ≡ Some found → is_allowed found.0 ≡ true
+unfolding decode
+allowed_there words at found here = allowed_of (shaped (drop at words)) at found here
+
+-- each effect is lawful
+module _ (code words : List ℕ) (live : ℕ) (is_first : Bool) (l : Local) (same : words ≡ code) where
+  law_of : (x : Option (Instruction × ℕ)) → fetch words l.pc ≡ x → Lawful words l.pc l.held (effect_at (fetch words) x live is_first l)
+  law_of None here = tt
+  law_of (Some (i, next)) here = (each_law words l.pc live is_first i next l here (allowed_there words l.pc (i, next) here)).law
+
+  law : Lawful words l.pc l.held (effect_of words live is_first l)
+  law = law_of (fetch words l.pc) refl
+
+  pub phase_of_step : (answer : StepEnd) (after : Local) (old new : Option State) → Takes (effect_of words live is_first l) answer l after old new
+      → ends_phase answer l after ≡ is_released (effect_of code live is_first l)
   phase_of_step answer after old new takes =
-      phase_told words l.pc answer (perform (fetch words) live is_first i next l) l after old new takes law
-      ∙ ap (λ (x : Option (Instruction × ℕ)). is_released (effect_at (fetch words) x live is_first l)) here
+      phase_told words l.pc answer (effect_of words live is_first l) l after old new takes law
       ∙ ap (λ (ws : List ℕ). is_released (effect_of ws live is_first l)) same
 
-  pub branches_of_step : (answer : StepEnd) (after : Local) (old new : Option State) → Takes (perform (fetch words) live is_first i next l) answer l after old
-      new → CanFork answer code after
+  pub branches_of_step : (answer : StepEnd) (after : Local) (old new : Option State) → Takes (effect_of words live is_first l) answer l after old new
+      → CanFork answer code after
   branches_of_step answer after old new takes =
       subst (λ (ws : List ℕ). CanFork answer ws after) same
-      (can_fork words answer (perform (fetch words) live is_first i next l) l after old new takes
-      (forks_here words l.pc l.held (perform (fetch words) live is_first i next l) law))
+      (can_fork words answer (effect_of words live is_first l) l after old new takes (forks_here words l.pc l.held (effect_of words live is_first l) law))
 
   pub fork_of_step : Forks (effect_of code live is_first l) code l.pc
   fork_of_step =
       subst (λ (ws : List ℕ). Forks (effect_of ws live is_first l) ws l.pc) same
-      (subst (λ (x : Option (Instruction × ℕ)). Forks (effect_at (fetch words) x live is_first l) words l.pc) here
-      (forks_here words l.pc l.held (perform (fetch words) live is_first i next l) law))
+      (forks_here words l.pc l.held (effect_of words live is_first l) law)

@@ -1,4 +1,5 @@
 pub mod Activities
 pub mod Groups
+pub mod Numbers
 pub mod Starts
 pub mod Steps

@@ -3,6 +3,7 @@
 
 mod activity;
 mod arithmetic;
+mod common;
 mod comparisons;
 mod constants;
 mod ends;

@@ -11,6 +11,7 @@ ghost use Rattle.edi_machine.specs.Activities.{IsOrdered, local_of};
 ghost use Rattle.edi_machine.specs.Steps.{Blames, CanFork, Forks, Keeps, Takes, effect_of, ends_phase, is_released};
 
 use crate::activity::Activity;
+use crate::common::execute_common;
 use crate::ends::StepEnd;
 use crate::groups::data_instruction;
 use crate::instruction::instruction_at;
@@ -45,7 +46,7 @@ fn execute<C: Calls>(
     ensures later { (outside : Outside) → C.faults calls.old outside ≤ C.faults calls.new outside }
     ensures blame { Blames result (C.failed calls.new) (C.faults calls.old) (C.faults calls.new) }
     ensures references { C.references calls.new ≡ C.references calls.old }
-    ensures leads { (start : C) → C.leads start calls.old → C.leads start calls.new }
+    ensures lasting { (n : ℕ) → C.lasting calls.old n → C.lasting calls.new n }
     ensures ordered { IsOrdered activity.new }
 {
     match op {
@@ -56,6 +57,64 @@ fn execute<C: Calls>(
         } => call_described(store, activity, words, level, offset, line, next, calls),
         _ => data_instruction(store, activity, words, live, first, op, next),
     }
+}
+
+// Executes the instruction at the activity's `pc`, whichever it is.
+#[inline(never)]
+fn execute_any<C: Calls>(
+    store: &mut Store,
+    activity: &mut Activity,
+    words: &[u16],
+    live: u32,
+    first: bool,
+    calls: &mut C,
+) -> StepEnd
+    requires size { length words.now < 2 ^ 32 }
+    requires working { C.failed calls.old None }
+    requires live { live ≤ 32 }
+    requires ordered { IsOrdered activity.old }
+    ensures exact { let l = local_of store.old activity.old in
+        Takes (effect_of words.now live first l) result l (local_of store.new activity.new) (C.state calls.old) (C.state calls.new) }
+    ensures keeps { Keeps (effect_of words.now live first (local_of store.old activity.old)) calls.old calls.new }
+    ensures later { (outside : Outside) → C.faults calls.old outside ≤ C.faults calls.new outside }
+    ensures blame { Blames result (C.failed calls.new) (C.faults calls.old) (C.faults calls.new) }
+    ensures references { C.references calls.new ≡ C.references calls.old }
+    ensures lasting { (n : ℕ) → C.lasting calls.old n → C.lasting calls.new n }
+    ensures ordered { IsOrdered activity.new }
+{
+    let Some((op, next)) = instruction_at(words, activity.pc) else {
+        return StepEnd::Bad(activity.pc);
+    };
+    execute(store, activity, words, live, first, op, next, calls)
+}
+
+// Executes the instruction at the activity's `pc`: at once, where it is a common one.
+#[inline(always)]
+fn execute_here<C: Calls>(
+    store: &mut Store,
+    activity: &mut Activity,
+    words: &[u16],
+    live: u32,
+    first: bool,
+    calls: &mut C,
+) -> StepEnd
+    requires size { length words.now < 2 ^ 32 }
+    requires working { C.failed calls.old None }
+    requires live { live ≤ 32 }
+    requires ordered { IsOrdered activity.old }
+    ensures exact { let l = local_of store.old activity.old in
+        Takes (effect_of words.now live first l) result l (local_of store.new activity.new) (C.state calls.old) (C.state calls.new) }
+    ensures keeps { Keeps (effect_of words.now live first (local_of store.old activity.old)) calls.old calls.new }
+    ensures later { (outside : Outside) → C.faults calls.old outside ≤ C.faults calls.new outside }
+    ensures blame { Blames result (C.failed calls.new) (C.faults calls.old) (C.faults calls.new) }
+    ensures references { C.references calls.new ≡ C.references calls.old }
+    ensures lasting { (n : ℕ) → C.lasting calls.old n → C.lasting calls.new n }
+    ensures ordered { IsOrdered activity.new }
+{
+    if let Some(end) = execute_common(store, activity, words, live, first) {
+        return end;
+    }
+    execute_any(store, activity, words, live, first, calls)
 }
 
 /// Executes the instruction at the activity's `pc`, as the definition of the machine has it. `live` is the number of live
@@ -80,7 +139,7 @@ pub fn step<C: Calls>(
     ensures later { (outside : Outside) → C.faults calls.old outside ≤ C.faults calls.new outside }
     ensures blame { Blames result (C.failed calls.new) (C.faults calls.old) (C.faults calls.new) }
     ensures references { C.references calls.new ≡ C.references calls.old }
-    ensures leads { (start : C) → C.leads start calls.old → C.leads start calls.new }
+    ensures lasting { (n : ℕ) → C.lasting calls.old n → C.lasting calls.new n }
     ensures phase { let before = local_of store.old activity.old in
         ends_phase result before (local_of store.new activity.new) ≡ is_released (effect_of code.now.words live first before) }
     ensures fork { let before = local_of store.old activity.old in
@@ -92,10 +151,7 @@ pub fn step<C: Calls>(
 {
     let _was_whole = store.get(0);
     let words = code.words();
-    let Some((op, next)) = instruction_at(words, activity.pc) else {
-        return StepEnd::Bad(activity.pc);
-    };
-    let end = execute(store, activity, words, live, first, op, next, calls);
+    let end = execute_here(store, activity, words, live, first, calls);
     let _whole = store.get(0);
     end
 }

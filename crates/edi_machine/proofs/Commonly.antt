@@ -1,0 +1,56 @@
+-- The effect of an instruction by the words at the program counter, and what a step that asks nothing of the system keeps.
+use Rattle.std.proofs.Common.{◌≡◌, ℕ, Bool, List, drop, Option, None, sym, ap, subst, refl}
+use Rattle.std.specs.Prelude.{IfSome}
+use Rattle.edi_calls.specs.declared.ends.Outside.{Outside}
+use Rattle.edi_calls.specs.State.{State}
+use Rattle.edi_target.specs.Decode.{decode}
+use Rattle.edi_target.specs.Fetch.{fetch}
+use Rattle.edi_target.specs.Effect.{Local, Effect, goes, released, asks, due, fails, bad}
+use Rattle.edi_target.specs.Mach.{effect_at}
+use Rattle.edi_machine.specs.declared.ends.StepEnd.{StepEnd}
+use Rattle.edi_machine.specs.declared.ends.StepEnd.TheVariants as end
+use Rattle.edi_machine.specs.Numbers.{effect_by, placed}
+use Rattle.edi_machine.specs.Steps.{Blames, Gives, Keeps, Takes, effect_of}
+
+-- the words that were found from the program counter on are those there
+effect_there : (words : List ℕ) (live : ℕ) (is_first : Bool) (l : Local) (front : List ℕ) → drop l.pc words ≡ front
+    → effect_of words live is_first l ≡ effect_by words live is_first front l
+unfolding decode
+effect_there words live is_first l front here = ap (λ ws. effect_at (fetch words) (placed l.pc (decode ws)) live is_first l) here
+
+pub gives_there : (words : List ℕ) (live : ℕ) (is_first : Bool) (l : Local) (front : List ℕ) → drop l.pc words ≡ front
+    → (result : Option StepEnd) (after : Local) → IfSome result (λ e. Gives (effect_by words live is_first front l) e l after)
+    → IfSome result (λ e. Gives (effect_of words live is_first l) e l after)
+gives_there words live is_first l front here result after h =
+    subst (λ x. IfSome result (λ e. Gives x e l after)) (sym (effect_there words live is_first l front here)) h
+
+-- ---- a step that asks nothing of the system
+
+pub gives_takes : (x : Effect) (e : StepEnd) (before after : Local) (s : Option State) → Gives x e before after → Takes x e before after s s
+gives_takes (goes l) e before after s h = h
+gives_takes (released l) e before after s h = h
+gives_takes (asks number arguments address line l) e before after s h = absurd h
+gives_takes (due turn l) e before after s h = h
+gives_takes (fails cause line) e before after s h = h
+gives_takes bad e before after s h = h
+
+pub keeps_itself : {X : Type 0} (e : Effect) (x : X) → Keeps e x x
+keeps_itself (goes l) x = refl
+keeps_itself (released l) x = refl
+keeps_itself (asks number arguments address line l) x = tt
+keeps_itself (due turn l) x = refl
+keeps_itself (fails cause line) x = refl
+keeps_itself bad x = refl
+
+pub gives_blame : (x : Effect) (e : StepEnd) (before after : Local) (failed : Option Outside → Type 0) (old new : Outside → ℕ) → Gives x e before after
+    → failed None → Blames e failed old new
+gives_blame x end.On before after failed old new h none = none
+gives_blame x (end.Turn kind) before after failed old new h none = none
+gives_blame x (end.Fail cause line) before after failed old new h none = none
+gives_blame x (end.Bad at) before after failed old new h none = none
+gives_blame (goes l) end.Fault before after failed old new h none = absurd h
+gives_blame (released l) end.Fault before after failed old new h none = absurd h
+gives_blame (asks number arguments address line l) end.Fault before after failed old new h none = absurd h
+gives_blame (due turn l) end.Fault before after failed old new h none = absurd h
+gives_blame (fails cause line) end.Fault before after failed old new h none = absurd h
+gives_blame bad end.Fault before after failed old new h none = absurd h

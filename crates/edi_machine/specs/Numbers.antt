@@ -1,0 +1,14 @@
+-- Words of contracts. The effect of an instruction that stands at the program counter, by the words from there on.
+use Rattle.std.specs.Prelude.{ℕ, ◌+◌, Bool, List, Option, Some, None}
+use Rattle.edi_target.specs.Op.{Instruction}
+use Rattle.edi_target.specs.Decode.{shaped, if_allowed}
+use Rattle.edi_target.specs.Fetch.{fetch}
+use Rattle.edi_target.specs.Effect.{Local, Effect}
+use Rattle.edi_target.specs.Mach.{effect_at}
+
+-- an instruction with its length, as one with the address behind it
+abbrev pub placed : ℕ → Option (Instruction × ℕ) → Option (Instruction × ℕ)
+placed at x = elim x [ None ↦ None | Some found ↦ Some (found.0, at + found.1) ]
+
+abbrev pub effect_by : (words : List ℕ) → (live : ℕ) → (is_first : Bool) → (front : List ℕ) → Local → Effect
+effect_by words live is_first front l = effect_at (fetch words) (placed l.pc (if_allowed (shaped front))) live is_first l
