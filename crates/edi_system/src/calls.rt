@@ -1,6 +1,6 @@
 //! The ten calls of a program.
 
-ghost use Rattle.std.specs.Prelude.{◌≡◌, ◌≤◌, false, length};
+ghost use Rattle.std.specs.Prelude.{◌≡◌, ◌≤◌, false, length, Err};
 ghost use Rattle.edi_told.specs.Told.{WhereTold};
 ghost use Rattle.edi_calls.specs.Calls.{argument_words, call};
 ghost use Rattle.edi_system.specs.State.{drive_in, state_of, IsReady};
@@ -26,6 +26,7 @@ impl<D: Drive, S: Source, T: Sink, P: Sink> System<'_, '_, '_, '_, '_, '_, D, S,
             (λ before after. Reaches (call number args.now before) result before after) }
         // What it leaves of the open files and of the kept catalogue, and the objects that it uses: also where none is told.
         ensures does { Does D.contents D.count S.left T.taken P.taken number args.now result self.old self.new }
+        ensures untouched { result ≡ Err Stop.NoFile → self.new ≡ self.old }
         ensures ready { is_fault result ≡ false → IsReady D.contents D.count self.new }
         ensures due { KeepsDue T.taken self.old self.new }
         ensures told { KeepsTold D.contents S.left T.taken P.taken self.old self.new }

@@ -49,6 +49,7 @@ impl<D: Drive, S: Source, T: Sink, P: Sink> System<'_, '_, '_, '_, '_, '_, D, S,
         ensures looks { IfOk result (λ byte. LooksIn (is_some byte) self.old.found self.new.found) }
         ensures only { OnlyReading self.old self.new }
         ensures rests { CatalogRests D.contents D.count (catalog_in self.old) (catalog_in self.new) }
+        ensures untouched { result ≡ Err Stop.NoFile → self.new ≡ self.old }
         ensures ready { is_fault result ≡ false → IsReady D.contents D.count self.new }
         ensures inside { IfOk result (λ byte. IsSome byte → IfSome self.new.found (λ reading. reading.position < reading.length)) }
         ensures due { KeepsDue T.taken self.old self.new }
@@ -79,6 +80,7 @@ impl<D: Drive, S: Source, T: Sink, P: Sink> System<'_, '_, '_, '_, '_, '_, D, S,
         ensures tells { IfOk result (λ word. MoreIs word self.old.found self.new.found) }
         ensures only { OnlyReading self.old self.new }
         ensures rests { CatalogRests D.contents D.count (catalog_in self.old) (catalog_in self.new) }
+        ensures untouched { result ≡ Err Stop.NoFile → self.new ≡ self.old }
         ensures ready { is_fault result ≡ false → IsReady D.contents D.count self.new }
         ensures due { KeepsDue T.taken self.old self.new }
         ensures told { KeepsTold D.contents S.left T.taken P.taken self.old self.new }
@@ -100,6 +102,7 @@ impl<D: Drive, S: Source, T: Sink, P: Sink> System<'_, '_, '_, '_, '_, '_, D, S,
         ensures moves { IfOk result (λ word. ReadsOn word self.old.found self.new.found) }
         ensures only { OnlyReading self.old self.new }
         ensures rests { CatalogRests D.contents D.count (catalog_in self.old) (catalog_in self.new) }
+        ensures untouched { result ≡ Err Stop.NoFile → self.new ≡ self.old }
         ensures ready { is_fault result ≡ false → IsReady D.contents D.count self.new }
         ensures due { KeepsDue T.taken self.old self.new }
         ensures told { KeepsTold D.contents S.left T.taken P.taken self.old self.new }

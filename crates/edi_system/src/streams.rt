@@ -1,6 +1,6 @@
 //! The input, the terminal and the printer.
 
-ghost use Rattle.std.specs.Prelude.{◌≡◌, ◌%◌, true, false, not, None, Some, if◌then◌else◌, [], ◌∷◌};
+ghost use Rattle.std.specs.Prelude.{◌≡◌, ◌%◌, true, false, not, Err, None, Some, if◌then◌else◌, [], ◌∷◌};
 ghost use Rattle.edi_told.specs.Told.{WhereTold};
 ghost use Rattle.edi_host.specs.Streams.{Takes, next_fault};
 ghost use Rattle.edi_calls.specs.Calls.{accept, display, print, word_of};
@@ -143,6 +143,7 @@ impl<D: Drive, S: Source, T: Sink, P: Sink> System<'_, '_, '_, '_, '_, '_, D, S,
             (λ before after. Reaches (accept before) result before after) }
         ensures accepts { WhereTold (S.left (input_in self.old)) (S.left (input_in self.new)) (AcceptsByte result) }
         ensures only { OnlyInput self.old self.new }
+        ensures untouched { result ≡ Err Stop.NoFile → self.new ≡ self.old }
         ensures ready { is_fault result ≡ false → IsReady D.contents D.count self.new }
         ensures due { KeepsDue T.taken self.old self.new }
         ensures told { KeepsTold D.contents S.left T.taken P.taken self.old self.new }
@@ -163,6 +164,7 @@ impl<D: Drive, S: Source, T: Sink, P: Sink> System<'_, '_, '_, '_, '_, '_, D, S,
             (λ before after. Reaches (display word before) result before after) }
         ensures shows { Shows T.taken (not (is_fault result)) (word % 128 ∷ []) self.old self.new }
         ensures only { OnlyTerminal self.old self.new }
+        ensures untouched { result ≡ Err Stop.NoFile → self.new ≡ self.old }
         ensures ready { is_fault result ≡ false → IsReady D.contents D.count self.new }
         ensures due { KeepsDue T.taken self.old self.new }
         ensures told { KeepsTold D.contents S.left T.taken P.taken self.old self.new }
@@ -183,6 +185,7 @@ impl<D: Drive, S: Source, T: Sink, P: Sink> System<'_, '_, '_, '_, '_, '_, D, S,
             (λ before after. Reaches (print word before) result before after) }
         ensures prints { Prints P.taken (not (is_fault result)) (word % 128 ∷ []) self.old self.new }
         ensures only { OnlyPrinter self.old self.new }
+        ensures untouched { result ≡ Err Stop.NoFile → self.new ≡ self.old }
         ensures ready { is_fault result ≡ false → IsReady D.contents D.count self.new }
         ensures due { KeepsDue T.taken self.old self.new }
         ensures told { KeepsTold D.contents S.left T.taken P.taken self.old self.new }

@@ -58,6 +58,7 @@ impl<D: Drive, S: Source, T: Sink, P: Sink> System<'_, '_, '_, '_, '_, '_, D, S,
         ensures writes { WritesTo result (word % 128) (buffer_in self.old) (buffer_in self.new) }
         ensures found { self.new.found ≡ self.old.found }
         ensures only { OnlyOpenFiles self.old self.new }
+        ensures untouched { result ≡ Err Stop.NoFile → self.new ≡ self.old }
         ensures ready { IsReady D.contents D.count self.new }
         ensures due { KeepsDue T.taken self.old self.new }
         ensures told { KeepsTold D.contents S.left T.taken P.taken self.old self.new }
@@ -79,6 +80,7 @@ impl<D: Drive, S: Source, T: Sink, P: Sink> System<'_, '_, '_, '_, '_, '_, D, S,
         ensures no_file { (result ≡ Err Stop.NoFile) ↔ (buffer_in self.old ≡ None) }
         ensures stores { IfSome (buffer_in self.old) (λ bytes. Closes D.contents D.count result (title_of words.now) bytes self.old self.new) }
         ensures only { OnlyFiles self.old self.new }
+        ensures untouched { result ≡ Err Stop.NoFile → self.new ≡ self.old }
         ensures ready { is_fault result ≡ false → IsReady D.contents D.count self.new }
         ensures due { KeepsDue T.taken self.old self.new }
         ensures told { KeepsTold D.contents S.left T.taken P.taken self.old self.new }
