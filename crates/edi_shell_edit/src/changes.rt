@@ -1,15 +1,21 @@
 //! Changes of the text.
 
-ghost use Rattle.std.specs.Prelude.{◌≡◌, ◌≤◌, ◌++◌, ◌∷◌, [], ℕ, List, length, false};
+ghost use Rattle.std.specs.Prelude.{◌≡◌, ◌≤◌, ◌++◌, ◌∷◌, [], ℕ, List, Option, false, length, vec_capacity};
+ghost use Rattle.edi_edit.specs.Editing.{Editing, EndsBy};
 ghost use Rattle.edi_edit.specs.Lines.{has_feed};
-ghost use Rattle.edi_session.specs.Session.{Deletes, edit_refusal, Inserts, Replaces, Undoes};
+ghost use Rattle.edi_edit.specs.declared.EditEnd.{EditEnd};
+ghost use Rattle.edi_session.specs.Session.{ChangesLine, EditsBy, edit_refusal};
 ghost use Rattle.edi_session.specs.Shell.{Shell};
-ghost use Rattle.edi_session.specs.Words.{kept_line};
+ghost use Rattle.edi_session.specs.declared.line.EditLine.TheVariants as edit;
+ghost use Rattle.edi_shell.specs.Taking.{IsLeftSo};
 ghost use Rattle.edi_shell_calls.specs.Standing.{At, IsLeft};
-ghost use Rattle.edi_shell_edit.specs.Rows.{GoesOn, SaysWhy};
+ghost use Rattle.edi_shell_edit.specs.Rows.{Edits, puts};
 
+use crate::looking::say_on;
+use crate::taking::{MOST_KEPT, take_line};
 use edi_edit::{EditEnd, Text};
 use edi_session::SessionEnd;
+use edi_shell::LIMIT;
 use edi_shell_calls::ShellCalls;
 use edi_shell_lines::{Shown, plain, with_number};
 use std::alloc::Global;
@@ -30,68 +36,60 @@ fn answer_change<C: ShellCalls>(
     calls: &mut C,
     n: u32,
     answer: Result<(), EditEnd>,
-) -> Result<(), SessionEnd>
+) -> Result<bool, SessionEnd>
     requires ready { C.ready calls.old }
-    ensures exact { (s : Shell) → At C.at calls.old s → C.tells calls.new → SaysWhy C.at C.stands answer result n s calls.new }
+    ensures exact { (s : Shell) (title : List ℕ) (cause : Option EditEnd) (before after now : Editing) → EndsBy answer cause after before now
+        → At C.at calls.old s → C.tells calls.new →
+        Edits C.at C.stands result (ChangesLine cause n title before after s) s s.taken title now calls.new }
     ensures left { IsLeft C.ready C.failed result calls.new }
     ensures lasts { C.lasts calls.old calls.new }
 {
     match answer {
-        Ok(()) => Ok(()),
-        Err(why) => calls.show(edit_refusal(n, why).as_slice()),
+        Ok(()) => Ok(false),
+        Err(why) => say_on(calls, edit_refusal(n, why).as_slice()),
     }
 }
 
-/// `i N`: inserts the kept bytes of a line as line `n`, or shows why not.
-pub fn insert_line<C: ShellCalls>(
+/// `i N`, or `r N` where a line is replaced: takes the next line into `line`, and puts it into the text or shows why not.
+pub(crate) fn put_line<C: ShellCalls>(
     alloc: Global,
     calls: &mut C,
+    taken: &mut u32,
     text: &mut Text,
+    line: &mut Vec<u8>,
+    replacing: bool,
     n: u32,
-    line: &[u8],
-) -> Result<(), SessionEnd>
+) -> Result<bool, SessionEnd>
     requires ready { C.ready calls.old }
-    requires one_line { has_feed line.now ≡ false }
-    requires short { length line.now ≤ 261121 }
-    ensures exact { (s : Shell) (title whole : List ℕ) → line.now ≡ kept_line whole → At C.at calls.old s → C.tells calls.new →
-        GoesOn C.at C.stands result (Inserts n title text.old whole s) title text.new calls.new }
-    ensures left { IsLeft C.ready C.failed result calls.new }
+    requires limit { taken.old ≤ LIMIT }
+    requires room { MOST_KEPT ≤ vec_capacity line.old }
+    ensures exact { (s : Shell) (title : List ℕ) → s.taken ≡ taken.old → At C.at calls.old s → C.tells calls.new →
+        Edits C.at C.stands result (EditsBy (puts replacing n) title text.old s) s taken.new title text.new calls.new }
+    ensures room { MOST_KEPT ≤ vec_capacity line.new }
+    ensures left { IsLeftSo C.ready C.failed result calls.new }
+    ensures limit { taken.new ≤ LIMIT }
+    ensures later { taken.old ≤ taken.new }
     ensures lasts { C.lasts calls.old calls.new }
 {
-    let inserted = text.insert(alloc, n, line);
+    take_line(calls, taken, line)?;
+    if replacing {
+        let replaced = text.replace(alloc, n, line.as_slice());
+        return answer_change(calls, n, replaced);
+    }
+    let inserted = text.insert(alloc, n, line.as_slice());
     answer_change(calls, n, inserted)
 }
 
-/// `r N`: puts the kept bytes of a line in place of line `n`, or shows why not.
-pub fn replace_line<C: ShellCalls>(
-    alloc: Global,
-    calls: &mut C,
-    text: &mut Text,
-    n: u32,
-    line: &[u8],
-) -> Result<(), SessionEnd>
-    requires ready { C.ready calls.old }
-    requires one_line { has_feed line.now ≡ false }
-    requires short { length line.now ≤ 261121 }
-    ensures exact { (s : Shell) (title whole : List ℕ) → line.now ≡ kept_line whole → At C.at calls.old s → C.tells calls.new →
-        GoesOn C.at C.stands result (Replaces n title text.old whole s) title text.new calls.new }
-    ensures left { IsLeft C.ready C.failed result calls.new }
-    ensures lasts { C.lasts calls.old calls.new }
-{
-    let replaced = text.replace(alloc, n, line);
-    answer_change(calls, n, replaced)
-}
-
 /// `d N`: deletes line `n`, or shows why not.
-pub fn delete_line<C: ShellCalls>(
+pub(crate) fn delete_line<C: ShellCalls>(
     alloc: Global,
     calls: &mut C,
     text: &mut Text,
     n: u32,
-) -> Result<(), SessionEnd>
+) -> Result<bool, SessionEnd>
     requires ready { C.ready calls.old }
     ensures exact { (s : Shell) (title : List ℕ) → At C.at calls.old s → C.tells calls.new →
-        GoesOn C.at C.stands result (Deletes n title text.old s) title text.new calls.new }
+        Edits C.at C.stands result (EditsBy (edit.Delete n) title text.old s) s s.taken title text.new calls.new }
     ensures left { IsLeft C.ready C.failed result calls.new }
     ensures lasts { C.lasts calls.old calls.new }
 {
@@ -100,20 +98,20 @@ pub fn delete_line<C: ShellCalls>(
 }
 
 /// `u`: takes the last change back, or shows why not.
-pub fn undo_change<C: ShellCalls>(
+pub(crate) fn undo_change<C: ShellCalls>(
     alloc: Global,
     calls: &mut C,
     text: &mut Text,
-) -> Result<(), SessionEnd>
+) -> Result<bool, SessionEnd>
     requires ready { C.ready calls.old }
     ensures exact { (s : Shell) (title : List ℕ) → At C.at calls.old s → C.tells calls.new →
-        GoesOn C.at C.stands result (Undoes title text.old.earlier text.old s) title text.new calls.new }
+        Edits C.at C.stands result (EditsBy edit.Undo title text.old s) s s.taken title text.new calls.new }
     ensures left { IsLeft C.ready C.failed result calls.new }
     ensures lasts { C.lasts calls.old calls.new }
 {
     match text.undo(alloc) {
-        Ok(true) => Ok(()),
-        Ok(false) => calls.show(b"no undo\n"),
-        Err(_) => calls.show(b"no memory\n"),
+        Ok(true) => Ok(false),
+        Ok(false) => say_on(calls, b"no undo\n"),
+        Err(_) => say_on(calls, b"no memory\n"),
     }
 }

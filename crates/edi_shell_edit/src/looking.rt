@@ -1,49 +1,67 @@
 //! Lines that change nothing.
 
-ghost use Rattle.std.specs.Prelude.{◌≡◌, ℕ, List};
+ghost use Rattle.std.specs.Prelude.{◌≡◌, ◌++◌, ◌∷◌, [], ℕ, List};
 ghost use Rattle.edi_edit.specs.Editing.{Editing};
-ghost use Rattle.edi_edit.specs.Lines.{line_at};
-ghost use Rattle.edi_session.specs.Session.{looked_at};
-ghost use Rattle.edi_session.specs.Shell.{Shell, says};
-ghost use Rattle.edi_shell_calls.specs.Standing.{At, IsLeft, Leads};
-ghost use Rattle.edi_shell_edit.specs.Rows.{bad_edit};
+ghost use Rattle.edi_session.specs.Session.{EditsBy};
+ghost use Rattle.edi_session.specs.Shell.{Shell};
+ghost use Rattle.edi_session.specs.declared.line.EditLine.TheVariants as edit;
+ghost use Rattle.edi_shell_calls.specs.Standing.{At, IsLeft};
+ghost use Rattle.edi_shell_edit.specs.Rows.{Edits, SaysOn};
 
 use edi_edit::Text;
 use edi_session::SessionEnd;
 use edi_shell_calls::ShellCalls;
 use edi_shell_lines::with_number;
 
-// Shows a line of the text, and its line feed.
-fn show_line<C: ShellCalls>(calls: &mut C, line: &[u8]) -> Result<(), SessionEnd>
+/// Shows these bytes, and tells that the editing is not left.
+pub(crate) fn say_on<C: ShellCalls>(calls: &mut C, bytes: &[u8]) -> Result<bool, SessionEnd>
     requires ready { C.ready calls.old }
-    ensures exact { (s : Shell) → At C.at calls.old s → C.tells calls.new → Leads C.at C.stands result (says line.now s) calls.new }
+    ensures exact { (s : Shell) → At C.at calls.old s → C.tells calls.new → SaysOn C.at C.stands result bytes.now s calls.new }
+    ensures left { IsLeft C.ready C.failed result calls.new }
+    ensures lasts { C.lasts calls.old calls.new }
+{
+    match calls.show(bytes) {
+        Ok(()) => Ok(false),
+        Err(fault) => Err(fault),
+    }
+}
+
+// Shows a line of the text, and its line feed.
+fn show_line<C: ShellCalls>(calls: &mut C, line: &[u8]) -> Result<bool, SessionEnd>
+    requires ready { C.ready calls.old }
+    ensures exact { (s : Shell) → At C.at calls.old s → C.tells calls.new → SaysOn C.at C.stands result (line.now ++ 10 ∷ []) s calls.new }
     ensures left { IsLeft C.ready C.failed result calls.new }
     ensures lasts { C.lasts calls.old calls.new }
 {
     calls.show(line)?;
-    calls.show(b"\n")
+    say_on(calls, b"\n")
 }
 
 /// `l N`: shows line `n`, or that there is none.
-pub fn look_at_line<C: ShellCalls>(calls: &mut C, text: &Text, n: u32) -> Result<(), SessionEnd>
+pub(crate) fn look_at_line<C: ShellCalls>(
+    calls: &mut C,
+    text: &Text,
+    n: u32,
+) -> Result<bool, SessionEnd>
     requires ready { C.ready calls.old }
-    ensures exact { (s : Shell) → At C.at calls.old s → C.tells calls.new →
-        Leads C.at C.stands result (looked_at n (line_at text.now.lines n) s) calls.new }
+    ensures exact { (s : Shell) (title : List ℕ) → At C.at calls.old s → C.tells calls.new →
+        Edits C.at C.stands result (EditsBy (edit.Look n) title text.now s) s s.taken title text.now calls.new }
     ensures left { IsLeft C.ready C.failed result calls.new }
     ensures lasts { C.lasts calls.old calls.new }
 {
     match text.line(n) {
         Some(line) => show_line(calls, line),
-        None => calls.show(with_number("no line", n).as_slice()),
+        None => say_on(calls, with_number("no line", n).as_slice()),
     }
 }
 
 /// Shows that a line is none of an editing.
-pub fn refuse_line<C: ShellCalls>(calls: &mut C) -> Result<(), SessionEnd>
+pub(crate) fn refuse_line<C: ShellCalls>(calls: &mut C) -> Result<bool, SessionEnd>
     requires ready { C.ready calls.old }
-    ensures exact { (s : Shell) → At C.at calls.old s → C.tells calls.new → Leads C.at C.stands result (says bad_edit s) calls.new }
+    ensures exact { (s : Shell) (title : List ℕ) (e : Editing) → At C.at calls.old s → C.tells calls.new →
+        Edits C.at C.stands result (EditsBy edit.Bad title e s) s s.taken title e calls.new }
     ensures left { IsLeft C.ready C.failed result calls.new }
     ensures lasts { C.lasts calls.old calls.new }
 {
-    calls.show(b"bad edit\n")
+    say_on(calls, b"bad edit\n")
 }

@@ -1,11 +1,13 @@
 //! Storing the text.
 
 ghost use Rattle.std.specs.Prelude.{◌≡◌};
-ghost use Rattle.edi_session.specs.Session.{Writes};
+ghost use Rattle.edi_session.specs.Session.{EditsBy};
 ghost use Rattle.edi_session.specs.Shell.{Shell};
+ghost use Rattle.edi_session.specs.declared.line.EditLine.TheVariants as edit;
 ghost use Rattle.edi_shell_calls.specs.Standing.{At, IsLeft};
-ghost use Rattle.edi_shell_edit.specs.Rows.{IsWritten, SaysUnwritten};
+ghost use Rattle.edi_shell_edit.specs.Rows.{Edits};
 
+use crate::looking::say_on;
 use edi_calls::FileKind;
 use edi_catalog::CatEnd;
 use edi_edit::Text;
@@ -15,21 +17,8 @@ use edi_shell_calls::ShellCalls;
 use edi_shell_lines::change_refusal;
 use std::alloc::Global;
 
-// Shows a line, and tells that the text is not stored.
-fn say_unwritten<C: ShellCalls>(calls: &mut C, line: &[u8]) -> Result<bool, SessionEnd>
-    requires ready { C.ready calls.old }
-    ensures exact { (s : Shell) → At C.at calls.old s → C.tells calls.new → SaysUnwritten C.at C.stands result line.now s calls.new }
-    ensures left { IsLeft C.ready C.failed result calls.new }
-    ensures lasts { C.lasts calls.old calls.new }
-{
-    match calls.show(line) {
-        Ok(()) => Ok(false),
-        Err(fault) => Err(fault),
-    }
-}
-
 /// `w`: stores the text as the file `f`, or shows why not; and tells whether it is stored, so that the editing is left.
-pub fn write_text<C: ShellCalls>(
+pub(crate) fn write_text<C: ShellCalls>(
     alloc: Global,
     calls: &mut C,
     f: &Title,
@@ -37,22 +26,22 @@ pub fn write_text<C: ShellCalls>(
 ) -> Result<bool, SessionEnd>
     requires ready { C.ready calls.old }
     ensures exact { (s : Shell) → At C.at calls.old s → C.tells calls.new →
-        IsWritten C.at C.stands result (Writes f.now text.now s) f.now text.now calls.new }
+        Edits C.at C.stands result (EditsBy edit.Write f.now text.now s) s s.taken f.now text.now calls.new }
     ensures left { IsLeft C.ready C.failed result calls.new }
     ensures lasts { C.lasts calls.old calls.new }
 {
     let Ok(bytes) = text.bytes(alloc) else {
-        return say_unwritten(calls, b"no memory\n");
+        return say_on(calls, b"no memory\n");
     };
     // No text is so long; what `bytes` promises does not say so.
     if bytes.len() > u32::MAX as usize {
-        return say_unwritten(calls, b"no memory\n");
+        return say_on(calls, b"no memory\n");
     }
     match calls.store(f, FileKind::Text, &bytes) {
         Ok(()) => Ok(true),
         Err(why) => match why {
             CatEnd::Fault => Err(SessionEnd::DriveFault),
-            _ => say_unwritten(calls, change_refusal(f, f, why).as_slice()),
+            _ => say_on(calls, change_refusal(f, f, why).as_slice()),
         },
     }
 }
