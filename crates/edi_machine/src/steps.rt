@@ -46,7 +46,7 @@ fn execute<C: Calls>(
     ensures later { (outside : Outside) → C.faults calls.old outside ≤ C.faults calls.new outside }
     ensures blame { Blames result (C.failed calls.new) (C.faults calls.old) (C.faults calls.new) }
     ensures references { C.references calls.new ≡ C.references calls.old }
-    ensures lasting { (n : ℕ) → C.lasting calls.old n → C.lasting calls.new n }
+    ensures leads { (start : C) → C.leads start calls.old → C.leads start calls.new }
     ensures ordered { IsOrdered activity.new }
 {
     match op {
@@ -79,7 +79,7 @@ fn execute_any<C: Calls>(
     ensures later { (outside : Outside) → C.faults calls.old outside ≤ C.faults calls.new outside }
     ensures blame { Blames result (C.failed calls.new) (C.faults calls.old) (C.faults calls.new) }
     ensures references { C.references calls.new ≡ C.references calls.old }
-    ensures lasting { (n : ℕ) → C.lasting calls.old n → C.lasting calls.new n }
+    ensures leads { (start : C) → C.leads start calls.old → C.leads start calls.new }
     ensures ordered { IsOrdered activity.new }
 {
     let Some((op, next)) = instruction_at(words, activity.pc) else {
@@ -108,7 +108,7 @@ fn execute_here<C: Calls>(
     ensures later { (outside : Outside) → C.faults calls.old outside ≤ C.faults calls.new outside }
     ensures blame { Blames result (C.failed calls.new) (C.faults calls.old) (C.faults calls.new) }
     ensures references { C.references calls.new ≡ C.references calls.old }
-    ensures lasting { (n : ℕ) → C.lasting calls.old n → C.lasting calls.new n }
+    ensures leads { (start : C) → C.leads start calls.old → C.leads start calls.new }
     ensures ordered { IsOrdered activity.new }
 {
     if let Some(end) = execute_common(store, activity, words, live, first) {
@@ -139,7 +139,7 @@ pub fn step<C: Calls>(
     ensures later { (outside : Outside) → C.faults calls.old outside ≤ C.faults calls.new outside }
     ensures blame { Blames result (C.failed calls.new) (C.faults calls.old) (C.faults calls.new) }
     ensures references { C.references calls.new ≡ C.references calls.old }
-    ensures lasting { (n : ℕ) → C.lasting calls.old n → C.lasting calls.new n }
+    ensures leads { (start : C) → C.leads start calls.old → C.leads start calls.new }
     ensures phase { let before = local_of store.old activity.old in
         ends_phase result before (local_of store.new activity.new) ≡ is_released (effect_of code.now.words live first before) }
     ensures fork { let before = local_of store.old activity.old in
