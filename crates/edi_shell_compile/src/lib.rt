@@ -1,0 +1,6 @@
+//! The command of the shell that compiles a file.
+#![tactic(auto)]
+
+mod compiling;
+
+pub use compiling::compile_file;
