@@ -17,7 +17,8 @@ use Rattle.edi_statuses.specs.Commands.{GetSteps}
 use Rattle.edi_statuses.specs.Means.{Means}
 use Rattle.edi_disk_commands.specs.OnDisk.{IsOfDisk, MeansOnDisk, RestStays}
 use Rattle.edi_disk_commands.specs.OnDrive.{IsOfRead, ReadsOn, status_kept}
-use Rattle.edi_disk_commands.proofs.Meant.{Same, first_told, meant, not_begun, nothing, only_keeps, still, told_so}
+use Rattle.edi_statuses.proofs.Told.{first_told, still, told_so}
+use Rattle.edi_disk_commands.proofs.Meant.{Same, meant, not_begun, nothing, only_keeps}
 
 -- ---- nothing is read
 
@@ -62,6 +63,7 @@ module _ (title file into : List ℕ) (before after : Outside) (kernel : Lent) (
         )
     go status.NoMemory of_ told = nothing before after kernel rest n.files (same status.NoMemory told)
     go status.DriveFault of_ told = record {
+      uses = refl;
       files = still (λ old new. new ≡ old) before.files after.files n.files;
       far = inl (not_begun before after kernel rest (same status.DriveFault told));
     }
@@ -112,6 +114,7 @@ module _ (n : ℕ) (title file into bytes : List ℕ) (before after : Outside) (
           ),
         )
     go keep.Failed told = record {
+      uses = refl;
       files = still (λ old new. map.remove new file ≡ map.remove old file) before.files after.files told;
       far = inl (not_begun before after kernel rest same);
     }

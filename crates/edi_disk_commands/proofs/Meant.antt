@@ -1,40 +1,17 @@
 -- From what files and drive tell of a call to what its status means.
 use Rattle.std.proofs.Common.{◌≡◌, ◌⊎◌, inl, ℕ, List, [], Option, Some, None, refl, sym, subst}
-use Rattle.std.specs.Prelude.{IfSome}
 use Rattle.edi_told.specs.Told.{WhereTold}
 use Rattle.edi_host.specs.Files.{Contents}
 use Rattle.edi_words.specs.Words.{Command}
 use Rattle.edi_statuses.specs.declared.status.Status.{Status}
-use Rattle.edi_statuses.specs.Outside.{Outside, Kept, Keeps, Lent, SameInput, SamePrinted, seen, still_told}
+use Rattle.edi_statuses.specs.Outside.{Outside, Kept, Keeps, Lent, SameInput, SamePrinted, seen}
 use Rattle.edi_statuses.specs.Commands.{IsNothing, OnlyBlocks, OnlyKeeps}
 use Rattle.edi_statuses.specs.Means.{ChangesDrive, HasNotBegun, Means}
+use Rattle.edi_statuses.proofs.Told.{same_told, still}
 use Rattle.edi_disk_commands.specs.OnDisk.{MeansOnDisk, RestStays}
 
 abbrev pub Same : {A : Type 0} → Option A → Option A → Type 0
 Same old new = WhereTold old new (λ old new. new ≡ old)
-
-pub still : {A : Type 0} (P : A → A → Type 0) (old new : Option A) → WhereTold old new P → WhereTold (still_told old new) new P
-still P old None told = tt
-still P old (Some n) told = told
-
-pub itself : {A : Type 0} (a : Option A) → Same a a
-itself None = tt
-itself (Some x) = refl
-
-pub told_equal : {A : Type 0} (a b : Option A) → b ≡ a → Same a b
-told_equal a b e = subst (λ x. Same a x) (sym e) (itself a)
-
--- what is told of the one before
-pub first_told : {A : Type 0} (P : A → A → Type 0) (Q : A → Type 0) (old new : Option A) → ((x y : A) → P x y → Q x) → WhereTold old new P
-    → IfSome (still_told old new) Q
-first_told P Q old None so told = tt
-first_told P Q None (Some y) so told = absurd told
-first_told P Q (Some x) (Some y) so told = so x y told
-
-pub told_so : {A : Type 0} (P Q : A → A → Type 0) (old new : Option A) → ((x y : A) → P x y → Q x y) → WhereTold old new P → WhereTold old new Q
-told_so P Q old None so told = tt
-told_so P Q None (Some y) so told = absurd told
-told_so P Q (Some x) (Some y) so told = so x y told
 
 -- one of two is so, and so of what is told, or nothing is told
 pub one_told : {A : Type 0} (P Q : A → A → Type 0) (old new : Option A) → WhereTold old new (λ x y. P x y ⊎ Q x y)
@@ -45,10 +22,10 @@ one_told P Q (Some x) (Some y) told = told
 
 module _ (before after : Outside) (kernel : Lent) (rest : RestStays before after kernel) where
   input_same : SameInput (seen before after) after
-  input_same = still (λ old new. new ≡ old) before.input after.input (told_equal before.input after.input rest.input)
+  input_same = same_told before.input after.input rest.input
 
   printed_same : SamePrinted (seen before after) after
-  printed_same = still (λ old new. new ≡ old) before.printed after.printed (told_equal before.printed after.printed rest.printed)
+  printed_same = same_told before.printed after.printed rest.printed
 
   pub nothing : Same before.files after.files → Same before.blocks after.blocks → IsNothing (seen before after) after [] kernel
   nothing files blocks = record {

@@ -13,7 +13,8 @@ use Rattle.edi_statuses.specs.Outside.{Lent, Outside}
 use Rattle.edi_statuses.specs.Commands.{AreNew}
 use Rattle.edi_statuses.specs.Means.{IsOpen, Means}
 use Rattle.edi_disk_commands.specs.OnDisk.{MeansOnDrive, RestStays}
-use Rattle.edi_disk_commands.proofs.Meant.{Same, changes_drive, itself, meant, nothing, only_blocks, still, told_so}
+use Rattle.edi_statuses.proofs.Told.{itself, still, told_so}
+use Rattle.edi_disk_commands.proofs.Meant.{Same, changes_drive, meant, nothing, only_blocks}
 
 -- the status by the answer of the format
 abbrev pub status_formatted : FormatEnd → Status
@@ -49,6 +50,7 @@ formats_means format.Ok count before after kernel rest f =
       ),
     )
 formats_means format.Fault count before after kernel rest f = record {
+  uses = refl;
   files = still (λ old new. new ≡ old) before.files after.files f.files;
   far = inr (changes_drive before after kernel rest IsOpen
       (told_so (FormatLeaves format.Fault count) IsOpen before.blocks after.blocks (λ x y h. tt) f.leaves));

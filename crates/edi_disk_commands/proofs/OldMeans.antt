@@ -23,7 +23,8 @@ use Rattle.edi_statuses.specs.Steps.{Fetches, IsBrokenRule, goes}
 use Rattle.edi_statuses.specs.Commands.{AreMigrated, OldSteps}
 use Rattle.edi_statuses.specs.Means.{IsOpen, Means}
 use Rattle.edi_disk_commands.specs.OnDisk.{MeansOnDisk, RestStays}
-use Rattle.edi_disk_commands.proofs.Meant.{Same, changes_drive, meant, not_begun, nothing, only_blocks, still, told_so}
+use Rattle.edi_statuses.proofs.Told.{still, told_so}
+use Rattle.edi_disk_commands.proofs.Meant.{Same, changes_drive, meant, not_begun, nothing, only_blocks}
 use Rattle.edi_disk_commands.proofs.PutMeans.{NotFetched}
 
 -- ---- no file
@@ -39,6 +40,7 @@ not_taken s count file old new held holds h = meant (NotFetched s file) (newdisk
         elim more [
           | inl e ↦
               subst (λ s. Means s (Some (newdisk count (Some file))) before after [] kernel) (sym e) (record {
+                uses = refl;
                 files = still (λ old new. new ≡ old) before.files after.files n.files;
                 far = inl (not_begun before after kernel rest n.blocks);
               })
@@ -113,6 +115,7 @@ module _ (decide : FirstBytesDecide) (count : ℕ) (least : 64 ≤ count) (file 
         ] in
         inl (inr (m.all, fetched, inr (blocks_of bytes, (whole a.0, a.0), inl (full, refl))), nothing before after kernel rest m.files l)
     go end.Fault a l = record {
+      uses = refl;
       files = still (λ old new. new ≡ old) before.files after.files m.files;
       far =
           inr (

@@ -19,7 +19,8 @@ use Rattle.edi_statuses.specs.Means.{ArePutInPart, Means}
 use Rattle.edi_steps.specs.OnFiles.{FetchStep, files_only}
 use Rattle.edi_disk_commands.specs.OnDisk.{MeansOnDisk, RestStays}
 use Rattle.edi_disk_commands.specs.OnDrive.{IsOfPut, PutsOn}
-use Rattle.edi_disk_commands.proofs.Meant.{Same, changes_drive, first_told, meant, not_begun, nothing, one_told, only_blocks, still, told_so}
+use Rattle.edi_statuses.proofs.Told.{first_told, still, told_so}
+use Rattle.edi_disk_commands.proofs.Meant.{Same, changes_drive, meant, not_begun, nothing, one_told, only_blocks}
 
 -- ---- no file
 
@@ -46,6 +47,7 @@ not_put s file title old new held holds h = meant (NotFetched s file) (put file 
         elim more [
           | inl e ↦
               subst (λ s. Means s (Some (put file title)) before after [] kernel) (sym e) (record {
+                uses = refl;
                 files = still (λ old new. new ≡ old) before.files after.files n.files;
                 far = inl (not_begun before after kernel rest n.blocks);
               })
@@ -195,6 +197,7 @@ module _ (file title bytes : List ℕ) (before after : Outside) (kernel : Lent) 
       )
   put_means status.NoMemory of_ told = nothing before after kernel rest has.files told
   put_means status.DriveFault of_ told = record {
+    uses = refl;
     files = still (λ old new. new ≡ old) before.files after.files has.files;
     far =
         elim (one_told (λ old new. new ≡ old) Broke before.blocks after.blocks told) [

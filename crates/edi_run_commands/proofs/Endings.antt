@@ -1,9 +1,10 @@
 -- The exits of a run of a code: the drive is not mounted, an object has failed, the record is kept, or it is not.
-use Rattle.std.proofs.Common.{◌≡◌, ◌≤◌, ℕ, Bool, false, List, [], length, drop, Option, Some, None, Err, IfSome, refl, sym, subst, inl, inr}
+use Rattle.std.proofs.Common.{◌≡◌, ◌≤◌, ℕ, Bool, false, List, [], length, drop, Option, Some, None, Err, IfSome, unwrap_or, refl, sym, ap, subst, inl, inr}
 use Rattle.edi_told.specs.Told.{WhereTold}
 use Rattle.edi_calls.specs.declared.ends.Outside as failing
 use Rattle.edi_calls.specs.declared.ends.Outside.TheVariants as object
 use Rattle.edi_calls.specs.Choice.{Choices}
+use Rattle.edi_calls.specs.Outcome as outcome
 use Rattle.edi_execute.specs.Objects.{HasRun, StandsAtMoment}
 use Rattle.edi_image.specs.declared.faults.MountFault.{MountFault}
 use Rattle.edi_image.specs.declared.faults.MountFault.TheVariants as mount
@@ -26,7 +27,7 @@ use Rattle.edi_statuses.specs.Means.{HasNotBegun, RanWhole, RanUnkept, names_in}
 use Rattle.edi_steps.specs.OnFiles.{RecordStep}
 use Rattle.edi_run_commands.specs.CodeRan.{CodeRan, RanCode, ending_status, mount_status, object_status}
 use Rattle.edi_run_commands.proofs.Left.{devices_told, devices, told_by, ending_of, has_run, stands, IsNoFault}
-use Rattle.edi_run_commands.proofs.Told.{same_told, still, weaker, known_before, shows_nothing}
+use Rattle.edi_statuses.proofs.Told.{same_told, still, told_so, first_told, shows_nothing}
 use Rattle.edi_run_commands.proofs.Shown.{shown_since, shows_so, due_so}
 
 -- ---- the drive is not mounted
@@ -41,7 +42,7 @@ pub record IsUnmounted (before after : Outside) (kernel : Lent) (why : MountFaul
 
 module _ (before after : Outside) (kernel : Lent) (why : MountFault) (h : IsUnmounted before after kernel why) where
   same_blocks : SameBlocks (seen before after) after
-  same_blocks = still _ before.blocks after.blocks (weaker _ _ before.blocks after.blocks (λ old new both. both.0) h.blocks)
+  same_blocks = still _ before.blocks after.blocks (told_so _ _ before.blocks after.blocks (λ old new both. both.0) h.blocks)
 
   nothing : IsNothing (seen before after) after [] kernel
   nothing = record {
@@ -65,7 +66,7 @@ module _ (before after : Outside) (kernel : Lent) (why : MountFault) (h : IsUnmo
   }
 
   first : IfSome (still_told before.blocks after.blocks) (λ old. IsFirst why (mount_fault_of old))
-  first = known_before _ before.blocks after.blocks (weaker _ _ before.blocks after.blocks (λ old new both. both.1) h.blocks)
+  first = first_told _ _ before.blocks after.blocks (λ old new both. both.1) h.blocks
 
 unmounted_by : (before after : Outside) (kernel : Lent) (why : MountFault) → IsUnmounted before after kernel why → (program : Program) (bound : ℕ)
     (choices : Choices) (name : Option (List ℕ)) → CodeRan program bound choices name (mount_status why) (seen before after) after [] kernel
@@ -102,27 +103,27 @@ pub record IsLeft (due : Bool) (before after : Outside) : Type 0 where
   pub due_is : WhereTold before.shown after.shown (λ taken now. due ≡ due_after false (drop (length taken) now))
 
 mounts : (due : Bool) (before after : Outside) → IsLeft due before after → Mounts (seen before after) (goes tt)
-mounts due before after left = known_before (λ blocks. mount_fault_of blocks ≡ None) before.blocks after.blocks left.mounted
+mounts due before after left =
+    first_told (λ old new. mount_fault_of old ≡ None) (λ blocks. mount_fault_of blocks ≡ None) before.blocks after.blocks (λ x y h. h) left.mounted
 
-status_is : (e : Ending) → ending_status e ≡ status_of (ending_of e)
-status_is ending.Done = refl
-status_is (ending.Halted line) = refl
-status_is (ending.Failed why line) = refl
-status_is ending.Turns = refl
-status_is ending.Standstill = refl
-status_is (ending.Bad address) = refl
-status_is ending.Fault = refl
+status_is : (e : Ending) (s : Status) → Some s ≡ ending_status e → s ≡ status_of (ending_of e)
+status_is ending.Done s h = ap (λ x. unwrap_or x s) h
+status_is (ending.Halted line) s h = ap (λ x. unwrap_or x s) h
+status_is (ending.Failed why line) s h = ap (λ x. unwrap_or x s) h
+status_is ending.Turns s h = ap (λ x. unwrap_or x s) h
+status_is ending.Standstill s h = ap (λ x. unwrap_or x s) h
+status_is (ending.Bad address) s h = ap (λ x. unwrap_or x s) h
+status_is ending.Fault s h = absurd (cc)
 
-ended : (e : Ending) (program : Program) (bound : ℕ) (choices : Choices) (name : Option (List ℕ)) (before after : Outside) (shown : List ℕ) (kernel : Lent)
-    → Mounts before (goes tt) → Runs program bound choices name (ending_status e) before after shown kernel
-    → CodeRan program bound choices name (ending_status e) before after shown kernel
-ended ending.Done program bound choices name before after shown kernel m r = (m, r)
-ended (ending.Halted line) program bound choices name before after shown kernel m r = (m, r)
-ended (ending.Failed why line) program bound choices name before after shown kernel m r = (m, r)
-ended ending.Turns program bound choices name before after shown kernel m r = (m, r)
-ended ending.Standstill program bound choices name before after shown kernel m r = (m, r)
-ended (ending.Bad address) program bound choices name before after shown kernel m r = (m, r)
-ended ending.Fault program bound choices name before after shown kernel m r = (m, r)
+ended : (end : outcome.Ending) (program : Program) (bound : ℕ) (choices : Choices) (name : Option (List ℕ)) (before after : Outside) (shown : List ℕ)
+    (kernel : Lent) → Mounts before (goes tt) → Runs program bound choices name (status_of end) before after shown kernel
+    → CodeRan program bound choices name (status_of end) before after shown kernel
+ended outcome.done program bound choices name before after shown kernel m r = (m, r)
+ended (outcome.halted line) program bound choices name before after shown kernel m r = (m, r)
+ended (outcome.failed why line) program bound choices name before after shown kernel m r = (m, r)
+ended outcome.turns program bound choices name before after shown kernel m r = (m, r)
+ended outcome.standstill program bound choices name before after shown kernel m r = (m, r)
+ended (outcome.bad address) program bound choices name before after shown kernel m r = (m, r)
 
 module _ (parts : CodeParts) (bound : ℕ) (old : Drawn) (none : old.drawn ≡ 0) (due : Bool) (before after : Outside) (left : IsLeft due before after) where
   abbrev shown_now : List ℕ
@@ -172,25 +173,25 @@ module _ (parts : CodeParts) (bound : ℕ) (old : Drawn) (none : old.drawn ≡ 0
     whole program is = record { ending = ending_of e; drawn = new.drawn; within = within; used = used; ran = has_ran program is }
 
     runs : (name : Option (List ℕ)) → Keeps (seen before after) after (record_of name old.source new.drawn) → (program : Program) → HasCode program parts
-        → Runs program bound old.source name (ending_status e) (seen before after) after shown_now kernel
+        → Runs program bound old.source name (status_of (ending_of e)) (seen before after) after shown_now kernel
     runs name kept program is = record {
       ending = ending_of e;
       drawn = new.drawn;
       within = within;
       used = used;
-      status_is = status_is e;
+      status_is = refl;
       ran = has_ran program is;
       keeps = kept;
     }
 
     -- its record was kept, if there was to be one
-    pub recorded : (name : Option (List ℕ)) (s : Status) → s ≡ ending_status e → new.source ≡ old.source
+    pub recorded : (name : Option (List ℕ)) (s : Status) → Some s ≡ ending_status e → new.source ≡ old.source
         → WhereTold before.files after.files (λ a b. b ≡ with_kept (record_of name new.source new.drawn) a)
         → RanCode parts bound old.source name s due before after kernel
     recorded name s is source step = record {
       shown = shown_now;
-      ran = λ program code. subst (λ x. CodeRan program bound old.source name x (seen before after) after shown_now kernel) (sym is)
-          (ended e program bound old.source name (seen before after) after shown_now kernel (mounts due before after left)
+      ran = λ program code. subst (λ x. CodeRan program bound old.source name x (seen before after) after shown_now kernel) (sym (status_is e s is))
+          (ended (ending_of e) program bound old.source name (seen before after) after shown_now kernel (mounts due before after left)
           (runs name (still _ before.files after.files
           (subst (λ from. WhereTold before.files after.files (λ a b. b ≡ with_kept (record_of name from new.drawn) a)) source step)) program code));
       shows = shows_now;

@@ -19,7 +19,7 @@ use Rattle.edi_steps.specs.OnFiles.{FetchStep, ChoicesStep, files_only}
 use Rattle.edi_run_commands.specs.CodeRan.{CodeRan, RanCode}
 use Rattle.edi_run_commands.specs.RunMeans.{RunCame, RunMeans}
 use Rattle.edi_run_commands.proofs.Meaning.{code_means}
-use Rattle.edi_run_commands.proofs.Told.{same_told, still, shows_nothing, same_but, just_told, still_same, till_the_last, in_turn}
+use Rattle.edi_statuses.proofs.Told.{same_told, still, shows_nothing, same_but, just_told, still_same, till_the_last, in_turn}
 use Rattle.edi_run_commands.proofs.Told.{reads_till_the_last, on_files}
 
 -- ---- nothing was done
@@ -71,7 +71,7 @@ refused_means steps program choices bound name _ before after kernel refusal h n
 fetch_refusal : (o : Outside) (name : List ℕ) (s : Status) → Fetches o name (stops s) → IsRefusal s
 fetch_refusal o name s h = subst IsRefusal (sym h.0) tt
 
-choices_refusal : (o : Outside) (from : ChoicesFrom) (s : Status) → ReadsChoices o from (stops s) → IsRefusal s
+pub choices_refusal : (o : Outside) (from : ChoicesFrom) (s : Status) → ReadsChoices o from (stops s) → IsRefusal s
 choices_refusal o nowhere s h = absurd h
 choices_refusal o (seed n) s h = absurd h
 choices_refusal o (file name) s (inl h) = fetch_refusal o name s h

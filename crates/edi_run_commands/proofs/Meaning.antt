@@ -16,12 +16,12 @@ use Rattle.edi_statuses.specs.Means.{AtRecord, Came, MeansOf}
 use Rattle.edi_run_commands.specs.CodeRan.{CodeRan}
 use Rattle.edi_run_commands.specs.RunMeans.{RunMeans, TextCame, CodeFileCame}
 
-at_record : {A : Type 0} (name : Option (List ℕ)) (steps : Reached A → Type 0) (P : A → Type 0) (a : A) → IsSome name → steps (goes a) → P a
+pub at_record : {A : Type 0} (name : Option (List ℕ)) (steps : Reached A → Type 0) (P : A → Type 0) (a : A) → IsSome name → steps (goes a) → P a
     → AtRecord name steps P
 at_record None steps P a there s p = absurd (cc)
 at_record (Some name) steps P a there s p = (a, s, p)
 
-never_words : (e : Ending) → status.Words ≡ status_of e → ⊥
+pub never_words : (e : Ending) → status.Words ≡ status_of e → ⊥
 never_words outcome.done e = absurd (cc)
 never_words (outcome.halted line) e = absurd (cc)
 never_words (outcome.failed why line) e = absurd (cc)
@@ -60,10 +60,10 @@ run_means : (file : List ℕ) (o : Options) (s : Status) (before after : Outside
     → MeansOf s (words.run file o) before after shown kernel
 run_means file o status.Words before after shown kernel h = h
 run_means file o status.NoMemory before after shown kernel h = h
-run_means file o status.FileFault before after shown kernel h = record { files = h.0; far = h.1 }
-run_means file o status.DriveFault before after shown kernel h = record { files = h.0; far = h.1 }
-run_means file o status.InputFault before after shown kernel h = record { files = h.0; far = h.1 }
-run_means file o status.OutputFault before after shown kernel h = record { files = h.0; far = h.1 }
+run_means file o status.FileFault before after shown kernel h = record { uses = refl; files = h.0; far = h.1 }
+run_means file o status.DriveFault before after shown kernel h = record { uses = refl; files = h.0; far = h.1 }
+run_means file o status.InputFault before after shown kernel h = record { uses = tt; files = h.0; far = h.1 }
+run_means file o status.OutputFault before after shown kernel h = record { uses = tt; files = h.0; far = h.1 }
 run_means file o s before after shown kernel h = h
 
 no_record : {B : Type 0} → B ⊎ ⊥ → B
@@ -75,10 +75,10 @@ replay_means : (file name : List ℕ) (turns : ℕ) (s : Status) (before after :
     → MeansOf s (words.replay file name turns) before after shown kernel
 replay_means file name turns status.Words before after shown kernel h = h
 replay_means file name turns status.NoMemory before after shown kernel h = no_record h
-replay_means file name turns status.FileFault before after shown kernel h = record { files = h.0; far = inl (no_record h.1) }
-replay_means file name turns status.DriveFault before after shown kernel h = record { files = h.0; far = h.1 }
-replay_means file name turns status.InputFault before after shown kernel h = record { files = h.0; far = h.1 }
-replay_means file name turns status.OutputFault before after shown kernel h = record { files = h.0; far = h.1 }
+replay_means file name turns status.FileFault before after shown kernel h = record { uses = refl; files = h.0; far = inl (no_record h.1) }
+replay_means file name turns status.DriveFault before after shown kernel h = record { uses = refl; files = h.0; far = h.1 }
+replay_means file name turns status.InputFault before after shown kernel h = record { uses = tt; files = h.0; far = h.1 }
+replay_means file name turns status.OutputFault before after shown kernel h = record { uses = tt; files = h.0; far = h.1 }
 replay_means file name turns s before after shown kernel h = h
 
 exec_means : (file : List ℕ) (o : Options) (s : Status) (before after : Outside) (shown : List ℕ) (kernel : Lent)
@@ -86,10 +86,10 @@ exec_means : (file : List ℕ) (o : Options) (s : Status) (before after : Outsid
     → MeansOf s (words.exec file o) before after shown kernel
 exec_means file o status.Words before after shown kernel h = h
 exec_means file o status.NoMemory before after shown kernel h = h
-exec_means file o status.FileFault before after shown kernel h = record { files = h.0; far = h.1 }
-exec_means file o status.DriveFault before after shown kernel h = record { files = h.0; far = h.1 }
-exec_means file o status.InputFault before after shown kernel h = record { files = h.0; far = h.1 }
-exec_means file o status.OutputFault before after shown kernel h = record { files = h.0; far = h.1 }
+exec_means file o status.FileFault before after shown kernel h = record { uses = refl; files = h.0; far = h.1 }
+exec_means file o status.DriveFault before after shown kernel h = record { uses = refl; files = h.0; far = h.1 }
+exec_means file o status.InputFault before after shown kernel h = record { uses = tt; files = h.0; far = h.1 }
+exec_means file o status.OutputFault before after shown kernel h = record { uses = tt; files = h.0; far = h.1 }
 exec_means file o s before after shown kernel h = h
 
 pub run_came : (file : List ℕ) (o : Options) (s : Status) (due : Bool) (before after : Outside) (kernel : Lent)

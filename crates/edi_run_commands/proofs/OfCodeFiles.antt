@@ -1,17 +1,13 @@
 -- A code file that is loaded, and its code that is run.
-use Rattle.std.proofs.Common.{◌≡◌, ◌∙◌, ℕ, Bool, false, List, Option, Some, None, Result, Ok, Err, refl, sym, ap, subst}
+use Rattle.std.proofs.Common.{◌≡◌, ℕ, Bool, false, List, Option, Some, Result, Ok, Err, refl, sym, subst}
 use Rattle.std.specs.Prelude.{⊤, take}
 use Rattle.edi_told.specs.Told.{WhereTold}
 use Rattle.edi_host.specs.Files.{Contents}
 use Rattle.edi_calls.specs.Choice.{Choices}
 use Rattle.edi_words.specs.Words as words
 use Rattle.edi_words.specs.Words.{ChoicesFrom, Options}
-use Rattle.edi_target.specs.declared.code_fault.CodeFault.{CodeFault}
-use Rattle.edi_target.specs.declared.code_fault.CodeFault.TheVariants as fault
-use Rattle.edi_target.specs.Check.{CodeParts, IsFault}
-use Rattle.edi_target.specs.File.{code_fault_of, code_of}
+use Rattle.edi_target.specs.Check.{CodeParts}
 use Rattle.edi_target.specs.Limit.{most_fetched}
-use Rattle.edi_target.proofs.Limited.{first_bytes_decide}
 use Rattle.edi_statuses.specs.declared.status.Status.{Status}
 use Rattle.edi_statuses.specs.declared.status.Status.TheVariants as status
 use Rattle.edi_statuses.specs.Outside.{Outside, still_told, Lent}
@@ -21,36 +17,14 @@ use Rattle.edi_statuses.specs.Commands.{ExecSteps}
 use Rattle.edi_statuses.specs.Means.{Came}
 use Rattle.edi_steps.specs.OnFiles.{files_only}
 use Rattle.edi_run_commands.specs.CodeRan.{RanCode}
-use Rattle.edi_run_commands.specs.Loaded.{LoadStep, load_status}
+use Rattle.edi_steps.specs.Loaded.{LoadStep}
+use Rattle.edi_steps.proofs.LoadedFiles.{loads_all, stops_all}
 use Rattle.edi_run_commands.specs.RunMeans.{CodeFileCame}
 use Rattle.edi_run_commands.proofs.Meaning.{exec_came}
 use Rattle.edi_run_commands.proofs.Exits.{came, IsRefusal, with_files, code_ran, third_stops, third_wants}
 
--- ---- loading
-
--- the file is not loaded
-pub load_stops : (bytes : List ℕ) (broken : CodeFault) → IsFault broken (code_fault_of bytes) → LoadStep bytes (Err (load_status broken))
-load_stops bytes fault.NoMemory h = tt
-load_stops bytes (fault.Short at) h = (fault.Short at, refl, h)
-load_stops bytes (fault.Over at) h = (fault.Over at, refl, h)
-load_stops bytes (fault.Header at found) h = (fault.Header at found, refl, h)
-load_stops bytes (fault.Operation at found) h = (fault.Operation at found, refl, h)
-load_stops bytes (fault.Jump at target) h = (fault.Jump at target, refl, h)
-
--- the first bytes decide
-loads_all : (all bytes : List ℕ) (parts : CodeParts) → bytes ≡ take most_fetched all → Loads bytes (goes parts) → Loads all (goes parts)
-loads_all all bytes parts first h =
-    let decide = first_bytes_decide all in
-    let none = ap code_fault_of (sym first) ∙ h.0 in
-    (sym decide.0 ∙ none, h.1 ∙ ap code_of (first ∙ decide.1 none))
-
-stops_all : (all bytes : List ℕ) (s : Status) → bytes ≡ take most_fetched all → Loads bytes (stops s) → Loads all (stops s)
-stops_all all bytes s first h = (h.0, h.1, sym (first_bytes_decide all).0 ∙ (ap code_fault_of (sym first) ∙ h.2))
-
 is_refusal : (bytes : List ℕ) (s : Status) → Loads bytes (stops s) → IsRefusal s
 is_refusal bytes s h = subst IsRefusal (sym h.1) tt
-
--- ---- the command
 
 -- another status that is the same
 pub code_came : (name : List ℕ) (o : Options) (s t : Status) (due : Bool) (before after : Outside) (kernel : Lent) → t ≡ s → due ≡ false

@@ -7,14 +7,12 @@ use Rattle.edi_lex.specs.Limit.{most_fetched}
 use Rattle.edi_calls.specs.Choice.{Choices}
 use Rattle.edi_words.specs.Words.{ChoicesFrom}
 use Rattle.edi_target.specs.Check.{CodeParts}
-use Rattle.edi_unit.specs.Tree.{ProgramUnit}
 use Rattle.edi_texts.specs.declared.refusal.Refusal.{Refusal}
 use Rattle.edi_texts.specs.declared.refusal.Refusal.TheVariants.{At, NoMemory}
 use Rattle.edi_texts.specs.Answers.{TextAnswers}
 use Rattle.edi_texts.specs.Texts.{IsFault, IsUnit}
 use Rattle.edi_texts.specs.Run.{IsCodeFor}
 use Rattle.edi_texts.proofs.Same.{fetched_bytes_decide}
-use Rattle.edi_texts.proofs.Thing.{one_thing}
 use Rattle.edi_statuses.specs.declared.status.Status.{Status}
 use Rattle.edi_statuses.specs.declared.status.Status.TheVariants as status
 use Rattle.edi_statuses.specs.Outside.{Outside, still_told, Lent}
@@ -22,6 +20,7 @@ use Rattle.edi_statuses.specs.Steps.{goes, Fetches, ReadsChoices, Accepts}
 use Rattle.edi_statuses.specs.Executions.{text}
 use Rattle.edi_statuses.specs.Commands.{RunSteps}
 use Rattle.edi_steps.specs.OnFiles.{files_only}
+use Rattle.edi_steps.proofs.Units.{unit_there}
 use Rattle.edi_run_commands.specs.CodeRan.{RanCode, refusal_status}
 use Rattle.edi_run_commands.specs.RunMeans.{TextCame}
 use Rattle.edi_run_commands.proofs.Exits.{came, with_files, code_ran, third_stops, third_wants}
@@ -32,17 +31,6 @@ pub text_came : (name : List ℕ) (from : ChoicesFrom) (bound : ℕ) (record_fil
     → TextCame name from bound record_file t due before after kernel
 text_came name from bound record_file s t due before after kernel same silent h =
     came (λ o. RunSteps o name from) (λ a. text a.0) (λ a. a.1) bound record_file s t due before after kernel same silent h
-
--- a text that is compiled has a unit
-unit_there : (bytes : List ℕ) (code : CodeParts) → TextAnswers (IsCodeFor bytes) bytes (Ok code) → (unit : ProgramUnit) × IsUnit bytes unit
-unit_there bytes code answers = elim (one_thing.some_thing bytes) [
-  | inl fault ↦
-      elim (answers.refused fault.0 fault.1 fault.2 fault.3) [
-        | inl never ↦ absurd (cc)
-        | inr never ↦ absurd (cc)
-      ]
-  | inr unit ↦ unit
-]
 
 module _ (name : List ℕ) (from : ChoicesFrom) (bound : ℕ) (record_file : Option (List ℕ)) (before : Outside) (kernel : Lent) (all bytes : List ℕ)
     (first_bytes : bytes ≡ take most_fetched all) (mid new : Option Contents) (choices : Choices)
@@ -62,7 +50,7 @@ module _ (name : List ℕ) (from : ChoicesFrom) (bound : ℕ) (record_file : Opt
       → WhereTold new after.files (λ a b. ⊤) → RanCode parts bound choices record_file s due (with_files before new) after kernel
       → TextCame name from bound record_file s due before after kernel
   text_ran parts s due after h last ran =
-      let unit = unit_there bytes parts h in
+      let unit = unit_there (IsCodeFor bytes) bytes parts h in
       let unit_is : IsUnit all unit.0 = (fetched_bytes_decide.there all).unit unit.0 (subst (λ x. IsUnit x unit.0) first_bytes unit.1) in
       let code_is : IsCodeFor all parts = (fetched_bytes_decide.there all).code parts (subst (λ x. IsCodeFor x parts) first_bytes h.gives) in
       code_ran Accepts (λ b u. b) text name from bound record_file before kernel all mid new choices f c first second unit.0 parts s due after unit_is code_is

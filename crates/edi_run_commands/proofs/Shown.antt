@@ -1,34 +1,23 @@
 -- The bytes that a run has shown, and whether a line feed is due behind them.
-use Rattle.std.proofs.Common.{◌≡◌, ◌∙◌, ◌-◌, ◌==◌, ℕ, suc, arith, Bool, true, false, List, [], ◌∷◌, ◌++◌, length, drop, Option, Some, None}
+use Rattle.std.proofs.Common.{◌≡◌, ◌∙◌, ◌-◌, ◌==◌, ℕ, Bool, true, false, List, [], ◌∷◌, ◌++◌, length, drop, Option, Some, None}
 use Rattle.std.proofs.Common.{refl, sym, ap}
-use Rattle.std.specs.Prelude.{slice_get, not, if◌then◌else◌}
+use Rattle.std.specs.Prelude.{slice_get, not}
 use Rattle.std.specs.Option.{option_map_or}
 use Rattle.std.proofs.lemmas.List.{take-append-drop}
 use Rattle.edi_told.specs.Told.{WhereTold}
 use Rattle.edi_system.specs.Parts.{due_after, Grows}
-use Rattle.edi_statuses.specs.Lines.{is_due, is_due_behind, last_of}
+use Rattle.edi_statuses.specs.Lines.{is_due, is_due_behind}
+use Rattle.edi_statuses.proofs.Due.{last_at, turned}
 
 -- ---- the last byte
 
-last_is : (b : ℕ) (bytes : List ℕ) → last_of (b ∷ bytes) ≡ slice_get (b ∷ bytes) (length bytes)
-last_is b [] = refl
-last_is b (c ∷ more) = last_is c more
-
-minus_one : (n : ℕ) → n ≡ suc n - 1
-minus_one n = omega arith
-
 behind_it : (last : Option ℕ) → is_due_behind last ≡ option_map_or (λ c. not (c == 10)) last false
 behind_it None = refl
-behind_it (Some b) = turned (b == 10) where
-  turned : (end : Bool) → (if end then false else true) ≡ not end
-  turned true = refl
-  turned false = refl
+behind_it (Some b) = turned (b == 10)
 
 pub due_is : (bytes : List ℕ) → due_after false bytes ≡ is_due bytes
 due_is [] = refl
-due_is (b ∷ more) =
-    sym (ap is_due_behind (last_is b more) ∙ behind_it (slice_get (b ∷ more) (length more))
-    ∙ ap (λ n. option_map_or (λ c. not (c == 10)) (slice_get (b ∷ more) n) false) (minus_one (length more)))
+due_is (b ∷ more) = sym (ap is_due_behind (last_at b more) ∙ behind_it (slice_get (b ∷ more) (length (b ∷ more) - 1)))
 
 -- ---- the bytes
 

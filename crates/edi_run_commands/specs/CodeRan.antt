@@ -41,15 +41,15 @@ object_status object.Input = status.InputFault
 object_status object.Terminal = status.OutputFault
 object_status object.Printer = status.OutputFault
 
--- of a run that has come to its ending; after a fault it has come to none, and the object that has failed has the status
-abbrev pub ending_status : Ending → Status
-ending_status ending.Done = status.Ok
-ending_status (ending.Halted line) = status.Stopped cause.Halt line
-ending_status (ending.Failed why line) = status.Stopped why line
-ending_status ending.Turns = status.Turns
-ending_status ending.Standstill = status.Standstill
-ending_status (ending.Bad address) = status.BadState address
-ending_status ending.Fault = status.Standstill
+-- of a run that has come to its ending; after a fault it has come to none
+abbrev pub ending_status : Ending → Option Status
+ending_status ending.Done = Some status.Ok
+ending_status (ending.Halted line) = Some (status.Stopped cause.Halt line)
+ending_status (ending.Failed why line) = Some (status.Stopped why line)
+ending_status ending.Turns = Some status.Turns
+ending_status ending.Standstill = Some status.Standstill
+ending_status (ending.Bad address) = Some (status.BadState address)
+ending_status ending.Fault = None
 
 -- ---- what is left
 

@@ -1,3 +1,2 @@
 pub mod CodeRan
-pub mod Loaded
 pub mod RunMeans

@@ -1,6 +1,6 @@
 //! Running a code.
 
-ghost use Rattle.std.specs.Prelude.{◌≡◌, false, ⊤, option_map};
+ghost use Rattle.std.specs.Prelude.{◌≡◌, false, ⊤, Some, option_map};
 ghost use Rattle.edi_told.specs.Told.{WhereTold};
 ghost use Rattle.edi_statuses.specs.Outside.{lent, outside_of};
 ghost use Rattle.edi_statuses.specs.Counts.{counts_of, HasCause, NoneFalls};
@@ -47,10 +47,10 @@ fn object_status(object: Outside) -> Status
     }
 }
 
-/// The status of a command whose run has come to this ending.
+/// The status of a command whose run has come to this ending, which is no fault.
 fn ending_status(ending: Ending) -> Status
     requires none_failed { ending ≡ Ending.Fault → ⊥ }
-    ensures exact { result ≡ ending_status ending }
+    ensures exact { Some result ≡ ending_status ending }
 {
     match ending {
         Ending::Done => Status::Ok,

@@ -1,7 +1,6 @@
 //! `exec`: the program of a code file.
 
 ghost use Rattle.std.specs.Prelude.{◌≡◌, Some};
-ghost use Rattle.edi_run_commands.specs.Loaded.{load_status, LoadStep};
 ghost use Rattle.edi_words.specs.Words as words;
 ghost use Rattle.edi_words.specs.View.{options_of};
 ghost use Rattle.edi_statuses.specs.Outside.{lent, outside_of};
@@ -9,37 +8,15 @@ ghost use Rattle.edi_statuses.specs.Counts.{counts_of, HasCause, NoneFalls};
 ghost use Rattle.edi_statuses.specs.Means.{Came};
 
 use crate::code::{run_code, stopped};
-use edi_codefile::load;
 use edi_host::{Drive, Files, Sink, Source};
 use edi_kernel::Kernel;
-use edi_statuses::{Ended, Status};
-use edi_steps::{fetch, read_from};
-use edi_target::{Code, CodeFault};
+use edi_statuses::Ended;
+use edi_steps::{fetch, load_code, read_from};
 use edi_words::Options;
 use std::alloc::Global;
 
 /// As many bytes as decide whether a file is a code file.
 const LIMIT: usize = 8_388_641;
-
-/// The status of a command whose code file has this fault.
-fn load_status(fault: CodeFault) -> Status
-    ensures exact { result ≡ load_status fault }
-{
-    match fault {
-        CodeFault::NoMemory => Status::NoMemory,
-        broken => Status::BadCode(broken),
-    }
-}
-
-/// The code of the bytes of a code file, or why the command stops there.
-fn load_code(alloc: Global, bytes: &[u8]) -> Result<Code, Status>
-    ensures loads { LoadStep bytes.now result }
-{
-    match load(alloc, bytes) {
-        Ok(code) => Ok(code),
-        Err(fault) => Err(load_status(fault)),
-    }
-}
 
 /// `exec CODEFILE`: fetches the code file, reads the choices, loads the code, mounts the drive, runs, and keeps the record, in
 /// this order. All else is as for `run`.

@@ -22,7 +22,7 @@ use std::alloc::Global;
 const LIMIT: usize = 262_145;
 
 /// The status of a command whose text is refused.
-fn refusal_status(refusal: Refusal) -> Status
+pub(crate) fn refusal_status(refusal: Refusal) -> Status
     ensures exact { result ≡ refusal_status refusal }
 {
     match refusal {

@@ -23,7 +23,7 @@ shown_then x None (Some z) a P f g none = absurd g
 shown_then None (Some y) (Some z) a P f g none = absurd f
 shown_then (Some x) (Some y) (Some z) a P f g none = (g.0, g.1, g.2 ∙ ap (λ t. t ++ g.0) f ∙ append_assoc x a g.0)
 
-still_told : (x y : Option (List ℕ)) (P : List ℕ → List ℕ → Type 0) → WhereTold x y P → StillTold x y
+pub still_told : (x y : Option (List ℕ)) (P : List ℕ → List ℕ → Type 0) → WhereTold x y P → StillTold x y
 still_told x None P h = tt
 still_told None (Some y) P h = absurd h
 still_told (Some x) (Some y) P h = tt
@@ -87,7 +87,7 @@ pub is_some : {A : Type 0} (x : Option A) → (x ≡ None) ⊎ IsSome x
 is_some None = inl refl
 is_some (Some a) = inr (search rules)
 
-shown_line : (x y z : Option (List ℕ)) (a line : List ℕ) → WhereTold x y (λ old new. new ≡ old ++ a) → WhereTold y z (λ old new. new ≡ old ++ line)
+pub shown_line : (x y z : Option (List ℕ)) (a line : List ℕ) → WhereTold x y (λ old new. new ≡ old ++ a) → WhereTold y z (λ old new. new ≡ old ++ line)
     → WhereTold x z (λ old new. new ≡ old ++ (a ++ line))
 shown_line x y None a line f g = tt
 shown_line x None (Some z) a line f g = absurd g

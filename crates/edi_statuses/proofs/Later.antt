@@ -1,21 +1,26 @@
 -- What a status means does not change where the terminal takes its line: the commands, and the statuses.
 use Rattle.std.proofs.Common.{ℕ, List, [], ◌∷◌, Option, Some, None, inl, inr}
 use Rattle.std.specs.Prelude.{◌⊎◌}
+use Rattle.edi_calls.specs.Choice.{Choices}
+use Rattle.edi_utils.specs.Demo.{demo_text}
 use Rattle.edi_utils.specs.Listing.{listing_of}
 use Rattle.edi_words.specs.Words as words
 use Rattle.edi_words.specs.Words.{Command, Options}
 use Rattle.edi_statuses.specs.declared.status.Status.{Status}
 use Rattle.edi_statuses.specs.declared.status.Status.TheVariants as status
-use Rattle.edi_statuses.specs.Outside.{Outside, seen, Lent}
-use Rattle.edi_statuses.specs.Steps.{goes, Ready}
-use Rattle.edi_statuses.specs.Executions.{text, code}
-use Rattle.edi_statuses.specs.Commands.{Comes, IsDone, OnlyKeeps, OnlyBlocks, OnlyShows, KeepsCode, Runs, AreNew, AreMigrated, ArePut}
-use Rattle.edi_statuses.specs.Commands.{RunSteps, ExecSteps, TextSteps, OldSteps, PutSteps, GetSteps, ListSteps}
-use Rattle.edi_statuses.specs.Means.{ComesToBreak, Means, MeansOf, MeansRefused, RanWhole, RanUnkept, Wants, IsOpen, ArePutInPart}
-use Rattle.edi_statuses.specs.Means.{with_shown, HasNotBegun}
+use Rattle.edi_statuses.specs.Outside.{Outside, seen, SameFiles, Lent}
+use Rattle.edi_statuses.specs.Steps.{Reached, goes, Ready}
+use Rattle.edi_statuses.specs.Executions.{Program, text, code, BrokeRun}
+use Rattle.edi_statuses.specs.Sessions.{BootSteps, HeldUnkept, HeldWhole, HoldsSession}
+use Rattle.edi_statuses.specs.Commands.{Comes, Does, IsDone, IsNothing, OnlyKeeps, OnlyBlocks, OnlyShows, KeepsCode, Runs, AreNew, AreMigrated, ArePut}
+use Rattle.edi_statuses.specs.Commands.{RunSteps, ExecSteps, TextSteps, OldSteps, PutSteps, GetSteps, ListSteps, DemoSteps}
+use Rattle.edi_statuses.specs.Commands.{Demonstrates, OnItsOwn, with_own}
+use Rattle.edi_statuses.specs.Means.{AtRecord, Begun, BrokeDemo, ComesToBreak, Means, MeansOf, MeansRefused, RanWhole, RanUnkept, Wants, IsOpen}
+use Rattle.edi_statuses.specs.Means.{ArePutInPart, with_shown, HasNotBegun}
 use Rattle.edi_statuses.proofs.Terminal.{StillTold, run_later, exec_later, text_later, old_later, put_later, get_later, nothing_later, begun_later}
 use Rattle.edi_statuses.proofs.Terminal.{drive_later, keeps_later, blocks_later, code_later, runs_later, whole_later, unkept_later, broke_later}
-use Rattle.edi_statuses.proofs.Terminal.{record_later, does_later, list_later, shows_later, front_later}
+use Rattle.edi_statuses.proofs.Terminal.{record_later, does_later, list_later, shows_later, front_later, demo_later}
+use Rattle.edi_statuses.proofs.Terminal.{boot_later, holds_later, held_later, broke_session_later}
 
 module _ (b m : Outside) (y : Option (List ℕ)) (still : StillTold m.shown y) where
   abbrev before_ : Outside
@@ -36,79 +41,173 @@ module _ (b m : Outside) (y : Option (List ℕ)) (still : StillTold m.shown y) w
     input : ComesToBreak status.InputFault c before_ m shown kernel → ComesToBreak status.InputFault c seen_later later_ shown kernel
     output : ComesToBreak status.OutputFault c before_ m shown kernel → ComesToBreak status.OutputFault c seen_later later_ shown kernel
 
-  run_wants : (file : List ℕ) (options : Options) (shown : List ℕ) (kernel : Lent) → Wants (words.run file options) before_ m shown kernel
-      → Wants (words.run file options) seen_later later_ shown kernel
-  run_wants file options shown kernel (inl h) = inl (nothing_later b m y still shown kernel h)
-  run_wants file options shown kernel (inr h) =
-      inr (record_later b m y still options.record_file (RunSteps before_ file options.choices) (RunSteps seen_later file options.choices)
-      (λ v. RanUnkept (text v.0) options.turns v.1 before_ m shown kernel) (λ v. RanUnkept (text v.0) options.turns v.1 seen_later later_ shown kernel)
-      (run_later b m y still file options.choices) (λ v. unkept_later b m y still (text v.0) options.turns v.1 shown kernel) h)
+  -- ---- commands that run a program
+
+  -- of one that runs a program to which its steps lead
+  record RunLater {A : Type 0} (steps steps' : Reached A → Type 0) (program : A → Program) (choices : A → Choices) (bound : ℕ) (name : Option (List ℕ))
+      (shown : List ℕ) (kernel : Lent) : Type 0 where
+    comes : (s : Status) → Does steps (λ v. Runs (program v) bound (choices v) name) s before_ m shown kernel
+        → Does steps' (λ v. Runs (program v) bound (choices v) name) s seen_later later_ shown kernel
+    wants : IsNothing before_ m shown kernel ⊎ AtRecord name steps (λ v. RanUnkept (program v) bound (choices v) before_ m shown kernel)
+        → IsNothing seen_later later_ shown kernel ⊎ AtRecord name steps' (λ v. RanUnkept (program v) bound (choices v) seen_later later_ shown kernel)
+    files : AtRecord name steps (λ v. RanWhole (program v) bound (choices v) before_ m shown kernel)
+        → AtRecord name steps' (λ v. RanWhole (program v) bound (choices v) seen_later later_ shown kernel)
+    broke : Begun steps (λ v. BrokeRun (program v) bound (choices v) before_ m shown)
+        → Begun steps' (λ v. BrokeRun (program v) bound (choices v) seen_later later_ shown)
+
+  -- memory is wanting before the first effect, or at the record
+  wants_later : {A : Type 0} (name : Option (List ℕ)) (steps steps' : Reached A → Type 0) (P P' : A → Type 0) (shown : List ℕ) (kernel : Lent)
+      → ((r : Reached A) → steps r → steps' r) → ((v : A) → P v → P' v) → IsNothing before_ m shown kernel ⊎ AtRecord name steps P
+      → IsNothing seen_later later_ shown kernel ⊎ AtRecord name steps' P'
+  wants_later name steps steps' P P' shown kernel f g (inl h) = inl (nothing_later b m y still shown kernel h)
+  wants_later name steps steps' P P' shown kernel f g (inr h) = inr (record_later b m y still name steps steps' P P' f g h)
+
+  run_later_by : {A : Type 0} (steps steps' : Reached A → Type 0) (program : A → Program) (choices : A → Choices) (bound : ℕ) (name : Option (List ℕ))
+      (shown : List ℕ) (kernel : Lent) → ((r : Reached A) → steps r → steps' r) → RunLater steps steps' program choices bound name shown kernel
+  run_later_by steps steps' program choices bound name shown kernel go = record {
+    comes = λ s. does_later b m y still steps steps' (λ v. Runs (program v) bound (choices v) name) (λ v. Runs (program v) bound (choices v) name) s shown
+        kernel go (λ v. runs_later b m y still (program v) bound (choices v) name s shown kernel);
+    wants = wants_later name steps steps' (λ v. RanUnkept (program v) bound (choices v) before_ m shown kernel)
+        (λ v. RanUnkept (program v) bound (choices v) seen_later later_ shown kernel) shown kernel go
+        (λ v. unkept_later b m y still (program v) bound (choices v) shown kernel);
+    files = record_later b m y still name steps steps' (λ v. RanWhole (program v) bound (choices v) before_ m shown kernel)
+        (λ v. RanWhole (program v) bound (choices v) seen_later later_ shown kernel) go
+        (λ v. whole_later b m y still (program v) bound (choices v) shown kernel);
+    broke = λ h. (h.0, go (goes h.0) h.1, broke_later b m y still (program h.0) bound (choices h.0) shown h.2);
+  }
 
   run_is : (file : List ℕ) (options : Options) (shown : List ℕ) (kernel : Lent) → Later (words.run file options) shown kernel
   run_is file options shown kernel =
-      let steps = run_later b m y still file options.choices in
-      record {
-        comes = λ s. does_later b m y still (RunSteps before_ file options.choices) (RunSteps seen_later file options.choices)
-            (λ v. Runs (text v.0) options.turns v.1 options.record_file) (λ v. Runs (text v.0) options.turns v.1 options.record_file) s shown kernel
-            steps (λ v. runs_later b m y still (text v.0) options.turns v.1 options.record_file s shown kernel);
-        wants = run_wants file options shown kernel;
-        files = record_later b m y still options.record_file (RunSteps before_ file options.choices) (RunSteps seen_later file options.choices)
-            (λ v. RanWhole (text v.0) options.turns v.1 before_ m shown kernel) (λ v. RanWhole (text v.0) options.turns v.1 seen_later later_ shown kernel)
-            steps (λ v. whole_later b m y still (text v.0) options.turns v.1 shown kernel);
-        drive = λ h. (h.0, steps (goes h.0) h.1, broke_later b m y still (text h.0.0) options.turns h.0.1 shown h.2);
-        input = λ h. (h.0, steps (goes h.0) h.1, broke_later b m y still (text h.0.0) options.turns h.0.1 shown h.2);
-        output = λ h. (h.0, steps (goes h.0) h.1, broke_later b m y still (text h.0.0) options.turns h.0.1 shown h.2);
-      }
+      let r = run_later_by (RunSteps before_ file options.choices) (RunSteps seen_later file options.choices) (λ v. text v.0) (λ v. v.1) options.turns
+      options.record_file shown kernel (run_later b m y still file options.choices) in
+      record { comes = r.comes; wants = r.wants; files = r.files; drive = r.broke; input = r.broke; output = r.broke }
 
   replay_is : (file choices : List ℕ) (turns : ℕ) (shown : List ℕ) (kernel : Lent) → Later (words.replay file choices turns) shown kernel
   replay_is file choices turns shown kernel =
-      let steps = run_later b m y still file (words.file choices) in
+      let r = run_later_by (RunSteps before_ file (words.file choices)) (RunSteps seen_later file (words.file choices)) (λ v. text v.0) (λ v. v.1) turns
+      None shown kernel (run_later b m y still file (words.file choices)) in
       record {
-        comes = λ s. does_later b m y still (RunSteps before_ file (words.file choices)) (RunSteps seen_later file (words.file choices))
-            (λ v. Runs (text v.0) turns v.1 None) (λ v. Runs (text v.0) turns v.1 None) s shown kernel
-            steps (λ v. runs_later b m y still (text v.0) turns v.1 None s shown kernel);
+        comes = r.comes;
         wants = nothing_later b m y still shown kernel;
         files = λ h. absurd h;
-        drive = λ h. (h.0, steps (goes h.0) h.1, broke_later b m y still (text h.0.0) turns h.0.1 shown h.2);
-        input = λ h. (h.0, steps (goes h.0) h.1, broke_later b m y still (text h.0.0) turns h.0.1 shown h.2);
-        output = λ h. (h.0, steps (goes h.0) h.1, broke_later b m y still (text h.0.0) turns h.0.1 shown h.2);
+        drive = r.broke;
+        input = r.broke;
+        output = r.broke;
       }
-
-  exec_wants : (file : List ℕ) (options : Options) (shown : List ℕ) (kernel : Lent) → Wants (words.exec file options) before_ m shown kernel
-      → Wants (words.exec file options) seen_later later_ shown kernel
-  exec_wants file options shown kernel (inl h) = inl (nothing_later b m y still shown kernel h)
-  exec_wants file options shown kernel (inr h) =
-      inr (record_later b m y still options.record_file (ExecSteps before_ file options.choices) (ExecSteps seen_later file options.choices)
-      (λ v. RanUnkept (code v.0) options.turns v.1 before_ m shown kernel) (λ v. RanUnkept (code v.0) options.turns v.1 seen_later later_ shown kernel)
-      (exec_later b m y still file options.choices) (λ v. unkept_later b m y still (code v.0) options.turns v.1 shown kernel) h)
 
   exec_is : (file : List ℕ) (options : Options) (shown : List ℕ) (kernel : Lent) → Later (words.exec file options) shown kernel
   exec_is file options shown kernel =
-      let steps = exec_later b m y still file options.choices in
+      let r = run_later_by (ExecSteps before_ file options.choices) (ExecSteps seen_later file options.choices) (λ v. code v.0) (λ v. v.1) options.turns
+      options.record_file shown kernel (exec_later b m y still file options.choices) in
+      record { comes = r.comes; wants = r.wants; files = r.files; drive = r.broke; input = r.broke; output = r.broke }
+
+  -- ---- the demonstration
+
+  own_later : (P : Outside → Outside → Type 0)
+      → ((disk : List (List ℕ)) (left : List ℕ) → P (with_own [] [] before_) (with_own disk left m) → P (with_own [] [] seen_later) (with_own disk left later_))
+      → OnItsOwn P before_ m → OnItsOwn P seen_later later_
+  own_later P f h = record { disk = h.disk; left = h.left; is = f h.disk h.left h.is; blocks = h.blocks; input = h.input }
+
+  module _ (n bound : ℕ) (choices : Choices) (name : Option (List ℕ)) (kernel : Lent) where
+    abbrev program : Program
+    program = text (demo_text n)
+
+    own_runs : (s : Status) (shown : List ℕ) → OnItsOwn (λ a c. Runs program bound choices name s a c shown kernel) before_ m
+        → OnItsOwn (λ a c. Runs program bound choices name s a c shown kernel) seen_later later_
+    own_runs s shown =
+        own_later (λ a c. Runs program bound choices name s a c shown kernel)
+        (λ disk left. runs_later (with_own [] [] b) (with_own disk left m) y still program bound choices name s shown kernel)
+
+    own_whole : (shown : List ℕ) → OnItsOwn (λ a c. RanWhole program bound choices a c shown kernel) before_ m
+        → OnItsOwn (λ a c. RanWhole program bound choices a c shown kernel) seen_later later_
+    own_whole shown =
+        own_later (λ a c. RanWhole program bound choices a c shown kernel)
+        (λ disk left. whole_later (with_own [] [] b) (with_own disk left m) y still program bound choices shown kernel)
+
+    own_unkept : (shown : List ℕ) → OnItsOwn (λ a c. RanUnkept program bound choices a c shown kernel) before_ m
+        → OnItsOwn (λ a c. RanUnkept program bound choices a c shown kernel) seen_later later_
+    own_unkept shown =
+        own_later (λ a c. RanUnkept program bound choices a c shown kernel)
+        (λ disk left. unkept_later (with_own [] [] b) (with_own disk left m) y still program bound choices shown kernel)
+
+    own_broke : (shown : List ℕ) → OnItsOwn (λ a c. SameFiles a c × BrokeRun program bound choices a c shown) before_ m
+        → OnItsOwn (λ a c. SameFiles a c × BrokeRun program bound choices a c shown) seen_later later_
+    own_broke shown =
+        own_later (λ a c. SameFiles a c × BrokeRun program bound choices a c shown)
+        (λ disk left h. (h.0, broke_later (with_own [] [] b) (with_own disk left m) y still program bound choices shown h.1))
+
+    demonstrates_later : (s : Status) (shown : List ℕ) → Demonstrates n bound choices name s before_ m shown kernel
+        → Demonstrates n bound choices name s seen_later later_ shown kernel
+    demonstrates_later s shown h = record { by_program = h.by_program; shown_ = h.shown_; ran = own_runs s h.by_program h.ran }
+
+    broke_demo_later : (shown : List ℕ) → BrokeDemo n bound choices name before_ m shown kernel → BrokeDemo n bound choices name seen_later later_ shown kernel
+    broke_demo_later shown (inl h) = inl (own_broke shown h)
+    broke_demo_later shown (inr h) =
+        inr (record { by_program = h.by_program; line = h.line; front = h.front; shown_ = h.shown_; ran = own_runs status.Ok h.by_program h.ran })
+
+  demo_is : (n : ℕ) (options : Options) (shown : List ℕ) (kernel : Lent) → Later (words.demo n options) shown kernel
+  demo_is n options shown kernel =
+      let steps = demo_later b m y still n options.choices in
       record {
-        comes = λ s. does_later b m y still (ExecSteps before_ file options.choices) (ExecSteps seen_later file options.choices)
-            (λ v. Runs (code v.0) options.turns v.1 options.record_file) (λ v. Runs (code v.0) options.turns v.1 options.record_file) s shown kernel
-            steps (λ v. runs_later b m y still (code v.0) options.turns v.1 options.record_file s shown kernel);
-        wants = exec_wants file options shown kernel;
-        files = record_later b m y still options.record_file (ExecSteps before_ file options.choices) (ExecSteps seen_later file options.choices)
-            (λ v. RanWhole (code v.0) options.turns v.1 before_ m shown kernel) (λ v. RanWhole (code v.0) options.turns v.1 seen_later later_ shown kernel)
-            steps (λ v. whole_later b m y still (code v.0) options.turns v.1 shown kernel);
-        drive = λ h. (h.0, steps (goes h.0) h.1, broke_later b m y still (code h.0.0) options.turns h.0.1 shown h.2);
-        input = λ h. (h.0, steps (goes h.0) h.1, broke_later b m y still (code h.0.0) options.turns h.0.1 shown h.2);
-        output = λ h. (h.0, steps (goes h.0) h.1, broke_later b m y still (code h.0.0) options.turns h.0.1 shown h.2);
+        comes = λ s. does_later b m y still (DemoSteps before_ n options.choices) (DemoSteps seen_later n options.choices)
+            (λ v. Demonstrates n options.turns v options.record_file) (λ v. Demonstrates n options.turns v options.record_file) s shown kernel steps
+            (λ v. demonstrates_later n options.turns v options.record_file kernel s shown);
+        wants = wants_later options.record_file (DemoSteps before_ n options.choices) (DemoSteps seen_later n options.choices)
+            (λ v. OnItsOwn (λ a c. RanUnkept (text (demo_text n)) options.turns v a c shown kernel) before_ m)
+            (λ v. OnItsOwn (λ a c. RanUnkept (text (demo_text n)) options.turns v a c shown kernel) seen_later later_) shown kernel steps
+            (λ v. own_unkept n options.turns v options.record_file kernel shown);
+        files = record_later b m y still options.record_file (DemoSteps before_ n options.choices) (DemoSteps seen_later n options.choices)
+            (λ v. OnItsOwn (λ a c. RanWhole (text (demo_text n)) options.turns v a c shown kernel) before_ m)
+            (λ v. OnItsOwn (λ a c. RanWhole (text (demo_text n)) options.turns v a c shown kernel) seen_later later_) steps
+            (λ v. own_whole n options.turns v options.record_file kernel shown);
+        drive = λ h. absurd h;
+        input = λ h. absurd h;
+        output = λ h. (h.0, steps (goes h.0) h.1, broke_demo_later n options.turns h.0 options.record_file kernel shown h.2);
       }
 
-  compile_is : (file out shown : List ℕ) (kernel : Lent) → Later (words.compile file out) shown kernel
-  compile_is file out shown kernel = record {
-    comes = λ s. does_later b m y still (TextSteps before_ file) (TextSteps seen_later file) (λ a. IsDone (KeepsCode out a.0))
-        (λ a. IsDone (KeepsCode out a.0)) s shown kernel (text_later b m y still file)
-        (λ a h. (h.0, code_later b m y still out a.0 shown kernel h.1));
-    wants = nothing_later b m y still shown kernel;
-    files = λ h. absurd h;
-    drive = λ h. absurd h;
-    input = λ h. absurd h;
-    output = λ h. absurd h;
+  -- ---- a session
+
+  boot_is : (options : Options) (shown : List ℕ) (kernel : Lent) → Later (words.boot options) shown kernel
+  boot_is options shown kernel =
+      let steps = boot_later b m y still options.choices in
+      record {
+        comes = λ s. does_later b m y still (BootSteps before_ options.choices) (BootSteps seen_later options.choices)
+            (λ v s b a shown k. HoldsSession options.turns v options.record_file s b a shown)
+            (λ v s b a shown k. HoldsSession options.turns v options.record_file s b a shown) s shown kernel steps
+            (λ v. holds_later b m y still options.turns v options.record_file s shown);
+        wants = wants_later options.record_file (BootSteps before_ options.choices) (BootSteps seen_later options.choices)
+            (λ v. HeldUnkept options.turns v before_ m shown) (λ v. HeldUnkept options.turns v seen_later later_ shown) shown kernel steps
+            (λ v h. (held_later b m y still options.turns v shown h.0, h.1));
+        files = record_later b m y still options.record_file (BootSteps before_ options.choices) (BootSteps seen_later options.choices)
+            (λ v. HeldWhole options.turns v before_ m shown) (λ v. HeldWhole options.turns v seen_later later_ shown) steps
+            (λ v. held_later b m y still options.turns v shown);
+        drive = λ h. (h.0, steps (goes h.0) h.1, broke_session_later b m y still options.turns h.0 shown h.2);
+        input = λ h. (h.0, steps (goes h.0) h.1, broke_session_later b m y still options.turns h.0 shown h.2);
+        output = λ h. (h.0, steps (goes h.0) h.1, broke_session_later b m y still options.turns h.0 shown h.2);
+      }
+
+  -- ---- other commands
+
+  -- one that is not broken off in the midst of its effect
+  unbroken : (c : Command) (shown : List ℕ) (kernel : Lent) → ((s : Status) → Comes c s before_ m shown kernel → Comes c s seen_later later_ shown kernel)
+      → (Wants c before_ m shown kernel → Wants c seen_later later_ shown kernel) → (ComesToBreak status.FileFault c before_ m shown kernel → ⊥)
+      → (ComesToBreak status.DriveFault c before_ m shown kernel → ⊥) → (ComesToBreak status.InputFault c before_ m shown kernel → ⊥)
+      → (ComesToBreak status.OutputFault c before_ m shown kernel → ⊥) → Later c shown kernel
+  unbroken c shown kernel comes wants files drive input output = record {
+    comes = comes;
+    wants = wants;
+    files = λ h. absurd (files h);
+    drive = λ h. absurd (drive h);
+    input = λ h. absurd (input h);
+    output = λ h. absurd (output h);
   }
+
+  compile_is : (file out shown : List ℕ) (kernel : Lent) → Later (words.compile file out) shown kernel
+  compile_is file out shown kernel =
+      unbroken (words.compile file out) shown kernel
+      (λ s. does_later b m y still (TextSteps before_ file) (TextSteps seen_later file) (λ a. IsDone (KeepsCode out a.0)) (λ a. IsDone (KeepsCode out a.0))
+      s shown kernel (text_later b m y still file) (λ a h. (h.0, code_later b m y still out a.0 shown kernel h.1)))
+      (nothing_later b m y still shown kernel) (λ h. h) (λ h. h) (λ h. h) (λ h. h)
 
   new_is : (blocks : ℕ) (old : Option (List ℕ)) (shown : List ℕ) (kernel : Lent) → Later (words.newdisk blocks old) shown kernel
   new_is blocks None shown kernel = record {
@@ -144,16 +243,12 @@ module _ (b m : Outside) (y : Option (List ℕ)) (still : StillTold m.shown y) w
   }
 
   get_is : (title file shown : List ℕ) (kernel : Lent) → Later (words.get title file) shown kernel
-  get_is title file shown kernel = record {
-    comes = λ s. does_later b m y still (GetSteps before_ title) (GetSteps seen_later title) (λ bytes. IsDone (OnlyKeeps ((file, bytes) ∷ [])))
-        (λ bytes. IsDone (OnlyKeeps ((file, bytes) ∷ []))) s shown kernel (get_later b m y still title)
-        (λ bytes h. (h.0, keeps_later b m y still ((file, bytes) ∷ []) shown kernel h.1));
-    wants = nothing_later b m y still shown kernel;
-    files = λ h. absurd h;
-    drive = λ h. absurd h;
-    input = λ h. absurd h;
-    output = λ h. absurd h;
-  }
+  get_is title file shown kernel =
+      unbroken (words.get title file) shown kernel
+      (λ s. does_later b m y still (GetSteps before_ title) (GetSteps seen_later title) (λ bytes. IsDone (OnlyKeeps ((file, bytes) ∷ [])))
+      (λ bytes. IsDone (OnlyKeeps ((file, bytes) ∷ []))) s shown kernel (get_later b m y still title)
+      (λ bytes h. (h.0, keeps_later b m y still ((file, bytes) ∷ []) shown kernel h.1)))
+      (nothing_later b m y still shown kernel) (λ h. h) (λ h. h) (λ h. h) (λ h. h)
 
   list_is : (file shown : List ℕ) (kernel : Lent) → Later (words.list file) shown kernel
   list_is file shown kernel = record {
@@ -168,6 +263,13 @@ module _ (b m : Outside) (y : Option (List ℕ)) (still : StillTold m.shown y) w
         (h.0, list_later b m y still file (goes h.0) h.1, front_later b m y still (listing_of h.0.words) shown kernel h.2);
   }
 
+  -- one that is not there
+  none_is : (c : Command) (shown : List ℕ) (kernel : Lent) → ((s : Status) → Comes c s before_ m shown kernel → ⊥)
+      → (Wants c before_ m shown kernel → Wants c seen_later later_ shown kernel) → (ComesToBreak status.FileFault c before_ m shown kernel → ⊥)
+      → (ComesToBreak status.DriveFault c before_ m shown kernel → ⊥) → (ComesToBreak status.InputFault c before_ m shown kernel → ⊥)
+      → (ComesToBreak status.OutputFault c before_ m shown kernel → ⊥) → Later c shown kernel
+  none_is c shown kernel comes = unbroken c shown kernel (λ s h. absurd (comes s h))
+
   each_is : (c : Command) (shown : List ℕ) (kernel : Lent) → Later c shown kernel
   each_is (words.run file options) shown kernel = run_is file options shown kernel
   each_is (words.replay file choices turns) shown kernel = replay_is file choices turns shown kernel
@@ -176,47 +278,15 @@ module _ (b m : Outside) (y : Option (List ℕ)) (still : StillTold m.shown y) w
   each_is (words.newdisk blocks old) shown kernel = new_is blocks old shown kernel
   each_is (words.put file title) shown kernel = put_is file title shown kernel
   each_is (words.get title file) shown kernel = get_is title file shown kernel
-  each_is (words.boot options) shown kernel = record {
-    comes = λ s h. absurd h;
-    wants = nothing_later b m y still shown kernel;
-    files = λ h. absurd h;
-    drive = λ h. absurd h;
-    input = λ h. absurd h;
-    output = λ h. absurd h;
-  }
   each_is (words.list file) shown kernel = list_is file shown kernel
-  each_is (words.demo count options) shown kernel = record {
-    comes = λ s h. absurd h;
-    wants = nothing_later b m y still shown kernel;
-    files = λ h. absurd h;
-    drive = λ h. absurd h;
-    input = λ h. absurd h;
-    output = λ h. absurd h;
-  }
-  each_is (words.check file) shown kernel = record {
-    comes = λ s h. absurd h;
-    wants = nothing_later b m y still shown kernel;
-    files = λ h. absurd h;
-    drive = λ h. absurd h;
-    input = λ h. absurd h;
-    output = λ h. absurd h;
-  }
-  each_is (words.walk file choices turns) shown kernel = record {
-    comes = λ s h. absurd h;
-    wants = nothing_later b m y still shown kernel;
-    files = λ h. absurd h;
-    drive = λ h. absurd h;
-    input = λ h. absurd h;
-    output = λ h. absurd h;
-  }
-  each_is (words.watch file points out options) shown kernel = record {
-    comes = λ s h. absurd h;
-    wants = nothing_later b m y still shown kernel;
-    files = λ h. absurd h;
-    drive = λ h. absurd h;
-    input = λ h. absurd h;
-    output = λ h. absurd h;
-  }
+  each_is (words.demo n options) shown kernel = demo_is n options shown kernel
+  each_is (words.boot options) shown kernel = boot_is options shown kernel
+  each_is (words.check file) shown kernel =
+      none_is (words.check file) shown kernel (λ s h. h) (nothing_later b m y still shown kernel) (λ h. h) (λ h. h) (λ h. h) (λ h. h)
+  each_is (words.walk file choices turns) shown kernel =
+      none_is (words.walk file choices turns) shown kernel (λ s h. h) (nothing_later b m y still shown kernel) (λ h. h) (λ h. h) (λ h. h) (λ h. h)
+  each_is (words.watch file points out options) shown kernel =
+      none_is (words.watch file points out options) shown kernel (λ s h. h) (nothing_later b m y still shown kernel) (λ h. h) (λ h. h) (λ h. h) (λ h. h)
 
   -- ---- the statuses
 
@@ -229,11 +299,13 @@ module _ (b m : Outside) (y : Option (List ℕ)) (still : StillTold m.shown y) w
   means_later status.Words c shown kernel h = absurd h
   means_later status.NoMemory c shown kernel h = (each_is c shown kernel).wants h
   means_later status.FileFault c shown kernel h =
-      record { files = h.files; far = either_later _ _ shown kernel (each_is c shown kernel).files h.far }
+      record { uses = h.uses; files = h.files; far = either_later _ _ shown kernel (each_is c shown kernel).files h.far }
   means_later status.DriveFault c shown kernel h =
-      record { files = h.files; far = either_later _ _ shown kernel (each_is c shown kernel).drive h.far }
-  means_later status.InputFault c shown kernel h = record { files = h.files; far = (each_is c shown kernel).input h.far }
-  means_later status.OutputFault c shown kernel h = record { files = h.files; far = (each_is c shown kernel).output h.far }
+      record { uses = h.uses; files = h.files; far = either_later _ _ shown kernel (each_is c shown kernel).drive h.far }
+  means_later status.InputFault c shown kernel h =
+      record { uses = h.uses; files = h.files; far = (each_is c shown kernel).input h.far }
+  means_later status.OutputFault c shown kernel h =
+      record { uses = h.uses; files = h.files; far = (each_is c shown kernel).output h.far }
   means_later status.Ok c shown kernel h = (each_is c shown kernel).comes status.Ok h
   means_later (status.Refused kind line) c shown kernel h = (each_is c shown kernel).comes (status.Refused kind line) h
   means_later (status.Stopped cause line) c shown kernel h = (each_is c shown kernel).comes (status.Stopped cause line) h

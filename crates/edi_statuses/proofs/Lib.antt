@@ -1,3 +1,5 @@
+pub mod Told
+pub mod Due
 pub mod Fronts
 pub mod StepLemmas
 pub mod OneStatus

@@ -1,5 +1,5 @@
 -- Contents that are told decide the status of a command and what it shows before the line of the status.
-use Rattle.std.proofs.Common.{◌≡◌, ◌∙◌, ℕ, List, [], ◌∷◌, Option, Some, None, IsSome, refl, sym, ap, subst}
+use Rattle.std.proofs.Common.{◌≡◌, ◌∙◌, ℕ, List, [], ◌∷◌, ◌++◌, Option, Some, None, IsSome, true≢false, false, refl, sym, ap, subst, rules}
 use Rattle.std.proofs.lemmas.List.{append_cancel_left}
 use Rattle.edi_told.specs.Told.{WhereTold}
 use Rattle.edi_calls.specs.Choice.{Choices}
@@ -8,15 +8,18 @@ use Rattle.edi_calls.specs.State.{State, fresh}
 use Rattle.edi_target.specs.Fetch.{fetch}
 use Rattle.edi_target.proofs.Runs.{runs_are_determined}
 use Rattle.edi_texts.proofs.Executions.{one_outcome}
+use Rattle.edi_utils.specs.Demo.{demo_text}
 use Rattle.edi_utils.specs.Listing.{listing_of}
 use Rattle.edi_words.specs.Words as words
 use Rattle.edi_words.specs.Words.{ChoicesFrom, Command}
-use Rattle.edi_statuses.specs.Outside.{Outside, Devices, devices_of, system_on, KernelLeft}
+use Rattle.edi_statuses.specs.declared.status.Status.{Status}
+use Rattle.edi_statuses.specs.Outside.{Outside, Devices, devices_of, system_on, KernelLeft, Lent}
 use Rattle.edi_statuses.specs.Executions.{Program, text, code, HasOutcome, HasRun, status_of}
 use Rattle.edi_statuses.specs.Commands.{Comes, IsDone, OnlyBlocks, OnlyKeeps, OnlyShows, KeepsCode, Runs, AreNew, AreMigrated, ArePut}
-use Rattle.edi_statuses.specs.Commands.{RunSteps, ExecSteps, TextSteps, OldSteps, PutSteps, GetSteps, ListSteps}
+use Rattle.edi_statuses.specs.Commands.{RunSteps, ExecSteps, TextSteps, OldSteps, PutSteps, GetSteps, ListSteps, DemoSteps}
+use Rattle.edi_statuses.specs.Commands.{Demonstrates, size_shown, with_own}
 use Rattle.edi_statuses.specs.Steps.{Ready}
-use Rattle.edi_statuses.specs.Means.{IsTold, OneStatus}
+use Rattle.edi_statuses.specs.Means.{IsTold, OneStatus, is_session}
 use Rattle.edi_statuses.proofs.StepLemmas.{IsOne, TextsAreOne, ready_one, then_one, tests_one, fetches_one, choices_one, accepts_one, mounts_one}
 use Rattle.edi_statuses.proofs.StepLemmas.{loads_one, old_one, has_place_one, reads_one, IsOneEffect, does_one}
 
@@ -29,17 +32,19 @@ outcome_same (text bytes) system bound choices one other h k = one_outcome bytes
 outcome_same (code parts) system bound choices one other h k =
     runs_are_determined (fetch parts.words) parts.entry parts.calls (fresh system) bound choices one other h k
 
-record Same (s t : Ending) (shown bytes : List ℕ) : Type 0 where
+record Same (s t : Ending) (shown bytes : List ℕ) (kernel other : KernelLeft) : Type 0 where
   ending : s ≡ t
   shown_ : shown ≡ bytes
+  used : kernel.used ≡ other.used
 
 ran_same : (program : Program) (bound : ℕ) (choices : Choices) (s t : Ending) (m n : ℕ) (d e f : Devices)
     (shown bytes : List ℕ) (kernel other : KernelLeft) → HasRun program bound choices s m d e shown kernel
-    → HasRun program bound choices t n d f bytes other → Same s t shown bytes
+    → HasRun program bound choices t n d f bytes other → Same s t shown bytes kernel other
 ran_same program bound choices s t m n d e f shown bytes kernel other h k =
     let same = outcome_same program (system_on d) bound choices h.outcome_ k.outcome_ h.outcome_is k.outcome_is in record {
       ending = sym h.ending_is ∙ ap (λ (o : Outcome). o.ending) same ∙ k.ending_is;
       shown_ = append_cancel_left d.shown shown bytes (h.leaves.shown_ ∙ ap (λ (o : Outcome). o.shown) same ∙ sym k.leaves.shown_);
+      used = h.kernel_is.turns ∙ ap (λ (o : Outcome). o.turns) same ∙ sym k.kernel_is.turns;
     }
 
 -- ---- what is told
@@ -65,16 +70,37 @@ devices_told o told = go o.blocks o.input o.shown o.printed told.blocks told.inp
 there : {A : Type 0} (P : A → A → Type 0) (before after : Option A) (d e : A) → before ≡ Some d → after ≡ Some e → WhereTold before after P → P d e
 there P before after d e b a h = subst (λ x. WhereTold (Some d) x P) a (subst (λ x. WhereTold x after P) b h)
 
+-- a run has one status, shows one thing and takes one number of turns
+runs_same : (before after behind : Outside) → IsTold before → IsTold after → IsTold behind → (program : Program) (bound : ℕ) (choices : Choices)
+    (record_file : Option (List ℕ)) (s t : Status) (shown bytes : List ℕ) (kernel other : Lent)
+    → Runs program bound choices record_file s before after shown kernel → Runs program bound choices record_file t before behind bytes other
+    → (s ≡ t) × (shown ≡ bytes) × (kernel.after.used ≡ other.after.used)
+runs_same before after behind is_told after_told behind_told program bound choices record_file s t shown bytes kernel other h k =
+    let d = devices_told before is_told in
+    let e = devices_told after after_told in
+    let f = devices_told behind behind_told in
+    let same = ran_same program bound choices h.ending k.ending h.drawn k.drawn d.devices e.devices f.devices shown bytes kernel.after other.after
+    (there _ _ _ d.devices e.devices d.are e.are h.ran) (there _ _ _ d.devices f.devices d.are f.are k.ran) in
+    (h.status_is ∙ ap status_of same.ending ∙ sym k.status_is, same.shown_, same.used)
+
+own_told : (blocks : List (List ℕ)) (input : List ℕ) (o : Outside) → IsTold o → IsTold (with_own blocks input o)
+own_told blocks input o told =
+    record { files = told.files; blocks = search rules; input = search rules; shown = told.shown; printed = told.printed }
+
 module _ (each : TextsAreOne) (before after behind : Outside) (is_told : IsTold before) (after_told : IsTold after) (behind_told : IsTold behind) where
   runs_one : (program : Program) (bound : ℕ) (choices : Choices) (record_file : Option (List ℕ))
       → IsOneEffect before after behind (Runs program bound choices record_file)
   runs_one program bound choices record_file s t shown bytes kernel other h k =
-      let d = devices_told before is_told in
-      let e = devices_told after after_told in
-      let f = devices_told behind behind_told in
-      let same = ran_same program bound choices h.ending k.ending h.drawn k.drawn d.devices e.devices f.devices shown bytes kernel.after other.after
-      (there _ _ _ d.devices e.devices d.are e.are h.ran) (there _ _ _ d.devices f.devices d.are f.are k.ran) in
-      (h.status_is ∙ ap status_of same.ending ∙ sym k.status_is, same.shown_)
+      let same = runs_same before after behind is_told after_told behind_told program bound choices record_file s t shown bytes kernel other h k in
+      (same.0, same.1)
+
+  demo_one : (n bound : ℕ) (choices : Choices) (record_file : Option (List ℕ))
+      → IsOneEffect before after behind (Demonstrates n bound choices record_file)
+  demo_one n bound choices record_file s t shown bytes kernel other h k =
+      let same = runs_same (with_own [] [] before) (with_own h.ran.disk h.ran.left after) (with_own k.ran.disk k.ran.left behind)
+      (own_told [] [] before is_told) (own_told h.ran.disk h.ran.left after after_told) (own_told k.ran.disk k.ran.left behind behind_told)
+      (text (demo_text n)) bound choices record_file s t h.by_program k.by_program kernel other h.ran.is k.ran.is in
+      (same.0, h.shown_ ∙ (λ i. same.1 i ++ size_shown (same.0 i) n (same.2 i) (same.1 i)) ∙ sym k.shown_)
 
   blocks_one : (P : List (List ℕ) → List (List ℕ) → Type 0) → IsOneEffect before after behind (IsDone (OnlyBlocks P))
   blocks_one P s t shown bytes kernel other h k = (h.0 ∙ sym k.0, h.1.shown_ ∙ sym k.1.shown_)
@@ -119,29 +145,36 @@ module _ (each : TextsAreOne) (before after behind : Outside) (is_told : IsTold 
   list_steps : (file : List ℕ) → IsOne (ListSteps before file)
   list_steps file = then_one _ _ (fetches_one before is_told.files file) (λ bytes. loads_one bytes)
 
+  demo_steps : (n : ℕ) (from : ChoicesFrom) → IsOne (DemoSteps before n from)
+  demo_steps n from =
+      then_one _ _ (choices_one before is_told.files from) (λ choices. then_one _ _ (accepts_one each (demo_text n)) (λ unit. ready_one _))
+
   -- each command has one status and shows one thing
-  comes_one : (c : Command) → IsOneEffect before after behind (Comes c)
-  comes_one (words.run file o) = does_one before after behind (RunSteps before file o.choices)
+  comes_one : (c : Command) → is_session c ≡ false → IsOneEffect before after behind (Comes c)
+  comes_one (words.run file o) no_session = does_one before after behind (RunSteps before file o.choices)
       (λ a. Runs (text a.0) o.turns a.1 o.record_file) (text_steps file o.choices) (λ a. runs_one (text a.0) o.turns a.1 o.record_file)
-  comes_one (words.replay file choices turns) = does_one before after behind (RunSteps before file (words.file choices))
+  comes_one (words.replay file choices turns) no_session = does_one before after behind (RunSteps before file (words.file choices))
       (λ a. Runs (text a.0) turns a.1 None) (text_steps file (words.file choices)) (λ a. runs_one (text a.0) turns a.1 None)
-  comes_one (words.exec file o) = does_one before after behind (ExecSteps before file o.choices)
+  comes_one (words.exec file o) no_session = does_one before after behind (ExecSteps before file o.choices)
       (λ a. Runs (code a.0) o.turns a.1 o.record_file) (code_steps file o.choices) (λ a. runs_one (code a.0) o.turns a.1 o.record_file)
-  comes_one (words.compile file out) = does_one before after behind (TextSteps before file)
+  comes_one (words.compile file out) no_session = does_one before after behind (TextSteps before file)
       (λ a. IsDone (KeepsCode out a.0)) (compile_steps file) (λ a. code_one out a.0)
-  comes_one (words.newdisk blocks None) = does_one before after behind (Ready blocks)
+  comes_one (words.newdisk blocks None) no_session = does_one before after behind (Ready blocks)
       (λ n. IsDone (OnlyBlocks (AreNew n))) (ready_one blocks) (λ n. blocks_one (AreNew n))
-  comes_one (words.newdisk blocks (Some file)) = does_one before after behind (OldSteps before blocks file)
+  comes_one (words.newdisk blocks (Some file)) no_session = does_one before after behind (OldSteps before blocks file)
       (λ old. IsDone (OnlyBlocks (AreMigrated blocks old))) (old_steps blocks file) (λ old. blocks_one (AreMigrated blocks old))
-  comes_one (words.put file title) = does_one before after behind (PutSteps before file title)
+  comes_one (words.put file title) no_session = does_one before after behind (PutSteps before file title)
       (λ bytes. IsDone (OnlyBlocks (ArePut title bytes))) (put_steps file title) (λ bytes. blocks_one (ArePut title bytes))
-  comes_one (words.get title file) = does_one before after behind (GetSteps before title)
+  comes_one (words.get title file) no_session = does_one before after behind (GetSteps before title)
       (λ bytes. IsDone (OnlyKeeps ((file, bytes) ∷ []))) (get_steps title) (λ bytes. keeps_one ((file, bytes) ∷ []))
-  comes_one (words.list file) = does_one before after behind (ListSteps before file)
+  comes_one (words.list file) no_session = does_one before after behind (ListSteps before file)
       (λ parts. IsDone (OnlyShows (listing_of parts.words))) (list_steps file) (λ parts. shows_one (listing_of parts.words))
-  comes_one _ = λ s t shown bytes kernel other h k. absurd h
+  comes_one (words.demo n o) no_session = does_one before after behind (DemoSteps before n o.choices)
+      (λ choices. Demonstrates n o.turns choices o.record_file) (demo_steps n o.choices) (λ choices. demo_one n o.turns choices o.record_file)
+  comes_one (words.boot o) no_session = absurd (true≢false no_session)
+  comes_one _ no_session = λ s t shown bytes kernel other h k. absurd h
 
 -- THE LAW
 pub one_status : TextsAreOne → OneStatus
-one_status each s t c before after behind shown bytes kernel other is_told after_told behind_told decisive decisive' h k =
-    comes_one each before after behind is_told after_told behind_told c s t shown bytes kernel other h k
+one_status each s t c before after behind shown bytes kernel other no_session is_told after_told behind_told decisive decisive' h k =
+    comes_one each before after behind is_told after_told behind_told c no_session s t shown bytes kernel other h k

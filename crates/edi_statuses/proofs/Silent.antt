@@ -1,7 +1,6 @@
 -- Calls in which nothing was shown before the line of the status: words that are refused, want of memory, and a command that
 -- touches the files alone.
 use Rattle.std.proofs.Common.{◌≡◌, ℕ, ◌++◌, Bool, false, List, [], Option, Some, None, refl, sym, subst, inl}
-use Rattle.std.proofs.lemmas.List.{append-nil}
 use Rattle.edi_told.specs.Told.{WhereTold}
 use Rattle.edi_told.specs.Faults.{CountRose}
 use Rattle.edi_host.specs.Files.{Contents}
@@ -9,32 +8,21 @@ use Rattle.edi_words.specs.Words as words
 use Rattle.edi_words.specs.Words.{Command}
 use Rattle.edi_statuses.specs.declared.status.Status.{Status}
 use Rattle.edi_statuses.specs.declared.status.Status.TheVariants as status
-use Rattle.edi_statuses.specs.Outside.{Outside, seen, still_told, KernelLeft, Lent}
+use Rattle.edi_statuses.specs.Outside.{Outside, seen, KernelLeft}
+pub use Rattle.edi_statuses.specs.Outside.{idle}
 use Rattle.edi_statuses.specs.Counts.{Counts, HasCause}
 use Rattle.edi_statuses.specs.Commands.{IsNothing}
 use Rattle.edi_statuses.specs.Means.{Came, Means}
 use Rattle.edi_statuses.specs.OnFiles.{IsOfFiles, MeansOnFiles, RestIsSame}
-
-same_told : {A : Type 0} (x : Option A) → WhereTold x x (λ old new. new ≡ old)
-same_told None = tt
-same_told (Some a) = refl
-
-same_seen : {A : Type 0} (x : Option A) → WhereTold (still_told x x) x (λ old new. new ≡ old)
-same_seen None = tt
-same_seen (Some a) = refl
+use Rattle.edi_statuses.proofs.Told.{itself, same_told, shows_nothing}
 
 pub nothing_shown : (shown : Option (List ℕ)) → WhereTold shown shown (λ old new. new ≡ old ++ [])
-nothing_shown None = tt
-nothing_shown (Some a) = sym (append-nil a)
-
--- a kernel that was left alone
-abbrev pub idle : KernelLeft → Lent
-idle kernel = record { before = kernel; after = kernel }
+nothing_shown shown = shows_nothing shown shown refl
 
 nothing : (o : Outside) (kernel : KernelLeft) → IsNothing o o [] (idle kernel)
 nothing o kernel = record {
   shown_ = refl;
-  same = record { files = same_told o.files; blocks = same_told o.blocks; input = same_told o.input; printed = same_told o.printed };
+  same = record { files = itself o.files; blocks = itself o.blocks; input = itself o.input; printed = itself o.printed };
   kernel_same = refl;
 }
 
@@ -42,7 +30,12 @@ nothing o kernel = record {
 pub nothing_seen : (o : Outside) (kernel : KernelLeft) → IsNothing (seen o o) o [] (idle kernel)
 nothing_seen o kernel = record {
   shown_ = refl;
-  same = record { files = same_seen o.files; blocks = same_seen o.blocks; input = same_seen o.input; printed = same_seen o.printed };
+  same = record {
+    files = same_told o.files o.files refl;
+    blocks = same_told o.blocks o.blocks refl;
+    input = same_told o.input o.input refl;
+    printed = same_told o.printed o.printed refl;
+  };
   kernel_same = refl;
 }
 
@@ -63,12 +56,12 @@ wants_any (Some (words.run file options)) o kernel = inl (nothing_seen o kernel)
 wants_any (Some (words.replay file choices turns)) o kernel = nothing_seen o kernel
 wants_any (Some (words.exec file options)) o kernel = inl (nothing_seen o kernel)
 wants_any (Some (words.compile file out)) o kernel = nothing_seen o kernel
-wants_any (Some (words.boot options)) o kernel = nothing_seen o kernel
+wants_any (Some (words.boot options)) o kernel = inl (nothing_seen o kernel)
 wants_any (Some (words.newdisk blocks old)) o kernel = nothing_seen o kernel
 wants_any (Some (words.put file title)) o kernel = nothing_seen o kernel
 wants_any (Some (words.get title file)) o kernel = nothing_seen o kernel
 wants_any (Some (words.list file)) o kernel = nothing_seen o kernel
-wants_any (Some (words.demo count options)) o kernel = nothing_seen o kernel
+wants_any (Some (words.demo n options)) o kernel = inl (nothing_seen o kernel)
 wants_any (Some (words.check file)) o kernel = nothing_seen o kernel
 wants_any (Some (words.walk file choices turns)) o kernel = nothing_seen o kernel
 wants_any (Some (words.watch file points out options)) o kernel = nothing_seen o kernel

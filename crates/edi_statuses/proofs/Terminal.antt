@@ -11,6 +11,7 @@ use Rattle.edi_migrate.specs.OldImage.{old_slots_of}
 use Rattle.edi_target.specs.Check.{CodeParts}
 use Rattle.edi_trace.specs.Lines.{read_of}
 use Rattle.edi_unit.specs.Tree.{ProgramUnit}
+use Rattle.edi_utils.specs.Demo.{demo_text}
 use Rattle.edi_words.specs.Words as words
 use Rattle.edi_words.specs.Words.{ChoicesFrom}
 use Rattle.edi_statuses.specs.declared.status.Status.{Status}
@@ -18,8 +19,11 @@ use Rattle.edi_statuses.specs.Outside.{Outside, seen, Lent, KernelLeft, Kept, De
 use Rattle.edi_statuses.specs.Steps.{Reached, goes, stops, ◌>>=◌, Ready, Fetches, GivesChoices, ReadsChoices, Accepts, Mounts, Loads}
 use Rattle.edi_statuses.specs.Steps.{ChecksOld, Fits, HasRoom}
 use Rattle.edi_statuses.specs.Executions.{Program, HasMoment, HasRun, StandsAt, BrokeRun}
+use Rattle.edi_session.specs.declared.end.SessionEnd.{SessionEnd}
+use Rattle.edi_session.specs.Session.{IsMomentOfSession}
+use Rattle.edi_statuses.specs.Sessions.{BootSteps, BrokeSession, HasHeld, HeldWhole, HoldsSession, shell_on}
 use Rattle.edi_statuses.specs.Commands.{Effect, Does, IsNothing, OnlyKeeps, OnlyBlocks, OnlyShows, KeepsCode, Runs, HasPlace, Reads}
-use Rattle.edi_statuses.specs.Commands.{RunSteps, ExecSteps, TextSteps, OldSteps, PutSteps, GetSteps, ListSteps}
+use Rattle.edi_statuses.specs.Commands.{RunSteps, ExecSteps, TextSteps, OldSteps, PutSteps, GetSteps, ListSteps, DemoSteps}
 use Rattle.edi_statuses.specs.Means.{AtRecord, HasNotBegun, ChangesDrive, ShowsFront, RanWhole, RanUnkept, with_shown}
 
 -- what is told later was told before
@@ -162,6 +166,17 @@ module _ (b m : Outside) (y : Option (List ℕ)) (still : StillTold m.shown y) w
   pub list_later : (file : List ℕ) (r : Reached CodeParts) → ListSteps seen_then file r → ListSteps seen_now file r
   list_later file r h = fetched_later file (λ bytes. Loads bytes) r h
 
+  pub demo_later : (n : ℕ) (from : ChoicesFrom) (r : Reached Choices) → DemoSteps seen_then n from r → DemoSteps seen_now n from r
+  demo_later n from r h =
+      step_later (ReadsChoices seen_then from) (ReadsChoices seen_now from) (λ choices. Accepts (demo_text n) >>= λ unit. Ready choices)
+      (λ choices. Accepts (demo_text n) >>= λ unit. Ready choices) (choices_later from) (λ v q k. k) r h
+
+  pub boot_later : (from : ChoicesFrom) (r : Reached Choices) → BootSteps seen_then from r → BootSteps seen_now from r
+  boot_later from r h =
+      step_later (ReadsChoices seen_then from) (ReadsChoices seen_now from) (λ choices. Mounts seen_then >>= λ done. Ready choices)
+      (λ choices. Mounts seen_now >>= λ done. Ready choices) (choices_later from)
+      (λ choices. step_later (Mounts seen_then) (Mounts seen_now) (λ done. Ready choices) (λ done. Ready choices) mounts_later (λ w t l. l)) r h
+
   -- ---- the effects
 
   pub nothing_later : (shown : List ℕ) (kernel : Lent) → IsNothing seen_then m shown kernel → IsNothing seen_now now shown kernel
@@ -270,6 +285,44 @@ module _ (b m : Outside) (y : Option (List ℕ)) (still : StillTold m.shown y) w
   broke_later program bound choices shown told =
       told_later (λ d e. StandsAt (HasMoment program (system_on d) bound choices) d e shown)
       (stands_silent (λ d. HasMoment program (system_on d) bound choices) shown) told
+
+  -- ---- sessions
+
+  has_held_silent : (bound : ℕ) (choices : Choices) (how : SessionEnd) (drawn : ℕ) (shown : List ℕ)
+      → Silent (λ d e. HasHeld bound choices how drawn d e shown)
+  has_held_silent bound choices how drawn shown d e bytes h = record {
+    after = h.after;
+    session = h.session;
+    draws = h.draws;
+    leaves = record { input = h.leaves.input; shown_ = h.leaves.shown_; printed = h.leaves.printed; disk = h.leaves.disk; count = h.leaves.count };
+  }
+
+  pub holds_later : (bound : ℕ) (choices : Choices) (name : Option (List ℕ)) (s : Status) (shown : List ℕ)
+      → HoldsSession bound choices name s seen_then m shown → HoldsSession bound choices name s seen_now now shown
+  holds_later bound choices name s shown h = record {
+    how = h.how;
+    drawn = h.drawn;
+    within = h.within;
+    status_is = h.status_is;
+    held = told_later (λ d e. HasHeld bound choices h.how h.drawn d e shown) (has_held_silent bound choices h.how h.drawn shown) h.held;
+    keeps = h.keeps;
+  }
+
+  pub held_later : (bound : ℕ) (choices : Choices) (shown : List ℕ) → HeldWhole bound choices seen_then m shown → HeldWhole bound choices seen_now now shown
+  held_later bound choices shown h = record {
+    how = h.how;
+    drawn = h.drawn;
+    within = h.within;
+    held = told_later (λ d e. HasHeld bound choices h.how h.drawn d e shown) (has_held_silent bound choices h.how h.drawn shown) h.held;
+  }
+
+  pub broke_session_later : (bound : ℕ) (choices : Choices) (shown : List ℕ) → BrokeSession bound choices seen_then m shown
+      → BrokeSession bound choices seen_now now shown
+  broke_session_later bound choices shown told =
+      told_later (λ d e. StandsAt (IsMomentOfSession bound choices (shell_on d)) d e shown)
+      (stands_silent (λ d. IsMomentOfSession bound choices (shell_on d)) shown) told
+
+  -- ---- commands
 
   pub record_later : {A : Type 0} (name : Option (List ℕ)) (steps steps' : Reached A → Type 0) (P P' : A → Type 0)
       → ((r : Reached A) → steps r → steps' r) → ((v : A) → P v → P' v) → AtRecord name steps P → AtRecord name steps' P'

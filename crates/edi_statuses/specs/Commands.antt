@@ -1,6 +1,6 @@
 -- Words of contracts. THE COMMANDS: the steps of each in their order, and its effect.
 use Rattle.std.specs.Prelude.{IfSome, ◌≡◌, ◌≤◌, ◌⊎◌, ℕ, ◌-◌, ◌==◌, Bool, true, false, ◌&&◌, ◌||◌, nat_lt, if◌then◌else◌, is_none}
-use Rattle.std.specs.Prelude.{List, [], ◌∷◌, length, Option, Some, None, option_map}
+use Rattle.std.specs.Prelude.{List, [], ◌∷◌, ◌++◌, length, Option, Some, None, option_map, Result, Ok, Err}
 use Rattle.edi_told.specs.Told.{WhereTold}
 use Rattle.edi_calls.specs.declared.kinds.FileKind.{FileKind}
 use Rattle.edi_calls.specs.declared.kinds.FileKind.TheVariants as file_kind
@@ -8,6 +8,9 @@ use Rattle.edi_calls.specs.Choice.{Choices}
 use Rattle.edi_calls.specs.Outcome.{Ending}
 use Rattle.edi_calls.specs.State as state
 use Rattle.edi_calls.specs.State.{File, blocks_of, find_file, find_slot, first_free}
+use Rattle.edi_lex.specs.declared.symbol.Mark.{Mark}
+use Rattle.edi_lex.specs.declared.fault.LexFault.{LexFault}
+use Rattle.edi_lex.specs.Symbols.{symbols_of}
 use Rattle.edi_catalog.specs.Changes.{slots_changed, file_protected}
 use Rattle.edi_catalog.specs.Storing.{slots_stored}
 use Rattle.edi_image.specs.Formatted.{no_files}
@@ -17,17 +20,20 @@ use Rattle.edi_migrate.specs.OldFiles.{migrated_slots}
 use Rattle.edi_target.specs.Check.{CodeParts}
 use Rattle.edi_target.specs.File.{code_bytes}
 use Rattle.edi_unit.specs.Tree.{ProgramUnit}
+use Rattle.edi_utils.specs.Demo.{demo_text, demo_line}
 use Rattle.edi_utils.specs.Listing.{listing_of}
 use Rattle.edi_texts.specs.Run.{IsCodeFor}
 use Rattle.edi_words.specs.Words as words
 use Rattle.edi_words.specs.Words.{ChoicesFrom, Command}
 use Rattle.edi_statuses.specs.declared.status.Status.{Status}
 use Rattle.edi_statuses.specs.declared.status.Status.TheVariants as status
+use Rattle.edi_statuses.specs.Lines.{line_end}
 use Rattle.edi_statuses.specs.Outside.{Outside, Keeps, SameFiles, SameBlocks, SameInput, SamePrinted, IsAsBefore, Kept}
 use Rattle.edi_statuses.specs.Outside.{system_on, Devices, Lent}
 use Rattle.edi_statuses.specs.Steps.{Reached, goes, stops, ◌>>=◌, Ready, Fetches, ReadsChoices, Accepts, Mounts, Loads, ChecksOld}
 use Rattle.edi_statuses.specs.Steps.{Fits, HasRoom}
 use Rattle.edi_statuses.specs.Executions.{Program, text, code, status_of, Ran, record_of}
+use Rattle.edi_statuses.specs.Sessions.{BootSteps, HoldsSession}
 
 -- ---- the steps of each command
 
@@ -82,6 +88,10 @@ GetSteps o title = Mounts o >>= λ done. Reads o title
 -- `list CODEFILE`: fetches, loads
 abbrev pub ListSteps : Outside → (file : List ℕ) → Reached CodeParts → Type 0
 ListSteps o file = Fetches o file >>= λ bytes. Loads bytes
+
+-- `demo N`: reads the choices, compiles the text of the demonstration
+abbrev pub DemoSteps : Outside → (n : ℕ) → ChoicesFrom → Reached Choices → Type 0
+DemoSteps o n from = ReadsChoices o from >>= λ choices. Accepts (demo_text n) >>= λ unit. Ready choices
 
 -- ---- the effects
 
@@ -145,6 +155,42 @@ pub record KeepsCode (out bytes : List ℕ) (before after : Outside) (shown : Li
   pub code_is : IsCodeFor bytes parts
   pub keeps : OnlyKeeps ((out, code_bytes parts) ∷ []) before after shown kernel
 
+-- ---- the demonstration
+
+-- the number of the symbols, if there are any
+abbrev pub count_in : Result (List Mark × ℕ) LexFault → ℕ
+count_in (Ok known) = length known.0
+count_in (Err fault) = 0
+
+-- the line of a demonstration that took so many turns, on a line of its own behind what its program has shown
+abbrev pub size_line : (n turns : ℕ) → (by_program : List ℕ) → List ℕ
+size_line n turns by_program = line_end by_program ++ demo_line n (count_in (symbols_of (demo_text n))) turns
+
+-- it is shown where the program has come to its end
+abbrev pub size_shown : Status → (n turns : ℕ) → (by_program : List ℕ) → List ℕ
+size_shown status.Ok n turns by_program = size_line n turns by_program
+size_shown _ n turns by_program = []
+
+-- the outside with these blocks and this input in place of those that were lent
+abbrev pub with_own : (blocks : List (List ℕ)) → (input : List ℕ) → Outside → Outside
+with_own blocks input o =
+    record { files = o.files; blocks = Some blocks; input = Some input; shown = o.shown; printed = o.printed }
+
+-- So it is where a program has no disk and an empty input of its own; the drive and the input that were lent are as before.
+pub record OnItsOwn (P : Outside → Outside → Type 0) (before after : Outside) : Type 0 where
+  pub disk : List (List ℕ)
+  pub left : List ℕ
+  pub is : P (with_own [] [] before) (with_own disk left after)
+  pub blocks : SameBlocks before after
+  pub input : SameInput before after
+
+-- The program of the demonstration is run on its own to its ending, and the record of its choices is kept; then its line is shown.
+pub record Demonstrates (n bound : ℕ) (choices : Choices) (record_file : Option (List ℕ)) (s : Status) (before after : Outside) (shown : List ℕ)
+    (kernel : Lent) : Type 0 where
+  pub by_program : List ℕ
+  pub shown_ : shown ≡ by_program ++ size_shown s n kernel.after.used by_program
+  pub ran : OnItsOwn (λ b a. Runs (text (demo_text n)) bound choices record_file s b a by_program kernel) before after
+
 -- ---- what the drive holds behind `newdisk` and `put`
 
 abbrev pub AreNew : (count : ℕ) → List (List ℕ) → List (List ℕ) → Type 0
@@ -178,6 +224,8 @@ Comes (words.replay file choices turns) s before after shown kernel =
     Does (RunSteps before file (words.file choices)) (λ a. Runs (text a.0) turns a.1 None) s before after shown kernel
 Comes (words.exec file o) s before after shown kernel =
     Does (ExecSteps before file o.choices) (λ a. Runs (code a.0) o.turns a.1 o.record_file) s before after shown kernel
+Comes (words.boot o) s before after shown kernel =
+    Does (BootSteps before o.choices) (λ choices s b a shown k. HoldsSession o.turns choices o.record_file s b a shown) s before after shown kernel
 Comes (words.compile file out) s before after shown kernel =
     Does (TextSteps before file) (λ a. IsDone (KeepsCode out a.0)) s before after shown kernel
 Comes (words.newdisk blocks None) s before after shown kernel =
@@ -190,4 +238,6 @@ Comes (words.get title file) s before after shown kernel =
     Does (GetSteps before title) (λ bytes. IsDone (OnlyKeeps ((file, bytes) ∷ []))) s before after shown kernel
 Comes (words.list file) s before after shown kernel =
     Does (ListSteps before file) (λ parts. IsDone (OnlyShows (listing_of parts.words))) s before after shown kernel
+Comes (words.demo n o) s before after shown kernel =
+    Does (DemoSteps before n o.choices) (λ choices. Demonstrates n o.turns choices o.record_file) s before after shown kernel
 Comes _ s before after shown kernel = ⊥

@@ -11,6 +11,10 @@ pub record Counts : Type 0 where
   pub terminal : ℕ
   pub printer : ℕ
 
+abbrev pub counts_with : (files drive input terminal printer : ℕ) → Counts
+counts_with files drive input terminal printer =
+    record { files = files; drive = drive; input = input; terminal = terminal; printer = printer }
+
 abbrev pub counts_of : {F D S T P : Type 0} → (F → ℕ) → (D → ℕ) → (S → ℕ) → (T → ℕ) → (P → ℕ) → F → D → S → T → P → Counts
 counts_of of_files of_drive of_input of_terminal of_printer files drive input terminal printer = record {
   files = of_files files;

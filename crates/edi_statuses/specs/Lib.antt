@@ -4,6 +4,7 @@ pub mod Showing
 pub mod Outside
 pub mod Steps
 pub mod Executions
+pub mod Sessions
 pub mod Commands
 pub mod Means
 pub mod OnFiles

@@ -1,13 +1,11 @@
--- Definition. The number of each status, its line, and where the line begins.
-use Rattle.std.specs.Prelude.{ℕ, ◌==◌, Bool, true, false, List, [], ◌∷◌, ◌++◌, Option, Some, None, if◌then◌else◌, codes}
-use Rattle.std.specs.Fmt.{decimal}
-use Rattle.edi_calls.specs.declared.kinds.Cause.{Cause}
-use Rattle.edi_calls.specs.declared.kinds.Cause.TheVariants as cause
+-- Definition. The number of each status, and its line.
+use Rattle.std.specs.Prelude.{ℕ, Bool, List, [], ◌++◌, Option, Some, None, codes}
 use Rattle.edi_image.specs.declared.faults.MountFault.{MountFault}
 use Rattle.edi_image.specs.declared.faults.MountFault.TheVariants as mount
 use Rattle.edi_target.specs.declared.code_fault.CodeFault.{CodeFault}
 use Rattle.edi_target.specs.declared.code_fault.CodeFault.TheVariants as code
 use Rattle.edi_texts.specs.Kinds.{kind_text}
+pub use Rattle.edi_texts.specs.Lines.{cause_text, on_line, with_number, last_of, is_due_behind, is_due, feed, line_end}
 use Rattle.edi_statuses.specs.declared.status.Status.{Status}
 use Rattle.edi_statuses.specs.declared.status.Status.TheVariants as status
 
@@ -35,23 +33,6 @@ number_of status.Standstill = 17
 number_of (status.BadPoints line) = 18
 
 -- ---- texts
-
-abbrev pub cause_text : Cause → List ℕ
-cause_text cause.Range = codes "range"
-cause_text cause.VariableLimit = codes "variable limit"
-cause_text cause.ProcessLimit = codes "process limit"
-cause_text cause.Held = codes "held"
-cause_text cause.NoFile = codes "no file"
-cause_text cause.FileLimit = codes "file limit"
-cause_text cause.Halt = codes "halt"
-
--- `line N TEXT`
-abbrev pub on_line : ℕ → List ℕ → List ℕ
-on_line n text = codes "line " ++ (decimal n ++ (codes " " ++ text))
-
--- `TEXT N`
-abbrev pub with_number : List ℕ → ℕ → List ℕ
-with_number text n = text ++ (codes " " ++ decimal n)
 
 -- the first rule of an image that is broken; the last two are told by statuses of their own
 abbrev pub image_text : MountFault → List ℕ
@@ -94,30 +75,6 @@ text_of status.DiskFull = Some (codes "disk full")
 text_of status.FileLarge = Some (codes "file too large")
 text_of status.Standstill = Some (codes "standstill")
 text_of (status.BadPoints line) = Some (with_number (codes "points line") line)
-
--- ---- where a line begins
-
--- the last of the bytes, if there is one
-abbrev pub last_of : List ℕ → Option ℕ
-last_of [] = None
-last_of (b ∷ []) = Some b
-last_of (b ∷ c ∷ more) = last_of (c ∷ more)
-
-abbrev pub is_due_behind : Option ℕ → Bool
-is_due_behind None = false
-is_due_behind (Some b) = if b == 10 then false else true
-
--- A line feed is due behind bytes that do not end with one.
-abbrev pub is_due : List ℕ → Bool
-is_due shown = is_due_behind (last_of shown)
-
-abbrev pub feed : Bool → List ℕ
-feed true = 10 ∷ []
-feed false = []
-
--- THE FRESH-LINE RULE: what is shown before a line behind these bytes, so that it stands on a line of its own
-abbrev pub line_end : List ℕ → List ℕ
-line_end shown = feed (is_due shown)
 
 -- ---- what is shown for a status
 

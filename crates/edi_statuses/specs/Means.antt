@@ -2,14 +2,15 @@
 --
 -- A status that the words and contents decide means what `Comes` says. `NoMemory` may come at the places of `Wants`. The four
 -- faults come where the count of an object rose, and mean what `Breaks` says.
-use Rattle.std.specs.Prelude.{◌≡◌, ◌≤◌, ◌⊎◌, ℕ, Bool, true, false, List, [], ◌∷◌, ◌++◌, length, Option, Some, None, IsSome, ⊤}
+use Rattle.std.specs.Prelude.{◌≡◌, ◌≤◌, ◌⊎◌, ℕ, Bool, true, false, not, ◌||◌, List, [], ◌∷◌, ◌++◌, length, Option, Some, None, IsSome, is_none, ⊤}
 use Rattle.edi_told.specs.Told.{WhereTold}
 use Rattle.edi_calls.specs.Choice.{Choices}
 use Rattle.edi_calls.specs.Outcome.{Ending}
 use Rattle.edi_image.specs.Image.{Holds, slots_of}
+use Rattle.edi_utils.specs.Demo.{demo_text}
 use Rattle.edi_utils.specs.Listing.{listing_of}
 use Rattle.edi_words.specs.Words as words
-use Rattle.edi_words.specs.Words.{Command}
+use Rattle.edi_words.specs.Words.{ChoicesFrom, Command, Options}
 use Rattle.edi_statuses.specs.declared.status.Status.{Status}
 use Rattle.edi_statuses.specs.declared.status.Status.TheVariants as status
 use Rattle.edi_statuses.specs.Lines.{closing, closing_line, is_due, text_of}
@@ -18,7 +19,9 @@ use Rattle.edi_statuses.specs.Counts.{Counts, HasCause}
 use Rattle.edi_statuses.specs.Outside.{Outside, seen, Shows, SameFiles, SameBut, SameBlocks, SameInput, SamePrinted, IsAsBefore, Lent}
 use Rattle.edi_statuses.specs.Steps.{Reached, goes}
 use Rattle.edi_statuses.specs.Executions.{Program, text, code, Ran, BrokeRun}
-use Rattle.edi_statuses.specs.Commands.{Comes, IsNothing, RunSteps, ExecSteps, OldSteps, PutSteps, ListSteps, released, put_in}
+use Rattle.edi_statuses.specs.Sessions.{BootSteps, BrokeSession, HeldUnkept, HeldWhole}
+use Rattle.edi_statuses.specs.Commands.{Comes, IsNothing, Runs, OnItsOwn, RunSteps, ExecSteps, OldSteps, PutSteps, ListSteps, DemoSteps}
+use Rattle.edi_statuses.specs.Commands.{released, put_in, size_line}
 
 -- ---- want of memory
 
@@ -48,7 +51,63 @@ Wants (words.run file o) before after shown kernel =
 Wants (words.exec file o) before after shown kernel =
     IsNothing before after shown kernel
     ⊎ AtRecord o.record_file (ExecSteps before file o.choices) (λ a. RanUnkept (code a.0) o.turns a.1 before after shown kernel)
+Wants (words.boot o) before after shown kernel =
+    IsNothing before after shown kernel
+    ⊎ AtRecord o.record_file (BootSteps before o.choices) (λ choices. HeldUnkept o.turns choices before after shown)
+Wants (words.demo n o) before after shown kernel =
+    IsNothing before after shown kernel
+    ⊎ AtRecord o.record_file (DemoSteps before n o.choices)
+    (λ choices. OnItsOwn (λ b a. RanUnkept (text (demo_text n)) o.turns choices b a shown kernel) before after)
 Wants _ before after shown kernel = IsNothing before after shown kernel
+
+-- ---- which objects a command uses
+
+-- a run and a session see the terminal and the printer, and run on the lent kernel
+abbrev pub uses_devices : Command → Bool
+uses_devices (words.run file o) = true
+uses_devices (words.replay file choices turns) = true
+uses_devices (words.exec file o) = true
+uses_devices (words.boot o) = true
+uses_devices (words.demo n o) = true
+uses_devices _ = false
+
+-- and the input, but for the demonstration, which has one of its own
+abbrev pub uses_input : Command → Bool
+uses_input (words.demo n o) = false
+uses_input c = uses_devices c
+
+abbrev pub uses_drive : Command → Bool
+uses_drive (words.newdisk blocks old) = true
+uses_drive (words.put file title) = true
+uses_drive (words.get title file) = true
+uses_drive c = uses_input c
+
+-- the choices stand in a file
+abbrev pub is_in_file : ChoicesFrom → Bool
+is_in_file words.nowhere = false
+is_in_file (words.file name) = true
+is_in_file (words.seed n) = false
+
+-- the options of a run name a file
+abbrev pub names_file : Options → Bool
+names_file o = is_in_file o.choices || not (is_none o.record_file)
+
+abbrev pub uses_files : Command → Bool
+uses_files (words.newdisk blocks None) = false
+uses_files (words.boot o) = names_file o
+uses_files (words.demo n o) = names_file o
+uses_files _ = true
+
+-- so, where there is a command
+abbrev pub does : (Command → Bool) → Option Command → Bool
+does test None = false
+does test (Some c) = test c
+
+-- a fault of the files or of the drive is one of an object that the command uses
+abbrev pub Uses : Status → Command → Type 0
+Uses status.FileFault c = uses_files c ≡ true
+Uses status.DriveFault c = uses_drive c ≡ true
+Uses s c = ⊤
 
 -- ---- faults
 
@@ -93,21 +152,44 @@ names_in (Some name) = name ∷ []
 abbrev pub names_kept : Command → List (List ℕ)
 names_kept (words.run file o) = names_in o.record_file
 names_kept (words.exec file o) = names_in o.record_file
+names_kept (words.boot o) = names_in o.record_file
+names_kept (words.demo n o) = names_in o.record_file
 names_kept (words.compile file out) = out ∷ []
 names_kept (words.get title file) = file ∷ []
 names_kept _ = []
+
+-- the line of a demonstration was not shown whole; all else is as behind a whole one
+pub record CutsDemo (n bound : ℕ) (choices : Choices) (record_file : Option (List ℕ)) (before after : Outside) (shown : List ℕ) (kernel : Lent)
+    : Type 0 where
+  pub by_program : List ℕ
+  pub line : List ℕ
+  pub front : IsFront line (size_line n kernel.after.used by_program)
+  pub shown_ : shown ≡ by_program ++ line
+  pub ran : OnItsOwn (λ b a. Runs (text (demo_text n)) bound choices record_file status.Ok b a by_program kernel) before after
+
+-- the program of a demonstration was broken off, and no record was kept; or its line was not shown
+abbrev pub BrokeDemo : (n bound : ℕ) → Choices → (record_file : Option (List ℕ)) → Outside → Outside → (shown : List ℕ) → Lent → Type 0
+BrokeDemo n bound choices record_file before after shown kernel =
+    OnItsOwn (λ b a. SameFiles b a × BrokeRun (text (demo_text n)) bound choices b a shown) before after
+    ⊎ CutsDemo n bound choices record_file before after shown kernel
 
 -- the steps of a command went on, and it was broken off there
 abbrev pub Begun : {A : Type 0} → (Reached A → Type 0) → (A → Type 0) → Type 0
 Begun steps P = (a : _) × steps (goes a) × P a
 
--- A run is broken off by any device, `put` and `newdisk` by the drive alone, and `list` by the terminal. The files break off no run:
--- they may fail when its record is to be kept. Other commands change nothing before they keep their file.
+-- A run and a session are broken off by any device, `demo` by the terminal and the printer, `put` and `newdisk` by the drive alone, and `list` by
+-- the terminal. The files break off no run: they may fail when its record is to be kept. Other commands change nothing before they
+-- keep their file.
 abbrev pub ComesToBreak : Status → Command → Outside → Outside → (shown : List ℕ) → Lent → Type 0
 ComesToBreak status.FileFault (words.run file o) before after shown kernel =
     AtRecord o.record_file (RunSteps before file o.choices) (λ a. RanWhole (text a.0) o.turns a.1 before after shown kernel)
 ComesToBreak status.FileFault (words.exec file o) before after shown kernel =
     AtRecord o.record_file (ExecSteps before file o.choices) (λ a. RanWhole (code a.0) o.turns a.1 before after shown kernel)
+ComesToBreak status.FileFault (words.boot o) before after shown kernel =
+    AtRecord o.record_file (BootSteps before o.choices) (λ choices. HeldWhole o.turns choices before after shown)
+ComesToBreak status.FileFault (words.demo n o) before after shown kernel =
+    AtRecord o.record_file (DemoSteps before n o.choices)
+    (λ choices. OnItsOwn (λ b a. RanWhole (text (demo_text n)) o.turns choices b a shown kernel) before after)
 ComesToBreak status.FileFault c before after shown kernel = ⊥
 ComesToBreak s (words.run file o) before after shown kernel =
     Begun (RunSteps before file o.choices) (λ a. BrokeRun (text a.0) o.turns a.1 before after shown)
@@ -115,6 +197,8 @@ ComesToBreak s (words.replay file choices turns) before after shown kernel =
     Begun (RunSteps before file (words.file choices)) (λ a. BrokeRun (text a.0) turns a.1 before after shown)
 ComesToBreak s (words.exec file o) before after shown kernel =
     Begun (ExecSteps before file o.choices) (λ a. BrokeRun (code a.0) o.turns a.1 before after shown)
+ComesToBreak s (words.boot o) before after shown kernel =
+    Begun (BootSteps before o.choices) (λ choices. BrokeSession o.turns choices before after shown)
 ComesToBreak status.DriveFault (words.put file title) before after shown kernel =
     Begun (PutSteps before file title) (λ bytes. ChangesDrive (ArePutInPart title bytes) before after shown kernel)
 ComesToBreak status.DriveFault (words.newdisk blocks None) before after shown kernel = ChangesDrive IsOpen before after shown kernel
@@ -122,6 +206,8 @@ ComesToBreak status.DriveFault (words.newdisk blocks (Some file)) before after s
     Begun (OldSteps before blocks file) (λ old. ChangesDrive IsOpen before after shown kernel)
 ComesToBreak status.OutputFault (words.list file) before after shown kernel =
     Begun (ListSteps before file) (λ parts. ShowsFront (listing_of parts.words) before after shown kernel)
+ComesToBreak status.OutputFault (words.demo n o) before after shown kernel =
+    Begun (DemoSteps before n o.choices) (λ choices. BrokeDemo n o.turns choices o.record_file before after shown kernel)
 ComesToBreak s c before after shown kernel = ⊥
 
 -- How far the command was. The input and the output fail only where a command has begun; the files and the drive may fail before.
@@ -130,14 +216,17 @@ Far status.InputFault c before after shown kernel = ComesToBreak status.InputFau
 Far status.OutputFault c before after shown kernel = ComesToBreak status.OutputFault c before after shown kernel
 Far s c before after shown kernel = HasNotBegun before after shown kernel ⊎ ComesToBreak s c before after shown kernel
 
--- Only where the files have failed may the file that was to be kept be another than before.
-abbrev pub FilesAfter : Status → Command → Outside → Outside → Type 0
-FilesAfter status.FileFault c before after = SameBut (names_kept c) before after
-FilesAfter s c before after = SameFiles before after
+-- The files of these names may be others than before: where the files have failed, what was to be kept; and where the line of a
+-- demonstration could not be shown, its record, which is kept before.
+abbrev pub names_open : Status → Command → List (List ℕ)
+names_open status.FileFault c = names_kept c
+names_open status.OutputFault (words.demo n o) = names_kept (words.demo n o)
+names_open s c = []
 
 -- where the fault of an object is answered
 pub record Breaks (s : Status) (c : Command) (before after : Outside) (shown : List ℕ) (kernel : Lent) : Type 0 where
-  pub files : FilesAfter s c before after
+  pub uses : Uses s c
+  pub files : SameBut (names_open s c) before after
   pub far : Far s c before after shown kernel
 
 -- ---- the meaning of a status
@@ -227,30 +316,15 @@ pub record IsTold (o : Outside) : Type 0 where
   pub shown : IsSome o.shown
   pub printed : IsSome o.printed
 
--- Contents that are told decide the status and what is shown before its line. So each status comes exactly where its cause is
--- there, unless an object fails or memory runs out; and where no refusal has its cause, the command has its effect.
+-- `boot`, in whose session memory may be wanting for single lines, so that its end is not decided
+abbrev pub is_session : Command → Bool
+is_session (words.boot o) = true
+is_session _ = false
+
+-- Contents that are told decide the status and what is shown before its line, but for `boot`. So each status comes exactly where its
+-- cause is there, unless an object fails or memory runs out; and where no refusal has its cause, the command has its effect.
 abbrev pub OneStatus : Type 0
 OneStatus =
     (s t : Status) (c : Command) (before after behind : Outside) (shown bytes : List ℕ) (kernel other : Lent)
-    → IsTold before → IsTold after → IsTold behind → IsDecisive s → IsDecisive t
+    → is_session c ≡ false → IsTold before → IsTold after → IsTold behind → IsDecisive s → IsDecisive t
     → Comes c s before after shown kernel → Comes c t before behind bytes other → (s ≡ t) × (shown ≡ bytes)
-
--- ---- which objects a command does not touch
-
--- a run sees all devices
-abbrev pub uses_devices : Command → Bool
-uses_devices (words.run file o) = true
-uses_devices (words.replay file choices turns) = true
-uses_devices (words.exec file o) = true
-uses_devices _ = false
-
-abbrev pub uses_drive : Command → Bool
-uses_drive (words.newdisk blocks old) = true
-uses_drive (words.put file title) = true
-uses_drive (words.get title file) = true
-uses_drive c = uses_devices c
-
--- so, where there is a command
-abbrev pub does : (Command → Bool) → Option Command → Bool
-does test None = false
-does test (Some c) = test c

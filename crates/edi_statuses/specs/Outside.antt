@@ -27,6 +27,11 @@ outside_of kept contents left taken printed files drive input terminal printer =
   printed = printed printer;
 }
 
+-- the outside that tells this
+abbrev pub outside_with : (files : Option Contents) → (blocks : Option (List (List ℕ))) → (input shown printed : Option (List ℕ)) → Outside
+outside_with files blocks input shown printed =
+    record { files = files; blocks = blocks; input = input; shown = shown; printed = printed }
+
 -- What is told at one moment, where it is told at a later one too. Of contents that an object no longer tells behind a call
 -- nothing is said, since no call on it has said anything of them.
 abbrev pub still_told : {A : Type 0} → Option A → Option A → Option A
@@ -160,3 +165,7 @@ pub record Lent : Type 0 where
 
 abbrev pub lent : (old_words : List ℕ) → (old_used : ℕ) → (words : List ℕ) → (used : ℕ) → Lent
 lent old_words old_used words used = record { before = kernel_of old_words old_used; after = kernel_of words used }
+
+-- a kernel that was left alone
+abbrev pub idle : KernelLeft → Lent
+idle kernel = record { before = kernel; after = kernel }

@@ -21,20 +21,20 @@ use Rattle.edi_statuses.specs.declared.status.Status.{Status}
 use Rattle.edi_statuses.specs.declared.status.Status.TheVariants as status
 use Rattle.edi_statuses.specs.Lines.{closing}
 use Rattle.edi_statuses.specs.Counts.{Counts}
-use Rattle.edi_statuses.specs.Outside.{Outside, Lent, kernel_of, system_on}
+use Rattle.edi_statuses.specs.Outside.{Outside, Lent, idle, kernel_of, outside_with, system_on}
+use Rattle.edi_statuses.specs.Commands.{IsNothing}
 use Rattle.edi_statuses.specs.Means.{EndsWith}
 
 -- these files, these blocks, an empty input, and what was shown
 abbrev pub outside : Contents → (blocks : List (List ℕ)) → (shown : List ℕ) → Outside
-outside files blocks shown =
-    record { files = Some files; blocks = Some blocks; input = Some []; shown = Some shown; printed = Some [] }
+outside files blocks shown = outside_with (Some files) (Some blocks) (Some []) (Some shown) (Some [])
 
 abbrev pub no_faults : Counts
 no_faults = record { files = 0; drive = 0; input = 0; terminal = 0; printer = 0 }
 
 -- nothing is run on the lent kernel
 abbrev pub left_alone : List ℕ → (used : ℕ) → Lent
-left_alone words used = record { before = kernel_of words used; after = kernel_of words used }
+left_alone words used = idle (kernel_of words used)
 
 -- the words end so over these files and blocks, which stay as they are, and nothing is run
 abbrev pub EndsSo : Status → (words : List (List ℕ)) → Contents → (blocks : List (List ℕ)) → (shown : List ℕ) → Type 0
@@ -42,18 +42,23 @@ EndsSo s words files blocks shown =
     (store : List ℕ) (used : ℕ)
     → EndsWith s (command_of words) (outside files blocks []) (outside files blocks shown) no_faults no_faults shown (left_alone store used)
 
+nothing_done : (files : Contents) (blocks : List (List ℕ)) (shown store : List ℕ) (used : ℕ)
+    → IsNothing (outside files blocks []) (outside files blocks shown) [] (left_alone store used)
+nothing_done files blocks shown store used =
+    record { shown_ = refl; same = record { files = refl; blocks = refl; input = refl; printed = refl }; kernel_same = refl }
+
 pub a_command_wants_its_operand : EndsSo status.Words (codes "run" ∷ []) map.empty [] (codes "bad words\n")
-a_command_wants_its_operand store used =
-    ([], record { shown_ = refl; same = record { files = refl; blocks = refl; input = refl; printed = refl }; kernel_same = refl }, refl)
+a_command_wants_its_operand store used = ([], nothing_done map.empty [] (codes "bad words\n") store used, refl)
 
 -- no file has the name
 pub no_file_is_there : (files : Contents) → map.get files (codes "a") ≡ None
     → EndsSo status.Absent (codes "exec" ∷ codes "a" ∷ []) files [] (codes "absent\n")
-no_file_is_there files none store used = (
-  [],
-  inl (inl (refl, none), record { shown_ = refl; same = record { files = refl; blocks = refl; input = refl; printed = refl }; kernel_same = refl }),
-  refl,
-)
+no_file_is_there files none store used = ([], inl (inl (refl, none), nothing_done files [] (codes "absent\n") store used), refl)
+
+pub a_demonstration_wants_its_choices : (files : Contents) → map.get files (codes "b") ≡ None
+    → EndsSo status.Absent (codes "demo" ∷ codes "3" ∷ codes "--choices" ∷ codes "b" ∷ []) files [] (codes "absent\n")
+a_demonstration_wants_its_choices files none store used =
+    ([], inl (inl (inl (refl, none)), nothing_done files [] (codes "absent\n") store used), refl)
 
 pub the_line_of_a_status : closing status.Turns (codes "a") ≡ codes "\nturn limit\n"
 the_line_of_a_status = refl
@@ -79,7 +84,7 @@ choices_come_before_code files code_file choices store used = (
   [],
   inl (
     inr (codes "?", code_file, inl (inr (codes "0\n300\n", choices, refl))),
-    record { shown_ = refl; same = record { files = refl; blocks = refl; input = refl; printed = refl }; kernel_same = refl },
+    nothing_done files ([] ∷ []) (codes "choices line 2\n") store used,
   ),
   refl,
 )
@@ -91,7 +96,7 @@ the_drive_comes_last files code_file store used = (
   [],
   inl (
     inr (code_bytes shows_a, code_file, inr (listed [], refl, inr (shows_a, (refl, refl), inl (mount.Short, refl, refl, tt)))),
-    record { shown_ = refl; same = record { files = refl; blocks = refl; input = refl; printed = refl }; kernel_same = refl },
+    nothing_done files ([] ∷ []) (codes "bad image short\n") store used,
   ),
   refl,
 )

@@ -1,8 +1,10 @@
--- Words of contracts. What the call that shows the line of a status leaves.
-use Rattle.std.specs.Prelude.{◌≡◌, ◌⊎◌, ℕ, List, ◌++◌, Option}
+-- Words of contracts. What the calls that show bytes and the line of a status leave.
+use Rattle.std.specs.Prelude.{◌≡◌, ◌⊎◌, ℕ, Bool, List, [], ◌∷◌, ◌++◌, Option}
 use Rattle.edi_told.specs.Told.{WhereTold}
+use Rattle.edi_statuses.specs.declared.ended.Ended.{Ended}
 use Rattle.edi_statuses.specs.declared.status.Status.{Status}
 use Rattle.edi_statuses.specs.declared.status.Status.TheVariants as status
+use Rattle.edi_statuses.specs.Lines.{is_due}
 
 -- these bytes begin those
 abbrev pub IsFront : List ℕ → List ℕ → Type 0
@@ -14,3 +16,22 @@ abbrev pub ClosesWith : (meant answer : Status) → (line : List ℕ) → (befor
 ClosesWith meant answer line before after =
     ((answer ≡ meant) × WhereTold before after (λ old new. new ≡ old ++ line))
     ⊎ ((answer ≡ status.OutputFault) × WhereTold before after (λ old new. (front : List ℕ) × IsFront front line × (new ≡ old ++ front)))
+
+-- ---- bytes before the line of a status
+
+-- whether a line feed is due behind these bytes, where it was due before them or not
+abbrev pub due_after : (due : Bool) → List ℕ → Bool
+due_after due [] = due
+due_after due (b ∷ more) = is_due (b ∷ more)
+
+-- all the bytes were shown, or a first part of them where the output has failed
+abbrev pub ShowsFar : Status → (front all : List ℕ) → Type 0
+ShowsFar status.Ok front all = front ≡ all
+ShowsFar status.OutputFault front all = IsFront front all
+ShowsFar _ front all = ⊥
+
+-- the terminal has taken them, and a line feed is due behind them, or not
+abbrev pub ShowsBytes : (all : List ℕ) → (due : Bool) → Ended → (before after : Option (List ℕ)) → Type 0
+ShowsBytes all due ended before after =
+    (front : List ℕ) × ShowsFar ended.status front all × WhereTold before after (λ old new. new ≡ old ++ front)
+    × (ended.due ≡ due_after due front)

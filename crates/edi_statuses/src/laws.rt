@@ -2,9 +2,9 @@
 
 ghost use Rattle.edi_statuses.specs.Means.{LinesEnd, OneStatus};
 
-/// Contents that are told decide the status of a command and what it shows before the line of the status. So each status comes
-/// exactly where its cause is there, unless an object fails or memory runs out; and where no refusal has its cause, the command
-/// has its effect.
+/// Contents that are told decide the status of a command and what it shows before the line of the status, but for `boot`. So each
+/// status comes exactly where its cause is there, unless an object fails or memory runs out; and where no refusal has its cause, the
+/// command has its effect.
 pub fn one_status()
     ensures law { OneStatus }
 {}

@@ -10,5 +10,5 @@ mod status;
 pub use edi_texts::RefusalKind;
 pub use ended::Ended;
 pub use lines::Line;
-pub use showing::show_status;
+pub use showing::{show_bytes, show_status};
 pub use status::Status;

@@ -1,10 +1,11 @@
-//! Showing the line of a status.
+//! Showing bytes, and the line of a status behind them.
 
 ghost use Rattle.std.specs.Prelude.{◌≡◌, ◌≢◌, ◌⊎◌, ◌≤◌, None};
 ghost use Rattle.edi_told.specs.Faults.{CountRose};
 ghost use Rattle.edi_statuses.specs.Lines.{closing_line as line_for, text_of};
-ghost use Rattle.edi_statuses.specs.Showing.{ClosesWith};
+ghost use Rattle.edi_statuses.specs.Showing.{ClosesWith, due_after, ShowsBytes};
 
+use crate::ended::Ended;
 use crate::lines::closing_line;
 use crate::status::Status;
 use edi_host::{PutEnd, Sink};
@@ -25,5 +26,37 @@ pub fn show_status<T: Sink>(terminal: &mut T, status: Status, due: bool) -> Stat
     match terminal.put(line.as_str().as_bytes()).end {
         PutEnd::Ok => status,
         PutEnd::Failed => Status::OutputFault,
+    }
+}
+
+/// Whether a line feed is due behind bytes, where it was due before them or not.
+fn is_due_after(due: bool, bytes: &[u8]) -> bool
+    ensures exact { result ≡ due_after due bytes.now }
+{
+    match bytes.last() {
+        Some(byte) => *byte != b'\n',
+        None => due,
+    }
+}
+
+/// Shows bytes on the terminal. Answers `Ok`, or that the output has failed where not all of them could be shown; and whether a line
+/// feed is due behind those that were shown, where it was due before them or not. Takes no memory.
+pub fn show_bytes<T: Sink>(terminal: &mut T, bytes: &[u8], due: bool) -> Ended
+    ensures shows { ShowsBytes bytes.now due result (T.taken terminal.old) (T.taken terminal.new) }
+    ensures cause { result.status ≡ Status.OutputFault → CountRose (T.faults terminal.old) (T.faults terminal.new) }
+    ensures later { T.faults terminal.old ≤ T.faults terminal.new }
+{
+    let put = terminal.put(bytes);
+    let (front, _) = bytes.split_at(put.taken);
+    let due = is_due_after(due, front);
+    match put.end {
+        PutEnd::Ok => Ended {
+            status: Status::Ok,
+            due,
+        },
+        PutEnd::Failed => Ended {
+            status: Status::OutputFault,
+            due,
+        },
     }
 }

@@ -1,1 +1,3 @@
+pub mod LoadedFiles
 pub mod OnFilesLemmas
+pub mod Units

@@ -1,16 +1,16 @@
 -- Words of contracts. What the steps on files of the host answer, by the steps of commands.
-use Rattle.std.specs.Prelude.{◌≡◌, ℕ, List, take, Option, None, Result, Ok, Err, IsSome, ⊤, Bool, true, false}
+use Rattle.std.specs.Prelude.{◌≡◌, ℕ, List, take, Option, None, Result, Ok, Err, IsSome, ⊤, true}
 use Rattle.edi_told.specs.Told.{WhereTold}
 use Rattle.edi_host.specs.Files.{Contents}
 use Rattle.edi_trace.specs.Drawn.{Drawn}
 use Rattle.edi_trace.specs.Lines.{read_of}
-use Rattle.edi_words.specs.Words.{ChoicesFrom, nowhere, file, seed}
+use Rattle.edi_words.specs.Words.{ChoicesFrom}
 use Rattle.edi_statuses.specs.declared.status.Status.{Status}
 use Rattle.edi_statuses.specs.declared.status.Status.TheVariants as status
 use Rattle.edi_statuses.specs.Outside.{Outside, with_kept, without_names}
 use Rattle.edi_statuses.specs.Steps.{goes, stops, Fetches, GivesChoices, ReadsChoices}
 use Rattle.edi_statuses.specs.Executions.{record_of}
-use Rattle.edi_statuses.specs.Means.{names_in}
+use Rattle.edi_statuses.specs.Means.{is_in_file, names_in}
 
 -- the outside of which only the files are looked at
 abbrev pub files_only : Option Contents → Outside
@@ -28,12 +28,6 @@ abbrev pub FileChoices : (bytes : List ℕ) → Result Drawn Status → Type 0
 FileChoices bytes (Ok choices) = (choices.drawn ≡ 0) × GivesChoices (read_of bytes) (goes choices.source)
 FileChoices bytes (Err status.NoMemory) = ⊤
 FileChoices bytes (Err s) = GivesChoices (read_of bytes) (stops s)
-
--- the choices come from a file
-abbrev pub is_in_file : ChoicesFrom → Bool
-is_in_file nowhere = false
-is_in_file (file name) = true
-is_in_file (seed n) = false
 
 -- the choices of a run are read, and none of them is drawn; only a file of choices may be a fault
 abbrev pub ChoicesStep : Outside → ChoicesFrom → Result Drawn Status → Type 0

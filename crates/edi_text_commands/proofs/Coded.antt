@@ -2,34 +2,22 @@
 use Rattle.std.proofs.Common.{◌≡◌, inl, inr, ℕ, List, take, Result, Ok, Err, subst}
 use Rattle.edi_target.specs.Check.{CodeParts}
 use Rattle.edi_target.specs.File.{code_bytes}
-use Rattle.edi_unit.specs.Tree.{ProgramUnit}
 use Rattle.edi_lex.specs.Limit.{most_fetched}
-use Rattle.edi_texts.specs.Texts.{IsUnit, IsRefused}
+use Rattle.edi_texts.specs.Texts.{IsRefused}
 use Rattle.edi_texts.specs.Answers.{TextAnswers}
 use Rattle.edi_texts.specs.Fetched.{Tells}
 use Rattle.edi_texts.proofs.Same.{fetched_bytes_decide}
-use Rattle.edi_texts.proofs.Thing.{one_thing}
 use Rattle.edi_texts.specs.Run.{IsCodeFor}
 use Rattle.edi_statuses.specs.declared.status.Status.{Status}
 use Rattle.edi_statuses.specs.Outside.{Outside}
 use Rattle.edi_statuses.specs.Steps.{goes, Fetches}
+use Rattle.edi_steps.proofs.Units.{unit_there}
 use Rattle.edi_text_commands.specs.TextCommands.{CodesText, CodesFile}
-
--- a text that is compiled has a unit
-pub unit_there : (text : List ℕ) (code : CodeParts) → TextAnswers (IsCodeFor text) text (Ok code) → (unit : ProgramUnit) × IsUnit text unit
-unit_there text code answers = elim (one_thing.some_thing text) [
-  | inl fault ↦
-      elim (answers.refused fault.0 fault.1 fault.2 fault.3) [
-        | inl never ↦ absurd (cc)
-        | inr never ↦ absurd (cc)
-      ]
-  | inr unit ↦ unit
-]
 
 pub coded : {V : Type 0} (items : V → List ℕ) (text : List ℕ) (code : CodeParts) (v : V) → TextAnswers (IsCodeFor text) text (Ok code)
     → items v ≡ code_bytes code → CodesText items text (Ok v)
 coded items text code v answers bytes =
-    let unit = unit_there text code answers in
+    let unit = unit_there (IsCodeFor text) text code answers in
     (unit.0, unit.1, code, answers.gives, bytes)
 
 -- the first bytes of a file decide

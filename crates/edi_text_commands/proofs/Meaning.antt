@@ -1,5 +1,5 @@
 -- From the steps of `compile` to what its status means.
-use Rattle.std.proofs.Common.{◌≡◌, inl, inr, ℕ, List, [], Option, Some, None, Ok, Err, refl, sym, subst, ap, ◌∙◌}
+use Rattle.std.proofs.Common.{◌≡◌, inl, inr, ℕ, List, [], ◌∷◌, Option, Some, None, Ok, Err, refl, sym, subst, ap, ◌∙◌}
 use Rattle.std.specs.Prelude.{IfSome}
 use Rattle.std.specs.FinMap as map
 use Rattle.edi_told.specs.Told.{WhereTold}
@@ -14,6 +14,7 @@ use Rattle.edi_statuses.specs.Steps.{goes, stops, Fetches}
 use Rattle.edi_statuses.specs.Commands.{IsNothing, TextSteps}
 use Rattle.edi_statuses.specs.Means.{Means, HasNotBegun}
 use Rattle.edi_steps.specs.OnFiles.{files_only}
+use Rattle.edi_statuses.proofs.Told.{still, same_told, same_but, just_told, till_the_last}
 use Rattle.edi_statuses.specs.OnFiles.{RestIsSame, MeansOnFiles}
 use Rattle.edi_text_commands.specs.TextCommands.{CodesFile}
 
@@ -26,30 +27,6 @@ since P old mid None same holds = tt
 since P old None (Some n) same holds = absurd holds
 since P None (Some m) (Some n) same holds = absurd same
 since P (Some o) (Some m) (Some n) same holds = subst (λ x. P x n) same holds
-
-still : (P : Contents → Contents → Type 0) (old new : Option Contents) → WhereTold old new P → WhereTold (still_told old new) new P
-still P old None holds = tt
-still P old (Some n) holds = holds
-
--- what is told later too was seen before
-later : (Q : Contents → Type 0) (P : Contents → Contents → Type 0) (old mid new : Option Contents) → WhereTold mid new P → IfSome (still_told old mid) Q
-    → IfSome (still_told old new) Q
-later Q P old mid None holds q = tt
-later Q P old None (Some n) holds q = absurd holds
-later Q P old (Some m) (Some n) holds q = q
-
-itself : {A : Type 0} (a : Option A) → WhereTold (still_told a a) a (λ old new. new ≡ old)
-itself None = tt
-itself (Some x) = refl
-
-same_told : {A : Type 0} (a b : Option A) → b ≡ a → WhereTold (still_told a b) b (λ old new. new ≡ old)
-same_told a b e = subst (λ x. WhereTold (still_told a x) x (λ old new. new ≡ old)) (sym e) (itself a)
-
-removed_too : (out : List ℕ) (old new : Option Contents) → WhereTold old new (λ old new. new ≡ old) →
-    WhereTold old new (λ old new. map.remove new out ≡ map.remove old out)
-removed_too out old None same = tt
-removed_too out None (Some n) same = absurd same
-removed_too out (Some o) (Some n) same = ap (λ f. map.remove f out) same
 
 -- ---- the meaning of a status
 
@@ -88,7 +65,7 @@ module _ (file out : List ℕ) (old new : Option Contents) (before after : Outsi
 
   broken : WhereTold (still_told old new) new (λ old new. map.remove new out ≡ map.remove old out) →
       Means status.FileFault (Some (compile file out)) before after [] kernel
-  broken same = record { files = on_files (λ old new. map.remove new out ≡ map.remove old out) same; far = inl not_begun }
+  broken same = record { uses = refl; files = on_files (λ old new. map.remove new out ≡ map.remove old out) same; far = inl not_begun }
 
   wanting : WhereTold (still_told old new) new (λ old new. new ≡ old) → Means status.NoMemory (Some (compile file out)) before after [] kernel
   wanting same = nothing same
@@ -115,7 +92,7 @@ module _ (file out : List ℕ) (old new : Option Contents) (before after : Outsi
       subst (λ s. Means s (Some (compile file out)) before after [] kernel) (sym none) (wanting (still (λ old new. new ≡ old) old new same))
   stops_so items s (inr (inl failed)) same =
       subst (λ s. Means s (Some (compile file out)) before after [] kernel) (sym failed)
-      (broken (still (λ old new. map.remove new out ≡ map.remove old out) old new (removed_too out old new same)))
+      (broken (still (λ old new. map.remove new out ≡ map.remove old out) old new (same_but (out ∷ []) old new same)))
   stops_so items s (inr (inr steps)) same = stopped s steps (still (λ old new. new ≡ old) old new same)
 
 -- the command has stopped
@@ -137,7 +114,7 @@ module _ {V : Type 0} (items : V → List ℕ) (file out : List ℕ) (old mid ne
         inr (
           text,
           seen_file file out old new before after kernel e d rest text
-              (later (λ files. map.get files file ≡ Some text) (KeepLeaves keep.Ok out bytes) old mid new kept codes.1),
+              (till_the_last (λ files. map.get files file ≡ Some text) old mid new (just_told (KeepLeaves keep.Ok out bytes) mid new kept) codes.1),
           inr (made.0, made.1, refl),
         ),
         (

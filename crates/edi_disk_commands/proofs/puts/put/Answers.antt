@@ -3,7 +3,7 @@ use Rattle.edi_words.specs.Words.{put}
 use Rattle.edi_statuses.specs.Outside.{still_told}
 use Rattle.edi_steps.specs.OnFiles.{files_only}
 use Rattle.edi_disk_commands.specs.OnDisk.{MeansOnDisk}
-use Rattle.edi_disk_commands.proofs.Meant.{itself}
+use Rattle.edi_statuses.proofs.Told.{itself}
 use Rattle.edi_disk_commands.proofs.PutMeans.{fetch_stopped, has_put, not_fit, not_put}
 use Rattle.edi_disk_commands.proofs.puts.put.Goals as goal
 

@@ -3,7 +3,7 @@ use Rattle.std.proofs.Math.Seq.{take-append_seam}
 use Rattle.edi_words.specs.Words.{get}
 use Rattle.edi_disk_commands.specs.OnDisk.{IsOfDisk, MeansOnDisk}
 use Rattle.edi_disk_commands.specs.OnDrive.{status_kept}
-use Rattle.edi_disk_commands.proofs.Meant.{itself}
+use Rattle.edi_statuses.proofs.Told.{itself}
 use Rattle.edi_disk_commands.proofs.GetMeans.{has_read, kept_drive, kept_failed, kept_of_disk, not_read, read_of_disk}
 use Rattle.edi_disk_commands.proofs.reads.get.Goals as goal
 

@@ -9,7 +9,7 @@ use Rattle.edi_catalog.specs.InSlots.{SlotsAnswer, free_in, no_room}
 use Rattle.edi_catalog.specs.Storing.{slots_stored}
 use Rattle.edi_catalog.specs.declared.ends.CatEnd.TheVariants as cat
 use Rattle.edi_disk_commands.specs.OnDrive.{StoresOver}
-use Rattle.edi_disk_commands.proofs.Meant.{told_so}
+use Rattle.edi_statuses.proofs.Told.{told_so}
 use Rattle.edi_disk_commands.proofs.Over.{Stores, counts_stay, if_so, other_answer, protection, released_then, stored_over, told_both}
 use Rattle.edi_disk_commands.proofs.storing.store_over.Goals as goal
 

@@ -1,7 +1,7 @@
 use Rattle.std.proofs.Common.{sym, subst, Err}
-use Rattle.edi_run_commands.specs.Loaded.{LoadStep}
-use Rattle.edi_run_commands.proofs.OfCodeFiles.{load_stops}
-use Rattle.edi_run_commands.proofs.codefile.load_code.Goals as goal
+use Rattle.edi_steps.specs.Loaded.{LoadStep}
+use Rattle.edi_steps.proofs.LoadedFiles.{load_stops}
+use Rattle.edi_steps.proofs.loading.load_code.Goals as goal
 
 pub returns-in-Err : goal.returns-in-Err
 returns-in-Err c = record {

@@ -1,4 +1,4 @@
--- Words of contracts. What loading a code file answers, by the step of `exec`.
+-- Words of contracts. What loading a code file answers, by the step of commands.
 use Rattle.std.specs.Prelude.{ℕ, List, Result, Ok, Err, ⊤}
 use Rattle.edi_target.specs.declared.code_fault.CodeFault.{CodeFault}
 use Rattle.edi_target.specs.declared.code_fault.CodeFault.TheVariants.{NoMemory}

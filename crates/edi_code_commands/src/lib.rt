@@ -1,0 +1,7 @@
+//! The command on a code that is not run: `list CODEFILE`.
+#![tactic(auto)]
+
+mod lists;
+mod loading;
+
+pub use lists::list;

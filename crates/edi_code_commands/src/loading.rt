@@ -1,0 +1,48 @@
+//! From a file with a code to its listing.
+
+ghost use Rattle.std.specs.Prelude.{◌≡◌, ◌≤◌, IfErr};
+ghost use Rattle.edi_told.specs.Faults.{CountRose};
+ghost use Rattle.edi_told.specs.Told.{WhereTold};
+ghost use Rattle.edi_statuses.specs.Outside.{still_told};
+ghost use Rattle.edi_steps.specs.OnFiles.{files_only};
+ghost use Rattle.edi_code_commands.specs.CodeCommands.{ListsBytes, ListsFile};
+
+use edi_host::Files;
+use edi_statuses::Status;
+use edi_steps::{fetch, load_code};
+use edi_utils::listing;
+use std::alloc::Global;
+
+/// As many bytes as decide what a code file is.
+const LIMIT: usize = 8_388_641;
+
+/// The listing of the code of a code file, or why the command stops there.
+fn listing_of_bytes(alloc: Global, bytes: &[u8]) -> Result<Vec<u8>, Status>
+    ensures lists { ListsBytes (λ text. text.items) bytes.now result }
+{
+    let code = match load_code(alloc, bytes) {
+        Ok(code) => code,
+        Err(status) => return Err(status),
+    };
+    match listing(alloc, &code) {
+        Ok(text) => Ok(text),
+        Err(_) => Err(Status::NoMemory),
+    }
+}
+
+/// The listing of the code in a file, or why the command stops there.
+pub(crate) fn listing_of_file<F: Files>(
+    alloc: Global,
+    files: &mut F,
+    file: &str,
+) -> Result<Vec<u8>, Status>
+    ensures lists { ListsFile (λ text. text.items) (files_only (still_told (F.contents files.old) (F.contents files.new))) file.now result }
+    ensures unchanged { WhereTold (F.contents files.old) (F.contents files.new) (λ old new. new ≡ old) }
+    ensures later { F.faults files.old ≤ F.faults files.new }
+    ensures cause { IfErr result (λ s. s ≡ Status.FileFault → CountRose (F.faults files.old) (F.faults files.new)) }
+{
+    match fetch(alloc, files, file, LIMIT) {
+        Ok(bytes) => listing_of_bytes(alloc, &bytes),
+        Err(status) => Err(status),
+    }
+}
