@@ -20,10 +20,10 @@ module _ (bound : ℕ) (choices : Choices) where
       (chain.0, chain.1, chain.2, chain_on (Goes bound choices chain.0) n now next chain.3 mode row)
 
   -- the same lines by another row of the first
-  pub chain_by : (Row Row' : Next → Type 0) → ((next : Next) → Row next → Row' next) → (n : ℕ) (next : Next) → Chain bound choices Row n next
-      → Chain bound choices Row' n next
-  chain_by Row Row' to_row zero next chain = to_row next chain
-  chain_by Row Row' to_row (suc n) next chain = (chain.0, to_row (goes chain.0) chain.1, chain.2, chain.3)
+  pub chain_by : (Row Other : Next → Type 0) → ((next : Next) → Row next → Other next) → (n : ℕ) (next : Next) → Chain bound choices Row n next
+      → Chain bound choices Other n next
+  chain_by Row Other to_row zero next chain = to_row next chain
+  chain_by Row Other to_row (suc n) next chain = (chain.0, to_row (goes chain.0) chain.1, chain.2, chain.3)
 
   -- the last line of a chain, and those before it
   pub comes_of : (n : ℕ) (s : Shell) (next : Next) → Chain bound choices (Goes bound choices s) n next

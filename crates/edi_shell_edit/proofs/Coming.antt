@@ -41,24 +41,24 @@ module _ (bound : ℕ) (choices : Choices) {C : Type 0} (at : C → State → �
   -- ---- what lines come to
 
   -- the last line stops the session
-  stops_come : (Row Row' : Next → Type 0) (e : SessionEnd) (now s : Shell) (taken drawn : ℕ) (n : ℕ) (c : C)
-      → ((next : Next) → Row next → Chain bound choices Row' n next) → now.drawn ≡ drawn → EditingStops at stands e Row now c
-      → LinesCome bound choices at stands Row' (Err e) s taken drawn c
-  stops_come Row Row' end.Halted now s taken drawn n c chain d h = absurd h
-  stops_come Row Row' end.InputEnd now s taken drawn n c chain d h =
+  stops_come : (Row : Next → Type 0) (e : SessionEnd) (Other : Next → Type 0) (now s : Shell) (taken drawn : ℕ) (n : ℕ) (c : C)
+      → ((next : Next) → Row next → Chain bound choices Other n next) → now.drawn ≡ drawn → EditingStops at stands e Row now c
+      → LinesCome bound choices at stands Other (Err e) s taken drawn c
+  stops_come Row end.Halted Other now s taken drawn n c chain d h = absurd h
+  stops_come Row end.InputEnd Other now s taken drawn n c chain d h =
       record { last = h.last; lines_ = n; comes = chain _ h.row; drawn_is = h.drawn_is ∙ d; at_ = h.at_ }
-  stops_come Row Row' end.Limit now s taken drawn n c chain d h =
+  stops_come Row end.Limit Other now s taken drawn n c chain d h =
       record { last = h.last; lines_ = n; comes = chain _ h.row; drawn_is = h.drawn_is ∙ d; at_ = h.at_ }
-  stops_come Row Row' end.DriveFault now s taken drawn n c chain d h = record { next = h.next; lines_ = n; comes = chain h.next h.row; in_ = h.in_ }
-  stops_come Row Row' end.InputFault now s taken drawn n c chain d h = record { next = h.next; lines_ = n; comes = chain h.next h.row; in_ = h.in_ }
-  stops_come Row Row' end.TerminalFault now s taken drawn n c chain d h = record { next = h.next; lines_ = n; comes = chain h.next h.row; in_ = h.in_ }
-  stops_come Row Row' end.PrinterFault now s taken drawn n c chain d h = record { next = h.next; lines_ = n; comes = chain h.next h.row; in_ = h.in_ }
+  stops_come Row end.DriveFault Other now s taken drawn n c chain d h = record { next = h.next; lines_ = n; comes = chain h.next h.row; in_ = h.in_ }
+  stops_come Row end.InputFault Other now s taken drawn n c chain d h = record { next = h.next; lines_ = n; comes = chain h.next h.row; in_ = h.in_ }
+  stops_come Row end.TerminalFault Other now s taken drawn n c chain d h = record { next = h.next; lines_ = n; comes = chain h.next h.row; in_ = h.in_ }
+  stops_come Row end.PrinterFault Other now s taken drawn n c chain d h = record { next = h.next; lines_ = n; comes = chain h.next h.row; in_ = h.in_ }
 
   -- another row leads to the same lines
-  pub comes_by : (Row Row' : Next → Type 0) (result : Result (Unit {0}) SessionEnd) (s s' : Shell) (taken drawn : ℕ) (c : C)
-      → ((n : ℕ) (next : Next) → Chain bound choices Row n next → (m : ℕ) × Chain bound choices Row' m next) → s.shown_before ≡ s'.shown_before
-      → LinesCome bound choices at stands Row result s taken drawn c → LinesCome bound choices at stands Row' result s' taken drawn c
-  comes_by Row Row' (Ok x) s s' taken drawn c chain before h =
+  pub comes_by : (Row Other : Next → Type 0) (result : Result (Unit {0}) SessionEnd) (s s' : Shell) (taken drawn : ℕ) (c : C)
+      → ((n : ℕ) (next : Next) → Chain bound choices Row n next → (m : ℕ) × Chain bound choices Other m next) → s.shown_before ≡ s'.shown_before
+      → LinesCome bound choices at stands Row result s taken drawn c → LinesCome bound choices at stands Other result s' taken drawn c
+  comes_by Row Other (Ok x) s s' taken drawn c chain before h =
       let on = chain h.lines_ (goes h.after) h.comes in
       record {
         after = h.after;
@@ -70,25 +70,25 @@ module _ (bound : ℕ) (choices : Choices) {C : Type 0} (at : C → State → �
         drawn_is = h.drawn_is;
         at_ = h.at_;
       }
-  comes_by Row Row' (Err end.Halted) s s' taken drawn c chain before h =
+  comes_by Row Other (Err end.Halted) s s' taken drawn c chain before h =
       let on = chain h.lines_ _ h.comes in record { last = h.last; lines_ = on.0; comes = on.1; drawn_is = h.drawn_is; at_ = h.at_ }
-  comes_by Row Row' (Err end.InputEnd) s s' taken drawn c chain before h =
+  comes_by Row Other (Err end.InputEnd) s s' taken drawn c chain before h =
       let on = chain h.lines_ _ h.comes in record { last = h.last; lines_ = on.0; comes = on.1; drawn_is = h.drawn_is; at_ = h.at_ }
-  comes_by Row Row' (Err end.Limit) s s' taken drawn c chain before h =
+  comes_by Row Other (Err end.Limit) s s' taken drawn c chain before h =
       let on = chain h.lines_ _ h.comes in record { last = h.last; lines_ = on.0; comes = on.1; drawn_is = h.drawn_is; at_ = h.at_ }
-  comes_by Row Row' (Err end.DriveFault) s s' taken drawn c chain before h =
+  comes_by Row Other (Err end.DriveFault) s s' taken drawn c chain before h =
       let on = chain h.lines_ h.next h.comes in record { next = h.next; lines_ = on.0; comes = on.1; in_ = h.in_ }
-  comes_by Row Row' (Err end.InputFault) s s' taken drawn c chain before h =
+  comes_by Row Other (Err end.InputFault) s s' taken drawn c chain before h =
       let on = chain h.lines_ h.next h.comes in record { next = h.next; lines_ = on.0; comes = on.1; in_ = h.in_ }
-  comes_by Row Row' (Err end.TerminalFault) s s' taken drawn c chain before h =
+  comes_by Row Other (Err end.TerminalFault) s s' taken drawn c chain before h =
       let on = chain h.lines_ h.next h.comes in record { next = h.next; lines_ = on.0; comes = on.1; in_ = h.in_ }
-  comes_by Row Row' (Err end.PrinterFault) s s' taken drawn c chain before h =
+  comes_by Row Other (Err end.PrinterFault) s s' taken drawn c chain before h =
       let on = chain h.lines_ h.next h.comes in record { next = h.next; lines_ = on.0; comes = on.1; in_ = h.in_ }
 
   -- an object failed at the first line
   pub broke_comes : (Row : Next → Type 0) (e : SessionEnd) (s : Shell) (taken : ℕ) (c : C) → IsFault e → EditingBreaks at stands Row c
       → LinesCome bound choices at stands Row (Err e) s taken s.drawn c
-  broke_comes Row e s taken c fault b = stops_come Row Row e s s taken s.drawn zero c (λ next row. row) refl (broke at stands Row e s c fault b)
+  broke_comes Row e s taken c fault b = stops_come Row e Row s s taken s.drawn zero c (λ next row. row) refl (broke at stands Row e s c fault b)
 
   -- ---- the lines of an editing
 
@@ -137,7 +137,7 @@ module _ (bound : ℕ) (choices : Choices) {C : Type 0} (at : C → State → �
       → (u : Underway bound choices at s first title text b) → EditingStops at stands e (Goes bound choices u.now) u.now c
       → LinesCome bound choices at stands (Goes bound choices s) (Err e) s second s.drawn c
   is_stopped s first second title text e b c u h =
-      stops_come (Goes bound choices u.now) (Goes bound choices s) e u.now s second s.drawn u.lines_ c
+      stops_come (Goes bound choices u.now) e (Goes bound choices s) u.now s second s.drawn u.lines_ c
       u.comes u.behind.drawn_is h
 
   -- ---- its beginning

@@ -50,25 +50,25 @@ module _ {C : Type 0} (at : C → State → ℕ → Type 0) (stands : C → Stat
   taking_stops taken P end.PrinterFault s c on drawn h = breaks_taking taken P c on h
 
   -- the same line by another row, from another shell
-  stops_by : (Row Row' : Next → Type 0) (e : SessionEnd) (t s : Shell) (c : C) → ((next : Next) → Row next → Row' next) → t.drawn ≡ s.drawn
-      → EditingStops at stands e Row t c → EditingStops at stands e Row' s c
-  stops_by Row Row' end.Halted t s c to_row drawn h = h
-  stops_by Row Row' end.InputEnd t s c to_row drawn h = record { last = h.last; row = to_row _ h.row; drawn_is = h.drawn_is ∙ drawn; at_ = h.at_ }
-  stops_by Row Row' end.Limit t s c to_row drawn h = record { last = h.last; row = to_row _ h.row; drawn_is = h.drawn_is ∙ drawn; at_ = h.at_ }
-  stops_by Row Row' end.DriveFault t s c to_row drawn h = record { next = h.next; row = to_row h.next h.row; in_ = h.in_ }
-  stops_by Row Row' end.InputFault t s c to_row drawn h = record { next = h.next; row = to_row h.next h.row; in_ = h.in_ }
-  stops_by Row Row' end.TerminalFault t s c to_row drawn h = record { next = h.next; row = to_row h.next h.row; in_ = h.in_ }
-  stops_by Row Row' end.PrinterFault t s c to_row drawn h = record { next = h.next; row = to_row h.next h.row; in_ = h.in_ }
+  stops_by : (Row Other : Next → Type 0) (e : SessionEnd) (t s : Shell) (c : C) → ((next : Next) → Row next → Other next) → t.drawn ≡ s.drawn
+      → EditingStops at stands e Row t c → EditingStops at stands e Other s c
+  stops_by Row Other end.Halted t s c to_row drawn h = h
+  stops_by Row Other end.InputEnd t s c to_row drawn h = record { last = h.last; row = to_row _ h.row; drawn_is = h.drawn_is ∙ drawn; at_ = h.at_ }
+  stops_by Row Other end.Limit t s c to_row drawn h = record { last = h.last; row = to_row _ h.row; drawn_is = h.drawn_is ∙ drawn; at_ = h.at_ }
+  stops_by Row Other end.DriveFault t s c to_row drawn h = record { next = h.next; row = to_row h.next h.row; in_ = h.in_ }
+  stops_by Row Other end.InputFault t s c to_row drawn h = record { next = h.next; row = to_row h.next h.row; in_ = h.in_ }
+  stops_by Row Other end.TerminalFault t s c to_row drawn h = record { next = h.next; row = to_row h.next h.row; in_ = h.in_ }
+  stops_by Row Other end.PrinterFault t s c to_row drawn h = record { next = h.next; row = to_row h.next h.row; in_ = h.in_ }
 
   follows_by : (t s after : Shell) (count : ℕ) → TakingKeeps s t → IsBehindLine t count after → IsBehindLine s count after
   follows_by t s after count k f =
       record { taken_is = f.taken_is; drawn_is = f.drawn_is ∙ k.drawn_is; before_is = f.before_is ∙ k.before_is }
 
-  edits_by : (Row Row' : Next → Type 0) (result : Result Bool SessionEnd) (t s : Shell) (count : ℕ) (title : List ℕ) (e : Editing) (c : C)
-      → ((next : Next) → Row next → Row' next) → TakingKeeps s t → Edits at stands result Row t count title e c → Edits at stands result Row' s count title e c
-  edits_by Row Row' (Ok true) t s count title e c to_row k h = (h.0, to_row _ h.1, follows_by t s h.0 count k h.2, h.3)
-  edits_by Row Row' (Ok false) t s count title e c to_row k h = (h.0, to_row _ h.1, follows_by t s h.0 count k h.2, h.3)
-  edits_by Row Row' (Err why) t s count title e c to_row k h = stops_by Row Row' why t s c to_row k.drawn_is h
+  edits_by : (Row Other : Next → Type 0) (result : Result Bool SessionEnd) (t s : Shell) (count : ℕ) (title : List ℕ) (e : Editing) (c : C)
+      → ((next : Next) → Row next → Other next) → TakingKeeps s t → Edits at stands result Row t count title e c → Edits at stands result Other s count title e c
+  edits_by Row Other (Ok true) t s count title e c to_row k h = (h.0, to_row _ h.1, follows_by t s h.0 count k h.2, h.3)
+  edits_by Row Other (Ok false) t s count title e c to_row k h = (h.0, to_row _ h.1, follows_by t s h.0 count k h.2, h.3)
+  edits_by Row Other (Err why) t s count title e c to_row k h = stops_by Row Other why t s c to_row k.drawn_is h
 
   -- A line was taken, and what is done with it is done.
   pub taking_edits : (P : List ℕ → Shell → Next → Type 0) (taken : Taken) (kept : List ℕ) (count later : ℕ) (result : Result Bool SessionEnd) (s : Shell)
