@@ -1,0 +1,6 @@
+pub mod Onward
+pub mod Kept
+pub mod Commands
+pub mod Prompted
+pub mod Sessions
+pub mod OnSystem

@@ -1,0 +1,82 @@
+-- Words of contracts. How a session ends, and where the object stands then.
+use Rattle.std.specs.Prelude.{◌≡◌, ℕ, Bool, true, false}
+use Rattle.edi_calls.specs.Choice.{Choices}
+use Rattle.edi_calls.specs.State.{State, fresh}
+use Rattle.edi_session.specs.declared.end.SessionEnd.{SessionEnd}
+use Rattle.edi_session.specs.declared.end.SessionEnd.TheVariants as end
+use Rattle.edi_session.specs.Session.{closes, ComesTo, Goes, IsMomentOfSession, Session}
+use Rattle.edi_session.specs.Shell.{Shell, commanding}
+use Rattle.edi_shell_calls.specs.Standing.{At}
+
+-- a command line is awaited; so many bytes have been taken and choices drawn
+pub record Awaits {C : Type 0} (at : C → State → ℕ → Type 0) (s : Shell) (taken drawn : ℕ) (c : C) : Type 0 where
+  pub mode_is : s.mode ≡ commanding
+  pub taken_is : s.taken ≡ taken
+  pub drawn_is : s.drawn ≡ drawn
+  pub at_ : At at c s
+
+-- a session has ended by the fault of an object
+abbrev pub ends_by_fault : SessionEnd → Bool
+ends_by_fault end.Halted = false
+ends_by_fault end.InputEnd = false
+ends_by_fault end.Limit = false
+ends_by_fault end.DriveFault = true
+ends_by_fault end.InputFault = true
+ends_by_fault end.TerminalFault = true
+ends_by_fault end.PrinterFault = true
+
+module _ (bound : ℕ) (choices : Choices) {C : Type 0} (at : C → State → ℕ → Type 0) (stands : C → State → Type 0) where
+  -- the session from this shell has ended so, and so many choices are drawn
+  pub record SessionHasEnded (start : Shell) (how : SessionEnd) (drawn : ℕ) (c : C) : Type 0 where
+    pub after : Shell
+    pub session : Session bound choices start how after
+    pub drawn_is : after.drawn ≡ drawn
+    pub at_ : At at c after
+
+  -- it is to end so: the fresh-line rule is still to be applied
+  pub record SessionIsToEnd (start : Shell) (how : SessionEnd) (drawn : ℕ) (c : C) : Type 0 where
+    pub lines_ : ℕ
+    pub before : Shell
+    pub comes : ComesTo bound choices lines_ start before
+    pub last : Shell
+    pub goes_ : Goes bound choices before (closes how last)
+    pub drawn_is : last.drawn ≡ drawn
+    pub at_ : At at c last
+
+  -- an object has failed, and the object stands at a state through which the session comes
+  pub record SessionHasFailed (start : Shell) (c : C) : Type 0 where
+    pub moment : State
+    pub comes : IsMomentOfSession bound choices start moment
+    pub is : stands c moment
+
+  -- HOW A SESSION ENDS
+  abbrev pub SessionEnds : (start : Shell) → SessionEnd → (drawn : ℕ) → C → Type 0
+  SessionEnds start end.Halted drawn c = SessionHasEnded start end.Halted drawn c
+  SessionEnds start end.InputEnd drawn c = SessionHasEnded start end.InputEnd drawn c
+  SessionEnds start end.Limit drawn c = SessionHasEnded start end.Limit drawn c
+  SessionEnds start end.DriveFault drawn c = SessionHasFailed start c
+  SessionEnds start end.InputFault drawn c = SessionHasFailed start c
+  SessionEnds start end.TerminalFault drawn c = SessionHasFailed start c
+  SessionEnds start end.PrinterFault drawn c = SessionHasFailed start c
+
+  -- how it stops, before the fresh-line rule is applied
+  abbrev pub SessionStops : (start : Shell) → SessionEnd → (drawn : ℕ) → C → Type 0
+  SessionStops start end.Halted drawn c = SessionIsToEnd start end.Halted drawn c
+  SessionStops start end.InputEnd drawn c = SessionIsToEnd start end.InputEnd drawn c
+  SessionStops start end.Limit drawn c = SessionIsToEnd start end.Limit drawn c
+  SessionStops start end.DriveFault drawn c = SessionHasFailed start c
+  SessionStops start end.InputFault drawn c = SessionHasFailed start c
+  SessionStops start end.TerminalFault drawn c = SessionHasFailed start c
+  SessionStops start end.PrinterFault drawn c = SessionHasFailed start c
+
+-- a state has what another has, but for the files that a program has open
+abbrev pub IsFreshly : (now state : State) → Type 0
+IsFreshly now state = fresh now ≡ fresh state
+
+-- the same of one with so many bytes shown before the session
+abbrev pub IsFreshlySince : (now state : State) → (shown_before : ℕ) → Type 0
+IsFreshlySince now state shown_before = IsFreshly now state
+
+-- the state has what a session leaves that ends so, or what a state has through which it comes
+abbrev pub SessionLeaves : (bound : ℕ) → Choices → (start : Shell) → SessionEnd → (drawn : ℕ) → (now : State) → Type 0
+SessionLeaves bound choices start how drawn now = SessionEnds bound choices IsFreshlySince IsFreshly start how drawn now

@@ -1,0 +1,63 @@
+//! What a command does.
+
+ghost use Rattle.std.specs.Prelude.{◌≡◌, ◌≤◌, ◌<◌, ◌+◌, ◌^◌, length};
+ghost use Rattle.edi_calls.specs.State.{most_bytes};
+ghost use Rattle.edi_session.specs.Session.{Acts};
+ghost use Rattle.edi_session.specs.Shell.{Shell};
+ghost use Rattle.edi_shell.specs.Taking.{IsLeftSo};
+ghost use Rattle.edi_shell_edit.specs.Chain.{LinesCome};
+ghost use Rattle.edi_shell_sessions.specs.Ends.{Awaits};
+
+use edi_kernel::Kernel;
+use edi_session::{Line, SessionEnd};
+use edi_shell::{
+    LIMIT, copy_file, delete_file, enter_file, execute_file, list_files, print_file, protect_file,
+    release_file, rename_file, show_file,
+};
+use edi_shell_calls::ShellCalls;
+use edi_shell_compile::compile_file;
+use edi_shell_edit::edit_file;
+use edi_trace::Choices;
+use std::alloc::Global;
+
+/// What a command does, with the further lines that it takes.
+pub(crate) fn act<C: ShellCalls>(
+    alloc: Global,
+    calls: &mut C,
+    taken: &mut u32,
+    line: Line,
+    kernel: &mut Kernel,
+    room: &mut [u8],
+    bound: u64,
+    choices: &mut Choices,
+) -> Result<(), SessionEnd>
+    requires ready { C.ready calls.old }
+    requires limit { taken.old ≤ LIMIT }
+    requires room { most_bytes ≤ length room.old }
+    ensures exact { choices.old.drawn + bound < 2 ^ 64 → (s : Shell) → Awaits C.at s taken.old choices.old.drawn calls.old → C.tells calls.new →
+        LinesCome bound choices.old.source C.at C.stands (Acts bound choices.old.source line s) result s taken.new choices.new.drawn calls.new }
+    ensures source { choices.new.source ≡ choices.old.source }
+    ensures drawn { choices.new.drawn ≤ choices.old.drawn + bound }
+    ensures left { IsLeftSo C.ready C.failed result calls.new }
+    ensures limit { taken.new ≤ LIMIT }
+    ensures later { taken.old ≤ taken.new }
+    ensures lasts { C.lasts calls.old calls.new }
+{
+    match line {
+        Line::Blank => Ok(()),
+        Line::Bad => calls.show(b"bad command\n"),
+        Line::Catalogue => list_files(calls),
+        Line::Show(f) => show_file(calls, &f, room),
+        Line::Print(f) => print_file(calls, &f, room),
+        Line::Enter(f) => enter_file(calls, taken, &f, room),
+        Line::Copy(f, g) => copy_file(calls, &f, &g, room),
+        Line::Rename(f, g) => rename_file(calls, &f, &g),
+        Line::Delete(f) => delete_file(calls, &f),
+        Line::Protect(f) => protect_file(calls, &f),
+        Line::Release(f) => release_file(calls, &f),
+        Line::Compile(f, g) => compile_file(alloc, calls, &f, &g),
+        Line::Edit(f) => edit_file(alloc, calls, taken, &f, room),
+        Line::Halt => Err(SessionEnd::Halted),
+        Line::Execute(f) => execute_file(alloc, calls, &f, kernel, room, bound, choices),
+    }
+}
