@@ -9,8 +9,9 @@ ghost use Rattle.edi_disk_commands.specs.OnDisk.{IsOfDisk, MeansOnDisk};
 ghost use Rattle.edi_top.specs.Built.{built};
 ghost use Rattle.edi_statuses.specs.Outside.{lent, outside_of, Shows};
 ghost use Rattle.edi_statuses.specs.Counts.{counts_of, HasCause, NoneFalls};
-ghost use Rattle.edi_statuses.specs.Means.{does, uses_devices, uses_drive, Came, EndsWith};
+ghost use Rattle.edi_statuses.specs.Means.{does, uses_devices, uses_drive, uses_files, uses_input, Came, EndsWith};
 
+use edi_code_commands::list;
 use edi_disk_commands::{get, new_disk, new_disk_from, put};
 use edi_host::{Drive, Files, Sink, Source};
 use edi_kernel::Kernel;
@@ -41,6 +42,7 @@ fn new_by<F: Files, D: Drive>(
     ensures means { MeansOnDisk (newdisk blocks (option_map (λ name. name.now) old.entry)) result (F.contents files.old) (F.contents files.new)
         (D.contents drive.old) (D.contents drive.new) }
     ensures kind { IsOfDisk result }
+    ensures no_files { uses_files (newdisk blocks (option_map (λ name. name.now) old.entry)) ≡ false → files.new ≡ files.old }
     ensures later_files { F.faults files.old ≤ F.faults files.new }
     ensures later_drive { D.faults drive.old ≤ D.faults drive.new }
     ensures cause_files { result ≡ Status.FileFault → CountRose (F.faults files.old) (F.faults files.new) }
@@ -74,9 +76,9 @@ fn perform<F: Files, D: Drive, S: Source, T: Sink, P: Sink>(
     ensures later { NoneFalls
         (counts_of F.faults D.faults S.faults T.faults P.faults files.old drive.old input.old terminal.old printer.old)
         (counts_of F.faults D.faults S.faults T.faults P.faults files.new drive.new input.new terminal.new printer.new) }
-    ensures no_files { built (Some (view command.entry)) ≡ None → files.new ≡ files.old }
+    ensures no_files { does uses_files (built (Some (view command.entry))) ≡ false → files.new ≡ files.old }
     ensures no_drive { does uses_drive (built (Some (view command.entry))) ≡ false → drive.new ≡ drive.old }
-    ensures no_input { does uses_devices (built (Some (view command.entry))) ≡ false → input.new ≡ input.old }
+    ensures no_input { does uses_input (built (Some (view command.entry))) ≡ false → input.new ≡ input.old }
     ensures no_printer { does uses_devices (built (Some (view command.entry))) ≡ false → printer.new ≡ printer.old }
     ensures no_kernel { does uses_devices (built (Some (view command.entry))) ≡ false → kernel.new ≡ kernel.old }
 {
@@ -98,6 +100,7 @@ fn perform<F: Files, D: Drive, S: Source, T: Sink, P: Sink>(
         Command::NewDisk { blocks, old } => silent(new_by(alloc, files, drive, blocks, old)),
         Command::Put { file, title } => silent(put(alloc, files, drive, file, title)),
         Command::Get { title, file } => silent(get(alloc, files, drive, title, file)),
+        Command::List { file } => list(alloc, files, terminal, file),
         _ => silent(Status::Words),
     }
 }
@@ -123,9 +126,9 @@ fn obey<F: Files, D: Drive, S: Source, T: Sink, P: Sink>(
     ensures later { NoneFalls
         (counts_of F.faults D.faults S.faults T.faults P.faults files.old drive.old input.old terminal.old printer.old)
         (counts_of F.faults D.faults S.faults T.faults P.faults files.new drive.new input.new terminal.new printer.new) }
-    ensures no_files { built (command_of (map string_bytes words.now)) ≡ None → files.new ≡ files.old }
+    ensures no_files { does uses_files (built (command_of (map string_bytes words.now))) ≡ false → files.new ≡ files.old }
     ensures no_drive { does uses_drive (built (command_of (map string_bytes words.now))) ≡ false → drive.new ≡ drive.old }
-    ensures no_input { does uses_devices (built (command_of (map string_bytes words.now))) ≡ false → input.new ≡ input.old }
+    ensures no_input { does uses_input (built (command_of (map string_bytes words.now))) ≡ false → input.new ≡ input.old }
     ensures no_printer { does uses_devices (built (command_of (map string_bytes words.now))) ≡ false → printer.new ≡ printer.old }
     ensures no_kernel { does uses_devices (built (command_of (map string_bytes words.now))) ≡ false → kernel.new ≡ kernel.old }
 {
@@ -140,7 +143,8 @@ fn obey<F: Files, D: Drive, S: Source, T: Sink, P: Sink>(
 
 /// Does what the words say, which are those after the program's name, and answers how it ended.
 ///
-/// The line of the status is shown on the terminal, except for `Ok`, which has none, and `OutputFault`, where it could not be shown.
+/// The line of the status is shown on the terminal. `Ok` has none, and neither has `OutputFault`: there the output of the command, or
+/// the line itself, could not be shown.
 pub fn edison<F: Files, D: Drive, S: Source, T: Sink, P: Sink>(
     alloc: Global,
     words: &[String],
@@ -177,9 +181,9 @@ pub fn edison<F: Files, D: Drive, S: Source, T: Sink, P: Sink>(
     ensures later_printer { P.faults printer.old ≤ P.faults printer.new }
 
     // Objects that a command has no use for are not touched, whatever they tell; words that are refused touch none.
-    ensures no_files { built (command_of (map string_bytes words.now)) ≡ None → files.new ≡ files.old }
+    ensures no_files { does uses_files (built (command_of (map string_bytes words.now))) ≡ false → files.new ≡ files.old }
     ensures no_drive { does uses_drive (built (command_of (map string_bytes words.now))) ≡ false → drive.new ≡ drive.old }
-    ensures no_input { does uses_devices (built (command_of (map string_bytes words.now))) ≡ false → input.new ≡ input.old }
+    ensures no_input { does uses_input (built (command_of (map string_bytes words.now))) ≡ false → input.new ≡ input.old }
     ensures no_printer { does uses_devices (built (command_of (map string_bytes words.now))) ≡ false → printer.new ≡ printer.old }
     ensures no_kernel { does uses_devices (built (command_of (map string_bytes words.now))) ≡ false → kernel.new ≡ kernel.old }
 {

@@ -1,8 +1,9 @@
 use Rattle.std.proofs.Common.{false, Some, option_map, refl, rules}
 use Rattle.edi_words.specs.Words as words
 use Rattle.edi_words.specs.declared.commands.Command.TheVariants as command
+use Rattle.edi_statuses.specs.Outside.{kernel_of}
 use Rattle.edi_statuses.proofs.Silent.{on_files, refused}
-use Rattle.edi_top.proofs.Obeyed.{not_built, obeyed, on_disk}
+use Rattle.edi_top.proofs.Obeyed.{not_built, obeyed, obeyed_so, on_disk}
 use Rattle.edi_top.proofs.top.perform.Goals as goal
 
 pub returns-in-Compile-clause-came : goal.returns-in-Compile-clause-came
@@ -29,11 +30,21 @@ returns-in-Get-clause-came g c =
     c.in-Get.is c.silent-in-Get.ensures.status c.silent-in-Get.ensures.due
     (on_disk (words.get c.in-Get.title.now c.in-Get.file.now) c.get.result _ _ _ _ c.get.ensures.means)
 
+pub returns-in-List-clause-came : goal.returns-in-List-clause-came
+returns-in-List-clause-came g c =
+    obeyed_so c.args.command (command.List c.in-List.file) c.list.result.status c.list.result.due _ _ _ c.in-List.is
+    (c.list.ensures.came (g.D.Drive.contents c.args.drive.now) (g.S.Source.left c.args.input.now) (g.P.Sink.taken c.args.printer.now)
+    (kernel_of c.args.kernel.now.store c.args.kernel.now.used))
+
+pub returns-in-List-clause-cause : goal.returns-in-List-clause-cause
+returns-in-List-clause-cause g c =
+    c.list.ensures.cause (g.D.Drive.faults c.args.drive.now) (g.S.Source.faults c.args.input.now) (g.P.Sink.faults c.args.printer.now)
+
 pub returns-in_default : goal.returns-in_default
 returns-in_default g c = record {
   came = refused c.silent-in_default.result.status c.silent-in_default.result.due _ _ _ c.silent-in_default.ensures.status c.silent-in_default.ensures.due
       (not_built c.args.command c.in_default.not-Run c.in_default.not-Replay c.in_default.not-Exec c.in_default.not-Compile c.in_default.not-NewDisk
-      c.in_default.not-Put c.in_default.not-Get);
+      c.in_default.not-Put c.in_default.not-Get c.in_default.not-List);
   cause = search rules;
   later = search rules;
   no_files = λ e. refl;
