@@ -1,0 +1,17 @@
+//! Worked examples of the program `edison`, by its one call over the forms in memory. Each file has scripts, which `play` plays.
+#![tactic(auto)]
+
+#[cfg(test)]
+mod disks;
+#[cfg(test)]
+mod faults;
+#[cfg(test)]
+mod images;
+#[cfg(test)]
+mod play;
+#[cfg(test)]
+mod refused;
+#[cfg(test)]
+mod runs;
+#[cfg(test)]
+mod world;
