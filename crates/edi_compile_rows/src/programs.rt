@@ -1,9 +1,9 @@
 //! Programs that are compiled and run.
 
-use edi_memory::MemoryCalls;
 use edi_compile::compile;
 use edi_kernel::{Ending, Kernel};
 use edi_machine::Cause;
+use edi_memory::MemoryCalls;
 use edi_trace::Choices;
 use std::alloc::Global;
 use std::process::Abort;

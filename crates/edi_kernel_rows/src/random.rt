@@ -1,7 +1,7 @@
 //! Random words that are a code: each run of them ends.
 
-use edi_memory::MemoryCalls;
 use edi_kernel::{Ending, Kernel};
+use edi_memory::MemoryCalls;
 use edi_target::Code;
 use edi_trace::Choices;
 use std::alloc::{AllocError, Global};

@@ -2,9 +2,9 @@
 
 ghost use Rattle.std.specs.Prelude.{◌≤◌, ◌<◌, length};
 
-use edi_memory::MemoryCalls;
 use edi_kernel::{Ending, Kernel, StintEnd};
 use edi_machine::Cause;
+use edi_memory::MemoryCalls;
 use edi_target::Code;
 use edi_trace::Choices;
 use std::alloc::{AllocError, Global};

@@ -4,8 +4,8 @@ ghost use Rattle.std.specs.Prelude.{◌≡◌, None};
 ghost use Rattle.edi_memory.specs.MemoryCalls.{failed_of};
 ghost use Rattle.edi_machine.specs.Activities.{IsOrdered};
 
-use edi_memory::MemoryCalls;
 use edi_machine::{Activity, Cause, StepEnd, TurnKind, begin, branch, step};
+use edi_memory::MemoryCalls;
 use edi_store::{Segment, Store};
 use edi_target::Code;
 use std::alloc::Global;
