@@ -1,4 +1,7 @@
+pub mod Alone
 pub mod Blocks
+pub mod Coded
+pub mod Demonstrated
 pub mod Endings
 pub mod Exits
 pub mod Left

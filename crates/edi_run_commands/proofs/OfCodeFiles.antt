@@ -1,5 +1,5 @@
 -- A code file that is loaded, and its code that is run.
-use Rattle.std.proofs.Common.{◌≡◌, ℕ, Bool, false, List, Option, Some, Result, Ok, Err, refl, sym, subst}
+use Rattle.std.proofs.Common.{◌≡◌, ℕ, Bool, false, List, Option, Some, Ok, Err, refl, sym, subst}
 use Rattle.std.specs.Prelude.{⊤, take}
 use Rattle.edi_told.specs.Told.{WhereTold}
 use Rattle.edi_host.specs.Files.{Contents}

@@ -1,2 +1,3 @@
 pub mod CodeRan
+pub mod Demonstrated
 pub mod RunMeans

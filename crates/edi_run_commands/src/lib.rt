@@ -1,9 +1,11 @@
-//! The commands that run a program: `run` and `replay` that of a text, `exec` that of a code file.
+//! The commands that run a program: `run` and `replay` that of a text, `exec` that of a code file, `demo` that of the demonstration.
 #![tactic(auto)]
 
 mod code;
 mod codefile;
+mod demonstration;
 mod texts;
 
 pub use codefile::exec;
+pub use demonstration::demonstrate;
 pub use texts::{replay, run};

@@ -1,0 +1,64 @@
+-- The exits of `demo`.
+use Rattle.std.proofs.Common.{rules, ◌≡◌, ℕ, true, false, List, Option, subst}
+use Rattle.edi_host.specs.Files.{Contents}
+use Rattle.edi_words.specs.Words.{Options}
+use Rattle.edi_words.specs.View.{options_of}
+use Rattle.edi_statuses.specs.Outside.{KernelLeft, idle, kernel_of, lent}
+use Rattle.edi_statuses.specs.Showing.{ShowsBytes}
+use Rattle.edi_run_commands.specs.Demonstrated.{is_ok}
+use Rattle.edi_run_commands.proofs.Alone.{came_so, lined, of_demo, ran_alone, uncoded, unread}
+use Rattle.edi_run_commands.proofs.Coded.{line_is, ok_is}
+use Rattle.edi_run_commands.proofs.demonstration.demonstrate.Goals as goal
+
+pub returns-in-Err-clause-came : goal.returns-in-Err-clause-came
+returns-in-Err-clause-came g c =
+    let o : Options = options_of c.args.options in
+    let old : Option Contents = g.F.Files.contents c.args.files.now in
+    let mid : Option Contents = g.F.Files.contents c.read_from.new.files in
+    let taken : Option (List ℕ) = g.T.Sink.taken c.args.terminal.now in
+    let printed : Option (List ℕ) = g.P.Sink.taken c.args.printer.now in
+    let kernel : KernelLeft = kernel_of c.args.kernel.now.store c.args.kernel.now.used in
+    came_so c.args.n o c.in-Err.status c.stopped.result.status c.stopped.result.due old mid taken printed (idle kernel) c.stopped.ensures.told
+    c.stopped.ensures.due (unread c.args.n o old mid c.in-Err.ensures.unchanged taken printed kernel c.in-Err.status c.in-Err.ensures.reads)
+
+pub returns-in-Err-demo_code-clause-came : goal.returns-in-Err-demo_code-clause-came
+returns-in-Err-demo_code-clause-came g c =
+    let o : Options = options_of c.args.options in
+    let old : Option Contents = g.F.Files.contents c.args.files.now in
+    let mid : Option Contents = g.F.Files.contents c.read_from.new.files in
+    let taken : Option (List ℕ) = g.T.Sink.taken c.args.terminal.now in
+    let printed : Option (List ℕ) = g.P.Sink.taken c.args.printer.now in
+    let kernel : KernelLeft = kernel_of c.args.kernel.now.store c.args.kernel.now.used in
+    came_so c.args.n o c.in-Err-demo_code.status c.stopped-in-Err-demo_code.result.status c.stopped-in-Err-demo_code.result.due old mid taken printed
+    (idle kernel) c.stopped-in-Err-demo_code.ensures.told c.stopped-in-Err-demo_code.ensures.due
+    (uncoded c.args.n o old mid c.in-Ok.ensures.unchanged taken printed kernel c.in-Ok.choices.source c.in-Ok.ensures.reads.1 c.in-Err-demo_code.status
+    c.in-Err-demo_code.ensures.made)
+
+pub returns-then-not-is_ok-clause-came : goal.returns-then-not-is_ok-clause-came
+returns-then-not-is_ok-clause-came g c =
+    let m = c.in-Ok-demo_code.ensures.made in
+    let not_ok : is_ok c.run_alone-ended.result.status ≡ false = search rules in
+    ran_alone c.args.n (options_of c.args.options) (g.F.Files.contents c.args.files.now) (g.F.Files.contents c.read_from.new.files)
+    (g.F.Files.contents c.run_alone-ended.new.files) c.in-Ok.choices.source c.in-Ok.ensures.reads.1 c.in-Ok.ensures.unchanged c.run_alone-ended.ensures.tells
+    m.0 m.1 c.in-Ok-demo_code.made.code m.2 (g.T.Sink.taken c.args.terminal.now) (g.T.Sink.taken c.run_alone-ended.new.terminal)
+    (g.P.Sink.taken c.args.printer.now) (g.P.Sink.taken c.run_alone-ended.new.printer)
+    (lent c.args.kernel.now.store c.args.kernel.now.used c.run_alone-ended.new.kernel.store c.run_alone-ended.new.kernel.used) c.run_alone-ended.result.status
+    c.run_alone-ended.result.due c.run_alone-ended.ensures.ran (of_demo c.run_alone-ended.result.status _ _ _ _ _ _ c.run_alone-ended.ensures.cause) not_ok
+
+pub returns-clause-came : goal.returns-clause-came
+returns-clause-came g c =
+    let m = c.in-Ok-demo_code.ensures.made in
+    let r = c.run_alone-ended.ensures.ran in
+    let ok : is_ok c.run_alone-ended.result.status ≡ true = search rules in
+    let turns : c.turns_used.result ≡ c.run_alone-ended.new.kernel.used = search rules in
+    lined c.args.n (options_of c.args.options) (g.F.Files.contents c.args.files.now) (g.F.Files.contents c.read_from.new.files)
+    (g.F.Files.contents c.run_alone-ended.new.files) c.in-Ok.choices.source c.in-Ok.ensures.reads.1 c.in-Ok.ensures.unchanged c.run_alone-ended.ensures.tells
+    m.0 m.1 c.in-Ok-demo_code.made.code m.2 (g.T.Sink.taken c.args.terminal.now) (g.T.Sink.taken c.run_alone-ended.new.terminal)
+    (g.P.Sink.taken c.args.printer.now) (g.P.Sink.taken c.run_alone-ended.new.printer)
+    (lent c.args.kernel.now.store c.args.kernel.now.used c.run_alone-ended.new.kernel.store c.run_alone-ended.new.kernel.used) c.run_alone-ended.result.status
+    c.run_alone-ended.result.due r (ok_is c.run_alone-ended.result.status ok) (g.T.Sink.taken c.show_size.new.terminal) c.show_size.result
+    (subst (λ b. ShowsBytes b c.run_alone-ended.result.due c.show_size.result (g.T.Sink.taken c.run_alone-ended.new.terminal)
+    (g.T.Sink.taken c.show_size.new.terminal))
+    (line_is c.args.n c.in-Ok-demo_code.made.symbols c.turns_used.result c.run_alone-ended.new.kernel.used c.run_alone-ended.result.due r.ran.shown
+    r.ran.due_is m.3 turns)
+    c.show_size.ensures.shows)
