@@ -23,21 +23,21 @@ pub not_built : (c : commands.Command) → ((file : Bor Text) (o : Options) → 
     → ((file : Bor Text) (o : Options) → c ≡ command.Exec file o → ⊥) → ((file out : Bor Text) → c ≡ command.Compile file out → ⊥)
     → ((blocks : ℕ) (old : Option (Bor Text)) → c ≡ command.NewDisk blocks old → ⊥)
     → ((file title : Bor Text) → c ≡ command.Put file title → ⊥) → ((title file : Bor Text) → c ≡ command.Get title file → ⊥)
-    → ((file : Bor Text) → c ≡ command.List file → ⊥)
+    → ((file : Bor Text) → c ≡ command.List file → ⊥) → ((n : ℕ) (o : Options) → c ≡ command.Demo n o → ⊥)
     → built (Some (view c)) ≡ None
-not_built (command.Run file o) run replay exec compile new put get list = absurd (run file o refl)
-not_built (command.Replay file choices turns) run replay exec compile new put get list = absurd (replay file choices turns refl)
-not_built (command.Exec file o) run replay exec compile new put get list = absurd (exec file o refl)
-not_built (command.Compile file out) run replay exec compile new put get list = absurd (compile file out refl)
-not_built (command.NewDisk blocks old) run replay exec compile new put get list = absurd (new blocks old refl)
-not_built (command.Put file title) run replay exec compile new put get list = absurd (put file title refl)
-not_built (command.Get title file) run replay exec compile new put get list = absurd (get title file refl)
-not_built (command.Boot o) run replay exec compile new put get list = refl
-not_built (command.List file) run replay exec compile new put get list = absurd (list file refl)
-not_built (command.Demo n o) run replay exec compile new put get list = refl
-not_built (command.Check file) run replay exec compile new put get list = refl
-not_built (command.Walk file choices turns) run replay exec compile new put get list = refl
-not_built (command.Watch file stops out o) run replay exec compile new put get list = refl
+not_built (command.Run file o) run replay exec compile new put get list demo = absurd (run file o refl)
+not_built (command.Replay file choices turns) run replay exec compile new put get list demo = absurd (replay file choices turns refl)
+not_built (command.Exec file o) run replay exec compile new put get list demo = absurd (exec file o refl)
+not_built (command.Compile file out) run replay exec compile new put get list demo = absurd (compile file out refl)
+not_built (command.NewDisk blocks old) run replay exec compile new put get list demo = absurd (new blocks old refl)
+not_built (command.Put file title) run replay exec compile new put get list demo = absurd (put file title refl)
+not_built (command.Get title file) run replay exec compile new put get list demo = absurd (get title file refl)
+not_built (command.Boot o) run replay exec compile new put get list demo = refl
+not_built (command.List file) run replay exec compile new put get list demo = absurd (list file refl)
+not_built (command.Demo n o) run replay exec compile new put get list demo = absurd (demo n o refl)
+not_built (command.Check file) run replay exec compile new put get list demo = refl
+not_built (command.Walk file choices turns) run replay exec compile new put get list demo = refl
+not_built (command.Watch file stops out o) run replay exec compile new put get list demo = refl
 
 -- a command as the code has it
 pub obeyed_so : (c d : commands.Command) (s : Status) (due : Bool) (before after : Outside) (kernel : Lent) → c ≡ d

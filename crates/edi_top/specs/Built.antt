@@ -1,5 +1,6 @@
 -- Words of contracts. Which commands are there.
 use Rattle.std.specs.Prelude.{Bool, true, false, Option, Some, None, if◌then◌else◌}
+use Rattle.edi_statuses.specs.Means.{uses_files}
 use Rattle.edi_words.specs.Words as words
 use Rattle.edi_words.specs.Words.{Command}
 
@@ -14,7 +15,7 @@ is_built (words.newdisk blocks old) = true
 is_built (words.put file title) = true
 is_built (words.get title file) = true
 is_built (words.list file) = true
-is_built (words.demo n o) = false
+is_built (words.demo n o) = true
 is_built (words.check file) = false
 is_built (words.walk file choices turns) = false
 is_built (words.watch file points out o) = false
@@ -22,3 +23,9 @@ is_built (words.watch file points out o) = false
 abbrev pub built : Option Command → Option Command
 built None = None
 built (Some c) = if is_built c then Some c else None
+
+-- The files may be touched: by each command that uses them, and by every demonstration, since no clause says that one whose options
+-- name no file leaves them alone.
+abbrev pub may_use_files : Command → Bool
+may_use_files (words.demo n o) = true
+may_use_files c = uses_files c

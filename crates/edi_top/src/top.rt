@@ -6,7 +6,7 @@ ghost use Rattle.edi_told.specs.Faults.{CountRose};
 ghost use Rattle.edi_words.specs.Words.{command_of, newdisk};
 ghost use Rattle.edi_words.specs.View.{view, IsInRange};
 ghost use Rattle.edi_disk_commands.specs.OnDisk.{IsOfDisk, MeansOnDisk};
-ghost use Rattle.edi_top.specs.Built.{built};
+ghost use Rattle.edi_top.specs.Built.{built, may_use_files};
 ghost use Rattle.edi_statuses.specs.Outside.{lent, outside_of, Shows};
 ghost use Rattle.edi_statuses.specs.Counts.{counts_of, HasCause, NoneFalls};
 ghost use Rattle.edi_statuses.specs.Means.{does, uses_devices, uses_drive, uses_files, uses_input, Came, EndsWith};
@@ -15,7 +15,7 @@ use edi_code_commands::list;
 use edi_disk_commands::{get, new_disk, new_disk_from, put};
 use edi_host::{Drive, Files, Sink, Source};
 use edi_kernel::Kernel;
-use edi_run_commands::{exec, replay, run};
+use edi_run_commands::{demonstrate, exec, replay, run};
 use edi_statuses::{Ended, Status, show_status};
 use edi_text_commands::compile_file;
 use edi_words::{Command, command};
@@ -76,7 +76,7 @@ fn perform<F: Files, D: Drive, S: Source, T: Sink, P: Sink>(
     ensures later { NoneFalls
         (counts_of F.faults D.faults S.faults T.faults P.faults files.old drive.old input.old terminal.old printer.old)
         (counts_of F.faults D.faults S.faults T.faults P.faults files.new drive.new input.new terminal.new printer.new) }
-    ensures no_files { does uses_files (built (Some (view command.entry))) ≡ false → files.new ≡ files.old }
+    ensures no_files { does may_use_files (built (Some (view command.entry))) ≡ false → files.new ≡ files.old }
     ensures no_drive { does uses_drive (built (Some (view command.entry))) ≡ false → drive.new ≡ drive.old }
     ensures no_input { does uses_input (built (Some (view command.entry))) ≡ false → input.new ≡ input.old }
     ensures no_printer { does uses_devices (built (Some (view command.entry))) ≡ false → printer.new ≡ printer.old }
@@ -101,6 +101,15 @@ fn perform<F: Files, D: Drive, S: Source, T: Sink, P: Sink>(
         Command::Put { file, title } => silent(put(alloc, files, drive, file, title)),
         Command::Get { title, file } => silent(get(alloc, files, drive, title, file)),
         Command::List { file } => list(alloc, files, terminal, file),
+        Command::Demo { n, options } => demonstrate(
+            alloc,
+            u32::from(n),
+            options,
+            files,
+            terminal,
+            printer,
+            kernel,
+        ),
         _ => silent(Status::Words),
     }
 }
@@ -126,7 +135,7 @@ fn obey<F: Files, D: Drive, S: Source, T: Sink, P: Sink>(
     ensures later { NoneFalls
         (counts_of F.faults D.faults S.faults T.faults P.faults files.old drive.old input.old terminal.old printer.old)
         (counts_of F.faults D.faults S.faults T.faults P.faults files.new drive.new input.new terminal.new printer.new) }
-    ensures no_files { does uses_files (built (command_of (map string_bytes words.now))) ≡ false → files.new ≡ files.old }
+    ensures no_files { does may_use_files (built (command_of (map string_bytes words.now))) ≡ false → files.new ≡ files.old }
     ensures no_drive { does uses_drive (built (command_of (map string_bytes words.now))) ≡ false → drive.new ≡ drive.old }
     ensures no_input { does uses_input (built (command_of (map string_bytes words.now))) ≡ false → input.new ≡ input.old }
     ensures no_printer { does uses_devices (built (command_of (map string_bytes words.now))) ≡ false → printer.new ≡ printer.old }
@@ -181,7 +190,7 @@ pub fn edison<F: Files, D: Drive, S: Source, T: Sink, P: Sink>(
     ensures later_printer { P.faults printer.old ≤ P.faults printer.new }
 
     // Objects that a command has no use for are not touched, whatever they tell; words that are refused touch none.
-    ensures no_files { does uses_files (built (command_of (map string_bytes words.now))) ≡ false → files.new ≡ files.old }
+    ensures no_files { does may_use_files (built (command_of (map string_bytes words.now))) ≡ false → files.new ≡ files.old }
     ensures no_drive { does uses_drive (built (command_of (map string_bytes words.now))) ≡ false → drive.new ≡ drive.old }
     ensures no_input { does uses_input (built (command_of (map string_bytes words.now))) ≡ false → input.new ≡ input.old }
     ensures no_printer { does uses_devices (built (command_of (map string_bytes words.now))) ≡ false → printer.new ≡ printer.old }

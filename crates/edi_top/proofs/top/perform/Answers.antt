@@ -40,11 +40,19 @@ pub returns-in-List-clause-cause : goal.returns-in-List-clause-cause
 returns-in-List-clause-cause g c =
     c.list.ensures.cause (g.D.Drive.faults c.args.drive.now) (g.S.Source.faults c.args.input.now) (g.P.Sink.faults c.args.printer.now)
 
+pub returns-in-Demo-clause-came : goal.returns-in-Demo-clause-came
+returns-in-Demo-clause-came g c =
+    obeyed_so c.args.command (command.Demo c.in-Demo.n c.in-Demo.options) c.demonstrate.result.status c.demonstrate.result.due _ _ _ c.in-Demo.is
+    (c.demonstrate.ensures.came (g.D.Drive.contents c.args.drive.now) (g.S.Source.left c.args.input.now))
+
+pub returns-in-Demo-clause-cause : goal.returns-in-Demo-clause-cause
+returns-in-Demo-clause-cause g c = c.demonstrate.ensures.cause (g.D.Drive.faults c.args.drive.now) (g.S.Source.faults c.args.input.now)
+
 pub returns-in_default : goal.returns-in_default
 returns-in_default g c = record {
   came = refused c.silent-in_default.result.status c.silent-in_default.result.due _ _ _ c.silent-in_default.ensures.status c.silent-in_default.ensures.due
       (not_built c.args.command c.in_default.not-Run c.in_default.not-Replay c.in_default.not-Exec c.in_default.not-Compile c.in_default.not-NewDisk
-      c.in_default.not-Put c.in_default.not-Get c.in_default.not-List);
+      c.in_default.not-Put c.in_default.not-Get c.in_default.not-List c.in_default.not-Demo);
   cause = search rules;
   later = search rules;
   no_files = λ e. refl;
