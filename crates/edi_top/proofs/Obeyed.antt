@@ -6,7 +6,8 @@ use Rattle.edi_words.specs.Words.{Command, Text}
 use Rattle.edi_words.specs.declared.commands.Command as commands
 use Rattle.edi_words.specs.declared.commands.Command.TheVariants as command
 use Rattle.edi_words.specs.declared.commands.Options.{Options}
-use Rattle.edi_words.specs.View.{view}
+use Rattle.edi_words.specs.Words as words
+use Rattle.edi_words.specs.View.{options_of, view}
 use Rattle.edi_statuses.specs.declared.status.Status.{Status}
 use Rattle.edi_statuses.specs.Outside.{Outside, KernelLeft, Lent}
 use Rattle.edi_statuses.proofs.Silent.{idle, nothing_shown}
@@ -43,6 +44,14 @@ not_built (command.Watch file stops out o) run replay exec compile new put get l
 pub obeyed_so : (c d : commands.Command) (s : Status) (due : Bool) (before after : Outside) (kernel : Lent) → c ≡ d
     → Came s due (built (Some (view d))) before after kernel → Came s due (built (Some (view c))) before after kernel
 obeyed_so c d s due before after kernel is came = subst (λ x. Came s due (built (Some (view x))) before after kernel) (sym is) came
+
+-- so of a demonstration, whose number the code has in a wider form
+pub obeyed_demo : (c : commands.Command) (n m : ℕ) (o : Options) (s : Status) (due : Bool) (before after : Outside) (kernel : Lent)
+    → c ≡ command.Demo n o → m ≡ n → Came s due (Some (words.demo m (options_of o))) before after kernel
+    → Came s due (built (Some (view c))) before after kernel
+obeyed_demo c n m o s due before after kernel is same came =
+    obeyed_so c (command.Demo n o) s due before after kernel is
+    (subst (λ k. Came s due (Some (words.demo k (options_of o))) before after kernel) same came)
 
 -- so of one that shows nothing
 pub obeyed : (c d : commands.Command) (meant s : Status) (due : Bool) (before after : Outside) (kernel : Lent) → c ≡ d → s ≡ meant → due ≡ false

@@ -3,7 +3,7 @@ use Rattle.edi_words.specs.Words as words
 use Rattle.edi_words.specs.declared.commands.Command.TheVariants as command
 use Rattle.edi_statuses.specs.Outside.{kernel_of}
 use Rattle.edi_statuses.proofs.Silent.{on_files, refused}
-use Rattle.edi_top.proofs.Obeyed.{not_built, obeyed, obeyed_so, on_disk}
+use Rattle.edi_top.proofs.Obeyed.{not_built, obeyed, obeyed_demo, obeyed_so, on_disk}
 use Rattle.edi_top.proofs.top.perform.Goals as goal
 
 pub returns-in-Compile-clause-came : goal.returns-in-Compile-clause-came
@@ -42,8 +42,8 @@ returns-in-List-clause-cause g c =
 
 pub returns-in-Demo-clause-came : goal.returns-in-Demo-clause-came
 returns-in-Demo-clause-came g c =
-    obeyed_so c.args.command (command.Demo c.in-Demo.n c.in-Demo.options) c.demonstrate.result.status c.demonstrate.result.due _ _ _ c.in-Demo.is
-    (c.demonstrate.ensures.came (g.D.Drive.contents c.args.drive.now) (g.S.Source.left c.args.input.now))
+    obeyed_demo c.args.command c.in-Demo.n c.from.result c.in-Demo.options c.demonstrate.result.status c.demonstrate.result.due _ _ _ c.in-Demo.is
+    c.from.ensures (c.demonstrate.ensures.came (g.D.Drive.contents c.args.drive.now) (g.S.Source.left c.args.input.now))
 
 pub returns-in-Demo-clause-cause : goal.returns-in-Demo-clause-cause
 returns-in-Demo-clause-cause g c = c.demonstrate.ensures.cause (g.D.Drive.faults c.args.drive.now) (g.S.Source.faults c.args.input.now)
