@@ -135,6 +135,11 @@ call 4 exec c --turns 1 --record r
 shows a/turn limit/
 holds r
 
+call 0 list c
+shows       0 ENTRY 9 0 3 0 0/      6 CONST 97/      8 CALLP 0 5 1/     12 RETURN 0 0/
+call 12 list none
+shows absent/
+
 copy c
 at 3 02
 file version_2
@@ -146,12 +151,16 @@ at 0 ed1500010000000f000000000102
 file cut
 call 11 exec cut
 shows bad code short 31/
+call 11 list cut
+shows bad code short 31/
 
 bytes 63 0
 at 0 ed1500010000000f000000000102
 at 32 0021000900000003000000000001006100230000000500010025
 file over
 call 11 exec over
+shows bad code over 62/
+call 11 list over
 shows bad code over 62/
 
 copy c

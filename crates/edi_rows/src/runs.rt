@@ -331,6 +331,17 @@ shows edison
 input 0 edison
 call 0 run buffer --choices one
 shows edison
+
+call 0 demo 1
+shows demo 1 symbols 32 turns 11/
+call 0 demo 3
+shows demo 3 symbols 70 turns 23/
+call 0 demo 3 --seed 7
+shows demo 3 symbols 70 turns 23/
+call 0 demo 1000
+shows demo 1000 symbols 19013 turns 6005/
+call 4 demo 3 --turns 5
+shows turn limit/
 ";
 
 #[test]
