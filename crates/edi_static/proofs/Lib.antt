@@ -4,6 +4,7 @@ pub mod Proper
 pub mod Steps
 pub mod Behind
 pub mod Fields
+pub mod Spellings
 pub mod Lengths
 pub mod Needs
 pub mod Refusing

@@ -14,6 +14,7 @@ pub mod Answers
 pub mod Views
 pub mod Laws
 pub mod Written
+pub mod Spelled
 pub mod Accepted
 pub mod RefusedNames
 pub mod RefusedTypes

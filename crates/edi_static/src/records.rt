@@ -1,13 +1,12 @@
 //! The rules on the fields of records.
 
-ghost use Rattle.std.specs.Prelude.{◌≡◌, ◌<◌, ◌∷◌, ◌++◌, [], All, Err, IfOk, OnErr, OnOk, length, map};
-ghost use Rattle.std.specs.List.{list_any};
-ghost use Rattle.std.specs.Str.{bytes_eq};
+ghost use Rattle.std.specs.Prelude.{◌≡◌, ◌<◌, ◌∷◌, ◌++◌, not, [], All, Err, IfOk, OnErr, OnOk, length};
 ghost use Rattle.edi_tree.specs.Tree as text;
 ghost use Rattle.edi_tree.specs.View.{group_of, groups_of};
 ghost use Rattle.edi_unit.specs.Lists.{list_items};
 ghost use Rattle.edi_static.specs.Answers.{JudgedAnswers};
 ghost use Rattle.edi_static.specs.Proper.{Proper};
+ghost use Rattle.edi_static.specs.Spelled.{AreSpelled, HasJoined, has_spelling};
 ghost use Rattle.edi_static.specs.Types as spec;
 ghost use Rattle.edi_static.specs.Views.{environment};
 ghost use Rattle.edi_static.specs.Views as view;
@@ -17,24 +16,15 @@ use crate::known::{Known, add, fault, put};
 use edi_tree::{Group, Name, Record};
 use edi_unit::{List, Numbers};
 use std::alloc::Global;
+use std::collections::BTreeSet;
 
-/// The names of a record's fields, and their types.
+/// The names of a record's fields, and their types. The names are kept as a set too, in which each is looked up in logarithmic
+/// time, however many there are.
 #[derive(Drop)]
 pub(crate) struct Fields {
     pub(crate) names: Vec<Vec<u8>>,
     pub(crate) types: Numbers,
-}
-
-/// Whether a record has a field of this name.
-fn has_field(fields: &[Vec<u8>], name: &[u8]) -> bool
-    ensures exact { result ≡ list_any (bytes_eq name.now) (map (λ field. field.items) fields.now) }
-{
-    for field in fields {
-        if name == field.as_slice() {
-            return true;
-        }
-    }
-    false
+    spellings: BTreeSet<Vec<u8>>,
 }
 
 /// A copy of a name's spelling.
@@ -48,13 +38,32 @@ fn spelling(alloc: Global, name: &[u8]) -> Result<Vec<u8>, StaticFault>
     }
 }
 
+/// Puts a name's spelling into a set, and says whether it is new there.
+fn put_spelling(
+    spellings: &mut BTreeSet<Vec<u8>>,
+    alloc: Global,
+    name: &[u8],
+) -> Result<bool, StaticFault>
+    ensures exact { IfOk result (λ is_new. is_new ≡ not (has_spelling spellings.old name.now)) }
+    ensures joined { OnOk result (HasJoined name.now spellings.old spellings.new) }
+    ensures err { OnErr result (result ≡ Err StaticFault.NoMemory) }
+{
+    let copy = spelling(alloc, name)?;
+    let Ok(is_new) = spellings.insert(copy) else {
+        return Err(StaticFault::NoMemory);
+    };
+    Ok(is_new)
+}
+
 impl Fields {
     /// A field's name must be new in its record.
     fn add(&mut self, alloc: Global, name: &Name, of: u32) -> Result<(), StaticFault>
+        requires spelled { AreSpelled self.old }
         ensures exact { JudgedAnswers (λ _. view.fields_of self.new) result (spec.field_named of name.now (view.fields_of self.old)) }
         ensures types { OnOk result (list_items self.new.types ≡ list_items self.old.types ++ of ∷ []) }
+        ensures spelled { OnOk result (AreSpelled self.new) }
     {
-        if has_field(self.names.as_slice(), name.text.as_slice()) {
+        if !put_spelling(&mut self.spellings, alloc, name.text.as_slice())? {
             return fault(StaticKind::Ambiguous, name.line);
         }
         let copy = spelling(alloc, name.text.as_slice())?;
@@ -66,9 +75,11 @@ impl Fields {
     fn add_group(&mut self, known: &Known, alloc: Global, group: &Group) -> Result<(), StaticFault>
         requires proper { Proper (environment known.now) }
         requires known { All (λ t. t < length known.now.types) (list_items self.old.types) }
+        requires spelled { AreSpelled self.old }
         ensures exact { JudgedAnswers (λ _. view.fields_of self.new) result
             (spec.fields_of_group (environment known.now) (group_of group.now) (view.fields_of self.old)) }
         ensures known { OnOk result (All (λ t. t < length known.now.types) (list_items self.new.types)) }
+        ensures spelled { OnOk result (AreSpelled self.new) }
     {
         let of = known.type_named(&group.type_name)?;
         self.add(alloc, &group.first, of)?;
@@ -93,6 +104,7 @@ pub(crate) fn fields_of(
     let mut fields = Fields {
         names: Vec::new(alloc),
         types: List::new(alloc),
+        spellings: BTreeSet::new(alloc),
     };
     fields.add_group(known, alloc, &declared.first)?;
     for group in declared.more.items() {
