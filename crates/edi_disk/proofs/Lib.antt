@@ -7,3 +7,4 @@ pub mod Since
 pub mod View
 pub mod Writing
 pub mod Calls
+pub mod Cached

@@ -1,7 +1,7 @@
 -- Words of contracts. What a disk shows: the drive's blocks with the cached ones over them.
 use Rattle.std.specs.Prelude.{◌≡◌, ℕ, ◌<◌, false, Option, Some, List, [], ◌∷◌, map, slice_get, slice_set}
 use Rattle.std.specs.Option.{option_map, ForSome}
-use Rattle.edi_disk.specs.Use.{slot_of, AreDifferent}
+use Rattle.edi_disk.specs.Use.{slot_of, AreDifferent, driven_out}
 use Rattle.edi_disk.specs.declared.cache.Slot.{Slot}
 use Rattle.edi_disk.specs.declared.disk.Disk.{Disk}
 
@@ -43,3 +43,20 @@ numbers_cached disk = numbers_of disk.cache
 -- the disk may be called
 abbrev pub IsWorking : {D : Type 0} → (D → Option (List (List ℕ))) → (D → ℕ) → Disk D → Type 0
 IsWorking contents count disk = IsBacked contents count (drive_of disk) disk.cache
+
+-- ---- what is cached, whatever the drive tells
+
+-- the bytes of a block as they are cached, if it is
+abbrev pub cached_in : ℕ → List Slot → Option (List ℕ)
+cached_in n slots = option_map (λ (slot : Slot). slot.bytes) (slot_of n slots)
+
+abbrev pub cached : {D : Type 0} → ℕ → Disk D → Option (List ℕ)
+cached n disk = cached_in n disk.cache
+
+-- after a use of a block it is cached with these bytes, and every other that is not driven out as before
+pub record CachesIn (n : ℕ) (bytes : List ℕ) (before after : List Slot) : Type 0 where
+  pub there : cached_in n after ≡ Some bytes
+  pub others : (m : ℕ) → (m ≡ n → ⊥) → (driven_out n (numbers_of before) ≡ Some m → ⊥) → cached_in m after ≡ cached_in m before
+
+abbrev pub Caches : {D : Type 0} → (n : ℕ) → (bytes : List ℕ) → (before after : Disk D) → Type 0
+Caches n bytes before after = CachesIn n bytes before.cache after.cache

@@ -5,7 +5,7 @@ ghost use Rattle.std.specs.Option.{ForSome};
 ghost use Rattle.edi_told.specs.Faults.{CountRose};
 ghost use Rattle.edi_told.specs.Told.{WhereTold};
 ghost use Rattle.edi_disk.specs.Use.{after_use, is_listed, first_of_full, driven_out};
-ghost use Rattle.edi_disk.specs.Shown.{shown, numbers_cached, drive_of, reference_of, IsWorking, IsBacked, numbers_of};
+ghost use Rattle.edi_disk.specs.Shown.{cached, Caches, shown, numbers_cached, drive_of, reference_of, IsWorking, IsBacked, numbers_of};
 ghost use Rattle.edi_disk.specs.Since.{Kept, PageGives, PutLeaves, ChangesOnly, AllOn, Writes};
 
 use crate::cache::{Cache, PLACES};
@@ -123,6 +123,10 @@ impl<'a, D: Drive> Disk<'a, D> {
         ensures works { result ≡ DiskEnd.Ok → IsWorking D.contents D.count self.new }
         // On Ok the disk shows what it showed, and `into` has its block n.
         ensures gives { WhereTold (shown D.contents self.old) (shown D.contents self.new) (PageGives result n into.new) }
+        // Whatever the drive tells: one that is cached is given as it is cached, and on Ok `into` has it as it is cached from
+        // then on. So are the others, but for the one that is driven out.
+        ensures held { IfSome (cached n self.old) (λ bytes. into.new ≡ bytes) }
+        ensures caches { result ≡ DiskEnd.Ok → Caches n into.new self.old self.new }
         // Whatever the answer: each block that the drive has is as it was at the last flush that was Ok (or at
         // `attach`), or was put since.
         ensures since { (base : List (List ℕ)) (was_put : ℕ → List ℕ → Bool) → Kept D.contents base was_put self.old → Kept D.contents base was_put self.new }
@@ -158,6 +162,9 @@ impl<'a, D: Drive> Disk<'a, D> {
         ensures works { result ≡ DiskEnd.Ok → IsWorking D.contents D.count self.new }
         // On Ok the disk shows these bytes in block n, and every other block as before.
         ensures shows { WhereTold (shown D.contents self.old) (shown D.contents self.new) (PutLeaves result n from.now) }
+        // Whatever the drive tells: on Ok the block is cached with these bytes, and the others as before, but for the one that
+        // is driven out.
+        ensures caches { result ≡ DiskEnd.Ok → Caches n from.now self.old self.new }
         // Whatever the answer: the same, where what is put now is among what was put.
         ensures since { (base : List (List ℕ)) (was_put : ℕ → List ℕ → Bool) → was_put n from.now ≡ true → Kept D.contents base was_put self.old
             → Kept D.contents base was_put self.new }
@@ -197,6 +204,7 @@ impl<'a, D: Drive> Disk<'a, D> {
         // Whatever the answer: each block that the drive has is as it was at an earlier flush, or was put since.
         ensures since { (base : List (List ℕ)) (was_put : ℕ → List ℕ → Bool) → Kept D.contents base was_put self.old → Kept D.contents base was_put self.new }
         ensures order { numbers_cached self.new ≡ numbers_cached self.old }
+        ensures caches { (n : ℕ) → cached n self.new ≡ cached n self.old }
         ensures count { D.count (drive_of self.new) ≡ D.count (drive_of self.old) }
         ensures later { D.faults (drive_of self.old) ≤ D.faults (drive_of self.new) }
         ensures cause { result ≡ DiskEnd.Fault → CountRose (D.faults (drive_of self.old)) (D.faults (drive_of self.new)) }

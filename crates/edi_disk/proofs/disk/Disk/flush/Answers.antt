@@ -1,4 +1,5 @@
 use Rattle.edi_disk.proofs.Calls as calls
+use Rattle.edi_disk.proofs.Cached.{cached_settled}
 use Rattle.edi_disk.proofs.disk.Disk.flush.Goals as goal
 
 pub returns-in-Ok-clause-works : goal.returns-in-Ok-clause-works
@@ -25,3 +26,6 @@ returns-in-Ok-clause-order g c = calls.flush_order g.D.Drive.contents g.D.Drive.
 pub returns-in-Ok-clause-begins : goal.returns-in-Ok-clause-begins
 returns-in-Ok-clause-begins g c = λ _. calls.flush_begins g.D.Drive.contents g.D.Drive.count g.D.Drive.faults g.met.D.Drive.counted c.args.self.now.drive.now
     c.write_all.new.drive c.args.self.now.cache c.settle.new.self c.write_all.ensures.writes (c.write_all.ensures.all c.in-Ok.is) c.settle.ensures
+
+pub returns-in-Ok-clause-caches : goal.returns-in-Ok-clause-caches
+returns-in-Ok-clause-caches g c = λ n. cached_settled n c.args.self.now.cache c.settle.new.self c.settle.ensures

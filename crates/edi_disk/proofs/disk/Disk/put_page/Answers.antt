@@ -1,7 +1,8 @@
-use Rattle.std.proofs.Common.{refl, true}
-use Rattle.edi_disk.specs.Use.{cached_slot, driven_out}
+use Rattle.std.proofs.Common.{refl, true, ap, ◌∙◌, ◌++◌, ◌∷◌, []}
+use Rattle.edi_disk.specs.Use.{cached_slot, driven_out, with_room}
 use Rattle.edi_disk.specs.Shown.{numbers_of}
 use Rattle.edi_disk.proofs.Writing as writing
+use Rattle.edi_disk.proofs.Cached.{caches_hit, caches_taken}
 use Rattle.edi_disk.proofs.Calls as calls
 use Rattle.edi_disk.proofs.disk.Disk.put_page.Goals as goal
 
@@ -78,3 +79,12 @@ returns-in-Fault-clause-drives_out g c =
     let f = c.replace.ensures.absent c.if-replace.false in
     calls.taken_only g.D.Drive.contents g.D.Drive.count g.D.Drive.faults g.met.D.Drive.counted c.args.self.now.drive.now c.make_room.new.drive
     c.make_room.new.drive c.args.self.now.cache c.replace.new.self c.args.n f.1 f.0 c.make_room.ensures.only (λ _ e. e)
+
+pub returns-then-replace-clause-caches : goal.returns-then-replace-clause-caches
+returns-then-replace-clause-caches g c = λ _. let f = c.replace.ensures.found c.if-replace.true in
+    caches_hit c.args.n c.args.self.now.cache c.replace.new.self (cached_slot c.args.n c.args.from.now true) c.args.from.now refl refl f.2
+
+pub returns-in-Ok-clause-caches : goal.returns-in-Ok-clause-caches
+returns-in-Ok-clause-caches g c = λ _. let f = c.replace.ensures.absent c.if-replace.false in
+    caches_taken c.args.n c.args.self.now.cache c.hold.new.self (cached_slot c.args.n c.args.from.now true) c.args.from.now f.0 refl refl
+    (c.hold.ensures ∙ ap (λ ps. with_room ps ++ cached_slot c.args.n c.args.from.now true ∷ []) f.1)
