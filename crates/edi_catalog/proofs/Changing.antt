@@ -27,6 +27,8 @@ use Rattle.edi_catalog.proofs.FileIndices.{kept_at}
 use Rattle.edi_image.proofs.Told.{told_same}
 use Rattle.edi_image.proofs.KeptFiles.{file_of, slots_are}
 use Rattle.edi_catalog.proofs.WholeFiles.{index_same}
+use Rattle.edi_catalog.specs.Plan.{are_different, blocks_used}
+use Rattle.edi_catalog.proofs.Apart.{put_apart}
 use Rattle.edi_catalog.proofs.EntryBlocks.{entries_over}
 use Rattle.edi_catalog.proofs.Changed.{IsChangedTo, written_changes, put_stored, record_room}
 
@@ -76,6 +78,7 @@ slot_done {X = X} contents count faults x index slot entry r a b mounted h at lo
         ap (list_all (is_stored (count (drive_of (disk_of b))))) files
         ∙ subst (λ n. list_all (is_stored n) (put_kept (files_of a) index r) ≡ true) (sym puts.count_stays)
         (put_stored (count (drive_of (disk_of a))) (files_of a) index r mounted.stored at);
+    apart = ap (λ fs. are_different (blocks_used fs)) files ∙ put_apart (files_of a) index r mounted.apart at;
     room = λ some. ap length blocks ∙ length-set (entry_blocks_of a) (index / 8) _ ∙ many;
     entries = λ new e.
         (let was = told (EntryLeaves disk.Ok slot entry) (contents (drive_of (disk_of a))) (contents (drive_of (disk_of b))) new puts.leaves e in

@@ -14,10 +14,10 @@ use Rattle.edi_catalog.proofs.Unchanged.{in_append, in_left, in_right, in_first,
 abbrev pub AreApart : List ℕ → List ℕ → Type 0
 AreApart xs ys = (n : ℕ) → is_in n xs ≡ true → is_in n ys ≡ false
 
-different_first : (n : ℕ) (xs : List ℕ) → is_in n xs ≡ false → are_different xs ≡ true → are_different (n ∷ xs) ≡ true
+pub different_first : (n : ℕ) (xs : List ℕ) → is_in n xs ≡ false → are_different xs ≡ true → are_different (n ∷ xs) ≡ true
 different_first n xs none d = and_from (not (is_in n xs)) (are_different xs) (not_from_false (is_in n xs) none) d
 
-different_rest : (n : ℕ) (xs : List ℕ) → are_different (n ∷ xs) ≡ true → (is_in n xs ≡ false) × (are_different xs ≡ true)
+pub different_rest : (n : ℕ) (xs : List ℕ) → are_different (n ∷ xs) ≡ true → (is_in n xs ≡ false) × (are_different xs ≡ true)
 different_rest n xs d = (let parts = and_parts (not (is_in n xs)) (are_different xs) d in (not-true (is_in n xs) parts.0, parts.1))
 
 pub different_join : (xs ys : List ℕ) → are_different xs ≡ true → are_different ys ≡ true → AreApart xs ys → are_different (xs ++ ys) ≡ true

@@ -23,3 +23,5 @@ pub mod WholeFiles
 pub mod Sizes
 pub mod PageBytes
 pub mod InSlots
+pub mod Taken
+pub mod Apart

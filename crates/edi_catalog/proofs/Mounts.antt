@@ -12,6 +12,7 @@ use Rattle.edi_image.specs.declared.faults.MountFault.TheVariants as fault
 use Rattle.edi_image.specs.Image.{mount_fault_of}
 use Rattle.edi_image.specs.Stored.{IsKeptOf, is_stored}
 use Rattle.edi_catalog.specs.Mounted.{AreEntries, IsMounted, disk_of, entry_blocks_of, files_of}
+use Rattle.edi_catalog.specs.Plan.{are_different, blocks_used}
 use Rattle.edi_catalog.specs.declared.catalog.Catalog.{Catalog}
 use Rattle.std.specs.List.{list_all}
 use Rattle.edi_catalog.specs.Reads.{Checks}
@@ -112,6 +113,7 @@ still_mounted contents count faults one other P same entries_same mounted checks
   stored =
       ap (list_all (is_stored (count (drive_of (disk_of other))))) same
       ∙ subst (λ n. list_all (is_stored n) (files_of one) ≡ true) (sym checks.count_stays) mounted.stored;
+  apart = ap (λ fs. are_different (blocks_used fs)) same ∙ mounted.apart;
   room = λ some. ap length entries_same ∙ mounted.room (subst (λ n. 0 < n) checks.count_stays some);
   entries = λ blocks told.
       subst (λ es. AreEntries es blocks) (sym entries_same)

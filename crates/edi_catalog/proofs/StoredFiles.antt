@@ -23,7 +23,7 @@ use Rattle.edi_catalog.specs.Writing.{is_protected, patched}
 use Rattle.edi_image.specs.Titles.{with_blanks}
 use Rattle.edi_image.specs.Build.{two}
 use Rattle.edi_image.specs.Records.{FileRecord}
-use Rattle.edi_catalog.specs.Plan.{used_in, AreFree}
+use Rattle.edi_catalog.specs.Plan.{are_different, blocks_used, used_in, AreFree}
 use Rattle.edi_catalog.specs.Putting.{OnlyIn, IsNew, NewLeaves, WritesNew}
 use Rattle.edi_catalog.specs.Storing.{StoreChanges, index_for, put_at, stored_entry, stored_file, slots_stored}
 use Rattle.edi_catalog.proofs.Unchanged.{IsSameImage, free_same, same_kept, same_slots}
@@ -34,6 +34,8 @@ use Rattle.edi_image.proofs.Spelled.{title_length}
 use Rattle.edi_catalog.proofs.StoredImage.{IsStoredIn, stored_holds}
 use Rattle.edi_catalog.proofs.Changed.{all_set}
 use Rattle.edi_catalog.proofs.EntryBlocks.{entries_over, entries_laid}
+use Rattle.edi_catalog.proofs.Apart.{free_apart}
+use Rattle.std.proofs.lemmas.List.{get_or-set_same}
 
 -- what is known where a file is stored in a slot
 pub record Stores (count : ℕ) (files : List (Option StoredFile)) (title : List ℕ) (kind : FileKind) (bytes : List ℕ) (slot : ℕ) (file : StoredFile) : Type 0
@@ -148,6 +150,9 @@ module _ {D : Type 0} (contents : D → Option (List (List ℕ))) (count faults 
         ap (list_all (is_stored (count (drive_of (disk_of other))))) now
         ∙ subst (λ n. list_all (is_stored n) (set (files_of one) slot (Some file)) ≡ true) (sym writes.count_stays)
         (all_set (is_stored (count (drive_of (disk_of one)))) (files_of one) slot (Some file) stores.all stores.laid.kept);
+    apart =
+        ap (λ fs. are_different (blocks_used fs)) now
+        ∙ free_apart (count (drive_of (disk_of one))) (files_of one) slot file mounted.apart stores.laid.free;
     room = λ some. ap length blocks_now ∙ length-set (entry_blocks_of one) (slot / 8) _ ∙ many;
     entries = λ blocks told.
         (let old = writing.told (NewLeaves disk.Ok slot file bytes) (contents (drive_of (disk_of one))) (contents (drive_of (disk_of other))) blocks
@@ -173,6 +178,14 @@ module _ {D : Type 0} (contents : D → Option (List (List ℕ))) (count faults 
       → StoreChanges {X = Unit {0}} contents count faults (Ok tt) None title kind bytes one other
   changes_done one other title kind bytes slot file mounted stores writes lent now many blocks_now = record {
     answers = (refl, record { file = file; entry_ = stores.entry; at = slot; index_ = stores.index; others = now });
+    free = λ at e.
+        (let both : Some slot ≡ Some at = sym stores.index ∙ e in
+        let here : slot ≡ at = cc in
+        let many : slot < length (files_of one) = omega (arith, mounted.many, stores.within) in
+        let there : get_or (files_of other) at None ≡ Some file =
+        ap (λ k. get_or (files_of other) k None) (sym here) ∙ ap (λ fs. get_or fs slot None) now
+        ∙ get_or-set_same (files_of one) slot (Some file) None many in
+        subst (λ f. AreFree (count (drive_of (disk_of one))) (files_of one) (used_in f)) (sym there) stores.laid.free);
     untouched = tt;
     mounted = inr (store_mounted one other title kind bytes slot file mounted stores writes now many blocks_now);
     leaves = store_done one other title kind bytes slot file mounted stores writes;
@@ -189,6 +202,7 @@ module _ {D : Type 0} (contents : D → Option (List (List ℕ))) (count faults 
       → StoreChanges {X = Unit {0}} contents count faults (Err cat.Fault) None title kind bytes one other
   changes_failed one other title kind bytes slot file mounted stores writes lent = record {
     answers = refl;
+    free = tt;
     untouched = tt;
     mounted = inl refl;
     leaves = store_fails one other title kind bytes slot file mounted stores writes;

@@ -7,4 +7,5 @@ pub mod Plan
 pub mod Putting
 pub mod Reads
 pub mod Storing
+pub mod Taken
 pub mod Writing

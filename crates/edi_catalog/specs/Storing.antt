@@ -1,5 +1,5 @@
 -- Words of contracts. Storing a file: why it is refused, and what it leaves.
-use Rattle.std.specs.Prelude.{◌≡◌, ◌⊎◌, ◌≤◌, ℕ, suc, ◌+◌, ◌-◌, false, nat_lt, if◌then◌else◌, List, [], ◌∷◌, length, slice_set, Option, Some, None, is_none}
+use Rattle.std.specs.Prelude.{◌≡◌, ◌⊎◌, ◌≤◌, ℕ, suc, ◌+◌, ◌-◌, false, nat_lt, if◌then◌else◌, List, [], ◌∷◌, length, slice_set, slice_index_or, Option, Some, None, is_none, ⊤}
 use Rattle.std.specs.Prelude.{Result, Ok, Err}
 use Rattle.std.specs.Option.{option_map}
 use Rattle.edi_told.specs.Faults.{CountRose}
@@ -17,6 +17,7 @@ use Rattle.edi_image.specs.Image.{slots_of}
 use Rattle.edi_catalog.specs.Mounted.{IsMounted, disk_of, files_of, room_reference}
 use Rattle.edi_catalog.specs.declared.catalog.Catalog.{Catalog}
 use Rattle.edi_catalog.specs.Changes.{Leaves, Untouched}
+use Rattle.edi_catalog.specs.Plan.{AreFree, used_in}
 use Rattle.edi_catalog.specs.Writing.{is_protected}
 
 -- ---- where it is stored
@@ -70,6 +71,11 @@ StoreAnswers (Ok done) refusal index entry old new = (refusal ≡ None) × IsSto
 StoreAnswers (Err cat.Fault) refusal index entry old new = refusal ≡ None
 StoreAnswers (Err why) refusal index entry old new = (refusal ≡ Some why) × (new ≡ old)
 
+-- on Ok the blocks of the file that has the slot now were free, beside the file that it replaces
+abbrev pub WereFree : {X : Type 0} → Result X CatEnd → (count : ℕ) → (index : Option ℕ) → (old new : List (Option StoredFile)) → Type 0
+WereFree (Ok done) count index old new = (at : ℕ) → index ≡ Some at → AreFree count old (used_in (slice_index_or new at None))
+WereFree (Err why) count index old new = ⊤
+
 -- the slots of an image with a file in one of them
 abbrev pub put_at : Option ℕ → File → List (Option File) → List (Option File)
 put_at None file slots = slots
@@ -83,6 +89,7 @@ slots_stored title kind bytes slots = put_at (slot_for slots title) (stored_file
 pub record StoreChanges {D X : Type 0} (contents : D → Option (List (List ℕ))) (count faults : D → ℕ) (result : Result X CatEnd) (refusal : Option CatEnd)
     (title : List ℕ) (kind : FileKind) (bytes : List ℕ) (before after : Catalog D) : Type 0 where
   pub answers : StoreAnswers result refusal (index_for title (files_of before)) (stored_entry title kind (length bytes)) (files_of before) (files_of after)
+  pub free : WereFree result (count (drive_of (disk_of before))) (index_for title (files_of before)) (files_of before) (files_of after)
   pub untouched : Untouched result before after
   pub mounted : (result ≡ Err cat.Fault) ⊎ IsMounted contents count after
   pub leaves : WhereTold (contents (drive_of (disk_of before))) (contents (drive_of (disk_of after)))

@@ -1,6 +1,6 @@
 //! Mounting an image: it is checked first, by a call that only borrows the disk.
 
-ghost use Rattle.std.specs.Prelude.{◌≡◌, ◌≤◌, ◌<◌, [], OnOk, IfOk, Err, true, false, length, map, ⊤};
+ghost use Rattle.std.specs.Prelude.{◌≡◌, ◌⊎◌, ◌≤◌, ◌<◌, [], OnOk, IfErr, IfOk, Err, true, false, length, map, ⊤};
 ghost use Rattle.std.specs.List.{list_all};
 ghost use Rattle.edi_told.specs.Faults.{CountRose};
 ghost use Rattle.edi_told.specs.Told.{WhereTold};
@@ -9,7 +9,9 @@ ghost use Rattle.edi_image.specs.Rules.{first_broken};
 ghost use Rattle.edi_image.specs.Image.{header_rules, entries_of, mount_fault_of};
 ghost use Rattle.edi_image.specs.Stored.{is_stored, stored_of};
 ghost use Rattle.edi_image.specs.Finds.{Finds, failed};
+ghost use Rattle.edi_catalog.specs.Plan.{are_different, blocks_used};
 ghost use Rattle.edi_catalog.specs.Reads.{Checks};
+ghost use Rattle.edi_catalog.specs.Taken.{IsOfCount, IsOtherHeader};
 ghost use Rattle.edi_catalog.specs.Mounted.{AreEntries, IsMountedOn, disk_of, room_of, room_reference};
 
 use crate::catalog::Catalog;
@@ -35,8 +37,10 @@ fn check_header<D: Drive>(disk: &mut Disk<'_, D>) -> Result<(), MountFault>
         (λ blocks. Finds result (first_broken [] (header_rules 2 blocks)) (λ _. ⊤)) }
     ensures least { OnOk result (LEAST ≤ D.count (drive_of disk.old)) }
     ensures most { OnOk result (D.count (drive_of disk.old) ≤ MOST) }
+    ensures faults { IfErr result (IsOfCount (D.count (drive_of disk.old))) }
     ensures short { D.count (drive_of disk.old) < LEAST → result ≡ Err MountFault.Short }
     ensures long { MOST < D.count (drive_of disk.old) → result ≡ Err MountFault.Header }
+    ensures header { result ≡ Err MountFault.Header → (MOST < D.count (drive_of disk.old)) ⊎ IsOtherHeader (D.count (drive_of disk.old)) disk.new }
 {
     let count = disk.blocks();
     if count < LEAST {
@@ -68,9 +72,12 @@ fn read_image<D: Drive>(
     ensures many { IfOk result (λ files. length files.items ≡ SLOTS) }
     ensures least { OnOk result (0 < D.count (drive_of disk.old) → FIRST ≤ D.count (drive_of disk.old)) }
     ensures most { OnOk result (D.count (drive_of disk.old) ≤ MOST) }
+    ensures apart { IfOk result (λ files. are_different (blocks_used files.items) ≡ true) }
     ensures stored { IfOk result (λ files. list_all (is_stored (D.count (drive_of disk.old))) files.items ≡ true) }
+    ensures faults { IfErr result (IsOfCount (D.count (drive_of disk.old))) }
     ensures short { 0 < D.count (drive_of disk.old) → D.count (drive_of disk.old) < LEAST → result ≡ Err MountFault.Short }
     ensures long { MOST < D.count (drive_of disk.old) → result ≡ Err MountFault.Header }
+    ensures header { result ≡ Err MountFault.Header → (MOST < D.count (drive_of disk.old)) ⊎ IsOtherHeader (D.count (drive_of disk.old)) disk.new }
 {
     if disk.blocks() == 0 {
         return free_slots(alloc, SLOTS);
@@ -97,9 +104,12 @@ fn read_disk<D: Drive>(alloc: Global, disk: &mut Disk<'_, D>) -> Result<Checked,
     ensures many { IfOk result (λ checked. length checked.files.items ≡ SLOTS) }
     ensures room { IfOk result (λ checked. 0 < D.count (drive_of disk.old) → length checked.entries.items ≡ 32) }
     ensures most { OnOk result (D.count (drive_of disk.old) ≤ MOST) }
+    ensures apart { IfOk result (λ checked. are_different (blocks_used checked.files.items) ≡ true) }
     ensures stored { IfOk result (λ checked. list_all (is_stored (D.count (drive_of disk.old))) checked.files.items ≡ true) }
+    ensures faults { IfErr result (IsOfCount (D.count (drive_of disk.old))) }
     ensures short { 0 < D.count (drive_of disk.old) → D.count (drive_of disk.old) < LEAST → result ≡ Err MountFault.Short }
     ensures long { MOST < D.count (drive_of disk.old) → result ≡ Err MountFault.Header }
+    ensures header { result ≡ Err MountFault.Header → (MOST < D.count (drive_of disk.old)) ⊎ IsOtherHeader (D.count (drive_of disk.old)) disk.new }
 {
     let files = match read_image(alloc, disk) {
         Ok(files) => files,
@@ -122,8 +132,10 @@ pub fn check<D: Drive>(alloc: Global, disk: &mut Disk<'_, D>) -> Result<Checked,
     ensures checked { IfOk result (IsMountedOn D.contents D.count disk.new) }
     ensures leaves { WhereTold (D.contents (drive_of disk.old)) (D.contents (drive_of disk.new))
         (λ old new. (new ≡ old) × Finds result (mount_fault_of old) (λ _. ⊤)) }
+    ensures faults { IfErr result (IsOfCount (D.count (drive_of disk.old))) }
     ensures short { 0 < D.count (drive_of disk.old) → D.count (drive_of disk.old) < LEAST → result ≡ Err MountFault.Short }
     ensures long { MOST < D.count (drive_of disk.old) → result ≡ Err MountFault.Header }
+    ensures header { result ≡ Err MountFault.Header → (MOST < D.count (drive_of disk.old)) ⊎ IsOtherHeader (D.count (drive_of disk.old)) disk.new }
     ensures works { failed result ≡ false → IsWorking D.contents D.count disk.new }
     ensures settled { failed result ≡ false → D.contents (drive_of disk.new) ≡ shown D.contents disk.new }
     ensures same_reference { reference_of disk.new ≡ reference_of disk.old }

@@ -1,7 +1,7 @@
 //! Reading the blocks of a disk.
 
 ghost use Rattle.std.specs.Prelude.{◌≡◌, ◌≤◌, ◌<◌, ◌+◌, ◌*◌, OnErr, IfOk, Some, true, length};
-ghost use Rattle.edi_disk.specs.Shown.{drive_of, IsWorking};
+ghost use Rattle.edi_disk.specs.Shown.{cached, drive_of, IsWorking};
 ghost use Rattle.edi_image.specs.Entries.{block_at};
 ghost use Rattle.edi_image.specs.Stored.{are_data, is_stored};
 ghost use Rattle.edi_catalog.specs.Files.{PageAt, PagesAre, StoredIs};
@@ -17,6 +17,7 @@ pub(crate) fn block<D: Drive>(disk: &mut Disk<'_, D>, n: u32) -> Result<[u8; BLO
     requires in_range { n < D.count (drive_of disk.old) }
     requires works { IsWorking D.contents D.count disk.old }
     ensures checks { Checks D.contents D.count D.faults (failed result) disk.old disk.new (BlockIs result n) }
+    ensures held { IfOk result (λ bytes. cached n disk.new ≡ Some bytes) }
     ensures fault { OnErr result (failed result ≡ true) }
 {
     let mut bytes = [0; BLOCK];

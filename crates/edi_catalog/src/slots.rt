@@ -1,6 +1,6 @@
 //! The slots of an image.
 
-ghost use Rattle.std.specs.Prelude.{◌≡◌, ◌≤◌, ◌<◌, ◌+◌, ◌++◌, [], map, true, Some, IfOk, OnOk, OnErr, length};
+ghost use Rattle.std.specs.Prelude.{◌≡◌, ◌≤◌, ◌<◌, ◌+◌, ◌++◌, [], map, true, Some, IfErr, IfOk, OnOk, OnErr, length};
 ghost use Rattle.std.specs.List.{list_all};
 ghost use Rattle.edi_disk.specs.Shown.{drive_of, IsWorking};
 ghost use Rattle.edi_calls.specs.State.{pages_of};
@@ -8,6 +8,8 @@ ghost use Rattle.edi_image.specs.Rules.{first_broken, used_by};
 ghost use Rattle.edi_image.specs.Image.{file_rules, entry_rules, entries_of, slot_rules, numbers_of, said_at};
 ghost use Rattle.edi_image.specs.Stored.{is_fit, is_record, is_stored, stored_of, titles_of};
 ghost use Rattle.edi_catalog.specs.Reads.{Checks, SaysSlot};
+ghost use Rattle.edi_catalog.specs.Plan.{are_different, blocks_used, used_in};
+ghost use Rattle.edi_catalog.specs.Taken.{AreTaken, IsInRange, IsUseOf};
 ghost use Rattle.edi_image.specs.Finds.{Finds, TakesSlot, failed};
 
 use crate::maps::read_maps;
@@ -36,6 +38,8 @@ fn read_file<D: Drive>(
         (λ blocks. Finds result (first_broken used.old.items (file_rules FIRST blocks slot (titles_of files.now) file))
         (λ stored. (stored ≡ record { record_ = file; pages = numbers_of blocks (pages_of file.length) file.maps })
         × (used.new.items ≡ used.old.items ++ used_by (file_rules FIRST blocks slot (titles_of files.now) file)))) }
+    ensures taken { IfOk result (λ stored. AreTaken used.old.items used.new.items (used_in (Some stored))) }
+    ensures faults { IfErr result (IsInRange (D.count (drive_of disk.old))) }
     ensures stored { IfOk result (λ stored. is_stored (D.count (drive_of disk.old)) (Some stored) ≡ true) }
 {
     if has_title(files, &file.title) {
@@ -81,6 +85,8 @@ fn read_slot<D: Drive>(
         (λ blocks. Finds result (first_broken used.old.items (entry_rules FIRST blocks slot (titles_of files.old.items) (said_at blocks slot)))
         (λ _. TakesSlot used.old.items used.new.items (entry_rules FIRST blocks slot (titles_of files.old.items) (said_at blocks slot))
         files.old.items files.new.items (stored_of blocks (said_at blocks slot)))) }
+    ensures taken { OnOk result (IsUseOf used.old.items files.old.items → IsUseOf used.new.items files.new.items) }
+    ensures faults { IfErr result (IsInRange (D.count (drive_of disk.old))) }
     ensures many { OnOk result (length files.new.items ≡ length files.old.items + 1) }
     ensures stored { OnOk result (list_all (is_stored (D.count (drive_of disk.old))) files.old.items ≡ true
         → list_all (is_stored (D.count (drive_of disk.old))) files.new.items ≡ true) }
@@ -106,6 +112,8 @@ pub(crate) fn read_slots<D: Drive>(
     ensures checks { Checks D.contents D.count D.faults (failed result) disk.old disk.new
         (λ blocks. Finds result (first_broken [] (slot_rules FIRST blocks 0 [] (entries_of blocks)))
         (λ files. files.items ≡ map (stored_of blocks) (entries_of blocks))) }
+    ensures apart { IfOk result (λ files. are_different (blocks_used files.items) ≡ true) }
+    ensures faults { IfErr result (IsInRange (D.count (drive_of disk.old))) }
     ensures many { IfOk result (λ files. length files.items ≡ SLOTS) }
     ensures stored { IfOk result (λ files. list_all (is_stored (D.count (drive_of disk.old))) files.items ≡ true) }
 {

@@ -3,6 +3,9 @@ use Rattle.edi_image.specs.Rules.{is_in}
 use Rattle.edi_image.specs.Entries.{block_at}
 use Rattle.edi_catalog.proofs.Sequence.{checks_none, checks_map, checks_with, checks_as}
 use Rattle.edi_image.proofs.MapRules.{map_again, map_wrong, map_found, numbers_behind, length-numbers_in, length_behind, on_ok}
+use Rattle.std.specs.Prelude.{IfErr}
+use Rattle.edi_catalog.specs.Taken.{IsInRange}
+use Rattle.edi_catalog.proofs.Taken.{drive_in_range, map_takes, pages_in_range}
 use Rattle.edi_catalog.proofs.maps.check_map.Goals as goal
 
 pub returns-then-contains-clause-checks : goal.returns-then-contains-clause-checks
@@ -42,3 +45,22 @@ pub returns-clause-pages : goal.returns-clause-pages
 returns-clause-pages g c = on_ok c.check_pages.result _
     (length_behind c.args.into.now.items c.read_numbers.new.into.items _ c.args.count c.read_numbers.ensures.numbers
     (length-numbers_in c.in-Ok.bytes c.args.count (omega arith)))
+
+pub returns-clause-taken : goal.returns-clause-taken
+returns-clause-taken g c =
+    map_takes c.check_pages.result c.args.map c.blocks-blocks.result c.args.slot c.args.used.now.items c.push.new.self.items c.check_pages.new.used.items
+    c.args.into.now.items c.read_numbers.new.into.items c.split_at.result.1.now
+    (ap (is_in c.args.map) (sym c.deref.ensures.value) ∙ sym c.contains.ensures.value ∙ c.if-contains.false)
+    (search rules)
+    (c.read_numbers.ensures.numbers ∙ ap (λ ns. c.args.into.now.items ++ ns)
+    (sym (numbers_behind _ _ _ _ _ _ c.len-before.ensures.value c.as_slice.ensures.value c.read_numbers.ensures.numbers c.split_at.ensures.back)))
+    c.check_pages.ensures.finds
+
+pub returns-clause-faults : goal.returns-clause-faults
+returns-clause-faults g c =
+    subst (λ n. IfErr c.check_pages.result (IsInRange n)) c.blocks-blocks.ensures.count
+    (pages_in_range c.check_pages.result c.push.new.self.items c.blocks-blocks.result c.args.slot c.split_at.result.1.now
+    (λ _. c.check_pages.new.used.items ≡ c.push.new.self.items ++ c.split_at.result.1.now) c.check_pages.ensures.finds)
+
+pub returns-in-Err-clause-faults : goal.returns-in-Err-clause-faults
+returns-in-Err-clause-faults g c = drive_in_range _ c.in-Err.fault c.in-Err.ensures.fault

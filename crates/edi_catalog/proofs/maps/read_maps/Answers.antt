@@ -1,4 +1,6 @@
-use Rattle.std.proofs.Common.{◌∙◌, ap}
+use Rattle.std.proofs.Common.{◌∙◌, ap, subst, sym}
+use Rattle.edi_catalog.specs.Taken.{IsInRange}
+use Rattle.edi_catalog.proofs.Taken.{one_taken, two_taken}
 use Rattle.edi_calls.specs.State.{pages_of}
 use Rattle.edi_image.specs.Records.{FileRecord}
 use Rattle.edi_catalog.proofs.Sequence.{checks_map, checks_then}
@@ -34,3 +36,17 @@ returns-in-Ok-check_map-clause-checks g c =
     (c.pages_of-count.ensures.exact ∙ ap (λ (r : FileRecord). pages_of r.length) c.file.view_is) c.pages_of-count.ensures.most c.min-first.ensures
     c.new-into.ensures a b)
     c.in-Ok.ensures.checks c.in-Ok-check_map.ensures.checks
+
+pub returns-in-None-clause-taken : goal.returns-in-None-clause-taken
+returns-in-None-clause-taken g c =
+    one_taken c.file.inside.first_map c.file.inside.second_map c.args.file.now.maps c.args.used.now.items c.check_map.new.used.items c.new-into.result.items
+    c.check_map.new.into.items (sym (ap (λ (r : FileRecord). r.maps) c.file.view_is)) c.in-None.is c.new-into.ensures c.in-Ok.ensures.taken
+
+pub returns-in-Ok-check_map-clause-taken : goal.returns-in-Ok-check_map-clause-taken
+returns-in-Ok-check_map-clause-taken g c =
+    two_taken c.file.inside.first_map c.in-Some.map c.file.inside.second_map c.args.file.now.maps c.args.used.now.items c.check_map.new.used.items
+    c.check_map-in-Some.new.used.items c.new-into.result.items c.check_map.new.into.items c.check_map-in-Some.new.into.items
+    (sym (ap (λ (r : FileRecord). r.maps) c.file.view_is)) c.in-Some.is c.new-into.ensures c.in-Ok.ensures.taken c.in-Ok-check_map.ensures.taken
+
+pub returns-in-Err-check_map-clause-faults : goal.returns-in-Err-check_map-clause-faults
+returns-in-Err-check_map-clause-faults g c = subst (λ n. IsInRange n c.in-Err-check_map.fault) c.in-Ok.ensures.checks.count_stays c.in-Err-check_map.ensures.faults

@@ -15,6 +15,7 @@ returns-in-Ok-clause-checked g c = record {
   most = subst (λ n. n ≤ 4096) (sym c.in-Ok.ensures.checks.count_stays) c.in-Ok.ensures.most;
   stored =
       subst (λ n. list_all (is_stored n) c.in-Ok.checked.files.items ≡ true) (sym c.in-Ok.ensures.checks.count_stays) c.in-Ok.ensures.stored;
+  apart = c.in-Ok.ensures.apart;
   image = λ blocks told.
       (let found = found_of _ _ _ _ _ _ c.requires.settled c.in-Ok.ensures.checks blocks told in
       record { valid = found.1.0; slots = found.1.1.0 });

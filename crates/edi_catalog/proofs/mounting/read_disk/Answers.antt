@@ -2,6 +2,7 @@ use Rattle.std.proofs.Common.{◌≤◌, ◌<◌, sym, subst}
 use Rattle.edi_image.specs.Image.{mount_fault_of}
 use Rattle.edi_catalog.proofs.Sequence.{checks_then}
 use Rattle.edi_catalog.proofs.EntryBlocks.{no_image_fault}
+use Rattle.edi_catalog.proofs.Taken.{either_of_count}
 use Rattle.edi_catalog.proofs.mounting.read_disk.Goals as goal
 
 pub entry_blocks-requires-clause-catalogue : goal.entry_blocks-requires-clause-catalogue
@@ -22,3 +23,6 @@ returns-in-Ok-entry_blocks-clause-checks g c =
 pub returns-in-Ok-entry_blocks-clause-room : goal.returns-in-Ok-entry_blocks-clause-room
 returns-in-Ok-entry_blocks-clause-room g c = λ some.
     c.in-Ok-entry_blocks.ensures.many (subst (λ n. 0 < n) (sym c.in-Ok.ensures.checks.count_stays) some)
+
+pub returns-in-Err-entry_blocks-clause-faults : goal.returns-in-Err-entry_blocks-clause-faults
+returns-in-Err-entry_blocks-clause-faults g c = either_of_count _ c.in-Err-entry_blocks.fault c.in-Err-entry_blocks.ensures.fault

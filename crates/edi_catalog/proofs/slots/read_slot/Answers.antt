@@ -1,4 +1,6 @@
-use Rattle.std.proofs.Common.{◌∙◌, sym, subst}
+use Rattle.std.proofs.Common.{◌∙◌, Some, sym, subst}
+use Rattle.edi_catalog.specs.Taken.{IsInRange}
+use Rattle.edi_catalog.proofs.Taken.{drive_in_range, memory_in_range, use_goes_on, use_stays}
 use Rattle.edi_image.specs.Finds.{IsFirst}
 use Rattle.edi_catalog.proofs.Sequence.{checks_map, checks_then, checks_as}
 use Rattle.edi_image.proofs.First.{drive_first}
@@ -29,3 +31,21 @@ returns-in-Err-read_file-clause-checks g c =
 pub returns-in-Err-clause-checks : goal.returns-in-Err-clause-checks
 returns-in-Err-clause-checks g c =
     checks_map _ _ _ _ _ _ _ _ (λ blocks p. drive_first c.in-Err.fault _ c.in-Err.ensures.fault) c.in-Err.ensures.checks
+
+pub returns-in-Ok-clause-taken : goal.returns-in-Ok-clause-taken
+returns-in-Ok-clause-taken g c =
+    use_goes_on c.put_file-in-Ok.result _ c.args.used.now.items c.read_file.new.used.items c.args.files.now.items c.put_file-in-Ok.new.files.items
+    (Some c.in-Ok.file) c.put_file-in-Ok.ensures c.in-Ok.ensures.taken
+
+pub returns-in-Ok-clause-faults : goal.returns-in-Ok-clause-faults
+returns-in-Ok-clause-faults g c = memory_in_range c.put_file-in-Ok.result _ _ c.put_file-in-Ok.ensures
+
+pub returns-in-Err-read_file-clause-faults : goal.returns-in-Err-read_file-clause-faults
+returns-in-Err-read_file-clause-faults g c =
+    subst (λ n. IsInRange n c.in-Err-read_file.fault) c.in-Ok-File.ensures.checks.count_stays c.in-Err-read_file.ensures.faults
+
+pub returns-in-Err-clause-faults : goal.returns-in-Err-clause-faults
+returns-in-Err-clause-faults g c = drive_in_range _ c.in-Err.fault c.in-Err.ensures.fault
+
+pub returns-in-Ok-Free-clause-taken : goal.returns-in-Ok-Free-clause-taken
+returns-in-Ok-Free-clause-taken g c = use_stays c.put_file.result _ c.args.used.now.items c.args.files.now.items c.put_file.new.files.items c.put_file.ensures
