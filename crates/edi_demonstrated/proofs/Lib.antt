@@ -1,0 +1,6 @@
+pub mod Symbols
+pub mod Spelling
+pub mod Names
+pub mod Blocks
+pub mod Resolving
+pub mod Accepted

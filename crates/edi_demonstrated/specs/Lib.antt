@@ -1,0 +1,3 @@
+pub mod Demonstrated
+pub mod Symbols
+pub mod Tree
