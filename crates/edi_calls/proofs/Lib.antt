@@ -5,3 +5,4 @@ pub mod Indices
 pub mod Sound
 pub mod Storing
 pub mod Tables
+pub mod Spelling

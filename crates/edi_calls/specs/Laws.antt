@@ -1,6 +1,6 @@
 -- Words of contracts. Laws of the ten calls.
-use Rattle.std.specs.Prelude.{◌≡◌, ◌⊎◌, ℕ, ◌≤◌, List, [], ◌∷◌, ◌++◌, length, Some}
-use Rattle.edi_calls.specs.State.{State, IsState, title_of, find_file}
+use Rattle.std.specs.Prelude.{◌≡◌, ◌⊎◌, ◌↔◌, ℕ, ◌≤◌, true, List, [], ◌∷◌, ◌++◌, length, map, replicate, Some}
+use Rattle.edi_calls.specs.State.{State, IsState, character, is_title, title_of, find_file}
 use Rattle.edi_calls.specs.Calls.{call, close, answered, answer_words, text_file}
 use Rattle.edi_calls.specs.Ends.{IsTorn}
 
@@ -58,3 +58,8 @@ abbrev pub TornIsBeforeOrBehind : Type 0
 TornIsBeforeOrBehind = (number : ℕ) (words answer : List ℕ) (before next after : State)
     → call number words before ≡ answered answer next → IsTorn before next after
     → IsSameOutside before after ⊎ IsSameOutside next after
+
+-- the title that words spell is t exactly where their characters are those of t, which is a title, and blanks behind them
+abbrev pub TitlesAreSpelled : Type 0
+TitlesAreSpelled = (words title : List ℕ) → (title_of words ≡ Some title)
+    ↔ ((is_title title ≡ true) × ((blanks : ℕ) × (map character words ≡ title ++ replicate blanks 32)))

@@ -1,6 +1,7 @@
 //! Laws of the ten calls. Each stands on a function without a body, since it speaks of all states.
 
 ghost use Rattle.edi_calls.specs.Laws.{EachCallGoesOn, AnswersFit, StatesStaySound, ClosedFilesAreFound, EachCallChangesOnePart, TornIsBeforeOrBehind};
+ghost use Rattle.edi_calls.specs.Laws.{TitlesAreSpelled};
 
 /// A call that is answered only takes from the input, only adds to what was shown and printed, and leaves the
 /// numbers of slots and blocks as they are.
@@ -33,4 +34,9 @@ pub fn each_call_changes_one_part()
 /// as it was to leave them.
 pub fn torn_is_before_or_behind()
     ensures { TornIsBeforeOrBehind }
+{}
+
+/// The title that words spell is t exactly where their characters are those of t, which is a title, and blanks behind them.
+pub fn titles_are_spelled()
+    ensures { TitlesAreSpelled }
 {}

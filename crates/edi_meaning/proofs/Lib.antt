@@ -22,6 +22,7 @@ pub mod Living
 pub mod Due
 pub mod Dangling
 pub mod Spent
+pub mod Levels
 pub mod NeverBad
 pub mod Branching
 pub mod Someone

@@ -7,6 +7,7 @@ pub mod Select
 pub mod Laws
 pub mod Attempts
 pub mod Spent
+pub mod Levels
 pub mod Bad
 pub mod Someone
 pub mod Rows

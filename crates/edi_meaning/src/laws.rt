@@ -4,6 +4,7 @@
 ghost use Rattle.edi_meaning.specs.Attempts.{AttemptsAreOneStep, AttemptsExecute};
 ghost use Rattle.edi_meaning.specs.Bad.{PermittedIsNeverBad, SelectionIsNeverBad};
 ghost use Rattle.edi_meaning.specs.Someone.{FittingForksHaveBranches, SomeoneMayStep, StandstillIsMarked};
+ghost use Rattle.edi_meaning.specs.Levels.{LevelsAreEnough};
 ghost use Rattle.edi_meaning.specs.Spent.{PermittedEndsSpent, SelectionEndsSpent};
 ghost use Rattle.edi_meaning.specs.Laws.{AttemptsAreWhole, CellsArePrivate, EverySelectionEnds, ParentsWait, RecordReplays, ReferencesLive};
 ghost use Rattle.edi_meaning.specs.Laws.{SelectIsPermitted, SelectionsAreDetermined, StepsGoOn};
@@ -20,6 +21,11 @@ pub fn attempts_are_whole()
 /// Each program ends, by its turns at the latest, whatever the choices.
 pub fn every_selection_ends()
     ensures law { EverySelectionEnds }
+{}
+
+/// An evaluation goes no deeper than turns are left: with any greater number of levels it is the same.
+pub fn levels_are_enough()
+    ensures law { LevelsAreEnough }
 {}
 
 /// It ends by its turns only where none is left, whatever permitted steps lead there, and so also in the execution that the
