@@ -32,8 +32,7 @@ pub record IsUseOf (used : List ℕ) (files : List (Option StoredFile)) : Type 0
 
 -- ---- faults
 
--- A fault of the slots: a page that cannot be there lies outside the data of a drive of so many blocks, and a block that is used
--- twice inside.
+-- a fault of the slots: a number that `Page` names lies outside the data of a drive of so many blocks, one that `Shared` names inside
 abbrev pub IsInRange : (count : ℕ) → MountFault → Type 0
 IsInRange count fault.Short = ⊥
 IsInRange count fault.Header = ⊥
@@ -41,8 +40,7 @@ IsInRange count (fault.Page slot page) = is_data 33 count page ≡ false
 IsInRange count (fault.Shared block) = is_data 33 count block ≡ true
 IsInRange count other = ⊤
 
--- A fault of an image: it is too short where it has some blocks but fewer than 64, and block 0 is wrong, or there are too many
--- blocks, where it has 64 or more; a fault of its slots comes where it has from 64 to 4096.
+-- a fault of an image: `Short` of 1 to 63 blocks; `Header` of 64 or more; a fault of a slot of 64 to 4096
 abbrev pub IsOfCount : (count : ℕ) → MountFault → Type 0
 IsOfCount count fault.Short = (0 < count) × (count < 64)
 IsOfCount count fault.Header = 64 ≤ count
