@@ -1,6 +1,6 @@
 -- The effect of an instruction by the words at the program counter, and what a step that asks nothing of the system keeps.
-use Rattle.std.proofs.Common.{◌≡◌, ℕ, Bool, List, drop, Option, None, sym, ap, subst, refl}
-use Rattle.std.specs.Prelude.{IfSome}
+use Rattle.std.proofs.Common.{◌≡◌, ℕ, Bool, List, drop, Option, None, sym, ap, subst, refl, arith}
+use Rattle.std.specs.Prelude.{◌<◌, ◌⊎◌, length}
 use Rattle.edi_calls.specs.declared.ends.Outside.{Outside}
 use Rattle.edi_calls.specs.State.{State}
 use Rattle.edi_target.specs.Decode.{decode}
@@ -10,19 +10,14 @@ use Rattle.edi_target.specs.Mach.{effect_at}
 use Rattle.edi_machine.specs.declared.ends.StepEnd.{StepEnd}
 use Rattle.edi_machine.specs.declared.ends.StepEnd.TheVariants as end
 use Rattle.edi_machine.specs.Numbers.{effect_by, placed}
-use Rattle.edi_machine.specs.Steps.{Blames, Gives, Keeps, Takes, effect_of}
+use Rattle.edi_target.proofs.Reading.{past_end}
+use Rattle.edi_machine.specs.Steps.{Blames, Gives, Keeps, Stepped, Takes, effect_of}
 
 -- the words that were found from the program counter on are those there
 effect_there : (words : List ℕ) (live : ℕ) (is_first : Bool) (l : Local) (front : List ℕ) → drop l.pc words ≡ front
     → effect_of words live is_first l ≡ effect_by words live is_first front l
 unfolding decode
 effect_there words live is_first l front here = ap (λ ws. effect_at (fetch words) (placed l.pc (decode ws)) live is_first l) here
-
-pub gives_there : (words : List ℕ) (live : ℕ) (is_first : Bool) (l : Local) (front : List ℕ) → drop l.pc words ≡ front
-    → (result : Option StepEnd) (after : Local) → IfSome result (λ e. Gives (effect_by words live is_first front l) e l after)
-    → IfSome result (λ e. Gives (effect_of words live is_first l) e l after)
-gives_there words live is_first l front here result after h =
-    subst (λ x. IfSome result (λ e. Gives x e l after)) (sym (effect_there words live is_first l front here)) h
 
 -- ---- a step that asks nothing of the system
 
@@ -54,3 +49,38 @@ gives_blame (asks number arguments address line l) end.Fault before after failed
 gives_blame (due turn l) end.Fault before after failed old new h none = absurd h
 gives_blame (fails cause line) end.Fault before after failed old new h none = absurd h
 gives_blame bad end.Fault before after failed old new h none = absurd h
+
+-- ---- all that a step tells
+
+module _ {X : Type 0} (state : X → Option State) (failed : X → Option Outside → Type 0) (faults : X → Outside → ℕ) (references : X → List ℕ)
+    (leads : X → X → Type 0) where
+  pub asks_nothing : (x : Effect) (e : StepEnd) (before after : Local) (calls : X) → Gives x e before after → failed calls None
+      → Stepped state failed faults references leads x e before after calls calls
+  asks_nothing x e before after calls h none = record {
+    exact = gives_takes x e before after (state calls) h;
+    keeps = keeps_itself x calls;
+    later = λ outside. omega arith;
+    blame = gives_blame x e before after (failed calls) (faults calls) (faults calls) h none;
+    references = refl;
+    leads = λ start led. led;
+  }
+
+  pub stepped_there : (words : List ℕ) (live : ℕ) (is_first : Bool) (l : Local) (front : List ℕ) → drop l.pc words ≡ front → (e : StepEnd) (after : Local)
+      (old new : X) → Stepped state failed faults references leads (effect_of words live is_first l) e l after old new
+      → Stepped state failed faults references leads (effect_by words live is_first front l) e l after old new
+  stepped_there words live is_first l front here e after old new h =
+      subst (λ x. Stepped state failed faults references leads x e l after old new) (effect_there words live is_first l front here) h
+
+  pub stepped_here : (words : List ℕ) (live : ℕ) (is_first : Bool) (l : Local) (front : List ℕ) → drop l.pc words ≡ front → (e : StepEnd) (after : Local)
+      (old new : X) → Stepped state failed faults references leads (effect_by words live is_first front l) e l after old new
+      → Stepped state failed faults references leads (effect_of words live is_first l) e l after old new
+  stepped_here words live is_first l front here e after old new h =
+      subst (λ x. Stepped state failed faults references leads x e l after old new) (sym (effect_there words live is_first l front here)) h
+
+  -- nothing stands behind the code
+  pub stepped_past : (words : List ℕ) (live : ℕ) (is_first : Bool) (l : Local) (calls : X) → (length words < l.pc) ⊎ (length words < length words)
+      → failed calls None → Stepped state failed faults references leads (effect_of words live is_first l) (end.Bad l.pc) l l calls calls
+  stepped_past words live is_first l calls past none =
+      let nothing : effect_of words live is_first l ≡ bad = ap (λ x. effect_at (fetch words) (placed l.pc x) live is_first l) (past_end words l.pc past) in
+      subst (λ x. Stepped state failed faults references leads x (end.Bad l.pc) l l calls calls) (sym nothing)
+      (asks_nothing bad (end.Bad l.pc) l l calls (refl, refl) none)

@@ -1,11 +1,13 @@
 -- What is pushed and popped.
-use Rattle.std.proofs.Common.{◌≡◌, ℕ, ◌+◌, ◌^◌, ◌<◌, ◌≤◌, List, [], ◌∷◌, ◌++◌, length, get_or, set, take, drop, refl, sym, ap, ap₂, ◌∙◌, arith, append_assoc}
-use Rattle.std.proofs.Common.{length-append, length-take}
+use Rattle.std.proofs.Common.{◌≡◌, ℕ, ◌+◌, ◌-◌, ◌^◌, ◌<◌, ◌≤◌, true, List, [], ◌∷◌, ◌++◌, length, get_or, set, take, drop, refl}
+use Rattle.std.proofs.Common.{sym, ap, ap₂, ◌∙◌, arith, append_assoc, length-append, length-take}
+use Rattle.std.specs.Prelude.{nat_le}
 use Rattle.std.proofs.lemmas.Bool.{le-leb, lt-leb}
-use Rattle.std.proofs.lemmas.List.{take_more, take_at, drop_at, drop-drop}
+use Rattle.std.proofs.lemmas.List.{take_more, take_at, drop_at, drop-drop, drop_more}
 use Rattle.edi_store.specs.Memory.{IsMemory, words_at, written}
 use Rattle.edi_store.proofs.MemoryLaws.{written-one, length-written, length-words_at}
-use Rattle.edi_target.specs.Effect.{Local, Effect, bad, push, to}
+use Rattle.edi_target.specs.Effect.{Local, Effect, bad, goes, pop, pop_word, push, to, within}
+use Rattle.edi_machine.specs.declared.ends.StepEnd.{StepEnd}
 use Rattle.edi_machine.specs.declared.ends.StepEnd.TheVariants as end
 use Rattle.edi_machine.specs.Steps.{Gives}
 
@@ -45,6 +47,9 @@ written_more memory at words i here within =
 pub words_at_length : (memory : List ℕ) (at n : ℕ) → IsMemory memory → at + n ≤ 2 ^ 16 → length (words_at memory at n) ≡ n
 words_at_length memory at n is within = length-words_at memory at n (omega (arith, is.long))
 
+pub words_at_one : (memory : List ℕ) (at : ℕ) → at < length memory → words_at memory at 1 ≡ get_or memory at 0 ∷ []
+words_at_one memory at within = ap (take 1) (drop_more memory at 0 within)
+
 -- ---- pushes
 
 -- a push where the frame has room, and where it has none
@@ -58,3 +63,25 @@ push_bad words l go full = rw (lt-leb (l.top + length words) l.end full) refl
 pub pushed : (words : List ℕ) (l : Local) (next : ℕ) (before after : Local) → l.top + length words ≤ l.end
     → after ≡ record l { memory = written l.memory l.top words; top = l.top + length words; pc = next } → Gives (push words l (to next)) end.On before after
 pushed words l next before after room same = rw (push_goes words l (to next) room) same
+
+-- one word that is loaded is a word pushed
+pub loaded_one : (memory : List ℕ) (x : ℕ) (l : Local) (next : ℕ) (result : StepEnd) (before after : Local) → IsMemory memory → x < 2 ^ 16
+    → Gives (push (get_or memory x 0 ∷ []) l (to next)) result before after
+    → Gives (within x 1 (push (words_at memory x 1) l (to next))) result before after
+loaded_one memory x l next result before after is small h =
+    rw (le-leb (x + 1) (2 ^ 16) (omega (arith, small)), words_at_one memory x (omega (arith, is.long))) h
+
+-- ---- stores
+
+-- one word that is kept
+pub kept_one : (l : Local) (x w next : ℕ) (new : List ℕ) → IsMemory l.memory → l.base + 7 ≤ l.top → l.top ≤ 2 ^ 16 → x ≡ get_or l.memory (l.top - 1 - 1) 0
+    → w ≡ get_or l.memory (l.top - 1) 0 → x < 2 ^ 16 → new ≡ set l.memory x w
+    → Gives (pop 1 l (λ words l. pop_word l (λ x l. within x 1 (goes (record l { memory = written l.memory x words; pc = next }))))) end.On l
+    (record l { memory = new; top = l.top - 1 - 1; pc = next })
+kept_one l x w next new is two top at value small put =
+    let word : w ∷ [] ≡ words_at l.memory (l.top - 1) 1 = ap (λ y. y ∷ []) value ∙ sym (words_at_one l.memory (l.top - 1) (omega (arith, is.long, two, top))) in
+    let with_memory : List ℕ → Local = λ m. record l { memory = m; top = l.top - 1 - 1; pc = next } in
+    let same : with_memory new ≡ with_memory (written l.memory x (words_at l.memory (l.top - 1) 1)) =
+    ap with_memory (put ∙ put_one l.memory x w is small ∙ ap (written l.memory x) word) in
+    let inside : nat_le (x + 1) (2 ^ 16) ≡ true = le-leb (x + 1) (2 ^ 16) (omega (arith, small)) in
+    rw (le-leb (l.base + 5 + 1) l.top (omega (arith, two)), le-leb (l.base + 6) (l.top - 1) (omega (arith, two)), sym at, inside) same

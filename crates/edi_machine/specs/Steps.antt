@@ -1,5 +1,5 @@
 -- Words of contracts. What a step answers and leaves, where the definition of the machine gives its instruction this effect.
-use Rattle.std.specs.Prelude.{◌≡◌, ℕ, Bool, true, false, ◌&&◌, nat_eq, List, length, Option, Some, None, ⊤}
+use Rattle.std.specs.Prelude.{◌≡◌, ◌≤◌, ℕ, Bool, true, false, ◌&&◌, nat_eq, List, length, Option, Some, None, ⊤}
 use Rattle.edi_told.specs.Faults.{CountRose}
 use Rattle.edi_told.specs.Told.{WhereTold}
 use Rattle.edi_calls.specs.declared.ends.Outside.{Outside}
@@ -93,6 +93,17 @@ Keeps effect old new = new ≡ old
 abbrev pub Blames : StepEnd → (failed : Option Outside → Type 0) → (old new : Outside → ℕ) → Type 0
 Blames end.Fault failed old new = (outside : Outside) × failed (Some outside) × CountRose (old outside) (new outside)
 Blames _ failed old new = failed None
+
+-- All that a step tells of the activity and of the object that has the system, where its instruction has this effect: the words of
+-- the object's trait come first.
+pub record Stepped {X : Type 0} (state : X → Option State) (failed : X → Option Outside → Type 0) (faults : X → Outside → ℕ)
+    (references_of : X → List ℕ) (leads_to : X → X → Type 0) (effect : Effect) (answer : StepEnd) (before after : Local) (old new : X) : Type 0 where
+  pub exact : Takes effect answer before after (state old) (state new)
+  pub keeps : Keeps effect old new
+  pub later : (outside : Outside) → faults old outside ≤ faults new outside
+  pub blame : Blames answer (failed new) (faults old) (faults new)
+  pub references : references_of new ≡ references_of old
+  pub leads : (start : X) → leads_to start old → leads_to start new
 
 -- the effect ends a critical phase
 abbrev pub is_released : Effect → Bool

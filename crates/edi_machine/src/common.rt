@@ -1,10 +1,10 @@
 //! The common instructions, each read, tested and executed at once by its number.
 
-ghost use Rattle.std.specs.Prelude.{◌≡◌, ◌+◌, ◌<◌, ◌≤◌, ◌^◌, ◌∷◌, length, drop, IfSome, IfNone};
+ghost use Rattle.std.specs.Prelude.{◌≡◌, ◌+◌, ◌<◌, ◌≤◌, ◌^◌, ◌∷◌, None, length, drop};
 ghost use Rattle.edi_target.specs.Effect.{Local};
 ghost use Rattle.edi_machine.specs.Activities.{IsOrdered, local_of};
 ghost use Rattle.edi_machine.specs.Numbers.{effect_by};
-ghost use Rattle.edi_machine.specs.Steps.{Gives, effect_of};
+ghost use Rattle.edi_machine.specs.Steps.{Stepped, effect_of};
 
 use crate::activity::Activity;
 use crate::arithmetic::{difference, negation, other_truth, product, quotient, remainder, sum};
@@ -13,13 +13,17 @@ use crate::constants::{check, constant, element_address, field_address, frame_ad
 use crate::ends::StepEnd;
 use crate::instruction::code_address;
 use crate::procedures::{call, leave_block};
+use crate::rare::execute_any;
 use crate::variables::{keep, load};
 use crate::{jumps, processes};
+use edi_calls::Calls;
 use edi_store::Store;
 
-// Executes the instruction of this number and these operands, if it is a common one and its operands are as the table says.
+// Executes the instruction of this number and these operands, which stands at the activity's `pc`: a common one here, and each other
+// in one function for all of them.
+#[tactic(auto, using(crate::proofs::Commonly::asks_nothing))]
 #[inline(always)]
-fn execute_by(
+fn execute_by<C: Calls>(
     store: &mut Store,
     activity: &mut Activity,
     words: &[u16],
@@ -27,37 +31,40 @@ fn execute_by(
     first: bool,
     number: u16,
     operands: &[u16],
-) -> Option<StepEnd>
+    calls: &mut C,
+) -> StepEnd
     requires size { length words.now < 2 ^ 32 }
-    requires ordered { IsOrdered activity.old }
+    requires here { drop activity.old.pc words.now ≡ number ∷ operands.now }
     requires room { activity.old.pc + 1 + length operands.now < 2 ^ 32 }
-    ensures exact { let l = local_of store.old activity.old in
-        IfSome result (λ end. Gives (effect_by words.now live first (number ∷ operands.now) l) end l (local_of store.new activity.new)) }
-    ensures store { IfNone result (store.new ≡ store.old) }
-    ensures activity { IfNone result (activity.new ≡ activity.old) }
+    requires working { C.failed calls.old None }
+    requires live { live ≤ 32 }
+    requires ordered { IsOrdered activity.old }
+    ensures all { let l = local_of store.old activity.old in
+        Stepped C.state C.failed C.faults C.references C.leads (effect_by words.now live first (number ∷ operands.now) l) result l
+        (local_of store.new activity.new) calls.old calls.new }
     ensures ordered { IsOrdered activity.new }
 {
     let at = activity.pc;
     match number {
         1 => match *operands {
-            [value, ..] => Some(constant(store, activity, value, at + 2)),
-            _ => None
+            [value, ..] => constant(store, activity, value, at + 2),
+            _ => StepEnd::Bad(at)
         },
         4 => match *operands {
             [level, offset, ..] => if level <= 64 {
-                Some(frame_address(store, activity, level, offset, at + 3))
+                frame_address(store, activity, level, offset, at + 3)
             } else {
-                None
+                StepEnd::Bad(at)
             },
-            _ => None
+            _ => StepEnd::Bad(at)
         },
         5 => match *operands {
-            [offset, ..] => Some(field_address(store, activity, offset, at + 2)),
-            _ => None
+            [offset, ..] => field_address(store, activity, offset, at + 2),
+            _ => StepEnd::Bad(at)
         },
         6 => match *operands {
             [low, high, size, line, ..] => if low.cast_signed() <= high.cast_signed() {
-                Some(element_address(
+                element_address(
                     store,
                     activity,
                     low.cast_signed(),
@@ -65,122 +72,112 @@ fn execute_by(
                     size,
                     line,
                     at + 5,
-                ))
+                )
             } else {
-                None
+                StepEnd::Bad(at)
             },
-            _ => None
+            _ => StepEnd::Bad(at)
         },
         7 => match *operands {
             [count, ..] => if count >= 1 {
-                Some(load(store, activity, count, at + 2))
+                load(store, activity, count, at + 2)
             } else {
-                None
+                StepEnd::Bad(at)
             },
-            _ => None
+            _ => StepEnd::Bad(at)
         },
         8 => match *operands {
             [count, ..] => if count >= 1 {
-                Some(keep(store, activity, count, at + 2))
+                keep(store, activity, count, at + 2)
             } else {
-                None
+                StepEnd::Bad(at)
             },
-            _ => None
+            _ => StepEnd::Bad(at)
         },
         9 => match *operands {
-            [line, ..] => Some(sum(store, activity, line, at + 2)),
-            _ => None
+            [line, ..] => sum(store, activity, line, at + 2),
+            _ => StepEnd::Bad(at)
         },
         10 => match *operands {
-            [line, ..] => Some(difference(store, activity, line, at + 2)),
-            _ => None
+            [line, ..] => difference(store, activity, line, at + 2),
+            _ => StepEnd::Bad(at)
         },
         11 => match *operands {
-            [line, ..] => Some(product(store, activity, line, at + 2)),
-            _ => None
+            [line, ..] => product(store, activity, line, at + 2),
+            _ => StepEnd::Bad(at)
         },
         12 => match *operands {
-            [line, ..] => Some(quotient(store, activity, line, at + 2)),
-            _ => None
+            [line, ..] => quotient(store, activity, line, at + 2),
+            _ => StepEnd::Bad(at)
         },
         13 => match *operands {
-            [line, ..] => Some(remainder(store, activity, line, at + 2)),
-            _ => None
+            [line, ..] => remainder(store, activity, line, at + 2),
+            _ => StepEnd::Bad(at)
         },
         14 => match *operands {
-            [line, ..] => Some(negation(store, activity, line, at + 2)),
-            _ => None
+            [line, ..] => negation(store, activity, line, at + 2),
+            _ => StepEnd::Bad(at)
         },
-        15 => Some(other_truth(store, activity, at + 1)),
+        15 => other_truth(store, activity, at + 1),
         16 => match *operands {
             [count, ..] => if count >= 1 {
-                Some(are_equal(store, activity, count, at + 2))
+                are_equal(store, activity, count, at + 2)
             } else {
-                None
+                StepEnd::Bad(at)
             },
-            _ => None
+            _ => StepEnd::Bad(at)
         },
         17 => match *operands {
             [count, ..] => if count >= 1 {
-                Some(are_not_equal(store, activity, count, at + 2))
+                are_not_equal(store, activity, count, at + 2)
             } else {
-                None
+                StepEnd::Bad(at)
             },
-            _ => None
+            _ => StepEnd::Bad(at)
         },
-        18 => Some(is_below(store, activity, at + 1)),
-        19 => Some(is_at_most(store, activity, at + 1)),
-        20 => Some(is_above(store, activity, at + 1)),
-        21 => Some(is_at_least(store, activity, at + 1)),
+        18 => is_below(store, activity, at + 1),
+        19 => is_at_most(store, activity, at + 1),
+        20 => is_above(store, activity, at + 1),
+        21 => is_at_least(store, activity, at + 1),
         27 => match *operands {
-            [low, high, line, ..] => Some(check(
+            [low, high, line, ..] => check(
                 store,
                 activity,
                 low.cast_signed(),
                 high.cast_signed(),
                 line,
                 at + 4,
-            )),
-            _ => None
+            ),
+            _ => StepEnd::Bad(at)
         },
         28 => match *operands {
-            [high, low, ..] => Some(jumps::jump(store, activity, code_address(high, low))),
-            _ => None
+            [high, low, ..] => jumps::jump(store, activity, code_address(high, low)),
+            _ => StepEnd::Bad(at)
         },
         29 => match *operands {
-            [high, low, ..] => Some(jumps::jump_if_false(
+            [high, low, ..] => jumps::jump_if_false(
                 store,
                 activity,
                 code_address(high, low),
                 at + 3,
-            )),
-            _ => None
+            ),
+            _ => StepEnd::Bad(at)
         },
         30 => match *operands {
-            [high, low, ..] => Some(jumps::jump_and(
-                store,
-                activity,
-                code_address(high, low),
-                at + 3,
-            )),
-            _ => None
+            [high, low, ..] => jumps::jump_and(store, activity, code_address(high, low), at + 3),
+            _ => StepEnd::Bad(at)
         },
         31 => match *operands {
-            [high, low, ..] => Some(jumps::jump_or(
-                store,
-                activity,
-                code_address(high, low),
-                at + 3,
-            )),
-            _ => None
+            [high, low, ..] => jumps::jump_or(store, activity, code_address(high, low), at + 3),
+            _ => StepEnd::Bad(at)
         },
         32 => match *operands {
-            [high, low, ..] => Some(jumps::jump_back(store, activity, code_address(high, low))),
-            _ => None
+            [high, low, ..] => jumps::jump_back(store, activity, code_address(high, low)),
+            _ => StepEnd::Bad(at)
         },
         34 => match *operands {
             [level, high, low, line, ..] => if level <= 64 {
-                Some(call(
+                call(
                     store,
                     activity,
                     words,
@@ -188,84 +185,84 @@ fn execute_by(
                     code_address(high, low),
                     line,
                     at + 5,
-                ))
+                )
             } else {
-                None
+                StepEnd::Bad(at)
             },
-            _ => None
+            _ => StepEnd::Bad(at)
         },
         37 => match *operands {
             [results, function, ..] => if function <= 1 {
-                Some(leave_block(store, activity, first, results, function))
+                leave_block(store, activity, first, results, function)
             } else {
-                None
+                StepEnd::Bad(at)
             },
-            _ => None
+            _ => StepEnd::Bad(at)
         },
         39 => match *operands {
-            [line, ..] => Some(processes::arrive(store, activity, line, at + 2)),
-            _ => None
+            [line, ..] => processes::arrive(store, activity, line, at + 2),
+            _ => StepEnd::Bad(at)
         },
-        41 => Some(processes::end_phase(store, activity, at + 1)),
+        41 => processes::end_phase(store, activity, at + 1),
         44 => match *operands {
-            [high, low, ..] => Some(processes::try_again(
-                store,
-                activity,
-                true,
-                code_address(high, low),
-            )),
-            _ => None
+            [high, low, ..] => processes::try_again(store, activity, true, code_address(high, low)),
+            _ => StepEnd::Bad(at)
         },
-        _ => None,
+        _ => execute_any(store, activity, words, live, first, calls),
     }
 }
 
-// Executes the instruction at the front of these words, which are those of the code from the activity's `pc` on, if it is a common
-// one.
+// Executes the instruction at the front of these words, which are those of the code from the activity's `pc` on.
 #[inline(always)]
-fn execute_front(
+fn execute_front<C: Calls>(
     store: &mut Store,
     activity: &mut Activity,
     words: &[u16],
     live: u32,
     first: bool,
     front: &[u16],
-) -> Option<StepEnd>
+    calls: &mut C,
+) -> StepEnd
     requires size { length words.now < 2 ^ 32 }
-    requires ordered { IsOrdered activity.old }
+    requires here { drop activity.old.pc words.now ≡ front.now }
     requires room { activity.old.pc + length front.now < 2 ^ 32 }
-    ensures exact { let l = local_of store.old activity.old in
-        IfSome result (λ end. Gives (effect_by words.now live first front.now l) end l (local_of store.new activity.new)) }
-    ensures store { IfNone result (store.new ≡ store.old) }
-    ensures activity { IfNone result (activity.new ≡ activity.old) }
+    requires working { C.failed calls.old None }
+    requires live { live ≤ 32 }
+    requires ordered { IsOrdered activity.old }
+    ensures all { let l = local_of store.old activity.old in
+        Stepped C.state C.failed C.faults C.references C.leads (effect_by words.now live first front.now l) result l
+        (local_of store.new activity.new) calls.old calls.new }
     ensures ordered { IsOrdered activity.new }
 {
     let [number, operands @ ..] = front else {
-        return None;
+        return StepEnd::Bad(activity.pc);
     };
-    execute_by(store, activity, words, live, first, *number, operands)
+    execute_by(
+        store, activity, words, live, first, *number, operands, calls,
+    )
 }
 
-/// Executes the instruction at the activity's `pc`, if it is a common one and is read there. Where the answer is none nothing has
-/// changed.
+/// Executes the instruction at the activity's `pc`.
 #[inline(always)]
-pub fn execute_common(
+pub fn execute_here<C: Calls>(
     store: &mut Store,
     activity: &mut Activity,
     words: &[u16],
     live: u32,
     first: bool,
-) -> Option<StepEnd>
+    calls: &mut C,
+) -> StepEnd
     requires size { length words.now < 2 ^ 32 }
+    requires working { C.failed calls.old None }
+    requires live { live ≤ 32 }
     requires ordered { IsOrdered activity.old }
-    ensures exact { let l = local_of store.old activity.old in
-        IfSome result (λ end. Gives (effect_of words.now live first l) end l (local_of store.new activity.new)) }
-    ensures store { IfNone result (store.new ≡ store.old) }
-    ensures activity { IfNone result (activity.new ≡ activity.old) }
+    ensures all { let l = local_of store.old activity.old in
+        Stepped C.state C.failed C.faults C.references C.leads (effect_of words.now live first l) result l (local_of store.new activity.new)
+        calls.old calls.new }
     ensures ordered { IsOrdered activity.new }
 {
     let Some(front) = words.get(activity.pc as usize..) else {
-        return None;
+        return StepEnd::Bad(activity.pc);
     };
-    execute_front(store, activity, words, live, first, front)
+    execute_front(store, activity, words, live, first, front, calls)
 }

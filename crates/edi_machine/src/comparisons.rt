@@ -91,6 +91,7 @@ pub fn is_at_least(store: &mut Store, activity: &mut Activity, next: u32) -> Ste
 }
 
 // Whether the two values of `count` words on top are equal, where the frame has them above its first five.
+#[inline(never)]
 fn top_two_are_equal(store: &Store, activity: &Activity, count: u16) -> Option<bool>
     requires ordered { IsOrdered activity.now }
     ensures top { let a = activity.now in
@@ -107,7 +108,6 @@ fn top_two_are_equal(store: &Store, activity: &Activity, count: u16) -> Option<b
 }
 
 /// EQ.
-#[inline(never)]
 pub fn are_equal(store: &mut Store, activity: &mut Activity, count: u16, next: u32) -> StepEnd
     requires ordered { IsOrdered activity.old }
     ensures exact { let l = local_of store.old activity.old in
@@ -128,7 +128,6 @@ pub fn are_equal(store: &mut Store, activity: &mut Activity, count: u16, next: u
 }
 
 /// NE.
-#[inline(never)]
 pub fn are_not_equal(store: &mut Store, activity: &mut Activity, count: u16, next: u32) -> StepEnd
     requires ordered { IsOrdered activity.old }
     ensures exact { let l = local_of store.old activity.old in

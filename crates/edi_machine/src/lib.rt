@@ -13,6 +13,7 @@ mod instruction;
 mod jumps;
 mod procedures;
 mod processes;
+mod rare;
 mod sets;
 mod start;
 mod steps;

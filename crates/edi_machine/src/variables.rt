@@ -8,8 +8,22 @@ ghost use Rattle.edi_machine.specs.Steps.{Gives};
 
 use crate::activity::Activity;
 use crate::ends::StepEnd;
-use crate::frame::top_word;
+use crate::frame::{push_at, top_two_words, top_word};
 use edi_store::{MEMORY_WORDS, Store};
+
+// LOAD of one word.
+fn load_word(store: &mut Store, activity: &mut Activity, next: u32) -> StepEnd
+    requires ordered { IsOrdered activity.old }
+    ensures exact { let l = local_of store.old activity.old in
+        Gives (pop_word l (λ x l. within x 1 (push (words_at l.memory x 1) l (to next)))) result l (local_of store.new activity.new) }
+    ensures ordered { IsOrdered activity.new }
+{
+    let Some(x) = top_word(store, activity) else {
+        return StepEnd::Bad(activity.pc);
+    };
+    let word = store.get(x);
+    push_at(store, activity, activity.top - 1, word, next)
+}
 
 /// LOAD.
 #[tactic(auto, using(crate::proofs::Frames::words_at_length))]
@@ -19,6 +33,9 @@ pub fn load(store: &mut Store, activity: &mut Activity, count: u16, next: u32) -
         Gives (pop_word l (λ x l. within x count (push (words_at l.memory x count) l (to next)))) result l (local_of store.new activity.new) }
     ensures ordered { IsOrdered activity.new }
 {
+    if count == 1 {
+        return load_word(store, activity, next);
+    }
     let Some(x) = top_word(store, activity) else {
         return StepEnd::Bad(activity.pc);
     };
@@ -35,6 +52,23 @@ pub fn load(store: &mut Store, activity: &mut Activity, count: u16, next: u32) -
     StepEnd::On
 }
 
+// STORE of one word.
+fn keep_word(store: &mut Store, activity: &mut Activity, next: u32) -> StepEnd
+    requires ordered { IsOrdered activity.old }
+    ensures exact { let l = local_of store.old activity.old in
+        Gives (pop 1 l (λ words l. pop_word l (λ x l. within x 1 (goes (record l { memory = written l.memory x words; pc = next }))))) result l
+        (local_of store.new activity.new) }
+    ensures ordered { IsOrdered activity.new }
+{
+    let Some((x, word)) = top_two_words(store, activity) else {
+        return StepEnd::Bad(activity.pc);
+    };
+    store.put(x, word);
+    activity.top = activity.top - 1 - 1;
+    activity.pc = next;
+    StepEnd::On
+}
+
 /// STORE.
 pub fn keep(store: &mut Store, activity: &mut Activity, count: u16, next: u32) -> StepEnd
     requires ordered { IsOrdered activity.old }
@@ -43,6 +77,9 @@ pub fn keep(store: &mut Store, activity: &mut Activity, count: u16, next: u32) -
         (local_of store.new activity.new) }
     ensures ordered { IsOrdered activity.new }
 {
+    if count == 1 {
+        return keep_word(store, activity, next);
+    }
     let count = u32::from(count);
     if activity.top - activity.base < count + 6 {
         return StepEnd::Bad(activity.pc);

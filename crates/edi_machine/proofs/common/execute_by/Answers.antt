@@ -1,0 +1,22 @@
+use Rattle.std.proofs.Common.{◌∷◌, rules}
+use Rattle.edi_machine.specs.Activities.{local_of}
+use Rattle.edi_machine.specs.Numbers.{effect_by}
+use Rattle.edi_machine.proofs.Commonly.{asks_nothing, stepped_there}
+use Rattle.edi_machine.proofs.common.execute_by.Goals as goal
+
+pub returns-then-cast_signed-clause-all : goal.returns-then-cast_signed-clause-all
+returns-then-cast_signed-clause-all g c =
+    asks_nothing g.C.Calls.state g.C.Calls.failed g.C.Calls.faults g.C.Calls.references g.C.Calls.leads
+    (effect_by c.args.words.now c.args.live c.args.first (c.args.number ∷ c.args.operands.now) (local_of c.args.store.now c.args.activity.now))
+    c.element_address.result _ _ c.args.calls.now (search rules) c.requires.working
+
+pub returns-in-len3-up-clause-all : goal.returns-in-len3-up-clause-all
+returns-in-len3-up-clause-all g c =
+    asks_nothing g.C.Calls.state g.C.Calls.failed g.C.Calls.faults g.C.Calls.references g.C.Calls.leads
+    (effect_by c.args.words.now c.args.live c.args.first (c.args.number ∷ c.args.operands.now) (local_of c.args.store.now c.args.activity.now))
+    c.check.result _ _ c.args.calls.now (search rules) c.requires.working
+
+pub returns-in_default-clause-all : goal.returns-in_default-clause-all
+returns-in_default-clause-all g c =
+    stepped_there g.C.Calls.state g.C.Calls.failed g.C.Calls.faults g.C.Calls.references g.C.Calls.leads c.args.words.now c.args.live c.args.first
+    (local_of c.args.store.now c.args.activity.now) (c.args.number ∷ c.args.operands.now) c.requires.here _ _ _ _ c.execute_any.ensures.all
