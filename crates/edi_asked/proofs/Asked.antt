@@ -66,7 +66,7 @@ module _
       top = t + length (cells_words g s.first F cells)
 
       done : Does g s F pc top t held w m (Ran g s to t) (system_call number cells line w)
-      done = go (fed g s F cells number asks_for passed.held is_asked)
+      done = go (fed g s F cells number asks_for passed.cells_fit is_asked)
         where
           ten : (1 ≤ number) × (number ≤ 10)
           ten = numbered g.unit.types number asks_for is_asked

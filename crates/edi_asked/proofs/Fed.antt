@@ -51,17 +51,17 @@ module _ (g : Coded) (s : Scene) (F : meaning.Shape) (number : ℕ) where
 
   nothing_fed : (cells : List Cell) → argument_words number ≡ 0 → answer_words number ≡ 0 → CellsFit g s F here no_formal cells →
       Silent g s F cells number no_formal
-  nothing_fed [] words answers held = record { types = refl; none = answers; words = refl; long = sym words; stays = λ store. refl }
-  nothing_fed (c ∷ cs) words answers held = absurd held
+  nothing_fed [] words answers fit = record { types = refl; none = answers; words = refl; long = sym words; stays = λ store. refl }
+  nothing_fed (c ∷ cs) words answers fit = absurd fit
 
   character_fed : (cells : List Cell) → argument_words number ≡ 1 → answer_words number ≡ 0 → CellsFit g s F here (value_then char_type no_formal) cells →
       Silent g s F cells number (value_then char_type no_formal)
-  character_fed [] words answers held = absurd held
-  character_fed (location l ∷ cs) words answers held = absurd held.0
-  character_fed (procedure c ∷ cs) words answers held = absurd held.0
-  character_fed (value v ∷ (c ∷ cs)) words answers held = absurd held.1
-  character_fed (value v ∷ []) words answers held =
-      let given = (arguments_are_words g.unit.types (table_of g)).0 v held.0 in
+  character_fed [] words answers fit = absurd fit
+  character_fed (location l ∷ cs) words answers fit = absurd fit.0
+  character_fed (procedure c ∷ cs) words answers fit = absurd fit.0
+  character_fed (value v ∷ (c ∷ cs)) words answers fit = absurd fit.1
+  character_fed (value v ∷ []) words answers fit =
+      let given = (arguments_are_words g.unit.types (table_of g)).0 v fit.0 in
       record {
         types = refl;
         none = answers;
@@ -72,11 +72,11 @@ module _ (g : Coded) (s : Scene) (F : meaning.Shape) (number : ℕ) where
 
   variable_fed : (u : ℕ) (cells : List Cell) → argument_words number ≡ 0 → answer_words number ≡ 1 → CellsFit g s F here (variable_then u no_formal) cells →
       Answering g s F cells number (variable_then u no_formal)
-  variable_fed u [] words answers held = absurd held
-  variable_fed u (value v ∷ cs) words answers held = absurd held.0
-  variable_fed u (procedure c ∷ cs) words answers held = absurd held.0
-  variable_fed u (location l ∷ (c ∷ cs)) words answers held = absurd held.1
-  variable_fed u (location l ∷ []) words answers held = record {
+  variable_fed u [] words answers fit = absurd fit
+  variable_fed u (value v ∷ cs) words answers fit = absurd fit.0
+  variable_fed u (procedure c ∷ cs) words answers fit = absurd fit.0
+  variable_fed u (location l ∷ (c ∷ cs)) words answers fit = absurd fit.1
+  variable_fed u (location l ∷ []) words answers fit = record {
     at = l;
     of = u;
     types = refl;
@@ -84,22 +84,22 @@ module _ (g : Coded) (s : Scene) (F : meaning.Shape) (number : ℕ) where
     words = refl;
     long = sym words;
     puts = λ word store. refl;
-    leads = held.0.0;
-    older = held.0.1;
+    leads = fit.0.0;
+    older = fit.0.1;
   }
 
   title_fed : (t : ℕ) (cells : List Cell) → t < length g.unit.types → IsTitle g.unit.types t → argument_words number ≡ 12 → answer_words number ≡ 1 →
       CellsFit g s F here (value_then t (variable_then bool_type no_formal)) cells →
       Answering g s F cells number (value_then t (variable_then bool_type no_formal))
-  title_fed t [] known title words answers held = absurd held
-  title_fed t (location l ∷ cs) known title words answers held = absurd held.0
-  title_fed t (procedure c ∷ cs) known title words answers held = absurd held.0
-  title_fed t (value v ∷ []) known title words answers held = absurd held.1
-  title_fed t (value v ∷ (value x ∷ cs)) known title words answers held = absurd held.1.0
-  title_fed t (value v ∷ (procedure c ∷ cs)) known title words answers held = absurd held.1.0
-  title_fed t (value v ∷ (location l ∷ (c ∷ cs))) known title words answers held = absurd held.1.1
-  title_fed t (value v ∷ (location l ∷ [])) known title words answers held =
-      let given = (arguments_are_words g.unit.types (table_of g)).1 v t known title held.0 in
+  title_fed t [] known title words answers fit = absurd fit
+  title_fed t (location l ∷ cs) known title words answers fit = absurd fit.0
+  title_fed t (procedure c ∷ cs) known title words answers fit = absurd fit.0
+  title_fed t (value v ∷ []) known title words answers fit = absurd fit.1
+  title_fed t (value v ∷ (value x ∷ cs)) known title words answers fit = absurd fit.1.0
+  title_fed t (value v ∷ (procedure c ∷ cs)) known title words answers fit = absurd fit.1.0
+  title_fed t (value v ∷ (location l ∷ (c ∷ cs))) known title words answers fit = absurd fit.1.1
+  title_fed t (value v ∷ (location l ∷ [])) known title words answers fit =
+      let given = (arguments_are_words g.unit.types (table_of g)).1 v t known title fit.0 in
       record {
         at = l;
         of = bool_type;
@@ -108,8 +108,8 @@ module _ (g : Coded) (s : Scene) (F : meaning.Shape) (number : ℕ) where
         words = ap (λ k. k ++ location_address g s.first F l ∷ []) (sym (append-nil (words_of_value v) ∙ given.0));
         long = ap length (append-nil (words_of_value v) ∙ given.0) ∙ given.1 ∙ sym words;
         puts = λ word store. refl;
-        leads = held.1.0.0;
-        older = held.1.0.1;
+        leads = fit.1.0.0;
+        older = fit.1.0.1;
       }
 
 -- ---- any call
@@ -135,16 +135,16 @@ numbered types number formals (remove t e title d) = (omega (arith, e), omega (a
 
 module _
     (g : Coded) (s : Scene) (F : meaning.Shape) (cells : List Cell) (number : ℕ) (formals : Formals)
-    (held : CellsFit g s F (now F s.name) formals cells) where
+    (fit : CellsFit g s F (now F s.name) formals cells) where
   silent : (fs : Formals) → formals ≡ fs → (CellsFit g s F (now F s.name) fs cells → Silent g s F cells number fs) →
       Silent g s F cells number formals ⊎ Answering g s F cells number formals
   silent fs d f =
-      inl (subst (λ x. Silent g s F cells number x) (sym d) (f (subst (λ x. CellsFit g s F (now F s.name) x cells) d held)))
+      inl (subst (λ x. Silent g s F cells number x) (sym d) (f (subst (λ x. CellsFit g s F (now F s.name) x cells) d fit)))
 
   answering : (fs : Formals) → formals ≡ fs → (CellsFit g s F (now F s.name) fs cells → Answering g s F cells number fs) →
       Silent g s F cells number formals ⊎ Answering g s F cells number formals
   answering fs d f =
-      inr (subst (λ x. Answering g s F cells number x) (sym d) (f (subst (λ x. CellsFit g s F (now F s.name) x cells) d held)))
+      inr (subst (λ x. Answering g s F cells number x) (sym d) (f (subst (λ x. CellsFit g s F (now F s.name) x cells) d fit)))
 
   titled : (t : ℕ) → IsTitle g.unit.types t → formals ≡ value_then t (variable_then bool_type no_formal) → argument_words number ≡ 12 →
       answer_words number ≡ 1 → Silent g s F cells number formals ⊎ Answering g s F cells number formals

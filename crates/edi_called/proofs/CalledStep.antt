@@ -186,4 +186,4 @@ pub called_claim : (g : Coded) → ValuesAreLong → ZeroIsZeros → (s : Scene)
     ((deeper : Acts → World → Evaluation (Unit {0})) (bound : ℕ) → SystemClaim g s deeper bound) → CalledClaim g s
 called_claim g long zeros s system c line cells left F pc to w m store from r cleared st fits res h passed at there shaped outside =
     followed g long zeros s system c line cells left F pc to w m store from r cleared st fits res h passed at there shaped outside
-    (called_so g s F w m h line pc to (base_of g s F + length (cells_words g s.first F cells)) 0 cells c st fits passed.held)
+    (called_so g s F w m h line pc to (base_of g s F + length (cells_words g s.first F cells)) 0 cells c st fits passed.cells_fit)

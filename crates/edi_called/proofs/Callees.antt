@@ -27,7 +27,7 @@ use Rattle.edi_target.specs.Mach.{effect_at, is_first}
 use Rattle.edi_scheme.specs.Code.{slot_offset, call_code}
 use Rattle.edi_scheme.specs.Stands as code
 use Rattle.edi_spots.specs.Coded.{Coded, block, entry, slot_in, slots_of, words_in, offset, heading_of}
-use Rattle.edi_spots.specs.Spots.{address, block_at, Fine, Layout, Answers, Holds, slot_address, closure_words, cell_words}
+use Rattle.edi_spots.specs.Spots.{address, block_at, Fine, Layout, IsMeantBy, Holds, slot_address, closure_words, cell_words}
 use Rattle.edi_spots.specs.Scene.{Scene, here, alone, Stands}
 use Rattle.edi_spots.specs.Claims.{CellsFit}
 use Rattle.edi_spots.proofs.Places.{start_within, roomy, reached_live, level_is}
@@ -56,11 +56,11 @@ formal_slot (Some (slot.Var t)) h = absurd (cc)
 formal_slot (Some (slot.Formal r)) h = refl
 
 -- what a procedure parameter holds is a procedure, which answers its heading
-held_procedure : (g : Coded) (F : Shape) (z : Spot) (h : Heading) (r : Option ℕ) (c : Cell) → Holds g F z h (Some (slot.Formal r)) c →
-    (c ≡ procedure (procedure_in c)) × Answers g F z h (procedure_in c)
-held_procedure g F z h r (value v) held = absurd held
-held_procedure g F z h r (location l) held = absurd held
-held_procedure g F z h r (procedure c) held = (refl, held)
+cell_procedure : (g : Coded) (F : Shape) (z : Spot) (h : Heading) (r : Option ℕ) (c : Cell) → Holds g F z h (Some (slot.Formal r)) c →
+    (c ≡ procedure (procedure_in c)) × IsMeantBy g F z h (procedure_in c)
+cell_procedure g F z h r (value v) fits = absurd fits
+cell_procedure g F z h r (location l) fits = absurd fits
+cell_procedure g F z h r (procedure c) fits = (refl, fits)
 
 no_formal_there : (vs : List ℕ) (v : ℕ) (r : Option ℕ) → slice_get (map slot.Value vs) v ≡ Some (slot.Formal r) → ⊥
 no_formal_there [] v r e = let a : ◌≡◌ {A = Option Parameter} None (Some (slot.Formal r)) = e in absurd (cc)
@@ -166,7 +166,7 @@ module _ (g : Coded) (s : Scene) (F : Shape) (w : World) (m : List ℕ) (h : Sta
       number = n;
       parent = far;
       means = λ i. block_procedure n (reached (seen i) levels (now (seen i) s.name));
-      called = record { known = fits.1; called = fits.2; lives = far_lives; older = far_older; up = far_block ∙ fits.3; held = args };
+      called = record { known = fits.1; called = fits.2; lives = far_lives; older = far_older; up = far_block ∙ fits.3; cells_fit = args };
       result = refl;
       does = ap (λ o. effect_at g.fetched o s.count (is_first s.name) lo) at ∙ ap (λ a. enter (g.fetched (entry g n)) a to line lo) far_level;
     }
@@ -187,9 +187,9 @@ module _ (g : Coded) (s : Scene) (F : Shape) (w : World) (m : List ℕ) (h : Sta
       abbrev cl : Closure
       cl = procedure_in (cell w.store far v)
 
-      far_holds : (cell w.store far v ≡ procedure cl) × Answers g F far head cl
+      far_holds : (cell w.store far v ≡ procedure cl) × IsMeantBy g F far head cl
       far_holds =
-          held_procedure g F far head res (cell w.store far v)
+          cell_procedure g F far head res (cell w.store far v)
           (subst (λ b. Holds g F far (heading_of g b v) (Some (slot.Formal res)) (cell w.store far v)) far_block
           (subst (λ o. Holds g F far (heading_of g (block_at g F far) v) o (cell w.store far v)) far_slot (h.typed.holds far v far_lives far_below)))
 
@@ -243,7 +243,7 @@ module _ (g : Coded) (s : Scene) (F : Shape) (w : World) (m : List ℕ) (h : Sta
           ByBlock g s F w m h (callee.Formal levels v) line pc to top held cells ⊎ BySystem g s F w m h (callee.Formal levels v) line pc to top held cells
       by_formal st args = go cl refl far_holds.1 far_words
         where
-          go : (k : Closure) → cl ≡ k → Answers g F far head k → words_at m at 3 ≡ closure_words g s.first F k →
+          go : (k : Closure) → cl ≡ k → IsMeantBy g F far head k → words_at m at 3 ≡ closure_words g s.first F k →
               ByBlock g s F w m h (callee.Formal levels v) line pc to top held cells ⊎ BySystem g s F w m h (callee.Formal levels v) line pc to top held cells
           go (system_procedure number) e answers words = inr (record { number = number; means = formal_here ∙ e; result = sym head_result ∙ answers.1 })
           go (block_procedure number parent) e answers words =
@@ -261,7 +261,7 @@ module _ (g : Coded) (s : Scene) (F : Shape) (w : World) (m : List ℕ) (h : Sta
                   older = older_all parent far r answers.4 far_older;
                   up =
                       answers.5;
-                  held = subst (λ x. CellsFit g s F r (heading_formals x) cells) (sym answers.2) args;
+                  cells_fit = subst (λ x. CellsFit g s F r (heading_formals x) cells) (sym answers.2) args;
                 };
                 result = ap heading_result answers.2 ∙ head_result;
                 does =

@@ -30,11 +30,11 @@ use Rattle.edi_called.proofs.Blocks.{H, at_new, of_new}
 use Rattle.edi_called.proofs.Called.{block_does}
 
 -- a variable for values holds one of its type
-held_value : (g : Coded) (F : Shape) (z : Spot) (h : Heading) (t : ℕ) (c : Cell) → Holds g F z h (Some (slot.Value t)) c →
+cell_value : (g : Coded) (F : Shape) (z : Spot) (h : Heading) (t : ℕ) (c : Cell) → Holds g F z h (Some (slot.Value t)) c →
     (c ≡ value (value_in c)) × IsOf g.unit.types (value_in c) t
-held_value g F z h t (value v) held = (refl, held)
-held_value g F z h t (location l) held = absurd held
-held_value g F z h t (procedure c) held = absurd held
+cell_value g F z h t (value v) fits = (refl, fits)
+cell_value g F z h t (location l) fits = absurd fits
+cell_value g F z h t (procedure c) fits = absurd fits
 
 -- the function variable is the first
 first_slot : (r : Option ℕ) (of : ℕ) (ps : List Parameter) → r ≡ Some of → slice_get (map slot.Value (option_to_list r) ++ ps) 0 ≡ Some (slot.Value of)
@@ -55,7 +55,7 @@ module _ (g : Coded) (s : Scene) (K : Shape) (v : World) (mm : List ℕ) (st : S
   below = slice_get_within (slots (block g (block_at g K nu))) 0 (slot.Value of) slot_is
 
   holds : (cell v.store nu 0 ≡ value (value_in (cell v.store nu 0))) × IsOf g.unit.types (value_in (cell v.store nu 0)) of
-  holds = held_value g K nu (heading_of g (block_at g K nu) 0) of (cell v.store nu 0)
+  holds = cell_value g K nu (heading_of g (block_at g K nu) 0) of (cell v.store nu 0)
       (subst (λ o. Holds g K nu (heading_of g (block_at g K nu) 0) o (cell v.store nu 0)) slot_is (st.typed.holds nu 0 nu_lives below))
 
   result_here : result_of g.unit s.name (s.size s.name) v ≡ value_in (cell v.store nu 0)
@@ -95,7 +95,7 @@ module _ (g : Coded) (long : ValuesAreLong) (zeros : ZeroIsZeros) (s : Scene) (d
 
   pub function_claim : FunctionClaim g s deeper bound
   function_claim c of line cells F pc to t held w m turns st fits res able passed = go
-      (called_so g s F w m able.stands line pc to (t + length (cells_words g s.first F cells)) held cells c st fits passed.held)
+      (called_so g s F w m able.stands line pc to (t + length (cells_words g s.first F cells)) held cells c st fits passed.cells_fit)
     where
       go : ByBlock g s F w m able.stands c line pc to (t + length (cells_words g s.first F cells)) held cells
           ⊎ BySystem g s F w m able.stands c line pc to (t + length (cells_words g s.first F cells)) held cells →
@@ -121,7 +121,7 @@ module _ (g : Coded) (long : ValuesAreLong) (zeros : ZeroIsZeros) (s : Scene) (d
 
   pub procedure_claim : SystemClaim g s deeper bound → ProcedureClaim g s deeper bound
   procedure_claim system c line cells F pc to t held w m turns phase st fits res able passed =
-      go (called_so g s F w m able.stands line pc to (t + length (cells_words g s.first F cells)) held cells c st fits passed.held)
+      go (called_so g s F w m able.stands line pc to (t + length (cells_words g s.first F cells)) held cells c st fits passed.cells_fit)
     where
       go : ByBlock g s F w m able.stands c line pc to (t + length (cells_words g s.first F cells)) held cells
           ⊎ BySystem g s F w m able.stands c line pc to (t + length (cells_words g s.first F cells)) held cells →

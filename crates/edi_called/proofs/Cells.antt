@@ -174,12 +174,12 @@ module _ (g : Coded) (long : ValuesAreLong) (zeros : ZeroIsZeros) (s : Scene) (F
   known_variables : All (SlotIsKnown ts) (map slot.Value B.variables)
   known_variables = known_right ts B.parameters (map slot.Value B.variables) known_rest
 
-  module _ (cells : List Cell) (held : CellsFit g s F z (heading_formals (block_heading g.fits.headings g.unit.blocks n)) cells) where
+  module _ (cells : List Cell) (fit : CellsFit g s F z (heading_formals (block_heading g.fits.headings g.unit.blocks n)) cells) where
     abbrev pub all_cells : List Cell
     all_cells = result_cells ts B.result ++ (cells ++ map (λ t. value (zero_value ts t)) B.variables)
 
     pub arguments_aligned : Aligned g s.first F B.parameters cells
-    arguments_aligned = args_aligned (fits.first_parameter B.result) B.parameters cells known_parameters held
+    arguments_aligned = args_aligned (fits.first_parameter B.result) B.parameters cells known_parameters fit
 
     pub all_aligned : Aligned g s.first F (slots B) all_cells
     all_aligned =
@@ -194,7 +194,7 @@ module _ (g : Coded) (long : ValuesAreLong) (zeros : ZeroIsZeros) (s : Scene) (F
         (result_cells ts B.result) _ (result_count B.result) (result_holds B.result known_result)
         (hold_append (fits.first_parameter B.result) (fits.first_parameter B.result + length B.parameters) B.parameters (map slot.Value B.variables) cells
         (map (λ t. value (zero_value ts t)) B.variables) refl
-        (args_hold (fits.first_parameter B.result) B.parameters cells held)
+        (args_hold (fits.first_parameter B.result) B.parameters cells fit)
         (zeros_hold (fits.first_parameter B.result + length B.parameters) B.variables known_variables))
 
     -- their words: zeros, the arguments, and zeros

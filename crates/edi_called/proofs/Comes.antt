@@ -62,7 +62,7 @@ pub record IsCalled (g : Coded) (s : Scene) (F : Shape) (n : ℕ) (parent : Spot
   pub lives : IsLive F parent
   pub older : Older parent (now F s.name)
   pub up : block_at g F parent ≡ (block g n).up
-  pub held : CellsFit g s F (now F s.name) (heading_formals (block_heading g.fits.headings g.unit.blocks n)) cells
+  pub cells_fit : CellsFit g s F (now F s.name) (heading_formals (block_heading g.fits.headings g.unit.blocks n)) cells
 
 module _ (g : Coded) (long : ValuesAreLong) (zeros : ZeroIsZeros) (s : Scene) (F : Shape) (w : World) (m : List ℕ) (h : Stands g s F w m) (n : ℕ)
     (parent : Spot) (cells : List Cell) (c : IsCalled g s F n parent cells) where
@@ -234,7 +234,7 @@ module _ (g : Coded) (long : ValuesAreLong) (zeros : ZeroIsZeros) (s : Scene) (F
       block_new = ap (λ (x : Frame). x.block) (new_frame p inst.frame F G grown_by)
 
       abbrev al : Aligned g s.first F (slots (block g n)) inst.cells
-      al = all_aligned g long zeros s F (now F p) n c.known cells c.held
+      al = all_aligned g long zeros s F (now F p) n c.known cells c.cells_fit
 
       -- the words of a new cell, and what it holds
       new_cell : (v : ℕ) → v < slots_of g n →
@@ -243,7 +243,7 @@ module _ (g : Coded) (long : ValuesAreLong) (zeros : ZeroIsZeros) (s : Scene) (F
       new_cell v k =
           words_stay g s.first F G (now F p) nu (heading_of g n v) (slot_in g n v) (slice_index_or inst.cells v no_cell) (λ y l o. (stays y l, later y o))
           (subst (λ u. Holds g F (now F p) (heading_of g n u) (slot_in g n v) (slice_index_or inst.cells v no_cell)) (omega arith)
-          (hold_at g long zeros s F (now F p) n c.known 0 (slots (block g n)) inst.cells v (all_hold g long zeros s F (now F p) n c.known cells c.held) k))
+          (hold_at g long zeros s F (now F p) n c.known 0 (slots (block g n)) inst.cells v (all_hold g long zeros s F (now F p) n c.known cells c.cells_fit) k))
 
       old_cell : (z : Spot) (v : ℕ) → IsLive F z → v < slots_of g (block_at g F z) →
           (cell_words g s.first G (cell w.store z v) ≡ cell_words g s.first F (cell w.store z v))

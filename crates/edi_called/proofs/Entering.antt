@@ -89,7 +89,7 @@ module _ (g : Coded) (long : ValuesAreLong) (zeros : ZeroIsZeros) (s : Scene) (F
   begins = block_stands g n c.known c.called
 
   args_length : length args ≡ pw
-  args_length = aligned_length g s.first F B.parameters cells (arguments_aligned g long zeros s F (now F p) n c.known cells c.held)
+  args_length = aligned_length g s.first F B.parameters cells (arguments_aligned g long zeros s F (now F p) n c.known cells c.cells_fit)
 
   sum : variable_words ts B ≡ rw' + pw + vw
   sum = words_sum ts g.fits.table g.parts B
@@ -120,7 +120,7 @@ module _ (g : Coded) (long : ValuesAreLong) (zeros : ZeroIsZeros) (s : Scene) (F
       ∙ take-append-add (replicate rw' 0 ++ args) (replicate (B.need - (5 + rw' + pw)) 0) vw
       ∙ ap (λ l. (replicate rw' 0 ++ args) ++ l) (take_zeros vw (B.need - (5 + rw' + pw)) (omega (arith, sum, all)))
       ∙ append_assoc (replicate rw' 0) args (replicate vw 0)
-      ∙ sym (all_words g long zeros s F (now F p) n c.known cells c.held)
+      ∙ sym (all_words g long zeros s F (now F p) n c.known cells c.cells_fit)
 
   -- ---- the instruction
 

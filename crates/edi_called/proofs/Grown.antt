@@ -154,19 +154,19 @@ module _ (g : Coded) (first : Name → ℕ) (F G : Shape) where
   -- the words of a cell that is one of its variable, and that it is one for an instance that may mean as much
   pub words_stay : (z u : Spot) (h : Heading) (v : Option Parameter) (c : Cell) → ((y : Spot) → IsLive F y → Older y z → Stays y × Older y u) →
       Holds g F z h v c → (cell_words g first G c ≡ cell_words g first F c) × Holds g G u h v c
-  words_stay z u h (Some (slot.Value t)) (value x) k held = (refl, held)
-  words_stay z u h (Some (slot.Var t)) (location l) k held =
-      let e : Stays l.spot × Older l.spot u = k l.spot held.0.lives held.1 in (ap (λ a. a ∷ []) (location_stays l e.0), (leads_stay l t e.0 held.0, e.1))
-  words_stay z u h (Some (slot.Formal r)) (procedure (system_procedure number)) k held = (refl, held)
-  words_stay z u h (Some (slot.Formal r)) (procedure (block_procedure number parent)) k held =
-      let e : Stays parent × Older parent u = k parent held.3 held.4 in (
+  words_stay z u h (Some (slot.Value t)) (value x) k fit = (refl, fit)
+  words_stay z u h (Some (slot.Var t)) (location l) k fit =
+      let e : Stays l.spot × Older l.spot u = k l.spot fit.0.lives fit.1 in (ap (λ a. a ∷ []) (location_stays l e.0), (leads_stay l t e.0 fit.0, e.1))
+  words_stay z u h (Some (slot.Formal r)) (procedure (system_procedure number)) k fit = (refl, fit)
+  words_stay z u h (Some (slot.Formal r)) (procedure (block_procedure number parent)) k fit =
+      let e : Stays parent × Older parent u = k parent fit.3 fit.4 in (
         ap (λ a. high_word (entry g number) ∷ low_word (entry g number) ∷ a ∷ []) e.0.at,
-        (held.0, held.1, held.2, e.0.lives, e.1, e.0.of ∙ held.5),
+        (fit.0, fit.1, fit.2, e.0.lives, e.1, e.0.of ∙ fit.5),
       )
-  words_stay z u h None c k held = absurd held
-  words_stay z u h (Some (slot.Value t)) (location l) k held = absurd held
-  words_stay z u h (Some (slot.Value t)) (procedure c) k held = absurd held
-  words_stay z u h (Some (slot.Var t)) (value x) k held = absurd held
-  words_stay z u h (Some (slot.Var t)) (procedure c) k held = absurd held
-  words_stay z u h (Some (slot.Formal r)) (value x) k held = absurd held
-  words_stay z u h (Some (slot.Formal r)) (location l) k held = absurd held
+  words_stay z u h None c k fit = absurd fit
+  words_stay z u h (Some (slot.Value t)) (location l) k fit = absurd fit
+  words_stay z u h (Some (slot.Value t)) (procedure c) k fit = absurd fit
+  words_stay z u h (Some (slot.Var t)) (value x) k fit = absurd fit
+  words_stay z u h (Some (slot.Var t)) (procedure c) k fit = absurd fit
+  words_stay z u h (Some (slot.Formal r)) (value x) k fit = absurd fit
+  words_stay z u h (Some (slot.Formal r)) (location l) k fit = absurd fit

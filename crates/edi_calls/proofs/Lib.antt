@@ -6,3 +6,4 @@ pub mod Sound
 pub mod Storing
 pub mod Tables
 pub mod Spelling
+pub mod Names

@@ -6,3 +6,4 @@ pub mod Choice
 pub mod Names
 pub mod Laws
 pub mod Ready
+pub mod Forks

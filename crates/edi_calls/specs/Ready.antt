@@ -31,6 +31,11 @@ pub data Next : Type 0 where
   stays : Next
   joins : List Name → Next
 
+-- a parent that waits for so many children joins the list when none is left
+abbrev pub freed : ℕ → Name → Next
+freed zero p = joins (p ∷ [])
+freed (suc n) p = joins []
+
 -- the next process, the others, and the number of choices drawn by then
 pub data Taking : Type 0 where
   nobody : Taking

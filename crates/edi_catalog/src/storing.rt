@@ -22,7 +22,7 @@ use edi_disk::DiskEnd;
 use edi_host::Drive;
 use edi_image::{MOST_BYTES, StoredFile, Title};
 
-// The place of the first free slot.
+// The index of the first free slot.
 fn free_index(files: &[Option<StoredFile>]) -> Option<usize>
     ensures exact { result ≡ free_index files.now }
     ensures within { IfSome result (λ index. index < length files.now) }
@@ -35,7 +35,7 @@ fn free_index(files: &[Option<StoredFile>]) -> Option<usize>
     None
 }
 
-// The place where a file of this title is stored.
+// The index of the slot for a file of this title.
 fn index_for(files: &[Option<StoredFile>], title: &Title) -> Option<usize>
     ensures exact { result ≡ index_for title.now files.now }
     ensures within { IfSome result (λ index. index < length files.now) }
@@ -59,7 +59,7 @@ fn is_titled_protected(files: &[Option<StoredFile>], title: &Title) -> bool
     }
 }
 
-// The place where so many bytes are stored under a title, if they are, where so many blocks are free.
+// The index of the slot where so many bytes are stored under a title, if they are, where so many blocks are free.
 fn index_to_store(
     files: &[Option<StoredFile>],
     title: &Title,

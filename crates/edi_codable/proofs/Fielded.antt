@@ -19,7 +19,7 @@ use Rattle.edi_static.specs.Fitting.{use_of}
 use Rattle.edi_static.specs.Expressions.{expression}
 use Rattle.edi_static.specs.Statements.{After, assigned, called, add_statements, with_need, close_block, enter_branch, leave_branch, statement_list}
 use Rattle.edi_static.specs.Statements.{statements, statement, conditions, elses, condition, branch, branches}
-use Rattle.edi_static.specs.Declarations.{kind_of, with_heading, block_of, procedure_name, heading_of, begun_named, completes, post_marked, all_completed}
+use Rattle.edi_static.specs.Declarations.{kind_of, with_heading, block_of, procedure_name, heading_of, begun_named, completes, post_export, all_completed}
 use Rattle.edi_static.specs.Declarations.{begin_procedure, begin_post, pre_decl, procedure_rest, item, module_decl, members, member, declarations}
 use Rattle.edi_static.specs.Declarations.{declaration}
 use Rattle.edi_static.specs.Programs.{program_heading, global_decl, global_decls, program_procedure, resolve_tree}
@@ -133,14 +133,14 @@ begin_good m h env s =
     round_kept Have Have typed varied m (own_name h) (entity.Procedure (length env.blocks))
     (with_heading (kind_of (heading_result headed.asks)) headed) k)
 
-marked_good : (m : Bool) (name : Name) (block : ℕ) (env : Environment) → Good env → Gives Good (post_marked m name block env)
-marked_good true name block env h = outside_round_kept Have Have typed varied name (entity.Procedure block) env h
-marked_good false name block env h = h
+export_good : (m : Bool) (name : Name) (block : ℕ) (env : Environment) → Good env → Gives Good (post_export m name block env)
+export_good true name block env h = outside_round_kept Have Have typed varied name (entity.Procedure block) env h
+export_good false name block env h = h
 
 post_good : (m : Bool) (h : text.Heading) (env : Environment) → Good env → Gives Good (begin_post m h env)
 post_good m h env s =
     bind GoodHeaded Good _ _ (heading_kept Have Have typed varied _ h env s) (λ headed k.
-    behind Good (completes (begun_named env.begun (own_name h).text) (own_name h) headed) _ (λ _. marked_good m (own_name h) _ headed.env k))
+    behind Good (completes (begun_named env.begun (own_name h).text) (own_name h) headed) _ (λ _. export_good m (own_name h) _ headed.env k))
 
 pre_good : (m : Bool) (h : text.Heading) (env : Environment) → Good env → Gives Good (pre_decl m h env)
 pre_good m h env s = bind Good Good _ _ (begin_good m h env s) (λ e k. k)

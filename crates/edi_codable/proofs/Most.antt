@@ -151,7 +151,7 @@ procedure_most : (c : Callee) → procedure_length c ≤ 5
 procedure_most (callee.Block levels n) = omega arith
 procedure_most (callee.Formal levels v) = omega arith
 
-close_most : (choice : ClauseKind) (cs : Clauses) → code_length (close_code choice 0 cs) ≤ 4
+close_most : (kind : ClauseKind) (cs : Clauses) → code_length (close_code kind 0 cs) ≤ 4
 close_most once no_clause = omega arith
 close_most once (clause_then c cs) = omega arith
 close_most repeated cs = omega arith
@@ -255,9 +255,9 @@ module _ (types : List Shape) (blocks : List Block) (b : ℕ) where
     clause_fits : (c : Clause) → clause_length types blocks b c + 4 ≤ clause_most c
     clause_fits (clause e s) = omega (arith, expression_fits e, acts_fit s)
 
-    clauses_fit : (choice : ClauseKind) (cs : Clauses) → clauses_length types blocks b choice cs ≤ clauses_most cs
-    clauses_fit choice no_clause = omega arith
-    clauses_fit choice (clause_then c cs) = omega (arith, clause_fits c, close_most choice cs, clauses_fit choice cs)
+    clauses_fit : (kind : ClauseKind) (cs : Clauses) → clauses_length types blocks b kind cs ≤ clauses_most cs
+    clauses_fit kind no_clause = omega arith
+    clauses_fit kind (clause_then c cs) = omega (arith, clause_fits c, close_most kind cs, clauses_fit kind cs)
 
 -- ---- blocks
 

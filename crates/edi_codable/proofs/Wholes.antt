@@ -19,7 +19,7 @@ use Rattle.edi_static.specs.Environment.{Environment, at_first, declare, enter, 
 use Rattle.edi_static.specs.Types.{const_list, type_decl, var_list}
 use Rattle.edi_static.specs.Headings.{Headed, round, own_name, heading_parts}
 use Rattle.edi_static.specs.Statements.{add_statements}
-use Rattle.edi_static.specs.Declarations.{kind_of, with_heading, block_of, procedure_name, heading_of, begun_named, completes, post_marked, all_completed}
+use Rattle.edi_static.specs.Declarations.{kind_of, with_heading, block_of, procedure_name, heading_of, begun_named, completes, post_export, all_completed}
 use Rattle.edi_static.specs.Declarations.{begin_procedure, begin_post, procedure_rest, item, module_decl, members, member, declarations, declaration}
 use Rattle.edi_static.specs.Programs.{program_heading, global_decl, global_decls, program_procedure, resolve_tree, Resolved}
 use Rattle.edi_static.proofs.Judging.{Gives, bind, behind, weaker}
@@ -89,9 +89,9 @@ module _ (budget : ℕ) where
       round_kept (Counted (n + 9)) (Counted (n + 17)) (longer n) (varied (n + 9)) m (own_name h) (entity.Procedure (length env.blocks))
       (with_heading (kind_of (heading_result headed.asks)) headed) (with_heading_good n (kind_of (heading_result headed.asks)) headed k)))
 
-  marked_good : (n : ℕ) (m : Bool) (name : Name) (block : ℕ) (env : Environment) → CountedAt n env → Gives (CountedAt n) (post_marked m name block env)
-  marked_good n true name block env h = outside_round_kept (Counted n) (Counted (n + 8)) (typed n) (varied n) name (entity.Procedure block) env h
-  marked_good n false name block env h = h
+  export_good : (n : ℕ) (m : Bool) (name : Name) (block : ℕ) (env : Environment) → CountedAt n env → Gives (CountedAt n) (post_export m name block env)
+  export_good n true name block env h = outside_round_kept (Counted n) (Counted (n + 8)) (typed n) (varied n) name (entity.Procedure block) env h
+  export_good n false name block env h = h
 
   post_good : (m : Bool) (h : text.Heading) (more : List Spelled) (env : Environment) → There (heading_then h more) env
       → Gives (There more) (begin_post m h env)
@@ -101,7 +101,7 @@ module _ (budget : ℕ) where
       weaker (CountedAt n) (There more) (begin_post m h env) (λ e k. began env e h more g (more_words n (n + 9) e (omega arith) k))
       (bind (CountedHeaded n) (CountedAt n) (heading_parts block h env) _
       (heading_kept (Counted n) (Counted (n + 8)) (typed n) (varied n) block h env (counted env _ g)) (λ headed k.
-      behind (CountedAt n) (completes (begun_named env.begun (own_name h).text) (own_name h) headed) _ (λ _. marked_good n m (own_name h) block headed.env k)))
+      behind (CountedAt n) (completes (begun_named env.begun (own_name h).text) (own_name h) headed) _ (λ _. export_good n m (own_name h) block headed.env k)))
 
   -- the same blocks, with other scopes
   same_blocks : (env e : Environment) (a : List Spelled) → e.blocks ≡ env.blocks → e.types ≡ env.types → There a env → There a e

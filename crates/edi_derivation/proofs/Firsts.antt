@@ -109,7 +109,7 @@ misplaced marks here behind stops =
       b.0,
       cut,
       record {
-        place = (behind, cut);
+        position = (behind, cut);
         begins = subst (λ u. ProgramBegins u) b.1 (begins_of v.before v.lives.1 v.lives.0 v.lives.2 v.lives.3 v.lives.5);
         shallow = shallow_of b.0 (subst (λ u. Shallow edison 64 start u) b.1 v.shallow);
         fails = λ f.
@@ -153,7 +153,7 @@ too_deep_at marks m behind stops =
       b.0,
       cut,
       record {
-        place = (behind, cut);
+        position = (behind, cut);
         begins = begins_of (somes b.0 ++ Some m ∷ []) goes.2 v.lives.0 v.lives.2
             (text ∙ ap (λ u. u ++ Some m ∷ goes.2) b.1 ∙ sym (append_assoc (somes b.0) (Some m ∷ []) goes.2)) v.lives.5;
         shallow = shallow_of b.0 (subst (λ u. Shallow edison 64 start u) b.1 v.shallow);

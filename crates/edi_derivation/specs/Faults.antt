@@ -11,8 +11,8 @@ somes [] = []
 somes (m ∷ marks) = Some m ∷ somes marks
 
 -- the marks up to this place are these, and there stands this one, or the end of the text
-abbrev pub IsPlace : List Mark → List Mark → Option Mark → Type 0
-IsPlace marks before here = (behind : List (Option Mark)) × (to_end marks ≡ somes before ++ here ∷ behind)
+abbrev pub IsPosition : List Mark → List Mark → Option Mark → Type 0
+IsPosition marks before here = (behind : List (Option Mark)) × (to_end marks ≡ somes before ++ here ∷ behind)
 
 -- none of these marks, where it opens a level in a program that begins with those before it, opens more than 64
 abbrev pub AreShallow : List Mark → Type 0
@@ -20,14 +20,14 @@ AreShallow marks = (front behind : List Mark) (m : Mark) (level : ℕ) → marks
 
 -- The marks before the place begin a program, none of them is too deep, and with what stands at the place they begin none.
 pub record IsMisplaced (marks before : List Mark) (here : Option Mark) : Type 0 where
-  pub place : IsPlace marks before here
+  pub position : IsPosition marks before here
   pub begins : ProgramBegins (somes before)
   pub shallow : AreShallow before
   pub fails : ProgramBegins (somes before ++ here ∷ []) → ⊥
 
 -- The marks with the one at the place begin a program, and it opens more than 64 levels in each, which none before it does.
 pub record IsTooDeepAt (marks before : List Mark) (m : Mark) : Type 0 where
-  pub place : IsPlace marks before (Some m)
+  pub position : IsPosition marks before (Some m)
   pub begins : ProgramBegins (somes before ++ Some m ∷ [])
   pub shallow : AreShallow before
   pub opens_level : opens m.symbol ≡ true

@@ -1,4 +1,4 @@
--- Words of contracts. How the cache keeps its blocks: in places, and the slots in a list in the order of their use.
+-- Words of contracts. How the cache keeps its blocks: in slots, which stand in a list in the order of their use.
 use Rattle.std.specs.Prelude.{◌≡◌, ℕ, ◌<◌, true, false, List, ◌++◌, [], ◌∷◌, length, map, replicate, slice_index_or}
 use Rattle.edi_ring.specs.Lists.{list_at, has, IsSound}
 use Rattle.edi_disk.specs.Use.{with_room}

@@ -11,7 +11,7 @@ use edi_ring::Lists;
 use std::marker::Model;
 
 /// How many blocks are cached at most.
-pub const PLACES: usize = 16;
+pub const SLOTS: usize = 16;
 
 /// A block that is cached.
 #[derive(Clone, Copy, Debug)]
@@ -56,7 +56,7 @@ fn find(slots: &[Slot; 16], order: &Lists<16, 1>, n: u32) -> Option<usize>
     ensures number { IfSome result (λ slot. (slot_at slots.now slot).number ≡ n) }
     ensures none { IfNone result ((slot : ℕ) → slot < 16 → IsSome (home_of order.now slot) → (slot_at slots.now slot).number ≡ n → ⊥) }
 {
-    for slot in 0..PLACES {
+    for slot in 0..SLOTS {
         if order.home(slot).is_some() && slots[slot].number == n {
             return Some(slot);
         }
@@ -70,7 +70,7 @@ fn vacate(order: &mut Lists<16, 1>) -> usize
     ensures { Vacates order.old order.new result }
 {
     let used = order.len(0);
-    if used < PLACES {
+    if used < SLOTS {
         order.push_back(0, used);
         return used;
     }

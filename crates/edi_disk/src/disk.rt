@@ -8,7 +8,7 @@ ghost use Rattle.edi_disk.specs.Use.{after_use, is_listed, first_of_full, driven
 ghost use Rattle.edi_disk.specs.Shown.{cached, Caches, shown, numbers_cached, drive_of, reference_of, IsWorking, IsBacked, numbers_of};
 ghost use Rattle.edi_disk.specs.Since.{Kept, PageGives, PutLeaves, ChangesOnly, AllOn, Writes};
 
-use crate::cache::{Cache, PLACES};
+use crate::cache::{Cache, SLOTS};
 use edi_host::{Drive, DriveEnd};
 
 /// How a call of the disk ended.
@@ -59,7 +59,7 @@ fn make_room<D: Drive>(drive: &mut D, cache: &Cache) -> DiskEnd
     ensures idle { length cache.now < 16 → (result ≡ DiskEnd.Ok) × (drive.new ≡ drive.old) }
     ensures cause { result ≡ DiskEnd.Fault → CountRose (D.faults drive.old) (D.faults drive.new) }
 {
-    if cache.len() < PLACES {
+    if cache.len() < SLOTS {
         DiskEnd::Ok
     } else {
         write_one(drive, cache, 0)

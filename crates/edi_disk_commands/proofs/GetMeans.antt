@@ -22,9 +22,9 @@ use Rattle.edi_disk_commands.proofs.Meant.{Same, meant, not_begun, nothing, only
 
 -- ---- nothing is read
 
-pub record NotRead (s : Status) (title into : List ℕ) (old new : Option Contents) (held holds : Option (List (List ℕ))) : Type 0 where
+pub record NotRead (s : Status) (title into : List ℕ) (old new : Option Contents) (was now : Option (List (List ℕ))) : Type 0 where
   pub files : Same old new
-  pub blocks : WhereTold held holds (λ old new. (new ≡ old) × ReadsOn (Err s) title into old)
+  pub blocks : WhereTold was now (λ old new. (new ≡ old) × ReadsOn (Err s) title into old)
 
 module _ (title file into : List ℕ) (before after : Outside) (kernel : Lent) (rest : RestStays before after kernel) where
   pub not_read_means : (s : Status) → IsOfRead s → NotRead s title into before.files after.files before.blocks after.blocks
@@ -69,18 +69,18 @@ module _ (title file into : List ℕ) (before after : Outside) (kernel : Lent) (
     }
     go s of_ told = absurd of_
 
-pub not_read : (s : Status) (title file into : List ℕ) (old new : Option Contents) (held holds : Option (List (List ℕ))) → IsOfRead s
-    → NotRead s title into old new held holds → MeansOnDisk (get title file) s old new held holds
-not_read s title file into old new held holds of_ h =
-    meant (NotRead s title into) (get title file) s old new held holds h
+pub not_read : (s : Status) (title file into : List ℕ) (old new : Option Contents) (was now : Option (List (List ℕ))) → IsOfRead s
+    → NotRead s title into old new was now → MeansOnDisk (get title file) s old new was now
+not_read s title file into old new was now of_ h =
+    meant (NotRead s title into) (get title file) s old new was now h
     (λ before after kernel rest n. not_read_means title file into before after kernel rest s of_ n)
 
 -- ---- the bytes are kept, or not
 
-pub record HasRead (end : KeepEnd) (n : ℕ) (title file into bytes : List ℕ) (old new : Option Contents) (held holds : Option (List (List ℕ))) : Type 0 where
+pub record HasRead (end : KeepEnd) (n : ℕ) (title file into bytes : List ℕ) (old new : Option Contents) (was now : Option (List (List ℕ))) : Type 0 where
   pub files : WhereTold old new (KeepLeaves end file bytes)
   pub bytes_are : bytes ≡ take n into
-  pub blocks : WhereTold held holds (λ old new. (new ≡ old) × ReadsOn (Ok n) title into old)
+  pub blocks : WhereTold was now (λ old new. (new ≡ old) × ReadsOn (Ok n) title into old)
 
 module _ (n : ℕ) (title file into bytes : List ℕ) (before after : Outside) (kernel : Lent) (rest : RestStays before after kernel) where
   pub has_read_means : (end : KeepEnd) → HasRead end n title file into bytes before.files after.files before.blocks after.blocks
@@ -120,10 +120,10 @@ module _ (n : ℕ) (title file into bytes : List ℕ) (before after : Outside) (
     }
     go keep.NoMemory told = nothing before after kernel rest told same
 
-pub has_read : (end : KeepEnd) (n : ℕ) (title file into bytes : List ℕ) (old new : Option Contents) (held holds : Option (List (List ℕ)))
-    → HasRead end n title file into bytes old new held holds → MeansOnDisk (get title file) (status_kept end) old new held holds
-has_read end n title file into bytes old new held holds h =
-    meant (HasRead end n title file into bytes) (get title file) (status_kept end) old new held holds h
+pub has_read : (end : KeepEnd) (n : ℕ) (title file into bytes : List ℕ) (old new : Option Contents) (was now : Option (List (List ℕ)))
+    → HasRead end n title file into bytes old new was now → MeansOnDisk (get title file) (status_kept end) old new was now
+has_read end n title file into bytes old new was now h =
+    meant (HasRead end n title file into bytes) (get title file) (status_kept end) old new was now h
     (λ before after kernel rest r. has_read_means n title file into bytes before after kernel rest end r)
 
 -- ---- faults

@@ -82,13 +82,13 @@ module _ (before after : Outside) (kernel : Lent) (rest : RestStays before after
 
 -- what holds of the contents of files and drive holds of the outside that has them
 pub meant : (H : Option Contents → Option Contents → Option (List (List ℕ)) → Option (List (List ℕ)) → Type 0) (c : Command) (s : Status)
-    (old new : Option Contents) (held holds : Option (List (List ℕ))) → H old new held holds
+    (old new : Option Contents) (was now : Option (List (List ℕ))) → H old new was now
     → ((before after : Outside) (kernel : Lent) → RestStays before after kernel → H before.files after.files before.blocks after.blocks
     → Means s (Some c) before after [] kernel)
-    → MeansOnDisk c s old new held holds
-meant H c s old new held holds h so = λ before after kernel e d f g rest.
+    → MeansOnDisk c s old new was now
+meant H c s old new was now h so = λ before after kernel e d f g rest.
     so before after kernel rest
     (subst (λ x. H x after.files before.blocks after.blocks) (sym e)
     (subst (λ x. H old x before.blocks after.blocks) (sym d)
     (subst (λ x. H old new x after.blocks) (sym f)
-    (subst (λ x. H old new held x) (sym g) h))))
+    (subst (λ x. H old new was x) (sym g) h))))

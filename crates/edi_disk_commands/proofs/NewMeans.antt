@@ -23,19 +23,19 @@ status_formatted format.Fault = status.DriveFault
 status_formatted format.NoMemory = status.NoMemory
 
 -- so many blocks are told as there are
-counted_new : (count n : ℕ) (held holds : Option (List (List ℕ))) → IfSome holds (λ blocks. length blocks ≡ n) → n ≡ count
-    → WhereTold held holds (FormatLeaves format.Ok count) → WhereTold held holds (AreNew count)
-counted_new count n held None many is told = tt
+counted_new : (count n : ℕ) (was now : Option (List (List ℕ))) → IfSome now (λ blocks. length blocks ≡ n) → n ≡ count
+    → WhereTold was now (FormatLeaves format.Ok count) → WhereTold was now (AreNew count)
+counted_new count n was None many is told = tt
 counted_new count n None (Some y) many is told = absurd told
 counted_new count n (Some x) (Some y) many is told = (many ∙ is, told.1)
 
-pub record Formats (end : FormatEnd) (count : ℕ) (old new : Option Contents) (held holds : Option (List (List ℕ))) : Type 0 where
+pub record Formats (end : FormatEnd) (count : ℕ) (old new : Option Contents) (was now : Option (List (List ℕ))) : Type 0 where
   pub files : Same old new
   pub had : ℕ
   pub has : ℕ
-  pub counted : IfSome holds (λ blocks. length blocks ≡ has)
+  pub counted : IfSome now (λ blocks. length blocks ≡ has)
   pub counts : FormatCounts end count had has
-  pub leaves : WhereTold held holds (FormatLeaves end count)
+  pub leaves : WhereTold was now (FormatLeaves end count)
 
 formats_means : (end : FormatEnd) (count : ℕ) (before after : Outside) (kernel : Lent) → RestStays before after kernel
     → Formats end count before.files after.files before.blocks after.blocks → Means (status_formatted end) (Some (newdisk count None)) before after [] kernel
@@ -57,9 +57,9 @@ formats_means format.Fault count before after kernel rest f = record {
 }
 formats_means format.NoMemory count before after kernel rest f = nothing before after kernel rest f.files f.leaves
 
-pub formatted_means : (end : FormatEnd) (count had has : ℕ) (held holds : Option (List (List ℕ))) → IfSome holds (λ blocks. length blocks ≡ has)
-    → FormatCounts end count had has → WhereTold held holds (FormatLeaves end count) → MeansOnDrive (newdisk count None) (status_formatted end) held holds
-formatted_means end count had has held holds counted counts leaves = λ files.
-    meant (Formats end count) (newdisk count None) (status_formatted end) files files held holds
+pub formatted_means : (end : FormatEnd) (count had has : ℕ) (was now : Option (List (List ℕ))) → IfSome now (λ blocks. length blocks ≡ has)
+    → FormatCounts end count had has → WhereTold was now (FormatLeaves end count) → MeansOnDrive (newdisk count None) (status_formatted end) was now
+formatted_means end count had has was now counted counts leaves = λ files.
+    meant (Formats end count) (newdisk count None) (status_formatted end) files files was now
     (record { files = itself files; had = had; has = has; counted = counted; counts = counts; leaves = leaves })
     (λ before after kernel rest f. formats_means end count before after kernel rest f)

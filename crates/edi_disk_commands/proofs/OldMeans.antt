@@ -29,9 +29,9 @@ use Rattle.edi_disk_commands.proofs.PutMeans.{NotFetched}
 
 -- ---- no file
 
-pub not_taken : (s : Status) (count : ℕ) (file : List ℕ) (old new : Option Contents) (held holds : Option (List (List ℕ)))
-    → NotFetched s file old new held holds → MeansOnDisk (newdisk count (Some file)) s old new held holds
-not_taken s count file old new held holds h = meant (NotFetched s file) (newdisk count (Some file)) s old new held holds h go where
+pub not_taken : (s : Status) (count : ℕ) (file : List ℕ) (old new : Option Contents) (was now : Option (List (List ℕ)))
+    → NotFetched s file old new was now → MeansOnDisk (newdisk count (Some file)) s old new was now
+not_taken s count file old new was now h = meant (NotFetched s file) (newdisk count (Some file)) s old new was now h go where
   go : (before after : Outside) (kernel : Lent) → RestStays before after kernel → NotFetched s file before.files after.files before.blocks after.blocks
       → Means s (Some (newdisk count (Some file))) before after [] kernel
   go before after kernel rest n = elim n.why [
@@ -69,13 +69,13 @@ broken_rule (mount.Entry slot) h = tt
 broken_rule (mount.Page slot block) h = tt
 broken_rule (mount.Shared block) h = tt
 
-pub record Migrates (e : MigrateEnd) (count : ℕ) (file bytes : List ℕ) (old new : Option Contents) (held holds : Option (List (List ℕ))) : Type 0 where
+pub record Migrates (e : MigrateEnd) (count : ℕ) (file bytes : List ℕ) (old new : Option Contents) (was now : Option (List (List ℕ))) : Type 0 where
   pub all : List ℕ
   pub fetched : IfSome (still_told old new) (λ files. map.get files file ≡ Some all)
   pub front : bytes ≡ take most_fetched all
   pub files : Same old new
   pub answers : MigrateAnswers e count (calls.blocks_taken (old_slots_of (blocks_of bytes))) (blocks_of bytes)
-  pub leaves : WhereTold held holds (MigrateLeaves e count (blocks_of bytes))
+  pub leaves : WhereTold was now (MigrateLeaves e count (blocks_of bytes))
 
 module _ (decide : FirstBytesDecide) (count : ℕ) (least : 64 ≤ count) (file bytes : List ℕ) (before after : Outside) (kernel : Lent)
     (rest : RestStays before after kernel) where
@@ -128,8 +128,8 @@ module _ (decide : FirstBytesDecide) (count : ℕ) (least : 64 ≤ count) (file 
     go end.NoMemory a l = nothing before after kernel rest m.files l
 
 pub migrated_means : (decide : FirstBytesDecide) (e : MigrateEnd) (count : ℕ) → 64 ≤ count → (file bytes : List ℕ) (old new : Option Contents)
-    (held holds : Option (List (List ℕ)))
-    → Migrates e count file bytes old new held holds → MeansOnDisk (newdisk count (Some file)) (status_migrated e) old new held holds
-migrated_means decide e count least file bytes old new held holds h =
-    meant (Migrates e count file bytes) (newdisk count (Some file)) (status_migrated e) old new held holds h
+    (was now : Option (List (List ℕ)))
+    → Migrates e count file bytes old new was now → MeansOnDisk (newdisk count (Some file)) (status_migrated e) old new was now
+migrated_means decide e count least file bytes old new was now h =
+    meant (Migrates e count file bytes) (newdisk count (Some file)) (status_migrated e) old new was now h
     (λ before after kernel rest m. migrates_means decide count least file bytes before after kernel rest e m)

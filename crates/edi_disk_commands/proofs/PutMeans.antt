@@ -31,14 +31,14 @@ fetch_stopped items o name limit status.NoMemory h = inl refl
 fetch_stopped items o name limit status.FileFault h = inr (inl refl)
 fetch_stopped items o name limit s h = inr (inr h)
 
-pub record NotFetched (s : Status) (file : List ℕ) (old new : Option Contents) (held holds : Option (List (List ℕ))) : Type 0 where
+pub record NotFetched (s : Status) (file : List ℕ) (old new : Option Contents) (was now : Option (List (List ℕ))) : Type 0 where
   pub why : (s ≡ status.NoMemory) ⊎ ((s ≡ status.FileFault) ⊎ ((s ≡ status.Absent) × IsNoFile (files_only (still_told old new)) file))
   pub files : Same old new
-  pub blocks : Same held holds
+  pub blocks : Same was now
 
-pub not_put : (s : Status) (file title : List ℕ) (old new : Option Contents) (held holds : Option (List (List ℕ)))
-    → NotFetched s file old new held holds → MeansOnDisk (put file title) s old new held holds
-not_put s file title old new held holds h = meant (NotFetched s file) (put file title) s old new held holds h go where
+pub not_put : (s : Status) (file title : List ℕ) (old new : Option Contents) (was now : Option (List (List ℕ)))
+    → NotFetched s file old new was now → MeansOnDisk (put file title) s old new was now
+not_put s file title old new was now h = meant (NotFetched s file) (put file title) s old new was now h go where
   go : (before after : Outside) (kernel : Lent) → RestStays before after kernel → NotFetched s file before.files after.files before.blocks after.blocks
       → Means s (Some (put file title)) before after [] kernel
   go before after kernel rest n = elim n.why [
@@ -88,14 +88,14 @@ too_long bytes all front long = elim (leb_tells (length all) 261120) [
 
 -- ---- a file that is too long
 
-pub record IsTooLong (file bytes : List ℕ) (old new : Option Contents) (held holds : Option (List (List ℕ))) : Type 0 where
+pub record IsTooLong (file bytes : List ℕ) (old new : Option Contents) (was now : Option (List (List ℕ))) : Type 0 where
   pub has : HasFetched file bytes old new
   pub long : 261120 < length bytes
-  pub blocks : Same held holds
+  pub blocks : Same was now
 
-pub not_fit : (file title bytes : List ℕ) (old new : Option Contents) (held holds : Option (List (List ℕ))) → IsTooLong file bytes old new held holds
-    → MeansOnDisk (put file title) status.FileLarge old new held holds
-not_fit file title bytes old new held holds h = meant (IsTooLong file bytes) (put file title) status.FileLarge old new held holds h go where
+pub not_fit : (file title bytes : List ℕ) (old new : Option Contents) (was now : Option (List (List ℕ))) → IsTooLong file bytes old new was now
+    → MeansOnDisk (put file title) status.FileLarge old new was now
+not_fit file title bytes old new was now h = meant (IsTooLong file bytes) (put file title) status.FileLarge old new was now h go where
   go : (before after : Outside) (kernel : Lent) → RestStays before after kernel → IsTooLong file bytes before.files after.files before.blocks after.blocks
       → Means status.FileLarge (Some (put file title)) before after [] kernel
   go before after kernel rest n =
@@ -103,10 +103,10 @@ not_fit file title bytes old new held holds h = meant (IsTooLong file bytes) (pu
 
 -- ---- a file that fits
 
-pub record HasPut (s : Status) (file title bytes : List ℕ) (old new : Option Contents) (held holds : Option (List (List ℕ))) : Type 0 where
+pub record HasPut (s : Status) (file title bytes : List ℕ) (old new : Option Contents) (was now : Option (List (List ℕ))) : Type 0 where
   pub has : HasFetched file bytes old new
   pub short : length bytes ≤ 261120
-  pub blocks : WhereTold held holds (PutsOn s title bytes)
+  pub blocks : WhereTold was now (PutsOn s title bytes)
 
 module _ (file title bytes : List ℕ) (before after : Outside) (kernel : Lent) (rest : RestStays before after kernel)
     (has : HasFetched file bytes before.files after.files) (short : length bytes ≤ 261120) where
@@ -215,8 +215,8 @@ module _ (file title bytes : List ℕ) (before after : Outside) (kernel : Lent) 
     Broke old new = (mount_fault_of old ≡ None) × (is_full old title (length bytes) ≡ false) × ArePutInPart title bytes old new
   put_means s of_ told = absurd of_
 
-pub has_put : (s : Status) (file title bytes : List ℕ) (old new : Option Contents) (held holds : Option (List (List ℕ))) → IsOfPut s
-    → HasPut s file title bytes old new held holds → MeansOnDisk (put file title) s old new held holds
-has_put s file title bytes old new held holds of_ h =
-    meant (HasPut s file title bytes) (put file title) s old new held holds h
+pub has_put : (s : Status) (file title bytes : List ℕ) (old new : Option Contents) (was now : Option (List (List ℕ))) → IsOfPut s
+    → HasPut s file title bytes old new was now → MeansOnDisk (put file title) s old new was now
+has_put s file title bytes old new was now of_ h =
+    meant (HasPut s file title bytes) (put file title) s old new was now h
     (λ before after kernel rest p. put_means file title bytes before after kernel rest p.has p.short s of_ p.blocks)

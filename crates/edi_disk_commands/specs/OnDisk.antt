@@ -15,14 +15,14 @@ pub record RestStays (before after : Outside) (kernel : Lent) : Type 0 where
 
 -- The command has come to this status, and has shown nothing before its line, whatever the other objects and the kernel are, which
 -- stay as they are.
-abbrev pub MeansOnDisk : Command → Status → (old new : Option Contents) → (held holds : Option (List (List ℕ))) → Type 0
-MeansOnDisk c s old new held holds =
-    (before after : Outside) (kernel : Lent) → before.files ≡ old → after.files ≡ new → before.blocks ≡ held → after.blocks ≡ holds
+abbrev pub MeansOnDisk : Command → Status → (old new : Option Contents) → (was now : Option (List (List ℕ))) → Type 0
+MeansOnDisk c s old new was now =
+    (before after : Outside) (kernel : Lent) → before.files ≡ old → after.files ≡ new → before.blocks ≡ was → after.blocks ≡ now
     → RestStays before after kernel → Means s (Some c) before after [] kernel
 
 -- so, where the files are as before too
-abbrev pub MeansOnDrive : Command → Status → (held holds : Option (List (List ℕ))) → Type 0
-MeansOnDrive c s held holds = (files : Option Contents) → MeansOnDisk c s files files held holds
+abbrev pub MeansOnDrive : Command → Status → (was now : Option (List (List ℕ))) → Type 0
+MeansOnDrive c s was now = (files : Option Contents) → MeansOnDisk c s files files was now
 
 -- no object but the files and the drive has failed
 abbrev pub IsOfDisk : Status → Type 0

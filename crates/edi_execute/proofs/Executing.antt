@@ -15,7 +15,7 @@ use Rattle.edi_system.specs.State.{failed_in, faults_of, IsReady}
 use Rattle.edi_system.specs.declared.system.System.{System}
 use Rattle.edi_target.specs.Check.{CodeParts}
 use Rattle.edi_trace.specs.Drawn.{Drawn}
-use Rattle.edi_execute.specs.Execution.{is_fault, IsAtMoment}
+use Rattle.edi_execute.specs.Execution.{is_fault_ending, IsAtMoment}
 
 -- after a fault the system is at a state through which the run comes
 pub at_moment : (code : CodeParts) (system : State) (bound : ℕ) (old : Drawn) (e : Ending) (words : List ℕ) (used : ℕ) (now : State) (new : Drawn)
@@ -41,7 +41,7 @@ module _ {D S T P : Type 0} (contents : D → Option (List (List ℕ))) (count :
   named ending.Standstill blame = none_named blame.is ending.Standstill (λ e. cc)
   named (ending.Bad address) blame = none_named blame.is (ending.Bad address) (λ e. cc)
 
-  pub blamed : (e : Ending) → Blamed (fault_of (Some e)) (HasFailed contents count system) old new → Blames (is_fault e) (failed_in system) old new
+  pub blamed : (e : Ending) → Blamed (fault_of (Some e)) (HasFailed contents count system) old new → Blames (is_fault_ending e) (failed_in system) old new
   blamed ending.Fault blame = subst (λ o. Blames true o old new) (sym blame.1.is) blame.2
   blamed ending.Done blame = subst (λ o. Blames false o old new) (sym blame.is) tt
   blamed (ending.Halted line) blame = subst (λ o. Blames false o old new) (sym blame.is) tt
@@ -50,7 +50,7 @@ module _ {D S T P : Type 0} (contents : D → Option (List (List ℕ))) (count :
   blamed ending.Standstill blame = subst (λ o. Blames false o old new) (sym blame.is) tt
   blamed (ending.Bad address) blame = subst (λ o. Blames false o old new) (sym blame.is) tt
 
-  pub still_ready : (e : Ending) → Blamed (fault_of (Some e)) (HasFailed contents count system) old new → is_fault e ≡ false → IsReady contents count system
+  pub still_ready : (e : Ending) → Blamed (fault_of (Some e)) (HasFailed contents count system) old new → is_fault_ending e ≡ false → IsReady contents count system
   still_ready ending.Fault blame = λ fault. absurd (let wrong : true ≡ false = fault in cc)
   still_ready ending.Done blame = λ none. blame.ready refl
   still_ready (ending.Halted line) blame = λ none. blame.ready refl

@@ -10,9 +10,9 @@ use Rattle.edi_target.specs.Moments.{ComesThrough}
 use Rattle.edi_trace.specs.Drawn.{Drawn}
 
 -- an object outside has failed in the run
-abbrev pub is_fault : Ending → Bool
-is_fault ending.Fault = true
-is_fault other = false
+abbrev pub is_fault_ending : Ending → Bool
+is_fault_ending ending.Fault = true
+is_fault_ending other = false
 
 -- The system is, but for the found file and the buffer, at a state through which the run of the code comes.
 pub record IsAtMoment (code : CodeParts) (system : State) (bound : ℕ) (old : Drawn) (now : State) : Type 0 where

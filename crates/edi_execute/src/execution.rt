@@ -9,7 +9,7 @@ ghost use Rattle.edi_system.specs.AsCalls.{KeepsDue};
 ghost use Rattle.edi_system.specs.Ends.{Keeps};
 ghost use Rattle.edi_system.specs.Parts.{KeepsTold};
 ghost use Rattle.edi_system.specs.State.{drive_in, failed_in, state_of, IsReady};
-ghost use Rattle.edi_execute.specs.Execution.{is_fault, IsAtMoment};
+ghost use Rattle.edi_execute.specs.Execution.{is_fault_ending, IsAtMoment};
 
 use edi_host::{Drive, Sink, Source};
 use edi_kernel::{Ending, Kernel};
@@ -38,12 +38,12 @@ pub fn execute<D: Drive, S: Source, T: Sink, P: Sink>(
         (λ before after. IsAtMoment code.now (fresh before) bound choices.old after) }
     // An object has failed exactly where the ending says so, and its count rose.
     ensures failed { IsSome (failed_in system.new) ↔ (result ≡ Ending.Fault) }
-    ensures ready { is_fault result ≡ false → IsReady D.contents D.count system.new }
+    ensures ready { is_fault_ending result ≡ false → IsReady D.contents D.count system.new }
     ensures due { KeepsDue T.taken system.old system.new }
     ensures told { KeepsTold D.contents S.left T.taken P.taken system.old system.new }
     // The drive has as many blocks as before.
     ensures size { D.count (drive_in system.new) ≡ D.count (drive_in system.old) }
-    ensures keeps { Keeps D.faults S.faults T.faults P.faults (is_fault result) system.old system.new }
+    ensures keeps { Keeps D.faults S.faults T.faults P.faults (is_fault_ending result) system.old system.new }
     ensures used { kernel.new.used ≤ bound }
     ensures standing { StandsAtEnd (Some result) kernel.new.table kernel.new.arrived }
     ensures source { choices.new.source ≡ choices.old.source }

@@ -86,7 +86,7 @@ module _ (g : Coded) (claim : StepClaim g) (cohere : StepsCohere) (queues : Step
   Is = IsTaken g.fetched 0 g.unit.calls system bound choices
 
   -- the machine that stands still by the marks
-  record Stands (d : ℕ) : Type 0 where
+  record StandsStill (d : ℕ) : Type 0 where
     machine : Machine
     by_marks : StandsByMarks g.fetched 0 g.unit.calls system bound choices machine d
 
@@ -124,11 +124,11 @@ module _ (g : Coded) (claim : StepClaim g) (cohere : StepsCohere) (queues : Step
   -- the run ends here as a standstill
   stood : (t : Machine) (past : List State) (p : Name) (others : List Name) (drawn d : ℕ) (ending : Ending) (end : Traced) (turns : ℕ) →
       EndsSo g none t past p others ending end turns →
-      ending ≡ outcome.standstill → drawn ≡ d → Runs t p others drawn → Stands d
+      ending ≡ outcome.standstill → drawn ≡ d → Runs t p others drawn → StandsStill d
   stood t past p others drawn d ending end turns h e i r =
       let last : Runs h.before p others drawn = passed h.steps t past p others h.before h.since drawn h.passes r in
       let ends : target.step g.fetched h.before p others ≡ target.ended outcome.standstill h.machine = h.is ∙ ap (λ x. target.ended x h.machine) e in
-      subst Stands i (record {
+      subst StandsStill i (record {
         machine = h.machine;
         by_marks = record {
           taken = last.taken;
@@ -148,13 +148,13 @@ module _ (g : Coded) (claim : StepClaim g) (cohere : StepsCohere) (queues : Step
   Main n =
       (s : Processes) (t : Machine) (p : Name) (others marks : List Name) (drawn : ℕ) → Taken g s t p others marks → StateGood s → Runs t p others drawn →
       (end : Traced) (turns d : ℕ) (order : List Name) → select g.unit choices n s marks p others drawn ≡ finished outcome.standstill end turns d order →
-      Stands d
+      StandsStill d
 
   module _ (n : ℕ) (main : Main n) (t : Machine) (past : List State) (p : Name) (others marks : List Name) (drawn : ℕ) (end : Traced) (turns d : ℕ)
       (order : List Name) (r : Runs t p others drawn) where
     next_stands : (s : Processes) (next : Next) (quiet : Bool) → LandsNext g none t past p others marks s next →
         QueueAfter p others (source.went s next quiet) → StateGood s →
-        selection.after_next choices (select g.unit choices n s marks) s p others drawn next ≡ finished outcome.standstill end turns d order → Stands d
+        selection.after_next choices (select g.unit choices n s marks) s p others drawn next ≡ finished outcome.standstill end turns d order → StandsStill d
     next_stands s stays quiet h q good e =
         main s h.machine p others marks drawn (record { related = h.related; kept = h.kept; queue = q; marks_agree = h.marks_agree }) good
         (passed h.steps t past p others h.machine s.world.system.past drawn h.passes r) end turns d order e
@@ -164,7 +164,7 @@ module _ (g : Coded) (claim : StepClaim g) (cohere : StepsCohere) (queues : Step
         before = passed h.steps t past p others h.before h.since drawn h.passes r
 
         by : (x : Taking) → take_next choices drawn (others ++ ps) ≡ x → EachTaken (MayStep s) x →
-            selection.go_on x (select g.unit choices n s marks) s drawn ≡ finished outcome.standstill end turns d order → Stands d
+            selection.go_on x (select g.unit choices n s marks) s drawn ≡ finished outcome.standstill end turns d order → StandsStill d
         by nobody is each f = let x : (x : Name) × (source.may_step s x ≡ true) = someone s h.kept.coherent good in absurd (each x.0 x.1)
         by (taking z os c) is each f =
             main s h.machine z os marks c (record { related = h.related; kept = h.kept; queue = each; marks_agree = inl h.same_marks }) good
@@ -174,14 +174,14 @@ module _ (g : Coded) (claim : StepClaim g) (cohere : StepsCohere) (queues : Step
         QueueAfter p others (source.went s next quiet) → StateGood s →
         (if b then finished outcome.standstill s.world.system s.world.turns drawn [] else selection.after_next choices
         (select g.unit choices n s marks) s p others drawn next)
-        ≡ finished outcome.standstill end turns d order → Stands d
+        ≡ finished outcome.standstill end turns d order → StandsStill d
     tested_stands true s next quiet h q good e = stood t past p others drawn d outcome.standstill s.world.system s.world.turns h refl (same_drawn e) r
     tested_stands false s next quiet h q good e = next_stands s next quiet h q good e
 
   step_stands : (n : ℕ) → Main n → (t : Machine) (past : List State) (p : Name) (others marks : List Name) (drawn : ℕ) (end : Traced) (turns d : ℕ)
       (order : List Name) (r : Runs t p others drawn) (x : source.Stepped) →
       Lands g none t past p others marks x → QueueAfter p others x → After StateGood x →
-      selection.after_step choices (select g.unit choices n) p others marks drawn x ≡ finished outcome.standstill end turns d order → Stands d
+      selection.after_step choices (select g.unit choices n) p others marks drawn x ≡ finished outcome.standstill end turns d order → StandsStill d
   step_stands n main t past p others marks drawn end turns d order r (source.ended e y left) h q good f =
       stood t past p others drawn d e y left h (same_ending f) (same_drawn f) r
   step_stands n main t past p others marks drawn end turns d order r (source.went s next quiet) h q good f =
@@ -206,7 +206,7 @@ module _ (g : Coded) (claim : StepClaim g) (start : StartClaim g) (cohere : Step
   begun : (n bound : ℕ) (end : Traced) (turns d : ℕ) (order : List Name) →
       selection.after_step choices (select g.unit choices n) [] [] [] 0 (source.step g.unit (source.start g.unit system bound) []) ≡ finished
       outcome.standstill end turns d order →
-      Stands g claim cohere queues have choices system bound d
+      StandsStill g claim cohere queues have choices system bound d
   begun n zero end turns d order e = absurd (cc)
   begun n (suc k) end turns d order e =
       let b : Begins g system k = start.begins system k in
@@ -217,11 +217,11 @@ module _ (g : Coded) (claim : StepClaim g) (start : StartClaim g) (cohere : Step
       (sym (ap (selection.after_step choices (select g.unit choices n) [] [] [] 0) b.stepped) ∙ e)
 
   selected : (bound : ℕ) (end : Traced) (turns d : ℕ) (order : List Name) → selection.Ends g.unit system bound choices outcome.standstill end turns d order →
-      Stands g claim cohere queues have choices system bound d
+      StandsStill g claim cohere queues have choices system bound d
   selected bound end turns d order e = go e.0 e.1
     where
       go : (n : ℕ) → selection.select_from_start g.unit system bound choices n ≡ finished outcome.standstill end turns d order →
-          Stands g claim cohere queues have choices system bound d
+          StandsStill g claim cohere queues have choices system bound d
       go zero h = absurd (cc)
       go (suc n) h =
           let before : (rest : List Name) ×
@@ -259,7 +259,7 @@ module _ (g : Coded) (claim : StepClaim g) (start : StartClaim g) (cohere : Step
     stands_by_marks m d e =
         let h : Select g.unit system bound choices (outcome_of m.system outcome.standstill (bound - m.turns) d) = meant outcome.standstill m d e in
         let is : h.0 ≡ outcome.standstill = sym (ap (λ (o : Outcome). o.ending) h.6) in
-        let x : Stands g claim cohere queues have choices system bound h.3 =
+        let x : StandsStill g claim cohere queues have choices system bound h.3 =
         selected bound h.1 h.2 h.3 h.4 (subst (λ z. selection.Ends g.unit system bound choices z h.1 h.2 h.3 h.4) is h.5) in
         let same : target.finished outcome.standstill x.machine h.3 ≡ target.finished outcome.standstill m d =
         same_machine x.machine m h.3 d (stands_ends g.fetched choices 0 g.unit.calls system bound x.machine h.3 x.by_marks) e in

@@ -24,7 +24,7 @@ use Rattle.edi_meaning.specs.Step as source
 use Rattle.edi_meaning.specs.Step.{Process, Processes, program_end, body_of}
 use Rattle.edi_meaning.specs.Laws.{IsWaiting}
 use Rattle.edi_meaning.proofs.Dangling.{Coherent, permitted_coherent, step_coherent}
-use Rattle.edi_meaning.proofs.Names.{some_is}
+use Rattle.edi_calls.proofs.Names.{some_is}
 use Rattle.edi_target.specs.Op as op
 use Rattle.edi_target.specs.Op.{Instruction, is_allowed}
 use Rattle.edi_target.specs.Memory.{word}

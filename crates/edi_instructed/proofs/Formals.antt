@@ -12,10 +12,10 @@ use Rattle.edi_meaning.specs.Whole.{meant}
 use Rattle.edi_meaning.proofs.References.{older_all}
 use Rattle.edi_scheme.specs.Code.{slot_offset}
 use Rattle.edi_spots.specs.Coded.{Coded, entry, slot_in, slots_of, offset, heading_of}
-use Rattle.edi_spots.specs.Spots.{block_at, Answers, Holds}
+use Rattle.edi_spots.specs.Spots.{block_at, IsMeantBy, Holds}
 use Rattle.edi_spots.specs.Scene.{Scene, here, Stands}
 use Rattle.edi_spots.specs.Instructions.{Reaches}
-use Rattle.edi_instructed.proofs.Slots.{slot_is_in, HasProcedure, procedure_held}
+use Rattle.edi_instructed.proofs.Slots.{slot_is_in, HasProcedure, procedure_cell}
 use Rattle.edi_instructed.proofs.Variables.{levels_reach}
 
 -- a procedure parameter with this result
@@ -26,7 +26,7 @@ formal_slot (Some (slot.Var t)) never = absurd (cc)
 formal_slot (Some (slot.Formal r)) is = refl
 
 -- what an instance may mean, each that may mean the instance itself may mean too
-pub answers_nearer : (g : Coded) (F : Shape) (far near : Spot) (h : Heading) (c : Closure) → Older far near → Answers g F far h c → Answers g F near h c
+pub answers_nearer : (g : Coded) (F : Shape) (far near : Spot) (h : Heading) (c : Closure) → Older far near → IsMeantBy g F far h c → IsMeantBy g F near h c
 answers_nearer g F far near h (system_procedure number) older answers = answers
 answers_nearer g F far near h (block_procedure number parent) older answers =
     (answers.0, answers.1, answers.2, answers.3, older_all parent far near answers.4 older, answers.5)
@@ -56,7 +56,7 @@ module _
   -- it holds a procedure with its heading
   pub far_holds : HasProcedure g F far head (cell w.store far v)
   far_holds =
-      procedure_held g F far head result (cell w.store far v)
+      procedure_cell g F far head result (cell w.store far v)
       (subst (λ b. Holds g F far (heading_of g b v) (Some (slot.Formal result)) (cell w.store far v)) reaches.block_is
       (subst (λ o. Holds g F far (heading_of g (block_at g F far) v) o (cell w.store far v)) far_slot
       (h.typed.holds far v reaches.lives far_below)))

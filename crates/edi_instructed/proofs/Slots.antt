@@ -10,7 +10,7 @@ use Rattle.edi_unit.specs.Values.{Value, IsOf}
 use Rattle.edi_unit.specs.Fits.{Heading}
 use Rattle.edi_meaning.specs.Store.{Spot, Location, Closure, Cell, value, location, procedure, Shape}
 use Rattle.edi_spots.specs.Coded.{Coded, block, slot_in, slots_of, words_in, offset}
-use Rattle.edi_spots.specs.Spots.{Holds, Leads, Answers}
+use Rattle.edi_spots.specs.Spots.{Holds, Leads, IsMeantBy}
 use Rattle.edi_meaning.specs.Store.{Older}
 
 sums_apart : (g : Coded) (ps : List Parameter) (v u : ℕ) → v < u → u ≤ length ps →
@@ -42,10 +42,10 @@ module _ (g : Coded) (F : Shape) (s : Spot) (h : Heading) where
     pub is : c ≡ value of
     pub typed : IsOf g.unit.types of t
 
-  pub value_held : (t : ℕ) (c : Cell) → Holds g F s h (Some (slot.Value t)) c → HasValue t c
-  value_held t (value x) k = record { of = x; is = refl; typed = k }
-  value_held t (location l) k = absurd k
-  value_held t (procedure c) k = absurd k
+  pub value_cell : (t : ℕ) (c : Cell) → Holds g F s h (Some (slot.Value t)) c → HasValue t c
+  value_cell t (value x) k = record { of = x; is = refl; typed = k }
+  value_cell t (location l) k = absurd k
+  value_cell t (procedure c) k = absurd k
 
   pub record HasLocation (t : ℕ) (c : Cell) : Type 0 where
     pub at : Location
@@ -53,17 +53,17 @@ module _ (g : Coded) (F : Shape) (s : Spot) (h : Heading) where
     pub leads : Leads g F at t
     pub older : Older at.spot s
 
-  pub location_held : (t : ℕ) (c : Cell) → Holds g F s h (Some (slot.Var t)) c → HasLocation t c
-  location_held t (value x) k = absurd k
-  location_held t (location l) k = record { at = l; is = refl; leads = k.0; older = k.1 }
-  location_held t (procedure c) k = absurd k
+  pub location_cell : (t : ℕ) (c : Cell) → Holds g F s h (Some (slot.Var t)) c → HasLocation t c
+  location_cell t (value x) k = absurd k
+  location_cell t (location l) k = record { at = l; is = refl; leads = k.0; older = k.1 }
+  location_cell t (procedure c) k = absurd k
 
   pub record HasProcedure (c : Cell) : Type 0 where
     pub of : Closure
     pub is : c ≡ procedure of
-    pub answers : Answers g F s h of
+    pub answers : IsMeantBy g F s h of
 
-  pub procedure_held : (r : _) (c : Cell) → Holds g F s h (Some (slot.Formal r)) c → HasProcedure c
-  procedure_held r (value x) k = absurd k
-  procedure_held r (location l) k = absurd k
-  procedure_held r (procedure c) k = record { of = c; is = refl; answers = k }
+  pub procedure_cell : (r : _) (c : Cell) → Holds g F s h (Some (slot.Formal r)) c → HasProcedure c
+  procedure_cell r (value x) k = absurd k
+  procedure_cell r (location l) k = absurd k
+  procedure_cell r (procedure c) k = record { of = c; is = refl; answers = k }

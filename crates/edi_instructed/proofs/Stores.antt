@@ -34,7 +34,7 @@ use Rattle.edi_spots.proofs.Free.{slot_within, in_memory}
 use Rattle.edi_spots.proofs.Rows.{part_stands}
 use Rattle.edi_instructed.proofs.Cells.{cells_elsewhere, cell_here, cell_beside, count_here}
 use Rattle.edi_instructed.proofs.Ancestors.{owns_ancestor}
-use Rattle.edi_instructed.proofs.Slots.{slots_apart, slot_is_in, HasValue, value_held}
+use Rattle.edi_instructed.proofs.Slots.{slots_apart, slot_is_in, HasValue, value_cell}
 use Rattle.edi_worded.proofs.Paths.{path_known}
 
 -- ---- words in a row
@@ -93,8 +93,8 @@ module _ (g : Coded) (s : Scene) (long : ValuesAreLong) (parts : PartsStand) (F 
   inside : l.variable < slots_of g b
   inside = slot_is_in g b l.variable (slot.Value leads.of) leads.holds
 
-  held : HasValue g F l.spot (heading_of g b l.variable) leads.of (cell w.store l.spot l.variable)
-  held = value_held g F l.spot (heading_of g b l.variable) leads.of (cell w.store l.spot l.variable)
+  valued : HasValue g F l.spot (heading_of g b l.variable) leads.of (cell w.store l.spot l.variable)
+  valued = value_cell g F l.spot (heading_of g b l.variable) leads.of (cell w.store l.spot l.variable)
       (subst (λ o. Holds g F l.spot (heading_of g b l.variable) o (cell w.store l.spot l.variable)) leads.holds
       (h.typed.holds l.spot l.variable leads.lives inside))
 
@@ -105,14 +105,14 @@ module _ (g : Coded) (s : Scene) (long : ValuesAreLong) (parts : PartsStand) (F 
   part_type_known : of < length g.unit.types
   part_type_known = subst (λ t. t < length g.unit.types) leads.type (path_known g.unit.types table leads.of l.path known leads.path)
 
-  split : Splits g.unit.types held.of leads.of l.path
-  split = parts g.unit.types table held.of leads.of l.path known held.typed leads.path
+  split : Splits g.unit.types valued.of leads.of l.path
+  split = parts g.unit.types table valued.of leads.of l.path known valued.typed leads.path
 
-  part_typed : IsOf g.unit.types (part_at held.of l.path) of
-  part_typed = subst (λ t. IsOf g.unit.types (part_at held.of l.path) t) leads.type split.part
+  part_typed : IsOf g.unit.types (part_at valued.of l.path) of
+  part_typed = subst (λ t. IsOf g.unit.types (part_at valued.of l.path) t) leads.type split.part
 
-  part_length : length (value_words (part_at held.of l.path)) ≡ size g.unit.types of
-  part_length = long g.unit.types table (part_at held.of l.path) of part_type_known part_typed
+  part_length : length (value_words (part_at valued.of l.path)) ≡ size g.unit.types of
+  part_length = long g.unit.types table (part_at valued.of l.path) of part_type_known part_typed
 
   slot_words_are : words_in g (slot_in g b l.variable) ≡ size g.unit.types leads.of
   slot_words_are = ap (words_in g) leads.holds
@@ -120,8 +120,8 @@ module _ (g : Coded) (s : Scene) (long : ValuesAreLong) (parts : PartsStand) (F 
   address_is : location_address g s.first F l ≡ at + length split.before
   address_is = ap (λ o. at + path_offset g.unit.types (slot_type o) l.path) leads.holds ∙ ap (λ n. at + n) (sym split.long)
 
-  value_stands : words_at m at (size g.unit.types leads.of) ≡ split.before ++ (value_words (part_at held.of l.path) ++ split.after)
-  value_stands = ap (words_at m at) (sym slot_words_are) ∙ h.mirrors.cells l.spot l.variable leads.lives inside ∙ ap (cell_words g s.first F) held.is
+  value_stands : words_at m at (size g.unit.types leads.of) ≡ split.before ++ (value_words (part_at valued.of l.path) ++ split.after)
+  value_stands = ap (words_at m at) (sym slot_words_are) ∙ h.mirrors.cells l.spot l.variable leads.lives inside ∙ ap (cell_words g s.first F) valued.is
       ∙ split.here
 
   slot_ends : at + size g.unit.types leads.of ≤ address s.first F l.spot + kept g b
@@ -133,12 +133,12 @@ module _ (g : Coded) (s : Scene) (long : ValuesAreLong) (parts : PartsStand) (F 
   whole_length : size g.unit.types leads.of ≡ length split.before + (size g.unit.types of + length split.after)
   whole_length =
       sym (length-words_at m at (size g.unit.types leads.of) slot_fits) ∙ ap length value_stands
-      ∙ length-append split.before (value_words (part_at held.of l.path) ++ split.after)
-      ∙ ap (λ k. length split.before + k) (length-append (value_words (part_at held.of l.path)) split.after)
+      ∙ length-append split.before (value_words (part_at valued.of l.path) ++ split.after)
+      ∙ ap (λ k. length split.before + k) (length-append (value_words (part_at valued.of l.path)) split.after)
       ∙ omega (arith, part_length)
 
-  value_is : get w.store l ≡ part_at held.of l.path
-  value_is = ap (λ c. part_at (value_in c) l.path) held.is
+  value_is : get w.store l ≡ part_at valued.of l.path
+  value_is = ap (λ c. part_at (value_in c) l.path) valued.is
 
   -- a part is there
   pub part_is_there : IsPart g s F w m l of
@@ -147,10 +147,10 @@ module _ (g : Coded) (s : Scene) (long : ValuesAreLong) (parts : PartsStand) (F 
     within = omega (arith, address_is, whole_length, slot_fits, h.long);
     words =
         ap (λ k. words_at m k (size g.unit.types of)) address_is
-        ∙ part_stands m (split.before ++ (value_words (part_at held.of l.path) ++ split.after)) at (size g.unit.types leads.of) (length split.before)
+        ∙ part_stands m (split.before ++ (value_words (part_at valued.of l.path) ++ split.after)) at (size g.unit.types leads.of) (length split.before)
         (size g.unit.types of) value_stands slot_fits (omega (arith, whole_length))
-        ∙ ap (words_at (split.before ++ (value_words (part_at held.of l.path) ++ split.after)) (length split.before)) (sym part_length)
-        ∙ middle split.before (value_words (part_at held.of l.path)) split.after
+        ∙ ap (words_at (split.before ++ (value_words (part_at valued.of l.path) ++ split.after)) (length split.before)) (sym part_length)
+        ∙ middle split.before (value_words (part_at valued.of l.path)) split.after
         ∙ ap value_words (sym value_is);
     long = ap (λ v. length (value_words v)) value_is ∙ part_length;
     typed = subst (λ v. IsOf g.unit.types v of) (sym value_is) part_typed;
@@ -218,14 +218,14 @@ module _ (g : Coded) (s : Scene) (long : ValuesAreLong) (parts : PartsStand) (F 
     count_is : l.variable < length (cells_in (instances w.store l.spot.0) l.spot.1)
     count_is = omega (arith, h.typed.count l.spot leads.lives, inside)
 
-    new_is : cell store l.spot l.variable ≡ value (with_part held.of l.path x)
-    new_is = cell_here w.store l x count_is ∙ ap (λ c. value (with_part (value_in c) l.path x)) held.is
+    new_is : cell store l.spot l.variable ≡ value (with_part valued.of l.path x)
+    new_is = cell_here w.store l x count_is ∙ ap (λ c. value (with_part (value_in c) l.path x)) valued.is
 
     new_words : words_at written_there at (words_in g (slot_in g b l.variable)) ≡ cell_words g s.first F (cell store l.spot l.variable)
     new_words =
         ap (words_at written_there at) slot_words_are
         ∙ ap (λ k. words_at (written m k (value_words x)) at (size g.unit.types leads.of)) address_is
-        ∙ part_written m split.before (value_words (part_at held.of l.path)) split.after (value_words x) at
+        ∙ part_written m split.before (value_words (part_at valued.of l.path)) split.after (value_words x) at
         (size g.unit.types leads.of) value_stands slot_fits (omega (arith, x_length, part_length))
         ∙ sym (split.there x x_typed)
         ∙ sym (ap (cell_words g s.first F) new_is)
@@ -242,27 +242,27 @@ module _ (g : Coded) (s : Scene) (long : ValuesAreLong) (parts : PartsStand) (F 
     abbrev Mirrored : Spot → ℕ → Type 0
     Mirrored z v = words_at written_there (slot_address g s.first F z v) (words_in g (slot_in g (block_at g F z) v)) ≡ cell_words g s.first F (cell store z v)
 
-    abbrev Held : Spot → ℕ → Type 0
-    Held z v = Holds g F z (heading_of g (block_at g F z) v) (slot_in g (block_at g F z) v) (cell store z v)
+    abbrev CellFits : Spot → ℕ → Type 0
+    CellFits z v = Holds g F z (heading_of g (block_at g F z) v) (slot_in g (block_at g F z) v) (cell store z v)
 
-    same_cell : (z : Spot) (v : ℕ) → IsLive F z → v < slots_of g (block_at g F z) → Beside z v → cell store z v ≡ cell w.store z v → Mirrored z v × Held z v
+    same_cell : (z : Spot) (v : ℕ) → IsLive F z → v < slots_of g (block_at g F z) → Beside z v → cell store z v ≡ cell w.store z v → Mirrored z v × CellFits z v
     same_cell z v lives less beside e = (
       slot_stays z v lives less beside ∙ h.mirrors.cells z v lives less ∙ ap (cell_words g s.first F) (sym e),
       subst (λ c. Holds g F z (heading_of g (block_at g F z) v) (slot_in g (block_at g F z) v) c) (sym e) (h.typed.holds z v lives less),
     )
 
-    in_frame : (v : ℕ) → v < slots_of g b → Mirrored l.spot v × Held l.spot v
+    in_frame : (v : ℕ) → v < slots_of g b → Mirrored l.spot v × CellFits l.spot v
     in_frame v less = go (cases_eq v l.variable)
       where
-        go : (v ≡ l.variable) ⊎ (v ≢ l.variable) → Mirrored l.spot v × Held l.spot v
-        go (inl e) = subst (λ k. Mirrored l.spot k × Held l.spot k) (sym e) (new_words, new_typed)
+        go : (v ≡ l.variable) ⊎ (v ≢ l.variable) → Mirrored l.spot v × CellFits l.spot v
+        go (inl e) = subst (λ k. Mirrored l.spot k × CellFits l.spot k) (sym e) (new_words, new_typed)
         go (inr n) = same_cell l.spot v leads.lives less (next_to v less n) (cell_beside w.store l x v n)
 
-    every_cell : (z : Spot) (v : ℕ) → IsLive F z → v < slots_of g (block_at g F z) → Mirrored z v × Held z v
+    every_cell : (z : Spot) (v : ℕ) → IsLive F z → v < slots_of g (block_at g F z) → Mirrored z v × CellFits z v
     every_cell z v lives less = go (same_or_differ z l.spot)
       where
-        go : (z ≡ l.spot) ⊎ Differ z l.spot → Mirrored z v × Held z v
-        go (inl e) = subst (λ y. Mirrored y v × Held y v) (sym e) (in_frame v (subst (λ y. v < slots_of g (block_at g F y)) e less))
+        go : (z ≡ l.spot) ⊎ Differ z l.spot → Mirrored z v × CellFits z v
+        go (inl e) = subst (λ y. Mirrored y v × CellFits y v) (sym e) (in_frame v (subst (λ y. v < slots_of g (block_at g F y)) e less))
         go (inr d) = same_cell z v lives less (elsewhere z v lives less d) (cell_elsewhere z v d)
 
     count_kept : (z : Spot) → IsLive F z → length (cells_in (instances store z.0) z.1) ≡ slots_of g (block_at g F z)

@@ -22,7 +22,7 @@ use Rattle.edi_target.specs.Mach.{is_first}
 use Rattle.edi_scheme.proofs.Known.{all_some, size_positive}
 use Rattle.edi_worded.specs.Words.{value_words, ValuesAreLong, PartsStand}
 use Rattle.edi_spots.specs.Coded.{Coded, block, entry, slot_in, slots_of, words_in, heading_of}
-use Rattle.edi_spots.specs.Spots.{address, block_at, slot_address, location_address, cell_words, closure_words, Layout, Holds, Answers}
+use Rattle.edi_spots.specs.Spots.{address, block_at, slot_address, location_address, cell_words, closure_words, Layout, Holds, IsMeantBy}
 use Rattle.edi_spots.specs.Scene.{Scene, Stands}
 use Rattle.edi_spots.specs.Instructions.{local_at, effect, Reaches, LevelsReach, DoesAddress, LoadsCell, IsPart, LoadsPart, Stored, Stores, called_closure}
 use Rattle.edi_spots.specs.Instructions.{CallsBlock, CallsFormal, DoesProc}
@@ -130,7 +130,7 @@ module _ (g : Coded) (s : Scene) where
       let three : words_in g (slot_in g (block_at g F r) v) ≡ 3 = ap (words_in g) is in
       let words : words_at m a 3 ≡ closure_words g s.first F c =
       ap (words_at m a) (sym three) ∙ h.mirrors.cells r v lives less ∙ ap (cell_words g s.first F) holds in
-      let answers : Answers g F r (heading_of g (block_at g F r) v) c =
+      let answers : IsMeantBy g F r (heading_of g (block_at g F r) v) c =
       subst (λ x. Holds g F r (heading_of g (block_at g F r) v) (Some (slot.Formal result)) x) holds
       (subst (λ p. Holds g F r (heading_of g (block_at g F r) v) p (cell w.store r v)) is (h.typed.holds r v lives less)) in
       ap (λ z. within z 3 (call_described g.fetched s.count (is_first s.name) (word m z) (word m (z + 1)) (word m (z + 2)) line next
@@ -144,7 +144,7 @@ module _ (g : Coded) (s : Scene) where
       Known (system_procedure number) = Unit {0}
       Known (block_procedure n parent) = n < length g.unit.blocks
 
-      known : (c : Closure) (r : Spot) (y : _) → Answers g F r y c → Known c
+      known : (c : Closure) (r : Spot) (y : _) → IsMeantBy g F r y c → Known c
       known (system_procedure number) r y x = tt
       known (block_procedure n parent) r y x = x.0
 

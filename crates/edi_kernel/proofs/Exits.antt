@@ -4,18 +4,18 @@ use Rattle.std.proofs.Common.{length, map, Option, Some, None, refl, sym, ◌∙
 use Rattle.std.proofs.lemmas.Bool.{cases_eq, ne_eqb, leb-true, leb-false}
 use Rattle.std.proofs.lemmas.List.{length_push, append-nil}
 use Rattle.edi_calls.specs.Names.{Name, same, find, with_at, without, names}
-use Rattle.edi_calls.specs.Ready.{has, child, parent_of, joins}
+use Rattle.edi_calls.specs.Ready.{has, child, parent_of, joins, freed}
 use Rattle.edi_calls.proofs.Tables.{same-or-other, find-with_at-same, find-with_at-other, find-without-same, find-without-other}
 use Rattle.edi_target.specs.Mach as mach
-use Rattle.edi_target.specs.Mach.{Machine, Running, Stepped, went, activity_of, awaits, freed, one_less, notified, exited}
+use Rattle.edi_target.specs.Mach.{Machine, Running, Stepped, went, activity_of, awaits, one_less, notified, exited}
 use Rattle.edi_ring.specs.Lists.{home_of}
 use Rattle.edi_kernel.specs.declared.table.Standing.{Standing}
 use Rattle.edi_kernel.specs.declared.table.Standing.TheVariants as standing
 use Rattle.edi_kernel.specs.declared.table.Process.{Process}
 use Rattle.edi_kernel.specs.declared.table.Table.{Table}
-use Rattle.edi_kernel.specs.Table.{PutsProcess, Tells, TellsOne, Removed, process_at, ready_slots, free_slots, is_live, is_free_home, is_waiting, no_marks}
+use Rattle.edi_kernel.specs.Table.{PutsProcess, Notifies, NotifiesOne, Removed, process_at, ready_slots, free_slots, is_live, is_free_home, is_waiting, no_marks}
 use Rattle.edi_kernel.specs.TableIsMachine.{IsTable, IsTaken, Naming, Once, Awaits, Born, TableIsMachine, entry_of, standing_of, children_of}
-use Rattle.edi_kernel.proofs.Names.{parent_is}
+use Rattle.edi_calls.proofs.Names.{parent-child}
 use Rattle.edi_kernel.proofs.Counts.{map-append}
 use Rattle.edi_kernel.proofs.Changes.{one_changes, length-names}
 use Rattle.edi_kernel.proofs.Deaths as deaths
@@ -92,7 +92,7 @@ module _ (t u : Table) (p : ℕ) (table : IsTable t) (taken : IsTaken t p) (put 
         none : (i : ℕ) → slice_index_or no_marks i false ≡ false
         none i = unmarked_at 32 i
 
--- ---- its parent is told
+-- ---- its parent is notified
 
 -- the kernel's end of a branch is the machine's
 pub record Exited (u : Table) (n : Naming) (before after : List Name) (s : Stepped) : Type 0 where
@@ -148,7 +148,7 @@ module _ (t u : Table) (n : Naming) (m : Machine) (p w : ℕ) where
     step_is : one_less m (n.name p) entry entry.standing ≡ went (changed (awaits (w - 1))) (freed (w - 1) (n.name p))
     step_is = ap (λ s. one_less m (n.name p) entry (standing_of s)) h.waiting
 
-    by_number : (v : ℕ) → w ≡ suc v → (is_last : Bool) → nat_le w 1 ≡ is_last → TellsOne is_last w p t u → Exited u n (map n.name (ready_slots t))
+    by_number : (v : ℕ) → w ≡ suc v → (is_last : Bool) → nat_le w 1 ≡ is_last → NotifiesOne is_last w p t u → Exited u n (map n.name (ready_slots t))
         (map n.name (ready_slots u)) (one_less m (n.name p) entry entry.standing)
     by_number zero e true f put =
         let x : Process = record (process_at t p) { standing = standing.Ready } in
@@ -177,9 +177,9 @@ module _ (t u : Table) (n : Naming) (m : Machine) (p w : ℕ) where
           ready = ap (λ t. map n.name (ready_slots t)) is ∙ sym (append-nil (map n.name (ready_slots t)));
         }
 
-    pub tells_one : (v : ℕ) → w ≡ suc v → TellsOne (nat_le w 1) w p t u → Exited u n (map n.name (ready_slots t)) (map n.name (ready_slots u))
+    pub notifies_one : (v : ℕ) → w ≡ suc v → NotifiesOne (nat_le w 1) w p t u → Exited u n (map n.name (ready_slots t)) (map n.name (ready_slots u))
         (one_less m (n.name p) entry entry.standing)
-    tells_one v e tells = by_number v e (nat_le w 1) refl tells
+    notifies_one v e notifies = by_number v e (nat_le w 1) refl notifies
 
 -- ---- what the end of a branch leaves as it is
 
@@ -263,7 +263,7 @@ module _ (t u : Table) (n : Naming) (m k : Machine) (p : ℕ) (a : mach.Activity
         ∙ birth.lives
 
     its_parent : parent_of (n.name p) ≡ n.name parent
-    its_parent = ap parent_of birth.named ∙ parent_is (n.name parent) birth.fork birth.number
+    its_parent = ap parent_of birth.named ∙ parent-child (n.name parent) birth.fork birth.number
 
     told_is : exited k (n.name p) r ≡ one_less without_p (n.name parent) (entry_of (process_at removed.between parent) (n.forks parent))
         (standing_of (process_at removed.between parent).standing)
@@ -272,11 +272,11 @@ module _ (t u : Table) (n : Naming) (m k : Machine) (p : ℕ) (a : mach.Activity
         ∙ ap (notified without_p (n.name parent)) (stands_between.found parent parent_live)
 
     -- the parent waits
-    waits : (s : Standing) → (process_at removed.between parent).standing ≡ s → Tells s parent removed.between u →
+    waits : (s : Standing) → (process_at removed.between parent).standing ≡ s → Notifies s parent removed.between u →
         Exited u n (map n.name (ready_slots removed.between)) (map n.name (ready_slots u))
         (one_less without_p (n.name parent) (entry_of (process_at removed.between parent) (n.forks parent))
         (standing_of (process_at removed.between parent).standing))
-    waits standing.Ready e tells = absurd (omega (arith, none standing.Ready e, more))
+    waits standing.Ready e notifies = absurd (omega (arith, none standing.Ready e, more))
       where
         none : (s : Standing) → (process_at removed.between parent).standing ≡ s → Awaits s (children_of t parent)
         none s e = subst (λ s. Awaits s (children_of t parent))
@@ -284,7 +284,7 @@ module _ (t u : Table) (n : Naming) (m k : Machine) (p : ℕ) (a : mach.Activity
 
         more : children_of t parent ≡ suc (children_of removed.between parent)
         more = deaths.one_child_less t removed.between n m without_p p ending
-    waits standing.AtWhen e tells = absurd (omega (arith, none standing.AtWhen e, more))
+    waits standing.AtWhen e notifies = absurd (omega (arith, none standing.AtWhen e, more))
       where
         none : (s : Standing) → (process_at removed.between parent).standing ≡ s → Awaits s (children_of t parent)
         none s e = subst (λ s. Awaits s (children_of t parent))
@@ -292,8 +292,8 @@ module _ (t u : Table) (n : Naming) (m k : Machine) (p : ℕ) (a : mach.Activity
 
         more : children_of t parent ≡ suc (children_of removed.between parent)
         more = deaths.one_child_less t removed.between n m without_p p ending
-    waits (standing.Waiting w) e tells =
-        tells_one removed.between u n without_p parent w
+    waits (standing.Waiting w) e notifies =
+        notifies_one removed.between u n without_p parent w
         (record {
           table = freed_table t removed.between p at.table at.taken removed.put pos;
           stands = stands_between;
@@ -303,7 +303,7 @@ module _ (t u : Table) (n : Naming) (m k : Machine) (p : ℕ) (a : mach.Activity
           waiting = e;
           few = omega (arith, none (standing.Waiting w) e, more);
         })
-        (w - 1) (omega (arith, none (standing.Waiting w) e, more)) tells
+        (w - 1) (omega (arith, none (standing.Waiting w) e, more)) notifies
       where
         none : (s : Standing) → (process_at removed.between parent).standing ≡ s → Awaits s (children_of t parent)
         none s e = subst (λ s. Awaits s (children_of t parent))
@@ -317,7 +317,7 @@ module _ (t u : Table) (n : Naming) (m k : Machine) (p : ℕ) (a : mach.Activity
         let e : Exited u n (map n.name (ready_slots removed.between)) (map n.name (ready_slots u))
         (one_less without_p (n.name parent) (entry_of (process_at removed.between parent) (n.forks parent))
         (standing_of (process_at removed.between parent).standing)) =
-        waits (process_at removed.between parent).standing refl removed.told in
+        waits (process_at removed.between parent).standing refl removed.notified in
         record {
           machine = e.machine;
           joined = e.joined;

@@ -20,7 +20,7 @@ use Rattle.edi_kernel.specs.declared.table.Table.{Table}
 use Rattle.edi_kernel.specs.Table.{Added, beginning, process_at, ready_slots, is_live, is_free_home, no_marks, no_process}
 use Rattle.edi_kernel.specs.TableIsMachine.{IsTable, Naming, Awaits, TableIsMachine, entry_of, children_of}
 use Rattle.edi_kernel.specs.Forks.{OneMore, HaveBegun, share_in}
-use Rattle.edi_kernel.proofs.Names.{same_ends}
+use Rattle.edi_calls.proofs.Names.{same_ends}
 use Rattle.edi_kernel.proofs.Counts.{map_same, map-append}
 use Rattle.edi_kernel.proofs.Lists.{home_among, live_of_home, put_home_here, put_home_there, put_here, put_there, unmarked_at}
 use Rattle.edi_kernel.proofs.Births as births

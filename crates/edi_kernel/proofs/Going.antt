@@ -41,9 +41,9 @@ use Rattle.edi_kernel.specs.Stretch.{Paused, going, pausing, stopping, stretch, 
 use Rattle.edi_kernel.specs.Stints as stints
 use Rattle.edi_kernel.specs.Stints.{stint, stint_after}
 use Rattle.edi_kernel.specs.Forks.{HaveBegun, share_in}
-use Rattle.edi_kernel.specs.Kernel.{IsKernel, IsTakenIn, Holds, Switches, EndsRun, BreaksOff, TellsStanding, ForksInto, GoesTo, attempt_end, HandlesTurn}
+use Rattle.edi_kernel.specs.Kernel.{IsKernel, IsTakenIn, Holds, Switches, EndsRun, BreaksOff, StandsArrived, ForksInto, GoesTo, attempt_end, HandlesTurn}
 use Rattle.edi_kernel.specs.Kernel.{Handles}
-use Rattle.edi_kernel.proofs.Names.{child_some, same_ends}
+use Rattle.edi_calls.proofs.Names.{child_not_first, same_ends}
 use Rattle.edi_kernel.proofs.Counts.{marked_few, map-append, where_same}
 use Rattle.edi_kernel.proofs.Changes.{length-names, one_changes, at_set_same, at_set_other}
 use Rattle.edi_kernel.proofs.Lists.{written_table, unmarked_at}
@@ -112,7 +112,7 @@ first_is t n m (suc i) s l = not_zero i ∙ sym (named (n.name (suc i)) refl)
     not_zero i = ne_eqb (suc i) 0 (λ e. omega (arith, e))
 
     named : (q : Name) → n.name (suc i) ≡ q → is_first (n.name (suc i)) ≡ false
-    named [] e = let b = s.born (suc i) l (omega arith) in absurd (child_some _ b.fork b.number (sym b.named ∙ e))
+    named [] e = let b = s.born (suc i) l (omega arith) in absurd (child_not_first _ b.fork b.number (sym b.named ∙ e))
     named (x ∷ q) e = ap is_first e
 
 -- ---- the stint
@@ -182,11 +182,11 @@ module _ (words : List ℕ) (old mid new : KernelState) (slot left left1 used : 
     -- ---- an arrival, and an attempt that marks nobody
 
     left_standing : (k : Machine) (b : mach.Activity) (ms : List Name) (r : Running) → now ≡ r → new.arrived ≡ Some a →
-        TellsStanding new (back k p (activity_of r.local b.forks mach.at_when) ms r) p
-    left_standing k b ms r e told = record {
+        StandsArrived new (back k p (activity_of r.local b.forks mach.at_when) ms r) p
+    left_standing k b ms r e arrival = record {
       activity = a;
       forks = b.forks;
-      told = told;
+      arrival = arrival;
       found =
           find-with_at-same k.activities p (activity_of r.local b.forks mach.at_when)
           ∙ sym (ap (λ x. Some (activity_of x.local b.forks mach.at_when)) e);
@@ -198,8 +198,8 @@ module _ (words : List ℕ) (old mid new : KernelState) (slot left left1 used : 
     arrived : (k : Machine) (b : mach.Activity) (ms : List Name) (r : Running) (steps rest : ℕ) → Follows m k p (n.forks slot) ms b → now ≡ r →
         stint (fetch words) steps m p others ≡ stints.switched (back k p (activity_of r.local b.forks mach.at_when) [] r) (p ∷ []) →
         PutsProcess 0 slot (at_its_when (process_at mid.table slot) a) (unmarked mid.table) new.table → new.store ≡ mid.store → new.arrived ≡ Some a →
-        (h : Switches words (left - used) new t m p others) × TellsStanding new h.machine p
-    arrived k b ms r steps rest f e is put same told = (
+        (h : Switches words (left - used) new t m p others) × StandsArrived new h.machine p
+    arrived k b ms r steps rest f e is put same arrival = (
       record {
         steps = steps;
         machine = back k p (activity_of r.local b.forks mach.at_when) [] r;
@@ -217,7 +217,7 @@ module _ (words : List ℕ) (old mid new : KernelState) (slot left left1 used : 
         system = sym (ap (λ x. x.system) e);
         turns = sym (ap (λ x. x.turns) e) ∙ sym g.spent;
       },
-      left_standing k b [] r e told,
+      left_standing k b [] r e arrival,
     )
 
     -- ---- an attempt that marks its process
@@ -228,7 +228,7 @@ module _ (words : List ℕ) (old mid new : KernelState) (slot left left1 used : 
         PutsProcess 0 slot (at_its_when (process_at mid.table slot) a) (marked_with mid.table slot) new.table → new.store ≡ mid.store →
         result ≡ attempt_end (marks_with mid.table slot == length (ready_slots new.table)) used → new.arrived ≡ Some a → GoesTo words result left new t m p
         others
-    marked_attempt k b r steps rest result f e is put same ends told =
+    marked_attempt k b r steps rest result f e is put same ends arrival =
         subst (λ x. GoesTo words x left new t m p others) (sym ends) (by_marks (marks_with mid.table slot == length (ready_slots new.table)) refl)
       where
         marked : At (marked_with mid.table slot) n (record m { marks = p ∷ marks_after (fetch words) m p others (n.forks slot) cleared }) slot
@@ -267,7 +267,7 @@ module _ (words : List ℕ) (old mid new : KernelState) (slot left left1 used : 
             system = sym (ap (λ x. x.system) e);
             turns = sym (ap (λ x. x.turns) e) ∙ sym g.spent;
           },
-          left_standing k b (p ∷ k.marks) r e told,
+          left_standing k b (p ∷ k.marks) r e arrival,
         )
         by_marks false h = (
           record {
@@ -290,7 +290,7 @@ module _ (words : List ℕ) (old mid new : KernelState) (slot left left1 used : 
             system = sym (ap (λ x. x.system) e);
             turns = sym (ap (λ x. x.turns) e) ∙ sym g.spent;
           },
-          left_standing k b (p ∷ k.marks) r e told,
+          left_standing k b (p ∷ k.marks) r e arrival,
         )
 
     -- ---- the end of a branch
@@ -378,7 +378,7 @@ module _ (words : List ℕ) (old mid new : KernelState) (slot left left1 used : 
 
       -- no child of this fork is there yet
       fresh : (i q : ℕ) → is_live table_now i ≡ true → n.name i ≡ child p fork_number q → ⊥
-      fresh zero q l h = child_some p fork_number q (sym h ∙ at_clear.stands.root)
+      fresh zero q l h = child_not_first p fork_number q (sym h ∙ at_clear.stands.root)
       fresh (suc i) q l h =
           let o : Born (unmarked mid.table) n (suc i) = at_clear.stands.born (suc i) l (omega arith) in
           let par : ℕ = (process_at (unmarked mid.table) (suc i)).parent in

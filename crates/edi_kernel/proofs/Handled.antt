@@ -16,7 +16,7 @@ use Rattle.edi_kernel.specs.declared.state.KernelState.{KernelState}
 use Rattle.edi_kernel.specs.declared.table.Standing.{Standing}
 use Rattle.edi_kernel.specs.declared.table.Standing.TheVariants as standing
 use Rattle.edi_kernel.specs.declared.table.Table.{Table}
-use Rattle.edi_kernel.specs.Table.{PutsProcess, Tells, TellsOne, Removed, at_its_when, waiting_for, process_at, marked_with, unmarked, ready_slots}
+use Rattle.edi_kernel.specs.Table.{PutsProcess, Notifies, NotifiesOne, Removed, at_its_when, waiting_for, process_at, marked_with, unmarked, ready_slots}
 use Rattle.edi_kernel.specs.Table.{is_waiting, no_marks, with_process}
 use Rattle.edi_kernel.specs.TableIsMachine.{IsTable, IsTaken, IsBetween}
 use Rattle.edi_kernel.specs.Stretch.{Allows}
@@ -44,26 +44,26 @@ module _ (slot : ℕ) (parent : Activity) (branches : List Branch) (store : List
   begun_marks zero words u h = ap (λ v. v.marks) h.1
   begun_marks (suc i) words u h = h.added.put.marks ∙ h.added.taken.marks ∙ begun_marks i h.store_before h.table_before h.begun
 
--- ---- a process that is told
+-- ---- a process that is notified
 
-tells_table : (s : Standing) (slot : ℕ) (t u : Table) → IsTable t → slot < 32 → (process_at t slot).standing ≡ s → Tells s slot t u → IsTable u
-tells_table standing.Ready slot t u h lt e tells = subst IsTable (sym tells) h
-tells_table standing.AtWhen slot t u h lt e tells = subst IsTable (sym tells) h
-tells_table (standing.Waiting n) slot t u h lt e tells = by_number (nat_le n 1) tells
+notifies_table : (s : Standing) (slot : ℕ) (t u : Table) → IsTable t → slot < 32 → (process_at t slot).standing ≡ s → Notifies s slot t u → IsTable u
+notifies_table standing.Ready slot t u h lt e notifies = subst IsTable (sym notifies) h
+notifies_table standing.AtWhen slot t u h lt e notifies = subst IsTable (sym notifies) h
+notifies_table (standing.Waiting n) slot t u h lt e notifies = by_number (nat_le n 1) notifies
   where
-    by_number : (b : Bool) → TellsOne b n slot t u → IsTable u
+    by_number : (b : Bool) → NotifiesOne b n slot t u → IsTable u
     by_number true put = put_table t u 0 slot (record (process_at t slot) { standing = standing.Ready }) h put (inl refl) lt (h.parents slot)
         (h.ordered slot lt) refl
     by_number false is =
         subst IsTable (sym is) (written_table t slot (record (process_at t slot) { standing = standing.Waiting (n - 1) }) h lt (h.parents slot)
         (h.ordered slot lt) (h.waiting slot (ap is_waiting e)))
 
-tells_marked : (s : Standing) (slot : ℕ) (t u : Table) → Tells s slot t u → (u.marked ≡ t.marked) × (u.marks ≡ t.marks)
-tells_marked standing.Ready slot t u tells = (ap (λ v. v.marked) tells, ap (λ v. v.marks) tells)
-tells_marked standing.AtWhen slot t u tells = (ap (λ v. v.marked) tells, ap (λ v. v.marks) tells)
-tells_marked (standing.Waiting n) slot t u tells = by_number (nat_le n 1) tells
+notifies_marked : (s : Standing) (slot : ℕ) (t u : Table) → Notifies s slot t u → (u.marked ≡ t.marked) × (u.marks ≡ t.marks)
+notifies_marked standing.Ready slot t u notifies = (ap (λ v. v.marked) notifies, ap (λ v. v.marks) notifies)
+notifies_marked standing.AtWhen slot t u notifies = (ap (λ v. v.marked) notifies, ap (λ v. v.marks) notifies)
+notifies_marked (standing.Waiting n) slot t u notifies = by_number (nat_le n 1) notifies
   where
-    by_number : (b : Bool) → TellsOne b n slot t u → (u.marked ≡ t.marked) × (u.marks ≡ t.marks)
+    by_number : (b : Bool) → NotifiesOne b n slot t u → (u.marked ≡ t.marked) × (u.marks ≡ t.marks)
     by_number true put = (put.marked, put.marks)
     by_number false is = (ap (λ v. v.marked) is, ap (λ v. v.marks) is)
 
@@ -106,11 +106,11 @@ module _ (words : List ℕ) (slot used : ℕ) (a : Activity) (old new : KernelSt
       let r : Removed slot (unmarked old.table) new.table = h.0 in
       let s : IsTable r.between = freed_table (unmarked old.table) r.between slot (unmarked_table old.table table) (unmarked_taken old.table slot taken) r.put
       pos in
-      let m : (new.table.marked ≡ r.between.marked) × (new.table.marks ≡ r.between.marks) = tells_marked
+      let m : (new.table.marked ≡ r.between.marked) × (new.table.marks ≡ r.between.marks) = notifies_marked
       (process_at r.between (process_at (unmarked old.table) slot).parent).standing (process_at (unmarked old.table) slot).parent r.between new.table
-      r.told in (
-        tells_table (process_at r.between (process_at (unmarked old.table) slot).parent).standing (process_at (unmarked old.table) slot).parent r.between
-            new.table s (table.parents slot) refl r.told,
+      r.notified in (
+        notifies_table (process_at r.between (process_at (unmarked old.table) slot).parent).standing (process_at (unmarked old.table) slot).parent r.between
+            new.table s (table.parents slot) refl r.notified,
         none_counted new.table (m.0 ∙ r.put.marked) (m.1 ∙ r.put.marks),
       )
   handled_turn k live l allowed h = (

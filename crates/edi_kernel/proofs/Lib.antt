@@ -1,5 +1,4 @@
 pub mod Slots
-pub mod Names
 pub mod Counts
 pub mod Changes
 pub mod Births

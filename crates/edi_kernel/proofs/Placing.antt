@@ -25,7 +25,7 @@ put_last t u slot x a table inside put = record {
   was = refl;
   last = put_list t u 0 slot (at_its_when x a) put table.sound (omega arith);
   activity = a;
-  told = refl;
+  arrival = refl;
   standing = ap (λ (y : Process). y.standing) here;
   is = ap (λ (y : Process). y.activity) here;
 }
@@ -34,7 +34,7 @@ put_last t u slot x a table inside put = record {
     here = ap (λ xs. slice_index_or xs slot no_process) put.processes ∙ get_or-set_same t.processes slot (at_its_when x a) no_process
         (omega (arith, inside, table.wide))
 
--- the end of a stint is told of the same list of ready ones
+-- the end of a stint is of the same list of ready ones
 pub stands_same : (e : StintEnd) (taken taken' : Option ℕ) (ready ready' : List ℕ) (t : Table) (arrived : Option Activity) → taken ≡ taken' → ready ≡ ready'
     → StandsAfter e taken ready t arrived → StandsAfter e taken' ready' t arrived
 stands_same e taken taken' ready ready' t arrived same list h = subst (λ x. StandsAfter e x ready' t arrived) same

@@ -8,7 +8,7 @@ use Rattle.edi_ring.proofs.Calls.{among_at}
 use Rattle.edi_kernel.specs.declared.table.Standing.{Standing}
 use Rattle.edi_kernel.specs.declared.table.Standing.TheVariants as standing
 use Rattle.edi_kernel.specs.declared.table.Table.{Table}
-use Rattle.edi_kernel.specs.Table.{PutsProcess, Tells, process_at, with_process}
+use Rattle.edi_kernel.specs.Table.{PutsProcess, Notifies, process_at, with_process}
 
 -- ---- lists
 
@@ -41,20 +41,20 @@ listed_below ls l k x s e = s.in_range l x (has_at (list_at ls l) k x e)
 pub some_home : (ls : List (List ℕ)) (x l : ℕ) → home_of ls x ≡ Some l → IsSome (home_of ls x)
 some_home ls x l e = rw e refl
 
--- ---- a process is told that a child has ended
+-- ---- a process is notified that a child has ended
 
-pub tells_last : (s : Standing) (n slot : ℕ) (old new : Table) → s ≡ standing.Waiting n → n ≤ 1
-    → PutsProcess 0 slot (record (process_at old slot) { standing = standing.Ready }) old new → Tells s slot old new
-tells_last s n slot old new e h put = rw e (rw (le-leb n 1 h) put)
+pub notifies_last : (s : Standing) (n slot : ℕ) (old new : Table) → s ≡ standing.Waiting n → n ≤ 1
+    → PutsProcess 0 slot (record (process_at old slot) { standing = standing.Ready }) old new → Notifies s slot old new
+notifies_last s n slot old new e h put = rw e (rw (le-leb n 1 h) put)
 
-pub tells_more : (s : Standing) (n slot : ℕ) (old new : Table) → s ≡ standing.Waiting n → 1 < n
-    → new ≡ with_process old slot (record (process_at old slot) { standing = standing.Waiting (n - 1) }) → Tells s slot old new
-tells_more s n slot old new e h is = rw e (rw (lt-leb n 1 h) is)
+pub notifies_more : (s : Standing) (n slot : ℕ) (old new : Table) → s ≡ standing.Waiting n → 1 < n
+    → new ≡ with_process old slot (record (process_at old slot) { standing = standing.Waiting (n - 1) }) → Notifies s slot old new
+notifies_more s n slot old new e h is = rw e (rw (lt-leb n 1 h) is)
 
-pub tells_other : (s : Standing) (slot : ℕ) (t : Table) → ((n : ℕ) → s ≡ standing.Waiting n → ⊥) → Tells s slot t t
-tells_other standing.Ready slot t h = refl
-tells_other standing.AtWhen slot t h = refl
-tells_other (standing.Waiting n) slot t h = absurd (h n refl)
+pub notifies_other : (s : Standing) (slot : ℕ) (t : Table) → ((n : ℕ) → s ≡ standing.Waiting n → ⊥) → Notifies s slot t t
+notifies_other standing.Ready slot t h = refl
+notifies_other standing.AtWhen slot t h = refl
+notifies_other (standing.Waiting n) slot t h = absurd (h n refl)
 
 -- ---- the first lists
 

@@ -13,7 +13,7 @@ use Rattle.edi_kernel.specs.declared.ends.Ending.TheVariants as ending
 use Rattle.edi_kernel.specs.declared.ends.StintEnd.{StintEnd}
 use Rattle.edi_kernel.specs.declared.ends.StintEnd.TheVariants as stint_end
 use Rattle.edi_kernel.specs.declared.state.KernelState.{KernelState}
-use Rattle.edi_kernel.specs.Kernel.{Holds, KeepsWords, Switches, EndsRun, TellsStanding, GoesTo, later_by}
+use Rattle.edi_kernel.specs.Kernel.{Holds, KeepsWords, Switches, EndsRun, StandsArrived, GoesTo, later_by}
 use Rattle.edi_kernel.specs.Runs.{IsAtBy, IsAt}
 use Rattle.edi_kernel.proofs.Starting.{Enters, enters}
 use Rattle.edi_kernel.proofs.Rounds.{AnyStint, holds_same}
@@ -49,20 +49,20 @@ module _ (words : List ℕ) (k new : KernelState) (left n : ℕ) (store : new.st
     turns = h.turns ∙ less used;
   }
 
-  tells : (m : Machine) (p : Name) → TellsStanding k m p → TellsStanding new m p
-  tells m p h = record { activity = h.activity; forks = h.forks; told = arrived ∙ h.told; found = h.found }
+  arrives : (m : Machine) (p : Name) → StandsArrived k m p → StandsArrived new m p
+  arrives m p h = record { activity = h.activity; forks = h.forks; arrival = arrived ∙ h.arrival; found = h.found }
 
   pub goes_later : (end : StintEnd) (t : State) (m : Machine) (p : Name) (others : List Name) → GoesTo words end (left - n) k t m p others
       → GoesTo words (later_by n end) left new t m p others
   unfolding switches ends
-  goes_later (stint_end.Arrived used) t m p others h = (switches used t m p others h.0, tells h.0.machine p h.1)
+  goes_later (stint_end.Arrived used) t m p others h = (switches used t m p others h.0, arrives h.0.machine p h.1)
   goes_later (stint_end.Forked used) t m p others h = (switches used t m p others h.0, h.1)
   goes_later (stint_end.Exited used) t m p others h = (switches used t m p others h.0, h.1)
   goes_later (stint_end.Over used ending.Done) t m p others h = ends used ending.Done t m p others h
   goes_later (stint_end.Over used (ending.Halted line)) t m p others h = ends used (ending.Halted line) t m p others h
   goes_later (stint_end.Over used (ending.Failed cause line)) t m p others h = ends used (ending.Failed cause line) t m p others h
   goes_later (stint_end.Over used ending.Turns) t m p others h = ends used ending.Turns t m p others h
-  goes_later (stint_end.Over used ending.Standstill) t m p others h = (ends used ending.Standstill t m p others h.0, tells h.0.machine p h.1)
+  goes_later (stint_end.Over used ending.Standstill) t m p others h = (ends used ending.Standstill t m p others h.0, arrives h.0.machine p h.1)
   goes_later (stint_end.Over used (ending.Bad at)) t m p others h = ends used (ending.Bad at) t m p others h
   goes_later (stint_end.Over used ending.Fault) t m p others h =
       record { steps = h.steps; machine = h.machine; is = h.is; fails = h.fails; turns = h.turns ∙ less used }

@@ -5,10 +5,10 @@ use Rattle.std.specs.Prelude.{◌==◌}
 use Rattle.std.proofs.lemmas.Bool.{cases_eq}
 use Rattle.std.proofs.lemmas.List.{length_push}
 use Rattle.edi_calls.specs.Names.{Name, same}
-use Rattle.edi_calls.specs.Ready.{has, all_marked}
+use Rattle.edi_calls.specs.Ready.{has, all_marked, freed}
 use Rattle.edi_calls.proofs.Tables.{same-refl, find-with_at-same, find-with_at-other}
 use Rattle.edi_target.specs.Mach as mach
-use Rattle.edi_target.specs.Mach.{Machine, Running, Stepped, went, activity_of, back, awaits, freed, one_less, notified, exited}
+use Rattle.edi_target.specs.Mach.{Machine, Running, Stepped, went, activity_of, back, awaits, one_less, notified, exited}
 use Rattle.edi_ring.specs.Lists.{home_of}
 use Rattle.edi_ring.specs.Links.{IsAmong}
 use Rattle.edi_machine.specs.declared.activity.Activity.{Activity}

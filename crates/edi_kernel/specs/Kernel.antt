@@ -111,11 +111,11 @@ pub record BreaksOff (words : List ℕ) (left : ℕ) (now : State) (m : Machine)
   pub fails : FailsAt words machine p now
   pub turns : machine.turns ≡ left
 
--- the activity that the kernel tells is the one with which p stands at its `when` in this machine
-pub record TellsStanding (k : KernelState) (m : Machine) (p : Name) : Type 0 where
+-- the activity that the kernel keeps is the one with which p stands at its `when` in this machine
+pub record StandsArrived (k : KernelState) (m : Machine) (p : Name) : Type 0 where
   pub activity : Activity
   pub forks : ℕ
-  pub told : k.arrived ≡ Some activity
+  pub arrival : k.arrived ≡ Some activity
   pub found : find m.activities p ≡ Some (activity_of (local_of [] activity) forks mach.at_when)
 
 -- the processes that join are the children of a fork of p, one at least
@@ -129,10 +129,10 @@ pub record ForksInto (p : Name) (joined : List Name) : Type 0 where
 abbrev pub GoesTo : List ℕ → StintEnd → (left : ℕ) → KernelState → State → Machine → Name → List Name → Type 0
 GoesTo words (stint_end.Over used ending.Fault) left k now m p others = BreaksOff words (left - used) now m p others
 GoesTo words (stint_end.Over used ending.Standstill) left k now m p others =
-    (h : EndsRun words (left - used) ending.Standstill k now m p others) × TellsStanding k h.machine p
+    (h : EndsRun words (left - used) ending.Standstill k now m p others) × StandsArrived k h.machine p
 GoesTo words (stint_end.Over used e) left k now m p others = EndsRun words (left - used) e k now m p others
 GoesTo words (stint_end.Arrived used) left k now m p others =
-    (h : Switches words (left - used) k now m p others) × TellsStanding k h.machine p
+    (h : Switches words (left - used) k now m p others) × StandsArrived k h.machine p
 GoesTo words (stint_end.Forked used) left k now m p others =
     (h : Switches words (left - used) k now m p others) × ForksInto p h.joined
 GoesTo words (stint_end.Exited used) left k now m p others =
@@ -162,18 +162,18 @@ abbrev pub fault_of : Option Ending → Option Pause
 fault_of (Some ending.Fault) = Some (pause.Over ending.Fault)
 fault_of e = None
 
--- The process that was taken stands at its `when` with the activity that the kernel tells, and went to the back of those
+-- The process that was taken stands at its `when` with the activity that the kernel keeps, and went to the back of those
 -- that were ready.
 pub record StandsLast (taken : Option ℕ) (ready : List ℕ) (t : Table) (arrived : Option Activity) : Type 0 where
   pub slot : ℕ
   pub was : taken ≡ Some slot
   pub last : ready_slots t ≡ ready ++ slot ∷ []
   pub activity : Activity
-  pub told : arrived ≡ Some activity
+  pub arrival : arrived ≡ Some activity
   pub standing : (process_at t slot).standing ≡ standing.AtWhen
   pub is : (process_at t slot).activity ≡ activity
 
--- a process stands so after an arrival, and after the attempt that completes a standstill; after any other end none is told
+-- a process stands so after an arrival, and after the attempt that completes a standstill; after any other end none is kept
 abbrev pub StandsAfter : StintEnd → (taken : Option ℕ) → (ready : List ℕ) → Table → (arrived : Option Activity) → Type 0
 StandsAfter (stint_end.Arrived used) taken ready t arrived = StandsLast taken ready t arrived
 StandsAfter (stint_end.Over used ending.Standstill) taken ready t arrived = StandsLast taken ready t arrived

@@ -111,20 +111,20 @@ pub record Added (parent : ℕ) (a : Activity) (old new : Table) : Type 0 where
   pub put : PutsProcess 0 slot (beginning parent a) between new
 
 -- a process waits for one child less, and is the last of the ready ones where none is left
-abbrev pub TellsOne : (is_last : Bool) → (n slot : ℕ) → (old new : Table) → Type 0
-TellsOne true n slot old new = PutsProcess 0 slot (record (process_at old slot) { standing = standing.Ready }) old new
-TellsOne false n slot old new =
+abbrev pub NotifiesOne : (is_last : Bool) → (n slot : ℕ) → (old new : Table) → Type 0
+NotifiesOne true n slot old new = PutsProcess 0 slot (record (process_at old slot) { standing = standing.Ready }) old new
+NotifiesOne false n slot old new =
     new ≡ with_process old slot (record (process_at old slot) { standing = standing.Waiting (n - 1) })
 
-abbrev pub Tells : Standing → (slot : ℕ) → (old new : Table) → Type 0
-Tells (standing.Waiting n) slot old new = TellsOne (nat_le n 1) n slot old new
-Tells standing slot old new = new ≡ old
+abbrev pub Notifies : Standing → (slot : ℕ) → (old new : Table) → Type 0
+Notifies (standing.Waiting n) slot old new = NotifiesOne (nat_le n 1) n slot old new
+Notifies standing slot old new = new ≡ old
 
 -- the slot of a process that has ended is free, and its parent has been notified
 pub record Removed (slot : ℕ) (old new : Table) : Type 0 where
   pub between : Table
   pub put : PutsProcess 1 slot (process_at old slot) old between
-  pub told : let parent = (process_at old slot).parent in Tells (process_at between parent).standing parent between new
+  pub notified : let parent = (process_at old slot).parent in Notifies (process_at between parent).standing parent between new
 
 -- ---- the first process
 

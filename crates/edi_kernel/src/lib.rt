@@ -133,7 +133,7 @@ impl Kernel {
 
     /// Takes the next process: of k ready ones that at index c modulo k of the ready list, counted from 0, c being the next
     /// choice; a single one without a choice. None is taken before, and one is ready. All else that the kernel keeps is as before, also the activity that
-    /// `standing` tells.
+    /// `standing` gives.
     pub fn choose(&mut self, choices: &mut Choices)
         requires free { self.old.taken ≡ None }
         requires some { 0 < length (ready_slots self.old.table) }

@@ -9,7 +9,7 @@ ghost use Rattle.edi_kernel.specs.Table.{
   FirstAlone,
   PutsProcess,
   Removed,
-  Tells,
+  Notifies,
   Withdraws,
   at_its_when,
   first_home,
@@ -29,7 +29,7 @@ use edi_machine::Activity;
 use edi_ring::Lists;
 
 /// As many processes may live at once.
-pub(crate) const PLACES: usize = 32;
+pub(crate) const SLOTS: usize = 32;
 
 /// The list of the slots whose processes are ready.
 const READY: usize = 0;
@@ -76,7 +76,7 @@ fn first_lists() -> Lists<32, 2>
     ensures sound { IsSound 32 2 result }
 {
     let mut lists = Lists::new();
-    for slot in 1..PLACES {
+    for slot in 1..SLOTS {
         lists.push_back(FREE, slot);
     }
     lists
@@ -261,10 +261,10 @@ impl Table {
     }
 
     /// The process waits for one child less; it is the last of the ready ones where none is left.
-    fn tell(&mut self, slot: usize)
+    fn notify(&mut self, slot: usize)
         requires slot { slot < 32 }
         requires homeless { is_waiting (process_at self.old slot).standing ≡ true → home_of self.old.lists slot ≡ None }
-        ensures { Tells (process_at self.old slot).standing slot self.old self.new }
+        ensures { Notifies (process_at self.old slot).standing slot self.old self.new }
     {
         let process = self.processes[slot];
         if let Standing::Waiting(children) = process.standing {
@@ -291,7 +291,7 @@ impl Table {
     {
         let process = self.processes[slot];
         self.put(FREE, slot, process);
-        self.tell(process.parent);
+        self.notify(process.parent);
     }
 
     /// A branch has come to its end.

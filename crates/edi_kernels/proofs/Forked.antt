@@ -7,6 +7,7 @@ use Rattle.std.proofs.lemmas.Bool.{ltb-false}
 use Rattle.std.proofs.Math.Nat.{mul-div-le}
 use Rattle.edi_calls.specs.declared.kinds.Cause.TheVariants as cause
 use Rattle.edi_calls.specs.Names.{Name, same, find, with_at}
+use Rattle.edi_calls.specs.Forks.{most_processes, equal_share}
 use Rattle.edi_calls.specs.Outcome as outcome
 use Rattle.edi_calls.specs.Ready.{child, children, joins}
 use Rattle.edi_calls.proofs.Tables.{same-or-other, same-symmetric, find-with_at-same, find-with_at-other}
@@ -97,7 +98,7 @@ module _ (g : Coded) (bs : List ℕ) (line : ℕ) (ws : List Work) (w : World) (
   b = before_here g s t p q x r others outer out at h.cleared h.gets_there
 
   abbrev share : ℕ
-  share = source.share_of (room q.size (G p)) (length bs)
+  share = equal_share (room q.size (G p)) (length bs)
 
   abbrev shareT : ℕ
   shareT = perform.share_of at.local (length (branches_of g bs))
@@ -116,7 +117,7 @@ module _ (g : Coded) (bs : List ℕ) (line : ℕ) (ws : List Work) (w : World) (
       else fork_taken g.unit s p q bs ws w w.turns share
 
   abbrev over1 : Bool
-  over1 = nat_lt source.most_processes (length s.live + length bs)
+  over1 = nat_lt most_processes (length s.live + length bs)
 
   abbrev over2 : Bool
   over2 = list_any (source.exceeds g.unit share) bs
@@ -132,7 +133,7 @@ module _ (g : Coded) (bs : List ℕ) (line : ℕ) (ws : List Work) (w : World) (
   effect_is : effect_at g.fetched (g.fetched h.pc) (length t.activities) (is_first p) at.local ≡ effect over1 over2
   effect_is =
       ap (λ o. effect_at g.fetched o (length t.activities) (is_first p) at.local) h.stands
-      ∙ (λ i. effect (nat_lt source.most_processes (same_live i + branches_length g bs i)) (list_any (perform.exceeds (same_share i)) (branches_of g bs)))
+      ∙ (λ i. effect (nat_lt most_processes (same_live i + branches_length g bs i)) (list_any (perform.exceeds (same_share i)) (branches_of g bs)))
       ∙ (λ i. effect over1 (any_same g share bs i))
 
   step_is : local_step g.fetched (length t.activities) (is_first p) (plain at) ≡ settled (effect over1 over2) (plain at)

@@ -21,7 +21,7 @@ use Rattle.edi_meaning.specs.Store.{instances, frames, shape, frame_at, cells_in
 use Rattle.edi_meaning.specs.Whole.{result_cells, instance_of}
 use Rattle.edi_meaning.specs.Step as source
 use Rattle.edi_meaning.specs.Step.{Process, Processes, branch_end, body_of, child_process}
-use Rattle.edi_meaning.proofs.Names.{some_is, same_ends}
+use Rattle.edi_calls.proofs.Names.{some_is, same_ends}
 use Rattle.edi_meaning.proofs.Own.{instances-same, instances-other, owns_parent}
 use Rattle.edi_target.specs.Memory.{word}
 use Rattle.edi_target.specs.Mach as target

@@ -14,7 +14,7 @@ use Rattle.edi_meaning.specs.Step.{Process, Processes, Position, Work, Asks, goe
 use Rattle.edi_meaning.specs.Step.{work_step, kernel}
 use Rattle.edi_meaning.proofs.Kernel.{After}
 use Rattle.edi_meaning.proofs.Dangling.{Coherent}
-use Rattle.edi_meaning.proofs.Names.{some_is}
+use Rattle.edi_calls.proofs.Names.{some_is}
 use Rattle.edi_meaning.proofs.Parents.{names-with_at}
 use Rattle.edi_meaning.proofs.Standstill.{Unmarked, work_unmarked}
 use Rattle.edi_target.specs.Effect as turn

@@ -3,7 +3,7 @@ use Rattle.std.proofs.Common.{◌≡◌, ℕ, zero, suc, ◌+◌, ◌-◌, ◌<�
 use Rattle.std.proofs.Common.{refl, sym, subst, ap, ◌∙◌, arith}
 use Rattle.std.specs.Prelude.{slice_index_or}
 use Rattle.edi_calls.specs.Names.{Name, Table, same, find, with_at, without, names}
-use Rattle.edi_calls.specs.Ready.{parent_of, joins}
+use Rattle.edi_calls.specs.Ready.{parent_of, joins, freed}
 use Rattle.edi_calls.proofs.Tables.{same-or-other, find-with_at-same, find-with_at-other, find-without-same, find-without-other}
 use Rattle.edi_store.specs.Memory.{words_at}
 use Rattle.edi_calls.specs.State.{Traced}
@@ -15,7 +15,7 @@ use Rattle.edi_meaning.specs.Laws.{IsWaiting}
 use Rattle.edi_meaning.proofs.Kernel.{After, rest_of}
 use Rattle.edi_meaning.proofs.Dangling.{Coherent, alone_now}
 use Rattle.edi_meaning.proofs.Family.{kept_without}
-use Rattle.edi_meaning.proofs.Names.{some_is}
+use Rattle.edi_calls.proofs.Names.{some_is}
 use Rattle.edi_meaning.proofs.Own.{instances-gone, instances-left}
 use Rattle.edi_meaning.proofs.Parents.{names-with_at}
 use Rattle.edi_target.specs.Memory.{word}
@@ -320,10 +320,10 @@ module _ (g : Coded) (w : World) (outer : ℕ → Type 0) (s : Processes) (t : M
     standing1 : a1.standing ≡ target.waiting v.number
     standing1 = ap standing_of v.standing
 
-    is_told : target.notified rest par (find acts1 par) ≡ target.went (record rest { activities = acts2 }) (target.freed less par)
+    is_told : target.notified rest par (find acts1 par) ≡ target.went (record rest { activities = acts2 }) (freed less par)
     is_told = ap (target.notified rest par) act1 ∙ ap (target.one_less rest par a1) standing1
 
-    source_told : source.notified (rest_of s p w) par (find live1 par) ≡ source.went (record (rest_of s p w) { live = live2 }) (source.freed less par) false
+    source_told : source.notified (rest_of s p w) par (find live1 par) ≡ source.went (record (rest_of s p w) { live = live2 }) (freed less par) false
     source_told = ap (source.notified (rest_of s p w) par) found1 ∙ ap (source.one_less (rest_of s p w) par v.process) v.standing
 
     placed2 : (y : Name) (z : Process) → find live2 y ≡ Some z → IsPlaced g r.first (shape s.world.store) t.memory acts2 y z × (same y p ≡ false)
@@ -378,8 +378,8 @@ module _ (g : Coded) (w : World) (outer : ℕ → Type 0) (s : Processes) (t : M
         (gone_related g s t p q x r k.kept.coherent w h.store_is live2 acts2
         (record rest { activities = acts2 }) sound placed2 still2 was2 refl h.memory names2 (ap (λ (y : Traced). y.now) h.system) h.turns) is
 
-    lands_freed : (m : ℕ) → Coherent state2 → step g b.machine p others ≡ target.went (record rest { activities = acts2 }) (target.freed m par) →
-        LandsNext g outer t s.world.system.past p others [] state2 (source.freed m par)
+    lands_freed : (m : ℕ) → Coherent state2 → step g b.machine p others ≡ target.went (record rest { activities = acts2 }) (freed m par) →
+        LandsNext g outer t s.world.system.past p others [] state2 (freed m par)
     lands_freed zero coherent is = handed (par ∷ []) coherent is
     lands_freed (suc m) coherent is = handed [] coherent is
 

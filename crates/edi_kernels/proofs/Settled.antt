@@ -9,7 +9,7 @@ use Rattle.edi_meaning.specs.Step as source
 use Rattle.edi_meaning.specs.Step.{Process, Processes, waiting, is_running}
 use Rattle.edi_meaning.specs.Laws.{IsWaiting}
 use Rattle.edi_meaning.proofs.Dangling.{Coherent, owner_waits}
-use Rattle.edi_meaning.proofs.Names.{some_is}
+use Rattle.edi_calls.proofs.Names.{some_is}
 use Rattle.edi_meaning.proofs.Parents.{names-with_at, still_waiting}
 use Rattle.edi_target.specs.Memory.{word}
 use Rattle.edi_target.specs.Mach.{Machine, is_first}

@@ -9,7 +9,7 @@ use Rattle.edi_meaning.specs.Step.{Process, Processes, Asks, goes, arrives, agai
 use Rattle.edi_meaning.proofs.Kernel.{After, of_process}
 use Rattle.edi_meaning.specs.Laws.{IsWaiting}
 use Rattle.edi_meaning.proofs.Dangling.{Coherent, owner_waits}
-use Rattle.edi_meaning.proofs.Names.{some_is}
+use Rattle.edi_calls.proofs.Names.{some_is}
 use Rattle.edi_meaning.proofs.Parents.{waiting_does_not_run}
 use Rattle.edi_spots.specs.Coded.{Coded}
 use Rattle.edi_spots.specs.Related.{Queue}

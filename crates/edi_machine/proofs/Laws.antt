@@ -3,6 +3,7 @@ use Rattle.std.proofs.Common.{◌≡◌, ℕ, zero, suc, ◌+◌, ◌<◌, Bool,
 use Rattle.std.specs.Prelude.{nat_le, ⊤}
 use Rattle.std.specs.List.{list_any}
 use Rattle.std.proofs.lemmas.Bool.{cond_both, eqb-true, leb-true, and_parts}
+use Rattle.edi_calls.specs.Forks.{most_processes}
 use Rattle.edi_calls.specs.declared.kinds.Cause.{Cause}
 use Rattle.edi_calls.specs.declared.kinds.Cause.TheVariants as cause
 use Rattle.edi_calls.specs.Calls.{answer_words}
@@ -11,7 +12,7 @@ use Rattle.edi_target.specs.Op.{Instruction, Branch, is_allowed, is_count}
 use Rattle.edi_target.specs.Fetch.{fetch}
 use Rattle.edi_target.specs.Effect.{Local, entering, leaving, looping, arriving, again, forking, exiting, finishing, Effect, goes, released, asks, due}
 use Rattle.edi_target.specs.Effect.{fails, bad, in_range, enter}
-use Rattle.edi_target.specs.Perform.{short_cut, with_answer_address, system_call, perform, exceeds, share_of, most_processes}
+use Rattle.edi_target.specs.Perform.{short_cut, with_answer_address, system_call, perform, exceeds, share_of}
 use Rattle.edi_machine.specs.Starts.{IsFork, branches_in}
 
 module _ (words : List ℕ) (at : ℕ) where

@@ -21,7 +21,7 @@ use Rattle.edi_meaning.specs.Step.{step_of, step, start}
 use Rattle.edi_meaning.specs.Someone.{ActHasBranches, ActsHaveBranches, ClauseHasBranches, ClausesHaveBranches, ForksHaveBranches, FittingForksHaveBranches}
 use Rattle.edi_meaning.proofs.Lasting.{Gives}
 use Rattle.edi_meaning.proofs.Kernel.{if_either, Handles, kernel_handles, After}
-use Rattle.edi_meaning.proofs.Names.{some_is}
+use Rattle.edi_calls.proofs.Names.{some_is}
 use Rattle.edi_meaning.proofs.Family.{kept_without}
 
 -- ---- units that fit

@@ -17,7 +17,7 @@ use Rattle.edi_meaning.specs.Step.{is_running, at, permitted}
 use Rattle.edi_meaning.specs.Laws.{IsWaiting, CellMeans, ReferencesLive}
 use Rattle.edi_meaning.proofs.Lasting.{Gives, Keeps}
 use Rattle.edi_meaning.proofs.Kernel.{Handles, kernel_handles, of_process, After, permitted_keep}
-use Rattle.edi_meaning.proofs.Names.{some_is, no_some, same_ends}
+use Rattle.edi_calls.proofs.Names.{some_is, no_some, same_ends}
 use Rattle.edi_meaning.proofs.Own.{owns_first, owns_parent, new_cells_fit, instances-same, instances-other, instances-gone, instances-left}
 use Rattle.edi_meaning.proofs.Frames.{own_shape, framing, Steps, local_steps}
 use Rattle.edi_meaning.proofs.Family.{free_name, free_next}

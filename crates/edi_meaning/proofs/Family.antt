@@ -10,7 +10,7 @@ use Rattle.edi_calls.proofs.Tables.{same-or-other, find-with_at-same, find-with_
 use Rattle.edi_unit.specs.Tree.{ProgramUnit}
 use Rattle.edi_meaning.specs.Store.{Spot}
 use Rattle.edi_meaning.specs.Step.{Process, Processes, ready, child_process, with_child, with_children, start}
-use Rattle.edi_meaning.proofs.Names.{some_is, no_some, flat, below_child, not_below, deeper}
+use Rattle.edi_calls.proofs.Names.{some_is, no_some, flat, below_child, not_below, deeper}
 
 -- ---- names of later forks are free
 

@@ -3,20 +3,21 @@ use Rattle.std.proofs.Common.{◌≡◌, ℕ, zero, suc, ◌+◌, ◌-◌, Bool,
 use Rattle.std.proofs.Common.{◌∙◌}
 use Rattle.std.specs.Prelude.{⊤, nat_lt}
 use Rattle.std.specs.List.{list_any}
+use Rattle.edi_calls.specs.Forks.{most_processes, equal_share}
 use Rattle.edi_calls.specs.declared.kinds.Cause.TheVariants as cause
 use Rattle.edi_calls.specs.Names.{Name, find, without}
 use Rattle.edi_calls.specs.Outcome as outcome
 use Rattle.edi_calls.specs.Outcome.{Ending}
-use Rattle.edi_calls.specs.Ready.{parent_of, stays, joins}
+use Rattle.edi_calls.specs.Ready.{parent_of, stays, joins, freed}
 use Rattle.edi_calls.specs.State.{Traced}
 use Rattle.edi_unit.specs.Tree.{Clauses, ProgramUnit}
 use Rattle.edi_meaning.specs.Store.{shape, room}
 use Rattle.edi_meaning.specs.Evaluation.{World, Evaluation, gives, ends}
 use Rattle.edi_meaning.specs.Step.{Position, Work, Standing, ready, at_when, waiting, Asks, goes, arrives, again, forks, leaves, Process, Processes, Stepped}
-use Rattle.edi_meaning.specs.Step.{went, ended, back, share_of, exceeds, most_processes, fork_taken, awaits, freed, one_less, notified, local_step, kernel}
+use Rattle.edi_meaning.specs.Step.{went, ended, back, exceeds, fork_taken, awaits, one_less, notified, local_step, kernel}
 use Rattle.edi_meaning.specs.Step.{step_of, step, may_step, Led, at, nowhere, onward, permitted}
 use Rattle.edi_meaning.proofs.Lasting.{IsOver, Gives}
-use Rattle.edi_meaning.proofs.Names.{some_is, no_some}
+use Rattle.edi_calls.proofs.Names.{some_is, no_some}
 
 -- what holds of either holds of the one that a test takes
 pub if_either : {A : Type 0} (P : A → Type 0) (b : Bool) (x y : A) → P x → P y → P (if b then x else y)
@@ -75,7 +76,7 @@ module _ (unit : ProgramUnit) (s : Processes) (p : Name) (q : Process) (D : Asks
   kernel_handles (gives (arrives cs position work) w) d = h.of_arrives cs position work w d
   kernel_handles (gives (again cs position quiet work) w) d = h.of_again cs position quiet work w d
   kernel_handles (gives (forks bs line work) w) d =
-      let share = share_of (room q.size (shape w.store p)) (length bs) in
+      let share = equal_share (room q.size (shape w.store p)) (length bs) in
       if_either P (nat_lt most_processes (length s.live + length bs)) _ _ (h.of_no_fork bs line work w (outcome.failed cause.ProcessLimit line) tt d)
       (if_either P (list_any (exceeds unit share) bs) _ _ (h.of_no_fork bs line work w (outcome.failed cause.VariableLimit line) tt d)
       (taken bs line work w w.turns share refl d))

@@ -6,7 +6,6 @@ pub mod Kernel
 pub mod Work
 pub mod Selections
 pub mod Attempts
-pub mod Names
 pub mod Family
 pub mod Sound
 pub mod Pure

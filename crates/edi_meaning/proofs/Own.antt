@@ -19,7 +19,7 @@ use Rattle.edi_meaning.specs.Store.{ancestor, Owns}
 use Rattle.edi_meaning.specs.Evaluation.{World}
 use Rattle.edi_meaning.specs.Whole.{result_cells, meant, instance_of}
 use Rattle.edi_meaning.proofs.Lasting.{Every}
-use Rattle.edi_meaning.proofs.Names.{parent-child}
+use Rattle.edi_calls.proofs.Names.{parent-child}
 
 -- ---- ancestors
 

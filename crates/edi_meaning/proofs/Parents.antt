@@ -8,7 +8,7 @@ use Rattle.edi_calls.proofs.Tables.{same-refl, same-equal, same-or-other, same-s
 use Rattle.edi_calls.proofs.Tables.{find-without-other}
 use Rattle.edi_meaning.specs.Step.{Standing, waiting, Process, awaits, is_running}
 use Rattle.edi_meaning.specs.Laws.{is_child, children_in, IsWaiting}
-use Rattle.edi_meaning.proofs.Names.{some_is, no_some, parent-child, Once}
+use Rattle.edi_calls.proofs.Names.{some_is, no_some, parent-child, Once}
 use Rattle.edi_meaning.proofs.Sound.{once-append, not_true, right_false}
 
 -- ---- names of a table

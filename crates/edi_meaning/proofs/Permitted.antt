@@ -8,13 +8,13 @@ use Rattle.edi_calls.specs.Choice.{Choices}
 use Rattle.edi_calls.specs.Names.{Name, Table, same, find, with_at, without}
 use Rattle.edi_calls.specs.Outcome as outcome
 use Rattle.edi_calls.specs.Outcome.{Ending}
-use Rattle.edi_calls.specs.Ready.{child, parent_of, has, children, Next, stays, joins, Taking, nobody, taking, take_next}
+use Rattle.edi_calls.specs.Ready.{child, parent_of, has, children, Next, stays, joins, Taking, nobody, taking, take_next, freed}
 use Rattle.edi_calls.proofs.Tables.{same-refl, same-equal, same-or-other, find-with_at-same, find-with_at-other, find-without-same, find-without-other}
 use Rattle.edi_unit.specs.Tree.{ProgramUnit}
 use Rattle.edi_meaning.specs.Store.{shape, now}
 use Rattle.edi_meaning.specs.Evaluation.{World, Evaluation, gives, ends}
 use Rattle.edi_meaning.specs.Step.{Work, ready, at_when, waiting, Asks, Process, Processes, Stepped, went, ended, back, with_children, fork_taken, awaits}
-use Rattle.edi_meaning.specs.Step.{freed, local_step, step, start, is_running, is_running_process, may_step, Led, over, nowhere, onward, permitted}
+use Rattle.edi_meaning.specs.Step.{local_step, step, start, is_running, is_running_process, may_step, Led, over, nowhere, onward, permitted}
 use Rattle.edi_meaning.specs.Select.{Selected, unfinished, finished, stepped_first, marked, is_standstill, go_on, after_next, after_step, select}
 use Rattle.edi_meaning.specs.Select.{select_from_start}
 use Rattle.edi_meaning.specs.Laws.{LeadsTo, SelectIsPermitted}

@@ -5,7 +5,7 @@ use Rattle.std.proofs.Common.{subst, ap, ◌∙◌, arith}
 use Rattle.std.specs.Prelude.{⊤}
 use Rattle.edi_calls.specs.State.{State}
 use Rattle.edi_calls.specs.Names.{Name, Table, same, find, with_at, without}
-use Rattle.edi_calls.specs.Ready.{child, parent_of}
+use Rattle.edi_calls.specs.Ready.{child, parent_of, freed}
 use Rattle.edi_calls.proofs.Tables.{same-or-other, find-with_at-same, find-with_at-other, find-without-other}
 use Rattle.edi_unit.specs.Tree.{ProgramUnit}
 use Rattle.edi_unit.specs.Values.{Value}
@@ -13,7 +13,7 @@ use Rattle.edi_meaning.specs.Store.{Spot, Location, Cell, system_procedure, proc
 use Rattle.edi_meaning.specs.Evaluation.{World, Evaluation, gives, ends}
 use Rattle.edi_meaning.specs.Whole.{instance_of}
 use Rattle.edi_meaning.specs.Step.{Work, Standing, ready, at_when, waiting, Asks, Process, Processes, Stepped, went, ended, back, with_child, with_children}
-use Rattle.edi_meaning.specs.Step.{fork_taken, awaits, freed, local_step, step_of, step, start}
+use Rattle.edi_meaning.specs.Step.{fork_taken, awaits, local_step, step_of, step, start}
 use Rattle.edi_meaning.specs.Laws.{IsMade, IsPrivate, StepIsPrivate, CellsArePrivate}
 use Rattle.edi_meaning.proofs.Lasting.{Every, Gives, Lasting, Keeps}
 use Rattle.edi_meaning.proofs.Local.{Moving, local_keeps}
@@ -22,7 +22,7 @@ use Rattle.edi_meaning.proofs.Own.{owns_self, owns_all, owns_first, owns_parent,
 use Rattle.edi_meaning.proofs.Own.{meant_owned, calls_fit, instance_owned, instances-other, instances-gone, instances-left, owned_with, owned_without}
 use Rattle.edi_meaning.proofs.Own.{put_owned}
 use Rattle.edi_meaning.proofs.Frames.{framing, Steps, local_steps}
-use Rattle.edi_meaning.proofs.Names.{no_some}
+use Rattle.edi_calls.proofs.Names.{no_some}
 use Rattle.edi_meaning.proofs.Family.{Fresh, fresh_changed, fresh_without, free_name, free_next, Forked, forked_children, start_fresh}
 
 -- ---- one process

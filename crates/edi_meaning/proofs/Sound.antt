@@ -7,7 +7,7 @@ use Rattle.edi_calls.specs.Choice.{Choices, choice}
 use Rattle.edi_calls.specs.Names.{Name, same}
 use Rattle.edi_calls.specs.Ready.{child, has, children, Taking, nobody, taking, name_at, without_index, take_next}
 use Rattle.edi_calls.proofs.Tables.{same-refl, same-equal, same-or-other}
-use Rattle.edi_meaning.proofs.Names.{same_ends, Once}
+use Rattle.edi_calls.proofs.Names.{same_ends, Once}
 
 -- ---- who is in a list
 

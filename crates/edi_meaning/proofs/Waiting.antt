@@ -13,7 +13,7 @@ use Rattle.edi_meaning.specs.Step.{with_children, fork_taken, local_step, step_o
 use Rattle.edi_meaning.specs.Laws.{is_child, children_in, IsWaiting, ParentsWait}
 use Rattle.edi_meaning.proofs.Lasting.{Gives}
 use Rattle.edi_meaning.proofs.Kernel.{Handles, kernel_handles, of_process, After, permitted_keep}
-use Rattle.edi_meaning.proofs.Names.{some_is, no_some, parent-child}
+use Rattle.edi_calls.proofs.Names.{some_is, no_some, parent-child}
 use Rattle.edi_meaning.proofs.Family.{Fresh, Free, free_name, free_next, free_child, kept_child}
 use Rattle.edi_meaning.proofs.Parents.{names-with_at, names-with_new, once-new, children-append, children-one, one_if, child_is_child, not_child_of, Family}
 use Rattle.edi_meaning.proofs.Parents.{FamilyBut, whole_family, still_waiting, no_children, changed, family_goes, family_left, family_awaited}

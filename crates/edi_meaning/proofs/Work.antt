@@ -4,7 +4,7 @@ use Rattle.std.proofs.Common.{arith}
 use Rattle.std.specs.Prelude.{⊤, nat_lt}
 use Rattle.edi_calls.specs.Names.{Name, find}
 use Rattle.edi_calls.specs.Outcome as outcome
-use Rattle.edi_calls.specs.Ready.{child, parent_of, stays, joins}
+use Rattle.edi_calls.specs.Ready.{child, parent_of, stays, joins, freed}
 use Rattle.edi_unit.specs.Need.{block_at}
 use Rattle.edi_unit.specs.Tree as tree
 use Rattle.edi_unit.specs.Tree.{Expression, Act, Acts, Clause, Clauses, ProgramUnit}
@@ -13,7 +13,7 @@ use Rattle.edi_meaning.specs.Evaluation.{World, Evaluation, gives, ends, turn_fr
 use Rattle.edi_meaning.specs.Whole.{meant}
 use Rattle.edi_meaning.specs.Step.{Position, inside, Work, doing, loop_end, procedure_end, branch_end, program_entry, program_end, doing_all, Standing}
 use Rattle.edi_meaning.specs.Step.{ready, at_when, waiting, Asks, goes, arrives, again, forks, leaves, chosen, with_chosen, called, statement_step}
-use Rattle.edi_meaning.specs.Step.{work_step, attempt, local_step, Process, Processes, Stepped, went, ended, back, with_child, with_children, awaits, freed}
+use Rattle.edi_meaning.specs.Step.{work_step, attempt, local_step, Process, Processes, Stepped, went, ended, back, with_child, with_children, awaits}
 use Rattle.edi_meaning.specs.Step.{step}
 use Rattle.edi_calls.proofs.Tables.{find-with_at-same}
 use Rattle.edi_meaning.proofs.Lasting.{IsOwn, own_over, Every, Any, Lasting, Keeps, At, give, stop, bind, if_keeps, system_keeps, whole_arguments_keep}

@@ -1,14 +1,15 @@
 -- Definition. A program step by step. Each step is one of one process: outside critical phases a simple statement, the choice of a
 -- branch, an entry, a fork or an end; at a `when` the arrival, and each attempt with its conditions and its whole body.
-use Rattle.std.specs.Prelude.{ℕ, zero, suc, ◌+◌, ◌-◌, ◌/◌, Bool, true, false, not, ◌&&◌, ◌||◌, nat_lt, if◌then◌else◌, List, [], ◌∷◌, ◌++◌, length, map}
+use Rattle.std.specs.Prelude.{ℕ, zero, suc, ◌+◌, ◌-◌, Bool, true, false, not, ◌&&◌, ◌||◌, nat_lt, if◌then◌else◌, List, [], ◌∷◌, ◌++◌, length, map}
 use Rattle.std.specs.Prelude.{Option, Some, None}
 use Rattle.std.specs.List.{list_any}
+use Rattle.edi_calls.specs.Forks.{most_processes, equal_share}
 use Rattle.edi_calls.specs.declared.kinds.Cause.TheVariants as cause
 use Rattle.edi_calls.specs.State.{State, Traced, begun}
 use Rattle.edi_calls.specs.Names.{Name, Table, find, with_at, without, names}
 use Rattle.edi_calls.specs.Outcome as outcome
 use Rattle.edi_calls.specs.Outcome.{Ending}
-use Rattle.edi_calls.specs.Ready.{child, parent_of, children, Next, stays, joins}
+use Rattle.edi_calls.specs.Ready.{child, parent_of, children, Next, stays, joins, freed}
 use Rattle.edi_unit.specs.Tree as tree
 use Rattle.edi_unit.specs.Tree.{Expression, Expressions, Link, Links, Place, Part, Parts, Argument, Arguments, Act, Acts, Clause, Clauses, Block, ProgramUnit}
 use Rattle.edi_unit.specs.Need.{block_at}
@@ -192,14 +193,6 @@ pub data Stepped : Type 0 where
 abbrev pub back : Processes → Name → Process → World → Processes
 back s p q w = record { live = with_at s.live p q; world = w }
 
--- as many processes as may live at once, waiting ones included
-abbrev pub most_processes : ℕ
-most_processes = 32
-
--- the share of each of n branches in the room of a process
-abbrev pub share_of : ℕ → ℕ → ℕ
-share_of room n = room / n
-
 abbrev pub exceeds : ProgramUnit → ℕ → ℕ → Bool
 exceeds unit share number = nat_lt share (block_at unit.blocks number).need
 
@@ -233,7 +226,7 @@ fork_taken unit s p q bs work w (suc n) share =
 -- a fork: the limit of processes, that of the memory of each branch, and then a turn
 abbrev pub forked : ProgramUnit → Processes → Name → Process → List ℕ → (line : ℕ) → List Work → World → Stepped
 forked unit s p q bs line work w =
-    let share = share_of (room q.size (shape w.store p)) (length bs) in
+    let share = equal_share (room q.size (shape w.store p)) (length bs) in
     if nat_lt most_processes (length s.live + length bs) then ended (outcome.failed cause.ProcessLimit line) w.system w.turns
     else if list_any (exceeds unit share) bs then ended (outcome.failed cause.VariableLimit line) w.system w.turns
     else fork_taken unit s p q bs work w w.turns share
@@ -242,10 +235,6 @@ forked unit s p q bs line work w =
 abbrev pub awaits : ℕ → Standing
 awaits zero = ready
 awaits (suc n) = waiting (suc n)
-
-abbrev pub freed : ℕ → Name → Next
-freed zero p = joins (p ∷ [])
-freed (suc n) p = joins []
 
 abbrev pub one_less : Processes → Name → Process → Standing → Stepped
 one_less s p q (waiting n) = went (back s p (record q { standing = awaits (n - 1) }) s.world) (freed (n - 1) p) false

@@ -23,7 +23,7 @@ use Rattle.edi_names.specs.Visible.{TypeKnown, VarListKnown, ResultKnown, Headin
 use Rattle.edi_names.proofs.Shows.{Shows, first, two}
 use Rattle.edi_names.proofs.UsesExpressions.{Within, type_known, constant_known}
 use Rattle.edi_names.proofs.Scoping.{Adds, exports, none, with_adds, sees_behind}
-use Rattle.edi_names.proofs.Growing.{in_env, in_listed, in_headed, Grows, chain, outer, keep, end, chain_marked, shown, pass, so}
+use Rattle.edi_names.proofs.Growing.{in_env, in_listed, in_headed, Grows, chain, outer, keep, end, chain_export, shown, pass, so}
 
 -- nothing is declared
 nothing : (m : Bool) (env : Environment) → Grows in_env (Unit {0}) [] (exports m []) env.scopes (gives env)
@@ -47,12 +47,12 @@ consts_grow : (m : Bool) (ds : text.ConstDecls) (env : Environment) (names : Lis
     (consts_names ds) (exports m (consts_names ds)) env.scopes (const_decls m ds env)
 consts_grow m text.no_const_decl env names w = nothing m env
 consts_grow m (text.next_const_decl d ds) env names w =
-    chain_marked m (const_grows m d env names w) (λ e k. consts_grow m ds e (d.name.text ∷ names) (sees_behind names w k))
+    chain_export m (const_grows m d env names w) (λ e k. consts_grow m ds e (d.name.text ∷ names) (sees_behind names w k))
 
 pub const_list_grows : (m : Bool) (cs : text.ConstList) (env : Environment) (names : List (List ℕ)) → Within names env
     → Grows in_env (ConstListKnown names cs) (const_list_names cs) (exports m (const_list_names cs)) env.scopes (const_list m cs env)
 const_list_grows m (text.const_list d ds) env names w =
-    chain_marked m (const_grows m d env names w) (λ e k. consts_grow m ds e (d.name.text ∷ names) (sees_behind names w k))
+    chain_export m (const_grows m d env names w) (λ e k. consts_grow m ds e (d.name.text ∷ names) (sees_behind names w k))
 
 -- ---- types
 
@@ -60,7 +60,7 @@ enum_constants_grow : (m : Bool) (of n : ℕ) (ns : text.Names) (env : Environme
     (enum_constants m of n ns env)
 enum_constants_grow m of n text.no_name env = nothing m env
 enum_constants_grow m of n (text.next_name name ns) env =
-    so (chain_marked m (keep in_env in_env _ (declare_grows m name _ env)
+    so (chain_export m (keep in_env in_env _ (declare_grows m name _ env)
     (λ e. ruled (λ b. b.scopes ≡ e.scopes) (nat_lt n most_constants) kind.Range name.line _ (λ _. refl)))
     (λ e k. enum_constants_grow m of (suc n) ns e)) (λ p. tt)
 
@@ -71,7 +71,7 @@ declare_type_grows m name shape fields env = pass in_env _ (λ _. keep in_env in
 enum_grows : (m : Bool) (name : Name) (ns : text.Names) (env : Environment) → Grows in_env (Unit {0}) (name.text ∷ names_in ns)
     (exports m (name.text ∷ names_in ns)) env.scopes (enum_decl m name ns env)
 enum_grows m name ns env =
-    so (keep in_env in_env _ (chain_marked m (declare_grows m name _ env) (λ e k. enum_constants_grow m _ 0 ns e)) (λ e. refl)) (λ p. tt)
+    so (keep in_env in_env _ (chain_export m (declare_grows m name _ env) (λ e k. enum_constants_grow m _ 0 ns e)) (λ e. refl)) (λ p. tt)
 
 group_known : (g : text.Group) (fields : Fields) (env : Environment) (names : List (List ℕ)) → Within names env
     → Shows (GroupKnown names g) (fields_of_group env g fields)
@@ -113,7 +113,7 @@ variables_grow : (m : Bool) (of : ℕ) (ns : text.Names) (env : Environment) →
     (variables_named m of ns env)
 variables_grow m of text.no_name env = nothing m env
 variables_grow m of (text.next_name name ns) env =
-    so (chain_marked m (keep in_env in_env _ (declare_grows m name _ env) (λ e. refl)) (λ e k. variables_grow m of ns e)) (λ p. tt)
+    so (chain_export m (keep in_env in_env _ (declare_grows m name _ env) (λ e. refl)) (λ e k. variables_grow m of ns e)) (λ p. tt)
 
 group_grows : (m : Bool) (g : text.Group) (env : Environment) (names : List (List ℕ)) → Within names env → Grows in_env (GroupKnown names g) (group_names g)
     (exports m (group_names g)) env.scopes (variables_of_group m g env)
@@ -124,7 +124,7 @@ groups_grow : (m : Bool) (gs : text.Groups) (env : Environment) (names : List (L
     (groups_names gs) (exports m (groups_names gs)) env.scopes (variables_of_groups m gs env)
 groups_grow m text.no_group env names w = nothing m env
 groups_grow m (text.next_group g gs) env names w =
-    chain_marked m (group_grows m g env names w) (λ e k. groups_grow m gs e (group_names g ++ names) (sees_behind names w k))
+    chain_export m (group_grows m g env names w) (λ e k. groups_grow m gs e (group_names g ++ names) (sees_behind names w k))
 
 pub var_list_grows : (m : Bool) (vs : text.VarList) (env : Environment) (names : List (List ℕ)) → Within names env → Grows in_env (VarListKnown names vs)
     (var_list_names vs) (exports m (var_list_names vs)) env.scopes (var_list m vs env)

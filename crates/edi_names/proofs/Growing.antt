@@ -83,11 +83,11 @@ module _ {A B : Type 0} (at : A → List Scope) (at' : B → List Scope) where
   end {X = X} {Y = Y} {ns = ns} {xs = xs} {a = a} {m = m} f h k = record { grows = ends X Y ns xs a m f h.grows k }
 
 -- of a declaration with an export, or without one
-pub chain_marked : (m : Bool) {X Y : Type 0} {ns ms : List (List ℕ)} {a : List Scope} {j : Judged Environment} {f : Environment → Judged Environment}
+pub chain_export : (m : Bool) {X Y : Type 0} {ns ms : List (List ℕ)} {a : List Scope} {j : Judged Environment} {f : Environment → Judged Environment}
     → Grows in_env X ns (exports m ns) a j →
     ((e : Environment) → Adds ns (exports m ns) a e.scopes → Grows in_env Y ms (exports m ms) e.scopes (f e)) → Grows in_env (X × Y) (ns ++ ms)
     (exports m (ns ++ ms)) a (j >>= f)
-chain_marked m {X = X} {Y = Y} {ns = ns} {ms = ms} {a = a} {j = j} {f = f} h k =
+chain_export m {X = X} {Y = Y} {ns = ns} {ms = ms} {a = a} {j = j} {f = f} h k =
     subst (λ (xs : List (List ℕ)). Grows in_env (X × Y) (ns ++ ms) xs a (j >>= f)) (exports_append m ns ms) (chain in_env in_env h k)
 
 adding : {B : Type 0} (at : B → List Scope) (X Y : Type 0) (ns xs : List (List ℕ)) (a : List Scope) (m : Judged B) → X → Growing at Y ns xs a m

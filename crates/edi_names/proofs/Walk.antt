@@ -14,12 +14,12 @@ use Rattle.edi_static.specs.Headings.{leave, round, own_name, heading_parts}
 use Rattle.edi_static.specs.Statements.{After, statement_list, close_block}
 use Rattle.edi_static.specs.Declarations as spec
 use Rattle.edi_static.specs.Declarations.{enter_block, leave_to, leave_module, with_heading, kind_of, all_completed, begun_named, without_begun, completes}
-use Rattle.edi_static.specs.Declarations.{post_marked, block_of, begin_procedure, begin_post, pre_decl, heading_of, procedure_name}
+use Rattle.edi_static.specs.Declarations.{post_export, block_of, begin_procedure, begin_post, pre_decl, heading_of, procedure_name}
 use Rattle.edi_static.specs.Programs as programs
 use Rattle.edi_static.specs.Programs.{Resolved, resolve_tree}
 use Rattle.edi_static.proofs.Judging.{Gives, bind, behind, choose, weaker}
 use Rattle.edi_names.specs.Uses.{ListKnown}
-use Rattle.edi_names.specs.Visible.{item_names, marked_names, module_names, members_names, declaration_names, declarations_names, heading_name}
+use Rattle.edi_names.specs.Visible.{item_names, exported_names, module_names, members_names, declaration_names, declarations_names, heading_name}
 use Rattle.edi_names.specs.Visible.{parameter_names, HeadingKnown, inside, ProcedureKnown, ItemKnown, ModuleKnown, MembersKnown, DeclarationKnown}
 use Rattle.edi_names.specs.Visible.{DeclarationsKnown, standard_names, global_names, globals_names, GlobalKnown, GlobalsKnown, NamesAreVisible}
 use Rattle.edi_names.proofs.UsesExpressions.{Within}
@@ -58,7 +58,7 @@ begun_opens m h env names w =
     (round_opens m h (entity.Procedure (length env.blocks)) env.scopes (with_heading (kind_of (heading_result d.asks)) d) k.1))
 
 post_opens : (m : Bool) (h : text.Heading) (block : ℕ) (a : List Scope) (env : Environment) → Adds (parameter_names h) [] (entered false a) env.scopes
-    → Gives (IsOpen m h a) (post_marked m (own_name h) block env)
+    → Gives (IsOpen m h a) (post_export m (own_name h) block env)
 post_opens true h block a env x =
     bind (λ o. Adds (heading_name h ∷ []) (heading_name h ∷ []) (outside env.scopes) o.scopes) (IsOpen true h a)
     (give_outside (own_name h) (entity.Procedure block) (leave env)) _
@@ -77,7 +77,7 @@ posted_opens m h env names w =
     (heading_grows (block_of env found) h env names w).grows
     (λ d k.
     behind (Opening names m h env.scopes) (completes found (own_name h) d) _ (λ _.
-    weaker (IsOpen m h env.scopes) (Opening names m h env.scopes) (post_marked m (own_name h) (block_of env found) d.env) (λ r o. (k.0, o))
+    weaker (IsOpen m h env.scopes) (Opening names m h env.scopes) (post_export m (own_name h) (block_of env found) d.env) (λ r o. (k.0, o))
     (post_opens m h (block_of env found) env.scopes d.env k.1)))
 
 -- ---- procedures and modules
@@ -156,21 +156,21 @@ mutual
       env.scopes (spec.module_decl x env)
   module_grows (text.module_with ms s) env names w = record {
     grows =
-        bind (λ i. MembersKnown names ms × Adds (members_names ms) (marked_names ms) (entered true env.scopes) i.scopes)
-        (Left (ModuleKnown names (text.module_with ms s)) (marked_names ms) [] env.scopes)
+        bind (λ i. MembersKnown names ms × Adds (members_names ms) (exported_names ms) (entered true env.scopes) i.scopes)
+        (Left (ModuleKnown names (text.module_with ms s)) (exported_names ms) [] env.scopes)
         (spec.members ms (record (enter true env) { begun = [] })) _
         (members_grow ms (record (enter true env) { begun = [] }) names w).grows
         (λ i k.
         let all = members_names ms ++ names in
-        behind (Left (ModuleKnown names (text.module_with ms s)) (marked_names ms) [] env.scopes) (all_completed i.begun) _ (λ _.
+        behind (Left (ModuleKnown names (text.module_with ms s)) (exported_names ms) [] env.scopes) (all_completed i.begun) _ (λ _.
         bind (λ (d : After Acts). ListKnown all s × (d.env.scopes ≡ i.scopes))
-        (Left (ModuleKnown names (text.module_with ms s)) (marked_names ms) [] env.scopes) (statement_list s i) _
+        (Left (ModuleKnown names (text.module_with ms s)) (exported_names ms) [] env.scopes) (statement_list s i) _
         (statements_known i.scopes all (sees_behind names w k.1) s i refl)
-        (λ d j. ((k.0, j.0), subst (λ (t : List Scope). Adds (marked_names ms) [] env.scopes (outside t)) (sym j.1) (leaving k.1)))));
+        (λ d j. ((k.0, j.0), subst (λ (t : List Scope). Adds (exported_names ms) [] env.scopes (outside t)) (sym j.1) (leaving k.1)))));
   }
 
   members_grow : (ms : text.Members) (env : Environment) (names : List (List ℕ)) → Within names env → Grows in_env (MembersKnown names ms) (members_names ms)
-      (marked_names ms) env.scopes (spec.members ms env)
+      (exported_names ms) env.scopes (spec.members ms env)
   members_grow text.no_member env names w = record { grows = (tt, none false env.scopes) }
   members_grow (text.next_member (text.item_member i) ms) env names w =
       chain in_env in_env (item_grows false i env names w) (λ e k. members_grow ms e (item_names i ++ names) (sees_behind names w k))

@@ -17,7 +17,7 @@ pub row_used_before : NamesAreVisible
     → ⊥
 row_used_before h = let none : false ≡ true = h.1.1.0.2.0.0 in absurd (cc)
 
--- a name of a module that is not marked is used outside it:
+-- a name of a module that is not exported is used outside it:
 -- proc main / module var a: int begin skip end / begin a := a end
 pub row_hidden : NamesAreVisible
     (program no_global (procedure (heading (id "main" 1) no_params None) (next_declaration (module_declaration (module_with

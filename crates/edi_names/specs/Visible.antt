@@ -56,14 +56,14 @@ item_names (pre_item h) = heading_name h ∷ []
 item_names (post_item p) = (procedure_name p).text ∷ []
 
 -- what a module gives to the scope round it
-abbrev pub marked_names : Members → List (List ℕ)
-marked_names no_member = []
-marked_names (next_member (item_member i) ms) = marked_names ms
-marked_names (next_member (exported_member i) ms) = item_names i ++ marked_names ms
-marked_names (next_member (module_member m) ms) = marked_names ms
+abbrev pub exported_names : Members → List (List ℕ)
+exported_names no_member = []
+exported_names (next_member (item_member i) ms) = exported_names ms
+exported_names (next_member (exported_member i) ms) = item_names i ++ exported_names ms
+exported_names (next_member (module_member m) ms) = exported_names ms
 
 abbrev pub module_names : Module → List (List ℕ)
-module_names (module_with ms s) = marked_names ms
+module_names (module_with ms s) = exported_names ms
 
 abbrev pub member_names : Member → List (List ℕ)
 member_names (item_member i) = item_names i

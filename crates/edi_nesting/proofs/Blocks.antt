@@ -30,7 +30,7 @@ use Rattle.edi_static.specs.Fitting.{Use, constructs, calls, halts, neither, use
 use Rattle.edi_static.specs.Expressions.{expression, variable_place, all_arguments, args_count}
 use Rattle.edi_static.specs.Statements.{After, procedure_called, acts_append, assigned, called, add_statements, with_need, close_block, enter_branch}
 use Rattle.edi_static.specs.Statements.{leave_branch, statement_list, statements, statement, conditions, elses, condition, branch, branches}
-use Rattle.edi_static.specs.Declarations.{kind_of, with_heading, block_of, procedure_name, heading_of, begun_named, completes, post_marked, all_completed}
+use Rattle.edi_static.specs.Declarations.{kind_of, with_heading, block_of, procedure_name, heading_of, begun_named, completes, post_export, all_completed}
 use Rattle.edi_static.specs.Declarations.{begin_procedure, begin_post, pre_decl, procedure_rest, item, module_decl, members, member, declarations}
 use Rattle.edi_static.specs.Declarations.{declaration}
 use Rattle.edi_static.specs.Programs.{program_heading, global_decl, global_decls, program_procedure, resolve_tree}
@@ -361,14 +361,14 @@ module _ (levels : ℕ) where
       round_shallow m (own_name h) (entity.Procedure (length env.blocks))
       (with_heading (kind_of (heading_result headed.asks)) headed) (with_heading_shallow _ headed k))
 
-  marked_shallow : (m : Bool) (name : Name) (block : ℕ) (env : Environment) → Shallow env → Gives Shallow (post_marked m name block env)
-  marked_shallow true name block env h = outside_round_shallow name (entity.Procedure block) env h
-  marked_shallow false name block env h = h
+  export_shallow : (m : Bool) (name : Name) (block : ℕ) (env : Environment) → Shallow env → Gives Shallow (post_export m name block env)
+  export_shallow true name block env h = outside_round_shallow name (entity.Procedure block) env h
+  export_shallow false name block env h = h
 
   post_shallow : (m : Bool) (h : text.Heading) (env : Environment) → Shallow env → Gives Shallow (begin_post m h env)
   post_shallow m h env s =
       bind ShallowHeaded Shallow _ _ (heading_shallow _ h env s) (λ headed k.
-      behind Shallow (completes (begun_named env.begun (own_name h).text) (own_name h) headed) _ (λ _. marked_shallow m (own_name h) _ headed.env k))
+      behind Shallow (completes (begun_named env.begun (own_name h).text) (own_name h) headed) _ (λ _. export_shallow m (own_name h) _ headed.env k))
 
   pre_shallow : (m : Bool) (h : text.Heading) (env : Environment) → Shallow env → Gives Shallow (pre_decl m h env)
   pre_shallow m h env s = bind Shallow Shallow _ _ (begin_shallow m h env s) (λ e k. k)

@@ -129,14 +129,14 @@ module _ (g : Coded) (s : Scene) (deeper : Acts → World → Evaluation (Unit {
   -- ---- all clauses
 
   pub no_clause_does : Cs g s deeper bound tree.no_clause
-  no_clause_does choice target F pc to t held w m less some stands fits able =
-      give g s F pc t t held w m (Tried g s F choice target to t) false able.stands (omega arith)
+  no_clause_does kind target F pc to t held w m less some stands fits able =
+      give g s F pc t t held w m (Tried g s F kind target to t) false able.stands (omega arith)
       (omega (arith, able.high)) (record { top_is = refl; so = stands })
 
   pub clause_then_does : (e : Expression) (as' : Acts) (cs : Clauses) → E g s deeper bound e → As g s deeper bound as' → Cs g s deeper bound cs →
       Cs g s deeper bound (tree.clause_then (tree.clause e as') cs)
-  clause_then_does e as' cs claim list others choice target F pc to t held w m less some stands fits able =
-      bind g s F pc t t held w m (Guarded stands.0 stands.1 t) (Tried g s F choice target to t)
+  clause_then_does e as' cs claim list others kind target F pc to t held w m less some stands fits able =
+      bind g s F pc t t held w m (Guarded stands.0 stands.1 t) (Tried g s F kind target to t)
       (guarded g.unit s.name (s.size s.name) deeper (tree.clause e as') w)
       (λ ran w. if ran then gives true w else first_of cs w)
       (guarded_does e as' claim list F pc stands.2.0 stands.2.1 stands.0 stands.1 t held w m less some stands.2.2
@@ -153,23 +153,23 @@ module _ (g : Coded) (s : Scene) (deeper : Acts → World → Evaluation (Unit {
             arith,
             one_up g stands.2.0 (op.false_ stands.1) stands.2.1 stands.2.3,
             acts_up g (here g s F) as' stands.2.1 stands.0 stands.2.4,
-            codes_up g (close_code choice target cs) stands.0 stands.1 stands.3,
+            codes_up g (close_code kind target cs) stands.0 stands.1 stands.3,
           )
 
       by_ran : (v : World) (m' : List ℕ) (pc' top' : ℕ) → Stands g s F v m' → t ≤ top'
           → top' ≤ frames_end s.first F s.name
           → Able g s F v m' t (clauses_height g.unit.types g.unit.blocks (here g s F) cs) held → v.turns ≤ bound →
           (ran : Bool) → Guarded stands.0 stands.1 t ran m' pc' top'
-          → Does g s F pc' top' t held v m' (Tried g s F choice target to t)
+          → Does g s F pc' top' t held v m' (Tried g s F kind target to t)
           (if ran then gives true v else first_of cs v)
       by_ran v m' pc' top' there above within able' less' true post =
-          give g s F pc' top' t held v m' (Tried g s F choice target to t) true there above within (record {
+          give g s F pc' top' t held v m' (Tried g s F kind target to t) true there above within (record {
             top_is = post.top_is;
-            so = (cs, stands.1, subst (λ x. code.AreInstructions g.fetched (close_code choice target cs) x stands.1) (sym post.so) stands.3, stands.4);
+            so = (cs, stands.1, subst (λ x. code.AreInstructions g.fetched (close_code kind target cs) x stands.1) (sym post.so) stands.3, stands.4);
           })
       by_ran v m' pc' top' there above within able' less' false post =
-          at_same g s Bool (Tried g s F choice target to t) (first_of cs v) F stands.1 pc' t top' t held v m' post.so post.top_is
-          (others choice target F stands.1 to t held v m' less' some stands.4 fits.1 able')
+          at_same g s Bool (Tried g s F kind target to t) (first_of cs v) F stands.1 pc' t top' t held v m' post.so post.top_is
+          (others kind target F stands.1 to t held v m' less' some stands.4 fits.1 able')
 
   -- ---- what was tried in an `if` and in a loop
 

@@ -58,7 +58,7 @@ module _ (g : Coded) (s : Scene) (deeper : Acts → World → Evaluation (Unit {
           at_same g s Value (Pushed g s of to t) _ F stands.0 pc' (t + length (cells_words g s.first F cells)) top' t held v m' post.pc_is post.top_is
           (function c of line cells F stands.0 to t held v m' (omega (arith, less, after.turns)) stands.2 fits.0 e
           (i.able_then F w v m m' t _ t (result_words g.unit.types g.unit.blocks (here g s F) c) t held cl able after (omega arith) (omega arith))
-          (record { pc_is = refl; top_is = refl; words = post.words; held = post.held }))))
+          (record { pc_is = refl; top_is = refl; words = post.words; cells_fit = post.cells_fit }))))
 
   -- a procedure
   pub call_does : (c : Callee) (xs : Arguments) (line : ℕ) → Xs g s deeper bound xs → ProcedureClaim g s deeper bound → A g s deeper bound (tree.call c xs line)
@@ -70,4 +70,4 @@ module _ (g : Coded) (s : Scene) (deeper : Acts → World → Evaluation (Unit {
       at_same g s (Unit {0}) (Ran g s to t) _ F stands.0 pc' (t + length (cells_words g s.first F cells)) top' t held v m' post.pc_is post.top_is
       (procedure c line cells F stands.0 to t held v m' (omega (arith, less, after.turns)) some stands.2 fits.0 fits.1
       (i.able_then F w v m m' t _ t 0 t held cl able after (omega arith) (omega arith))
-      (record { pc_is = refl; top_is = refl; words = post.words; held = post.held })))
+      (record { pc_is = refl; top_is = refl; words = post.words; cells_fit = post.cells_fit })))

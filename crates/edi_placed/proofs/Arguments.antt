@@ -51,7 +51,7 @@ module _ (g : Coded) (s : Scene) (deeper : Acts → World → Evaluation (Unit {
           Does g s F pc t t held w m (Passed g s F formals to t) (gives [] w)
       none no_formal is =
           give g s F pc t t held w m (Passed g s F no_formal to t) [] able.stands (omega arith) (omega (arith, able.high))
-          (record { pc_is = st; top_is = omega arith; words = refl; held = tt })
+          (record { pc_is = st; top_is = omega arith; words = refl; cells_fit = tt })
       none (value_then u fs) is = absurd is
       none (variable_then u fs) is = absurd is
       none (procedure_then h fs) is = absurd is
@@ -91,7 +91,7 @@ module _ (g : Coded) (s : Scene) (deeper : Acts → World → Evaluation (Unit {
           words =
               ap (words_at m'' t) long ∙ words_at-append m'' t n (length more)
               ∙ ap₂ (λ xs ys. xs ++ ys) (operands_stay g s F v z m' m'' t n (t + n) k stood after able.low (omega arith) up ∙ first.words) last.words;
-          held = both c cs first.good last.held;
+          cells_fit = both c cs first.good last.cells_fit;
         }
 
     pub then_does : Does g s F pc t t held w m (Handed g s F a t n Good) (argument g.unit s.name (s.size s.name) deeper x w) →
@@ -115,4 +115,4 @@ module _ (g : Coded) (s : Scene) (deeper : Acts → World → Evaluation (Unit {
         (give g s F to top'' t held z m'' (Passed g s F formals to t) (c ∷ cs) (stands_after g s F v z m' m'' (t + n) k' stood later) (omega (arith, le')) up''
         (together c cs v z m' m'' top'' k' stood later up'
         (record { pc_is = refl; top_is = refl; long = first.long; words = first.words; good = first.good })
-        (record { pc_is = refl; top_is = last.top_is; words = last.words; held = last.held }))))))
+        (record { pc_is = refl; top_is = last.top_is; words = last.words; cells_fit = last.cells_fit }))))))

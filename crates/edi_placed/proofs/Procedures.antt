@@ -16,7 +16,7 @@ use Rattle.edi_target.specs.Effect.{push}
 use Rattle.edi_scheme.specs.Code.{slot_offset, procedure_code}
 use Rattle.edi_scheme.specs.Stands as code
 use Rattle.edi_spots.specs.Coded.{Coded, entry, words_in}
-use Rattle.edi_spots.specs.Spots.{frames_end, slot_address, closure_words, cell_words, Answers}
+use Rattle.edi_spots.specs.Spots.{frames_end, slot_address, closure_words, cell_words, IsMeantBy}
 use Rattle.edi_spots.specs.Scene.{Scene, here, base_of, Stands, Does}
 use Rattle.edi_spots.specs.Constructs.{Xs}
 use Rattle.edi_spots.specs.Instructions.{local_at, effect, Reaches}
@@ -40,7 +40,7 @@ module _ (g : Coded) (s : Scene) where
     Post = Handed g s F a t 3 (IsFormal g s F heading)
 
     -- the three words of a procedure that may be passed on
-    handed : (c meant_here : Closure) (m' : List ℕ) → meant_here ≡ c → Answers g F (now F s.name) heading c →
+    handed : (c meant_here : Closure) (m' : List ℕ) → meant_here ≡ c → IsMeantBy g F (now F s.name) heading c →
         words_at m' t (length (closure_words g s.first F c)) ≡ closure_words g s.first F c →
         Post (procedure meant_here) m' a (t + length (closure_words g s.first F c))
     handed c meant_here m' is answers words =
@@ -50,7 +50,7 @@ module _ (g : Coded) (s : Scene) where
           top_is = ap (λ n. t + n) long;
           long = closure_long F meant_here;
           words = ap (words_at m' t) (sym long) ∙ words ∙ ap (closure_words g s.first F) (sym is);
-          good = subst (λ x. Answers g F (now F s.name) heading x) (sym is) answers;
+          good = subst (λ x. IsMeantBy g F (now F s.name) heading x) (sym is) answers;
         }
 
     -- a block by its name
@@ -82,9 +82,9 @@ module _ (g : Coded) (s : Scene) where
       abbrev found : HasProcedure g F spot (callee_heading g.fits.headings g.unit.blocks (here g s F) (callee.Formal levels v)) (cell w.store spot v)
       found = far_holds g s F w m h levels v fits
 
-      answers : Answers g F (now F s.name) heading found.of
+      answers : IsMeantBy g F (now F s.name) heading found.of
       answers =
-          subst (λ y. Answers g F (now F s.name) y found.of) same
+          subst (λ y. IsMeantBy g F (now F s.name) y found.of) same
           (answers_nearer g F spot (now F s.name) (callee_heading g.fits.headings g.unit.blocks (here g s F) (callee.Formal levels v)) found.of
           (reaches g s F w m h levels v fits).older found.answers)
 

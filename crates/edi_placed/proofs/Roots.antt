@@ -27,7 +27,7 @@ use Rattle.edi_spots.specs.Constructs.{P, Ps}
 use Rattle.edi_spots.specs.Instructions.{local_at, effect, Reaches}
 use Rattle.edi_spots.proofs.Doing.{stands_after, after_then}
 use Rattle.edi_instructed.proofs.Effects.{word_is}
-use Rattle.edi_instructed.proofs.Slots.{slot_is_in, value_held, HasLocation, location_held}
+use Rattle.edi_instructed.proofs.Slots.{slot_is_in, value_cell, HasLocation, location_cell}
 use Rattle.edi_instructed.proofs.Steps.{pushes_then, able_then}
 use Rattle.edi_instructed.proofs.Variables.{levels_reach, address_is, loads_cell}
 
@@ -70,8 +70,8 @@ module _ (g : Coded) (s : Scene) (F : Shape) (w : World) (m : List ℕ) (h : Sta
     below : v < slots_of g (block_at g F far)
     below = slot_is_in g (block_at g F far) v p there
 
-    held : Holds g F far (heading_of g (block_at g F far) v) (Some p) (cell w.store far v)
-    held = subst (λ o. Holds g F far (heading_of g (block_at g F far) v) o (cell w.store far v)) there (h.typed.holds far v reaches.lives below)
+    cell_holds : Holds g F far (heading_of g (block_at g F far) v) (Some p) (cell w.store far v)
+    cell_holds = subst (λ o. Holds g F far (heading_of g (block_at g F far) v) o (cell w.store far v)) there (h.typed.holds far v reaches.lives below)
 
     o_is : slot_offset g.unit.types g.unit.blocks (entry g) (here g s F) levels v ≡ offset g (block_at g F far) v
     o_is = ap (λ b. offset g b v) (sym reaches.block_is)
@@ -84,7 +84,7 @@ module _ (g : Coded) (s : Scene) (F : Shape) (w : World) (m : List ℕ) (h : Sta
 
     root_is : d.at ≡ root
     root_is =
-        let holds = value_held g F far (heading_of g (block_at g F far) v) u (cell w.store far v) (held (slot.Value u) e) in at_is ∙ ap (located far v) holds.is
+        let holds = value_cell g F far (heading_of g (block_at g F far) v) u (cell w.store far v) (cell_holds (slot.Value u) e) in at_is ∙ ap (located far v) holds.is
 
     root_leads : Leads g F root of
     root_leads = record { lives = reaches.lives; of = u; holds = there (slot.Value u) e; path = tt; type = sym (ap slot_type e) }
@@ -105,7 +105,7 @@ module _ (g : Coded) (s : Scene) (F : Shape) (w : World) (m : List ℕ) (h : Sta
 
   module _ (u : ℕ) (e : named_slot ≡ Some (slot.Var u)) where
     holds : HasLocation g F far (heading_of g (block_at g F far) v) u (cell w.store far v)
-    holds = location_held g F far (heading_of g (block_at g F far) v) u (cell w.store far v) (held (slot.Var u) e)
+    holds = location_cell g F far (heading_of g (block_at g F far) v) u (cell w.store far v) (cell_holds (slot.Var u) e)
 
     meant_is : d.at ≡ holds.at
     meant_is = at_is ∙ ap (located far v) holds.is

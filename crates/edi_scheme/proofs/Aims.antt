@@ -172,14 +172,14 @@ IsBeyond once target from to = to ≤ target
 IsBeyond repeated target from to = target ≤ from
 IsBeyond released target from to = to ≤ target
 
-pub beyond_part : (choice : ClauseKind) (target from to inner end : ℕ) → from ≤ inner → end ≤ to → IsBeyond choice target from to
-    → IsBeyond choice target inner end
+pub beyond_part : (kind : ClauseKind) (target from to inner end : ℕ) → from ≤ inner → end ≤ to → IsBeyond kind target from to
+    → IsBeyond kind target inner end
 beyond_part once target from to inner end f e h = omega (arith, e, h)
 beyond_part repeated target from to inner end f e h = omega (arith, f, h)
 beyond_part released target from to inner end f e h = omega (arith, e, h)
 
-pub close_leads : (words : List ℕ) (choice : ClauseKind) (target at : ℕ) (cs : Clauses)
-    → IsBeyond choice target at (at + code_length (close_code choice 0 cs)) → Good words target → Leads words (close_code choice target cs) at
+pub close_leads : (words : List ℕ) (kind : ClauseKind) (target at : ℕ) (cs : Clauses)
+    → IsBeyond kind target at (at + code_length (close_code kind 0 cs)) → Good words target → Leads words (close_code kind target cs) at
 close_leads words once target at no_clause h g = nothing
 close_leads words once target at (clause_then c cs) h g = leads_one words (aims_ahead words at (instruction.jump target) target refl g (omega (arith, h)))
 close_leads words repeated target at cs h g = leads_one words (aims_back words at (instruction.loop target) target refl g h)

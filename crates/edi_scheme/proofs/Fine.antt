@@ -98,7 +98,7 @@ check_allowed types (record_of fs) line h = none
 check_allowed types (array_of i lo hi e) line h = none
 check_allowed types (set_of t) line h = none
 
-close_allowed : (choice : ClauseKind) (target : ℕ) (cs : Clauses) → AreAllowed (close_code choice target cs)
+close_allowed : (kind : ClauseKind) (target : ℕ) (cs : Clauses) → AreAllowed (close_code kind target cs)
 close_allowed once target no_clause = none
 close_allowed once target (clause_then c cs) = allowed_one (record { operands = refl; integers = refl })
 close_allowed repeated target cs = allowed_one (record { operands = refl; integers = refl })
@@ -286,11 +286,11 @@ module _ (types : List Shape) (table : IsTypeTable types) (parts : HaveParts typ
       clause_allowed (clause e s) next at h =
           allowed_append (expression_allowed e at h.1) (one_then (record { operands = refl; integers = refl }) (acts_allowed s _ h.2))
 
-      clauses_allowed : (choice : ClauseKind) (cs : Clauses) (target at : ℕ) → ClausesFit types blocks headings b cs
-          → AreAllowed (clauses_code types blocks entry b choice target at cs)
-      clauses_allowed choice no_clause target at h = none
-      clauses_allowed choice (clause_then c cs) target at h =
-          allowed_append (clause_allowed c _ at h.0) (allowed_append (close_allowed choice target cs) (clauses_allowed choice cs target _ h.1))
+      clauses_allowed : (kind : ClauseKind) (cs : Clauses) (target at : ℕ) → ClausesFit types blocks headings b cs
+          → AreAllowed (clauses_code types blocks entry b kind target at cs)
+      clauses_allowed kind no_clause target at h = none
+      clauses_allowed kind (clause_then c cs) target at h =
+          allowed_append (clause_allowed c _ at h.0) (allowed_append (close_allowed kind target cs) (clauses_allowed kind cs target _ h.1))
 
 -- ---- blocks
 

@@ -199,22 +199,22 @@ module _ (words : List ℕ) (types : List Shape) (blocks : List Block) (headings
         (λ h. leads_then (aims_ahead words test (instruction.false_ next) next refl g (omega (arith, less)))
         (acts_lead s (test + 3) k.2 (covers_back (Good words) (instruction.false_ next ∷ []) _ test 3 (long_one (instruction.false_ next)) h))) h
 
-    clauses_lead : (choice : ClauseKind) (cs : Clauses) (target at : ℕ) → ClausesFit types blocks headings b cs
-        → IsBeyond choice target at (at + clauses_length types blocks b choice cs) → Good words target
-        → Covers (Good words) (clauses_code types blocks entry b choice target at cs) at → Leads words (clauses_code types blocks entry b choice target at cs) at
-    clauses_lead choice no_clause target at k far g h = nothing
-    clauses_lead choice (clause_then c cs) target at k far g h =
+    clauses_lead : (kind : ClauseKind) (cs : Clauses) (target at : ℕ) → ClausesFit types blocks headings b cs
+        → IsBeyond kind target at (at + clauses_length types blocks b kind cs) → Good words target
+        → Covers (Good words) (clauses_code types blocks entry b kind target at cs) at → Leads words (clauses_code types blocks entry b kind target at cs) at
+    clauses_lead kind no_clause target at k far g h = nothing
+    clauses_lead kind (clause_then c cs) target at k far g h =
         let end = at + clause_length types blocks b c in
-        let close = code_length (close_code choice 0 cs) in
+        let close = code_length (close_code kind 0 cs) in
         let next = end + close in
-        let rest = clauses_length types blocks b choice cs in
+        let rest = clauses_length types blocks b kind cs in
         let c1 = clause_code types blocks entry b at next c in
-        let c2 = close_code choice target cs in
-        let c3 = clauses_code types blocks entry b choice target next cs in
+        let c2 = close_code kind target cs in
+        let c3 = clauses_code types blocks entry b kind target next cs in
         let h2 = covers_back (Good words) c1 (c2 ++ c3) at _ (long.clause_is_long types blocks entry b c next at) h in
-        let h3 = covers_back (Good words) c2 c3 end _ (long.close_length choice target cs) h2 in
+        let h3 = covers_back (Good words) c2 c3 end _ (long.close_length kind target cs) h2 in
         leads_append words _ (long.clause_is_long types blocks entry b c next at)
         (clause_leads c next at k.0 (omega arith) (covers_start (Good words) c3 next h3) (covers_front (Good words) c1 (c2 ++ c3) at h))
-        (leads_append words _ (long.close_length choice target cs)
-        (close_leads words choice target end cs (beyond_part choice target at _ end (end + close) (omega arith) (omega arith) far) g)
-        (clauses_lead choice cs target next k.1 (beyond_part choice target at _ next (next + rest) (omega arith) (omega arith) far) g h3))
+        (leads_append words _ (long.close_length kind target cs)
+        (close_leads words kind target end cs (beyond_part kind target at _ end (end + close) (omega arith) (omega arith) far) g)
+        (clauses_lead kind cs target next k.1 (beyond_part kind target at _ next (next + rest) (omega arith) (omega arith) far) g h3))

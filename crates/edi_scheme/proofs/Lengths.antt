@@ -43,7 +43,7 @@ decision_length op.Times behind = record { is = refl }
 decision_length op.Div behind = record { is = refl }
 decision_length op.Mod behind = record { is = refl }
 
-pub close_length : (choice : ClauseKind) (target : ℕ) (cs : Clauses) → Long (close_code choice target cs) (code_length (close_code choice 0 cs))
+pub close_length : (kind : ClauseKind) (target : ℕ) (cs : Clauses) → Long (close_code kind target cs) (code_length (close_code kind 0 cs))
 close_length once target no_clause = record { is = refl }
 close_length once target (clause_then c cs) = record { is = refl }
 close_length repeated target cs = record { is = refl }
@@ -154,11 +154,11 @@ module _ (types : List Shape) (blocks : List Block) (entry : ℕ → ℕ) (b : �
     clause_is_long (clause e s) next at =
         long_is (omega arith) (long_append (expression_is_long e at) (long_then (instruction.false_ next) (acts_are_long s _)))
 
-    pub clauses_are_long : (choice : ClauseKind) (cs : Clauses) (target at : ℕ) → Long (clauses_code types blocks entry b choice target at cs)
-        (clauses_length types blocks b choice cs)
-    clauses_are_long choice no_clause target at = long_nothing
-    clauses_are_long choice (clause_then c cs) target at =
-        long_is (omega arith) (long_append (clause_is_long c _ at) (long_append (close_length choice target cs) (clauses_are_long choice cs target _)))
+    pub clauses_are_long : (kind : ClauseKind) (cs : Clauses) (target at : ℕ) → Long (clauses_code types blocks entry b kind target at cs)
+        (clauses_length types blocks b kind cs)
+    clauses_are_long kind no_clause target at = long_nothing
+    clauses_are_long kind (clause_then c cs) target at =
+        long_is (omega arith) (long_append (clause_is_long c _ at) (long_append (close_length kind target cs) (clauses_are_long kind cs target _)))
 
 -- ---- blocks
 

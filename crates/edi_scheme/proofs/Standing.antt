@@ -290,21 +290,21 @@ module _ (fetched : ℕ → Option (Instruction × ℕ)) where
               are_acts s (test + 3) end (omega (arith, q)) rest.1,
             )
 
-        are_clauses : (choice : ClauseKind) (cs : Clauses) (target at to : ℕ) → at + clauses_length types blocks b choice cs ≡ to
-            → Laid fetched (clauses_code types blocks entry b choice target at cs) at → AreClauses fetched types blocks entry b choice target cs at to
-        are_clauses choice no_clause target at to q h = omega (arith, q)
-        are_clauses choice (clause_then c cs) target at to q h =
+        are_clauses : (kind : ClauseKind) (cs : Clauses) (target at to : ℕ) → at + clauses_length types blocks b kind cs ≡ to
+            → Laid fetched (clauses_code types blocks entry b kind target at cs) at → AreClauses fetched types blocks entry b kind target cs at to
+        are_clauses kind no_clause target at to q h = omega (arith, q)
+        are_clauses kind (clause_then c cs) target at to q h =
             let end = at + clause_length types blocks b c in
-            let next = end + code_length (close_code choice 0 cs) in
+            let next = end + code_length (close_code kind 0 cs) in
             let c1 = clause_code types blocks entry b at next c in
-            let c2 = close_code choice target cs in
-            let c3 = clauses_code types blocks entry b choice target next cs in
+            let c2 = close_code kind target cs in
+            let c3 = clauses_code types blocks entry b kind target next cs in
             let h2 = laid_back fetched c1 (c2 ++ c3) at _ (clause_is_long types blocks entry b c next at) h in (
               end,
               next,
               is_clause c next at end refl (laid_front fetched c1 (c2 ++ c3) at h),
-              some end next (close_length choice target cs) refl (laid_front fetched c2 c3 end h2),
-              are_clauses choice cs target next to (omega (arith, q)) (laid_back fetched c2 c3 end _ (close_length choice target cs) h2),
+              some end next (close_length kind target cs) refl (laid_front fetched c2 c3 end h2),
+              are_clauses kind cs target next to (omega (arith, q)) (laid_back fetched c2 c3 end _ (close_length kind target cs) h2),
             )
 
   -- ---- blocks

@@ -149,7 +149,7 @@ check_small types (record_of fs) line h l = none
 check_small types (array_of i lo hi e) line h l = none
 check_small types (set_of t) line h l = none
 
-close_small : (choice : ClauseKind) (target : ℕ) (cs : Clauses) → target < 2 ^ 32 → AreSmall (close_code choice target cs)
+close_small : (kind : ClauseKind) (target : ℕ) (cs : Clauses) → target < 2 ^ 32 → AreSmall (close_code kind target cs)
 close_small once target no_clause h = none
 close_small once target (clause_then c cs) h = small_one (wt 28 target (omega arith) h)
 close_small repeated target cs h = small_one (wt 32 target (omega arith) h)
@@ -402,9 +402,9 @@ module _ (types : List Shape) (table : IsTypeTable types) (parts : HaveParts typ
       clause_small (clause e s) next at h l i k =
           small_append (expression_small e at h.1 l.0 (omega (arith, k))) (small_then (wt 29 next (omega arith) i) (acts_small s _ h.2 l.1 (omega (arith, k))))
 
-      clauses_small : (choice : ClauseKind) (cs : Clauses) (target at : ℕ) → ClausesFit types blocks headings b cs → ClausesLines cs → target < 2 ^ 32
-          → at + clauses_length types blocks b choice cs ≤ limit → AreSmall (clauses_code types blocks entry b choice target at cs)
-      clauses_small choice no_clause target at h l i k = none
-      clauses_small choice (clause_then c cs) target at h l i k =
+      clauses_small : (kind : ClauseKind) (cs : Clauses) (target at : ℕ) → ClausesFit types blocks headings b cs → ClausesLines cs → target < 2 ^ 32
+          → at + clauses_length types blocks b kind cs ≤ limit → AreSmall (clauses_code types blocks entry b kind target at cs)
+      clauses_small kind no_clause target at h l i k = none
+      clauses_small kind (clause_then c cs) target at h l i k =
           small_append (clause_small c _ at h.0 l.0 (omega (arith, k, limited)) (omega (arith, k)))
-          (small_append (close_small choice target cs i) (clauses_small choice cs target _ h.1 l.1 i (omega (arith, k))))
+          (small_append (close_small kind target cs i) (clauses_small kind cs target _ h.1 l.1 i (omega (arith, k))))

@@ -129,10 +129,10 @@ module _ (types : List Shape) (blocks : List Block) (entry : ℕ → ℕ) (b : �
         ∷ acts_code (at + expression_length types blocks b e + 3) s
 
     pub clauses_code : ClauseKind → (target at : ℕ) → Clauses → Code
-    clauses_code choice target at no_clause = []
-    clauses_code choice target at (clause_then c cs) =
-        let next : ℕ = at + clause_length types blocks b c + code_length (close_code choice 0 cs) in
-        clause_code at next c ++ (close_code choice target cs ++ clauses_code choice target next cs)
+    clauses_code kind target at no_clause = []
+    clauses_code kind target at (clause_then c cs) =
+        let next : ℕ = at + clause_length types blocks b c + code_length (close_code kind 0 cs) in
+        clause_code at next c ++ (close_code kind target cs ++ clauses_code kind target next cs)
 
 -- ---- blocks and programs
 

@@ -92,8 +92,8 @@ module _ (types : List Shape) (blocks : List Block) (b : ℕ) where
     clause_length (clause e s) = expression_length e + 3 + acts_length s
 
     pub clauses_length : ClauseKind → Clauses → ℕ
-    clauses_length choice no_clause = 0
-    clauses_length choice (clause_then c cs) = clause_length c + code_length (close_code choice 0 cs) + clauses_length choice cs
+    clauses_length kind no_clause = 0
+    clauses_length kind (clause_then c cs) = clause_length c + code_length (close_code kind 0 cs) + clauses_length kind cs
 
 -- a branch has its list and one word; every other block begins with 6 words and ends with 3
 abbrev pub block_length : List Shape → List Block → ℕ → ℕ

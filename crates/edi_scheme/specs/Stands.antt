@@ -134,12 +134,12 @@ module _ (fetched : ℕ → Option (Instruction × ℕ)) where
             × AreActs s list end
 
         pub AreClauses : ClauseKind → (target : ℕ) → Clauses → ℕ → ℕ → Type 0
-        AreClauses choice target no_clause at to = at ≡ to
-        AreClauses choice target (clause_then c cs) at to =
+        AreClauses kind target no_clause at to = at ≡ to
+        AreClauses kind target (clause_then c cs) at to =
             (end next : ℕ)
             × IsClause c next at end
-            × AreInstructions (close_code choice target cs) end next
-            × AreClauses choice target cs next to
+            × AreInstructions (close_code kind target cs) end next
+            × AreClauses kind target cs next to
 
     -- a procedure, a function or the program
     pub record IsProcedure (n : ℕ) : Type 0 where

@@ -1,6 +1,7 @@
 -- A parent that waits for one child less, and the children of a fork.
 use Rattle.std.proofs.Common.{◌≡◌, ℕ, zero, suc, ◌+◌, ◌-◌, ◌*◌, ◌<◌, ◌≤◌, ◌⊎◌, inl, inr, Bool, true, false, ◌||◌, if◌then◌else◌, List, [], ◌∷◌, length, Some}
 use Rattle.std.proofs.Common.{refl, sym, subst, ap, ◌∙◌, arith}
+use Rattle.edi_calls.proofs.Names.{some_is, parent-child, child_some}
 use Rattle.edi_calls.specs.Names.{Name, Table, same, find, with_at, without}
 use Rattle.edi_calls.specs.Ready.{child, parent_of, has}
 use Rattle.edi_calls.proofs.Tables.{same-refl, same-equal, same-or-other, find-with_at-same, find-with_at-other}
@@ -8,7 +9,7 @@ use Rattle.edi_target.specs.Op.{Branch}
 use Rattle.edi_target.specs.Mach.{waiting, Activity, Machine, awaits, with_child, with_children}
 use Rattle.edi_segments.specs.Nested.{InOrder, IsInOrder, IsBehind, IsInParent, AreApart}
 use Rattle.edi_segments.proofs.Keeping.{HaveRoom}
-use Rattle.edi_segments.proofs.Families.{some_is, parent_is, child_some, parent_apart, IsFree, Few, Sound, Alike, behind_alike, apart_alike, apart_swapped}
+use Rattle.edi_segments.proofs.Families.{parent_apart, IsFree, Few, Sound, Alike, behind_alike, apart_alike, apart_swapped}
 use Rattle.edi_segments.proofs.Families.{left_apart, left_was, left}
 
 -- ---- a list without one of its names
@@ -277,7 +278,7 @@ module _ (p : Name) (f base share : ℕ) (a : Activity) (n : ℕ) (waits : a.sta
   born (branch ∷ branches) i at m s room fits =
       let order : InOrder a.first a.base a.top a.end a.last = s.sound.ordered p a s.lives in
       born branches (suc i) (at + share) (with_child (child p f i) base at share branch m)
-      (next m.activities p a n at (length branches) share waits s (child p f i) (child_some p f i) (parent_is p f i) _ refl refl (omega (arith, fits)) (record {
+      (next m.activities p a n at (length branches) share waits s (child p f i) (child_some p f i) (parent-child p f i) _ refl refl (omega (arith, fits)) (record {
         begins = omega arith;
         links = omega arith;
         uses = omega (arith, room.0);

@@ -1,29 +1,15 @@
 -- Tables of activities whose segments are nested as their processes are, and what changes leave them so.
-use Rattle.std.proofs.Common.{◌≡◌, ℕ, ◌-◌, ◌<◌, ◌≤◌, ◌⊎◌, inl, inr, true, false, List, [], ◌∷◌, length, take, length-append, Option, Some, None, refl, sym}
+use Rattle.std.proofs.Common.{◌≡◌, ℕ, ◌-◌, ◌<◌, ◌≤◌, ◌⊎◌, inl, inr, true, false, List, [], ◌∷◌, length, Option, Some, None, refl, sym}
 use Rattle.std.proofs.Common.{subst, ap, ◌∙◌, arith}
 use Rattle.std.proofs.lemmas.List.{length-take}
-use Rattle.std.proofs.Math.Seq.{take-append_seam}
 use Rattle.edi_calls.specs.Names.{Name, Table, same, find, with_at, without}
-use Rattle.edi_calls.specs.Ready.{child, parent_of, has}
+use Rattle.edi_calls.specs.Ready.{parent_of, has}
+use Rattle.edi_calls.proofs.Names.{some_is, no_some}
 use Rattle.edi_calls.proofs.Tables.{same-refl, same-or-other, find-with_at-same, find-with_at-other, find-without-same, find-without-other}
 use Rattle.edi_target.specs.Mach.{waiting, Activity}
 use Rattle.edi_segments.specs.Nested.{IsInOrder, IsBehind, IsInParent, AreApart}
 
 -- ---- small facts
-
-pub some_is : {A : Type 0} {x y : A} → Some x ≡ Some y → x ≡ y
-some_is e = cc
-
-pub no_some : {A : Type 0} (o : Option A) (x : A) → o ≡ None → o ≡ Some x → ⊥
-no_some o x e f = let c : None ≡ Some x = sym e ∙ f in absurd (cc)
-
-pub parent_is : (p : Name) (f i : ℕ) → parent_of (child p f i) ≡ p
-parent_is p f i =
-    let e : length (child p f i) - 2 ≡ length p = omega (arith, length-append p (f ∷ i ∷ [])) in
-    ap (λ n. take n (child p f i)) e ∙ take-append_seam p (f ∷ i ∷ [])
-
-pub child_some : (p : Name) (f i : ℕ) → 0 < length (child p f i)
-child_some p f i = omega (arith, length-append p (f ∷ i ∷ []))
 
 pub parent_shorter : (p : Name) → 0 < length p → length (parent_of p) < length p
 parent_shorter p some = omega (arith, length-take (length p - 2) p)
@@ -138,7 +124,7 @@ module _ (t : Table Activity) (p : Name) (a : Activity) (lives : find t p ≡ So
     where
       go : (q ≡ p) ⊎ (same q p ≡ false) → same q p ≡ false
       go (inr n) = n
-      go (inl k) = absurd (no_some (find (without t p) q) b (ap (find (without t p)) k ∙ find-without-same t p) e)
+      go (inl k) = absurd (no_some (find (without t p) q) (ap (find (without t p)) k ∙ find-without-same t p) e)
 
   pub left_was : (q : Name) (b : Activity) → find (without t p) q ≡ Some b → find t q ≡ Some b
   left_was q b e = sym (find-without-other t p q (left_apart q b e)) ∙ e

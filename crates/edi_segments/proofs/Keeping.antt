@@ -4,6 +4,7 @@ use Rattle.std.proofs.Common.{length, refl, arith}
 use Rattle.std.specs.Prelude.{nat_le, ⊤}
 use Rattle.std.specs.List.{list_any, list_all}
 use Rattle.std.proofs.lemmas.Bool.{cond_both, leb-true, ltb-false, and_parts}
+use Rattle.edi_calls.specs.Forks.{most_processes}
 use Rattle.edi_calls.specs.declared.kinds.Cause.{Cause}
 use Rattle.edi_calls.specs.declared.kinds.Cause.TheVariants as cause
 use Rattle.edi_calls.specs.Calls.{answer_words}
@@ -11,7 +12,7 @@ use Rattle.edi_target.specs.Op as op
 use Rattle.edi_target.specs.Op.{Instruction, Branch, is_allowed, is_count, has_frame}
 use Rattle.edi_target.specs.Effect.{Local, entering, leaving, looping, arriving, again, forking, exiting, finishing, Effect, goes, released, asks, due}
 use Rattle.edi_target.specs.Effect.{fails, bad, in_range, push, pop, pop_word, look, within, to, enter}
-use Rattle.edi_target.specs.Perform.{short_cut, with_answer_address, system_call, leave, perform, exceeds, share_of, most_processes}
+use Rattle.edi_target.specs.Perform.{short_cut, with_answer_address, system_call, leave, perform, exceeds, share_of}
 use Rattle.edi_segments.specs.Nested.{InOrder}
 
 -- each branch has room for a frame, and its share has room for what it needs

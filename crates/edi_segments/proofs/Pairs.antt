@@ -2,12 +2,13 @@
 use Rattle.std.proofs.Common.{◌≡◌, ℕ, zero, suc, ◌+◌, ◌-◌, ◌<◌, ◌⊎◌, inl, inr, false, [], ◌∷◌, ◌++◌, length, drop, Some, sym, subst, ap, ◌∙◌, arith}
 use Rattle.std.proofs.Common.{append_assoc, length-drop, length-append}
 use Rattle.std.proofs.lemmas.List.{take-append-drop}
+use Rattle.edi_calls.proofs.Names.{some_is}
 use Rattle.edi_calls.specs.Names.{Name, Table, same, find}
 use Rattle.edi_calls.specs.Ready.{parent_of}
 use Rattle.edi_calls.proofs.Tables.{same-or-other}
 use Rattle.edi_target.specs.Mach.{Activity, IsAncestor}
 use Rattle.edi_segments.specs.Nested.{IsInOrder, IsBehind, IsInParent, AreApart, Lie, apart, inside, around}
-use Rattle.edi_segments.proofs.Families.{some_is, parent_shorter, apart_swapped, Sound}
+use Rattle.edi_segments.proofs.Families.{parent_shorter, apart_swapped, Sound}
 
 -- q is a child of p, or a child of such a one
 pub data Under (p : Name) : Name → Type 0 where

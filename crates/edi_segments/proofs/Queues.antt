@@ -3,17 +3,18 @@ use Rattle.std.proofs.Common.{◌≡◌, ℕ, zero, suc, ◌+◌, ◌-◌, ◌/�
 use Rattle.std.proofs.Common.{get_or, Option, Some, None, refl, sym, subst, ap, ◌∙◌, arith}
 use Rattle.std.specs.Prelude.{⊤}
 use Rattle.std.proofs.lemmas.List.{get_or-append_right}
+use Rattle.edi_calls.proofs.Names.{some_is, no_some}
 use Rattle.edi_calls.specs.Names.{Name, same, find, with_at, without}
-use Rattle.edi_calls.specs.Ready.{child, children, parent_of, has, all_marked, stays, joins}
+use Rattle.edi_calls.specs.Ready.{child, children, parent_of, has, all_marked, stays, joins, freed}
 use Rattle.edi_calls.proofs.Tables.{same-refl, same-or-other, find-with_at-same, find-with_at-other, find-without-same, find-without-other}
 use Rattle.edi_calls.specs.Outcome.{standstill}
 use Rattle.edi_target.specs.Op.{Instruction, Branch}
 use Rattle.edi_target.specs.Effect.{Turn, entering, leaving, looping, arriving, again, forking, exiting, finishing}
 use Rattle.edi_target.specs.Mach.{Running, Answer, on, behind, turned, over, Standing, ready, at_when, waiting, Activity, Machine, Stepped, went, ended}
-use Rattle.edi_target.specs.Mach.{running_of, activity_of, back, with_child, with_children, awaits, freed, one_less, notified, attempted, at_turn, kernel}
+use Rattle.edi_target.specs.Mach.{running_of, activity_of, back, with_child, with_children, awaits, one_less, notified, attempted, at_turn, kernel}
 use Rattle.edi_target.specs.Mach.{is_first, local_step, step_of, step}
 use Rattle.edi_segments.specs.Nested.{MayGoOn}
-use Rattle.edi_segments.proofs.Families.{some_is, no_some, IsFree, Sound}
+use Rattle.edi_segments.proofs.Families.{IsFree, Sound}
 use Rattle.edi_segments.proofs.Steps.{no_child}
 
 abbrev pub Once : List Name → Type 0
@@ -179,7 +180,7 @@ module _ (m : Machine) (p : Name) (a : Activity) (lives : find m.activities p �
     where
       other : (parent_of p ≡ p) ⊎ (same (parent_of p) p ≡ false) → same (parent_of p) p ≡ false
       other (inr n) = n
-      other (inl e) = absurd (no_some (find (without m.activities p) (parent_of p)) y
+      other (inl e) = absurd (no_some (find (without m.activities p) (parent_of p))
           (ap (find (without m.activities p)) e ∙ find-without-same m.activities p) found)
 
   lessening : (r : Running) (y : Activity) (standing : Standing) → find (without m.activities p) (parent_of p) ≡ Some y → y.standing ≡ standing

@@ -5,6 +5,7 @@ use Rattle.std.specs.Prelude.{nat_le}
 use Rattle.std.specs.List.{All}
 use Rattle.std.proofs.lemmas.Bool.{leb-true, and_parts}
 use Rattle.std.proofs.lemmas.List.Elements.{All-get_or, All-drop}
+use Rattle.edi_calls.proofs.Names.{some_is}
 use Rattle.edi_calls.specs.Names.{Name, Table, find}
 use Rattle.edi_calls.specs.Ready.{Next, stays, joins}
 use Rattle.edi_calls.specs.State.{State}
@@ -16,7 +17,7 @@ use Rattle.edi_target.specs.Mach.{ready, waiting, Activity, Machine, Stepped, we
 use Rattle.edi_target.proofs.Reading.{decode_reads}
 use Rattle.edi_segments.specs.Nested.{MayGoOn, machine_after, Reached, at_start, after_step, IsInOrder, AreNested, SegmentsAreNested}
 use Rattle.edi_segments.proofs.Keeping.{Allows}
-use Rattle.edi_segments.proofs.Families.{some_is, Sound}
+use Rattle.edi_segments.proofs.Families.{Sound}
 use Rattle.edi_segments.proofs.Steps.{Left, step_leaves}
 use Rattle.edi_segments.proofs.Pairs.{pair}
 

@@ -1,13 +1,13 @@
 -- Each child of a fork lies in a share of its own, in their order.
 use Rattle.std.proofs.Common.{◌≡◌, ℕ, zero, suc, ◌+◌, ◌*◌, ◌<◌, List, [], ◌∷◌, Option, Some, None, refl, sym, ap, ◌∙◌, arith}
 use Rattle.std.specs.Prelude.{slice_get}
+use Rattle.edi_calls.proofs.Names.{some_is}
 use Rattle.edi_calls.specs.Names.{Name, find}
 use Rattle.edi_calls.specs.Ready.{child}
 use Rattle.edi_calls.proofs.Tables.{find-with_at-same, find-with_at-other}
 use Rattle.edi_target.specs.Op.{Branch}
 use Rattle.edi_target.specs.Mach.{Activity, Machine, with_child, with_children}
 use Rattle.edi_segments.specs.Shares.{first_of_branch, ChildrenLieInShares}
-use Rattle.edi_segments.proofs.Families.{some_is}
 use Rattle.edi_segments.proofs.Queues.{children_apart}
 
 module _ (p : Name) (f base share : ℕ) where

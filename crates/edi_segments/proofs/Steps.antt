@@ -3,6 +3,7 @@ use Rattle.std.proofs.Common.{◌≡◌, ℕ, zero, suc, ◌+◌, ◌-◌, ◌*�
 use Rattle.std.proofs.Common.{Option, Some, None, refl, sym, subst, ap, ◌∙◌, arith}
 use Rattle.std.specs.Prelude.{⊤}
 use Rattle.std.proofs.lemmas.Nat.{div-add-mod'}
+use Rattle.edi_calls.proofs.Names.{some_is, parent-child, child_some}
 use Rattle.edi_calls.specs.Names.{Name, Table, same, find, with_at, without}
 use Rattle.edi_calls.specs.Ready.{child, parent_of, all_marked}
 use Rattle.edi_calls.specs.Calls.{CallResult, answered, no_file, file_limit, call}
@@ -16,7 +17,7 @@ use Rattle.edi_target.specs.Mach.{at_when, waiting, Activity, Machine, Stepped, 
 use Rattle.edi_target.specs.Mach.{exited, attempted, at_turn, kernel, is_first, step_of, step}
 use Rattle.edi_segments.specs.Nested.{machine_after, IsInOrder, Stays, unchanged, awaited}
 use Rattle.edi_segments.proofs.Keeping.{HaveRoom, Is, Keeping, Allows, each}
-use Rattle.edi_segments.proofs.Families.{some_is, parent_is, child_some, IsFree, Sound, Alike, no_children, was, replaced, left}
+use Rattle.edi_segments.proofs.Families.{IsFree, Sound, Alike, no_children, was, replaced, left}
 use Rattle.edi_segments.proofs.Children as children
 use Rattle.edi_segments.proofs.Children.{Stage, born, others_stay}
 
@@ -168,7 +169,7 @@ module _ (m : Machine) (p : Name) (a : Activity) (lives : find m.activities p �
       go : (q ≡ child p f i) ⊎ (same q (child p f i) ≡ false) → same q (child p f i) ≡ false
       go (inr n) = n
       go (inl k) =
-          let yes : same (parent_of q) p ≡ true = ap (λ y. same (parent_of y) p) k ∙ ap (λ y. same y p) (parent_is p f i) ∙ same-refl p in
+          let yes : same (parent_of q) p ≡ true = ap (λ y. same (parent_of y) p) k ∙ ap (λ y. same y p) (parent-child p f i) ∙ same-refl p in
           let no : true ≡ false = sym yes ∙ no_children m.activities p a lives free s q b (subst (λ y. 0 < length y) (sym k) (child_some p f i)) e in
           absurd (cc)
 

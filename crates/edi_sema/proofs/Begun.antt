@@ -18,7 +18,7 @@ use Rattle.edi_static.specs.declared.faults.StaticFault.{StaticFault}
 use Rattle.edi_static.specs.Judged.{Judged, gives, ◌>>=◌}
 use Rattle.edi_static.specs.Environment.{Begun, Environment, declare}
 use Rattle.edi_static.specs.Headings.{Headed, leave, round, own_name, heading_parts}
-use Rattle.edi_static.specs.Declarations.{kind_of, with_heading, begun_named, completes, post_marked, block_of, begin_procedure, begin_post, pre_decl}
+use Rattle.edi_static.specs.Declarations.{kind_of, with_heading, begun_named, completes, post_export, block_of, begin_procedure, begin_post, pre_decl}
 use Rattle.edi_static.specs.Answers.{JudgedAnswers}
 use Rattle.edi_static.specs.Proper.{Proper}
 use Rattle.edi_static.proofs.Judging.{Gives, bind}
@@ -94,15 +94,15 @@ completes_same (Some b) name headed = refl
 
 pub post_stated : (m : Bool) (h : text.Heading) (name : Name) (env : Environment) (headed : Headed) (found : Option ℕ) (n : ℕ) → name ≡ own_name h →
     found ≡ block_named env.begun name.text → n ≡ unwrap_or found (length env.blocks) → heading_parts n h env ≡ gives headed →
-    begin_post m h env ≡ (completes_block found name headed.env headed.asks >>= λ _. post_marked m name n headed.env)
+    begin_post m h env ≡ (completes_block found name headed.env headed.asks >>= λ _. post_export m name n headed.env)
 post_stated m h name env headed found n i f e stated =
     let b : block_of env (begun_named env.begun (own_name h).text) ≡ n = sym (post_number h name env found n i f e) in
-    ap (λ n. heading_parts n h env >>= λ headed. completes (begun_named env.begun (own_name h).text) (own_name h) headed >>= λ _. post_marked m (own_name h) n
+    ap (λ n. heading_parts n h env >>= λ headed. completes (begun_named env.begun (own_name h).text) (own_name h) headed >>= λ _. post_export m (own_name h) n
     headed.env) b
-    ∙ (ap (λ j. j >>= λ headed. completes (begun_named env.begun (own_name h).text) (own_name h) headed >>= λ _. post_marked m (own_name h) n headed.env) stated
-    ∙ (ap (λ j. j >>= λ _. post_marked m (own_name h) n headed.env) (completes_same (begun_named env.begun (own_name h).text) (own_name h) headed
+    ∙ (ap (λ j. j >>= λ headed. completes (begun_named env.begun (own_name h).text) (own_name h) headed >>= λ _. post_export m (own_name h) n headed.env) stated
+    ∙ (ap (λ j. j >>= λ _. post_export m (own_name h) n headed.env) (completes_same (begun_named env.begun (own_name h).text) (own_name h) headed
     ∙ ap (λ found. completes_block found (own_name h) headed.env headed.asks) (sym (f ∙ ap (λ name. block_named env.begun name.text) i)))
-    ∙ ap (λ name. completes_block found name headed.env headed.asks >>= λ _. post_marked m name n headed.env) (sym i)))
+    ∙ ap (λ name. completes_block found name headed.env headed.asks >>= λ _. post_export m name n headed.env) (sym i)))
 
 -- ---- a `pre` alone
 

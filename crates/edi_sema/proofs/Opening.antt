@@ -15,7 +15,7 @@ use Rattle.edi_static.specs.Judged.{Judged, gives, faults, ◌>>=◌}
 use Rattle.edi_static.specs.Environment.{Begun, Environment, declare, give_outside, enter, here}
 use Rattle.edi_static.specs.Headings.{Headed, leave, round, own_name, heading_parts}
 use Rattle.edi_static.specs.Statements.{After, add_statements, statement_list}
-use Rattle.edi_static.specs.Declarations.{kind_of, with_heading, begun_named, without_begun, completes, post_marked, all_completed, enter_block, leave_to}
+use Rattle.edi_static.specs.Declarations.{kind_of, with_heading, begun_named, without_begun, completes, post_export, all_completed, enter_block, leave_to}
 use Rattle.edi_static.specs.Declarations.{leave_module, heading_of, begin_procedure, begin_post, block_of, procedure_rest, item, module_decl, members}
 use Rattle.edi_static.specs.Declarations.{declarations}
 use Rattle.edi_static.specs.Proper.{Proper}
@@ -96,17 +96,17 @@ outside_framed name means f env h =
     (ap (λ ks. record { kinds_of = ks; blocks_round = env.around; begun_here = env.begun; headings_known = env.headings })
     (exported_kinds name.text means env.scopes) ∙ h)
 
-marked_inner : (m : Bool) (name : Name) (block : ℕ) (env inside : Environment) → Inner env inside → Gives (Inner env) (post_marked m name block inside)
-marked_inner true name block env inside h = round_inner env (give_outside name (entity.Procedure block)) inside h
+export_inner : (m : Bool) (name : Name) (block : ℕ) (env inside : Environment) → Inner env inside → Gives (Inner env) (post_export m name block inside)
+export_inner true name block env inside h = round_inner env (give_outside name (entity.Procedure block)) inside h
     (outside_framed name (entity.Procedure block) _ (leave inside) refl)
-marked_inner false name block env inside h = h
+export_inner false name block env inside h = h
 
 pub post_inner : (m : Bool) (h : text.Heading) (env : Environment) → Gives (Inner env) (begin_post m h env)
 post_inner m h env =
     bind (FramedHeaded (frame env)) (Inner env) (heading_parts (block_of env (begun_named env.begun (own_name h).text)) h env) _
     (heading_framed (block_of env (begun_named env.begun (own_name h).text)) h (frame env) env refl) (λ headed k.
     behind (Inner env) (completes (begun_named env.begun (own_name h).text) (own_name h) headed) _ (λ _.
-    marked_inner m (own_name h) _ env headed.env (headed_inner env headed k)))
+    export_inner m (own_name h) _ env headed.env (headed_inner env headed k)))
 
 -- ---- behind a procedure
 

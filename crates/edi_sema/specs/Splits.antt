@@ -7,7 +7,7 @@ use Rattle.edi_static.specs.declared.faults.StaticKind.TheVariants as kind
 use Rattle.edi_static.specs.Judged.{Judged, faults, ◌>>=◌, must}
 use Rattle.edi_static.specs.Environment.{Begun, Environment, heading_at, same_heading}
 use Rattle.edi_static.specs.Headings.{own_name}
-use Rattle.edi_static.specs.Declarations.{begun_named, block_of, post_marked}
+use Rattle.edi_static.specs.Declarations.{begun_named, block_of, post_export}
 
 -- the block of the procedure of this name that is begun, if there is one
 abbrev pub block_named : List Begun → List ℕ → Option ℕ
@@ -19,8 +19,8 @@ completes_block None name env asks = faults kind.Split name.line
 completes_block (Some b) name env asks = must (same_heading (heading_at env.headings b) asks) kind.Split name.line
 
 -- a `post` is held to its `pre`, and then an export on it gives its name outside
-abbrev pub posted : (marked : Bool) → Name → Option ℕ → (block : ℕ) → Heading → Environment → Judged Environment
-posted marked name found block asks env = completes_block found name env asks >>= λ _. post_marked marked name block env
+abbrev pub posted : (export : Bool) → Name → Option ℕ → (block : ℕ) → Heading → Environment → Judged Environment
+posted export name found block asks env = completes_block found name env asks >>= λ _. post_export export name block env
 
 -- the block of a `post`
 abbrev pub post_block : text.Heading → Environment → ℕ

@@ -26,5 +26,5 @@ abbrev pub program_unit : List ℕ → Environment → ProgramUnit
 program_unit calls env = record { types = env.types; blocks = env.blocks; program = 0; calls = calls }
 
 -- where a program begins
-abbrev pub first_place : Environment
-first_place = enter false at_first
+abbrev pub first_environment : Environment
+first_environment = enter false at_first

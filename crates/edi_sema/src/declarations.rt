@@ -43,23 +43,23 @@ pub(crate) fn procedure_rest(
 }
 
 #[cycle(declarations)]
-fn item(known: &mut Known, alloc: Global, marked: bool, item: &Item) -> Result<(), StaticFault>
-    requires module { IsTrue marked → IsTrue (in_module known.old.scopes) }
+fn item(known: &mut Known, alloc: Global, export: bool, item: &Item) -> Result<(), StaticFault>
+    requires module { IsTrue export → IsTrue (in_module known.old.scopes) }
     requires stands { EnvironmentStands (environment known.old) }
-    ensures exact { JudgedAnswers (λ _. environment known.new) result (spec.item marked (item_of item.now) (environment known.old)) }
+    ensures exact { JudgedAnswers (λ _. environment known.new) result (spec.item export (item_of item.now) (environment known.old)) }
     ensures comes { OnOk result (Comes (environment known.old) (environment known.new)) }
 {
     match item {
-        Item::ConstList(list) => constants(known, alloc, marked, list),
-        Item::TypeDecl(declared) => declared_type(known, alloc, marked, declared),
-        Item::VarList(list) => variables(known, alloc, marked, list),
+        Item::ConstList(list) => constants(known, alloc, export, list),
+        Item::TypeDecl(declared) => declared_type(known, alloc, export, declared),
+        Item::VarList(list) => variables(known, alloc, export, list),
         Item::Procedure(procedure) => {
-            let block = begin_procedure(known, alloc, marked, &procedure.heading)?;
+            let block = begin_procedure(known, alloc, export, &procedure.heading)?;
             procedure_rest(known, alloc, block, procedure)
         }
-        Item::Pre(heading) => pre_decl(known, alloc, marked, heading),
+        Item::Pre(heading) => pre_decl(known, alloc, export, heading),
         Item::Post(procedure) => {
-            let block = begin_post(known, alloc, marked, &procedure.heading)?;
+            let block = begin_post(known, alloc, export, &procedure.heading)?;
             procedure_rest(known, alloc, block, procedure)?;
             completed(known, &procedure.heading.name);
             Ok(())

@@ -26,45 +26,45 @@ use std::alloc::Global;
 pub fn constants(
     known: &mut Known,
     alloc: Global,
-    marked: bool,
+    export: bool,
     list: &ConstList,
 ) -> Result<(), StaticFault>
-    requires module { IsTrue marked → IsTrue (in_module known.old.scopes) }
+    requires module { IsTrue export → IsTrue (in_module known.old.scopes) }
     requires stands { EnvironmentStands (environment known.old) }
-    ensures exact { JudgedAnswers (λ _. environment known.new) result (types.const_list marked (const_list_of list.now) (environment known.old)) }
+    ensures exact { JudgedAnswers (λ _. environment known.new) result (types.const_list export (const_list_of list.now) (environment known.old)) }
     ensures comes { OnOk result (Comes (environment known.old) (environment known.new)) }
 {
-    const_list(known, alloc, marked, list)
+    const_list(known, alloc, export, list)
 }
 
 /// A type.
 pub fn declared_type(
     known: &mut Known,
     alloc: Global,
-    marked: bool,
+    export: bool,
     declared: &TypeDecl,
 ) -> Result<(), StaticFault>
-    requires module { IsTrue marked → IsTrue (in_module known.old.scopes) }
+    requires module { IsTrue export → IsTrue (in_module known.old.scopes) }
     requires stands { EnvironmentStands (environment known.old) }
-    ensures exact { JudgedAnswers (λ _. environment known.new) result (types.type_decl marked (type_decl_of declared.now) (environment known.old)) }
+    ensures exact { JudgedAnswers (λ _. environment known.new) result (types.type_decl export (type_decl_of declared.now) (environment known.old)) }
     ensures comes { OnOk result (Comes (environment known.old) (environment known.new)) }
 {
-    type_decl(known, alloc, marked, declared)
+    type_decl(known, alloc, export, declared)
 }
 
 /// Variables.
 pub fn variables(
     known: &mut Known,
     alloc: Global,
-    marked: bool,
+    export: bool,
     list: &VarList,
 ) -> Result<(), StaticFault>
-    requires module { IsTrue marked → IsTrue (in_module known.old.scopes) }
+    requires module { IsTrue export → IsTrue (in_module known.old.scopes) }
     requires stands { EnvironmentStands (environment known.old) }
-    ensures exact { JudgedAnswers (λ _. environment known.new) result (types.var_list marked (var_list_of list.now) (environment known.old)) }
+    ensures exact { JudgedAnswers (λ _. environment known.new) result (types.var_list export (var_list_of list.now) (environment known.old)) }
     ensures comes { OnOk result (Comes (environment known.old) (environment known.new)) }
 {
-    var_list(known, alloc, marked, list)
+    var_list(known, alloc, export, list)
 }
 
 /// Takes out the procedures that are begun.

@@ -40,24 +40,24 @@ fn kind_of(asked: &Asked) -> BlockKind
 pub(crate) fn begin_block_of(
     known: &mut Known,
     alloc: Global,
-    marked: bool,
+    export: bool,
     kind: BlockKind,
     name: &Name,
     block: u32,
     asked: Asked,
 ) -> Result<u32, StaticFault>
     requires depth { 1 < length known.old.scopes }
-    requires module { IsTrue marked → IsTrue (in_module (outside known.old.scopes)) }
+    requires module { IsTrue export → IsTrue (in_module (outside known.old.scopes)) }
     requires proper { Proper (environment known.old) }
     requires fits { block ≤ length (environment known.old).headings }
     ensures exact { JudgedAnswers (λ _. environment known.new) result
-        (round (environments.declare marked name.now (entity.Procedure block))
+        (round (environments.declare export name.now (entity.Procedure block))
         (spec.with_heading kind (record { env = environment known.old; asks = asked_of asked }))) }
     ensures number { IfOk result (λ n. n ≡ block) }
     ensures proper { OnOk result (Proper (environment known.new)) }
 {
     known.begin_block(alloc, kind, asked)?;
-    known.declare_round(alloc, marked, name, Entity::Procedure { block })?;
+    known.declare_round(alloc, export, name, Entity::Procedure { block })?;
     Ok(block)
 }
 
@@ -65,19 +65,19 @@ pub(crate) fn begin_block_of(
 pub fn begin_procedure(
     known: &mut Known,
     alloc: Global,
-    marked: bool,
+    export: bool,
     heading: &Heading,
 ) -> Result<u32, StaticFault>
-    requires module { IsTrue marked → IsTrue (in_module known.old.scopes) }
+    requires module { IsTrue export → IsTrue (in_module known.old.scopes) }
     requires stands { EnvironmentStands (environment known.old) }
-    ensures exact { JudgedAnswers (λ _. environment known.new) result (spec.begin_procedure marked (heading_of heading.now) (environment known.old)) }
+    ensures exact { JudgedAnswers (λ _. environment known.new) result (spec.begin_procedure export (heading_of heading.now) (environment known.old)) }
     ensures number { IfOk result (λ block. block ≡ length (environment known.old).blocks) }
     ensures begins { OnOk result (HeadingBegins (environment known.old) (environment known.new)) }
 {
     let block = number(known.blocks.len())?;
     let asked = heading_parts(known, alloc, block, heading)?;
     let kind = kind_of(&asked);
-    begin_block_of(known, alloc, marked, kind, &heading.name, block, asked)
+    begin_block_of(known, alloc, export, kind, &heading.name, block, asked)
 }
 
 /// The block of the procedure of this name that is begun, if there is one.
@@ -103,20 +103,20 @@ fn has_shape(known: &Known, alloc: Global, block: u32, asked: &Asked) -> bool
 }
 
 /// An export on a `post` gives the name to the scope round the module.
-fn give_marked(
+fn give_export(
     known: &mut Known,
     alloc: Global,
-    marked: bool,
+    export: bool,
     name: &Name,
     block: u32,
 ) -> Result<(), StaticFault>
-    requires module { IsTrue marked → IsTrue (in_module (outside known.old.scopes)) }
+    requires module { IsTrue export → IsTrue (in_module (outside known.old.scopes)) }
     requires proper { Proper (environment known.old) }
     requires fits { block < length (environment known.old).headings }
-    ensures exact { JudgedAnswers (λ _. environment known.new) result (spec.post_marked marked name.now block (environment known.old)) }
+    ensures exact { JudgedAnswers (λ _. environment known.new) result (spec.post_export export name.now block (environment known.old)) }
     ensures proper { OnOk result (Proper (environment known.new)) }
 {
-    if marked {
+    if export {
         known.give_outside_round(alloc, name, Entity::Procedure { block })
     } else {
         Ok(())
@@ -127,18 +127,18 @@ fn give_marked(
 fn complete(
     known: &mut Known,
     alloc: Global,
-    marked: bool,
+    export: bool,
     name: &Name,
     found: Option<u32>,
     block: u32,
     asked: &Asked,
 ) -> Result<u32, StaticFault>
-    requires module { IsTrue marked → IsTrue (in_module (outside known.old.scopes)) }
+    requires module { IsTrue export → IsTrue (in_module (outside known.old.scopes)) }
     requires proper { Proper (environment known.old) }
     requires fits { IfSome found (λ b. block < length (environment known.old).headings) }
     requires same { IfSome found (λ b. b ≡ block) }
     ensures exact { JudgedAnswers (λ _. environment known.new) result
-        (posted marked name.now found block (asked_of asked.now) (environment known.old)) }
+        (posted export name.now found block (asked_of asked.now) (environment known.old)) }
     ensures number { IfOk result (λ n. n ≡ block) }
     ensures proper { OnOk result (Proper (environment known.new)) }
 {
@@ -150,7 +150,7 @@ fn complete(
                 StaticKind::Split,
                 name.line,
             )?;
-            give_marked(known, alloc, marked, name, block)?;
+            give_export(known, alloc, export, name, block)?;
             Ok(block)
         }
     }
@@ -170,19 +170,19 @@ fn block_of(known: &Known, found: Option<u32>) -> Result<u32, StaticFault>
 pub fn begin_post(
     known: &mut Known,
     alloc: Global,
-    marked: bool,
+    export: bool,
     heading: &Heading,
 ) -> Result<u32, StaticFault>
-    requires module { IsTrue marked → IsTrue (in_module known.old.scopes) }
+    requires module { IsTrue export → IsTrue (in_module known.old.scopes) }
     requires stands { EnvironmentStands (environment known.old) }
-    ensures exact { JudgedAnswers (λ _. environment known.new) result (spec.begin_post marked (heading_of heading.now) (environment known.old)) }
+    ensures exact { JudgedAnswers (λ _. environment known.new) result (spec.begin_post export (heading_of heading.now) (environment known.old)) }
     ensures number { IfOk result (λ block. block ≡ post_block (heading_of heading.now) (environment known.old)) }
     ensures begins { OnOk result (HeadingBegins (environment known.old) (environment known.new)) }
 {
     let found = begun_named(known.begun.as_slice(), heading.name.text.as_slice());
     let block = block_of(known, found)?;
     let asked = heading_parts(known, alloc, block, heading)?;
-    complete(known, alloc, marked, &heading.name, found, block, &asked)
+    complete(known, alloc, export, &heading.name, found, block, &asked)
 }
 
 /// A copy of a name.
@@ -212,15 +212,15 @@ fn begin_split(known: &mut Known, begun: Begun) -> Result<(), StaticFault>
 pub fn pre_decl(
     known: &mut Known,
     alloc: Global,
-    marked: bool,
+    export: bool,
     heading: &Heading,
 ) -> Result<(), StaticFault>
-    requires module { IsTrue marked → IsTrue (in_module known.old.scopes) }
+    requires module { IsTrue export → IsTrue (in_module known.old.scopes) }
     requires stands { EnvironmentStands (environment known.old) }
-    ensures exact { JudgedAnswers (λ _. environment known.new) result (spec.pre_decl marked (heading_of heading.now) (environment known.old)) }
+    ensures exact { JudgedAnswers (λ _. environment known.new) result (spec.pre_decl export (heading_of heading.now) (environment known.old)) }
     ensures comes { OnOk result (Comes (environment known.old) (environment known.new)) }
 {
-    let block = begin_procedure(known, alloc, marked, heading)?;
+    let block = begin_procedure(known, alloc, export, heading)?;
     known.leave();
     let name = copy_name(alloc, &heading.name)?;
     begin_split(known, Begun { name, block })

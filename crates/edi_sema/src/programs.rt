@@ -12,7 +12,7 @@ ghost use Rattle.edi_static.specs.Answers.{JudgedAnswers};
 ghost use Rattle.edi_static.specs.Views.{asked_of, environment};
 ghost use Rattle.edi_sema.specs.Frames.{HeadingBegins, Comes, EnvironmentStands};
 ghost use Rattle.edi_static.specs.Judged.{gives};
-ghost use Rattle.edi_sema.specs.Whole.{begun_program, first_place, program_unit};
+ghost use Rattle.edi_sema.specs.Whole.{begun_program, first_environment, program_unit};
 
 use crate::calls::program_heading;
 use crate::declarations::procedure_rest;
@@ -105,7 +105,7 @@ fn program_procedure(
 
 /// What is known before a program, whose scope is open.
 pub fn before_program(alloc: Global) -> Result<Known, StaticFault>
-    ensures exact { JudgedAnswers environment result (gives first_place) }
+    ensures exact { JudgedAnswers environment result (gives first_environment) }
     ensures stands { IfOk result (λ known. EnvironmentStands (environment known)) }
 {
     match Known::at_first(alloc) {

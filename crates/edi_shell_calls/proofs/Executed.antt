@@ -7,7 +7,7 @@ use Rattle.edi_calls.specs.Laws.{IsSameOutside}
 use Rattle.edi_calls.specs.Outcome as outcome
 use Rattle.edi_calls.specs.State.{State, fresh, moments_of}
 use Rattle.edi_calls.specs.declared.ends.Outside.{Outside}
-use Rattle.edi_execute.specs.Execution.{is_fault, IsAtMoment}
+use Rattle.edi_execute.specs.Execution.{is_fault_ending, IsAtMoment}
 use Rattle.edi_kernel.specs.Runs as kernel
 use Rattle.edi_kernel.specs.Runs.{RunsAs}
 use Rattle.edi_kernel.specs.declared.ends.Ending.{Ending}
@@ -27,7 +27,7 @@ use Rattle.edi_shell_calls.specs.Standing.{At, RunBreaks, RunsTo}
 use Rattle.edi_shell_calls.proofs.Told.{at, pair, stands, stands_at, stands_in, told, due}
 
 -- where no object has failed, the ending is none of a fault
-pub no_fault : (failed : Option Outside) (e : Ending) → IsSome failed ↔ (e ≡ ending.Fault) → failed ≡ None → is_fault e ≡ false
+pub no_fault : (failed : Option Outside) (e : Ending) → IsSome failed ↔ (e ≡ ending.Fault) → failed ≡ None → is_fault_ending e ≡ false
 no_fault failed ending.Fault same none = absurd (let some : IsSome failed = same.1 refl in let wrong : IsSome {T = Outside} None = subst IsSome none some in
     let so : false ≡ true = wrong in cc)
 no_fault failed ending.Done same none = refl
@@ -43,7 +43,7 @@ some_is failed o e = subst IsSome (sym e) refl
 pub a_fault : (failed : Option Outside) (o : Outside) (e : Ending) → IsSome failed ↔ (e ≡ ending.Fault) → failed ≡ Some o → e ≡ ending.Fault
 a_fault failed o e same is = same.0 (some_is failed o is)
 
-as_run : (code : CodeParts) (system : State) (bound : ℕ) (old : Drawn) (e : Ending) (words : List ℕ) (used : ℕ) (now : State) (new : Drawn) → is_fault e ≡ false
+as_run : (code : CodeParts) (system : State) (bound : ℕ) (old : Drawn) (e : Ending) (words : List ℕ) (used : ℕ) (now : State) (new : Drawn) → is_fault_ending e ≡ false
     → kernel.RunsTo code system bound old e words used now new → RunsAs code system bound old e words used now new
 as_run code system bound old ending.Fault words used now new fine r = absurd (cc)
 as_run code system bound old ending.Done words used now new fine r = r
@@ -73,7 +73,7 @@ module _ {D S T P : Type 0} (contents : D → Option (List (List ℕ))) (left : 
       subst (λ d. EndsThrough (fetch code.words) code.entry code.calls (fresh (state_in s)) bound before.source d end machine after.drawn past) (sym so_many)
       (subst (λ z. EndsThrough (fetch code.words) code.entry code.calls z bound before.source before.drawn end machine after.drawn past) alike ends)
 
-  pub runs_to : (e : Ending) (words : List ℕ) (used : ℕ) → is_fault e ≡ false
+  pub runs_to : (e : Ending) (words : List ℕ) (used : ℕ) → is_fault_ending e ≡ false
       → WhereTold (told contents left shown printed old) (told contents left shown printed new)
       (λ x y. kernel.RunsTo code (fresh x) bound before e words used y after)
       → RunsTo (at contents left shown printed) (stands contents left shown printed) code bound before.source e after.drawn s new

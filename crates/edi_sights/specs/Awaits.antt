@@ -13,7 +13,7 @@ use Rattle.edi_static.specs.Declarations.{begun_named, heading_of, procedure_nam
 use Rattle.edi_static.specs.Declarations.{declarations, declaration}
 use Rattle.edi_static.specs.Programs.{global_decls}
 use Rattle.edi_sema.specs.Bodies.{inside_module}
-use Rattle.edi_sema.specs.Whole.{first_place, begun_program}
+use Rattle.edi_sema.specs.Whole.{first_environment, begun_program}
 use Rattle.edi_sights.specs.declared.awaits.Await.{Await}
 use Rattle.edi_sights.specs.declared.answer.Sighted.{Sighted}
 
@@ -86,12 +86,12 @@ abbrev mutual
   procedure_met name block (text.procedure h ds s end) env awaits =
       behind (declarations ds (enter_block block env)) (list_met name s) (declarations_met name ds (enter_block block env) awaits)
 
-  pub item_met : (name : List ℕ) → (marked : Bool) → text.Item → Environment → List Await → List Await
-  item_met name marked (text.procedure_item p) env awaits =
-      behind (begin_procedure marked (heading_of p) env) (procedure_met name (length env.blocks) p) awaits
-  item_met name marked (text.post_item p) env awaits =
-      behind (begin_post marked (heading_of p) env) (procedure_met name (block_of env (begun_named env.begun (procedure_name p).text)) p) awaits
-  item_met name marked _ env awaits = awaits
+  pub item_met : (name : List ℕ) → (export : Bool) → text.Item → Environment → List Await → List Await
+  item_met name export (text.procedure_item p) env awaits =
+      behind (begin_procedure export (heading_of p) env) (procedure_met name (length env.blocks) p) awaits
+  item_met name export (text.post_item p) env awaits =
+      behind (begin_post export (heading_of p) env) (procedure_met name (block_of env (begun_named env.begun (procedure_name p).text)) p) awaits
+  item_met name export _ env awaits = awaits
 
   pub module_met : (name : List ℕ) → text.Module → Environment → List Await → List Await
   module_met name (text.module_with ms s) env awaits =
@@ -123,4 +123,4 @@ program_met name p env awaits =
     behind (begun_program (heading_of p) env >>= λ heads. gives heads.env) (procedure_met name 0 p) awaits
 
 abbrev pub awaits_of : (name : List ℕ) → text.Program → List Await
-awaits_of name (text.program globals p) = behind (global_decls globals first_place) (program_met name p) []
+awaits_of name (text.program globals p) = behind (global_decls globals first_environment) (program_met name p) []

@@ -132,28 +132,28 @@ pub(crate) fn procedure_met(
 fn item_met(
     known: &mut Known,
     alloc: Global,
-    marked: bool,
+    export: bool,
     item: &Item,
     name: &[u8],
     awaits: &mut Vec<Await>,
 ) -> Result<(), StaticFault>
-    requires module { IsTrue marked → IsTrue (in_module known.old.scopes) }
+    requires module { IsTrue export → IsTrue (in_module known.old.scopes) }
     requires stands { EnvironmentStands (environment known.old) }
-    ensures exact { JudgedAnswers (λ _. environment known.new) result (rule.item marked (item_of item.now) (environment known.old)) }
+    ensures exact { JudgedAnswers (λ _. environment known.new) result (rule.item export (item_of item.now) (environment known.old)) }
     ensures comes { OnOk result (Comes (environment known.old) (environment known.new)) }
-    ensures awaits { OnOk result (awaits.new.items ≡ spec.item_met name.now marked (item_of item.now) (environment known.old) awaits.old.items) }
+    ensures awaits { OnOk result (awaits.new.items ≡ spec.item_met name.now export (item_of item.now) (environment known.old) awaits.old.items) }
 {
     match item {
-        Item::ConstList(list) => constants(known, alloc, marked, list),
-        Item::TypeDecl(declared) => declared_type(known, alloc, marked, declared),
-        Item::VarList(list) => variables(known, alloc, marked, list),
+        Item::ConstList(list) => constants(known, alloc, export, list),
+        Item::TypeDecl(declared) => declared_type(known, alloc, export, declared),
+        Item::VarList(list) => variables(known, alloc, export, list),
         Item::Procedure(procedure) => {
-            let block = begin_procedure(known, alloc, marked, &procedure.heading)?;
+            let block = begin_procedure(known, alloc, export, &procedure.heading)?;
             procedure_met(known, alloc, block, procedure, name, awaits)
         }
-        Item::Pre(heading) => pre_decl(known, alloc, marked, heading),
+        Item::Pre(heading) => pre_decl(known, alloc, export, heading),
         Item::Post(procedure) => {
-            let block = begin_post(known, alloc, marked, &procedure.heading)?;
+            let block = begin_post(known, alloc, export, &procedure.heading)?;
             procedure_met(known, alloc, block, procedure, name, awaits)?;
             completed(known, &procedure.heading.name);
             Ok(())

@@ -12,8 +12,8 @@ use Rattle.edi_spots.specs.Coded.{Coded, entry}
 
 -- code goes up
 abbrev pub ClausesRise : Coded → Type 0
-ClausesRise g = (b : ℕ) (choice : ClauseKind) (target : ℕ) (cs : Clauses) (at to : ℕ) → code.AreClauses g.fetched g.unit.types g.unit.blocks
-    (entry g) b choice target cs at to → at ≤ to
+ClausesRise g = (b : ℕ) (kind : ClauseKind) (target : ℕ) (cs : Clauses) (at to : ℕ) → code.AreClauses g.fetched g.unit.types g.unit.blocks
+    (entry g) b kind target cs at to → at ≤ to
 
 module _ (g : Coded) where
   pub one_up : (at : ℕ) (i : Instruction) (to : ℕ) → code.InstructionStands g.fetched at i to → at < to
@@ -96,18 +96,18 @@ module _ (g : Coded) where
       acts_up tree.no_act at to h = omega (arith, h)
       acts_up (tree.act_then a as') at to h = omega (arith, act_up a at h.0 h.1, acts_up as' h.0 to h.2)
 
-      pub clauses_up : (choice : ClauseKind) (target : ℕ) (cs : Clauses) (at to : ℕ) → code.AreClauses g.fetched g.unit.types g.unit.blocks
-          (entry g) b choice target cs at to → at ≤ to
-      clauses_up choice target tree.no_clause at to h = omega (arith, h)
-      clauses_up choice target (tree.clause_then (tree.clause e as') cs) at to h =
+      pub clauses_up : (kind : ClauseKind) (target : ℕ) (cs : Clauses) (at to : ℕ) → code.AreClauses g.fetched g.unit.types g.unit.blocks
+          (entry g) b kind target cs at to → at ≤ to
+      clauses_up kind target tree.no_clause at to h = omega (arith, h)
+      clauses_up kind target (tree.clause_then (tree.clause e as') cs) at to h =
           omega (
             arith,
             expression_up e at h.2.0 h.2.2,
             one_up h.2.0 _ h.2.1 h.2.3,
             acts_up as' h.2.1 h.0 h.2.4,
             codes_up _ h.0 h.1 h.3,
-            clauses_up choice target cs h.1 to h.4,
+            clauses_up kind target cs h.1 to h.4,
           )
 
   pub clauses_rise : ClausesRise g
-  clauses_rise b choice target cs at to h = clauses_up b choice target cs at to h
+  clauses_rise b kind target cs at to h = clauses_up b kind target cs at to h

@@ -75,7 +75,7 @@ module _ (g : Coded) (s : Scene) where
     pub pc_is : pc ≡ to
     pub top_is : top ≡ t + length (cells_words g s.first F cells)
     pub words : words_at m t (length (cells_words g s.first F cells)) ≡ cells_words g s.first F cells
-    pub held : CellsFit F (now F s.name) formals cells
+    pub cells_fit : CellsFit F (now F s.name) formals cells
 
   -- nothing
   pub record Ran (to t : ℕ) (u : Unit {0}) (m : List ℕ) (pc top : ℕ) : Type 0 where
@@ -84,14 +84,14 @@ module _ (g : Coded) (s : Scene) where
 
   -- nothing; where a list was executed the process is behind it, and these clauses are left
   abbrev pub TriedSo : ℕ → ClauseKind → (target to : ℕ) → Bool → ℕ → Type 0
-  TriedSo b choice target to true pc =
-      (rest : Clauses) × (next : ℕ) × code.AreInstructions g.fetched (close_code choice target rest) pc next
-      × code.AreClauses g.fetched g.unit.types g.unit.blocks (entry g) b choice target rest next to
-  TriedSo b choice target to false pc = pc ≡ to
+  TriedSo b kind target to true pc =
+      (rest : Clauses) × (next : ℕ) × code.AreInstructions g.fetched (close_code kind target rest) pc next
+      × code.AreClauses g.fetched g.unit.types g.unit.blocks (entry g) b kind target rest next to
+  TriedSo b kind target to false pc = pc ≡ to
 
-  pub record Tried (F : Shape) (choice : ClauseKind) (target to t : ℕ) (ran : Bool) (m : List ℕ) (pc top : ℕ) : Type 0 where
+  pub record Tried (F : Shape) (kind : ClauseKind) (target to t : ℕ) (ran : Bool) (m : List ℕ) (pc top : ℕ) : Type 0 where
     pub top_is : top ≡ t
-    pub so : TriedSo (here g s F) choice target to ran pc
+    pub so : TriedSo (here g s F) kind target to ran pc
 
   -- ---- the claims, where calls and further turns of loops go to `deeper` with at most `bound` turns
 
@@ -262,15 +262,15 @@ module _ (g : Coded) (s : Scene) where
     ActsClaim bound = (as' : Acts) → ActsAt bound as'
 
     abbrev pub FirstAt : ℕ → Clauses → ClauseKind → ℕ → Type 0
-    FirstAt bound cs choice target =
+    FirstAt bound cs kind target =
         (F : Shape) (pc to t held : ℕ) (w : World) (m : List ℕ) → w.turns ≤ bound → 0 < held →
-        code.AreClauses g.fetched g.unit.types g.unit.blocks (entry g) (here g s F) choice target cs pc to →
+        code.AreClauses g.fetched g.unit.types g.unit.blocks (entry g) (here g s F) kind target cs pc to →
         ClausesFit g.unit.types g.unit.blocks g.fits.headings (here g s F) cs →
         Able g s F w m t (clauses_height g.unit.types g.unit.blocks (here g s F) cs) held →
-        Does g s F pc t t held w m (Tried F choice target to t) (first g.unit s.name (s.size s.name) deeper cs w)
+        Does g s F pc t t held w m (Tried F kind target to t) (first g.unit s.name (s.size s.name) deeper cs w)
 
     abbrev pub FirstClaim : ℕ → Type 0
-    FirstClaim bound = (cs : Clauses) (choice : ClauseKind) (target : ℕ) → FirstAt bound cs choice target
+    FirstClaim bound = (cs : Clauses) (kind : ClauseKind) (target : ℕ) → FirstAt bound cs kind target
 
   -- a list of statements one level deeper, with fewer than n turns
   abbrev pub DeeperClaim : (Acts → World → Evaluation (Unit {0})) → ℕ → Type 0

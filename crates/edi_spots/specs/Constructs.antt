@@ -43,7 +43,7 @@ module _ (g : Coded) (s : Scene) (deeper : Acts → World → Evaluation (Unit {
   As as' = ActsAt g s deeper bound as'
 
   abbrev pub Cs : Clauses → Type 0
-  Cs cs = (choice : ClauseKind) (target : ℕ) → FirstAt g s deeper bound cs choice target
+  Cs cs = (kind : ClauseKind) (target : ℕ) → FirstAt g s deeper bound cs kind target
 
   -- the operands
   pub record Operands : Type 0 where

@@ -81,9 +81,9 @@ module _ (g : Coded) where
     pub type : path_type g.unit.types of l.path ≡ t
 
   -- a procedure with this heading, that an instance at s may mean
-  abbrev pub Answers : Shape → Spot → Heading → Closure → Type 0
-  Answers F s h (system_procedure number) = IsCall g.unit.types number (heading_formals h) × (heading_result h ≡ None)
-  Answers F s h (block_procedure number parent) =
+  abbrev pub IsMeantBy : Shape → Spot → Heading → Closure → Type 0
+  IsMeantBy F s h (system_procedure number) = IsCall g.unit.types number (heading_formals h) × (heading_result h ≡ None)
+  IsMeantBy F s h (block_procedure number parent) =
       (number < length g.unit.blocks)
       × IsTrue (is_called (block g number).kind)
       × (block_heading g.fits.headings g.unit.blocks number ≡ h)
@@ -95,7 +95,7 @@ module _ (g : Coded) where
   abbrev pub Holds : Shape → Spot → Heading → Option Parameter → Cell → Type 0
   Holds F s h (Some (slot.Value t)) (value x) = IsOf g.unit.types x t
   Holds F s h (Some (slot.Var t)) (location l) = Leads F l t × Older l.spot s
-  Holds F s h (Some (slot.Formal r)) (procedure c) = Answers F s h c
+  Holds F s h (Some (slot.Formal r)) (procedure c) = IsMeantBy F s h c
   Holds F s h _ _ = ⊥
 
   module _ (first : Name → ℕ) (F : Shape) where

@@ -25,7 +25,7 @@ use Rattle.edi_static.specs.declared.faults.StaticKind.TheVariants as kind
 use Rattle.edi_static.specs.Judged.{Judged, gives, faults, ◌>>=◌}
 use Rattle.edi_static.specs.Environment.{Begun, Environment, here, declare, give_outside, begun_block, with_block, heading_at, same_heading, parameters_of}
 use Rattle.edi_static.specs.Headings.{Headed, leave, round, own_name, heading_parts}
-use Rattle.edi_static.specs.Declarations.{kind_of, with_heading, begun_named, completes, post_marked, block_of, begin_procedure, begin_post}
+use Rattle.edi_static.specs.Declarations.{kind_of, with_heading, begun_named, completes, post_export, block_of, begin_procedure, begin_post}
 use Rattle.edi_static.specs.Proper.{NamesFit, ScopesFit}
 use Rattle.edi_static.proofs.Judging.{Gives, bind, behind, ruled, weaker, also}
 use Rattle.edi_static.proofs.Proper.{names_fit, scopes_fit}
@@ -92,7 +92,7 @@ module _ (types : List Shape) (blocks : List Block) (headings shapes : List Head
 -- ---- what a beginning gives
 
 -- the scope of a heading stands before those of an environment, in which its block is there
-pub record Entered (n : ℕ) (marked : Bool) (name : Name) (env next : Environment) : Type 0 where
+pub record Entered (n : ℕ) (export : Bool) (name : Name) (env next : Environment) : Type 0 where
   pub outer : Environment
   pub scope : Scope
   pub is : next ≡ record outer { scopes = scope ∷ outer.scopes }
@@ -101,7 +101,7 @@ pub record Entered (n : ℕ) (marked : Bool) (name : Name) (env next : Environme
   pub later : Later env outer
   pub around : outer.around ≡ env.around
   pub begun : outer.begun ≡ env.begun
-  pub outermost : marked ≡ false → outside outer.scopes ≡ outside env.scopes
+  pub outermost : export ≡ false → outside outer.scopes ≡ outside env.scopes
   pub farther : outside (outside outer.scopes) ≡ outside (outside env.scopes)
   pub kept : (x : List ℕ) (e : Entity) → declared env.scopes x ≡ Some e → declared outer.scopes x ≡ Some e
   pub kept_outside : (x : List ℕ) (e : Entity) → declared (outside env.scopes) x ≡ Some e → declared (outside outer.scopes) x ≡ Some e
@@ -171,13 +171,13 @@ put_tidy env more asks s l further opened k n h o =
           closed_later env (put_block env more asks) s l n before (get_or-append env.blocks (block ∷ []) no_block n before) (k n before o)
     ]
 
-entered_at : (marked : Bool) (name : Name) (env : Environment) (scope : Scope) (more : List Heading) (asks : Heading) → Sits env → Ready env →
+entered_at : (export : Bool) (name : Name) (env : Environment) (scope : Scope) (more : List Heading) (asks : Heading) → Sits env → Ready env →
     NamesFit (Given (length env.blocks) (first_parameter (heading_result asks)) (heading_formals asks) (env.shapes ++ more)) scope.names →
     All (SlotIsKnown env.types) (map slot.Value (option_to_list (heading_result asks)) ++ parameters_of (heading_formals asks)) →
-    Gives (Entered (length env.blocks) marked name env)
-    (round (declare marked name (entity.Procedure (length env.blocks)))
+    Gives (Entered (length env.blocks) export name env)
+    (round (declare export name (entity.Procedure (length env.blocks)))
     (with_heading (kind_of (heading_result asks)) (record { env = headed_env env scope more; asks = asks })))
-entered_at marked name env scope more asks s r names known =
+entered_at export name env scope more asks s r names known =
     let n : ℕ = length env.blocks in
     let at : here env < n = here_inside env s r.inside in
     let shaped : Environment = record env { shapes = env.shapes ++ more } in
@@ -191,14 +191,14 @@ entered_at marked name env scope more asks s r names known =
     let called : is_called (block_at next.blocks n).kind ≡ true = ap (λ b. is_called b.kind) new ∙ kind_called (heading_result asks) in
     let there : n < length next.blocks = omega (arith, length-append env.blocks (block ∷ [])) in
     let round_it : IsTrue (is_round (block_at next.blocks n).up env.around) = ap (λ k. is_round k env.around) up ∙ here_round env.around r.inside in
-    bind (λ e. Onward marked next e × ((declared e.scopes name.text ≡ Some (entity.Procedure n)) × (e.begun ≡ env.begun))) (Entered n marked name env)
-    (declare marked name (entity.Procedure n) next) _
-    (also (Onward marked next) (λ e. (declared e.scopes name.text ≡ Some (entity.Procedure n)) × (e.begun ≡ env.begun))
-    (declare marked name (entity.Procedure n) next)
-    (declare_onward marked name (entity.Procedure n) next u (there, called, round_it))
-    (declare_means marked name (entity.Procedure n) next r.scoped))
+    bind (λ e. Onward export next e × ((declared e.scopes name.text ≡ Some (entity.Procedure n)) × (e.begun ≡ env.begun))) (Entered n export name env)
+    (declare export name (entity.Procedure n) next) _
+    (also (Onward export next) (λ e. (declared e.scopes name.text ≡ Some (entity.Procedure n)) × (e.begun ≡ env.begun))
+    (declare export name (entity.Procedure n) next)
+    (declare_onward export name (entity.Procedure n) next u (there, called, round_it))
+    (declare_means export name (entity.Procedure n) next r.scoped))
     (λ outer both.
-    let o : Onward marked next outer = both.0 in
+    let o : Onward export next outer = both.0 in
     let m = o.later in
     let longer = m.longer in
     let g = m.each n there in
@@ -232,16 +232,16 @@ entered_at marked name env scope more asks s r names known =
       means = both.1.0;
     })
 
-pub begin_entered : (marked : Bool) (h : text.Heading) (env : Environment) → Sits env → Ready env
-    → Gives (Entered (length env.blocks) marked (own_name h) env) (begin_procedure marked h env)
-begin_entered marked h env s r =
+pub begin_entered : (export : Bool) (h : text.Heading) (env : Environment) → Sits env → Ready env
+    → Gives (Entered (length env.blocks) export (own_name h) env) (begin_procedure export h env)
+begin_entered export h env s r =
     let n : ℕ = length env.blocks in
-    let end : Headed → Judged Environment = λ headed. round (declare marked (own_name h) (entity.Procedure n))
+    let end : Headed → Judged Environment = λ headed. round (declare export (own_name h) (entity.Procedure n))
     (with_heading (kind_of (heading_result headed.asks)) headed) in
-    bind (Heads env n) (Entered n marked (own_name h) env) (heading_parts n h env) end
+    bind (Heads env n) (Entered n export (own_name h) env) (heading_parts n h env) end
     (heading_heads n h env (types_known env s))
-    (λ headed k. subst (λ x. Gives (Entered n marked (own_name h) env) (end x)) (sym k.is)
-    (entered_at marked (own_name h) env k.scope k.more headed.asks s r k.names k.known))
+    (λ headed k. subst (λ x. Gives (Entered n export (own_name h) env) (end x)) (sym k.is)
+    (entered_at export (own_name h) env k.scope k.more headed.asks s r k.names k.known))
 
 -- ---- a procedure that was begun
 
@@ -292,7 +292,7 @@ module _ (env : Environment) (scope : Scope) (more : List Heading) (asks : Headi
       same
       (stands.parameters ∙ ap (λ x. parameters_of (heading_formals x)) same) (stands.result ∙ ap heading_result same) scope.names names
 
-  post_at : (marked : Bool) → Gives (Entered b.block marked name env) (post_marked marked name b.block (headed_env env scope more))
+  post_at : (export : Bool) → Gives (Entered b.block export name env) (post_export export name b.block (headed_env env scope more))
   unfolding shaped
   post_at false = record {
     outer = shaped;
@@ -357,23 +357,23 @@ found_begun P (b ∷ bs) name all = stated (found_begun P bs name (λ k d h. all
     stated rest true e = (all 0 b (omega arith), (bytes_eq-Decides b.name.text name).0 e)
     stated rest false e = rest
 
-post_found : (marked : Bool) (h : text.Heading) (env : Environment) → Sits env → Ready env → (found : Option Begun) →
+post_found : (export : Bool) (h : text.Heading) (env : Environment) → Sits env → Ready env → (found : Option Begun) →
     IfSome found (λ b. BegunFits env.scopes env.blocks (here env) b × (b.name.text ≡ (own_name h).text)) →
-    Gives (Entered (block_of env found) marked (own_name h) env)
-    (heading_parts (block_of env found) h env >>= λ headed. completes found (own_name h) headed >>= λ _. post_marked marked (own_name h) (block_of env found)
+    Gives (Entered (block_of env found) export (own_name h) env)
+    (heading_parts (block_of env found) h env >>= λ headed. completes found (own_name h) headed >>= λ _. post_export export (own_name h) (block_of env found)
     headed.env)
-post_found marked h env s r None f = behind (Entered (length env.blocks) marked (own_name h) env) (heading_parts (length env.blocks) h env) _ (λ headed. tt)
-post_found marked h env s r (Some b) f =
-    bind (Heads env b.block) (Entered b.block marked (own_name h) env) (heading_parts b.block h env) _ (heading_heads b.block h env (types_known env s))
+post_found export h env s r None f = behind (Entered (length env.blocks) export (own_name h) env) (heading_parts (length env.blocks) h env) _ (λ headed. tt)
+post_found export h env s r (Some b) f =
+    bind (Heads env b.block) (Entered b.block export (own_name h) env) (heading_parts b.block h env) _ (heading_heads b.block h env (types_known env s))
     (λ headed k.
-    ruled (Entered b.block marked (own_name h) env) (same_heading (heading_at headed.env.headings b.block) headed.asks) kind.Split (own_name h).line _ (λ same.
-    subst (λ x. Gives (Entered b.block marked (own_name h) env) (post_marked marked (own_name h) b.block x.env)) (sym k.is)
+    ruled (Entered b.block export (own_name h) env) (same_heading (heading_at headed.env.headings b.block) headed.asks) kind.Split (own_name h).line _ (λ same.
+    subst (λ x. Gives (Entered b.block export (own_name h) env) (post_export export (own_name h) b.block x.env)) (sym k.is)
     (post_at env k.scope k.more headed.asks (own_name h) b s r f.0
     (ap (λ x. heading_at x.env.headings b.block) (sym k.is) ∙ same_heading_is (heading_at headed.env.headings b.block) headed.asks same)
-    f.1 k.names marked)))
+    f.1 k.names export)))
 
-pub post_entered : (marked : Bool) (h : text.Heading) (env : Environment) → Sits env → Ready env → AllBegun env →
-    Gives (Entered (block_of env (begun_named env.begun (own_name h).text)) marked (own_name h) env) (begin_post marked h env)
-post_entered marked h env s r all =
-    post_found marked h env s r (begun_named env.begun (own_name h).text)
+pub post_entered : (export : Bool) (h : text.Heading) (env : Environment) → Sits env → Ready env → AllBegun env →
+    Gives (Entered (block_of env (begun_named env.begun (own_name h).text)) export (own_name h) env) (begin_post export h env)
+post_entered export h env s r all =
+    post_found export h env s r (begun_named env.begun (own_name h).text)
     (found_begun (BegunFits env.scopes env.blocks (here env)) env.begun (own_name h).text all)

@@ -77,12 +77,12 @@ begun_later env next l around kept begun all i d h =
 
 -- ---- from one place to another
 
-pub record Onward (marked : Bool) (env next : Environment) : Type 0 where
+pub record Onward (export : Bool) (env next : Environment) : Type 0 where
   pub sits : Sits next
   pub later : Later env next
   pub around : next.around ≡ env.around
-  -- the scopes round the innermost are as they were, or where the names are marked those round the next
-  pub outer : marked ≡ false → outside next.scopes ≡ outside env.scopes
+  -- the scopes round the innermost are as they were, or where the names are exported those round the next
+  pub outer : export ≡ false → outside next.scopes ≡ outside env.scopes
   pub farther : outside (outside next.scopes) ≡ outside (outside env.scopes)
   pub kept : (name : List ℕ) (e : Entity) → declared env.scopes name ≡ Some e → declared next.scopes name ≡ Some e
   pub kept_outside : (name : List ℕ) (e : Entity) → declared (outside env.scopes) name ≡ Some e → declared (outside next.scopes) name ≡ Some e
@@ -90,8 +90,8 @@ pub record Onward (marked : Bool) (env next : Environment) : Type 0 where
   pub tidy : AllBegun env → (further : ℕ → Bool) → Tidy (is_open further env) env → Tidy (is_open further next) next
   pub scopes : length next.scopes ≡ length env.scopes
 
-pub onward_then : (marked : Bool) (a b c : Environment) → Onward marked a b → Onward marked b c → Onward marked a c
-onward_then marked a b c g h = record {
+pub onward_then : (export : Bool) (a b c : Environment) → Onward export a b → Onward export b c → Onward export a c
+onward_then export a b c g h = record {
   sits = h.sits;
   later = later_then a b c g.later h.later;
   around = h.around ∙ g.around;
@@ -104,8 +104,8 @@ onward_then marked a b c g h = record {
   scopes = h.scopes ∙ g.scopes;
 }
 
-pub onward_same : (marked : Bool) (env : Environment) → Sits env → Onward marked env env
-onward_same marked env s = record {
+pub onward_same : (export : Bool) (env : Environment) → Sits env → Onward export env env
+onward_same export env s = record {
   sits = s;
   later = later_same env;
   around = refl;
@@ -118,8 +118,8 @@ onward_same marked env s = record {
   scopes = refl;
 }
 
-pub onward_any : (marked : Bool) (a b : Environment) → Onward false a b → Onward marked a b
-onward_any marked a b g = record {
+pub onward_any : (export : Bool) (a b : Environment) → Onward false a b → Onward export a b
+onward_any export a b g = record {
   sits = g.sits;
   later = g.later;
   around = g.around;
@@ -152,10 +152,10 @@ exported_fits P name e (scope ∷ outer) p h = (h.0, with_name_fits P name e out
 
 -- the scopes after a declaration
 abbrev pub scopes_with : Bool → List ℕ → Entity → List Scope → List Scope
-scopes_with marked name e scopes = if marked then exported name e (with_name name e scopes) else with_name name e scopes
+scopes_with export name e scopes = if export then exported name e (with_name name e scopes) else with_name name e scopes
 
-scopes_with_fit : (marked : Bool) (P : Entity → Type 0) (name : List ℕ) (e : Entity) (scopes : List Scope) → P e → ScopesFit P scopes
-    → ScopesFit P (scopes_with marked name e scopes)
+scopes_with_fit : (export : Bool) (P : Entity → Type 0) (name : List ℕ) (e : Entity) (scopes : List Scope) → P e → ScopesFit P scopes
+    → ScopesFit P (scopes_with export name e scopes)
 scopes_with_fit true P name e scopes p h = exported_fits P name e (with_name name e scopes) p (with_name_fits P name e scopes p h)
 scopes_with_fit false P name e scopes p h = with_name_fits P name e scopes p h
 
@@ -175,13 +175,13 @@ pub with_name_keeps : (name : List ℕ) (new : Entity) (scopes : List Scope) →
 with_name_keeps name new [] fresh x e k = k
 with_name_keeps name new (scope ∷ outer) fresh x e k = one_more (bytes_eq x name) x name scope.names e new refl fresh k
 
-outer_with : (marked : Bool) (name : List ℕ) (new : Entity) (scopes : List Scope) → marked ≡ false → outside (scopes_with marked name new scopes) ≡ outside
+outer_with : (export : Bool) (name : List ℕ) (new : Entity) (scopes : List Scope) → export ≡ false → outside (scopes_with export name new scopes) ≡ outside
     scopes
 outer_with true name new scopes e = absurd (false≢true (sym e))
 outer_with false name new [] e = refl
 outer_with false name new (scope ∷ outer) e = refl
 
-farther_with : (marked : Bool) (name : List ℕ) (new : Entity) (scopes : List Scope) → outside (outside (scopes_with marked name new scopes)) ≡ outside
+farther_with : (export : Bool) (name : List ℕ) (new : Entity) (scopes : List Scope) → outside (outside (scopes_with export name new scopes)) ≡ outside
     (outside scopes)
 farther_with true name new [] = refl
 farther_with true name new (scope ∷ []) = refl
@@ -189,14 +189,14 @@ farther_with true name new (scope ∷ (next ∷ outer)) = refl
 farther_with false name new [] = refl
 farther_with false name new (scope ∷ outer) = refl
 
-kept_with : (marked : Bool) (name : List ℕ) (new : Entity) (scopes : List Scope) → is_some (declared scopes name) ≡ false →
-    (x : List ℕ) (e : Entity) → declared scopes x ≡ Some e → declared (scopes_with marked name new scopes) x ≡ Some e
+kept_with : (export : Bool) (name : List ℕ) (new : Entity) (scopes : List Scope) → is_some (declared scopes name) ≡ false →
+    (x : List ℕ) (e : Entity) → declared scopes x ≡ Some e → declared (scopes_with export name new scopes) x ≡ Some e
 kept_with true name new [] fresh x e k = k
 kept_with true name new (scope ∷ outer) fresh x e k = with_name_keeps name new (scope ∷ outer) fresh x e k
 kept_with false name new scopes fresh x e k = with_name_keeps name new scopes fresh x e k
 
-kept_outside_with : (marked : Bool) (name : List ℕ) (new : Entity) (scopes : List Scope) → (marked ≡ true → is_some (declared (outside scopes) name) ≡ false) →
-    (x : List ℕ) (e : Entity) → declared (outside scopes) x ≡ Some e → declared (outside (scopes_with marked name new scopes)) x ≡ Some e
+kept_outside_with : (export : Bool) (name : List ℕ) (new : Entity) (scopes : List Scope) → (export ≡ true → is_some (declared (outside scopes) name) ≡ false) →
+    (x : List ℕ) (e : Entity) → declared (outside scopes) x ≡ Some e → declared (outside (scopes_with export name new scopes)) x ≡ Some e
 kept_outside_with true name new [] fresh x e k = k
 kept_outside_with true name new (scope ∷ outer) fresh x e k = with_name_keeps name new outer (fresh refl) x e k
 kept_outside_with false name new [] fresh x e k = k
@@ -210,51 +210,51 @@ pub exported_length : (name : List ℕ) (new : Entity) (scopes : List Scope) →
 exported_length name new [] = refl
 exported_length name new (scope ∷ outer) = ap suc (with_name_length name new outer)
 
-same_length : (marked : Bool) (name : List ℕ) (new : Entity) (scopes : List Scope) → length (scopes_with marked name new scopes) ≡ length scopes
+same_length : (export : Bool) (name : List ℕ) (new : Entity) (scopes : List Scope) → length (scopes_with export name new scopes) ≡ length scopes
 same_length true name new scopes = exported_length name new (with_name name new scopes) ∙ with_name_length name new scopes
 same_length false name new scopes = with_name_length name new scopes
 
 -- the name means it there
-means_with : (marked : Bool) (name : List ℕ) (new : Entity) (scopes : List Scope) → 0 < length scopes → declared (scopes_with marked name new scopes) name
+means_with : (export : Bool) (name : List ℕ) (new : Entity) (scopes : List Scope) → 0 < length scopes → declared (scopes_with export name new scopes) name
     ≡ Some new
-means_with marked name new [] h = absurd (omega (arith, h))
+means_with export name new [] h = absurd (omega (arith, h))
 means_with true name new (scope ∷ outer) h = ap (λ b. cond b (Some new) (meaning scope.names name)) ((bytes_eq-Decides name name).1 refl)
 means_with false name new (scope ∷ outer) h = ap (λ b. cond b (Some new) (meaning scope.names name)) ((bytes_eq-Decides name name).1 refl)
 
-pub declare_means : (marked : Bool) (name : Name) (means : Entity) (env : Environment) → 0 < length env.scopes
-    → Gives (λ e. (declared e.scopes name.text ≡ Some means) × (e.begun ≡ env.begun)) (declare marked name means env)
-declare_means marked name means env h =
-    new_gives (λ e. (declared e.scopes name.text ≡ Some means) × (e.begun ≡ env.begun)) (is_some (declared env.scopes name.text)) marked
+pub declare_means : (export : Bool) (name : Name) (means : Entity) (env : Environment) → 0 < length env.scopes
+    → Gives (λ e. (declared e.scopes name.text ≡ Some means) × (e.begun ≡ env.begun)) (declare export name means env)
+declare_means export name means env h =
+    new_gives (λ e. (declared e.scopes name.text ≡ Some means) × (e.begun ≡ env.begun)) (is_some (declared env.scopes name.text)) export
     (is_some (declared (outside env.scopes) name.text)) _ _ _
-    (λ fresh outer. (means_with marked name.text means env.scopes h, refl))
+    (λ fresh outer. (means_with export name.text means env.scopes h, refl))
 
-pub declare_onward : (marked : Bool) (name : Name) (means : Entity) (env : Environment) → Sits env → EntitySits env means
-    → Gives (Onward marked env) (declare marked name means env)
-declare_onward marked name means env s h =
-    new_gives (Onward marked env) (is_some (declared env.scopes name.text)) marked (is_some (declared (outside env.scopes) name.text)) _ _ _
+pub declare_onward : (export : Bool) (name : Name) (means : Entity) (env : Environment) → Sits env → EntitySits env means
+    → Gives (Onward export env) (declare export name means env)
+declare_onward export name means env s h =
+    new_gives (Onward export env) (is_some (declared env.scopes name.text)) export (is_some (declared (outside env.scopes) name.text)) _ _ _
     (λ fresh fresh_outside.
-    let scopes : List Scope = scopes_with marked name.text means env.scopes in
-    let kept : (x : List ℕ) (e : Entity) → declared env.scopes x ≡ Some e → declared (scopes_with marked name.text means env.scopes) x ≡ Some e =
-    kept_with marked name.text means env.scopes fresh in
+    let scopes : List Scope = scopes_with export name.text means env.scopes in
+    let kept : (x : List ℕ) (e : Entity) → declared env.scopes x ≡ Some e → declared (scopes_with export name.text means env.scopes) x ≡ Some e =
+    kept_with export name.text means env.scopes fresh in
     record {
-      sits = scopes_sit scopes env s (scopes_with_fit marked (EntitySits env) name.text means env.scopes h s.names);
+      sits = scopes_sit scopes env s (scopes_with_fit export (EntitySits env) name.text means env.scopes h s.names);
       later = scopes_later_same scopes env;
       around = refl;
-      outer = outer_with marked name.text means env.scopes;
-      farther = farther_with marked name.text means env.scopes;
+      outer = outer_with export name.text means env.scopes;
+      farther = farther_with export name.text means env.scopes;
       kept = kept;
-      kept_outside = kept_outside_with marked name.text means env.scopes fresh_outside;
+      kept_outside = kept_outside_with export name.text means env.scopes fresh_outside;
       begun = λ k. begun_later env (record env { scopes = scopes }) (scopes_later_same scopes env) refl kept env.begun k;
       tidy = λ b further k. k;
-      scopes = same_length marked name.text means env.scopes;
+      scopes = same_length export name.text means env.scopes;
     })
 
 -- ---- a type more, and a block that is changed
 
-pub type_onward : (marked : Bool) (shape : Shape) (names : List (List ℕ)) (env : Environment) → Sits env → IsDeclarable env.types shape
+pub type_onward : (export : Bool) (shape : Shape) (names : List (List ℕ)) (env : Environment) → Sits env → IsDeclarable env.types shape
     → ShapeFits env.types shape →
-    length names ≤ length (fields_of shape) → Onward marked env (with_type shape names env)
-type_onward marked shape names env s new fits fields = record {
+    length names ≤ length (fields_of shape) → Onward export env (with_type shape names env)
+type_onward export shape names env s new fits fields = record {
   sits = type_sits shape names env s new fits fields;
   later = type_later shape names env;
   around = refl;
@@ -273,11 +273,11 @@ opened true n r b e h = false≢true (sym h)
 opened false n true b e h = false≢true (sym h)
 opened false n false b e h = false≢true e
 
-pub set_onward : (marked : Bool) (at : ℕ) (b : Block) (env : Environment) → Sits env → at < length env.blocks → IsTrue (is_round at env.around)
+pub set_onward : (export : Bool) (at : ℕ) (b : Block) (env : Environment) → Sits env → at < length env.blocks → IsTrue (is_round at env.around)
     → BlockGrows (block_at env.blocks at) b →
     KindFits b.kind at b → All (SlotIsKnown env.types) (slots b) → ActsFit env.types env.blocks (headings_of env.headings) at b.body
-    → Onward marked env (set_block at b env)
-set_onward marked at b env s inside round g kind known body =
+    → Onward export env (set_block at b env)
+set_onward export at b env s inside round g kind known body =
     let l : Later env (set_block at b env) = set_later at b env inside g in
     record {
       sits = set_sits at b env s inside g kind known body;

@@ -45,7 +45,7 @@ use Rattle.edi_static.proofs.FitnessBeginnings.{Entered, begin_entered, post_ent
 abbrev pub inside_of : Environment → Scope → ℕ → Environment
 inside_of outer scope n = record outer { scopes = scope ∷ outer.scopes; around = n ∷ outer.around; begun = [] }
 
-module _ (n : ℕ) (marked : Bool) (name : Name) (env next : Environment) (r : Ready env) (e : Entered n marked name env next) where
+module _ (n : ℕ) (export : Bool) (name : Name) (env next : Environment) (r : Ready env) (e : Entered n export name env next) where
   abbrev inner : Environment
   inner = inside_of e.outer e.scope n
 

@@ -38,11 +38,11 @@ use Rattle.edi_static.proofs.FitnessLater.{names_later}
 use Rattle.edi_static.proofs.FitnessOnward.{Onward, onward_then, onward_same, declare_onward, type_onward}
 
 -- one construct behind another
-pub go_on : (marked : Bool) (env : Environment) (j : Judged Environment) (f : Environment → Judged Environment) → Gives (Onward marked env) j →
-    ((e : Environment) → Onward marked env e → Gives (Onward marked e) (f e)) → Gives (Onward marked env) (j >>= f)
-go_on marked env j f h k =
-    bind (Onward marked env) (Onward marked env) j f h
-    (λ e o. weaker (Onward marked e) (Onward marked env) (f e) (λ c g. onward_then marked env e c o g) (k e o))
+pub go_on : (export : Bool) (env : Environment) (j : Judged Environment) (f : Environment → Judged Environment) → Gives (Onward export env) j →
+    ((e : Environment) → Onward export env e → Gives (Onward export e) (f e)) → Gives (Onward export env) (j >>= f)
+go_on export env j f h k =
+    bind (Onward export env) (Onward export env) j f h
+    (λ e o. weaker (Onward export e) (Onward export env) (f e) (λ c g. onward_then export env e c o g) (k e o))
 
 both : {a b : Bool} → a ≡ true → b ≡ true → (a && b) ≡ true
 both {a} {b} h k = ap (λ x. x && b) h ∙ k

@@ -78,11 +78,11 @@ is_still further env n = stated (further n) (is_begun n env.begun) (n == n) (sam
     stated false true c e = refl
     stated false false c e = e
 
-module _ (n : ℕ) (marked : Bool) (name : Name) (env next : Environment) (s : Sits env) (r : Ready env) (e : Entered n marked name env next) (begun : List Begun)
+module _ (n : ℕ) (export : Bool) (name : Name) (env next : Environment) (s : Sits env) (r : Ready env) (e : Entered n export name env next) (begun : List Begun)
     (fewer : (scopes : List Scope) (blocks : List Block) (k : ℕ) → All (BegunFits scopes blocks k) env.begun → All (BegunFits scopes blocks k) begun)
     (shut : AllBegun env → (m : ℕ) → m ≢ n → is_begun m begun ≡ false → is_begun m env.begun ≡ false) where
   -- its own scope and the place inside it are left
-  left_onward : (after : Environment) → Ends n (inside_of e.outer e.scope n) after → Onward marked env (leave_to env begun after)
+  left_onward : (after : Environment) → Ends n (inside_of e.outer e.scope n) after → Onward export env (leave_to env begun after)
   left_onward after k =
       let outer : Environment = e.outer in
       let inside : Environment = inside_of outer e.scope n in
@@ -138,9 +138,9 @@ abbrev new_begun : Name → Environment → Begun
 new_begun name env = record { name = name; block = length env.blocks }
 
 -- the scope of its heading ends at once
-whole_onward : (marked : Bool) (name : Name) (env next : Environment) → (e : Entered (length env.blocks) marked name env next)
-    → Onward marked env (record e.outer { begun = env.begun ++ new_begun name env ∷ [] })
-whole_onward marked name env next e =
+whole_onward : (export : Bool) (name : Name) (env next : Environment) → (e : Entered (length env.blocks) export name env next)
+    → Onward export env (record e.outer { begun = env.begun ++ new_begun name env ∷ [] })
+whole_onward export name env next e =
     let outer : Environment = e.outer in
     let n : ℕ = length env.blocks in
     let one : Begun = new_begun name env in
@@ -175,10 +175,10 @@ whole_onward marked name env next e =
       scopes = e.scopes;
     }
 
-pre_onward : (marked : Bool) (name : Name) (env next : Environment) → Entered (length env.blocks) marked name env next
-    → Onward marked env (record (leave next) { begun = env.begun ++ new_begun name env ∷ [] })
-pre_onward marked name env next e = subst (λ x. Onward marked env (record (leave x) { begun = env.begun ++ new_begun name env ∷ [] })) (sym e.is)
-    (whole_onward marked name env next e)
+pre_onward : (export : Bool) (name : Name) (env next : Environment) → Entered (length env.blocks) export name env next
+    → Onward export env (record (leave next) { begun = env.begun ++ new_begun name env ∷ [] })
+pre_onward export name env next e = subst (λ x. Onward export env (record (leave x) { begun = env.begun ++ new_begun name env ∷ [] })) (sym e.is)
+    (whole_onward export name env next e)
 
 -- ---- a procedure that is completed
 
@@ -206,9 +206,9 @@ procedures_same a b e = ap block_in e
     block_in (Some (entity.Procedure b)) = b
     block_in _ = 0
 
-post_shut : (n : ℕ) (marked : Bool) (name : Name) (env next : Environment) → Entered n marked name env next → AllBegun env → (m : ℕ) → m ≢ n →
+post_shut : (n : ℕ) (export : Bool) (name : Name) (env next : Environment) → Entered n export name env next → AllBegun env → (m : ℕ) → m ≢ n →
     is_begun m (without_begun name.text env.begun) ≡ false → is_begun m env.begun ≡ false
-post_shut n marked name env next e all m other h =
+post_shut n export name env next e all m other h =
     others_begun (BegunFits env.scopes env.blocks (here env)) name.text n m
     (λ b f same.
     procedures_same b.block n

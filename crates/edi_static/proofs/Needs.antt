@@ -27,7 +27,7 @@ use Rattle.edi_static.specs.Fitting.{use_of}
 use Rattle.edi_static.specs.Expressions.{expression}
 use Rattle.edi_static.specs.Statements.{After, assigned, called, add_statements, with_need, close_block, enter_branch, leave_branch, statement_list}
 use Rattle.edi_static.specs.Statements.{statements, statement, conditions, elses, condition, branch, branches}
-use Rattle.edi_static.specs.Declarations.{kind_of, with_heading, block_of, procedure_name, heading_of, begun_named, completes, post_marked, all_completed}
+use Rattle.edi_static.specs.Declarations.{kind_of, with_heading, block_of, procedure_name, heading_of, begun_named, completes, post_export, all_completed}
 use Rattle.edi_static.specs.Declarations.{begin_procedure, begin_post, pre_decl, procedure_rest, item, module_decl, members, member, declarations}
 use Rattle.edi_static.specs.Declarations.{declaration}
 use Rattle.edi_static.specs.Programs.{program_heading, global_decl, global_decls, program_procedure, resolve_tree}
@@ -267,14 +267,14 @@ begin_small m h env s =
     round_small m (own_name h) (entity.Procedure (length env.blocks))
     (with_heading (kind_of (heading_result headed.asks)) headed) (with_heading_small _ headed k))
 
-marked_small : (m : Bool) (name : Name) (block : ℕ) (env : Environment) → Small env → Gives Small (post_marked m name block env)
-marked_small true name block env h = outside_round_small name (entity.Procedure block) env h
-marked_small false name block env h = h
+export_small : (m : Bool) (name : Name) (block : ℕ) (env : Environment) → Small env → Gives Small (post_export m name block env)
+export_small true name block env h = outside_round_small name (entity.Procedure block) env h
+export_small false name block env h = h
 
 post_small : (m : Bool) (h : text.Heading) (env : Environment) → Small env → Gives Small (begin_post m h env)
 post_small m h env s =
     bind SmallHeaded Small _ _ (heading_small _ h env s) (λ headed k.
-    behind Small (completes (begun_named env.begun (own_name h).text) (own_name h) headed) _ (λ _. marked_small m (own_name h) _ headed.env k))
+    behind Small (completes (begun_named env.begun (own_name h).text) (own_name h) headed) _ (λ _. export_small m (own_name h) _ headed.env k))
 
 pre_small : (m : Bool) (h : text.Heading) (env : Environment) → Small env → Gives Small (pre_decl m h env)
 pre_small m h env s = bind Small Small _ _ (begin_small m h env s) (λ e k. k)

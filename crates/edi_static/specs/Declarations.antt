@@ -48,9 +48,9 @@ completes None name headed = faults kind.Split name.line
 completes (Some b) name headed = must (same_heading (heading_at headed.env.headings b.block) headed.asks) kind.Split name.line
 
 -- an export on a `post` gives the name to the scope round the module
-abbrev pub post_marked : Bool → Name → (block : ℕ) → Environment → Judged Environment
-post_marked true name block env = round (give_outside name (entity.Procedure block)) env
-post_marked false name block env = gives env
+abbrev pub post_export : Bool → Name → (block : ℕ) → Environment → Judged Environment
+post_export true name block env = round (give_outside name (entity.Procedure block)) env
+post_export false name block env = gives env
 
 -- at the `begin` of a scope each procedure that is begun in it has been completed
 abbrev pub all_completed : List Begun → Judged (Unit {0})
@@ -81,10 +81,10 @@ procedure_name (text.procedure h ds s end) = own_name h
 
 -- a procedure that is begun: its block is there and its name is declared
 abbrev pub begin_procedure : Bool → text.Heading → Environment → Judged Environment
-begin_procedure marked h env =
+begin_procedure export h env =
     let n : ℕ = length env.blocks in
     heading_parts n h env >>= λ headed.
-    round (declare marked (own_name h) (entity.Procedure n)) (with_heading (kind_of (heading_result headed.asks)) headed)
+    round (declare export (own_name h) (entity.Procedure n)) (with_heading (kind_of (heading_result headed.asks)) headed)
 
 -- the block of a `post`; without its `pre` it will be refused, and has none
 abbrev pub block_of : Environment → Option Begun → ℕ
@@ -92,16 +92,16 @@ block_of env found = option_map_or (λ b. b.block) found (length env.blocks)
 
 -- a `post` is held to its `pre` after its heading's parts
 abbrev pub begin_post : Bool → text.Heading → Environment → Judged Environment
-begin_post marked h env =
+begin_post export h env =
     let found : Option Begun = begun_named env.begun (own_name h).text in
     heading_parts (block_of env found) h env >>= λ headed.
     completes found (own_name h) headed >>= λ _.
-    post_marked marked (own_name h) (block_of env found) headed.env
+    post_export export (own_name h) (block_of env found) headed.env
 
 -- a `pre` alone: its heading's scope ends at once
 abbrev pub pre_decl : Bool → text.Heading → Environment → Judged Environment
-pre_decl marked h env =
-    begin_procedure marked h env >>= λ after.
+pre_decl export h env =
+    begin_procedure export h env >>= λ after.
     let one : Begun = record { name = own_name h; block = length env.blocks } in
     gives (record (leave after) { begun = env.begun ++ one ∷ [] })
 
@@ -114,16 +114,16 @@ abbrev mutual
       statement_list s inner >>= λ done.
       close_block block done.what end done.env
 
-  pub item : (marked : Bool) → text.Item → Environment → Judged Environment
-  item marked (text.const_item cs) env = const_list marked cs env
-  item marked (text.type_item t) env = type_decl marked t env
-  item marked (text.var_item vs) env = var_list marked vs env
-  item marked (text.procedure_item p) env =
-      begin_procedure marked (heading_of p) env >>= procedure_rest (length env.blocks) p >>= λ after.
+  pub item : (export : Bool) → text.Item → Environment → Judged Environment
+  item export (text.const_item cs) env = const_list export cs env
+  item export (text.type_item t) env = type_decl export t env
+  item export (text.var_item vs) env = var_list export vs env
+  item export (text.procedure_item p) env =
+      begin_procedure export (heading_of p) env >>= procedure_rest (length env.blocks) p >>= λ after.
       gives (leave_to env env.begun after)
-  item marked (text.pre_item h) env = pre_decl marked h env
-  item marked (text.post_item p) env =
-      begin_post marked (heading_of p) env >>= procedure_rest (block_of env (begun_named env.begun (procedure_name p).text)) p >>= λ after.
+  item export (text.pre_item h) env = pre_decl export h env
+  item export (text.post_item p) env =
+      begin_post export (heading_of p) env >>= procedure_rest (block_of env (begun_named env.begun (procedure_name p).text)) p >>= λ after.
       gives (leave_to env (without_begun (procedure_name p).text env.begun) after)
 
   pub module_decl : text.Module → Environment → Judged Environment

@@ -83,13 +83,13 @@ type_named env name = look_up env name >>= as_type name.line
 
 -- a declared name must be new in the innermost scope; behind an export `*` it enters the scope round the module too, and
 -- must be new there too
-abbrev pub declare : (marked : Bool) → Name → Entity → Environment → Judged Environment
-declare marked name means env =
-    if is_some (declared env.scopes name.text) || (marked && is_some (declared (outside env.scopes) name.text))
+abbrev pub declare : (export : Bool) → Name → Entity → Environment → Judged Environment
+declare export name means env =
+    if is_some (declared env.scopes name.text) || (export && is_some (declared (outside env.scopes) name.text))
     then faults kind.Ambiguous name.line
     else gives (record env {
       scopes =
-          if marked then exported name.text means (with_name name.text means env.scopes) else with_name name.text means env.scopes;
+          if export then exported name.text means (with_name name.text means env.scopes) else with_name name.text means env.scopes;
     })
 
 -- a name of the innermost scope, which is that of a module, enters the scope round it too, and must be new there

@@ -17,7 +17,7 @@ use Rattle.edi_static.specs.Written.{id, only, named}
 
 -- ---- used names
 
--- a name of a module that is not marked is not seen outside it:
+-- a name of a module that is not exported is not seen outside it:
 -- proc main(proc display(value: char)) / module / var hidden: char / * proc show begin display(hidden) end / begin hidden := 'm' end / begin show;
 -- display(hidden) end
 pub row_hidden : resolve_tree
@@ -138,7 +138,7 @@ pub row_exported_stays : resolve_tree
 row_exported_stays = refl
 
 -- proc main / var a: int / module const b = 1; / a = true begin a := 1 end / begin skip end
-pub row_unmarked_twice : resolve_tree
+pub row_unexported_twice : resolve_tree
     (program no_global (procedure (heading (id "main" 1) no_params None) (next_declaration (item_declaration (var_item
     (var_list (group (id "a" 2) no_name (id "int" 2)) no_group))) (next_declaration (module_declaration (module_with
     (next_member (item_member (const_item (const_list (record { name = (id "b" 3); constant = (constant.Numeral (pos 1)) })
@@ -146,47 +146,47 @@ pub row_unmarked_twice : resolve_tree
     no_member) (list (assignment (variable (root.Name (id "a" 4)) no_selector) 4 (only (numeral (pos 1)))) no_statement)))
     no_declaration)) (list skip no_statement) 5))
     ≡ faults kind.Kind 4
-row_unmarked_twice = refl
+row_unexported_twice = refl
 
--- a split procedure is marked once:
+-- a split procedure is exported once:
 -- proc main / module * pre proc p / * post proc / p begin skip end begin skip end / begin skip end
-pub row_both_marked : resolve_tree
+pub row_both_exported : resolve_tree
     (program no_global (procedure (heading (id "main" 1) no_params None) (next_declaration (module_declaration (module_with
     (next_member (exported_member (pre_item (heading (id "p" 2) no_params None))) (next_member (exported_member (post_item
     (procedure (heading (id "p" 4) no_params None) no_declaration (list skip no_statement) 4))) no_member)) (list skip
     no_statement))) no_declaration) (list skip no_statement) 5))
     ≡ faults kind.Ambiguous 4
-row_both_marked = refl
+row_both_exported = refl
 
 -- a split procedure is exported by its `post` alone:
 -- proc main / module pre proc p * post proc p begin skip end begin skip end / begin p; / x end
-pub row_post_marked : resolve_tree
+pub row_post_exported : resolve_tree
     (program no_global (procedure (heading (id "main" 1) no_params None) (next_declaration (module_declaration (module_with
     (next_member (item_member (pre_item (heading (id "p" 2) no_params None))) (next_member (exported_member (post_item
     (procedure (heading (id "p" 2) no_params None) no_declaration (list skip no_statement) 2))) no_member)) (list skip
     no_statement))) no_declaration) (list (call (id "p" 3) None) (next_statement (call (id "x" 4) None) no_statement)) 4))
     ≡ faults kind.Undeclared 4
-row_post_marked = refl
+row_post_exported = refl
 
 -- proc main / module * pre proc p post proc p begin skip end begin skip end / begin p; / x end
-pub row_pre_marked : resolve_tree
+pub row_pre_exported : resolve_tree
     (program no_global (procedure (heading (id "main" 1) no_params None) (next_declaration (module_declaration (module_with
     (next_member (exported_member (pre_item (heading (id "p" 2) no_params None))) (next_member (item_member (post_item
     (procedure (heading (id "p" 2) no_params None) no_declaration (list skip no_statement) 2))) no_member)) (list skip
     no_statement))) no_declaration) (list (call (id "p" 3) None) (next_statement (call (id "x" 4) None) no_statement)) 4))
     ≡ faults kind.Undeclared 4
-row_pre_marked = refl
+row_pre_exported = refl
 
 -- an enumeration is exported with its constants:
 -- proc main / module * enum e (a, b) begin skip end / var x: e / begin x := b; / y end
-pub row_constants_marked : resolve_tree
+pub row_constants_exported : resolve_tree
     (program no_global (procedure (heading (id "main" 1) no_params None) (next_declaration (module_declaration (module_with
     (next_member (exported_member (type_item (enum_decl (id "e" 2) (id "a" 2) (next_name (id "b" 2) no_name)))) no_member)
     (list skip no_statement))) (next_declaration (item_declaration (var_item (var_list (group (id "x" 3) no_name (id "e" 3))
     no_group))) no_declaration)) (list (assignment (variable (root.Name (id "x" 4)) no_selector) 4 (only (named (id "b" 4))))
     (next_statement (call (id "y" 5) None) no_statement)) 5))
     ≡ faults kind.Undeclared 5
-row_constants_marked = refl
+row_constants_exported = refl
 
 -- the name of an enumeration is declared before its constants:
 -- proc main enum / e (a, / e) begin skip end

@@ -44,15 +44,15 @@ constant env (code.Name name (Some n)) = look_up env name >>= as_character name.
 
 -- the constant is judged first, then the name is declared
 abbrev pub const_decl : Bool → ConstDecl → Environment → Judged Environment
-const_decl marked d env =
-    constant env d.constant >>= λ c. declare marked d.name (entity.Constant c.of c.ordinal) env
+const_decl export d env =
+    constant env d.constant >>= λ c. declare export d.name (entity.Constant c.of c.ordinal) env
 
 abbrev pub const_decls : Bool → ConstDecls → Environment → Judged Environment
-const_decls marked text.no_const_decl env = gives env
-const_decls marked (text.next_const_decl d ds) env = const_decl marked d env >>= const_decls marked ds
+const_decls export text.no_const_decl env = gives env
+const_decls export (text.next_const_decl d ds) env = const_decl export d env >>= const_decls export ds
 
 abbrev pub const_list : Bool → ConstList → Environment → Judged Environment
-const_list marked (text.const_list d ds) env = const_decl marked d env >>= const_decls marked ds
+const_list export (text.const_list d ds) env = const_decl export d env >>= const_decls export ds
 
 -- ---- enumerations
 
@@ -66,22 +66,22 @@ names_count (next_name name names) = suc (names_count names)
 
 -- the constant of ordinal n
 abbrev pub enum_constant : Bool → (of n : ℕ) → Name → Environment → Judged Environment
-enum_constant marked of n name env =
-    declare marked name (entity.Constant of (pos n)) env >>= λ env.
+enum_constant export of n name env =
+    declare export name (entity.Constant of (pos n)) env >>= λ env.
     must (nat_lt n most_constants) kind.Range name.line >>= λ _.
     gives env
 
 -- the constants from ordinal n on
 abbrev pub enum_constants : Bool → (of n : ℕ) → Names → Environment → Judged Environment
-enum_constants marked of n no_name env = gives env
-enum_constants marked of n (next_name name names) env =
-    enum_constant marked of n name env >>= enum_constants marked of (suc n) names
+enum_constants export of n no_name env = gives env
+enum_constants export of n (next_name name names) env =
+    enum_constant export of n name env >>= enum_constants export of (suc n) names
 
 -- the type's name is declared before its constants
 abbrev pub enum_decl : Bool → Name → Names → Environment → Judged Environment
-enum_decl marked name constants env =
+enum_decl export name constants env =
     let of : ℕ = length env.types in
-    declare marked name (entity.Types of) env >>= enum_constants marked of 0 constants >>= λ env.
+    declare export name (entity.Types of) env >>= enum_constants export of 0 constants >>= λ env.
     gives (with_type (enumeration (names_count constants)) [] env)
 
 -- ---- records
@@ -115,58 +115,58 @@ fields_of_groups env (next_group g groups) fields = fields_of_group env g fields
 
 -- a type takes at most 65,535 words; its name is declared after its parts have been judged
 abbrev pub declare_type : Bool → Name → Shape → List (List ℕ) → Environment → Judged Environment
-declare_type marked name shape field_names env =
+declare_type export name shape field_names env =
     must (nat_le (shape_size (size env.types) shape) greatest_size) kind.Range name.line >>= λ _.
-    declare marked name (entity.Types (length env.types)) env >>= λ env.
+    declare export name (entity.Types (length env.types)) env >>= λ env.
     gives (with_type shape field_names env)
 
 -- the bounds are of one elementary type, and the lower one is not above the upper one
 abbrev pub array_decl : Bool → Name → Constant → Constant → Name → Environment → Judged Environment
-array_decl marked name lower upper element env =
+array_decl export name lower upper element env =
     constant env lower >>= λ lo.
     constant env upper >>= λ hi.
     type_named env element >>= λ e.
     must (lo.of == hi.of) kind.Types name.line >>= λ _.
     must (int_le lo.ordinal hi.ordinal) kind.Range name.line >>= λ _.
-    declare_type marked name (array_of lo.of lo.ordinal hi.ordinal e) [] env
+    declare_type export name (array_of lo.of lo.ordinal hi.ordinal e) [] env
 
 -- the base is elementary
 abbrev pub set_decl : Bool → Name → Name → Environment → Judged Environment
-set_decl marked name base env =
+set_decl export name base env =
     type_named env base >>= λ b.
     must (is_elementary env.types b) kind.Types base.line >>= λ _.
-    declare_type marked name (set_of b) [] env
+    declare_type export name (set_of b) [] env
 
 abbrev pub no_fields : Fields
 no_fields = record { names = []; types = [] }
 
 abbrev pub type_decl : Bool → TypeDecl → Environment → Judged Environment
-type_decl marked (text.enum_decl name first more) env = enum_decl marked name (next_name first more) env
-type_decl marked (text.record_decl name first more) env =
+type_decl export (text.enum_decl name first more) env = enum_decl export name (next_name first more) env
+type_decl export (text.record_decl name first more) env =
     fields_of_groups env (next_group first more) no_fields >>= λ fields.
-    declare_type marked name (record_of fields.types) fields.names env
-type_decl marked (text.array_decl name line lower upper element) env = array_decl marked name lower upper element env
-type_decl marked (text.set_decl name base) env = set_decl marked name base env
+    declare_type export name (record_of fields.types) fields.names env
+type_decl export (text.array_decl name line lower upper element) env = array_decl export name lower upper element env
+type_decl export (text.set_decl name base) env = set_decl export name base env
 
 -- ---- variables
 
 -- a declared variable belongs to the block in which it stands, also in a module
 abbrev pub variable_decl : Bool → (of : ℕ) → Name → Environment → Judged Environment
-variable_decl marked of name env =
-    declare marked name (entity.Variable (here env) (next_variable env) of) env >>= λ env.
+variable_decl export of name env =
+    declare export name (entity.Variable (here env) (next_variable env) of) env >>= λ env.
     gives (set_block (here env) (with_variable of (block_at env.blocks (here env))) env)
 
 abbrev pub variables_named : Bool → (of : ℕ) → Names → Environment → Judged Environment
-variables_named marked of no_name env = gives env
-variables_named marked of (next_name name names) env = variable_decl marked of name env >>= variables_named marked of names
+variables_named export of no_name env = gives env
+variables_named export of (next_name name names) env = variable_decl export of name env >>= variables_named export of names
 
 abbrev pub variables_of_group : Bool → text.Group → Environment → Judged Environment
-variables_of_group marked (text.group first names of) env =
-    type_named env of >>= λ t. variables_named marked t (next_name first names) env
+variables_of_group export (text.group first names of) env =
+    type_named env of >>= λ t. variables_named export t (next_name first names) env
 
 abbrev pub variables_of_groups : Bool → Groups → Environment → Judged Environment
-variables_of_groups marked no_group env = gives env
-variables_of_groups marked (next_group g groups) env = variables_of_group marked g env >>= variables_of_groups marked groups
+variables_of_groups export no_group env = gives env
+variables_of_groups export (next_group g groups) env = variables_of_group export g env >>= variables_of_groups export groups
 
 abbrev pub var_list : Bool → VarList → Environment → Judged Environment
-var_list marked (text.var_list first more) env = variables_of_groups marked (next_group first more) env
+var_list export (text.var_list first more) env = variables_of_groups export (next_group first more) env

@@ -73,13 +73,13 @@ pub fn constant(known: &Known, constant: &Constant) -> Result<Ordinal, StaticFau
 fn const_decl(
     known: &mut Known,
     alloc: Global,
-    marked: bool,
+    export: bool,
     declaration: &ConstDecl,
 ) -> Result<(), StaticFault>
-    requires exporting { IsTrue marked → IsTrue (in_module known.old.scopes) }
+    requires exporting { IsTrue export → IsTrue (in_module known.old.scopes) }
     requires proper { Proper (environment known.old) }
-    ensures exact { JudgedAnswers (λ _. environment known.new) result (spec.const_decl marked declaration.now (environment known.old)) }
-    ensures exporting { IsTrue marked → IsTrue (in_module known.new.scopes) }
+    ensures exact { JudgedAnswers (λ _. environment known.new) result (spec.const_decl export declaration.now (environment known.old)) }
+    ensures exporting { IsTrue export → IsTrue (in_module known.new.scopes) }
     ensures proper { OnOk result (Proper (environment known.new)) }
     ensures depth { length known.new.scopes ≡ length known.old.scopes }
 {
@@ -88,25 +88,25 @@ fn const_decl(
         of: value.of,
         ordinal: value.ordinal,
     };
-    known.declare(alloc, marked, &declaration.name, entity)
+    known.declare(alloc, export, &declaration.name, entity)
 }
 
 pub fn const_list(
     known: &mut Known,
     alloc: Global,
-    marked: bool,
+    export: bool,
     list: &ConstList,
 ) -> Result<(), StaticFault>
-    requires exporting { IsTrue marked → IsTrue (in_module known.old.scopes) }
+    requires exporting { IsTrue export → IsTrue (in_module known.old.scopes) }
     requires proper { Proper (environment known.old) }
-    ensures exact { JudgedAnswers (λ _. environment known.new) result (spec.const_list marked (const_list_of list.now) (environment known.old)) }
-    ensures exporting { IsTrue marked → IsTrue (in_module known.new.scopes) }
+    ensures exact { JudgedAnswers (λ _. environment known.new) result (spec.const_list export (const_list_of list.now) (environment known.old)) }
+    ensures exporting { IsTrue export → IsTrue (in_module known.new.scopes) }
     ensures proper { OnOk result (Proper (environment known.new)) }
     ensures depth { length known.new.scopes ≡ length known.old.scopes }
 {
-    const_decl(known, alloc, marked, &list.first)?;
+    const_decl(known, alloc, export, &list.first)?;
     for declaration in list.more.items() {
-        const_decl(known, alloc, marked, declaration)?;
+        const_decl(known, alloc, export, declaration)?;
     }
     Ok(())
 }

@@ -173,51 +173,51 @@ impl Known {
         }
     }
 
-    /// Declares a name. It must be new in the innermost scope and, where it is marked, in the scope round that one.
+    /// Declares a name. It must be new in the innermost scope and, where it is exported, in the scope round that one.
     pub fn declare(
         &mut self,
         alloc: Global,
-        marked: bool,
+        export: bool,
         name: &Name,
         entity: Entity,
     ) -> Result<(), StaticFault>
-        requires module { IsTrue marked → IsTrue (in_module self.old.scopes) }
+        requires module { IsTrue export → IsTrue (in_module self.old.scopes) }
         requires proper { Proper (environment self.old) }
         requires fits { EntityFits (environment self.old) entity }
-        ensures exact { JudgedAnswers (λ _. environment self.new) result (spec.declare marked name.now entity (environment self.old)) }
-        ensures exporting { IsTrue marked → IsTrue (in_module self.new.scopes) }
+        ensures exact { JudgedAnswers (λ _. environment self.new) result (spec.declare export name.now entity (environment self.old)) }
+        ensures exporting { IsTrue export → IsTrue (in_module self.new.scopes) }
         ensures proper { OnOk result (Proper (environment self.new)) }
         ensures depth { length self.new.scopes ≡ length self.old.scopes }
-        ensures outside { marked ≡ false → outside self.new.scopes ≡ outside self.old.scopes }
+        ensures outside { export ≡ false → outside self.new.scopes ≡ outside self.old.scopes }
         ensures types { self.new.types ≡ self.old.types }
     {
         let stated = self
             .scopes
-            .declare(alloc, name.text.as_slice(), entity, marked);
+            .declare(alloc, name.text.as_slice(), entity, export);
         fault_at(stated, name.line)
     }
 
-    /// Declares a name in the scope round the innermost, where it must be new; where it is marked, in the scope round that one
+    /// Declares a name in the scope round the innermost, where it must be new; where it is exported, in the scope round that one
     /// too, and the first of these is that of a module.
     pub fn declare_round(
         &mut self,
         alloc: Global,
-        marked: bool,
+        export: bool,
         name: &Name,
         entity: Entity,
     ) -> Result<(), StaticFault>
         requires depth { 1 < length self.old.scopes }
-        requires module { IsTrue marked → IsTrue (in_module (outside self.old.scopes)) }
+        requires module { IsTrue export → IsTrue (in_module (outside self.old.scopes)) }
         requires proper { Proper (environment self.old) }
         requires fits { EntityFits (environment self.old) entity }
-        ensures exact { JudgedAnswers (λ _. environment self.new) result (round (spec.declare marked name.now entity) (environment self.old)) }
-        ensures exporting { OnOk result (IsTrue marked → IsTrue (in_module (outside self.new.scopes))) }
+        ensures exact { JudgedAnswers (λ _. environment self.new) result (round (spec.declare export name.now entity) (environment self.old)) }
+        ensures exporting { OnOk result (IsTrue export → IsTrue (in_module (outside self.new.scopes))) }
         ensures proper { OnOk result (Proper (environment self.new)) }
         ensures depth { OnOk result (length self.new.scopes ≡ length self.old.scopes) }
     {
         let stated = self
             .scopes
-            .declare_round(alloc, name.text.as_slice(), entity, marked);
+            .declare_round(alloc, name.text.as_slice(), entity, export);
         fault_at(stated, name.line)
     }
 

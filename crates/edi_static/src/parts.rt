@@ -38,7 +38,7 @@ fn place_of_name(fields: &[Vec<u8>], name: &[u8]) -> Option<usize>
 }
 
 /// The place of a name among the fields of a type.
-fn field_place(known: &Known, of: u32, name: &[u8]) -> Option<usize>
+fn field_index(known: &Known, of: u32, name: &[u8]) -> Option<usize>
     ensures exact { result ≡ spec.place_of_name (slice_index_or (environment known.now).fields of []) name.now }
 {
     match known.fields.get(of as usize) {
@@ -97,7 +97,7 @@ pub fn field_of(known: &Known, line: u16, of: u32, name: &Name) -> Result<Parted
         known,
         of,
         name,
-        field_place(known, of, name.text.as_slice()),
+        field_index(known, of, name.text.as_slice()),
     )
 }
 

@@ -28,25 +28,25 @@ const MOST_CONSTANTS: usize = 32768;
 fn enum_constant(
     known: &mut Known,
     alloc: Global,
-    marked: bool,
+    export: bool,
     of: u32,
     ordinal: usize,
     name: &Name,
 ) -> Result<(), StaticFault>
-    requires exporting { IsTrue marked → IsTrue (in_module known.old.scopes) }
+    requires exporting { IsTrue export → IsTrue (in_module known.old.scopes) }
     requires proper { Proper (environment known.old) }
     requires fits { (of < length known.old.types) × IsTrue (is_elementary known.old.types of) }
-    ensures exact { JudgedAnswers (λ _. environment known.new) result (spec.enum_constant marked of ordinal name.now (environment known.old)) }
-    ensures exporting { IsTrue marked → IsTrue (in_module known.new.scopes) }
+    ensures exact { JudgedAnswers (λ _. environment known.new) result (spec.enum_constant export of ordinal name.now (environment known.old)) }
+    ensures exporting { IsTrue export → IsTrue (in_module known.new.scopes) }
     ensures proper { OnOk result (Proper (environment known.new)) }
     ensures depth { length known.new.scopes ≡ length known.old.scopes }
     ensures types { OnOk result (known.new.types ≡ known.old.types) }
 {
     if ordinal < MOST_CONSTANTS {
         let ordinal = ordinal as i16;
-        return known.declare(alloc, marked, name, Entity::Constant { of, ordinal });
+        return known.declare(alloc, export, name, Entity::Constant { of, ordinal });
     }
-    known.declare(alloc, marked, name, Entity::Types(of))?;
+    known.declare(alloc, export, name, Entity::Types(of))?;
     fault(StaticKind::Range, name.line)
 }
 
@@ -54,23 +54,23 @@ fn enum_constant(
 fn enum_constants(
     known: &mut Known,
     alloc: Global,
-    marked: bool,
+    export: bool,
     of: u32,
     declared: &Enum,
 ) -> Result<(), StaticFault>
-    requires exporting { IsTrue marked → IsTrue (in_module known.old.scopes) }
+    requires exporting { IsTrue export → IsTrue (in_module known.old.scopes) }
     requires proper { Proper (environment known.old) }
     requires fits { (of < length known.old.types) × IsTrue (is_elementary known.old.types of) }
     ensures exact { JudgedAnswers (λ _. environment known.new) result
-        (spec.enum_constants marked of 0 (text.next_name declared.now.first (names (items_of declared.now.more))) (environment known.old)) }
-    ensures exporting { IsTrue marked → IsTrue (in_module known.new.scopes) }
+        (spec.enum_constants export of 0 (text.next_name declared.now.first (names (items_of declared.now.more))) (environment known.old)) }
+    ensures exporting { IsTrue export → IsTrue (in_module known.new.scopes) }
     ensures proper { OnOk result (Proper (environment known.new)) }
     ensures depth { length known.new.scopes ≡ length known.old.scopes }
 {
-    enum_constant(known, alloc, marked, of, 0, &declared.first)?;
+    enum_constant(known, alloc, export, of, 0, &declared.first)?;
     let mut ordinal = 1;
     for name in declared.more.items() {
-        enum_constant(known, alloc, marked, of, ordinal, name)?;
+        enum_constant(known, alloc, export, of, ordinal, name)?;
         ordinal += 1;
     }
     Ok(())
@@ -80,41 +80,41 @@ fn enum_constants(
 fn enum_decl(
     known: &mut Known,
     alloc: Global,
-    marked: bool,
+    export: bool,
     declared: &Enum,
 ) -> Result<(), StaticFault>
-    requires exporting { IsTrue marked → IsTrue (in_module known.old.scopes) }
+    requires exporting { IsTrue export → IsTrue (in_module known.old.scopes) }
     requires proper { Proper (environment known.old) }
     ensures exact { JudgedAnswers (λ _. environment known.new) result
-        (spec.enum_decl marked declared.now.name (text.next_name declared.now.first (names (items_of declared.now.more))) (environment known.old)) }
-    ensures exporting { IsTrue marked → IsTrue (in_module known.new.scopes) }
+        (spec.enum_decl export declared.now.name (text.next_name declared.now.first (names (items_of declared.now.more))) (environment known.old)) }
+    ensures exporting { IsTrue export → IsTrue (in_module known.new.scopes) }
     ensures proper { OnOk result (Proper (environment known.new)) }
     ensures depth { length known.new.scopes ≡ length known.old.scopes }
 {
     let of = known.types.len();
     let constants = number(declared.more.len() + 1)?;
     known.push_type(alloc, Shape::Enum(constants), Vec::new(alloc))?;
-    known.declare(alloc, marked, &declared.name, Entity::Types(of))?;
-    enum_constants(known, alloc, marked, of, declared)
+    known.declare(alloc, export, &declared.name, Entity::Types(of))?;
+    enum_constants(known, alloc, export, of, declared)
 }
 
 /// A type takes at most 65,535 words; it is put behind the others, and its name is declared after its parts have been judged.
 fn declare_type(
     known: &mut Known,
     alloc: Global,
-    marked: bool,
+    export: bool,
     name: &Name,
     shape: Shape,
     fields: Vec<Vec<u8>>,
 ) -> Result<(), StaticFault>
-    requires exporting { IsTrue marked → IsTrue (in_module known.old.scopes) }
+    requires exporting { IsTrue export → IsTrue (in_module known.old.scopes) }
     requires proper { Proper (environment known.old) }
     requires named { All (λ t. t < length known.old.types) (named_types (shape_of shape)) }
     requires elementary { All (λ t. IsTrue (is_elementary known.old.types t)) (ordinal_types (shape_of shape)) }
     requires ordered { HasOrderedBounds (shape_of shape) }
     ensures exact { JudgedAnswers (λ _. environment known.new) result
-        (spec.declare_type marked name.now (shape_of shape) (map (λ field. field.items) fields.items) (environment known.old)) }
-    ensures exporting { IsTrue marked → IsTrue (in_module known.new.scopes) }
+        (spec.declare_type export name.now (shape_of shape) (map (λ field. field.items) fields.items) (environment known.old)) }
+    ensures exporting { IsTrue export → IsTrue (in_module known.new.scopes) }
     ensures proper { OnOk result (Proper (environment known.new)) }
     ensures depth { length known.new.scopes ≡ length known.old.scopes }
 {
@@ -123,40 +123,40 @@ fn declare_type(
     }
     let of = known.types.len();
     known.push_type(alloc, shape, fields)?;
-    known.declare(alloc, marked, name, Entity::Types(of))
+    known.declare(alloc, export, name, Entity::Types(of))
 }
 
 fn record_decl(
     known: &mut Known,
     alloc: Global,
-    marked: bool,
+    export: bool,
     declared: &Record,
 ) -> Result<(), StaticFault>
-    requires exporting { IsTrue marked → IsTrue (in_module known.old.scopes) }
+    requires exporting { IsTrue export → IsTrue (in_module known.old.scopes) }
     requires proper { Proper (environment known.old) }
     ensures exact { JudgedAnswers (λ _. environment known.new) result
-        (spec.type_decl marked (text.record_decl declared.now.name (group_of declared.now.first) (groups_of declared.now.more)) (environment known.old)) }
-    ensures exporting { IsTrue marked → IsTrue (in_module known.new.scopes) }
+        (spec.type_decl export (text.record_decl declared.now.name (group_of declared.now.first) (groups_of declared.now.more)) (environment known.old)) }
+    ensures exporting { IsTrue export → IsTrue (in_module known.new.scopes) }
     ensures proper { OnOk result (Proper (environment known.new)) }
     ensures depth { length known.new.scopes ≡ length known.old.scopes }
 {
     let fields = fields_of(known, alloc, declared)?;
     let shape = Shape::Record(fields.types);
-    declare_type(known, alloc, marked, &declared.name, shape, fields.names)
+    declare_type(known, alloc, export, &declared.name, shape, fields.names)
 }
 
 /// The bounds are of one elementary type, and the lower one is not above the upper one.
 fn array_decl(
     known: &mut Known,
     alloc: Global,
-    marked: bool,
+    export: bool,
     declared: &Array,
 ) -> Result<(), StaticFault>
-    requires exporting { IsTrue marked → IsTrue (in_module known.old.scopes) }
+    requires exporting { IsTrue export → IsTrue (in_module known.old.scopes) }
     requires proper { Proper (environment known.old) }
     ensures exact { JudgedAnswers (λ _. environment known.new) result
-        (spec.array_decl marked declared.now.name declared.now.lower declared.now.upper declared.now.element (environment known.old)) }
-    ensures exporting { IsTrue marked → IsTrue (in_module known.new.scopes) }
+        (spec.array_decl export declared.now.name declared.now.lower declared.now.upper declared.now.element (environment known.old)) }
+    ensures exporting { IsTrue export → IsTrue (in_module known.new.scopes) }
     ensures proper { OnOk result (Proper (environment known.new)) }
     ensures depth { length known.new.scopes ≡ length known.old.scopes }
 {
@@ -175,20 +175,20 @@ fn array_decl(
         hi: upper.ordinal,
         element,
     };
-    declare_type(known, alloc, marked, &declared.name, shape, Vec::new(alloc))
+    declare_type(known, alloc, export, &declared.name, shape, Vec::new(alloc))
 }
 
 /// The base is elementary.
 fn set_decl(
     known: &mut Known,
     alloc: Global,
-    marked: bool,
+    export: bool,
     declared: &Set,
 ) -> Result<(), StaticFault>
-    requires exporting { IsTrue marked → IsTrue (in_module known.old.scopes) }
+    requires exporting { IsTrue export → IsTrue (in_module known.old.scopes) }
     requires proper { Proper (environment known.old) }
-    ensures exact { JudgedAnswers (λ _. environment known.new) result (spec.set_decl marked declared.now.name declared.now.base (environment known.old)) }
-    ensures exporting { IsTrue marked → IsTrue (in_module known.new.scopes) }
+    ensures exact { JudgedAnswers (λ _. environment known.new) result (spec.set_decl export declared.now.name declared.now.base (environment known.old)) }
+    ensures exporting { IsTrue export → IsTrue (in_module known.new.scopes) }
     ensures proper { OnOk result (Proper (environment known.new)) }
     ensures depth { length known.new.scopes ≡ length known.old.scopes }
 {
@@ -199,7 +199,7 @@ fn set_decl(
     declare_type(
         known,
         alloc,
-        marked,
+        export,
         &declared.name,
         Shape::Set(base),
         Vec::new(alloc),
@@ -210,20 +210,20 @@ fn set_decl(
 pub fn type_decl(
     known: &mut Known,
     alloc: Global,
-    marked: bool,
+    export: bool,
     declared: &TypeDecl,
 ) -> Result<(), StaticFault>
-    requires exporting { IsTrue marked → IsTrue (in_module known.old.scopes) }
+    requires exporting { IsTrue export → IsTrue (in_module known.old.scopes) }
     requires proper { Proper (environment known.old) }
-    ensures exact { JudgedAnswers (λ _. environment known.new) result (spec.type_decl marked (type_decl_of declared.now) (environment known.old)) }
-    ensures exporting { IsTrue marked → IsTrue (in_module known.new.scopes) }
+    ensures exact { JudgedAnswers (λ _. environment known.new) result (spec.type_decl export (type_decl_of declared.now) (environment known.old)) }
+    ensures exporting { IsTrue export → IsTrue (in_module known.new.scopes) }
     ensures proper { OnOk result (Proper (environment known.new)) }
     ensures depth { length known.new.scopes ≡ length known.old.scopes }
 {
     match declared {
-        TypeDecl::Enum(declared) => enum_decl(known, alloc, marked, declared),
-        TypeDecl::Record(declared) => record_decl(known, alloc, marked, declared),
-        TypeDecl::Array(declared) => array_decl(known, alloc, marked, declared),
-        TypeDecl::Set(declared) => set_decl(known, alloc, marked, declared),
+        TypeDecl::Enum(declared) => enum_decl(known, alloc, export, declared),
+        TypeDecl::Record(declared) => record_decl(known, alloc, export, declared),
+        TypeDecl::Array(declared) => array_decl(known, alloc, export, declared),
+        TypeDecl::Set(declared) => set_decl(known, alloc, export, declared),
     }
 }

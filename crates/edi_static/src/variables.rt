@@ -18,15 +18,15 @@ use std::alloc::Global;
 fn variable_decl(
     known: &mut Known,
     alloc: Global,
-    marked: bool,
+    export: bool,
     of: u32,
     name: &Name,
 ) -> Result<(), StaticFault>
-    requires exporting { IsTrue marked → IsTrue (in_module known.old.scopes) }
+    requires exporting { IsTrue export → IsTrue (in_module known.old.scopes) }
     requires proper { Proper (environment known.old) }
     requires fits { of < length known.old.types }
-    ensures exact { JudgedAnswers (λ _. environment known.new) result (spec.variable_decl marked of name.now (environment known.old)) }
-    ensures exporting { IsTrue marked → IsTrue (in_module known.new.scopes) }
+    ensures exact { JudgedAnswers (λ _. environment known.new) result (spec.variable_decl export of name.now (environment known.old)) }
+    ensures exporting { IsTrue export → IsTrue (in_module known.new.scopes) }
     ensures proper { OnOk result (Proper (environment known.new)) }
     ensures depth { length known.new.scopes ≡ length known.old.scopes }
     ensures types { OnOk result (known.new.types ≡ known.old.types) }
@@ -36,7 +36,7 @@ fn variable_decl(
         variable: known.next_variable()?,
         of,
     };
-    known.declare(alloc, marked, name, entity)?;
+    known.declare(alloc, export, name, entity)?;
     known.add_variable(alloc, of)
 }
 
@@ -44,20 +44,20 @@ fn variable_decl(
 fn variable_group(
     known: &mut Known,
     alloc: Global,
-    marked: bool,
+    export: bool,
     group: &Group,
 ) -> Result<(), StaticFault>
-    requires exporting { IsTrue marked → IsTrue (in_module known.old.scopes) }
+    requires exporting { IsTrue export → IsTrue (in_module known.old.scopes) }
     requires proper { Proper (environment known.old) }
-    ensures exact { JudgedAnswers (λ _. environment known.new) result (spec.variables_of_group marked (group_of group.now) (environment known.old)) }
-    ensures exporting { IsTrue marked → IsTrue (in_module known.new.scopes) }
+    ensures exact { JudgedAnswers (λ _. environment known.new) result (spec.variables_of_group export (group_of group.now) (environment known.old)) }
+    ensures exporting { IsTrue export → IsTrue (in_module known.new.scopes) }
     ensures proper { OnOk result (Proper (environment known.new)) }
     ensures depth { length known.new.scopes ≡ length known.old.scopes }
 {
     let of = known.type_named(&group.type_name)?;
-    variable_decl(known, alloc, marked, of, &group.first)?;
+    variable_decl(known, alloc, export, of, &group.first)?;
     for name in group.more.items() {
-        variable_decl(known, alloc, marked, of, name)?;
+        variable_decl(known, alloc, export, of, name)?;
     }
     Ok(())
 }
@@ -66,19 +66,19 @@ fn variable_group(
 pub fn var_list(
     known: &mut Known,
     alloc: Global,
-    marked: bool,
+    export: bool,
     list: &VarList,
 ) -> Result<(), StaticFault>
-    requires exporting { IsTrue marked → IsTrue (in_module known.old.scopes) }
+    requires exporting { IsTrue export → IsTrue (in_module known.old.scopes) }
     requires proper { Proper (environment known.old) }
-    ensures exact { JudgedAnswers (λ _. environment known.new) result (spec.var_list marked (var_list_of list.now) (environment known.old)) }
-    ensures exporting { IsTrue marked → IsTrue (in_module known.new.scopes) }
+    ensures exact { JudgedAnswers (λ _. environment known.new) result (spec.var_list export (var_list_of list.now) (environment known.old)) }
+    ensures exporting { IsTrue export → IsTrue (in_module known.new.scopes) }
     ensures proper { OnOk result (Proper (environment known.new)) }
     ensures depth { length known.new.scopes ≡ length known.old.scopes }
 {
-    variable_group(known, alloc, marked, &list.first)?;
+    variable_group(known, alloc, export, &list.first)?;
     for group in list.more.items() {
-        variable_group(known, alloc, marked, group)?;
+        variable_group(known, alloc, export, group)?;
     }
     Ok(())
 }

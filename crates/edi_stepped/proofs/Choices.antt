@@ -51,7 +51,7 @@ module _ (g : Coded) (s : Processes) (t : Machine) (p : Name) (q : Process) (x :
   work_here ws pc = Matches g (is_first p) (r.first p) (G p) m ws pc depth
 
   -- what is chosen comes first
-  module _ (position : Position) (after ws : List Work) (choice : ClauseKind) (target to : ℕ) (cs : Clauses)
+  module _ (position : Position) (after ws : List Work) (kind : ClauseKind) (target to : ℕ) (cs : Clauses)
       (room : Room g (frame_of (G p) depth) (clauses_height g.unit.types g.unit.blocks (here g S G) cs)) where
     abbrev Chosen : Option (Acts × ℕ) → ℕ → Type 0
     Chosen c pc = work_here (with_chosen position c after ws) pc
@@ -78,14 +78,14 @@ module _ (g : Coded) (s : Processes) (t : Machine) (p : Name) (q : Process) (x :
         inl (stops_then g.fetched (length t.activities) (is_first p) (Outer S) (at_pc pc) (at_pc at) false e system turns
         (hops_get g s t p q x r n pc at low 0 s.world m hops) h.is)
 
-    chosen_step : (n pc at : ℕ) → Hops g n pc at → code.AreClauses g.fetched g.unit.types g.unit.blocks (entry g) (here g S G) choice target cs at to →
+    chosen_step : (n pc at : ℕ) → Hops g n pc at → code.AreClauses g.fetched g.unit.types g.unit.blocks (entry g) (here g S G) kind target cs at to →
         ClausesFit g.unit.types g.unit.blocks g.fits.headings (here g S G) cs → work_here ws to →
-        ((rest : Clauses) (end next : ℕ) → code.AreInstructions g.fetched (close_code choice target rest) end next →
-        code.AreClauses g.fetched g.unit.types g.unit.blocks (entry g) (here g S G) choice target rest next to → work_here (after ++ ws) end) →
+        ((rest : Clauses) (end next : ℕ) → code.AreInstructions g.fetched (close_code kind target rest) end next →
+        code.AreClauses g.fetched g.unit.types g.unit.blocks (entry g) (here g S G) kind target rest next to → work_here (after ++ ws) end) →
         Follows g S s.world.store m (at_pc pc) (chosen g.unit p (S.size p) cs 0 s.world >>= λ c w. gives (goes (with_chosen position c after ws)) w)
     chosen_step n pc at hops st fits rest behind =
         goes_so (chosen g.unit p (S.size p) cs 0 s.world) n pc at hops
-        (choice_does g S all i G choice target to (clauses_height g.unit.types g.unit.blocks (here g S G) cs) Chosen rest
+        (choice_does g S all i G kind target to (clauses_height g.unit.types g.unit.blocks (here g S G) cs) Chosen rest
         (λ list k pc end next others acts close clauses fit le.
         matches_acts g (is_first p) (r.first p) (G p) m list (inside position k) 0 (after ++ ws) pc end depth acts fit (omega (arith, room, le))
         (behind others end next close clauses))

@@ -39,12 +39,12 @@ pub record Went (g : Coded) (s : Scene) (F : Shape) (Q : Option (Acts × ℕ) �
   pub top_is : top ≡ base_of g s F
   pub so : Q c pc
 
-module _ (g : Coded) (s : Scene) (all : Constructs g s) (i : Instructed g s) (F : Shape) (choice : ClauseKind) (target to height : ℕ)
+module _ (g : Coded) (s : Scene) (all : Constructs g s) (i : Instructed g s) (F : Shape) (kind : ClauseKind) (target to height : ℕ)
     (Q : Option (Acts × ℕ) → ℕ → Type 0)
     (none : Q None to)
     (some : (list : Acts) (n pc end next : ℕ) (rest : Clauses) → code.AreActs g.fetched g.unit.types g.unit.blocks (entry g) (here g s F) list pc end →
-    code.AreInstructions g.fetched (close_code choice target rest) end next →
-    code.AreClauses g.fetched g.unit.types g.unit.blocks (entry g) (here g s F) choice target rest next to →
+    code.AreInstructions g.fetched (close_code kind target rest) end next →
+    code.AreClauses g.fetched g.unit.types g.unit.blocks (entry g) (here g s F) kind target rest next to →
     ActsFit g.unit.types g.unit.blocks g.fits.headings (here g s F) list →
     acts_height g.unit.types g.unit.blocks (here g s F) list ≤ height → Q (Some (list, n)) pc) where
   abbrev base : ℕ
@@ -91,7 +91,7 @@ module _ (g : Coded) (s : Scene) (all : Constructs g s) (i : Instructed g s) (F 
 
   -- the clauses, numbered from n
   pub choice_does : (cs : Clauses) (n pc : ℕ) (w : World) (m : List ℕ) →
-      code.AreClauses g.fetched g.unit.types g.unit.blocks (entry g) (here g s F) choice target cs pc to →
+      code.AreClauses g.fetched g.unit.types g.unit.blocks (entry g) (here g s F) kind target cs pc to →
       ClausesFit g.unit.types g.unit.blocks g.fits.headings (here g s F) cs →
       clauses_height g.unit.types g.unit.blocks (here g s F) cs ≤ height →
       Able g s F w m base (clauses_height g.unit.types g.unit.blocks (here g s F) cs) 0 →
@@ -126,7 +126,7 @@ module _ (g : Coded) (s : Scene) (all : Constructs g s) (i : Instructed g s) (F 
             post.pc_is,
             one_up g st.2.0 (op.false_ st.1) st.2.1 st.2.3,
             acts_up g (here g s F) list st.2.1 st.0 st.2.4,
-            codes_up g (close_code choice target cs) st.0 st.1 st.3,
+            codes_up g (close_code kind target cs) st.0 st.1 st.3,
           )
 
           both : (holds : Bool) → Does g s F st.1 base base 0 u m' (Went g s F Q) (chosen g.unit s.name (s.size s.name) cs (suc n) u) →

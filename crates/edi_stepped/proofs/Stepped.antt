@@ -87,7 +87,7 @@ module _ (g : Coded) (s : Processes) (t : Machine) (p : Name) (q : Process) (x :
           (subst (λ a. code.AreInstructions g.fetched (call_code g.unit.types g.unit.blocks (entry g) (here g S G) c line) a h.3.0)
           (sym y.is.post.pc_is) h.3.1.2)
           h.3.2.0 h.3.2.1 (stands_after g S G s.world v m y.is.memory low y.is.cleared (stands g s t p q x r) y.is.after)
-          (record { pc_is = refl; top_is = refl; words = y.is.post.words; held = y.is.post.held })
+          (record { pc_is = refl; top_is = refl; words = y.is.post.words; cells_fit = y.is.post.cells_fit })
           (matches_kept g (is_first p) (r.first p) (G p) (G p) m y.is.memory ws h.3.0 depth (agrees g s t p q x r v y.is.memory y.is.cleared y.is.after) h.3.4)
           (subst (λ top. Gets g.fetched (length t.activities) (is_first p) (Outer S) (at_pc pc) (alone S G y.is.memory y.is.to top 0 v)
           (false || y.is.cleared)) y.is.post.top_is

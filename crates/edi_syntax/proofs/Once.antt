@@ -13,7 +13,7 @@ use Rattle.edi_syntax.proofs.Places.{IsBehind, apart, front_begins, level_in, le
 
 -- two misplaced ones are one
 same_misplaced : (marks u v : List Mark) (a b : Option Mark) → IsMisplaced marks u a → IsMisplaced marks v b → (u ≡ v) × (a ≡ b)
-same_misplaced marks u v a b p q = by (apart u v a b p.place.0 q.place.0 (sym p.place.1 ∙ q.place.1)) where
+same_misplaced marks u v a b p q = by (apart u v a b p.position.0 q.position.0 (sym p.position.1 ∙ q.position.1)) where
   by : ((u ≡ v) × (a ≡ b)) ⊎ (IsBehind u a v ⊎ IsBehind v b u) → (u ≡ v) × (a ≡ b)
   by (inl h) = h
   by (inr (inl h)) = absurd (p.fails (front_begins u v a h q.begins))
@@ -28,7 +28,7 @@ not_before u v m marks p shallow h =
     omega (arith, small, p.deep l.0 l.1)
 
 same_deep : (marks u v : List Mark) (m n : Mark) → IsTooDeepAt marks u m → IsTooDeepAt marks v n → (u ≡ v) × (m ≡ n)
-same_deep marks u v m n p q = by (apart u v (Some m) (Some n) p.place.0 q.place.0 (sym p.place.1 ∙ q.place.1)) where
+same_deep marks u v m n p q = by (apart u v (Some m) (Some n) p.position.0 q.position.0 (sym p.position.1 ∙ q.position.1)) where
   by : ((u ≡ v) × (Some m ≡ Some n)) ⊎ (IsBehind u (Some m) v ⊎ IsBehind v (Some n) u) → (u ≡ v) × (m ≡ n)
   by (inl h) = let same : Some m ≡ Some n = h.1 in (h.0, cc)
   by (inr (inl h)) = absurd (not_before u v m marks p q.shallow h)
@@ -36,7 +36,7 @@ same_deep marks u v m n p q = by (apart u v (Some m) (Some n) p.place.0 q.place.
 
 -- nothing is misplaced where something is too deep
 not_both : (marks u v : List Mark) (a : Option Mark) (m : Mark) → IsMisplaced marks u a → IsTooDeepAt marks v m → ⊥
-not_both marks u v a m p q = by (apart u v a (Some m) p.place.0 q.place.0 (sym p.place.1 ∙ q.place.1)) where
+not_both marks u v a m p q = by (apart u v a (Some m) p.position.0 q.position.0 (sym p.position.1 ∙ q.position.1)) where
   by : ((u ≡ v) × (a ≡ Some m)) ⊎ (IsBehind u a v ⊎ IsBehind v (Some m) u) → ⊥
   by (inl h) = p.fails (subst (λ o. ProgramBegins (somes u ++ o ∷ [])) (sym h.1) (subst (λ l. ProgramBegins (somes l ++ Some m ∷ [])) (sym h.0) q.begins))
   by (inr (inl h)) = p.fails (front_begins u v a h (begins_less q.begins)) where
@@ -78,11 +78,11 @@ same_fault marks last fault.NoMemory g p q = absurd p
 
 -- marks of a program have no misplaced one
 tree_not_misplaced : (marks before : List Mark) (here : Option Mark) (tree : Program) → IsMisplaced marks before here → Spells tree marks → ⊥
-tree_not_misplaced marks before here tree p h = p.fails (tree, marks, p.place.0, h, p.place.1 ∙ sym (append_assoc (somes before) (here ∷ []) p.place.0))
+tree_not_misplaced marks before here tree p h = p.fails (tree, marks, p.position.0, h, p.position.1 ∙ sym (append_assoc (somes before) (here ∷ []) p.position.0))
 
 tree_not_deep : (marks before : List Mark) (m : Mark) (tree : Program) → IsTooDeepAt marks before m → Spells tree marks → depth tree ≤ 64 → ⊥
 tree_not_deep marks before m tree p h small =
-    let l = level_in tree marks before m p.place.0 h p.place.1 in
+    let l = level_in tree marks before m p.position.0 h p.position.1 in
     omega (arith, p.deep l.0 l.1, l.2, small)
 
 pub no_tree : (marks : List Mark) (last : ℕ) (f : SyntaxFault) (tree : Program) → IsSyntaxFault marks last f → Spells tree marks → depth tree ≤ 64 → ⊥

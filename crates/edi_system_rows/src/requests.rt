@@ -34,7 +34,7 @@ pub(crate) enum Request {
 
 /// What a call tells.
 #[derive(Clone, Copy, PartialEq, Drop)]
-pub(crate) enum Told {
+pub(crate) enum Answered {
     Yes,
     No,
     Number(u32),
@@ -59,27 +59,27 @@ fn is_fault<X>(answer: &Result<X, CatEnd>) -> bool
 }
 
 // What a call of the catalogue tells, unless it has failed.
-fn told_of(answer: Result<(), CatEnd>) -> Option<Told>
+fn answer_of(answer: Result<(), CatEnd>) -> Option<Answered>
     ensures { IsSome result → is_drive_fault answer ≡ false }
 {
     if is_fault(&answer) {
         return None;
     }
     match answer {
-        Ok(()) => Some(Told::Yes),
-        Err(end) => Some(Told::Refused(end)),
+        Ok(()) => Some(Answered::Yes),
+        Err(end) => Some(Answered::Refused(end)),
     }
 }
 
-fn file_of(entry: Option<Entry>) -> Told {
+fn file_of(entry: Option<Entry>) -> Answered {
     match entry {
-        Some(entry) => Told::File(entry.kind, entry.length, entry.protected),
-        None => Told::No,
+        Some(entry) => Answered::File(entry.kind, entry.length, entry.protected),
+        None => Answered::No,
     }
 }
 
-fn truth_of(value: bool) -> Told {
-    if value { Told::Yes } else { Told::No }
+fn truth_of(value: bool) -> Answered {
+    if value { Answered::Yes } else { Answered::No }
 }
 
 fn title(text: &str) -> Option<Title> {
@@ -91,19 +91,19 @@ fn first_byte<D: Drive, S: Source, T: Sink, P: Sink>(
     system: &mut System<'_, '_, '_, '_, '_, '_, D, S, T, P>,
     title: &Title,
     i: u32,
-) -> Option<Told>
+) -> Option<Answered>
     requires { IsReady D.contents D.count system.old }
     ensures { IsSome result → IsReady D.contents D.count system.new }
 {
     let Some(entry) = system.find(title) else {
-        return Some(Told::No);
+        return Some(Answered::No);
     };
     if i >= 510 || i * 512 >= entry.length {
-        return Some(Told::No);
+        return Some(Answered::No);
     }
     let mut page = [0; 512];
     match system.read_page(title, i, &mut page) {
-        Ok(()) => Some(Told::Number(u32::from(page[0]))),
+        Ok(()) => Some(Answered::Number(u32::from(page[0]))),
         Err(_) => None,
     }
 }
@@ -113,7 +113,7 @@ fn whole<D: Drive, S: Source, T: Sink, P: Sink>(
     system: &mut System<'_, '_, '_, '_, '_, '_, D, S, T, P>,
     title: &Title,
     room: &mut [u8],
-) -> Option<Told>
+) -> Option<Answered>
     requires ready { IsReady D.contents D.count system.old }
     requires room { most_bytes ≤ length room.old }
     ensures ready { IsSome result → IsReady D.contents D.count system.new }
@@ -124,8 +124,8 @@ fn whole<D: Drive, S: Source, T: Sink, P: Sink>(
         return None;
     }
     match answer {
-        Ok(n) => Some(Told::Number(n)),
-        Err(end) => Some(Told::Refused(end)),
+        Ok(n) => Some(Answered::Number(n)),
+        Err(end) => Some(Answered::Refused(end)),
     }
 }
 
@@ -134,55 +134,55 @@ fn store<D: Drive, S: Source, T: Sink, P: Sink>(
     system: &mut System<'_, '_, '_, '_, '_, '_, D, S, T, P>,
     title: &Title,
     bytes: &[u8],
-) -> Option<Told>
+) -> Option<Answered>
     requires { IsReady D.contents D.count system.old }
     ensures { IsSome result → IsReady D.contents D.count system.new }
 {
     if bytes.len() > 100 {
-        return Some(Told::No);
+        return Some(Answered::No);
     }
-    told_of(system.store(title, FileKind::Text, bytes))
+    answer_of(system.store(title, FileKind::Text, bytes))
 }
 
 // Makes a call on the objects; `None` where one has failed.
 fn stream<D: Drive, S: Source, T: Sink, P: Sink>(
     system: &mut System<'_, '_, '_, '_, '_, '_, D, S, T, P>,
     request: Request,
-) -> Option<Told>
+) -> Option<Answered>
     requires { IsReady D.contents D.count system.old }
     ensures { IsSome result → IsReady D.contents D.count system.new }
 {
     match request {
         Request::Take => match system.take() {
-            Next::Byte(byte) => Some(Told::Number(u32::from(byte))),
-            Next::End => Some(Told::No),
+            Next::Byte(byte) => Some(Answered::Number(u32::from(byte))),
+            Next::End => Some(Answered::No),
             Next::Failed => None,
         },
         Request::Show(text) => {
             if system.show(text.as_bytes()) {
-                Some(Told::Yes)
+                Some(Answered::Yes)
             } else {
                 None
             }
         }
         Request::PrintOut(text) => {
             if system.print_out(text.as_bytes()) {
-                Some(Told::Yes)
+                Some(Answered::Yes)
             } else {
                 None
             }
         }
         Request::FreshLine => {
             if system.fresh_line() {
-                Some(Told::Yes)
+                Some(Answered::Yes)
             } else {
                 None
             }
         }
         Request::Due => Some(truth_of(system.due())),
         Request::Slot(i) => Some(file_of(system.slot(i))),
-        Request::Free => Some(Told::Number(system.free())),
-        _ => Some(Told::No),
+        Request::Free => Some(Answered::Number(system.free())),
+        _ => Some(Answered::No),
     }
 }
 
@@ -191,7 +191,7 @@ fn make<D: Drive, S: Source, T: Sink, P: Sink>(
     system: &mut System<'_, '_, '_, '_, '_, '_, D, S, T, P>,
     request: Request,
     room: &mut [u8],
-) -> Option<Told>
+) -> Option<Answered>
     requires ready { IsReady D.contents D.count system.old }
     requires room { most_bytes ≤ length room.old }
     ensures ready { IsSome result → IsReady D.contents D.count system.new }
@@ -202,10 +202,10 @@ fn make<D: Drive, S: Source, T: Sink, P: Sink>(
         Request::Page(text, i) => first_byte(system, &title(text)?, i),
         Request::Whole(text) => whole(system, &title(text)?, room),
         Request::Store(text, bytes) => store(system, &title(text)?, bytes.as_bytes()),
-        Request::Delete(text) => told_of(system.delete(&title(text)?)),
-        Request::Rename(old, new) => told_of(system.rename(&title(old)?, &title(new)?)),
-        Request::Protect(text) => told_of(system.protect(&title(text)?)),
-        Request::Release(text) => told_of(system.release(&title(text)?)),
+        Request::Delete(text) => answer_of(system.delete(&title(text)?)),
+        Request::Rename(old, new) => answer_of(system.rename(&title(old)?, &title(new)?)),
+        Request::Protect(text) => answer_of(system.protect(&title(text)?)),
+        Request::Release(text) => answer_of(system.release(&title(text)?)),
         other => stream(system, other),
     }
 }
@@ -213,7 +213,7 @@ fn make<D: Drive, S: Source, T: Sink, P: Sink>(
 /// How many of the calls tell what the table says, from the first on. No call is made after one that does not.
 pub(crate) fn answered<D: Drive, S: Source, T: Sink, P: Sink>(
     system: &mut System<'_, '_, '_, '_, '_, '_, D, S, T, P>,
-    table: &[(Request, Told)],
+    table: &[(Request, Answered)],
     room: &mut [u8],
 ) -> usize
     requires ready { IsReady D.contents D.count system.old }

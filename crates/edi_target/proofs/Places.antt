@@ -7,7 +7,7 @@ use Rattle.std.proofs.lemmas.Bool.{eqb-true, eqb-false, ltb-true, ltb-false}
 use Rattle.std.specs.Prelude.{◌==◌, nat_lt}
 use Rattle.edi_target.specs.Op.{Branch, Instruction}
 use Rattle.edi_target.specs.Decode.{decode}
-use Rattle.edi_target.specs.Check.{MarkStarts, Start, Way, begins, first_fault, is_marked, is_start, jump_fault, keeps, operation_fault, or_else}
+use Rattle.edi_target.specs.Check.{StartsAreSet, Start, Way, begins, first_fault, is_set, is_start, jump_fault, keeps, operation_fault, or_else}
 use Rattle.edi_target.specs.Check.{starts_from, starts_of, targets_fault, unless}
 use Rattle.edi_target.specs.View.{Found}
 use Rattle.edi_target.specs.declared.code_fault.CodeFault.{CodeFault}
@@ -63,7 +63,7 @@ starts_broken words at e l =
 pub starts_end : (words : List ℕ) (at : ℕ) → length words ≤ at → starts_from (drop at words) at 0 ≡ []
 starts_end words at l = ap (λ (ws : List ℕ). starts_from ws at 0) (drop_all at words l)
 
--- ---- the first pass: operations, and marks
+-- ---- the first pass: operations, and flags
 
 pub operation_step : (q : Bool) (words : List ℕ) (at next : ℕ) (op : Instruction) → decode (drop at words) ≡ Some (op, next - at) → at < next
     → next ≤ length words → first_fault (operation_fault q) (starts_from (drop at words) at 0) ≡ or_else
@@ -77,80 +77,80 @@ operation_broken q words at e l = ap (first_fault (operation_fault q)) (starts_b
 pub operation_end : (q : Bool) (words : List ℕ) (at : ℕ) → length words ≤ at → first_fault (operation_fault q) (starts_from (drop at words) at 0) ≡ None
 operation_end q words at l = ap (first_fault (operation_fault q)) (starts_end words at l)
 
--- an address is marked, or an instruction starts there in the words from `at` on
-pub Marks : List ℕ → List Bool → ℕ → Type 0
-Marks words marks at = (a : ℕ) → is_start (starts_of words) a ≡ (is_marked marks a || is_start (starts_from (drop at words) at 0) a)
+-- an address is set, or an instruction starts there in the words from `at` on
+pub Flags : List ℕ → List Bool → ℕ → Type 0
+Flags words flags at = (a : ℕ) → is_start (starts_of words) a ≡ (is_set flags a || is_start (starts_from (drop at words) at 0) a)
 
-pub marks_clear : (words : List ℕ) (marks : List Bool) → ((a : ℕ) → is_marked marks a ≡ false) → Marks words marks 0
-unfolding Marks
-marks_clear words marks c = λ a. ap (λ (b : Bool). b || is_start (starts_of words) a) (sym (c a))
+pub flags_clear : (words : List ℕ) (flags : List Bool) → ((a : ℕ) → is_set flags a ≡ false) → Flags words flags 0
+unfolding Flags
+flags_clear words flags c = λ a. ap (λ (b : Bool). b || is_start (starts_of words) a) (sym (c a))
 
-mark_one : (b same rest : Bool) → (b || (same || rest)) ≡ ((same || b) || rest)
-mark_one true true rest = refl
-mark_one true false rest = refl
-mark_one false true rest = refl
-mark_one false false rest = refl
+flag_one : (b same rest : Bool) → (b || (same || rest)) ≡ ((same || b) || rest)
+flag_one true true rest = refl
+flag_one true false rest = refl
+flag_one false true rest = refl
+flag_one false false rest = refl
 
-marked_one : (marks : List Bool) (at a : ℕ) → at < length marks → ((at == a) || is_marked marks a) ≡ is_marked (set marks at true) a
-marked_one marks at a l = by_test (at == a) refl
+set_one : (flags : List Bool) (at a : ℕ) → at < length flags → ((at == a) || is_set flags a) ≡ is_set (set flags at true) a
+set_one flags at a l = by_test (at == a) refl
   where
-    by_test : (b : Bool) → (at == a) ≡ b → (b || is_marked marks a) ≡ is_marked (set marks at true) a
-    by_test true e = sym (ap (λ (k : ℕ). get_or (set marks at true) k false) (sym (eqb-true at a e)) ∙ get_or-set_same marks at true false l)
-    by_test false e = sym (get_or-set_other marks at a true false (λ same. eqb-false at a e (sym same)))
+    by_test : (b : Bool) → (at == a) ≡ b → (b || is_set flags a) ≡ is_set (set flags at true) a
+    by_test true e = sym (ap (λ (k : ℕ). get_or (set flags at true) k false) (sym (eqb-true at a e)) ∙ get_or-set_same flags at true false l)
+    by_test false e = sym (get_or-set_other flags at a true false (λ same. eqb-false at a e (sym same)))
 
-pub marks_step : (words : List ℕ) (marks : List Bool) (at next : ℕ) (op : Instruction) → decode (drop at words) ≡ Some (op, next - at) → at < next
-    → next ≤ length words → at < length marks → Marks words marks at → Marks words (set marks at true) next
-unfolding Marks
-marks_step words marks at next op e l m r k = λ a.
+pub flags_step : (words : List ℕ) (flags : List Bool) (at next : ℕ) (op : Instruction) → decode (drop at words) ≡ Some (op, next - at) → at < next
+    → next ≤ length words → at < length flags → Flags words flags at → Flags words (set flags at true) next
+unfolding Flags
+flags_step words flags at next op e l m r k = λ a.
     k a
-    ∙ ap (λ (s : List Start). is_marked marks a || is_start s a) (starts_step words at next op e l m)
-    ∙ mark_one (is_marked marks a) (at == a) (is_start (starts_from (drop next words) next 0) a)
-    ∙ ap (λ (b : Bool). b || is_start (starts_from (drop next words) next 0) a) (marked_one marks at a r)
+    ∙ ap (λ (s : List Start). is_set flags a || is_start s a) (starts_step words at next op e l m)
+    ∙ flag_one (is_set flags a) (at == a) (is_start (starts_from (drop next words) next 0) a)
+    ∙ ap (λ (b : Bool). b || is_start (starts_from (drop next words) next 0) a) (set_one flags at a r)
 
 or_false : (b : Bool) → (b || false) ≡ b
 or_false true = refl
 or_false false = refl
 
-pub marks_end : (words : List ℕ) (marks : List Bool) (at : ℕ) → length words ≤ at → Marks words marks at → MarkStarts marks words
-unfolding Marks
-marks_end words marks at l k = λ a. sym (k a ∙ ap (λ (s : List Start). is_marked marks a || is_start s a) (starts_end words at l)
-    ∙ or_false (is_marked marks a))
+pub flags_end : (words : List ℕ) (flags : List Bool) (at : ℕ) → length words ≤ at → Flags words flags at → StartsAreSet flags words
+unfolding Flags
+flags_end words flags at l k = λ a. sym (k a ∙ ap (λ (s : List Start). is_set flags a || is_start s a) (starts_end words at l)
+    ∙ or_false (is_set flags a))
 
-pub none_marked : (n a : ℕ) → is_marked (replicate n false) a ≡ false
-none_marked zero a = refl
-none_marked (suc n) zero = refl
-none_marked (suc n) (suc a) = none_marked n a
+pub none_set : (n a : ℕ) → is_set (replicate n false) a ≡ false
+none_set zero a = refl
+none_set (suc n) zero = refl
+none_set (suc n) (suc a) = none_set n a
 
 -- what the first pass has done before the address `at`
-pub record IsMarkedTo (words : List ℕ) (marks : List Bool) (at : ℕ) : Type 0 where
+pub record IsSetTo (words : List ℕ) (flags : List Bool) (at : ℕ) : Type 0 where
   pub within : at ≤ length words
-  pub room : length marks ≡ length words
+  pub room : length flags ≡ length words
   pub faults : first_fault (operation_fault true) (starts_of words) ≡ first_fault (operation_fault true) (starts_from (drop at words) at 0)
-  pub marks_are : Marks words marks at
+  pub flags_are : Flags words flags at
 
-pub marked_first : (words : List ℕ) (marks : List Bool) → length marks ≡ length words → ((a : ℕ) → is_marked marks a ≡ false) → IsMarkedTo words marks 0
-marked_first words marks l c = record { within = omega arith; room = l; faults = refl; marks_are = marks_clear words marks c }
+pub set_first : (words : List ℕ) (flags : List Bool) → length flags ≡ length words → ((a : ℕ) → is_set flags a ≡ false) → IsSetTo words flags 0
+set_first words flags l c = record { within = omega arith; room = l; faults = refl; flags_are = flags_clear words flags c }
 
-pub marked_next : (words : List ℕ) (marks : List Bool) (at next : ℕ) (op : Instruction) → Found words at op next → at < next → next ≤ length words
-    → IsMarkedTo words marks at → IsMarkedTo words (set marks at true) next
-marked_next words marks at next op f l m k =
+pub set_next : (words : List ℕ) (flags : List Bool) (at next : ℕ) (op : Instruction) → Found words at op next → at < next → next ≤ length words
+    → IsSetTo words flags at → IsSetTo words (set flags at true) next
+set_next words flags at next op f l m k =
     record {
       within = m;
-      room = length-set marks at true ∙ k.room;
+      room = length-set flags at true ∙ k.room;
       faults = k.faults ∙ operation_step true words at next op f.decoded l m;
-      marks_are = marks_step words marks at next op f.decoded l m (omega (arith, k.room)) k.marks_are;
+      flags_are = flags_step words flags at next op f.decoded l m (omega (arith, k.room)) k.flags_are;
     }
 
-pub marked_all : (words : List ℕ) (marks : List Bool) (at : ℕ) → length words ≤ at → IsMarkedTo words marks at → MarkStarts marks words
-marked_all words marks at l k = marks_end words marks at l k.marks_are
+pub set_all : (words : List ℕ) (flags : List Bool) (at : ℕ) → length words ≤ at → IsSetTo words flags at → StartsAreSet flags words
+set_all words flags at l k = flags_end words flags at l k.flags_are
 
-pub marked_fault : (words : List ℕ) (marks : List Bool) (at : ℕ) → decode (drop at words) ≡ None → at < length words → IsMarkedTo words marks at
+pub set_fault : (words : List ℕ) (flags : List Bool) (at : ℕ) → decode (drop at words) ≡ None → at < length words → IsSetTo words flags at
     → Some (fault.Operation at (get_or words at 0)) ≡ first_fault (operation_fault true) (starts_of words)
-marked_fault words marks at e l k = sym (k.faults ∙ operation_broken true words at e l)
+set_fault words flags at e l k = sym (k.faults ∙ operation_broken true words at e l)
 
-pub marked_none : (words : List ℕ) (marks : List Bool) (at : ℕ) → length words ≤ at → IsMarkedTo words marks at → None ≡ first_fault (operation_fault true)
+pub set_none : (words : List ℕ) (flags : List Bool) (at : ℕ) → length words ≤ at → IsSetTo words flags at → None ≡ first_fault (operation_fault true)
     (starts_of words)
-marked_none words marks at l k = sym (k.faults ∙ operation_end true words at l)
+set_none words flags at l k = sym (k.faults ∙ operation_end true words at l)
 
 -- ---- the second pass: where instructions lead
 
@@ -187,8 +187,8 @@ jump_end words all starts at e = by_test (nat_lt at (length words)) refl
 
 -- ---- branches
 
-pub branches_begin : (words : List ℕ) (marks : List Bool) (starts : List Start) (at : ℕ) (bs : List Branch)
-    → ((a : ℕ) → is_marked marks a ≡ is_start starts a) → first_fault (λ (b : Branch). unless (is_marked marks b.address) (fault.Jump at b.address)) bs
+pub branches_begin : (words : List ℕ) (flags : List Bool) (starts : List Start) (at : ℕ) (bs : List Branch)
+    → ((a : ℕ) → is_set flags a ≡ is_start starts a) → first_fault (λ (b : Branch). unless (is_set flags b.address) (fault.Jump at b.address)) bs
     ≡ first_fault (λ (t : Way × ℕ). unless (keeps words starts at t) (fault.Jump at t.1)) (map (λ (b : Branch). (begins, b.address)) bs)
-branches_begin words marks starts at [] m = refl
-branches_begin words marks starts at (b ∷ bs) m = rw (m b.address, branches_begin words marks starts at bs m) refl
+branches_begin words flags starts at [] m = refl
+branches_begin words flags starts at (b ∷ bs) m = rw (m b.address, branches_begin words flags starts at bs m) refl

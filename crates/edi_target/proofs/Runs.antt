@@ -10,13 +10,13 @@ use Rattle.edi_calls.specs.Names.{Name, Table, same, find, with_at, without}
 use Rattle.edi_calls.specs.Outcome as outcome
 use Rattle.edi_calls.specs.Outcome.{Ending, Outcome, outcome_of}
 use Rattle.edi_target.specs.Op.{Instruction, Branch}
-use Rattle.edi_calls.specs.Ready.{child, parent_of, all_marked, stays, joins, Taking, nobody, taking, take_next}
+use Rattle.edi_calls.specs.Ready.{child, parent_of, all_marked, stays, joins, Taking, nobody, taking, take_next, freed}
 use Rattle.edi_target.specs.Effect.{Local, Turn, entering, leaving, looping, arriving, again, forking, exiting, finishing, Effect, goes, released, asks, due}
 use Rattle.edi_target.specs.Effect.{fails, bad}
 use Rattle.edi_target.specs.Perform.{perform}
 use Rattle.edi_target.specs.Mach.{Running, Answer, on, behind, turned, over, answer_at, called, turn_from, settled, effect_at, local_step, Standing, ready}
 use Rattle.edi_target.specs.Mach.{at_when, waiting, Activity, Machine, Stepped, went, ended, running_of, activity_of, back, with_child, with_children}
-use Rattle.edi_target.specs.Mach.{awaits, freed, one_less, notified, at_turn, kernel, is_first, step_of, step, MachineRun, unfinished, finished, go_on}
+use Rattle.edi_target.specs.Mach.{awaits, one_less, notified, at_turn, kernel, is_first, step_of, step, MachineRun, unfinished, finished, go_on}
 use Rattle.edi_target.specs.Mach.{after_step, run, entered}
 use Rattle.edi_target.specs.Laws.{MovesUp, StandsBelow, EveryRunEnds, RunsAreDetermined}
 use Rattle.edi_target.specs.Fetch as code

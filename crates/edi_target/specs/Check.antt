@@ -68,13 +68,13 @@ starts_of words = starts_from words 0 0
 abbrev pub is_start : List Start → ℕ → Bool
 is_start starts at = list_any (λ (s : Start). s.at == at) starts
 
--- the mark of an address, in a list with a mark for each address; behind the list nothing is marked
-abbrev pub is_marked : List Bool → ℕ → Bool
-is_marked marks at = slice_index_or marks at false
+-- the flag of an address, in a list with a flag for each address; behind the list none is set
+abbrev pub is_set : List Bool → ℕ → Bool
+is_set flags at = slice_index_or flags at false
 
--- the marks are those of the instruction starts of the words
-abbrev pub MarkStarts : List Bool → List ℕ → Type 0
-MarkStarts marks words = (at : ℕ) → is_marked marks at ≡ is_start (starts_of words) at
+-- the flags that are set are those of the instruction starts of the words
+abbrev pub StartsAreSet : List Bool → List ℕ → Type 0
+StartsAreSet flags words = (at : ℕ) → is_set flags at ≡ is_start (starts_of words) at
 
 abbrev pub is_quiet : Instruction → Bool
 is_quiet (quiet target) = true

@@ -14,7 +14,7 @@ use Rattle.edi_calls.specs.Outcome.{Ending, Outcome, outcome_of}
 use Rattle.edi_target.specs.Op as op
 use Rattle.edi_target.specs.Op.{Instruction, Branch}
 use Rattle.edi_store.specs.Memory.{written, zero_memory}
-use Rattle.edi_calls.specs.Ready.{child, parent_of, children, all_marked, Next, stays, joins, Taking, nobody, taking, take_next}
+use Rattle.edi_calls.specs.Ready.{child, parent_of, children, all_marked, Next, stays, joins, Taking, nobody, taking, take_next, freed}
 use Rattle.edi_target.specs.Effect.{Local, Turn, entering, leaving, looping, arriving, again, forking, exiting, finishing, Effect, goes, released, asks, due}
 use Rattle.edi_target.specs.Effect.{fails, bad}
 use Rattle.edi_target.specs.Perform.{perform}
@@ -184,10 +184,6 @@ with_children p f i base at share (branch ∷ branches) m =
 abbrev pub awaits : ℕ → Standing
 awaits zero = ready
 awaits (suc n) = waiting (suc n)
-
-abbrev pub freed : ℕ → Name → Next
-freed zero p = joins (p ∷ [])
-freed (suc n) p = joins []
 
 abbrev pub one_less : Machine → Name → Activity → Standing → Stepped
 one_less m p a (waiting n) =

@@ -4,6 +4,7 @@ use Rattle.std.specs.Prelude.{ℕ, zero, suc, ◌+◌, ◌-◌, ◌*◌, ◌/◌
 use Rattle.std.specs.Prelude.{length, replicate, Option, Some, None, ℤ, ◌-ℤ◌, int_lt, int_le, nat_abs}
 use Rattle.std.specs.List.{list_any}
 use Rattle.std.specs.Str.{bytes_eq}
+use Rattle.edi_calls.specs.Forks.{most_processes, equal_share}
 use Rattle.edi_calls.specs.declared.kinds.Cause.TheVariants as cause
 use Rattle.edi_calls.specs.Calls.{argument_words, answer_words}
 use Rattle.edi_word.specs.Words.{signed, word_add, word_sub, word_mul, word_div, word_modulo}
@@ -104,13 +105,9 @@ unheld line l effect = if nat_lt 0 l.held then fails cause.Held line else effect
 abbrev pub in_phase : Local → Effect → Effect
 in_phase l effect = needs (nat_eq l.held 1) effect
 
--- as many processes as may live at once
-abbrev pub most_processes : ℕ
-most_processes = 32
-
 -- the share of each of n branches in what is left of the segment behind the frame
 abbrev pub share_of : Local → ℕ → ℕ
-share_of l n = (l.last - l.end) / n
+share_of l n = equal_share (l.last - l.end) n
 
 abbrev pub exceeds : ℕ → Branch → Bool
 exceeds share branch = nat_lt share branch.need

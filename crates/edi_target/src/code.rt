@@ -5,7 +5,7 @@ ghost use Rattle.edi_target.specs.Check.{CodeParts, IsFault, IsSound, parts_faul
 
 use crate::code_fault::CodeFault;
 use crate::header::header_fault;
-use crate::starts::mark_starts;
+use crate::starts::set_starts;
 use crate::targets::{entry_fault, jump_fault};
 use arrayvec::ArrayVec;
 use std::alloc::Global;
@@ -92,7 +92,7 @@ impl Code {
     }
 }
 
-// The first fault of the words, or want of memory for the marks of the instruction starts.
+// The first fault of the words, or want of memory for the flags of the instruction starts.
 #[tactic(auto, unfolding(crate::specs::Check::words_fault))]
 fn words_fault(alloc: Global, words: &[u16], entry: u32, count: usize) -> Option<CodeFault>
     requires size { length words.now < 2 ^ 32 }
@@ -103,7 +103,7 @@ fn words_fault(alloc: Global, words: &[u16], entry: u32, count: usize) -> Option
     let Ok(mut starts) = vec![in alloc; false; words.len()] else {
         return Some(CodeFault::NoMemory);
     };
-    if let Some(fault) = mark_starts(words, &mut starts) {
+    if let Some(fault) = set_starts(words, &mut starts) {
         return Some(fault);
     }
     if let Some(fault) = jump_fault(words, &starts) {

@@ -3,7 +3,7 @@
 ghost use Rattle.std.specs.Prelude.{◌≡◌, ◌<◌, ◌^◌, ℕ, None, drop, length};
 ghost use Rattle.edi_target.specs.Op.{Branch};
 ghost use Rattle.edi_target.specs.Decode.{branches_of, decode};
-ghost use Rattle.edi_target.specs.Check.{MarkStarts, entry_fault, first_fault, is_entry, is_marked, is_program, jump_fault, or_else, starts_of};
+ghost use Rattle.edi_target.specs.Check.{StartsAreSet, entry_fault, first_fault, is_entry, is_set, is_program, jump_fault, or_else, starts_of};
 ghost use Rattle.edi_target.specs.Check.{targets_fault, unless};
 ghost use Rattle.edi_target.specs.View.{instruction_of};
 ghost use Rattle.edi_target.specs.declared.code_fault.CodeFault.TheVariants as fault;
@@ -17,7 +17,7 @@ use crate::starts::is_start;
 #[tactic(auto, using(crate::proofs::Places::jump_found, crate::proofs::Places::jump_end))]
 pub fn jump_fault(words: &[u16], starts: &[bool]) -> Option<CodeFault>
     requires size { length words.now < 2 ^ 32 }
-    requires marked { MarkStarts starts.now words.now }
+    requires starts { StartsAreSet starts.now words.now }
     ensures first { result ≡ first_fault (jump_fault words.now (starts_of words.now)) (starts_of words.now) }
 {
     let mut at = 0;
@@ -43,7 +43,7 @@ fn unless(keeps: bool, at: u32, target: u32) -> Option<CodeFault>
 
 fn targets_fault(words: &[u16], starts: &[bool], at: u32, op: &Op<'_>) -> Option<CodeFault>
     requires size { length words.now < 2 ^ 32 }
-    requires marked { MarkStarts starts.now words.now }
+    requires starts { StartsAreSet starts.now words.now }
     ensures { result ≡ targets_fault words.now (starts_of words.now) at (instruction_of op.now) }
 {
     match *op {
@@ -67,7 +67,7 @@ fn targets_fault(words: &[u16], starts: &[bool], at: u32, op: &Op<'_>) -> Option
 
 // The first branch that does not begin at an instruction start.
 fn branches_fault(starts: &[bool], at: u32, branches: &[u16]) -> Option<CodeFault>
-    ensures { result ≡ first_fault (λ (b : Branch). unless (is_marked starts.now b.address) (fault.Jump at b.address)) (branches_of branches.now) }
+    ensures { result ≡ first_fault (λ (b : Branch). unless (is_set starts.now b.address) (fault.Jump at b.address)) (branches_of branches.now) }
 {
     let mut rest = branches;
     while let [_, high, low, behind @ ..] = rest {
@@ -95,7 +95,7 @@ fn is_entry(words: &[u16], at: u32) -> bool
 /// three words for each parameter, must start there.
 pub fn entry_fault(words: &[u16], starts: &[bool], entry: u32, count: usize) -> Option<CodeFault>
     requires size { length words.now < 2 ^ 32 }
-    requires marked { MarkStarts starts.now words.now }
+    requires starts { StartsAreSet starts.now words.now }
     requires number { count < 2 ^ 32 }
     ensures fault { result ≡ entry_fault words.now (starts_of words.now) entry count }
 {

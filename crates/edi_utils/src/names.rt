@@ -12,12 +12,12 @@ static NAMES: [&str; 45] = [
     "CALLP", "PROC", "RETURN", "HALT", "WHEN", "RETRY", "DONE", "COBEGIN", "EXIT", "QUIET",
 ];
 
-// The text of a table at a place; nothing behind its end.
-fn text_at(table: &[&'static str], place: usize) -> &'static str
-    ensures { result.now ≡ slice_index_or (texts_of table.now) place [] }
+// The text of a table at an index; nothing behind its end.
+fn text_at(table: &[&'static str], index: usize) -> &'static str
+    ensures { result.now ≡ slice_index_or (texts_of table.now) index [] }
 {
-    if place < table.len() {
-        table[place]
+    if index < table.len() {
+        table[index]
     } else {
         ""
     }

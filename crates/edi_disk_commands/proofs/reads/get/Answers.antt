@@ -23,15 +23,15 @@ pub returns-clause-means : goal.returns-clause-means
 returns-clause-means g c =
     let old = g.F.Files.contents c.args.files.now in
     let new = g.F.Files.contents c.keep.new.self in
-    let held = g.D.Drive.contents c.args.drive.now in
-    let holds = g.D.Drive.contents c.read_on.new.drive in
+    let was = g.D.Drive.contents c.args.drive.now in
+    let now = g.D.Drive.contents c.read_on.new.drive in
     let into = c.read_on.new.into in
     let rest = drop (length into) c.in-Ok.into.items in
     let same : length into ≡ c.in-Ok.into.len = search rules in
     let back : take c.in-Ok.into.len (into ++ rest) ≡ into = ap (λ k. take k (into ++ rest)) (sym same) ∙ take-append_seam into rest in
-    subst (λ s. MeansOnDisk (get c.args.title.now c.args.file.now) s old new held holds) (sym c.kept.ensures.exact)
-    (subst (λ title. MeansOnDisk (get title c.args.file.now) (status_kept c.keep.result) old new held holds) c.title_of-title.ensures.exact
-    (has_read c.keep.result c.in-Ok-read_on.count c.title_of-title.result c.args.file.now c.read_on.new.into c.split_at.result.0.now old new held holds
+    subst (λ s. MeansOnDisk (get c.args.title.now c.args.file.now) s old new was now) (sym c.kept.ensures.exact)
+    (subst (λ title. MeansOnDisk (get title c.args.file.now) (status_kept c.keep.result) old new was now) c.title_of-title.ensures.exact
+    (has_read c.keep.result c.in-Ok-read_on.count c.title_of-title.result c.args.file.now c.read_on.new.into c.split_at.result.0.now old new was now
     (record {
       files = c.keep.ensures.leaves;
       bytes_are = c.split_at.ensures.front ∙ ap (λ x. take c.in-Ok-read_on.count x) (c.deref.ensures.value ∙ back);

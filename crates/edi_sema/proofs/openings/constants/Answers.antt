@@ -10,6 +10,6 @@ use Rattle.edi_sema.proofs.openings.constants.Goals as goal
 pub returns-clause-comes : goal.returns-clause-comes
 returns-clause-comes c =
     let env = environment c.args.known.now in
-    framed_answer env (environment c.const_list.new.known) c.const_list.result (const_list c.args.marked (const_list_of c.args.list.now) env)
+    framed_answer env (environment c.const_list.new.known) c.const_list.result (const_list c.args.export (const_list_of c.args.list.now) env)
     c.const_list.ensures.exact
-    (const_list_framed c.args.marked (const_list_of c.args.list.now) (frame env) env refl) c.const_list.ensures.proper c.requires.stands
+    (const_list_framed c.args.export (const_list_of c.args.list.now) (frame env) env refl) c.const_list.ensures.proper c.requires.stands

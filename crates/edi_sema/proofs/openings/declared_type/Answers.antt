@@ -10,6 +10,6 @@ use Rattle.edi_sema.proofs.openings.declared_type.Goals as goal
 pub returns-clause-comes : goal.returns-clause-comes
 returns-clause-comes c =
     let env = environment c.args.known.now in
-    framed_answer env (environment c.type_decl.new.known) c.type_decl.result (type_decl c.args.marked (type_decl_of c.args.declared.now) env)
+    framed_answer env (environment c.type_decl.new.known) c.type_decl.result (type_decl c.args.export (type_decl_of c.args.declared.now) env)
     c.type_decl.ensures.exact
-    (type_decl_framed c.args.marked (type_decl_of c.args.declared.now) (frame env) env refl) c.type_decl.ensures.proper c.requires.stands
+    (type_decl_framed c.args.export (type_decl_of c.args.declared.now) (frame env) env refl) c.type_decl.ensures.proper c.requires.stands

@@ -10,5 +10,5 @@ use Rattle.edi_sema.proofs.openings.variables.Goals as goal
 pub returns-clause-comes : goal.returns-clause-comes
 returns-clause-comes c =
     let env = environment c.args.known.now in
-    framed_answer env (environment c.var_list.new.known) c.var_list.result (var_list c.args.marked (var_list_of c.args.list.now) env) c.var_list.ensures.exact
-    (var_list_framed c.args.marked (var_list_of c.args.list.now) (frame env) env refl) c.var_list.ensures.proper c.requires.stands
+    framed_answer env (environment c.var_list.new.known) c.var_list.result (var_list c.args.export (var_list_of c.args.list.now) env) c.var_list.ensures.exact
+    (var_list_framed c.args.export (var_list_of c.args.list.now) (frame env) env refl) c.var_list.ensures.proper c.requires.stands

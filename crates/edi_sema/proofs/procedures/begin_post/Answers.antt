@@ -38,7 +38,7 @@ returns-clause-exact c =
     sym (given (unwrap_or c.begun_named-found.result (length env.blocks)) c.in_ok-block.block c.in_ok-block.ensures.exact) in
     let headed : Headed = record { env = environment c.heading_parts.new.known; asks = asked_of c.in_ok-asked.asked } in
     (subst (JudgedAnswers (λ _. environment c.complete.new.known) c.complete.result)
-    (sym (post_stated c.args.marked (heading_of c.args.heading.now) name env headed c.begun_named-found.result c.in_ok-block.block
+    (sym (post_stated c.args.export (heading_of c.args.heading.now) name env headed c.begun_named-found.result c.in_ok-block.block
     (sym (name_seen c.args.heading.now)) found n c.in_ok-asked.ensures.exact))
     c.complete.ensures.exact)
 
@@ -66,9 +66,9 @@ returns-clause-begins c =
     let n : c.in_ok-block.block ≡ unwrap_or c.begun_named-found.result (length env.blocks) =
     sym (given (unwrap_or c.begun_named-found.result (length env.blocks)) c.in_ok-block.block c.in_ok-block.ensures.exact) in
     let headed : Headed = record { env = environment c.heading_parts.new.known; asks = asked_of c.in_ok-asked.asked } in
-    inner_answer env (environment c.complete.new.known) c.complete.result (begin_post c.args.marked (heading_of c.args.heading.now) env)
+    inner_answer env (environment c.complete.new.known) c.complete.result (begin_post c.args.export (heading_of c.args.heading.now) env)
     (subst (JudgedAnswers (λ _. environment c.complete.new.known) c.complete.result)
-    (sym (post_stated c.args.marked (heading_of c.args.heading.now) name env headed c.begun_named-found.result c.in_ok-block.block
+    (sym (post_stated c.args.export (heading_of c.args.heading.now) name env headed c.begun_named-found.result c.in_ok-block.block
     (sym (name_seen c.args.heading.now)) found n c.in_ok-asked.ensures.exact))
     c.complete.ensures.exact)
-    (post_inner c.args.marked (heading_of c.args.heading.now) env) c.complete.ensures.proper
+    (post_inner c.args.export (heading_of c.args.heading.now) env) c.complete.ensures.proper

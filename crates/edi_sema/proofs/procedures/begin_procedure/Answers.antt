@@ -30,7 +30,7 @@ returns-clause-exact c =
     omega (arith, given c.len.result c.in_ok-block.block c.in_ok-block.ensures.exact, c.len.ensures, blocks.ok.0, length-map blocks.items block_of) in
     let headed : Headed = record { env = environment c.heading_parts.new.known; asks = asked_of c.in_ok-asked.asked } in
     subst (JudgedAnswers (λ _. environment c.begin_block_of.new.known) c.begin_block_of.result)
-    (sym (begin_stated c.args.marked (heading_of c.args.heading.now) (out-Heading c.args.heading.now).name env headed c.kind_of-kind.result
+    (sym (begin_stated c.args.export (heading_of c.args.heading.now) (out-Heading c.args.heading.now).name env headed c.kind_of-kind.result
     c.in_ok-block.block n
     (sym (name_seen c.args.heading.now)) c.in_ok-asked.ensures.exact c.kind_of-kind.ensures.exact))
     c.begin_block_of.ensures.exact
@@ -42,10 +42,10 @@ returns-clause-begins c =
     let n : c.in_ok-block.block ≡ length env.blocks =
     omega (arith, given c.len.result c.in_ok-block.block c.in_ok-block.ensures.exact, c.len.ensures, blocks.ok.0, length-map blocks.items block_of) in
     let headed : Headed = record { env = environment c.heading_parts.new.known; asks = asked_of c.in_ok-asked.asked } in
-    inner_answer env (environment c.begin_block_of.new.known) c.begin_block_of.result (begin_procedure c.args.marked (heading_of c.args.heading.now) env)
+    inner_answer env (environment c.begin_block_of.new.known) c.begin_block_of.result (begin_procedure c.args.export (heading_of c.args.heading.now) env)
     (subst (JudgedAnswers (λ _. environment c.begin_block_of.new.known) c.begin_block_of.result)
-    (sym (begin_stated c.args.marked (heading_of c.args.heading.now) (out-Heading c.args.heading.now).name env headed c.kind_of-kind.result
+    (sym (begin_stated c.args.export (heading_of c.args.heading.now) (out-Heading c.args.heading.now).name env headed c.kind_of-kind.result
     c.in_ok-block.block n
     (sym (name_seen c.args.heading.now)) c.in_ok-asked.ensures.exact c.kind_of-kind.ensures.exact))
     c.begin_block_of.ensures.exact)
-    (begin_inner c.args.marked (heading_of c.args.heading.now) env) c.begin_block_of.ensures.proper
+    (begin_inner c.args.export (heading_of c.args.heading.now) env) c.begin_block_of.ensures.proper

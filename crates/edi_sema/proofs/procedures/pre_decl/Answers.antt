@@ -18,7 +18,7 @@ returns-clause-exact c =
     let b : Begun = record { name = c.in_ok-name.name; block = c.in_ok-block.block } in
     subst (JudgedAnswers (λ _. environment c.begin_split.new.known) c.begin_split.result)
     (ap (λ e. gives (with_begun (e.begun ++ b ∷ []) e)) c.leave.ensures.exact
-    ∙ sym (pre_stated c.args.marked (heading_of c.args.heading.now) c.in_ok-name.name env inside c.in_ok-block.block c.in_ok-block.ensures.exact
+    ∙ sym (pre_stated c.args.export (heading_of c.args.heading.now) c.in_ok-name.name env inside c.in_ok-block.block c.in_ok-block.ensures.exact
     (c.in_ok-name.ensures.ok ∙ sym (name_seen c.args.heading.now)) c.in_ok-block.ensures.number c.in_ok-block.ensures.begins.begun_same))
     c.begin_split.ensures.exact
 
@@ -32,5 +32,5 @@ returns-clause-comes c =
     c.begin_split.ensures.exact
     (subst (λ e. Comes env (with_begun (e.begun ++ b ∷ []) e)) (sym c.leave.ensures.exact)
     (pre_comes env inside b c.requires.stands c.in_ok-block.ensures.begins (subst Proper c.leave.ensures.exact c.leave.ensures.proper)
-    (begun_block c.args.marked (heading_of c.args.heading.now) env inside c.in_ok-block.block c.in_ok-block.ensures.exact c.requires.stands.proper
+    (begun_block c.args.export (heading_of c.args.heading.now) env inside c.in_ok-block.block c.in_ok-block.ensures.exact c.requires.stands.proper
     c.in_ok-block.ensures.number)))

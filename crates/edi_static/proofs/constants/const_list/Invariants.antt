@@ -8,9 +8,9 @@ use Rattle.edi_static.proofs.constants.const_list.Given as goal
 
 abbrev pub invariant-loop-declaration : goal.invariant-loop-declaration
 invariant-loop-declaration l = record {
-  exporting : IsTrue l.marked → IsTrue (in_module l.known.scopes);
+  exporting : IsTrue l.export → IsTrue (in_module l.known.scopes);
   proper : Proper (environment l.known);
   depth : length l.known.scopes ≡ length l.initial.known.scopes;
-  left : const_decls l.marked (listed (drop l.declaration-index l.declaration-items)) (environment l.known) ≡ const_decls l.marked
+  left : const_decls l.export (listed (drop l.declaration-index l.declaration-items)) (environment l.known) ≡ const_decls l.export
       (listed l.declaration-items) (environment l.initial.known);
 }

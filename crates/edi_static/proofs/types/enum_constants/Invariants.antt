@@ -9,11 +9,11 @@ use Rattle.edi_static.proofs.types.enum_constants.Given as goal
 
 abbrev pub invariant-loop-name : goal.invariant-loop-name
 invariant-loop-name l = record {
-  exporting : IsTrue l.marked → IsTrue (in_module l.known.scopes);
+  exporting : IsTrue l.export → IsTrue (in_module l.known.scopes);
   proper : Proper (environment l.known);
   depth : length l.known.scopes ≡ length l.initial.known.scopes;
   fits : (l.of < length l.known.types) × IsTrue (is_elementary l.known.types l.of);
   at : l.ordinal ≡ 1 + l.name-index;
-  left : enum_constants l.marked l.of l.ordinal (listed (drop l.name-index l.name-items)) (environment l.known) ≡ enum_constants l.marked l.of 1
+  left : enum_constants l.export l.of l.ordinal (listed (drop l.name-index l.name-items)) (environment l.known) ≡ enum_constants l.export l.of 1
       (listed l.name-items) (environment l.initial.known);
 }

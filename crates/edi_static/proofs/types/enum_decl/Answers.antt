@@ -16,9 +16,9 @@ returns-clause-exact c =
     let none : map (λ name. name.items) c.new.result.items ≡ [] = search rules in
     subst (JudgedAnswers _ c.enum_constants.result)
     (sym
-    (enum_behind c.args.marked c.args.declared.now.name ns (environment c.args.known.now) (environment c.push_type.new.self) _ c.in_ok-constants.constants
+    (enum_behind c.args.export c.args.declared.now.name ns (environment c.args.known.now) (environment c.push_type.new.self) _ c.in_ok-constants.constants
     c.len-of.result
     (sym (given c.in_ok-constants.ensures.exact) ∙ omega (arith, count (items_of c.args.declared.now.more), c.len.ensures.exact)) c.len-of.ensures.exact none
     c.in_ok-push_type.ensures.exact
-    ∙ ap (λ j. j >>= enum_constants c.args.marked c.len-of.result 0 ns) c.in_ok-declare.ensures.exact))
+    ∙ ap (λ j. j >>= enum_constants c.args.export c.len-of.result 0 ns) c.in_ok-declare.ensures.exact))
     c.enum_constants.ensures.exact

@@ -8,9 +8,9 @@ use Rattle.edi_static.proofs.variables.var_list.Given as goal
 
 abbrev pub invariant-loop-group : goal.invariant-loop-group
 invariant-loop-group l = record {
-  exporting : IsTrue l.marked → IsTrue (in_module l.known.scopes);
+  exporting : IsTrue l.export → IsTrue (in_module l.known.scopes);
   proper : Proper (environment l.known);
   depth : length l.known.scopes ≡ length l.initial.known.scopes;
-  left : variables_of_groups l.marked (listed (map group_of (drop l.group-index l.group-items))) (environment l.known) ≡ variables_of_groups l.marked
+  left : variables_of_groups l.export (listed (map group_of (drop l.group-index l.group-items))) (environment l.known) ≡ variables_of_groups l.export
       (listed (map group_of l.group-items)) (environment l.initial.known);
 }

@@ -8,10 +8,10 @@ use Rattle.edi_static.proofs.variables.variable_group.Given as goal
 
 abbrev pub invariant-loop-name : goal.invariant-loop-name
 invariant-loop-name l = record {
-  exporting : IsTrue l.marked → IsTrue (in_module l.known.scopes);
+  exporting : IsTrue l.export → IsTrue (in_module l.known.scopes);
   proper : Proper (environment l.known);
   depth : length l.known.scopes ≡ length l.initial.known.scopes;
   fits : l.of < length l.known.types;
-  left : variables_named l.marked l.of (listed (drop l.name-index l.name-items)) (environment l.known) ≡ variables_named l.marked l.of (listed l.name-items)
+  left : variables_named l.export l.of (listed (drop l.name-index l.name-items)) (environment l.known) ≡ variables_named l.export l.of (listed l.name-items)
       (environment l.initial.known);
 }

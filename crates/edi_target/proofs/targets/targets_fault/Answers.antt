@@ -8,4 +8,4 @@ pub returns-in-Cobegin : goal.returns-in-Cobegin
 returns-in-Cobegin c =
     let a = c.args in
     rw c.in-Cobegin.is (c.branches_fault.ensures ∙ branches_begin a.words.now a.starts.now (starts_of a.words.now) a.at
-    (branches_of c.in-Cobegin.branches.now) c.requires.marked)
+    (branches_of c.in-Cobegin.branches.now) c.requires.starts)

@@ -1,5 +1,5 @@
 -- Names of processes: a child's name tells its parent, its fork and its number.
-use Rattle.std.proofs.Common.{◌≡◌, ℕ, ◌⊎◌, inl, inr, false, List, [], ◌∷◌, ◌++◌, length, ◌-◌, Option, Some, None, refl, sym, ap, ◌∙◌, arith, append_assoc}
+use Rattle.std.proofs.Common.{◌≡◌, ℕ, ◌<◌, ◌⊎◌, inl, inr, false, List, [], ◌∷◌, ◌++◌, length, ◌-◌, Option, Some, None, refl, sym, ap, ◌∙◌, arith, append_assoc}
 use Rattle.std.proofs.Common.{length-append}
 use Rattle.std.proofs.lemmas.List.{append-nil, take_at}
 use Rattle.edi_calls.specs.Names.{Name}
@@ -56,6 +56,13 @@ same_ends (x ∷ xs) (y ∷ ys) a b c d e =
 -- whose child a child is
 pub parent-child : (p : Name) (f i : ℕ) → parent_of (child p f i) ≡ p
 parent-child p f i = take_at p (f ∷ i ∷ []) (length (child p f i) - 2) (omega (arith, length-append p (f ∷ i ∷ [])))
+
+-- a child's name is not empty: no child is the first process
+pub child_some : (p : Name) (f i : ℕ) → 0 < length (child p f i)
+child_some p f i = omega (arith, length-append p (f ∷ i ∷ []))
+
+pub child_not_first : (p : Name) (f i : ℕ) → child p f i ≡ [] → ⊥
+child_not_first p f i e = let h : length (child p f i) ≡ 0 = ap length e in omega (arith, h, child_some p f i)
 
 -- a name below a child of p is the child, or lies below a name that is
 pub below_child : (p q : Name) (f i g j : ℕ) (rest : List (ℕ × ℕ)) → child p f i ++ flat rest ≡ child q g j →
