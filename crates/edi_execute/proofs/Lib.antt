@@ -1,2 +1,2 @@
 mod Executing
-mod Runs
+pub mod Runs

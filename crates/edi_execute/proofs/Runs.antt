@@ -116,7 +116,7 @@ module _ {D S T P : Type 0} (contents : D → Option (List (List ℕ))) (left : 
       ∙ ap (λ x. all_told contents_with (contents (drive_in after)) (left (input_in after)) (shown (terminal_in after)) (printed x)) are'.printer
 
   -- what is told of the states of the system is told of its objects
-  on_objects : (W : State → State → Type 0) (V : Contents → Contents → Type 0)
+  pub on_objects : (W : State → State → Type 0) (V : Contents → Contents → Type 0)
       → ((x x' : List (List ℕ)) (y y' z z' w w' : List ℕ) → W (state_with before x y z w) (state_with after x' y' z' w')
       → V (contents_with x y z w) (contents_with x' y' z' w'))
       → WhereTold (state_of contents left shown printed before) (state_of contents left shown printed after) W
@@ -139,7 +139,7 @@ module _ {D S T P : Type 0} (contents : D → Option (List (List ℕ))) (left : 
       (λ x x' y y' z z' w w' is. so x x' y y' z z' w w' is) told)))))
 
   -- what is not told stays so, and the drive is a valid image
-  told_run : KeepsTold contents left shown printed before after
+  pub told_run : KeepsTold contents left shown printed before after
       → ToldStays (contents o.drive) (contents o'.drive) (left o.input) (left o'.input) (shown o.terminal) (shown o'.terminal) (printed o.printer)
       (printed o'.printer)
   told_run told = record {
@@ -157,7 +157,7 @@ module _ {D S T P : Type 0} (contents : D → Option (List (List ℕ))) (left : 
   }
 
   -- whether a line is due
-  due_run : (due : Bool) → SystemBegins before → due ≡ due_in after → KeepsTold contents left shown printed before after → KeepsDue shown before after
+  pub due_run : (due : Bool) → SystemBegins before → due ≡ due_in after → KeepsTold contents left shown printed before after → KeepsDue shown before after
       → WhereTold (shown o.terminal) (shown o'.terminal) (λ taken now. due ≡ due_after false (drop (length taken) now))
   due_run due begins is told keeps =
       go (shown o.terminal) (shown o'.terminal) (ap shown (sym are.terminal)) (ap shown (sym are'.terminal))
