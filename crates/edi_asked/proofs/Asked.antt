@@ -13,7 +13,7 @@ use Rattle.edi_target.specs.Mach.{effect_at, is_first}
 use Rattle.edi_scheme.specs.Code.{slot_offset}
 use Rattle.edi_scheme.specs.Stands as code
 use Rattle.edi_spots.specs.Coded.{Coded, entry}
-use Rattle.edi_spots.specs.Spots.{frames_end, cells_words, Answers}
+use Rattle.edi_spots.specs.Spots.{frames_end, cells_words, IsMeantBy}
 use Rattle.edi_spots.specs.Scene.{Scene, here, Stands, Able, Does}
 use Rattle.edi_spots.specs.Claims.{Passed, Ran, SystemClaim}
 use Rattle.edi_spots.specs.Instructions.{local_at}
@@ -39,7 +39,7 @@ module _
     same = sym (means g s F w m h levels v fits) ∙ is
 
     is_asked : IsCall g.unit.types number asks_for
-    is_asked = (subst (λ c. Answers g F (far g s F w m h levels v fits) (head g s F w m h levels v fits) c) same found.answers).0
+    is_asked = (subst (λ c. IsMeantBy g F (far g s F w m h levels v fits) (head g s F w m h levels v fits) c) same found.answers).0
 
     abbrev o : ℕ
     o = slot_offset g.unit.types g.unit.blocks (entry g) (here g s F) levels v
