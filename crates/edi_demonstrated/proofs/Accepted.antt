@@ -1,32 +1,43 @@
 -- The text of each demonstration is accepted.
-use Rattle.std.proofs.Common.{ℕ, ◌+◌, ◌*◌, ◌≤◌, sym, subst}
+use Rattle.std.proofs.Common.{ℕ, ◌+◌, ◌*◌, ◌≤◌, refl, sym, subst}
+use Rattle.edi_calls.specs.State.{fresh}
 use Rattle.edi_lex.specs.Symbols.{symbols_of}
+use Rattle.edi_meaning.specs.Select.{Select}
 use Rattle.edi_utils.specs.Demo.{demo_text}
 use Rattle.edi_texts.specs.Texts.{AreAccepted, IsUnit}
-use Rattle.edi_texts.proofs.Once.{not_both}
-use Rattle.edi_demonstrated.specs.Demonstrated.{DemonstrationsAreAccepted, IsAccepted}
+use Rattle.edi_texts.proofs.Once.{not_both, one_unit}
+use Rattle.edi_demonstrated.specs.Demonstrated.{DemonstrationsAreAccepted, DemonstrationsEnd, IsAccepted}
 use Rattle.edi_demonstrated.specs.Symbols.{demo_marks}
 use Rattle.edi_demonstrated.specs.Tree.{demo_tree}
 use Rattle.edi_demonstrated.proofs.Symbols.{text_symbols, marks_count}
 use Rattle.edi_demonstrated.proofs.Spelling.{is_the_tree}
-use Rattle.edi_demonstrated.proofs.Resolving.{is_resolved}
+use Rattle.edi_demonstrated.proofs.Ending.{every_selection}
+use Rattle.edi_demonstrated.proofs.Resolving.{IsResolved, unit_of, is_resolved}
+
+pub has_unit : (n : ℕ) → 1 ≤ n → n ≤ 1000 → (r : IsResolved n) → IsUnit (demo_text n) (unit_of r.blocks)
+has_unit n some few r = subst (λ known. AreAccepted known (unit_of r.blocks)) (sym (text_symbols n some few))
+    (record { tree = demo_tree n; tree_is = is_the_tree n; resolved = r.resolved })
 
 accepted : (n : ℕ) → 1 ≤ n → n ≤ 1000 → IsAccepted n
 accepted n some few =
-    let symbols = text_symbols n some few in
     let r = is_resolved n some few in
-    let it : IsUnit (demo_text n) r.unit = subst (λ known. AreAccepted known r.unit) (sym symbols)
-    (record { tree = demo_tree n; tree_is = is_the_tree n; resolved = r.resolved }) in
+    let it = has_unit n some few r in
     record {
       marks = demo_marks n;
       last = 3 + 2 * n + 4;
-      symbols = symbols;
+      symbols = text_symbols n some few;
       many = marks_count n some;
-      unit = r.unit;
+      unit = unit_of r.blocks;
       unit_is = it;
-      no_calls = r.no_calls;
-      no_fault = λ pass kind line fault. not_both (symbols_of (demo_text n)) pass kind line r.unit fault it;
+      no_calls = refl;
+      no_fault = λ pass kind line fault. not_both (symbols_of (demo_text n)) pass kind line (unit_of r.blocks) fault it;
     }
 
 pub demonstrations_are_accepted : DemonstrationsAreAccepted
 demonstrations_are_accepted n some few = accepted n some few
+
+pub demonstrations_end : DemonstrationsEnd
+demonstrations_end n some few system bound choices o enough r =
+    let u = is_resolved n some few in
+    let same = one_unit (symbols_of (demo_text n)) r.unit (unit_of u.blocks) r.unit_is (has_unit n some few u) in
+    every_selection n few u.blocks u.are (fresh system) bound choices o enough (subst (λ unit. Select unit (fresh system) bound choices o) same r.run)

@@ -1,11 +1,13 @@
 -- The blocks of the demonstration: what they need, and what is known behind their ends.
-use Rattle.std.proofs.Common.{◌≡◌, ℕ, ◌+◌, true, false, List, [], ◌∷◌, ◌++◌, length, Some, None, pos, refl, ap, ◌∙◌, arith}
+use Rattle.std.proofs.Common.{◌≡◌, ℕ, zero, suc, ◌+◌, ◌<◌, true, false, List, [], ◌∷◌, ◌++◌, length, Some, None, pos, refl, sym, ap, ◌∙◌, subst, arith}
+use Rattle.std.proofs.Common.{append_assoc}
 use Rattle.std.proofs.Common.{eqb}
 use Rattle.std.specs.Prelude.{codes, nat_le, slice_set, slice_get}
 use Rattle.std.proofs.lemmas.Bool.Decides.{nat_tests}
 use Rattle.std.proofs.Math.Seq.{get_or-append_seam, set-append_seam}
 use Rattle.edi_scope.specs.Scope.{Scope, standard}
 use Rattle.edi_scope.specs.declared.entity.Entity.TheVariants as entity
+use Rattle.edi_unit.specs.declared.expressions.Callee.TheVariants as callee
 use Rattle.edi_unit.specs.declared.expressions.Operator.{Operator}
 use Rattle.edi_unit.specs.declared.expressions.Operator.TheVariants as op
 use Rattle.edi_unit.specs.declared.units.BlockKind.TheVariants as block_kind
@@ -56,19 +58,14 @@ in_program names blocks headings = inside (scope_of names ∷ base) (program_blo
 abbrev pub needing : ℕ → Block → Block
 needing n block = record block { need = n }
 
--- the statements of a block, and what it needs
-abbrev pub closed : (front : List Block) → Block → (behind : List Block) → Acts → Block
-closed front b behind s = needing (need standard_types (front ++ with_statements s b ∷ behind) (length front)) (with_statements s b)
-
-pub closes : (scopes : List Scope) (headings : List Heading) (around : List ℕ) (front behind : List Block) (b : Block) (s : Acts) (line : ℕ)
-    → nat_le (need standard_types (front ++ with_statements s b ∷ behind) (length front)) greatest_size ≡ true
+pub closes : (scopes : List Scope) (headings : List Heading) (around : List ℕ) (front behind : List Block) (b : Block) (s : Acts) (line words : ℕ)
+    → need standard_types (front ++ with_statements s b ∷ behind) (length front) ≡ words → nat_le words greatest_size ≡ true
     → close_block (length front) s line (inside scopes (front ++ b ∷ behind) headings around)
-    ≡ gives (inside scopes (front ++ closed front b behind s ∷ behind) headings around)
-closes scopes headings around front behind b s line small =
+    ≡ gives (inside scopes (front ++ needing words (with_statements s b) ∷ behind) headings around)
+closes scopes headings around front behind b s line words is small =
     let n : ℕ = length front in
     let new : Block = with_statements s b in
     let blocks : List Block = front ++ new ∷ behind in
-    let words : ℕ = need standard_types blocks n in
     let added : slice_set (front ++ b ∷ behind) n (with_statements s (block_at (front ++ b ∷ behind) n)) ≡ blocks =
     ap (λ old. slice_set (front ++ b ∷ behind) n (with_statements s old)) (get_or-append_seam front b behind no_block)
     ∙ set-append_seam front b behind new in
@@ -76,6 +73,8 @@ closes scopes headings around front behind b s line small =
     ap (λ old. slice_set blocks n (needing words old)) (get_or-append_seam front new behind no_block)
     ∙ set-append_seam front new behind (needing words new) in
     ap (λ bs. with_need n line (inside scopes bs headings around)) added
+    ∙ ap (λ w. must (nat_le w greatest_size) kind.Range line >>= λ done.
+    gives (inside scopes (slice_set blocks n (needing w (block_at blocks n))) headings around)) is
     ∙ ap (λ t. must t kind.Range line >>= λ done. gives (inside scopes (slice_set blocks n (needing words (block_at blocks n))) headings around)) small
     ∙ ap (λ bs. gives (inside scopes bs headings around)) noted
 
@@ -107,35 +106,123 @@ procedure_need blocks k line is outermost =
     ap (λ b. link_words + variable_words standard_types b + acts_height standard_types blocks k b.body) is
     ∙ ap (λ h. link_words + 0 + h) (body_height blocks k line variable)
 
-pub procedure_small : (blocks : List Block) (line : ℕ)
-    → nat_le (need standard_types (program_block ∷ (blocks ++ with_statements (body_acts line) (begun_block block_kind.Procedure 0 None []) ∷ []))
-    (length (program_block ∷ blocks))) greatest_size ≡ true
-procedure_small blocks line =
+pub procedure_needs : (blocks : List Block) (line : ℕ)
+    → need standard_types (program_block ∷ (blocks ++ with_statements (body_acts line) (begun_block block_kind.Procedure 0 None []) ∷ []))
+    (length (program_block ∷ blocks)) ≡ 8
+procedure_needs blocks line =
     let new : Block = with_statements (body_acts line) (begun_block block_kind.Procedure 0 None []) in
-    ap (λ n. nat_le n greatest_size) (procedure_need (program_block ∷ (blocks ++ new ∷ [])) (length (program_block ∷ blocks)) line
-    (get_or-append_seam (program_block ∷ blocks) new [] no_block) refl)
+    procedure_need (program_block ∷ (blocks ++ new ∷ [])) (length (program_block ∷ blocks)) line (get_or-append_seam (program_block ∷ blocks) new [] no_block)
+    refl
 
 -- statements that keep nothing above the frame
 pub record AreFlat (s : Acts) : Type 0 where
   pub flat : (types : List Shape) (blocks : List Block) (b : ℕ) → acts_height types blocks b s ≡ 0
 
-pub branch_small : (blocks : List Block) (s : Acts) → AreFlat s
-    → nat_le (need standard_types (program_block ∷ (blocks ++ with_statements s (begun_block block_kind.Branch 0 None []) ∷ []))
-    (length (program_block ∷ blocks))) greatest_size ≡ true
-branch_small blocks s h =
+pub branch_needs : (blocks : List Block) (s : Acts) → AreFlat s
+    → need standard_types (program_block ∷ (blocks ++ with_statements s (begun_block block_kind.Branch 0 None []) ∷ []))
+    (length (program_block ∷ blocks)) ≡ 5
+branch_needs blocks s h =
     let new : Block = with_statements s (begun_block block_kind.Branch 0 None []) in
     let all : List Block = program_block ∷ (blocks ++ new ∷ []) in
     let k : ℕ = length (program_block ∷ blocks) in
-    ap (λ n. nat_le n greatest_size) (
     ap (λ b. link_words + variable_words standard_types b + acts_height standard_types all k b.body)
     (get_or-append_seam (program_block ∷ blocks) new [] no_block)
-    ∙ ap (λ high. link_words + 0 + high) (h.flat standard_types all k))
+    ∙ ap (λ high. link_words + 0 + high) (h.flat standard_types all k)
 
-pub program_small : (blocks : List Block) (branches : List ℕ) (line : ℕ)
-    → nat_le (need standard_types (with_statements (unit.act_then (unit.cobegin branches line) unit.no_act) program_block ∷ blocks) 0) greatest_size ≡ true
+pub program_needs : (blocks : List Block) (branches : List ℕ) (line : ℕ)
+    → need standard_types (with_statements (unit.act_then (unit.cobegin branches line) unit.no_act) program_block ∷ blocks) 0 ≡ 6
 unfolding size
-program_small blocks branches line = refl
+program_needs blocks branches line = refl
 
 -- one step out of a block in the program
 pub one_out : (blocks : List Block) → steps_to 0 (length (program_block ∷ blocks) ∷ 0 ∷ []) ≡ 1
 one_out blocks = let other : eqb (length (program_block ∷ blocks)) 0 ≡ false = grind (arith, nat_tests) in rw other refl
+
+-- ---- blocks that have ended
+
+-- a procedure whose body begins on this line
+abbrev pub procedure_block : (line : ℕ) → Block
+procedure_block line =
+    record { kind = block_kind.Procedure; up = 0; result = None; parameters = []; variables = []; need = 8; body = body_acts line }
+
+-- a branch with these statements
+abbrev pub branch_block : Acts → Block
+branch_block s = record { kind = block_kind.Branch; up = 0; result = None; parameters = []; variables = []; need = 5; body = s }
+
+-- the program, with these branches
+abbrev pub ended_program : List ℕ → (line : ℕ) → Block
+ended_program branches line = record {
+  kind = block_kind.Program;
+  up = 0;
+  result = None;
+  parameters = [];
+  variables = 0 ∷ [];
+  need = 6;
+  body = unit.act_then (unit.cobegin branches line) unit.no_act;
+}
+
+abbrev pub IsProcedure : Block → Type 0
+IsProcedure b = (line : ℕ) × (b ≡ procedure_block line)
+
+abbrev pub AreProcedures : List Block → Type 0
+AreProcedures [] = Unit {0}
+AreProcedures (b ∷ bs) = IsProcedure b × AreProcedures bs
+
+pub one_procedure_more : (bs : List Block) (line : ℕ) → AreProcedures bs → AreProcedures (bs ++ procedure_block line ∷ [])
+one_procedure_more [] line h = ((line, refl), tt)
+one_procedure_more (b ∷ bs) line h = (h.0, one_procedure_more bs line h.1)
+
+-- one of them, where others stand behind them
+pub is_procedure : (bs more : List Block) (k : ℕ) → AreProcedures bs → k < length bs → IsProcedure (block_at (bs ++ more) k)
+is_procedure [] more k h less = absurd (omega (arith, less))
+is_procedure (b ∷ bs) more zero h less = h.0
+is_procedure (b ∷ bs) more (suc k) h less = is_procedure bs more k h.1 (omega (arith, less))
+
+-- a call of the procedure of this block
+abbrev pub call_act : (block line : ℕ) → Act
+call_act block line = unit.call (callee.Block 1 block) unit.no_argument line
+
+-- n calls of procedures, whose blocks are among so many behind that of the program
+abbrev pub AreCalls : (count n : ℕ) → Acts → Type 0
+AreCalls count zero s = s ≡ unit.no_act
+AreCalls count (suc n) s =
+    (b : ℕ) × (line : ℕ) × (more : Acts) × (b < count) × (s ≡ unit.act_then (call_act (suc b) line) more) × AreCalls count n more
+
+-- the blocks of the demonstration with n procedures
+pub record AreBlocks (n : ℕ) (blocks : List Block) : Type 0 where
+  pub count : ℕ
+  pub procedures : (b : ℕ) → b < count → IsProcedure (block_at blocks (suc b))
+  pub first : ℕ
+  pub second : ℕ
+  pub line : ℕ
+  pub program : block_at blocks 0 ≡ ended_program (first ∷ second ∷ []) line
+  pub first_calls : Acts
+  pub second_calls : Acts
+  pub first_is : block_at blocks first ≡ branch_block first_calls
+  pub second_is : block_at blocks second ≡ branch_block second_calls
+  pub first_are : AreCalls count n first_calls
+  pub second_are : AreCalls count n second_calls
+
+-- the procedures, two branches, and the program
+pub are_blocks : (n : ℕ) (procedures : List Block) (first second : Acts) (line : ℕ) → AreProcedures procedures
+    → AreCalls (length procedures) n first → AreCalls (length procedures) n second
+    → AreBlocks n (ended_program (length (program_block ∷ procedures) ∷ length (program_block ∷ (procedures ++ branch_block first ∷ [])) ∷ []) line
+    ∷ ((procedures ++ branch_block first ∷ []) ++ branch_block second ∷ []))
+are_blocks n procedures first second line h one two =
+    let b : Block = branch_block first in
+    let c : Block = branch_block second in
+    let same : (procedures ++ b ∷ []) ++ c ∷ [] ≡ procedures ++ b ∷ c ∷ [] = append_assoc procedures (b ∷ []) (c ∷ []) in
+    record {
+      count = length procedures;
+      procedures = λ k less. subst (λ bs. IsProcedure (block_at bs k)) (sym same) (is_procedure procedures (b ∷ c ∷ []) k h less);
+      first = length (program_block ∷ procedures);
+      second = length (program_block ∷ (procedures ++ b ∷ []));
+      line = line;
+      program = refl;
+      first_calls = first;
+      second_calls = second;
+      first_is = ap (λ bs. block_at bs (length procedures)) same ∙ get_or-append_seam procedures b (c ∷ []) no_block;
+      second_is = get_or-append_seam (procedures ++ b ∷ []) c [] no_block;
+      first_are = one;
+      second_are = two;
+    }

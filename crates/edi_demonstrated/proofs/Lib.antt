@@ -4,3 +4,5 @@ pub mod Names
 pub mod Blocks
 pub mod Resolving
 pub mod Accepted
+pub mod Running
+pub mod Ending

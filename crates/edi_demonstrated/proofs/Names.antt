@@ -1,5 +1,5 @@
 -- The names that the program of the demonstration has declared, and what each means.
-use Rattle.std.proofs.Common.{◌≡◌, ℕ, zero, suc, ◌<◌, ◌≤◌, Bool, true, false, cond, List, [], ◌∷◌, ◌++◌, drop, Some, None, refl, sym, ap, ◌∙◌, arith}
+use Rattle.std.proofs.Common.{◌≡◌, ℕ, zero, suc, ◌+◌, ◌<◌, ◌≤◌, Bool, true, false, cond, List, [], ◌∷◌, ◌++◌, drop, Some, None, refl, sym, ap, ◌∙◌, arith}
 use Rattle.std.specs.Prelude.{codes}
 use Rattle.std.specs.Str.{bytes_eq}
 use Rattle.std.proofs.lemmas.Fmt.{decimal_injective}
@@ -18,13 +18,13 @@ Names = List (List ℕ × Entity)
 abbrev pub counter : Entity
 counter = entity.Variable 0 0 0
 
--- the variable is declared, and the procedures up to this one
-pub record Declared (next : ℕ) (names : Names) : Type 0 where
+-- the variable is declared, and the procedures up to this one, with the blocks behind that of the program, which are so many
+pub record Declared (next count : ℕ) (names : Names) : Type 0 where
   pub counter_is : meaning names (codes "x") ≡ Some counter
-  pub there : (j : ℕ) → 1 ≤ j → j < next → (b : ℕ) × (meaning names (procedure_name j) ≡ Some (entity.Procedure b))
+  pub there : (j : ℕ) → 1 ≤ j → j < next → (b : ℕ) × (b < count) × (meaning names (procedure_name j) ≡ Some (entity.Procedure (suc b)))
   pub fresh : (j : ℕ) → next ≤ j → j ≤ 1000 → meaning names (procedure_name j) ≡ None
 
-pub at_first : Declared 1 ((codes "x", counter) ∷ [])
+pub at_first : Declared 1 0 ((codes "x", counter) ∷ [])
 at_first = record { counter_is = refl; there = λ j some less. absurd (omega (arith, some, less)); fresh = λ j more few. refl }
 
 same_bytes : (a b : List ℕ) → a ≡ b → bytes_eq a b ≡ true
@@ -46,19 +46,21 @@ smaller : (j i : ℕ) → j < suc i → (j ≡ i → ⊥) → j < i
 smaller j i less other = grind (arith)
 
 -- one procedure more
-pub one_more : (i k : ℕ) (names : Names) → i ≤ 1000 → Declared i names → Declared (suc i) ((procedure_name i, entity.Procedure k) ∷ names)
-one_more i k names low d = record {
+pub one_more : (i count : ℕ) (names : Names) → i ≤ 1000 → Declared i count names
+    → Declared (suc i) (count + 1) ((procedure_name i, entity.Procedure (suc count)) ∷ names)
+one_more i count names low d = record {
   counter_is = d.counter_is;
   there = λ j some less. is_there j some less (bytes_eq (procedure_name j) (procedure_name i)) refl;
   fresh = λ j more few. rw (names_apart i j low few (λ e. omega (arith, more, e))) (d.fresh j (omega (arith, more)) few);
 } where
   is_there : (j : ℕ) → 1 ≤ j → j < suc i → (t : Bool) → bytes_eq (procedure_name j) (procedure_name i) ≡ t
-      → (b : ℕ) × (meaning ((procedure_name i, entity.Procedure k) ∷ names) (procedure_name j) ≡ Some (entity.Procedure b))
-  is_there j some less true e = (k, ap (λ t. cond t (Some (entity.Procedure k)) (meaning names (procedure_name j))) e)
+      → (b : ℕ) × (b < count + 1) × (meaning ((procedure_name i, entity.Procedure (suc count)) ∷ names) (procedure_name j) ≡ Some (entity.Procedure (suc b)))
+  is_there j some less true e = (count, omega arith, ap (λ t. cond t (Some (entity.Procedure (suc count))) (meaning names (procedure_name j))) e)
   is_there j some less false e =
-      let other : j ≡ i → ⊥ = λ s. absurd (let both : true ≡ false = sym (same_bytes (procedure_name j) (procedure_name i) (ap procedure_name s)) ∙ e in cc) in
+      let other : j ≡ i → ⊥ = λ s. absurd (let both : true ≡ false = sym (same_bytes (procedure_name j) (procedure_name i) (ap procedure_name s)) ∙ e in
+      cc) in
       let before = d.there j some (smaller j i less other) in
-      (before.0, ap (λ t. cond t (Some (entity.Procedure k)) (meaning names (procedure_name j))) e ∙ before.1)
+      (before.0, omega (arith, before.1), ap (λ t. cond t (Some (entity.Procedure (suc count))) (meaning names (procedure_name j))) e ∙ before.2)
 
 -- ---- headings without parameters
 

@@ -1,12 +1,18 @@
-//! The text of the demonstration is accepted. The definitions and proofs are in `specs/` and `proofs/`; the function here only
-//! states the law.
+//! The text of the demonstration is accepted, and its program comes to its end. The definitions and proofs are in `specs/` and
+//! `proofs/`; the functions here only state the laws.
 #![tactic(auto)]
 
-ghost use Rattle.edi_demonstrated.specs.Demonstrated.{DemonstrationsAreAccepted};
+ghost use Rattle.edi_demonstrated.specs.Demonstrated.{DemonstrationsAreAccepted, DemonstrationsEnd};
 
 /// With every number of procedures that the command takes, 1 to 1000, the text of the demonstration has a unit and no fault,
 /// neither of its symbols nor of its syntax nor of a static rule; it has 19 symbols for each procedure and 13 more, and its
 /// program makes no call of the system.
 pub fn demonstrations_are_accepted()
     ensures law { DemonstrationsAreAccepted }
+{}
+
+/// The program of the demonstration comes to its end after 6 turns for each procedure and 5 more, where the bound allows so many,
+/// whatever the choices; and it leaves the system as it was.
+pub fn demonstrations_end()
+    ensures law { DemonstrationsEnd }
 {}
