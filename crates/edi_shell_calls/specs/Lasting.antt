@@ -1,24 +1,15 @@
 -- Helper. What every call of a system keeps, it keeps over several calls.
-use Rattle.std.proofs.Common.{◌≡◌, ℕ, ◌≤◌, Bool, true, false, List, [], ◌∷◌, length, take, Option, Some, None, refl, sym, ap, subst, ◌∙◌, arith, inl, inr}
+use Rattle.std.proofs.Common.{◌≡◌, ℕ, ◌≤◌, Bool, true, false, List, [], ◌∷◌, Option, Some, None, refl, sym, ap, subst, ◌∙◌, arith, inl, inr}
 use Rattle.std.specs.Prelude.{is_some, IsSome}
 use Rattle.edi_told.specs.Faults.{CountRose}
-use Rattle.edi_told.specs.Told.{WhereTold}
 use Rattle.edi_calls.specs.declared.ends.Outside.{Outside}
-use Rattle.edi_system.proofs.Chained.{told_then}
-use Rattle.edi_system.specs.AsCalls.{KeepsDue}
+use Rattle.edi_system.proofs.Chained.{behind_none, behind_one_more, told_on}
+use Rattle.edi_system.specs.AsCalls.{IsBehind, KeepsDue}
 use Rattle.edi_system.specs.Ends.{Blames, Keeps}
-use Rattle.edi_system.specs.Parts.{Grows, KeepsTold}
+use Rattle.edi_system.specs.Parts.{KeepsTold, ToldStays}
 use Rattle.edi_system.specs.State.{all_told, drive_in, failed_in, faults_of, input_in, printer_in, state_of, state_with, terminal_in}
 use Rattle.edi_system.specs.declared.system.System.{System}
 use Rattle.edi_shell_calls.specs.OnSystem.{SystemLasts}
-
-all_of : (x : List ℕ) → take (length x) x ≡ x
-all_of [] = refl
-all_of (b ∷ x) = ap (λ r. b ∷ r) (all_of x)
-
-grows_itself : (o : Option (List ℕ)) → WhereTold o o Grows
-grows_itself None = tt
-grows_itself (Some x) = all_of x
 
 none_some : {A : Type 0} (o : Option A) → o ≡ None → IsSome o → ⊥
 none_some o e h = let wrong : false ≡ true = ap is_some (sym e) ∙ h in cc
@@ -46,32 +37,48 @@ some_all make (Some x) (Some y) None e ha hb hc he = absurd (no_one hc)
 some_all make (Some x) None c e ha hb hc he = absurd (no_one hb)
 some_all make None b c e ha hb hc he = absurd (no_one ha)
 
-front_of_front : (x y z : List ℕ) → take (length x) y ≡ x → take (length y) z ≡ y → take (length x) z ≡ x
-front_of_front [] y z one two = refl
-front_of_front (a ∷ x) [] z one two = absurd (let wrong : [] ≡ a ∷ x = one in cc)
-front_of_front (a ∷ x) (b ∷ y) [] one two = absurd (let wrong : [] ≡ b ∷ y = two in cc)
-front_of_front (a ∷ x) (b ∷ y) (c ∷ z) one two =
-    let first : b ∷ take (length x) y ≡ a ∷ x = one in
-    let second : c ∷ take (length y) z ≡ b ∷ y = two in
-    let head : c ≡ a = cc in
-    let rest : take (length x) y ≡ x = cc in
-    let other : take (length y) z ≡ y = cc in
-    ap (λ n. n ∷ take (length x) z) head ∙ ap (λ ns. a ∷ ns) (front_of_front x y z rest other)
+module _ {D S T P : Type 0} (contents : D → Option (List (List ℕ))) (count : D → ℕ) (left : S → Option (List ℕ)) (shown : T → Option (List ℕ))
+    (printed : P → Option (List ℕ)) where
+  -- what is told of the input, the terminal and the printer stays so
+  streams_stay : (a b : System D S T P) → IsBehind contents count left shown printed a b
+      → ToldStays None None (left (input_in a)) (left (input_in b)) (shown (terminal_in a)) (shown (terminal_in b)) (printed (printer_in a))
+      (printed (printer_in b))
+  streams_stay a b led = record {
+    drive = λ none. none;
+    source = led.source;
+    terminal = led.terminal;
+    printer = led.printer;
+    valid = tt;
+    shrinks = led.shrinks;
+    grows = led.grows;
+    prints = led.prints;
+  }
 
-module _ {D S T P : Type 0} (contents : D → Option (List (List ℕ))) (left : S → Option (List ℕ)) (shown : T → Option (List ℕ)) (printed : P → Option (List ℕ))
-    (drive : D → ℕ) (input : S → ℕ) (terminal : T → ℕ) (printer : P → ℕ) where
+  behind_then : (a b c : System D S T P) → IsBehind contents count left shown printed a b → IsBehind contents count left shown printed b c
+      → IsBehind contents count left shown printed a c
+  behind_then a b c one two =
+      let streams = told_on None None None _ _ _ _ _ _ _ _ _ (streams_stay a b one) (streams_stay b c two) in
+      record {
+        drive = λ none. two.drive (one.drive none);
+        source = streams.source;
+        terminal = streams.terminal;
+        printer = streams.printer;
+        valid = λ valid. two.valid (one.valid valid);
+        count_ = two.count_ ∙ one.count_;
+        shrinks = streams.shrinks;
+        grows = streams.grows;
+        prints = streams.prints;
+        due = λ start since. two.due start (one.due start since);
+      }
+
+module _ {D S T P : Type 0} (contents : D → Option (List (List ℕ))) (count : D → ℕ) (left : S → Option (List ℕ)) (shown : T → Option (List ℕ))
+    (printed : P → Option (List ℕ)) (drive : D → ℕ) (input : S → ℕ) (terminal : T → ℕ) (printer : P → ℕ) where
   abbrev Lasts : System D S T P → System D S T P → Type 0
-  Lasts a b = SystemLasts contents left shown printed drive input terminal printer a b
+  Lasts a b = SystemLasts contents count left shown printed drive input terminal printer a b
 
   pub lasts_itself : (a : System D S T P) → Lasts a a
   lasts_itself a = record {
-    drive_told = λ e. e;
-    input_told = λ e. e;
-    terminal_told = λ e. e;
-    printer_told = λ e. e;
-    valid = λ v. v;
-    grows = grows_itself (shown (terminal_in a));
-    due = λ start since. since;
+    behind = behind_none contents count left shown printed a;
     references = refl;
     later = λ outside. omega arith;
     blame = λ outside e. inl e;
@@ -85,13 +92,7 @@ module _ {D S T P : Type 0} (contents : D → Option (List (List ℕ))) (left : 
 
   pub lasts_then : (a b c : System D S T P) → Lasts a b → Lasts b c → Lasts a c
   lasts_then a b c one two = record {
-    drive_told = λ e. two.drive_told (one.drive_told e);
-    input_told = λ e. two.input_told (one.input_told e);
-    terminal_told = λ e. two.terminal_told (one.terminal_told e);
-    printer_told = λ e. two.printer_told (one.printer_told e);
-    valid = λ v. two.valid (one.valid v);
-    grows = told_then Grows Grows Grows (shown (terminal_in a)) (shown (terminal_in b)) (shown (terminal_in c)) front_of_front one.grows two.grows;
-    due = λ start since. two.due start (one.due start since);
+    behind = behind_then contents count left shown printed a b c one.behind two.behind;
     references = two.references ∙ one.references;
     later = λ outside. let first = one.later outside in let second = two.later outside in omega (arith, first, second);
     blame = λ outside e. elim (two.blame outside e) [
@@ -104,16 +105,10 @@ module _ {D S T P : Type 0} (contents : D → Option (List (List ℕ))) (left : 
   }
 
   -- what a call of the system says of it
-  pub lasts_by : (fault : Bool) (a b : System D S T P) → KeepsTold contents left shown printed a b → KeepsDue shown a b
-      → Keeps drive input terminal printer fault a b → Lasts a b
-  lasts_by fault a b told due keeps = record {
-    drive_told = told.drive;
-    input_told = told.source;
-    terminal_told = told.terminal;
-    printer_told = told.printer;
-    valid = λ v. told.valid;
-    grows = told.grows;
-    due = due;
+  pub lasts_by : (fault : Bool) (a b : System D S T P) → KeepsTold contents left shown printed a b → count (drive_in b) ≡ count (drive_in a)
+      → KeepsDue shown a b → Keeps drive input terminal printer fault a b → Lasts a b
+  lasts_by fault a b told size due keeps = record {
+    behind = behind_one_more contents count left shown printed a a b told size due (behind_none contents count left shown printed a);
     references = same _ _ _ _ _ _ _ _ _ _ _ _ keeps.same_drive keeps.same_room keeps.same_input keeps.same_terminal keeps.same_printer keeps.same_buffer;
     later = keeps.later;
     blame = λ outside e. inr (go fault (failed_in b) outside e keeps.blame);
@@ -136,5 +131,5 @@ module _ {D S T P : Type 0} (contents : D → Option (List (List ℕ))) (left : 
   told_before a b lasts tells =
       let each = all_some (state_with b) (contents (drive_in b)) (left (input_in b)) (shown (terminal_in b)) (printed (printer_in b)) tells in
       some_all (state_with a) (contents (drive_in a)) (left (input_in a)) (shown (terminal_in a)) (printed (printer_in a))
-      (some_before _ _ lasts.drive_told each.0) (some_before _ _ lasts.input_told each.1) (some_before _ _ lasts.terminal_told each.2)
-      (some_before _ _ lasts.printer_told each.3)
+      (some_before _ _ lasts.behind.drive each.0) (some_before _ _ lasts.behind.source each.1) (some_before _ _ lasts.behind.terminal each.2)
+      (some_before _ _ lasts.behind.printer each.3)

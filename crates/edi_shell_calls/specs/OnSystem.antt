@@ -1,7 +1,6 @@
 -- Words of contracts. A system, as the shell works on it.
 use Rattle.std.specs.Prelude.{◌≡◌, ◌⊎◌, ℕ, ◌-◌, ◌*◌, ◌≤◌, min, List, Option, Some, None, IfSome, Result, Ok, Err, Bool, true, false}
 use Rattle.edi_told.specs.Faults.{CountRose}
-use Rattle.edi_told.specs.Told.{WhereTold}
 use Rattle.edi_host.specs.declared.source.Next.{Next}
 use Rattle.edi_host.specs.declared.source.Next.TheVariants as next
 use Rattle.edi_calls.specs.declared.ends.Outside.{Outside}
@@ -9,9 +8,8 @@ use Rattle.edi_calls.specs.declared.ends.Outside.TheVariants as outside
 use Rattle.edi_calls.specs.State.{State, fresh}
 use Rattle.edi_catalog.specs.declared.ends.CatEnd.{CatEnd}
 use Rattle.edi_catalog.specs.declared.ends.CatEnd.TheVariants as cat
-use Rattle.edi_system.specs.AsCalls.{references_in, IsDueSince, KeepsDue}
-use Rattle.edi_system.specs.Parts.{Grows, IsValid}
-use Rattle.edi_system.specs.State.{drive_in, failed_in, faults_of, input_in, printer_in, state_of, terminal_in}
+use Rattle.edi_system.specs.AsCalls.{references_in, IsBehind, IsDueSince}
+use Rattle.edi_system.specs.State.{failed_in, faults_of, state_of}
 use Rattle.edi_system.specs.declared.system.System.{System}
 use Rattle.edi_session.specs.declared.end.SessionEnd.{SessionEnd}
 use Rattle.edi_session.specs.declared.end.SessionEnd.TheVariants as end
@@ -30,18 +28,11 @@ pub record StandsAt {D S T P : Type 0} (contents : D → Option (List (List ℕ)
 
 -- ---- what every call keeps
 
--- What an object does not tell it never tells, a valid image stays one, what the terminal has taken only grows, and the bytes
--- shown still tell whether a line is due. The objects are the same ones, no count of faults falls, and an object that has failed
--- now had failed before, or its count rose.
-pub record SystemLasts {D S T P : Type 0} (contents : D → Option (List (List ℕ))) (left : S → Option (List ℕ)) (shown : T → Option (List ℕ))
+-- What calls in a row leave of a system whatever they answer. The objects are the same ones, no count of faults falls, and an object
+-- that has failed now had failed before, or its count rose.
+pub record SystemLasts {D S T P : Type 0} (contents : D → Option (List (List ℕ))) (count : D → ℕ) (left : S → Option (List ℕ)) (shown : T → Option (List ℕ))
     (printed : P → Option (List ℕ)) (drive : D → ℕ) (input : S → ℕ) (terminal : T → ℕ) (printer : P → ℕ) (before after : System D S T P) : Type 0 where
-  pub drive_told : contents (drive_in before) ≡ None → contents (drive_in after) ≡ None
-  pub input_told : left (input_in before) ≡ None → left (input_in after) ≡ None
-  pub terminal_told : shown (terminal_in before) ≡ None → shown (terminal_in after) ≡ None
-  pub printer_told : printed (printer_in before) ≡ None → printed (printer_in after) ≡ None
-  pub valid : IsValid (contents (drive_in before)) → IsValid (contents (drive_in after))
-  pub grows : WhereTold (shown (terminal_in before)) (shown (terminal_in after)) Grows
-  pub due : KeepsDue shown before after
+  pub behind : IsBehind contents count left shown printed before after
   pub references : references_in after ≡ references_in before
   pub later : (outside : Outside) → faults_of drive input terminal printer before outside ≤ faults_of drive input terminal printer after outside
   pub blame : (outside : Outside) → failed_in after ≡ Some outside →

@@ -92,13 +92,13 @@ impl<'d, 'c, 'i, 't, 'p, 'b, D: Drive, S: Source, T: Sink, P: Sink> ShellCalls
 
     ghost at = { λ system state shown_before. StandsAt D.contents S.left T.taken P.taken system state shown_before };
 
-    ghost lasts = { λ before after. SystemLasts D.contents S.left T.taken P.taken D.faults S.faults T.faults P.faults before after };
+    ghost lasts = { λ before after. SystemLasts D.contents D.count S.left T.taken P.taken D.faults S.faults T.faults P.faults before after };
 
-    ghost lasts_same = { lasts_itself D.contents S.left T.taken P.taken D.faults S.faults T.faults P.faults };
+    ghost lasts_same = { lasts_itself D.contents D.count S.left T.taken P.taken D.faults S.faults T.faults P.faults };
 
-    ghost lasts_on = { lasts_then D.contents S.left T.taken P.taken D.faults S.faults T.faults P.faults };
+    ghost lasts_on = { lasts_then D.contents D.count S.left T.taken P.taken D.faults S.faults T.faults P.faults };
 
-    ghost lasts_told = { told_before D.contents S.left T.taken P.taken D.faults S.faults T.faults P.faults };
+    ghost lasts_told = { told_before D.contents D.count S.left T.taken P.taken D.faults S.faults T.faults P.faults };
 
     fn take(&mut self) -> Result<Option<u8>, SessionEnd> {
         taken_by(System::take(self))

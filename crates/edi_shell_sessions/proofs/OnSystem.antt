@@ -1,16 +1,22 @@
 -- A session on a system.
-use Rattle.std.proofs.Common.{◌≡◌, ℕ, true, false, List, Option, Some, None, refl, sym, subst, ap, ◌∙◌}
+use Rattle.std.proofs.Common.{◌≡◌, ℕ, true, false, List, [], ◌∷◌, Option, Some, None, refl, sym, subst, ap, ◌∙◌, inl, inr}
 use Rattle.std.specs.Prelude.{IfSome, IsSome, is_some}
+use Rattle.edi_told.specs.Faults.{CountRose}
 use Rattle.edi_told.specs.Told.{WhereTold}
 use Rattle.edi_calls.specs.declared.ends.Outside.{Outside}
+use Rattle.edi_calls.specs.declared.ends.Outside.TheVariants as outside
 use Rattle.edi_calls.specs.Choice.{Choices}
 use Rattle.edi_calls.specs.State.{State, fresh}
 use Rattle.edi_session.specs.declared.end.SessionEnd.{SessionEnd}
 use Rattle.edi_session.specs.declared.end.SessionEnd.TheVariants as end
 use Rattle.edi_session.specs.Shell.{Shell}
+use Rattle.edi_system.specs.Ends.{Blames, Keeps}
+use Rattle.edi_system.specs.State.{failed_in, faults_of}
+use Rattle.edi_system.specs.declared.system.System.{System}
+use Rattle.edi_shell_calls.specs.OnSystem.{SystemLasts}
 use Rattle.edi_shell_calls.specs.Standing.{failed_by}
 use Rattle.edi_shell.specs.Taking.{Stays}
-use Rattle.edi_shell_sessions.specs.Ends.{SessionEnds, SessionHasEnded, SessionHasFailed}
+use Rattle.edi_shell_sessions.specs.Ends.{SessionEnds, SessionHasEnded, SessionHasFailed, ends_by_fault}
 
 -- what is said of two states where both are told, and the second only where the first is
 pub told_both : (o o' : Option State) (P : State → State → Type 0) → (IsSome o' → IsSome o)
@@ -51,3 +57,56 @@ module _ (bound : ℕ) (choices : Choices) {C E : Type 0} (at : C → State → 
   ends_otherwise start end.InputFault drawn h = failed_otherwise start h
   ends_otherwise start end.TerminalFault drawn h = failed_otherwise start h
   ends_otherwise start end.PrinterFault drawn h = failed_otherwise start h
+
+-- ---- what the calls of a session keep
+
+-- the references one by one
+six_same : (a b c d e f a' b' c' d' e' f' : ℕ) → a' ∷ b' ∷ c' ∷ d' ∷ e' ∷ f' ∷ [] ≡ a ∷ b ∷ c ∷ d ∷ e ∷ f ∷ []
+    → (a' ≡ a) × (b' ≡ b) × (c' ≡ c) × (d' ≡ d) × (e' ≡ e) × (f' ≡ f)
+six_same a b c d e f a' b' c' d' e' f' same = (cc, cc, cc, cc, cc, cc)
+
+module _ {D S T P : Type 0} (contents : D → Option (List (List ℕ))) (count : D → ℕ) (left : S → Option (List ℕ)) (shown : T → Option (List ℕ))
+    (printed : P → Option (List ℕ)) (drive : D → ℕ) (input : S → ℕ) (terminal : T → ℕ) (printer : P → ℕ) (before after : System D S T P)
+    (none : failed_in before ≡ None) (lasts : SystemLasts contents count left shown printed drive input terminal printer before after) where
+  -- the count of the object that has failed rose
+  rose : (failing : Outside) → failed_in after ≡ Some failing
+      → CountRose (faults_of drive input terminal printer before failing) (faults_of drive input terminal printer after failing)
+  rose failing is = elim (lasts.blame failing is) [
+    | inl was ↦ absurd (let wrong : Some failing ≡ None = sym was ∙ none in cc)
+    | inr more ↦ more
+  ]
+
+  blames : (e : SessionEnd) → failed_in after ≡ failed_by e
+      → Blames (ends_by_fault e) (failed_in after) (faults_of drive input terminal printer before) (faults_of drive input terminal printer after)
+  blames end.Halted is =
+      subst (λ o. Blames false o (faults_of drive input terminal printer before) (faults_of drive input terminal printer after)) (sym is) tt
+  blames end.InputEnd is =
+      subst (λ o. Blames false o (faults_of drive input terminal printer before) (faults_of drive input terminal printer after)) (sym is) tt
+  blames end.Limit is =
+      subst (λ o. Blames false o (faults_of drive input terminal printer before) (faults_of drive input terminal printer after)) (sym is) tt
+  blames end.DriveFault is =
+      subst (λ o. Blames true o (faults_of drive input terminal printer before) (faults_of drive input terminal printer after)) (sym is)
+      (rose outside.Drive is)
+  blames end.InputFault is =
+      subst (λ o. Blames true o (faults_of drive input terminal printer before) (faults_of drive input terminal printer after)) (sym is)
+      (rose outside.Input is)
+  blames end.TerminalFault is =
+      subst (λ o. Blames true o (faults_of drive input terminal printer before) (faults_of drive input terminal printer after)) (sym is)
+      (rose outside.Terminal is)
+  blames end.PrinterFault is =
+      subst (λ o. Blames true o (faults_of drive input terminal printer before) (faults_of drive input terminal printer after)) (sym is)
+      (rose outside.Printer is)
+
+  pub keeps_all : (e : SessionEnd) → failed_in after ≡ failed_by e → Keeps drive input terminal printer (ends_by_fault e) before after
+  keeps_all e is =
+      let each = six_same _ _ _ _ _ _ _ _ _ _ _ _ lasts.references in
+      record {
+        same_drive = each.0;
+        same_room = each.1;
+        same_input = each.2;
+        same_terminal = each.3;
+        same_printer = each.4;
+        same_buffer = each.5;
+        later = lasts.later;
+        blame = blames e is;
+      }

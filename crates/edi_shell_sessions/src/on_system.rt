@@ -4,11 +4,12 @@ ghost use Rattle.std.specs.Prelude.{◌≡◌, ◌≤◌, ◌<◌, ◌+◌, ◌*
 ghost use Rattle.edi_told.specs.Told.{WhereTold};
 ghost use Rattle.edi_calls.specs.State.{most_bytes};
 ghost use Rattle.edi_session.specs.Shell.{session_on};
-ghost use Rattle.edi_shell_calls.specs.OnSystem.{SystemLasts};
 ghost use Rattle.edi_shell_calls.specs.Standing.{failed_by};
-ghost use Rattle.edi_shell_sessions.specs.Ends.{SessionLeaves};
-ghost use Rattle.edi_system.specs.AsCalls.{IsDueSince};
-ghost use Rattle.edi_system.specs.State.{failed_in, state_of, IsReady};
+ghost use Rattle.edi_shell_sessions.specs.Ends.{ends_by_fault, SessionLeaves};
+ghost use Rattle.edi_system.specs.AsCalls.{IsDueSince, KeepsDue};
+ghost use Rattle.edi_system.specs.Ends.{Keeps};
+ghost use Rattle.edi_system.specs.Parts.{KeepsTold};
+ghost use Rattle.edi_system.specs.State.{drive_in, failed_in, state_of, IsReady};
 
 use crate::holding::hold;
 use edi_host::{Drive, Sink, Source};
@@ -38,7 +39,11 @@ pub fn session<D: Drive, S: Source, T: Sink, P: Sink>(
         (λ before now. SessionLeaves bound choices.old.source (session_on before choices.old.drawn shown_before) result choices.new.drawn now) }
     // The object that has failed, if one has.
     ensures failed { failed_in system.new ≡ failed_by result }
-    ensures lasts { SystemLasts D.contents S.left T.taken P.taken D.faults S.faults T.faults P.faults system.old system.new }
+    ensures due { KeepsDue T.taken system.old system.new }
+    ensures told { KeepsTold D.contents S.left T.taken P.taken system.old system.new }
+    // The drive has as many blocks as before.
+    ensures size { D.count (drive_in system.new) ≡ D.count (drive_in system.old) }
+    ensures keeps { Keeps D.faults S.faults T.faults P.faults (ends_by_fault result) system.old system.new }
     ensures source { choices.new.source ≡ choices.old.source }
     ensures drawn { choices.new.drawn ≤ choices.old.drawn + LIMIT * bound }
 {

@@ -1,0 +1,322 @@
+-- The exits of `boot`: the choices are not read, the drive is not mounted, an object has failed, the record is kept, or it is not.
+use Rattle.std.proofs.Common.{◌≡◌, ◌∙◌, ◌≤◌, ◌+◌, ◌*◌, ◌<◌, ◌^◌, ℕ, Bool, true, false, List, [], length, drop, Option, Some, None, Result, Ok, Err}
+use Rattle.std.proofs.Common.{IfSome, IsSome, option_map, refl, sym, subst, inl, inr}
+use Rattle.std.specs.Prelude.{⊤, ◌||◌, not, is_none}
+use Rattle.edi_told.specs.Told.{WhereTold}
+use Rattle.edi_host.specs.Files.{Contents}
+use Rattle.edi_calls.specs.Choice.{Choices}
+use Rattle.edi_image.specs.declared.faults.MountFault.{MountFault}
+use Rattle.edi_image.specs.declared.faults.MountFault.TheVariants as mount
+use Rattle.edi_image.specs.Finds.{IsFirst}
+use Rattle.edi_image.specs.Image.{mount_fault_of}
+use Rattle.edi_session.specs.declared.end.SessionEnd.{SessionEnd}
+use Rattle.edi_session.specs.declared.end.SessionEnd.TheVariants as end
+use Rattle.edi_session.specs.Session.{IsMomentOfSession}
+use Rattle.edi_shell_sessions.specs.Ends.{ends_by_fault}
+use Rattle.edi_system.specs.Parts.{IsValid, Grows, due_after}
+use Rattle.edi_trace.specs.Drawn.{Drawn}
+use Rattle.edi_words.specs.Words as words
+use Rattle.edi_words.specs.Words.{ChoicesFrom, Options, nowhere, file, seed}
+use Rattle.edi_statuses.specs.declared.status.Status.{Status}
+use Rattle.edi_statuses.specs.declared.status.Status.TheVariants as status
+use Rattle.edi_statuses.specs.Outside.{Outside, seen, still_told, with_kept, Keeps, SameBlocks, SameFiles, Shows, Lent}
+use Rattle.edi_statuses.specs.Lines.{is_due}
+use Rattle.edi_statuses.specs.Steps.{Reached, goes, stops, IsBrokenRule, Mounts, ReadsChoices}
+use Rattle.edi_statuses.specs.Executions.{record_of, StandsAt}
+use Rattle.edi_statuses.specs.Commands.{IsNothing}
+use Rattle.edi_statuses.specs.Means.{AtRecord, Came, HasNotBegun, MeansOf, is_in_file, names_in}
+use Rattle.edi_statuses.specs.Sessions.{BootSteps, BrokeSession, HasHeld, HeldUnkept, HeldWhole, HoldsSession, SessionHeld, session_status, shell_on}
+use Rattle.edi_steps.specs.OnFiles.{ChoicesStep, RecordStep, files_only}
+use Rattle.edi_run_commands.specs.CodeRan.{mount_status}
+use Rattle.edi_run_commands.proofs.Endings.{IsLeft, IsUnmounted}
+use Rattle.edi_run_commands.proofs.Exits.{IsRefusal, choices_refusal, with_files}
+use Rattle.edi_run_commands.proofs.Meaning.{at_record}
+use Rattle.edi_run_commands.proofs.Left.{devices_told, told_by}
+use Rattle.edi_statuses.proofs.Told.{first_told, same_but, same_told, shows_nothing, still, still_same, told_so}
+use Rattle.edi_run_commands.proofs.Told.{on_files, reads_till_the_last}
+use Rattle.edi_run_commands.proofs.Shown.{due_so, shown_since, shows_so}
+use Rattle.edi_boot.specs.OnObjects.{EndsOn}
+use Rattle.edi_boot.specs.SessionCame.{HeldSession, SessionCame}
+use Rattle.edi_boot.proofs.Devices.{broken_at, held_to}
+
+-- ---- the drive is not mounted
+
+module _ (before after : Outside) (kernel : Lent) (why : MountFault) (h : IsUnmounted before after kernel why) where
+  same_blocks : SameBlocks (seen before after) after
+  same_blocks = still _ before.blocks after.blocks (told_so _ _ before.blocks after.blocks (λ old new both. both.0) h.blocks)
+
+  nothing : IsNothing (seen before after) after [] kernel
+  nothing = record {
+    shown_ = refl;
+    same = record {
+      files = same_told before.files after.files h.files;
+      blocks = same_blocks;
+      input = same_told before.input after.input h.input;
+      printed = same_told before.printed after.printed h.printed;
+    };
+    kernel_same = h.kernel_same;
+  }
+
+  not_begun : HasNotBegun (seen before after) after [] kernel
+  not_begun = record {
+    shown_ = refl;
+    blocks = same_blocks;
+    input = same_told before.input after.input h.input;
+    printed = same_told before.printed after.printed h.printed;
+    kernel_same = h.kernel_same;
+  }
+
+  first : IfSome (still_told before.blocks after.blocks) (λ old. IsFirst why (mount_fault_of old))
+  first = first_told _ _ before.blocks after.blocks (λ old new both. both.1) h.blocks
+
+unmounted_by : (before after : Outside) (kernel : Lent) (why : MountFault) → IsUnmounted before after kernel why → (bound : ℕ) (choices : Choices)
+    (name : Option (List ℕ)) → SessionCame bound choices name (mount_status why) (seen before after) after [] kernel
+unmounted_by before after kernel mount.Fault h bound choices name =
+    (same_told before.files after.files h.files, inl (not_begun before after kernel mount.Fault h))
+unmounted_by before after kernel mount.NoMemory h bound choices name = inl (nothing before after kernel mount.NoMemory h)
+unmounted_by before after kernel mount.Short h bound choices name =
+    ((mount.Short, refl, first before after kernel mount.Short h, tt), nothing before after kernel mount.Short h)
+unmounted_by before after kernel mount.Header h bound choices name =
+    ((mount.Header, refl, first before after kernel mount.Header h, tt), nothing before after kernel mount.Header h)
+unmounted_by before after kernel (mount.Entry slot) h bound choices name =
+    ((mount.Entry slot, refl, first before after kernel (mount.Entry slot) h, tt), nothing before after kernel (mount.Entry slot) h)
+unmounted_by before after kernel (mount.Page slot block) h bound choices name =
+    ((mount.Page slot block, refl, first before after kernel (mount.Page slot block) h, tt), nothing before after kernel (mount.Page slot block) h)
+unmounted_by before after kernel (mount.Shared block) h bound choices name =
+    ((mount.Shared block, refl, first before after kernel (mount.Shared block) h, tt), nothing before after kernel (mount.Shared block) h)
+
+pub unmounted : (bound : ℕ) (choices : Choices) (name : Option (List ℕ)) (s : Status) (due : Bool) (before after : Outside) (kernel : Lent)
+    (why : MountFault) → s ≡ mount_status why → due ≡ false → IsUnmounted before after kernel why → HeldSession bound choices name s due before after kernel
+unmounted bound choices name s due before after kernel why is silent h = record {
+  shown = [];
+  came = subst (λ x. SessionCame bound choices name x (seen before after) after [] kernel) (sym is) (unmounted_by before after kernel why h bound choices name);
+  shows = shows_nothing before.shown after.shown h.shown;
+  due_is = silent;
+}
+
+-- ---- the session was held
+
+mounts : (due : Bool) (before after : Outside) → IsLeft due before after → Mounts (seen before after) (goes tt)
+mounts due before after left = first_told _ (λ blocks. mount_fault_of blocks ≡ None) before.blocks after.blocks (λ old new h. h) left.mounted
+
+module _ (bound : ℕ) (old : Drawn) (none : old.drawn ≡ 0) (due : Bool) (how : SessionEnd) (before after : Outside) (left : IsLeft due before after)
+    (kernel : Lent) (new : Drawn) (told : WhereTold (told_by before) (told_by after) (EndsOn bound old how new.drawn)) where
+  abbrev shown_now : List ℕ
+  shown_now = shown_since due before.shown after.shown
+
+  shows_now : Shows before after shown_now
+  shows_now = shows_so due before.shown after.shown left.grows
+
+  due_now : due ≡ is_due shown_now
+  due_now = due_so due before.shown after.shown left.grows left.due_is
+
+  -- an object has failed
+  broke_now : ends_by_fault how ≡ true → BrokeSession bound old.source (seen before after) after shown_now
+  broke_now f =
+      devices_told before after shown_now (EndsOn bound old how new.drawn)
+      (λ d e. StandsAt (IsMomentOfSession bound old.source (shell_on d)) d e shown_now) left.valid shows_now
+      (λ x y valid shows h. broken_at bound old none new.drawn shown_now x y valid shows how f h) told
+
+  broke_by : (e : SessionEnd) (name : Option (List ℕ)) → ends_by_fault e ≡ true → SameFiles (seen before after) after
+      → BrokeSession bound old.source (seen before after) after shown_now
+      → SessionCame bound old.source name (session_status e) (seen before after) after shown_now kernel
+  broke_by end.Halted name f files b = absurd (cc)
+  broke_by end.InputEnd name f files b = absurd (cc)
+  broke_by end.Limit name f files b = absurd (cc)
+  broke_by end.DriveFault name f files b = (files, inr (mounts due before after left, b))
+  broke_by end.InputFault name f files b = (files, mounts due before after left, b)
+  broke_by end.TerminalFault name f files b = (files, mounts due before after left, b)
+  broke_by end.PrinterFault name f files b = (files, mounts due before after left, b)
+
+  pub broke : (name : Option (List ℕ)) (s : Status) → s ≡ session_status how → ends_by_fault how ≡ true → after.files ≡ before.files
+      → HeldSession bound old.source name s due before after kernel
+  broke name s is f files = record {
+    shown = shown_now;
+    came = subst (λ x. SessionCame bound old.source name x (seen before after) after shown_now kernel) (sym is)
+        (broke_by how name f (same_told before.files after.files files) (broke_now f));
+    shows = shows_now;
+    due_is = due_now;
+  }
+
+  module _ (unfailed : ends_by_fault how ≡ false) (within : new.drawn ≤ 4194304 * bound) where
+    held_now : SessionHeld bound old.source how new.drawn (seen before after) after shown_now
+    held_now =
+        devices_told before after shown_now (EndsOn bound old how new.drawn) (λ d e. HasHeld bound old.source how new.drawn d e shown_now) left.valid
+        shows_now (λ x y valid shows h. held_to bound old none new.drawn shown_now x y valid shows how unfailed h) told
+
+    whole : HeldWhole bound old.source (seen before after) after shown_now
+    whole = record { how = how; drawn = new.drawn; within = within; held = held_now }
+
+    holds : (name : Option (List ℕ)) → Keeps (seen before after) after (record_of name old.source new.drawn)
+        → HoldsSession bound old.source name (session_status how) (seen before after) after shown_now
+    holds name kept = record { how = how; drawn = new.drawn; within = within; status_is = refl; held = held_now; keeps = kept }
+
+    ended_by : (e : SessionEnd) (name : Option (List ℕ)) → ends_by_fault e ≡ false
+        → HoldsSession bound old.source name (session_status e) (seen before after) after shown_now
+        → SessionCame bound old.source name (session_status e) (seen before after) after shown_now kernel
+    ended_by end.Halted name f h = (mounts due before after left, h)
+    ended_by end.InputEnd name f h = (mounts due before after left, h)
+    ended_by end.Limit name f h = (mounts due before after left, h)
+    ended_by end.DriveFault name f h = absurd (cc)
+    ended_by end.InputFault name f h = absurd (cc)
+    ended_by end.TerminalFault name f h = absurd (cc)
+    ended_by end.PrinterFault name f h = absurd (cc)
+
+    -- its record was kept, if there was to be one
+    pub recorded : (name : Option (List ℕ)) (s : Status) → s ≡ session_status how → new.source ≡ old.source
+        → WhereTold before.files after.files (λ a b. b ≡ with_kept (record_of name new.source new.drawn) a)
+        → HeldSession bound old.source name s due before after kernel
+    recorded name s is source step = record {
+      shown = shown_now;
+      came = subst (λ x. SessionCame bound old.source name x (seen before after) after shown_now kernel) (sym is)
+          (ended_by how name unfailed
+          (holds name (still _ before.files after.files
+          (subst (λ from. WhereTold before.files after.files (λ a b. b ≡ with_kept (record_of name from new.drawn) a)) source step))));
+      shows = shows_now;
+      due_is = due_now;
+    }
+
+    -- it was not kept
+    unrecorded_by : (A : Type 0) (name : Option (List ℕ)) (s : Status) → RecordStep {A = A} name new (Err s) before.files after.files
+        → SessionCame bound old.source name s (seen before after) after shown_now kernel
+    unrecorded_by A name status.NoMemory step = inr (step.0, mounts due before after left, (whole, still _ before.files after.files step.1))
+    unrecorded_by A name status.FileFault step = (step.0, still _ before.files after.files step.1, mounts due before after left, whole)
+    unrecorded_by A name _ step = absurd step
+
+    pub unrecorded : (A : Type 0) (name : Option (List ℕ)) (s : Status) → RecordStep {A = A} name new (Err s) before.files after.files
+        → HeldSession bound old.source name s due before after kernel
+    unrecorded A name s step = record { shown = shown_now; came = unrecorded_by A name s step; shows = shows_now; due_is = due_now }
+
+-- another number that is the same
+pub with_bound : (n m : ℕ) → n ≡ m → (choices : Choices) (name : Option (List ℕ)) (s : Status) (due : Bool) (before after : Outside) (kernel : Lent)
+    → HeldSession n choices name s due before after kernel → HeldSession m choices name s due before after kernel
+with_bound n m same choices name s due before after kernel = subst (λ k. HeldSession k choices name s due before after kernel) same
+
+-- ---- the meaning of the status
+
+-- a file is named: by the choices, or where a record is asked for
+chosen : (from : ChoicesFrom) (name : Option (List ℕ)) → is_in_file from ≡ true → (is_in_file from || not (is_none name)) ≡ true
+chosen nowhere name h = absurd (cc)
+chosen (file f) name h = refl
+chosen (seed n) name h = absurd (cc)
+
+recording : (from : ChoicesFrom) (name : Option (List ℕ)) → IsSome name → (is_in_file from || not (is_none name)) ≡ true
+recording from None h = absurd (cc)
+recording nowhere (Some name) h = refl
+recording (file f) (Some name) h = refl
+recording (seed n) (Some name) h = refl
+
+-- no file is named
+pub unnamed : (from : ChoicesFrom) (name : Option (List ℕ)) → (is_in_file from || not (is_none name)) ≡ false → (is_in_file from ≡ false) × (name ≡ None)
+unnamed nowhere None h = (refl, refl)
+unnamed (seed n) None h = (refl, refl)
+unnamed (file f) name h = absurd (cc)
+unnamed nowhere (Some name) h = absurd (cc)
+unnamed (seed n) (Some name) h = absurd (cc)
+
+pub none_there : {A B : Type 0} (f : A → B) (o : Option A) → option_map f o ≡ None → o ≡ None
+none_there f None h = refl
+none_there f (Some a) h = absurd (cc)
+
+never_words : (e : SessionEnd) → status.Words ≡ session_status e → ⊥
+never_words end.Halted e = absurd (cc)
+never_words end.InputEnd e = absurd (cc)
+never_words end.Limit e = absurd (cc)
+never_words end.DriveFault e = absurd (cc)
+never_words end.InputFault e = absurd (cc)
+never_words end.TerminalFault e = absurd (cc)
+never_words end.PrinterFault e = absurd (cc)
+
+module _ (o : Options) (choices : Choices) (before after : Outside) (shown : List ℕ) (kernel : Lent)
+    (there : ReadsChoices before o.choices (goes choices)) where
+  went : Mounts before (goes tt) → BootSteps before o.choices (goes choices)
+  went m = inr (choices, there, inr (tt, m, refl))
+
+  stopped_there : (s : Status) → Mounts before (stops s) → BootSteps before o.choices (stops s)
+  stopped_there s m = inr (choices, there, inl m)
+
+  pub boot_means : (s : Status) → SessionCame o.turns choices o.record_file s before after shown kernel → MeansOf s (words.boot o) before after shown kernel
+  boot_means status.Words h = absurd (never_words h.1.how h.1.status_is)
+  boot_means status.NoMemory (inl h) = inl h
+  boot_means status.NoMemory (inr h) = inr (at_record o.record_file (BootSteps before o.choices) _ choices h.0 (went h.1) h.2)
+  boot_means status.FileFault h = record {
+    uses = recording o.choices o.record_file h.0;
+    files = h.1;
+    far = inr (at_record o.record_file (BootSteps before o.choices) _ choices h.0 (went h.2) h.3);
+  }
+  boot_means status.DriveFault h = record {
+    uses = refl;
+    files = h.0;
+    far = elim h.1 [
+      | inl none ↦ inl none
+      | inr far ↦ inr (choices, went far.0, far.1)
+    ];
+  }
+  boot_means status.InputFault h = record { uses = tt; files = h.0; far = (choices, went h.1, h.2) }
+  boot_means status.OutputFault h = record { uses = tt; files = h.0; far = (choices, went h.1, h.2) }
+  boot_means (status.BadImage broken) h = inl (stopped_there (status.BadImage broken) h.0, h.1)
+  boot_means s h = inr (choices, went h.0, h.1)
+
+-- ---- the exits of the command
+
+module _ (o : Options) (before : Outside) (new : Option Contents) (kernel : Lent) where
+  -- the choices were not read
+  module _ (kept : kernel.after ≡ kernel.before) (same : WhereTold before.files new (λ a b. b ≡ a)) where
+    abbrev MeansUnread : Status → Type 0
+    MeansUnread s = MeansOf s (words.boot o) (seen before (with_files before new)) (with_files before new) [] kernel
+
+    nothing_done : IsNothing (seen before (with_files before new)) (with_files before new) [] kernel
+    nothing_done = record {
+      shown_ = refl;
+      same = record {
+        files = still _ before.files new same;
+        blocks = same_told before.blocks before.blocks refl;
+        input = same_told before.input before.input refl;
+        printed = same_told before.printed before.printed refl;
+      };
+      kernel_same = kept;
+    }
+
+    refused : (s : Status) → IsRefusal s → BootSteps (seen before (with_files before new)) o.choices (stops s) → MeansUnread s
+    refused status.Absent refusal h = inl (h, nothing_done)
+    refused (status.BadChoices line) refusal h = inl (h, nothing_done)
+    refused (status.Refused kind line) refusal h = inl (h, nothing_done)
+    refused (status.BadCode broken) refusal h = inl (h, nothing_done)
+    refused s refusal h = absurd refusal
+
+    unread_means : (s : Status) → ChoicesStep (files_only (still_told before.files new)) o.choices (Err s) → MeansUnread s
+    unread_means status.NoMemory h = inl nothing_done
+    unread_means status.FileFault h = record {
+      uses = chosen o.choices o.record_file h;
+      files = same_but (names_in o.record_file) (still_told before.files new) new nothing_done.same.files;
+      far = inl (record {
+        shown_ = refl;
+        blocks = nothing_done.same.blocks;
+        input = nothing_done.same.input;
+        printed = nothing_done.same.printed;
+        kernel_same = kept;
+      });
+    }
+    unread_means s h =
+        refused s (choices_refusal (files_only (still_told before.files new)) o.choices s h)
+        (inl (on_files (seen before (with_files before new)) o.choices (stops s) h))
+
+    pub unread : (s t : Status) (due : Bool) → t ≡ s → due ≡ false → ChoicesStep (files_only (still_told before.files new)) o.choices (Err s)
+        → Came t due (Some (words.boot o)) before (with_files before new) kernel
+    unread s t due is silent h = record {
+      shown = [];
+      means = subst MeansUnread (sym is) (unread_means s h);
+      shows = shows_nothing before.shown before.shown refl;
+      due_is = silent;
+    }
+
+  -- the session was held, or its drive not mounted
+  pub held_came : (choices : Choices) → ReadsChoices (files_only (still_told before.files new)) o.choices (goes choices)
+      → WhereTold before.files new (λ a b. b ≡ a) → (s : Status) (due : Bool) (after : Outside) → WhereTold new after.files (λ a b. ⊤)
+      → HeldSession o.turns choices o.record_file s due (with_files before new) after kernel → Came s due (Some (words.boot o)) before after kernel
+  held_came choices reads first s due after last h =
+      let all : Outside = seen before after in
+      let there = on_files all o.choices (goes choices) (reads_till_the_last o.choices choices before.files new after.files last reads) in
+      let came = subst (λ files. SessionCame o.turns choices o.record_file s (record all { files = files }) after h.shown kernel)
+      (still_same before.files new after.files first last) h.came in
+      record { shown = h.shown; means = boot_means o choices all after h.shown kernel there s came; shows = h.shows; due_is = h.due_is }

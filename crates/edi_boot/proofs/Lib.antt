@@ -1,0 +1,4 @@
+pub mod Blocks
+pub mod Objects
+pub mod Devices
+pub mod Exits

@@ -1,0 +1,2 @@
+pub mod OnObjects
+pub mod SessionCame

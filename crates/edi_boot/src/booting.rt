@@ -1,0 +1,171 @@
+//! `boot`.
+
+ghost use Rattle.std.specs.Prelude.{◌≡◌, false, Some, None, ⊤, option_map};
+ghost use Rattle.edi_told.specs.Told.{WhereTold};
+ghost use Rattle.edi_words.specs.Words as words;
+ghost use Rattle.edi_words.specs.View.{options_of};
+ghost use Rattle.edi_run_commands.specs.CodeRan.{mount_status};
+ghost use Rattle.edi_statuses.specs.Outside.{lent, outside_of};
+ghost use Rattle.edi_statuses.specs.Counts.{counts_of, HasCause, NoneFalls};
+ghost use Rattle.edi_statuses.specs.Means.{Came, names_file};
+ghost use Rattle.edi_statuses.specs.Sessions.{session_status};
+ghost use Rattle.edi_shell_sessions.specs.Ends.{ends_by_fault};
+ghost use Rattle.edi_boot.specs.SessionCame.{HeldSession};
+
+use crate::holding::hold_on;
+use edi_host::{Drive, Files, Sink, Source};
+use edi_image::MountFault;
+use edi_kernel::Kernel;
+use edi_session::SessionEnd;
+use edi_statuses::{Ended, Status};
+use edi_steps::{keep_record, read_from};
+use edi_trace::Choices;
+use edi_words::Options;
+use std::alloc::Global;
+
+// `boot` has stopped before its session.
+fn stopped(status: Status) -> Ended
+    ensures told { result.status ≡ status }
+    ensures due { result.due ≡ false }
+{
+    Ended { status, due: false }
+}
+
+// The status of a session whose drive was not mounted.
+fn mount_status(why: MountFault) -> Status
+    ensures exact { result ≡ mount_status why }
+{
+    match why {
+        MountFault::Fault => Status::DriveFault,
+        MountFault::NoMemory => Status::NoMemory,
+        broken => Status::BadImage(broken),
+    }
+}
+
+// The status of a session that ended so.
+fn session_status(end: SessionEnd) -> Status
+    ensures exact { result ≡ session_status end }
+{
+    match end {
+        SessionEnd::Halted => Status::Ok,
+        SessionEnd::InputEnd => Status::Ok,
+        SessionEnd::Limit => Status::SessionLimit,
+        SessionEnd::DriveFault => Status::DriveFault,
+        SessionEnd::InputFault => Status::InputFault,
+        SessionEnd::TerminalFault => Status::OutputFault,
+        SessionEnd::PrinterFault => Status::OutputFault,
+    }
+}
+
+// Whether a session ended by the fault of an object.
+fn ends_by_fault(end: SessionEnd) -> bool
+    ensures exact { result ≡ ends_by_fault end }
+{
+    match end {
+        SessionEnd::Halted => false,
+        SessionEnd::InputEnd => false,
+        SessionEnd::Limit => false,
+        _ => true,
+    }
+}
+
+// Mounts the drive, holds a session on it, and keeps the record of the choices that were drawn in it, if there is to be one, unless an
+// object has failed.
+fn hold_session<F: Files, D: Drive, S: Source, T: Sink, P: Sink>(
+    alloc: Global,
+    turns: u32,
+    record_file: Option<&str>,
+    choices: &mut Choices,
+    files: &mut F,
+    drive: &mut D,
+    input: &mut S,
+    terminal: &mut T,
+    printer: &mut P,
+    kernel: &mut Kernel,
+) -> Ended
+    requires none_drawn { choices.old.drawn ≡ 0 }
+    ensures held { HeldSession turns choices.old.source (option_map (λ name. name.now) record_file.entry) result.status result.due
+        (outside_of F.contents D.contents S.left T.taken P.taken files.old drive.old input.old terminal.old printer.old)
+        (outside_of F.contents D.contents S.left T.taken P.taken files.new drive.new input.new terminal.new printer.new)
+        (lent kernel.old.store kernel.old.used kernel.new.store kernel.new.used) }
+    ensures tells { WhereTold (F.contents files.old) (F.contents files.new) (λ old new. ⊤) }
+    ensures untouched { record_file.entry ≡ None → files.new ≡ files.old }
+    ensures size { D.count drive.new ≡ D.count drive.old }
+    ensures cause { HasCause result.status
+        (counts_of F.faults D.faults S.faults T.faults P.faults files.old drive.old input.old terminal.old printer.old)
+        (counts_of F.faults D.faults S.faults T.faults P.faults files.new drive.new input.new terminal.new printer.new) }
+    ensures later { NoneFalls
+        (counts_of F.faults D.faults S.faults T.faults P.faults files.old drive.old input.old terminal.old printer.old)
+        (counts_of F.faults D.faults S.faults T.faults P.faults files.new drive.new input.new terminal.new printer.new) }
+{
+    let held = match hold_on(
+        alloc,
+        drive,
+        input,
+        terminal,
+        printer,
+        kernel,
+        u64::from(turns),
+        choices,
+    ) {
+        Ok(held) => held,
+        Err(why) => return stopped(mount_status(why)),
+    };
+    let status = session_status(held.end);
+    let due = held.due;
+    if ends_by_fault(held.end) {
+        return Ended { status, due };
+    }
+    match keep_record(alloc, files, record_file, choices) {
+        Ok(()) => Ended { status, due },
+        Err(status) => Ended { status, due },
+    }
+}
+
+/// `boot`: reads the choices, mounts the drive, holds a session of the shell, and keeps the record of the choices that were drawn in
+/// it, in this order. Programs run on the kernel, each with `--turns` anew.
+///
+/// What the status means, and how all that is outside stands behind the call, is told by `Came`: the first step that stops decides;
+/// a session that was halted, or whose input ended, is `Ok`. Want of memory comes only before the session, or where the record is to
+/// be kept; the fault of an object only where its count rose.
+pub fn boot<F: Files, D: Drive, S: Source, T: Sink, P: Sink>(
+    alloc: Global,
+    options: Options<'_>,
+    files: &mut F,
+    drive: &mut D,
+    input: &mut S,
+    terminal: &mut T,
+    printer: &mut P,
+    kernel: &mut Kernel,
+) -> Ended
+    ensures came { Came result.status result.due (Some (words.boot (options_of options.entry)))
+        (outside_of F.contents D.contents S.left T.taken P.taken files.old drive.old input.old terminal.old printer.old)
+        (outside_of F.contents D.contents S.left T.taken P.taken files.new drive.new input.new terminal.new printer.new)
+        (lent kernel.old.store kernel.old.used kernel.new.store kernel.new.used) }
+    // Files that no option names are left alone, and the drive keeps its number of blocks, whatever they tell.
+    ensures no_files { names_file (options_of options.entry) ≡ false → files.new ≡ files.old }
+    ensures size { D.count drive.new ≡ D.count drive.old }
+    ensures cause { HasCause result.status
+        (counts_of F.faults D.faults S.faults T.faults P.faults files.old drive.old input.old terminal.old printer.old)
+        (counts_of F.faults D.faults S.faults T.faults P.faults files.new drive.new input.new terminal.new printer.new) }
+    ensures later { NoneFalls
+        (counts_of F.faults D.faults S.faults T.faults P.faults files.old drive.old input.old terminal.old printer.old)
+        (counts_of F.faults D.faults S.faults T.faults P.faults files.new drive.new input.new terminal.new printer.new) }
+{
+    let mut choices = match read_from(alloc, files, options.choices) {
+        Ok(choices) => choices,
+        Err(status) => return stopped(status),
+    };
+    hold_session(
+        alloc,
+        options.turns,
+        options.record_file,
+        &mut choices,
+        files,
+        drive,
+        input,
+        terminal,
+        printer,
+        kernel,
+    )
+}
