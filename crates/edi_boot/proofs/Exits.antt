@@ -32,7 +32,7 @@ use Rattle.edi_run_commands.proofs.Endings.{IsLeft, IsUnmounted}
 use Rattle.edi_run_commands.proofs.Exits.{IsRefusal, choices_refusal, with_files}
 use Rattle.edi_run_commands.proofs.Meaning.{at_record}
 use Rattle.edi_run_commands.proofs.Left.{devices_told, told_by}
-use Rattle.edi_statuses.proofs.Told.{first_told, same_but, same_told, shows_nothing, still, still_same, told_so}
+use Rattle.edi_statuses.proofs.Told.{first_told, same_told, shows_nothing, still, still_same, told_so}
 use Rattle.edi_run_commands.proofs.Told.{on_files, reads_till_the_last}
 use Rattle.edi_run_commands.proofs.Shown.{due_so, shown_since, shows_so}
 use Rattle.edi_boot.specs.OnObjects.{EndsOn}
@@ -241,19 +241,20 @@ module _ (o : Options) (choices : Choices) (before after : Outside) (shown : Lis
   boot_means status.NoMemory (inr h) = inr (at_record o.record_file (BootSteps before o.choices) _ choices h.0 (went h.1) h.2)
   boot_means status.FileFault h = record {
     uses = recording o.choices o.record_file h.0;
-    files = h.1;
-    far = inr (at_record o.record_file (BootSteps before o.choices) _ choices h.0 (went h.2) h.3);
+    far = inr (h.1, at_record o.record_file (BootSteps before o.choices) _ choices h.0 (went h.2) h.3);
   }
   boot_means status.DriveFault h = record {
     uses = refl;
-    files = h.0;
-    far = elim h.1 [
-      | inl none ↦ inl none
-      | inr far ↦ inr (choices, went far.0, far.1)
-    ];
+    far = (
+      h.0,
+      elim h.1 [
+        | inl none ↦ inl ((choices, there), none)
+        | inr far ↦ inr (choices, went far.0, far.1)
+      ],
+    );
   }
-  boot_means status.InputFault h = record { uses = tt; files = h.0; far = (choices, went h.1, h.2) }
-  boot_means status.OutputFault h = record { uses = tt; files = h.0; far = (choices, went h.1, h.2) }
+  boot_means status.InputFault h = record { uses = tt; far = (h.0, (choices, went h.1, h.2)) }
+  boot_means status.OutputFault h = record { uses = tt; far = (h.0, (choices, went h.1, h.2)) }
   boot_means (status.BadImage broken) h = inl (stopped_there (status.BadImage broken) h.0, h.1)
   boot_means s h = inr (choices, went h.0, h.1)
 
@@ -288,14 +289,16 @@ module _ (o : Options) (before : Outside) (new : Option Contents) (kernel : Lent
     unread_means status.NoMemory h = inl nothing_done
     unread_means status.FileFault h = record {
       uses = chosen o.choices o.record_file h;
-      files = same_but (names_in o.record_file) (still_told before.files new) new nothing_done.same.files;
-      far = inl (record {
-        shown_ = refl;
-        blocks = nothing_done.same.blocks;
-        input = nothing_done.same.input;
-        printed = nothing_done.same.printed;
-        kernel_same = kept;
-      });
+      far = inl (
+        nothing_done.same.files,
+        record {
+          shown_ = refl;
+          blocks = nothing_done.same.blocks;
+          input = nothing_done.same.input;
+          printed = nothing_done.same.printed;
+          kernel_same = kept;
+        },
+      );
     }
     unread_means s h =
         refused s (choices_refusal (files_only (still_told before.files new)) o.choices s h)

@@ -57,7 +57,7 @@ module _ (file : List ℕ) (old new : Option Contents) (same : WhereTold old new
       → (s ≡ status.NoMemory) ⊎ ((s ≡ status.FileFault) ⊎ ListSteps (files_only (still_told old new)) file (stops s)) → MeansHere s []
   stops_means s (inl none) = subst (λ t. MeansHere t []) (sym none) nothing
   stops_means s (inr (inl failed)) =
-      subst (λ t. MeansHere t []) (sym failed) (record { uses = refl; files = files_same; far = inl not_begun })
+      subst (λ t. MeansHere t []) (sym failed) (record { uses = refl; far = inl (files_same, not_begun) })
   stops_means s (inr (inr steps)) = step_means s steps
 
   -- it has shown bytes
@@ -68,8 +68,7 @@ module _ (file : List ℕ) (old new : Option Contents) (same : WhereTold old new
   shows_means items v l status.OutputFault front far =
       record {
         uses = tt;
-        files = files_same;
-        far = (l.0, l.1, record { front = (far.0, sym l.2 ∙ far.1); same = as_before; kernel_same = refl });
+        far = (files_same, (l.0, l.1, record { front = (far.0, sym l.2 ∙ far.1); same = as_before; kernel_same = refl }));
       }
   shows_means items v l s front far = absurd far
 

@@ -64,8 +64,10 @@ module _ (title file into : List ℕ) (before after : Outside) (kernel : Lent) (
     go status.NoMemory of_ told = nothing before after kernel rest n.files (same status.NoMemory told)
     go status.DriveFault of_ told = record {
       uses = refl;
-      files = still (λ old new. new ≡ old) before.files after.files n.files;
-      far = inl (not_begun before after kernel rest (same status.DriveFault told));
+      far = (
+        still (λ old new. new ≡ old) before.files after.files n.files,
+        inl (tt, not_begun before after kernel rest (same status.DriveFault told)),
+      );
     }
     go s of_ told = absurd of_
 
@@ -115,8 +117,11 @@ module _ (n : ℕ) (title file into bytes : List ℕ) (before after : Outside) (
         )
     go keep.Failed told = record {
       uses = refl;
-      files = still (λ old new. map.remove new file ≡ map.remove old file) before.files after.files told;
-      far = inl (not_begun before after kernel rest same);
+      far =
+          inr (
+            still (λ old new. map.remove new file ≡ map.remove old file) before.files after.files told,
+            (bytes, steps, not_begun before after kernel rest same),
+          );
     }
     go keep.NoMemory told = nothing before after kernel rest told same
 

@@ -1,5 +1,5 @@
 -- From a format to what the status of `newdisk` means.
-use Rattle.std.proofs.Common.{◌≡◌, ◌∙◌, inr, ℕ, List, [], length, Option, Some, None, refl}
+use Rattle.std.proofs.Common.{◌≡◌, ◌∙◌, inl, inr, ℕ, List, [], length, Option, Some, None, Err, refl}
 use Rattle.std.specs.Prelude.{IfSome}
 use Rattle.edi_told.specs.Told.{WhereTold}
 use Rattle.edi_host.specs.Files.{Contents}
@@ -11,7 +11,8 @@ use Rattle.edi_statuses.specs.declared.status.Status.{Status}
 use Rattle.edi_statuses.specs.declared.status.Status.TheVariants as status
 use Rattle.edi_statuses.specs.Outside.{Lent, Outside}
 use Rattle.edi_statuses.specs.Commands.{AreNew}
-use Rattle.edi_statuses.specs.Means.{IsOpen, Means}
+use Rattle.edi_statuses.specs.Means.{CountsNew, IsOpen, Means}
+use Rattle.edi_steps.specs.OnFiles.{FetchStep}
 use Rattle.edi_disk_commands.specs.OnDisk.{MeansOnDrive, RestStays}
 use Rattle.edi_statuses.proofs.Told.{itself, still, told_so}
 use Rattle.edi_disk_commands.proofs.Meant.{Same, changes_drive, meant, nothing, only_blocks}
@@ -51,9 +52,11 @@ formats_means format.Ok count before after kernel rest f =
     )
 formats_means format.Fault count before after kernel rest f = record {
   uses = refl;
-  files = still (λ old new. new ≡ old) before.files after.files f.files;
-  far = inr (changes_drive before after kernel rest IsOpen
-      (told_so (FormatLeaves format.Fault count) IsOpen before.blocks after.blocks (λ x y h. tt) f.leaves));
+  far = (
+    still (λ old new. new ≡ old) before.files after.files f.files,
+    inr (changes_drive before after kernel rest IsOpen
+        (told_so (FormatLeaves format.Fault count) IsOpen before.blocks after.blocks (λ x y h. tt) f.leaves)),
+  );
 }
 formats_means format.NoMemory count before after kernel rest f = nothing before after kernel rest f.files f.leaves
 
@@ -63,3 +66,13 @@ formatted_means end count had has was now counted counts leaves = λ files.
     meant (Formats end count) (newdisk count None) (status_formatted end) files files was now
     (record { files = itself files; had = had; has = has; counted = counted; counts = counts; leaves = leaves })
     (λ before after kernel rest f. formats_means end count before after kernel rest f)
+
+-- ---- the number of blocks
+
+-- where nothing was fetched it is as before
+pub counts_kept : {V : Type 0} (items : V → List ℕ) (o : Outside) (name : List ℕ) (limit : ℕ) (s : Status) → FetchStep items o name limit (Err s)
+    → (wanted n had has : ℕ) → CountsNew s wanted n n had has
+counts_kept items o name limit status.Ok h wanted n had has = let never : status.Ok ≡ status.Absent = h.0 in absurd (cc)
+counts_kept items o name limit status.DriveFault h wanted n had has = tt
+counts_kept items o name limit status.OutputFault h wanted n had has = inl refl
+counts_kept items o name limit s h wanted n had has = refl

@@ -41,8 +41,7 @@ not_taken s count file old new was now h = meant (NotFetched s file) (newdisk co
           | inl e ↦
               subst (λ s. Means s (Some (newdisk count (Some file))) before after [] kernel) (sym e) (record {
                 uses = refl;
-                files = still (λ old new. new ≡ old) before.files after.files n.files;
-                far = inl (not_begun before after kernel rest n.blocks);
+                far = inl (still (λ old new. new ≡ old) before.files after.files n.files, not_begun before after kernel rest n.blocks);
               })
           | inr a ↦
               subst (λ s. Means s (Some (newdisk count (Some file))) before after [] kernel) (sym a.0)
@@ -116,14 +115,15 @@ module _ (decide : FirstBytesDecide) (count : ℕ) (least : 64 ≤ count) (file 
         inl (inr (m.all, fetched, inr (blocks_of bytes, (whole a.0, a.0), inl (full, refl))), nothing before after kernel rest m.files l)
     go end.Fault a l = record {
       uses = refl;
-      files = still (λ old new. new ≡ old) before.files after.files m.files;
-      far =
-          inr (
-            blocks_of bytes,
-            steps a.0 a.1,
-            changes_drive before after kernel rest IsOpen
-                (told_so (MigrateLeaves end.Fault count (blocks_of bytes)) IsOpen before.blocks after.blocks (λ x y h. tt) l),
-          );
+      far = (
+        still (λ old new. new ≡ old) before.files after.files m.files,
+        inr (
+          blocks_of bytes,
+          steps a.0 a.1,
+          changes_drive before after kernel rest IsOpen
+              (told_so (MigrateLeaves end.Fault count (blocks_of bytes)) IsOpen before.blocks after.blocks (λ x y h. tt) l),
+        ),
+      );
     }
     go end.NoMemory a l = nothing before after kernel rest m.files l
 

@@ -48,8 +48,7 @@ not_put s file title old new was now h = meant (NotFetched s file) (put file tit
           | inl e ↦
               subst (λ s. Means s (Some (put file title)) before after [] kernel) (sym e) (record {
                 uses = refl;
-                files = still (λ old new. new ≡ old) before.files after.files n.files;
-                far = inl (not_begun before after kernel rest n.blocks);
+                far = inl (still (λ old new. new ≡ old) before.files after.files n.files, not_begun before after kernel rest n.blocks);
               })
           | inr a ↦
               subst (λ s. Means s (Some (put file title)) before after [] kernel) (sym a.0)
@@ -198,18 +197,19 @@ module _ (file title bytes : List ℕ) (before after : Outside) (kernel : Lent) 
   put_means status.NoMemory of_ told = nothing before after kernel rest has.files told
   put_means status.DriveFault of_ told = record {
     uses = refl;
-    files = still (λ old new. new ≡ old) before.files after.files has.files;
-    far =
-        elim (one_told (λ old new. new ≡ old) Broke before.blocks after.blocks told) [
-          | inl same ↦ inl (not_begun before after kernel rest same)
-          | inr broke ↦
-              inr (
-                bytes,
-                steps Broke (λ x y p. p.0) (λ x y p. p.1) broke,
-                changes_drive before after kernel rest (ArePutInPart title bytes)
-                    (told_so Broke (ArePutInPart title bytes) before.blocks after.blocks (λ x y p. p.2) broke),
-              )
-        ];
+    far = (
+      still (λ old new. new ≡ old) before.files after.files has.files,
+      elim (one_told (λ old new. new ≡ old) Broke before.blocks after.blocks told) [
+        | inl same ↦ inl ((tt, inr (bytes, fetched, fits_whole bytes short)), not_begun before after kernel rest same)
+        | inr broke ↦
+            inr (
+              bytes,
+              steps Broke (λ x y p. p.0) (λ x y p. p.1) broke,
+              changes_drive before after kernel rest (ArePutInPart title bytes)
+                  (told_so Broke (ArePutInPart title bytes) before.blocks after.blocks (λ x y p. p.2) broke),
+            )
+      ],
+    );
   } where
     Broke : List (List ℕ) → List (List ℕ) → Type 0
     Broke old new = (mount_fault_of old ≡ None) × (is_full old title (length bytes) ≡ false) × ArePutInPart title bytes old new

@@ -4,6 +4,7 @@ ghost use Rattle.std.specs.Prelude.{◌≡◌, ◌≤◌, None, Some};
 ghost use Rattle.edi_told.specs.Faults.{CountRose};
 ghost use Rattle.edi_words.specs.Words.{newdisk};
 ghost use Rattle.edi_disk_commands.specs.OnDisk.{IsOfDisk, MeansOnDisk, MeansOnDrive};
+ghost use Rattle.edi_statuses.specs.Means.{CountsNew};
 
 use edi_catalog::{FormatEnd, format};
 use edi_host::{Drive, Files};
@@ -21,6 +22,7 @@ pub fn new_disk<D: Drive>(alloc: Global, drive: &mut D, blocks: u32) -> Status
     requires most { blocks ≤ 4096 }
     ensures means { MeansOnDrive (newdisk blocks None) result (D.contents drive.old) (D.contents drive.new) }
     ensures kind { IsOfDisk result }
+    ensures size { CountsNew result blocks (D.count drive.old) (D.count drive.new) (D.faults drive.old) (D.faults drive.new) }
     ensures no_files { result ≡ Status.FileFault → ⊥ }
     ensures later { D.faults drive.old ≤ D.faults drive.new }
     ensures cause { result ≡ Status.DriveFault → CountRose (D.faults drive.old) (D.faults drive.new) }
@@ -46,6 +48,7 @@ pub fn new_disk_from<F: Files, D: Drive>(
     requires most { blocks ≤ 4096 }
     ensures means { MeansOnDisk (newdisk blocks (Some file.now)) result (F.contents files.old) (F.contents files.new) (D.contents drive.old)
         (D.contents drive.new) }
+    ensures size { CountsNew result blocks (D.count drive.old) (D.count drive.new) (D.faults drive.old) (D.faults drive.new) }
     ensures kind { IsOfDisk result }
     ensures later_files { F.faults files.old ≤ F.faults files.new }
     ensures later_drive { D.faults drive.old ≤ D.faults drive.new }

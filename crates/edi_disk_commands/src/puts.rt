@@ -31,6 +31,7 @@ fn put_on<D: Drive>(alloc: Global, drive: &mut D, title: &Title, bytes: &[u8]) -
     ensures kind { IsOfPut result }
     ensures later { D.faults drive.old ≤ D.faults drive.new }
     ensures cause { result ≡ Status.DriveFault → CountRose (D.faults drive.old) (D.faults drive.new) }
+    ensures size { D.count drive.new ≡ D.count drive.old }
 {
     let mut disk = Disk::attach(drive);
     let mut room = match check(alloc, &mut disk) {
@@ -61,6 +62,7 @@ pub fn put<F: Files, D: Drive>(
     ensures later_drive { D.faults drive.old ≤ D.faults drive.new }
     ensures cause_files { result ≡ Status.FileFault → CountRose (F.faults files.old) (F.faults files.new) }
     ensures cause_drive { result ≡ Status.DriveFault → CountRose (D.faults drive.old) (D.faults drive.new) }
+    ensures size { D.count drive.new ≡ D.count drive.old }
 {
     let bytes = match fetch(alloc, files, file, LIMIT) {
         Ok(bytes) => bytes,

@@ -32,6 +32,7 @@ fn read_on<D: Drive>(
     ensures kind { IfErr result IsOfRead }
     ensures later { D.faults drive.old ≤ D.faults drive.new }
     ensures cause { IfErr result (λ s. s ≡ Status.DriveFault → CountRose (D.faults drive.old) (D.faults drive.new)) }
+    ensures size { D.count drive.new ≡ D.count drive.old }
 {
     let mut disk = Disk::attach(drive);
     let mut room = match check(alloc, &mut disk) {
@@ -75,6 +76,7 @@ pub fn get<F: Files, D: Drive>(
     ensures later_drive { D.faults drive.old ≤ D.faults drive.new }
     ensures cause_files { result ≡ Status.FileFault → CountRose (F.faults files.old) (F.faults files.new) }
     ensures cause_drive { result ≡ Status.DriveFault → CountRose (D.faults drive.old) (D.faults drive.new) }
+    ensures size { D.count drive.new ≡ D.count drive.old }
 {
     let title = title_of(title);
     let Ok(mut into) = vec![in alloc; 0; MOST] else {

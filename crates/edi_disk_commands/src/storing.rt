@@ -43,6 +43,7 @@ pub(crate) fn store_over<D: Drive>(
         (StoresOver result title.now bytes.now) }
     ensures same_reference { reference_of (disk_of catalog.new) ≡ reference_of (disk_of catalog.old) }
     ensures same_room { room_reference catalog.new ≡ room_reference catalog.old }
+    ensures size { D.count (drive_of (disk_of catalog.new)) ≡ D.count (drive_of (disk_of catalog.old)) }
     ensures later { D.faults (drive_of (disk_of catalog.old)) ≤ D.faults (drive_of (disk_of catalog.new)) }
     ensures cause { result ≡ Err CatEnd.Fault → CountRose (D.faults (drive_of (disk_of catalog.old))) (D.faults (drive_of (disk_of catalog.new))) }
 {

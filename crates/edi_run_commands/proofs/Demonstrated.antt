@@ -105,15 +105,20 @@ module _ (n : ℕ) (o : Options) (before after : Outside) (blocks : SameBlocks b
         (on_its_own (λ b a. RanUnkept (text (demo_text n)) o.turns choices b a shown kernel) disk left h.2))
     ran_means status.FileFault of_ not_ok h = record {
       uses = or_second (is_in_file o.choices) _ (record_there o.record_file h.0);
-      files = h.1;
-      far = inr (at_record o.record_file (DemoSteps before n o.choices)
-          (λ v. OnItsOwn (λ b a. RanWhole (text (demo_text n)) o.turns v b a shown kernel) before after) choices h.0 steps
-          (on_its_own (λ b a. RanWhole (text (demo_text n)) o.turns choices b a shown kernel) disk left h.3));
+      far =
+          inr (
+            h.1,
+            at_record o.record_file (DemoSteps before n o.choices)
+                (λ v. OnItsOwn (λ b a. RanWhole (text (demo_text n)) o.turns v b a shown kernel) before after) choices h.0 steps
+                (on_its_own (λ b a. RanWhole (text (demo_text n)) o.turns choices b a shown kernel) disk left h.3),
+          );
     }
     ran_means status.OutputFault of_ not_ok h = record {
       uses = tt;
-      files = same_but (names_in o.record_file) before.files after.files h.0;
-      far = (choices, steps, inl (on_its_own (λ b a. SameFiles b a × BrokeRun (text (demo_text n)) o.turns choices b a shown) disk left (h.0, h.2)));
+      far = (
+        same_but (names_in o.record_file) before.files after.files h.0,
+        (choices, steps, inl (on_its_own (λ b a. SameFiles b a × BrokeRun (text (demo_text n)) o.turns choices b a shown) disk left (h.0, h.2))),
+      );
     }
     ran_means status.DriveFault of_ not_ok h = absurd of_
     ran_means status.InputFault of_ not_ok h = absurd of_
@@ -145,17 +150,19 @@ module _ (n : ℕ) (o : Options) (before after : Outside) (blocks : SameBlocks b
       )
   line_means choices steps disk left by_program ran status.OutputFault front far = record {
     uses = tt;
-    files = told_so _ _ before.files after.files (kept_but o.record_file choices ran.drawn) ran.keeps;
     far = (
-      choices,
-      steps,
-      inr (record {
-        by_program = by_program;
-        line = front;
-        front = far;
-        shown_ = refl;
-        ran = on_its_own (λ b a. Runs (text (demo_text n)) o.turns choices o.record_file status.Ok b a by_program kernel) disk left ran;
-      }),
+      told_so _ _ before.files after.files (kept_but o.record_file choices ran.drawn) ran.keeps,
+      (
+        choices,
+        steps,
+        inr (record {
+          by_program = by_program;
+          line = front;
+          front = far;
+          shown_ = refl;
+          ran = on_its_own (λ b a. Runs (text (demo_text n)) o.turns choices o.record_file status.Ok b a by_program kernel) disk left ran;
+        }),
+      ),
     );
   }
   line_means choices steps disk left by_program ran s front far = absurd far
@@ -177,8 +184,7 @@ module _ (n : ℕ) (o : Options) (before after : Outside) (blocks : SameBlocks b
     unread_means status.NoMemory h = inl nothing
     unread_means status.FileFault h = record {
       uses = or_first (is_in_file o.choices) _ h;
-      files = same_but (names_in o.record_file) before.files after.files nothing.same.files;
-      far = inl not_begun;
+      far = inl (nothing.same.files, not_begun);
     }
     unread_means s h = refused s (choices_refusal (files_only before.files) o.choices s h) (inl (on_files before o.choices (stops s) h))
 

@@ -14,12 +14,12 @@ use Rattle.edi_statuses.specs.Outside.{Outside, seen, still_told, Lent}
 use Rattle.edi_statuses.specs.Steps.{Reached, goes, stops, ◌>>=◌, Ready, Fetches, GivesChoices, ReadsChoices, Mounts}
 use Rattle.edi_statuses.specs.Executions.{Program, HasCode}
 use Rattle.edi_statuses.specs.Commands.{IsNothing}
-use Rattle.edi_statuses.specs.Means.{HasNotBegun, names_in}
+use Rattle.edi_statuses.specs.Means.{HasNotBegun, WentOn}
 use Rattle.edi_steps.specs.OnFiles.{FetchStep, ChoicesStep, files_only}
 use Rattle.edi_run_commands.specs.CodeRan.{CodeRan, RanCode}
 use Rattle.edi_run_commands.specs.RunMeans.{RunCame, RunMeans}
 use Rattle.edi_run_commands.proofs.Meaning.{code_means}
-use Rattle.edi_statuses.proofs.Told.{same_told, still, shows_nothing, same_but, just_told, still_same, till_the_last, in_turn}
+use Rattle.edi_statuses.proofs.Told.{same_told, still, shows_nothing, just_told, still_same, till_the_last, in_turn}
 use Rattle.edi_run_commands.proofs.Told.{reads_till_the_last, on_files}
 
 -- ---- nothing was done
@@ -59,14 +59,14 @@ IsRefusal (status.Refused kind line) = ⊤
 IsRefusal (status.BadCode broken) = ⊤
 IsRefusal _ = ⊥
 
-refused_means : {A : Type 0} (steps : Reached A → Type 0) (program : A → Program) (choices : A → Choices) (bound : ℕ) (name : Option (List ℕ)) (s : Status)
+refused_means : {A : Type 0} (asks : Type 0) (steps : Reached A → Type 0) (program : A → Program) (choices : A → Choices) (bound : ℕ) (name : Option (List ℕ)) (s : Status)
     (before after : Outside) (kernel : Lent) → IsRefusal s → steps (stops s) → IsNothing before after [] kernel
-    → RunMeans steps program choices bound name s before after [] kernel
-refused_means steps program choices bound name status.Absent before after kernel refusal h n = inl (h, n)
-refused_means steps program choices bound name (status.BadChoices m) before after kernel refusal h n = inl (h, n)
-refused_means steps program choices bound name (status.Refused kind line) before after kernel refusal h n = inl (h, n)
-refused_means steps program choices bound name (status.BadCode broken) before after kernel refusal h n = inl (h, n)
-refused_means steps program choices bound name _ before after kernel refusal h n = absurd refusal
+    → RunMeans asks steps program choices bound name s before after [] kernel
+refused_means asks steps program choices bound name status.Absent before after kernel refusal h n = inl (h, n)
+refused_means asks steps program choices bound name (status.BadChoices m) before after kernel refusal h n = inl (h, n)
+refused_means asks steps program choices bound name (status.Refused kind line) before after kernel refusal h n = inl (h, n)
+refused_means asks steps program choices bound name (status.BadCode broken) before after kernel refusal h n = inl (h, n)
+refused_means asks steps program choices bound name _ before after kernel refusal h n = absurd refusal
 
 fetch_refusal : (o : Outside) (name : List ℕ) (s : Status) → Fetches o name (stops s) → IsRefusal s
 fetch_refusal o name s h = subst IsRefusal (sym h.0) tt
@@ -89,25 +89,32 @@ abbrev pub StepsBy : {U X : Type 0} → (third : List ℕ → Reached U → Type
 StepsBy third make name from o =
     Fetches o name >>= λ bytes. ReadsChoices o from >>= λ choices. third bytes >>= λ u. Mounts o >>= λ done. Ready (make bytes u, choices)
 
+-- and has come to the drive
+abbrev pub AsksBy : {U : Type 0} → (third : List ℕ → Reached U → Type 0) → (file : List ℕ) → ChoicesFrom → Outside → Type 0
+AsksBy third name from o = WentOn (Fetches o name >>= λ bytes. ReadsChoices o from >>= λ choices. third bytes)
+
 -- another status that is the same
-pub came : {A : Type 0} (steps : Outside → Reached A → Type 0) (program : A → Program) (choices : A → Choices) (bound : ℕ) (name : Option (List ℕ))
+pub came : {A : Type 0} (asks : Outside → Type 0) (steps : Outside → Reached A → Type 0) (program : A → Program) (choices : A → Choices) (bound : ℕ) (name : Option (List ℕ))
     (s t : Status) (due : Bool) (before after : Outside) (kernel : Lent) → t ≡ s → due ≡ false
-    → RunCame steps program choices bound name s false before after kernel → RunCame steps program choices bound name t due before after kernel
-came steps program choices bound name s t due before after kernel same none h =
-    subst (λ d. RunCame steps program choices bound name t d before after kernel) (sym none)
-    (subst (λ x. RunCame steps program choices bound name x false before after kernel) (sym same) h)
+    → RunCame asks steps program choices bound name s false before after kernel → RunCame asks steps program choices bound name t due before after kernel
+came asks steps program choices bound name s t due before after kernel same none h =
+    subst (λ d. RunCame asks steps program choices bound name t d before after kernel) (sym none)
+    (subst (λ x. RunCame asks steps program choices bound name x false before after kernel) (sym same) h)
 
 module _ {U X : Type 0} (third : List ℕ → Reached U → Type 0) (make : List ℕ → U → X) (program : X → Program) (name : List ℕ) (from : ChoicesFrom)
     (bound : ℕ) (record_file : Option (List ℕ)) (before : Outside) (kernel : Lent) where
   abbrev steps : Outside → Reached (X × Choices) → Type 0
   steps o = StepsBy third make name from o
 
+  abbrev asks : Outside → Type 0
+  asks o = AsksBy third name from o
+
   abbrev CameTo : Status → Bool → Outside → Type 0
-  CameTo s due after = RunCame steps (λ a. program a.0) (λ a. a.1) bound record_file s due before after kernel
+  CameTo s due after = RunCame asks steps (λ a. program a.0) (λ a. a.1) bound record_file s due before after kernel
 
   abbrev MeansAt : Status → Option Contents → Type 0
   MeansAt s new =
-      RunMeans (steps (seen before (with_files before new))) (λ a. program a.0) (λ a. a.1) bound record_file s (seen before (with_files before new))
+      RunMeans (asks (seen before (with_files before new))) (steps (seen before (with_files before new))) (λ a. program a.0) (λ a. a.1) bound record_file s (seen before (with_files before new))
       (with_files before new) [] kernel
 
   stopped : (s : Status) (new : Option Contents) → MeansAt s new → CameTo s false (with_files before new)
@@ -118,12 +125,11 @@ module _ {U X : Type 0} (third : List ℕ → Reached U → Type 0) (make : List
     wants_at = inl (nothing before new kernel kept same)
 
     fails_at : MeansAt status.FileFault new
-    fails_at =
-        (same_but (names_in record_file) (still_told before.files new) new (still (λ a b. b ≡ a) before.files new same), inl (not_begun before new kernel kept))
+    fails_at = inl (still (λ a b. b ≡ a) before.files new same, not_begun before new kernel kept)
 
     refused_at : (s : Status) → IsRefusal s → steps (seen before (with_files before new)) (stops s) → MeansAt s new
     refused_at s refusal h =
-        refused_means (steps (seen before (with_files before new))) (λ a. program a.0) (λ a. a.1) bound record_file s (seen before (with_files before new))
+        refused_means (asks (seen before (with_files before new))) (steps (seen before (with_files before new))) (λ a. program a.0) (λ a. a.1) bound record_file s (seen before (with_files before new))
         (with_files before new) kernel refusal h (nothing before new kernel kept same)
 
   -- the file was not fetched
@@ -190,11 +196,12 @@ module _ {U X : Type 0} (third : List ℕ → Reached U → Type 0) (make : List
         (still_same before.files new after.files (in_turn before.files mid new first second) last) (r.ran (program (make all u)) is) in
         let goes_on : Mounts o (goes tt) → steps o (goes (make all u, choices)) =
         λ m. inr (all, got, inr (choices, there, inr (u, t, inr (tt, m, refl)))) in
+        let asked : asks o = (u, inr (all, got, inr (choices, there, t))) in
         let stops_there : (x : Status) → Mounts o (stops x) → steps o (stops x) =
         λ x m. inr (all, got, inr (choices, there, inr (u, t, inl m))) in
         record {
           shown = r.shown;
-          means = code_means (steps o) (λ a. program a.0) (λ a. a.1) (make all u, choices) bound record_file o after r.shown kernel goes_on stops_there s ran;
+          means = code_means (asks o) (steps o) (λ a. program a.0) (λ a. a.1) (make all u, choices) bound record_file o after r.shown kernel asked goes_on stops_there s ran;
           shows = r.shows;
           due_is = r.due_is;
         }

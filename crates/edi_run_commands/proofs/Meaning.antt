@@ -12,7 +12,7 @@ use Rattle.edi_statuses.specs.Outside.{Outside, Lent}
 use Rattle.edi_statuses.specs.Steps.{Reached, goes, stops, Mounts}
 use Rattle.edi_statuses.specs.Executions.{Program, text, code, status_of}
 use Rattle.edi_statuses.specs.Commands.{RunSteps, ExecSteps}
-use Rattle.edi_statuses.specs.Means.{AtRecord, Came, MeansOf}
+use Rattle.edi_statuses.specs.Means.{AtRecord, Came, ExecAsks, MeansOf, RunAsks}
 use Rattle.edi_run_commands.specs.CodeRan.{CodeRan}
 use Rattle.edi_run_commands.specs.RunMeans.{RunMeans, TextCame, CodeFileCame}
 
@@ -32,19 +32,20 @@ never_words (outcome.bad address) e = absurd (cc)
 -- ---- a command that has run a code
 
 -- its steps go on if the drive is mounted, and stop where it is not
-module _ {A : Type 0} (steps : Reached A → Type 0) (program : A → Program) (choices : A → Choices) (a : A) (bound : ℕ) (name : Option (List ℕ))
-    (before after : Outside) (shown : List ℕ) (kernel : Lent) (went : Mounts before (goes tt) → steps (goes a))
+module _ {A : Type 0} (asks : Type 0) (steps : Reached A → Type 0) (program : A → Program) (choices : A → Choices) (a : A) (bound : ℕ) (name : Option (List ℕ))
+    (before after : Outside) (shown : List ℕ) (kernel : Lent) (asked : asks)
+    (went : Mounts before (goes tt) → steps (goes a))
     (stopped : (s : Status) → Mounts before (stops s) → steps (stops s)) where
   pub code_means : (s : Status) → CodeRan (program a) bound (choices a) name s before after shown kernel
-      → RunMeans steps program choices bound name s before after shown kernel
+      → RunMeans asks steps program choices bound name s before after shown kernel
   code_means status.Words h = never_words h.1.ending h.1.status_is
   code_means status.NoMemory (inl h) = inl h
   code_means status.NoMemory (inr h) = inr (at_record name steps _ a h.0 (went h.1) h.2)
-  code_means status.FileFault h = (h.1, inr (at_record name steps _ a h.0 (went h.2) h.3))
+  code_means status.FileFault h = inr (h.1, at_record name steps _ a h.0 (went h.2) h.3)
   code_means status.DriveFault h = (
     h.0,
     elim h.1 [
-      | inl none ↦ inl none
+      | inl none ↦ inl (asked, none)
       | inr far ↦ inr (a, went far.0, far.1)
     ],
   )
@@ -56,14 +57,14 @@ module _ {A : Type 0} (steps : Reached A → Type 0) (program : A → Program) (
 -- ---- the commands
 
 run_means : (file : List ℕ) (o : Options) (s : Status) (before after : Outside) (shown : List ℕ) (kernel : Lent)
-    → RunMeans (RunSteps before file o.choices) (λ a. text a.0) (λ a. a.1) o.turns o.record_file s before after shown kernel
+    → RunMeans (RunAsks before file o.choices) (RunSteps before file o.choices) (λ a. text a.0) (λ a. a.1) o.turns o.record_file s before after shown kernel
     → MeansOf s (words.run file o) before after shown kernel
 run_means file o status.Words before after shown kernel h = h
 run_means file o status.NoMemory before after shown kernel h = h
-run_means file o status.FileFault before after shown kernel h = record { uses = refl; files = h.0; far = h.1 }
-run_means file o status.DriveFault before after shown kernel h = record { uses = refl; files = h.0; far = h.1 }
-run_means file o status.InputFault before after shown kernel h = record { uses = tt; files = h.0; far = h.1 }
-run_means file o status.OutputFault before after shown kernel h = record { uses = tt; files = h.0; far = h.1 }
+run_means file o status.FileFault before after shown kernel h = record { uses = refl; far = h }
+run_means file o status.DriveFault before after shown kernel h = record { uses = refl; far = h }
+run_means file o status.InputFault before after shown kernel h = record { uses = tt; far = h }
+run_means file o status.OutputFault before after shown kernel h = record { uses = tt; far = h }
 run_means file o s before after shown kernel h = h
 
 no_record : {B : Type 0} → B ⊎ ⊥ → B
@@ -71,25 +72,25 @@ no_record (inl b) = b
 no_record (inr h) = absurd h
 
 replay_means : (file name : List ℕ) (turns : ℕ) (s : Status) (before after : Outside) (shown : List ℕ) (kernel : Lent)
-    → RunMeans (RunSteps before file (words.file name)) (λ a. text a.0) (λ a. a.1) turns None s before after shown kernel
+    → RunMeans (RunAsks before file (words.file name)) (RunSteps before file (words.file name)) (λ a. text a.0) (λ a. a.1) turns None s before after shown kernel
     → MeansOf s (words.replay file name turns) before after shown kernel
 replay_means file name turns status.Words before after shown kernel h = h
 replay_means file name turns status.NoMemory before after shown kernel h = no_record h
-replay_means file name turns status.FileFault before after shown kernel h = record { uses = refl; files = h.0; far = inl (no_record h.1) }
-replay_means file name turns status.DriveFault before after shown kernel h = record { uses = refl; files = h.0; far = h.1 }
-replay_means file name turns status.InputFault before after shown kernel h = record { uses = tt; files = h.0; far = h.1 }
-replay_means file name turns status.OutputFault before after shown kernel h = record { uses = tt; files = h.0; far = h.1 }
+replay_means file name turns status.FileFault before after shown kernel h = record { uses = refl; far = h }
+replay_means file name turns status.DriveFault before after shown kernel h = record { uses = refl; far = h }
+replay_means file name turns status.InputFault before after shown kernel h = record { uses = tt; far = h }
+replay_means file name turns status.OutputFault before after shown kernel h = record { uses = tt; far = h }
 replay_means file name turns s before after shown kernel h = h
 
 exec_means : (file : List ℕ) (o : Options) (s : Status) (before after : Outside) (shown : List ℕ) (kernel : Lent)
-    → RunMeans (ExecSteps before file o.choices) (λ a. code a.0) (λ a. a.1) o.turns o.record_file s before after shown kernel
+    → RunMeans (ExecAsks before file o.choices) (ExecSteps before file o.choices) (λ a. code a.0) (λ a. a.1) o.turns o.record_file s before after shown kernel
     → MeansOf s (words.exec file o) before after shown kernel
 exec_means file o status.Words before after shown kernel h = h
 exec_means file o status.NoMemory before after shown kernel h = h
-exec_means file o status.FileFault before after shown kernel h = record { uses = refl; files = h.0; far = h.1 }
-exec_means file o status.DriveFault before after shown kernel h = record { uses = refl; files = h.0; far = h.1 }
-exec_means file o status.InputFault before after shown kernel h = record { uses = tt; files = h.0; far = h.1 }
-exec_means file o status.OutputFault before after shown kernel h = record { uses = tt; files = h.0; far = h.1 }
+exec_means file o status.FileFault before after shown kernel h = record { uses = refl; far = h }
+exec_means file o status.DriveFault before after shown kernel h = record { uses = refl; far = h }
+exec_means file o status.InputFault before after shown kernel h = record { uses = tt; far = h }
+exec_means file o status.OutputFault before after shown kernel h = record { uses = tt; far = h }
 exec_means file o s before after shown kernel h = h
 
 pub run_came : (file : List ℕ) (o : Options) (s : Status) (due : Bool) (before after : Outside) (kernel : Lent)

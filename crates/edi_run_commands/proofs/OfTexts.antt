@@ -19,6 +19,7 @@ use Rattle.edi_statuses.specs.Outside.{Outside, still_told, Lent}
 use Rattle.edi_statuses.specs.Steps.{goes, Fetches, ReadsChoices, Accepts}
 use Rattle.edi_statuses.specs.Executions.{text}
 use Rattle.edi_statuses.specs.Commands.{RunSteps}
+use Rattle.edi_statuses.specs.Means.{RunAsks}
 use Rattle.edi_steps.specs.OnFiles.{files_only}
 use Rattle.edi_steps.proofs.Units.{unit_there}
 use Rattle.edi_run_commands.specs.CodeRan.{RanCode, refusal_status}
@@ -30,7 +31,7 @@ pub text_came : (name : List ℕ) (from : ChoicesFrom) (bound : ℕ) (record_fil
     (kernel : Lent) → t ≡ s → due ≡ false → TextCame name from bound record_file s false before after kernel
     → TextCame name from bound record_file t due before after kernel
 text_came name from bound record_file s t due before after kernel same silent h =
-    came (λ o. RunSteps o name from) (λ a. text a.0) (λ a. a.1) bound record_file s t due before after kernel same silent h
+    came (λ o. RunAsks o name from) (λ o. RunSteps o name from) (λ a. text a.0) (λ a. a.1) bound record_file s t due before after kernel same silent h
 
 module _ (name : List ℕ) (from : ChoicesFrom) (bound : ℕ) (record_file : Option (List ℕ)) (before : Outside) (kernel : Lent) (all bytes : List ℕ)
     (first_bytes : bytes ≡ take most_fetched all) (mid new : Option Contents) (choices : Choices)

@@ -9,33 +9,33 @@ use Rattle.edi_statuses.specs.Lines.{is_due}
 use Rattle.edi_statuses.specs.Steps.{Reached}
 use Rattle.edi_statuses.specs.Executions.{Program, text, code, BrokeRun}
 use Rattle.edi_statuses.specs.Commands.{Does, IsNothing, Runs, RunSteps, ExecSteps}
-use Rattle.edi_statuses.specs.Means.{AtRecord, Begun, RanWhole, RanUnkept, HasNotBegun, names_in}
+use Rattle.edi_statuses.specs.Means.{AtRecord, Begun, ExecAsks, RanWhole, RanUnkept, RunAsks, HasNotBegun, names_in}
 
--- The steps lead to a program and the choices of its run.
-abbrev pub RunMeans : {A : Type 0} → (steps : Reached A → Type 0) → (A → Program) → (A → Choices) → (bound : ℕ) → (record_file : Option (List ℕ)) → Status
-    → Outside → Outside → (shown : List ℕ) → Lent → Type 0
-RunMeans steps program choices bound name status.Words before after shown kernel = ⊥
-RunMeans steps program choices bound name status.NoMemory before after shown kernel =
+-- The steps lead to a program and the choices of its run; `asks` says that they have come to the drive.
+abbrev pub RunMeans : {A : Type 0} → (asks : Type 0) → (steps : Reached A → Type 0) → (A → Program) → (A → Choices) → (bound : ℕ)
+    → (record_file : Option (List ℕ)) → Status → Outside → Outside → (shown : List ℕ) → Lent → Type 0
+RunMeans asks steps program choices bound name status.Words before after shown kernel = ⊥
+RunMeans asks steps program choices bound name status.NoMemory before after shown kernel =
     IsNothing before after shown kernel ⊎ AtRecord name steps (λ a. RanUnkept (program a) bound (choices a) before after shown kernel)
-RunMeans steps program choices bound name status.FileFault before after shown kernel =
-    SameBut (names_in name) before after
-    × (HasNotBegun before after shown kernel ⊎ AtRecord name steps (λ a. RanWhole (program a) bound (choices a) before after shown kernel))
-RunMeans steps program choices bound name status.DriveFault before after shown kernel =
+RunMeans asks steps program choices bound name status.FileFault before after shown kernel =
+    (SameFiles before after × HasNotBegun before after shown kernel)
+    ⊎ (SameBut (names_in name) before after × AtRecord name steps (λ a. RanWhole (program a) bound (choices a) before after shown kernel))
+RunMeans asks steps program choices bound name status.DriveFault before after shown kernel =
     SameFiles before after
-    × (HasNotBegun before after shown kernel ⊎ Begun steps (λ a. BrokeRun (program a) bound (choices a) before after shown))
-RunMeans steps program choices bound name status.InputFault before after shown kernel =
+    × ((asks × HasNotBegun before after shown kernel) ⊎ Begun steps (λ a. BrokeRun (program a) bound (choices a) before after shown))
+RunMeans asks steps program choices bound name status.InputFault before after shown kernel =
     SameFiles before after × Begun steps (λ a. BrokeRun (program a) bound (choices a) before after shown)
-RunMeans steps program choices bound name status.OutputFault before after shown kernel =
+RunMeans asks steps program choices bound name status.OutputFault before after shown kernel =
     SameFiles before after × Begun steps (λ a. BrokeRun (program a) bound (choices a) before after shown)
-RunMeans steps program choices bound name s before after shown kernel =
+RunMeans asks steps program choices bound name s before after shown kernel =
     Does steps (λ a. Runs (program a) bound (choices a) name) s before after shown kernel
 
 -- The command has come to this status, and the line of the status is still to be shown. The steps look at what is told before the
 -- call and behind it.
-pub record RunCame {A : Type 0} (steps : Outside → Reached A → Type 0) (program : A → Program) (choices : A → Choices) (bound : ℕ)
-    (record_file : Option (List ℕ)) (s : Status) (due : Bool) (before after : Outside) (kernel : Lent) : Type 0 where
+pub record RunCame {A : Type 0} (asks : Outside → Type 0) (steps : Outside → Reached A → Type 0) (program : A → Program) (choices : A → Choices)
+    (bound : ℕ) (record_file : Option (List ℕ)) (s : Status) (due : Bool) (before after : Outside) (kernel : Lent) : Type 0 where
   pub shown : List ℕ
-  pub means : RunMeans (steps (seen before after)) program choices bound record_file s (seen before after) after shown kernel
+  pub means : RunMeans (asks (seen before after)) (steps (seen before after)) program choices bound record_file s (seen before after) after shown kernel
   pub shows : Shows before after shown
   pub due_is : due ≡ is_due shown
 
@@ -43,10 +43,10 @@ pub record RunCame {A : Type 0} (steps : Outside → Reached A → Type 0) (prog
 abbrev pub TextCame : (file : List ℕ) → ChoicesFrom → (bound : ℕ) → (record_file : Option (List ℕ)) → Status → (due : Bool) → (before after : Outside)
     → Lent → Type 0
 TextCame file from bound name s due before after kernel =
-    RunCame (λ o. RunSteps o file from) (λ a. text a.0) (λ a. a.1) bound name s due before after kernel
+    RunCame (λ o. RunAsks o file from) (λ o. RunSteps o file from) (λ a. text a.0) (λ a. a.1) bound name s due before after kernel
 
 -- and of one that runs the code of this code file
 abbrev pub CodeFileCame : (file : List ℕ) → ChoicesFrom → (bound : ℕ) → (record_file : Option (List ℕ)) → Status → (due : Bool)
     → (before after : Outside) → Lent → Type 0
 CodeFileCame file from bound name s due before after kernel =
-    RunCame (λ o. ExecSteps o file from) (λ a. code a.0) (λ a. a.1) bound name s due before after kernel
+    RunCame (λ o. ExecAsks o file from) (λ o. ExecSteps o file from) (λ a. code a.0) (λ a. a.1) bound name s due before after kernel

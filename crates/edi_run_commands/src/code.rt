@@ -1,6 +1,6 @@
 //! Running a code.
 
-ghost use Rattle.std.specs.Prelude.{◌≡◌, false, ⊤, Some, option_map};
+ghost use Rattle.std.specs.Prelude.{◌≡◌, false, ⊤, None, Some, option_map};
 ghost use Rattle.edi_told.specs.Told.{WhereTold};
 ghost use Rattle.edi_statuses.specs.Outside.{lent, outside_of};
 ghost use Rattle.edi_statuses.specs.Counts.{counts_of, HasCause, NoneFalls};
@@ -90,6 +90,8 @@ pub(crate) fn run_code<F: Files, D: Drive, S: Source, T: Sink, P: Sink>(
     ensures later { NoneFalls
         (counts_of F.faults D.faults S.faults T.faults P.faults files.old drive.old input.old terminal.old printer.old)
         (counts_of F.faults D.faults S.faults T.faults P.faults files.new drive.new input.new terminal.new printer.new) }
+    ensures untouched { record_file.entry ≡ None → files.new ≡ files.old }
+    ensures size { D.count drive.new ≡ D.count drive.old }
 {
     let ran = match run_on(
         alloc,

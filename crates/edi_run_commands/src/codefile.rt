@@ -41,6 +41,7 @@ pub fn exec<F: Files, D: Drive, S: Source, T: Sink, P: Sink>(
     ensures later { NoneFalls
         (counts_of F.faults D.faults S.faults T.faults P.faults files.old drive.old input.old terminal.old printer.old)
         (counts_of F.faults D.faults S.faults T.faults P.faults files.new drive.new input.new terminal.new printer.new) }
+    ensures size { D.count drive.new ≡ D.count drive.old }
 {
     let bytes = match fetch(alloc, files, file, LIMIT) {
         Ok(bytes) => bytes,

@@ -1,6 +1,6 @@
 //! `demo N`: the program of the demonstration.
 
-ghost use Rattle.std.specs.Prelude.{◌≡◌, ◌≤◌, ◌++◌, IfOk, ⊤, option_map};
+ghost use Rattle.std.specs.Prelude.{◌≡◌, ◌≤◌, ◌++◌, IfOk, ⊤, None, false, option_map};
 ghost use Rattle.edi_told.specs.Faults.{CountRose};
 ghost use Rattle.edi_told.specs.Told.{WhereTold};
 ghost use Rattle.edi_lex.specs.Symbols.{symbols_of};
@@ -9,6 +9,7 @@ ghost use Rattle.edi_words.specs.Words.{demo as demo_words};
 ghost use Rattle.edi_words.specs.View.{options_of};
 ghost use Rattle.edi_statuses.specs.Commands.{count_in};
 ghost use Rattle.edi_statuses.specs.Lines.{feed};
+ghost use Rattle.edi_statuses.specs.Means.{names_file};
 ghost use Rattle.edi_statuses.specs.Outside.{lent};
 ghost use Rattle.edi_statuses.specs.Showing.{ShowsBytes};
 ghost use Rattle.edi_run_commands.specs.Demonstrated.{CameAlone, DemoStep, HasCauseAlone, RanAlone, is_ok};
@@ -90,6 +91,7 @@ fn run_alone<F: Files, T: Sink, P: Sink>(
     ensures later_files { F.faults files.old ≤ F.faults files.new }
     ensures later_terminal { T.faults terminal.old ≤ T.faults terminal.new }
     ensures later_printer { P.faults printer.old ≤ P.faults printer.new }
+    ensures untouched { record_file.entry ≡ None → files.new ≡ files.old }
 {
     let Ok(mut disk) = SteadyDrive::new(alloc, &[]) else {
         return stopped(Status::NoMemory);
@@ -174,6 +176,8 @@ pub fn demonstrate<F: Files, T: Sink, P: Sink>(
     ensures later_files { F.faults files.old ≤ F.faults files.new }
     ensures later_terminal { T.faults terminal.old ≤ T.faults terminal.new }
     ensures later_printer { P.faults printer.old ≤ P.faults printer.new }
+    // Where the options name no file, the files are left alone.
+    ensures no_files { names_file (options_of options.entry) ≡ false → files.new ≡ files.old }
 {
     let mut choices = match read_from(alloc, files, options.choices) {
         Ok(choices) => choices,

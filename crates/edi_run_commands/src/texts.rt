@@ -55,6 +55,7 @@ fn run_text<F: Files, D: Drive, S: Source, T: Sink, P: Sink>(
     ensures later { NoneFalls
         (counts_of F.faults D.faults S.faults T.faults P.faults files.old drive.old input.old terminal.old printer.old)
         (counts_of F.faults D.faults S.faults T.faults P.faults files.new drive.new input.new terminal.new printer.new) }
+    ensures size { D.count drive.new ≡ D.count drive.old }
 {
     let text = match fetch(alloc, files, file, LIMIT) {
         Ok(text) => text,
@@ -109,6 +110,7 @@ pub fn run<F: Files, D: Drive, S: Source, T: Sink, P: Sink>(
     ensures later { NoneFalls
         (counts_of F.faults D.faults S.faults T.faults P.faults files.old drive.old input.old terminal.old printer.old)
         (counts_of F.faults D.faults S.faults T.faults P.faults files.new drive.new input.new terminal.new printer.new) }
+    ensures size { D.count drive.new ≡ D.count drive.old }
 {
     run_text(
         alloc,
@@ -148,6 +150,7 @@ pub fn replay<F: Files, D: Drive, S: Source, T: Sink, P: Sink>(
     ensures later { NoneFalls
         (counts_of F.faults D.faults S.faults T.faults P.faults files.old drive.old input.old terminal.old printer.old)
         (counts_of F.faults D.faults S.faults T.faults P.faults files.new drive.new input.new terminal.new printer.new) }
+    ensures size { D.count drive.new ≡ D.count drive.old }
 {
     run_text(
         alloc,

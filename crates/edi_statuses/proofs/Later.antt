@@ -16,8 +16,8 @@ use Rattle.edi_statuses.specs.Commands.{Comes, Does, IsDone, IsNothing, OnlyKeep
 use Rattle.edi_statuses.specs.Commands.{RunSteps, ExecSteps, TextSteps, OldSteps, PutSteps, GetSteps, ListSteps, DemoSteps}
 use Rattle.edi_statuses.specs.Commands.{Demonstrates, OnItsOwn, with_own}
 use Rattle.edi_statuses.specs.Means.{AtRecord, Begun, BrokeDemo, ComesToBreak, Means, MeansOf, MeansRefused, RanWhole, RanUnkept, Wants, IsOpen}
-use Rattle.edi_statuses.specs.Means.{ArePutInPart, with_shown, HasNotBegun}
-use Rattle.edi_statuses.proofs.Terminal.{StillTold, run_later, exec_later, text_later, old_later, put_later, get_later, nothing_later, begun_later}
+use Rattle.edi_statuses.specs.Means.{ArePutInPart, with_shown}
+use Rattle.edi_statuses.proofs.Terminal.{StillTold, asks_later, run_later, exec_later, text_later, old_later, put_later, get_later, nothing_later, begun_later}
 use Rattle.edi_statuses.proofs.Terminal.{drive_later, keeps_later, blocks_later, code_later, runs_later, whole_later, unkept_later, broke_later}
 use Rattle.edi_statuses.proofs.Terminal.{record_later, does_later, list_later, shows_later, front_later, demo_later}
 use Rattle.edi_statuses.proofs.Terminal.{boot_later, holds_later, held_later, broke_session_later}
@@ -188,26 +188,16 @@ module _ (b m : Outside) (y : Option (List ℕ)) (still : StillTold m.shown y) w
 
   -- ---- other commands
 
-  -- one that is not broken off in the midst of its effect
-  unbroken : (c : Command) (shown : List ℕ) (kernel : Lent) → ((s : Status) → Comes c s before_ m shown kernel → Comes c s seen_later later_ shown kernel)
-      → (Wants c before_ m shown kernel → Wants c seen_later later_ shown kernel) → (ComesToBreak status.FileFault c before_ m shown kernel → ⊥)
-      → (ComesToBreak status.DriveFault c before_ m shown kernel → ⊥) → (ComesToBreak status.InputFault c before_ m shown kernel → ⊥)
-      → (ComesToBreak status.OutputFault c before_ m shown kernel → ⊥) → Later c shown kernel
-  unbroken c shown kernel comes wants files drive input output = record {
-    comes = comes;
-    wants = wants;
-    files = λ h. absurd (files h);
-    drive = λ h. absurd (drive h);
-    input = λ h. absurd (input h);
-    output = λ h. absurd (output h);
-  }
-
   compile_is : (file out shown : List ℕ) (kernel : Lent) → Later (words.compile file out) shown kernel
-  compile_is file out shown kernel =
-      unbroken (words.compile file out) shown kernel
-      (λ s. does_later b m y still (TextSteps before_ file) (TextSteps seen_later file) (λ a. IsDone (KeepsCode out a.0)) (λ a. IsDone (KeepsCode out a.0))
-      s shown kernel (text_later b m y still file) (λ a h. (h.0, code_later b m y still out a.0 shown kernel h.1)))
-      (nothing_later b m y still shown kernel) (λ h. h) (λ h. h) (λ h. h) (λ h. h)
+  compile_is file out shown kernel = record {
+    comes = λ s. does_later b m y still (TextSteps before_ file) (TextSteps seen_later file) (λ a. IsDone (KeepsCode out a.0))
+        (λ a. IsDone (KeepsCode out a.0)) s shown kernel (text_later b m y still file) (λ a h. (h.0, code_later b m y still out a.0 shown kernel h.1));
+    wants = nothing_later b m y still shown kernel;
+    files = λ h. (h.0, text_later b m y still file (goes h.0) h.1, begun_later b m y still shown kernel h.2);
+    drive = λ h. absurd h;
+    input = λ h. absurd h;
+    output = λ h. absurd h;
+  }
 
   new_is : (blocks : ℕ) (old : Option (List ℕ)) (shown : List ℕ) (kernel : Lent) → Later (words.newdisk blocks old) shown kernel
   new_is blocks None shown kernel = record {
@@ -243,12 +233,16 @@ module _ (b m : Outside) (y : Option (List ℕ)) (still : StillTold m.shown y) w
   }
 
   get_is : (title file shown : List ℕ) (kernel : Lent) → Later (words.get title file) shown kernel
-  get_is title file shown kernel =
-      unbroken (words.get title file) shown kernel
-      (λ s. does_later b m y still (GetSteps before_ title) (GetSteps seen_later title) (λ bytes. IsDone (OnlyKeeps ((file, bytes) ∷ [])))
-      (λ bytes. IsDone (OnlyKeeps ((file, bytes) ∷ []))) s shown kernel (get_later b m y still title)
-      (λ bytes h. (h.0, keeps_later b m y still ((file, bytes) ∷ []) shown kernel h.1)))
-      (nothing_later b m y still shown kernel) (λ h. h) (λ h. h) (λ h. h) (λ h. h)
+  get_is title file shown kernel = record {
+    comes = λ s. does_later b m y still (GetSteps before_ title) (GetSteps seen_later title) (λ bytes. IsDone (OnlyKeeps ((file, bytes) ∷ [])))
+        (λ bytes. IsDone (OnlyKeeps ((file, bytes) ∷ []))) s shown kernel (get_later b m y still title)
+        (λ bytes h. (h.0, keeps_later b m y still ((file, bytes) ∷ []) shown kernel h.1));
+    wants = nothing_later b m y still shown kernel;
+    files = λ h. (h.0, get_later b m y still title (goes h.0) h.1, begun_later b m y still shown kernel h.2);
+    drive = λ h. absurd h;
+    input = λ h. absurd h;
+    output = λ h. absurd h;
+  }
 
   list_is : (file shown : List ℕ) (kernel : Lent) → Later (words.list file) shown kernel
   list_is file shown kernel = record {
@@ -268,7 +262,14 @@ module _ (b m : Outside) (y : Option (List ℕ)) (still : StillTold m.shown y) w
       → (Wants c before_ m shown kernel → Wants c seen_later later_ shown kernel) → (ComesToBreak status.FileFault c before_ m shown kernel → ⊥)
       → (ComesToBreak status.DriveFault c before_ m shown kernel → ⊥) → (ComesToBreak status.InputFault c before_ m shown kernel → ⊥)
       → (ComesToBreak status.OutputFault c before_ m shown kernel → ⊥) → Later c shown kernel
-  none_is c shown kernel comes = unbroken c shown kernel (λ s h. absurd (comes s h))
+  none_is c shown kernel comes wants files drive input output = record {
+    comes = λ s h. absurd (comes s h);
+    wants = wants;
+    files = λ h. absurd (files h);
+    drive = λ h. absurd (drive h);
+    input = λ h. absurd (input h);
+    output = λ h. absurd (output h);
+  }
 
   each_is : (c : Command) (shown : List ℕ) (kernel : Lent) → Later c shown kernel
   each_is (words.run file options) shown kernel = run_is file options shown kernel
@@ -290,22 +291,29 @@ module _ (b m : Outside) (y : Option (List ℕ)) (still : StillTold m.shown y) w
 
   -- ---- the statuses
 
-  either_later : (P Q : Type 0) (shown : List ℕ) (kernel : Lent) → (P → Q) → HasNotBegun before_ m shown kernel ⊎ P
-      → HasNotBegun seen_later later_ shown kernel ⊎ Q
-  either_later P Q shown kernel f (inl h) = inl (begun_later b m y still shown kernel h)
-  either_later P Q shown kernel f (inr h) = inr (f h)
-
   means_later : (s : Status) (c : Command) (shown : List ℕ) (kernel : Lent) → MeansOf s c before_ m shown kernel → MeansOf s c seen_later later_ shown kernel
   means_later status.Words c shown kernel h = absurd h
   means_later status.NoMemory c shown kernel h = (each_is c shown kernel).wants h
-  means_later status.FileFault c shown kernel h =
-      record { uses = h.uses; files = h.files; far = either_later _ _ shown kernel (each_is c shown kernel).files h.far }
-  means_later status.DriveFault c shown kernel h =
-      record { uses = h.uses; files = h.files; far = either_later _ _ shown kernel (each_is c shown kernel).drive h.far }
-  means_later status.InputFault c shown kernel h =
-      record { uses = h.uses; files = h.files; far = (each_is c shown kernel).input h.far }
-  means_later status.OutputFault c shown kernel h =
-      record { uses = h.uses; files = h.files; far = (each_is c shown kernel).output h.far }
+  means_later status.FileFault c shown kernel h = record {
+    uses = h.uses;
+    far =
+        elim h.far [
+          | inl none ↦ inl (none.0, begun_later b m y still shown kernel none.1)
+          | inr far ↦ inr (far.0, (each_is c shown kernel).files far.1)
+        ];
+  }
+  means_later status.DriveFault c shown kernel h = record {
+    uses = h.uses;
+    far = (
+      h.far.0,
+      elim h.far.1 [
+        | inl none ↦ inl (asks_later b m y still c none.0, begun_later b m y still shown kernel none.1)
+        | inr far ↦ inr ((each_is c shown kernel).drive far)
+      ],
+    );
+  }
+  means_later status.InputFault c shown kernel h = record { uses = h.uses; far = (h.far.0, (each_is c shown kernel).input h.far.1) }
+  means_later status.OutputFault c shown kernel h = record { uses = h.uses; far = (h.far.0, (each_is c shown kernel).output h.far.1) }
   means_later status.Ok c shown kernel h = (each_is c shown kernel).comes status.Ok h
   means_later (status.Refused kind line) c shown kernel h = (each_is c shown kernel).comes (status.Refused kind line) h
   means_later (status.Stopped cause line) c shown kernel h = (each_is c shown kernel).comes (status.Stopped cause line) h

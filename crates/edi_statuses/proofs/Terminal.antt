@@ -13,7 +13,7 @@ use Rattle.edi_trace.specs.Lines.{read_of}
 use Rattle.edi_unit.specs.Tree.{ProgramUnit}
 use Rattle.edi_utils.specs.Demo.{demo_text}
 use Rattle.edi_words.specs.Words as words
-use Rattle.edi_words.specs.Words.{ChoicesFrom}
+use Rattle.edi_words.specs.Words.{ChoicesFrom, Command}
 use Rattle.edi_statuses.specs.declared.status.Status.{Status}
 use Rattle.edi_statuses.specs.Outside.{Outside, seen, Lent, KernelLeft, Kept, Devices, devices_of, devices_with, system_on}
 use Rattle.edi_statuses.specs.Steps.{Reached, goes, stops, ◌>>=◌, Ready, Fetches, GivesChoices, ReadsChoices, Accepts, Mounts, Loads}
@@ -24,7 +24,7 @@ use Rattle.edi_session.specs.Session.{IsMomentOfSession}
 use Rattle.edi_statuses.specs.Sessions.{BootSteps, BrokeSession, HasHeld, HeldWhole, HoldsSession, shell_on}
 use Rattle.edi_statuses.specs.Commands.{Effect, Does, IsNothing, OnlyKeeps, OnlyBlocks, OnlyShows, KeepsCode, Runs, HasPlace, Reads}
 use Rattle.edi_statuses.specs.Commands.{RunSteps, ExecSteps, TextSteps, OldSteps, PutSteps, GetSteps, ListSteps, DemoSteps}
-use Rattle.edi_statuses.specs.Means.{AtRecord, HasNotBegun, ChangesDrive, ShowsFront, RanWhole, RanUnkept, with_shown}
+use Rattle.edi_statuses.specs.Means.{AsksDrive, AtRecord, HasNotBegun, ChangesDrive, ShowsFront, RanWhole, RanUnkept, with_shown}
 
 -- what is told later was told before
 abbrev pub StillTold : {A : Type 0} → (x y : Option A) → Type 0
@@ -176,6 +176,25 @@ module _ (b m : Outside) (y : Option (List ℕ)) (still : StillTold m.shown y) w
       step_later (ReadsChoices seen_then from) (ReadsChoices seen_now from) (λ choices. Mounts seen_then >>= λ done. Ready choices)
       (λ choices. Mounts seen_now >>= λ done. Ready choices) (choices_later from)
       (λ choices. step_later (Mounts seen_then) (Mounts seen_now) (λ done. Ready choices) (λ done. Ready choices) mounts_later (λ w t l. l)) r h
+
+  -- the steps before the drive is asked
+  third_later : {U : Type 0} (file : List ℕ) (from : ChoicesFrom) (third : List ℕ → Reached U → Type 0) (r : Reached U)
+      → (Fetches seen_then file >>= λ bytes. ReadsChoices seen_then from >>= λ choices. third bytes) r
+      → (Fetches seen_now file >>= λ bytes. ReadsChoices seen_now from >>= λ choices. third bytes) r
+  third_later file from third r h =
+      step_later (Fetches seen_then file) (Fetches seen_now file) (λ bytes. ReadsChoices seen_then from >>= λ choices. third bytes)
+      (λ bytes. ReadsChoices seen_now from >>= λ choices. third bytes) (fetches_later file)
+      (λ bytes. step_later (ReadsChoices seen_then from) (ReadsChoices seen_now from) (λ choices. third bytes) (λ choices. third bytes)
+      (choices_later from) (λ v q k. k)) r h
+
+  pub asks_later : (c : Command) → AsksDrive c seen_then → AsksDrive c seen_now
+  asks_later (words.run file o) h = (h.0, third_later file o.choices Accepts (goes h.0) h.1)
+  asks_later (words.replay file choices turns) h = (h.0, third_later file (words.file choices) Accepts (goes h.0) h.1)
+  asks_later (words.exec file o) h = (h.0, third_later file o.choices Loads (goes h.0) h.1)
+  asks_later (words.boot o) h = (h.0, choices_later o.choices (goes h.0) h.1)
+  asks_later (words.put file title) h = (h.0, fetched_later file (λ bytes. Fits bytes) (goes h.0) h.1)
+  asks_later (words.get title file) h = tt
+  asks_later c h = absurd h
 
   -- ---- the effects
 

@@ -4,6 +4,7 @@
 -- faults come where the count of an object rose, and mean what `Breaks` says.
 use Rattle.std.specs.Prelude.{◌≡◌, ◌≤◌, ◌⊎◌, ℕ, Bool, true, false, not, ◌||◌, List, [], ◌∷◌, ◌++◌, length, Option, Some, None, IsSome, is_none, ⊤}
 use Rattle.edi_told.specs.Told.{WhereTold}
+use Rattle.edi_told.specs.Faults.{CountRose}
 use Rattle.edi_calls.specs.Choice.{Choices}
 use Rattle.edi_calls.specs.Outcome.{Ending}
 use Rattle.edi_image.specs.Image.{Holds, slots_of}
@@ -17,10 +18,10 @@ use Rattle.edi_statuses.specs.Lines.{closing, closing_line, is_due, text_of}
 use Rattle.edi_statuses.specs.Showing.{ClosesWith, IsFront}
 use Rattle.edi_statuses.specs.Counts.{Counts, HasCause}
 use Rattle.edi_statuses.specs.Outside.{Outside, seen, Shows, SameFiles, SameBut, SameBlocks, SameInput, SamePrinted, IsAsBefore, Lent}
-use Rattle.edi_statuses.specs.Steps.{Reached, goes}
+use Rattle.edi_statuses.specs.Steps.{Reached, goes, ◌>>=◌, Fetches, ReadsChoices, Accepts, Loads, Fits}
 use Rattle.edi_statuses.specs.Executions.{Program, text, code, Ran, BrokeRun}
 use Rattle.edi_statuses.specs.Sessions.{BootSteps, BrokeSession, HeldUnkept, HeldWhole}
-use Rattle.edi_statuses.specs.Commands.{Comes, IsNothing, Runs, OnItsOwn, RunSteps, ExecSteps, OldSteps, PutSteps, ListSteps, DemoSteps}
+use Rattle.edi_statuses.specs.Commands.{Comes, IsNothing, Runs, OnItsOwn, RunSteps, ExecSteps, TextSteps, OldSteps, PutSteps, GetSteps, ListSteps, DemoSteps}
 use Rattle.edi_statuses.specs.Commands.{released, put_in, size_line}
 
 -- ---- want of memory
@@ -82,6 +83,14 @@ uses_drive (words.put file title) = true
 uses_drive (words.get title file) = true
 uses_drive c = uses_input c
 
+-- of what these show there is only the line of their status
+abbrev pub is_silent : Command → Bool
+is_silent (words.compile file out) = true
+is_silent (words.newdisk blocks old) = true
+is_silent (words.put file title) = true
+is_silent (words.get title file) = true
+is_silent _ = false
+
 -- the choices stand in a file
 abbrev pub is_in_file : ChoicesFrom → Bool
 is_in_file words.nowhere = false
@@ -108,6 +117,21 @@ abbrev pub Uses : Status → Command → Type 0
 Uses status.FileFault c = uses_files c ≡ true
 Uses status.DriveFault c = uses_drive c ≡ true
 Uses s c = ⊤
+
+-- ---- the number of blocks
+
+-- The number of the drive's blocks behind `newdisk`: after a refusal it is as before, and of a format that the drive broke off nothing is
+-- known. A fault of the output may stand for each of them, whose line was not shown. The counts are those of the drive's faults.
+abbrev pub CountsNew : Status → (wanted old new had has : ℕ) → Type 0
+CountsNew status.Ok wanted old new had has = new ≡ wanted
+CountsNew status.DriveFault wanted old new had has = ⊤
+CountsNew status.OutputFault wanted old new had has = (new ≡ old) ⊎ CountRose had has
+CountsNew s wanted old new had has = new ≡ old
+
+-- every other command leaves it
+abbrev pub CountsBlocks : Option Command → Status → (old new had has : ℕ) → Type 0
+CountsBlocks (Some (words.newdisk blocks image)) s old new had has = CountsNew s blocks old new had has
+CountsBlocks c s old new had has = new ≡ old
 
 -- ---- faults
 
@@ -177,9 +201,30 @@ BrokeDemo n bound choices record_file before after shown kernel =
 abbrev pub Begun : {A : Type 0} → (Reached A → Type 0) → (A → Type 0) → Type 0
 Begun steps P = (a : _) × steps (goes a) × P a
 
+-- the steps of a command went on
+abbrev pub WentOn : {A : Type 0} → (Reached A → Type 0) → Type 0
+WentOn steps = (a : _) × steps (goes a)
+
+-- so those of `run` and `replay`, and those of `exec`, before the drive is asked
+abbrev pub RunAsks : Outside → (file : List ℕ) → ChoicesFrom → Type 0
+RunAsks o file from = WentOn (Fetches o file >>= λ bytes. ReadsChoices o from >>= λ choices. Accepts bytes)
+
+abbrev pub ExecAsks : Outside → (file : List ℕ) → ChoicesFrom → Type 0
+ExecAsks o file from = WentOn (Fetches o file >>= λ bytes. ReadsChoices o from >>= λ choices. Loads bytes)
+
+-- A command that has not begun has come as far as to its drive; `newdisk` begins with it.
+abbrev pub AsksDrive : Command → Outside → Type 0
+AsksDrive (words.run file o) before = RunAsks before file o.choices
+AsksDrive (words.replay file choices turns) before = RunAsks before file (words.file choices)
+AsksDrive (words.exec file o) before = ExecAsks before file o.choices
+AsksDrive (words.boot o) before = WentOn (ReadsChoices before o.choices)
+AsksDrive (words.put file title) before = WentOn (Fetches before file >>= λ bytes. Fits bytes)
+AsksDrive (words.get title file) before = ⊤
+AsksDrive _ before = ⊥
+
 -- A run and a session are broken off by any device, `demo` by the terminal and the printer, `put` and `newdisk` by the drive alone, and `list` by
--- the terminal. The files break off no run: they may fail when its record is to be kept. Other commands change nothing before they
--- keep their file.
+-- the terminal. The files break off nothing: they may fail when a file is to be kept, a record, a code, or the bytes of a file of the
+-- drive.
 abbrev pub ComesToBreak : Status → Command → Outside → Outside → (shown : List ℕ) → Lent → Type 0
 ComesToBreak status.FileFault (words.run file o) before after shown kernel =
     AtRecord o.record_file (RunSteps before file o.choices) (λ a. RanWhole (text a.0) o.turns a.1 before after shown kernel)
@@ -190,6 +235,10 @@ ComesToBreak status.FileFault (words.boot o) before after shown kernel =
 ComesToBreak status.FileFault (words.demo n o) before after shown kernel =
     AtRecord o.record_file (DemoSteps before n o.choices)
     (λ choices. OnItsOwn (λ b a. RanWhole (text (demo_text n)) o.turns choices b a shown kernel) before after)
+ComesToBreak status.FileFault (words.compile file out) before after shown kernel =
+    Begun (TextSteps before file) (λ a. HasNotBegun before after shown kernel)
+ComesToBreak status.FileFault (words.get title file) before after shown kernel =
+    Begun (GetSteps before title) (λ bytes. HasNotBegun before after shown kernel)
 ComesToBreak status.FileFault c before after shown kernel = ⊥
 ComesToBreak s (words.run file o) before after shown kernel =
     Begun (RunSteps before file o.choices) (λ a. BrokeRun (text a.0) o.turns a.1 before after shown)
@@ -210,12 +259,6 @@ ComesToBreak status.OutputFault (words.demo n o) before after shown kernel =
     Begun (DemoSteps before n o.choices) (λ choices. BrokeDemo n o.turns choices o.record_file before after shown kernel)
 ComesToBreak s c before after shown kernel = ⊥
 
--- How far the command was. The input and the output fail only where a command has begun; the files and the drive may fail before.
-abbrev pub Far : Status → Command → Outside → Outside → (shown : List ℕ) → Lent → Type 0
-Far status.InputFault c before after shown kernel = ComesToBreak status.InputFault c before after shown kernel
-Far status.OutputFault c before after shown kernel = ComesToBreak status.OutputFault c before after shown kernel
-Far s c before after shown kernel = HasNotBegun before after shown kernel ⊎ ComesToBreak s c before after shown kernel
-
 -- The files of these names may be others than before: where the files have failed, what was to be kept; and where the line of a
 -- demonstration could not be shown, its record, which is kept before.
 abbrev pub names_open : Status → Command → List (List ℕ)
@@ -223,10 +266,20 @@ names_open status.FileFault c = names_kept c
 names_open status.OutputFault (words.demo n o) = names_kept (words.demo n o)
 names_open s c = []
 
+-- How far the command was. The files may fail when one is fetched, and the drive when it is mounted; then nothing has happened. The
+-- input and the output fail only where a command has begun.
+abbrev pub Far : Status → Command → Outside → Outside → (shown : List ℕ) → Lent → Type 0
+Far status.FileFault c before after shown kernel =
+    (SameFiles before after × HasNotBegun before after shown kernel)
+    ⊎ (SameBut (names_open status.FileFault c) before after × ComesToBreak status.FileFault c before after shown kernel)
+Far status.DriveFault c before after shown kernel =
+    SameFiles before after
+    × ((AsksDrive c before × HasNotBegun before after shown kernel) ⊎ ComesToBreak status.DriveFault c before after shown kernel)
+Far s c before after shown kernel = SameBut (names_open s c) before after × ComesToBreak s c before after shown kernel
+
 -- where the fault of an object is answered
 pub record Breaks (s : Status) (c : Command) (before after : Outside) (shown : List ℕ) (kernel : Lent) : Type 0 where
   pub uses : Uses s c
-  pub files : SameBut (names_open s c) before after
   pub far : Far s c before after shown kernel
 
 -- ---- the meaning of a status

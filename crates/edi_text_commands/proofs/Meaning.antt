@@ -6,6 +6,7 @@ use Rattle.edi_told.specs.Told.{WhereTold}
 use Rattle.edi_host.specs.Files.{Contents, KeepLeaves}
 use Rattle.edi_host.specs.declared.files.KeepEnd.TheVariants as keep
 use Rattle.edi_target.specs.File.{code_bytes}
+use Rattle.edi_unit.specs.Tree.{ProgramUnit}
 use Rattle.edi_words.specs.Words.{compile}
 use Rattle.edi_statuses.specs.declared.status.Status.{Status}
 use Rattle.edi_statuses.specs.declared.status.Status.TheVariants as status
@@ -14,7 +15,7 @@ use Rattle.edi_statuses.specs.Steps.{goes, stops, Fetches}
 use Rattle.edi_statuses.specs.Commands.{IsNothing, TextSteps}
 use Rattle.edi_statuses.specs.Means.{Means, HasNotBegun}
 use Rattle.edi_steps.specs.OnFiles.{files_only}
-use Rattle.edi_statuses.proofs.Told.{still, same_told, same_but, just_told, till_the_last}
+use Rattle.edi_statuses.proofs.Told.{still, same_told, just_told, till_the_last}
 use Rattle.edi_statuses.specs.OnFiles.{RestIsSame, MeansOnFiles}
 use Rattle.edi_text_commands.specs.TextCommands.{CodesFile}
 
@@ -63,9 +64,16 @@ module _ (file out : List ℕ) (old new : Option Contents) (before after : Outsi
   not_begun : HasNotBegun (seen before after) after [] kernel
   not_begun = record { shown_ = refl; blocks = blocks_same; input = input_same; printed = printed_same; kernel_same = rest.kernel_same }
 
-  broken : WhereTold (still_told old new) new (λ old new. map.remove new out ≡ map.remove old out) →
-      Means status.FileFault (Some (compile file out)) before after [] kernel
-  broken same = record { uses = refl; files = on_files (λ old new. map.remove new out ≡ map.remove old out) same; far = inl not_begun }
+  -- the file was not fetched
+  unfetched : WhereTold (still_told old new) new (λ old new. new ≡ old) → Means status.FileFault (Some (compile file out)) before after [] kernel
+  unfetched same = record { uses = refl; far = inl (on_files (λ old new. new ≡ old) same, not_begun) }
+
+  -- the code was not kept
+  broken : (text : List ℕ) (unit : ProgramUnit) → TextSteps (seen before after) file (goes (text, unit))
+      → WhereTold (still_told old new) new (λ old new. map.remove new out ≡ map.remove old out)
+      → Means status.FileFault (Some (compile file out)) before after [] kernel
+  broken text unit steps same =
+      record { uses = refl; far = inr (on_files (λ old new. map.remove new out ≡ map.remove old out) same, ((text, unit), steps, not_begun)) }
 
   wanting : WhereTold (still_told old new) new (λ old new. new ≡ old) → Means status.NoMemory (Some (compile file out)) before after [] kernel
   wanting same = nothing same
@@ -92,7 +100,7 @@ module _ (file out : List ℕ) (old new : Option Contents) (before after : Outsi
       subst (λ s. Means s (Some (compile file out)) before after [] kernel) (sym none) (wanting (still (λ old new. new ≡ old) old new same))
   stops_so items s (inr (inl failed)) same =
       subst (λ s. Means s (Some (compile file out)) before after [] kernel) (sym failed)
-      (broken (still (λ old new. map.remove new out ≡ map.remove old out) old new (same_but (out ∷ []) old new same)))
+      (unfetched (still (λ old new. new ≡ old) old new same))
   stops_so items s (inr (inr steps)) same = stopped s steps (still (λ old new. new ≡ old) old new same)
 
 -- the command has stopped
@@ -103,6 +111,17 @@ stops_means items file out old new s codes same = λ before after kernel e d res
 -- the code was to be kept
 module _ {V : Type 0} (items : V → List ℕ) (file out : List ℕ) (old mid new : Option Contents) (v : V) (bytes : List ℕ) (are : bytes ≡ items v)
     (codes : CodesFile items (files_only (still_told old mid)) file (Ok v)) (same : WhereTold old mid (λ old mid. mid ≡ old)) where
+  -- the steps, whatever the files are told to be behind the keeping
+  steps : (before after : Outside) (kernel : Lent) (e : before.files ≡ old) (d : after.files ≡ new) (rest : RestIsSame before after kernel)
+      (P : Contents → Contents → Type 0) → WhereTold mid new P → TextSteps (seen before after) file (goes (codes.0, codes.2.0))
+  steps before after kernel e d rest P kept =
+      inr (
+        codes.0,
+        seen_file file out old new before after kernel e d rest codes.0
+            (till_the_last (λ files. map.get files file ≡ Some codes.0) old mid new (just_told P mid new kept) codes.1),
+        inr (codes.2.0, codes.2.1, refl),
+      )
+
   pub kept_means : WhereTold mid new (KeepLeaves keep.Ok out bytes) → MeansOnFiles (compile file out) status.Ok old new
   kept_means kept = λ before after kernel e d rest.
       let text = codes.0 in
@@ -111,12 +130,7 @@ module _ {V : Type 0} (items : V → List ℕ) (file out : List ℕ) (old mid ne
       (subst (λ b. WhereTold mid new (λ old new. new ≡ map.insert old out b)) (are ∙ made.4) kept) in
       inr (
         (text, made.0),
-        inr (
-          text,
-          seen_file file out old new before after kernel e d rest text
-              (till_the_last (λ files. map.get files file ≡ Some text) old mid new (just_told (KeepLeaves keep.Ok out bytes) mid new kept) codes.1),
-          inr (made.0, made.1, refl),
-        ),
+        steps before after kernel e d rest (KeepLeaves keep.Ok out bytes) kept,
         (
           refl,
           record {
@@ -140,4 +154,6 @@ module _ {V : Type 0} (items : V → List ℕ) (file out : List ℕ) (old mid ne
 
   pub failed_means : WhereTold mid new (KeepLeaves keep.Failed out bytes) → MeansOnFiles (compile file out) status.FileFault old new
   failed_means kept = λ before after kernel e d rest.
-      broken file out old new before after kernel e d rest (since (λ old new. map.remove new out ≡ map.remove old out) old mid new same kept)
+      broken file out old new before after kernel e d rest codes.0 codes.2.0
+      (steps before after kernel e d rest (KeepLeaves keep.Failed out bytes) kept)
+      (since (λ old new. map.remove new out ≡ map.remove old out) old mid new same kept)

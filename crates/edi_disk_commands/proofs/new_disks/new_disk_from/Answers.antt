@@ -4,6 +4,7 @@ use Rattle.edi_migrate.specs.declared.migrating.MigrateEnd.TheVariants as end
 use Rattle.edi_statuses.specs.Outside.{still_told}
 use Rattle.edi_steps.specs.OnFiles.{files_only}
 use Rattle.edi_statuses.proofs.Told.{itself}
+use Rattle.edi_disk_commands.proofs.NewMeans.{counts_kept}
 use Rattle.edi_disk_commands.proofs.OldMeans.{migrated_means, not_taken}
 use Rattle.edi_disk_commands.proofs.PutMeans.{fetch_stopped}
 use Rattle.edi_disk_commands.proofs.new_disks.new_disk_from.Goals as goal
@@ -19,6 +20,11 @@ returns-in-Err-clause-means g c =
       files = c.in-Err.ensures.unchanged;
       blocks = itself (g.D.Drive.contents c.args.drive.now);
     })
+
+pub returns-in-Err-clause-size : goal.returns-in-Err-clause-size
+returns-in-Err-clause-size g c =
+    counts_kept (λ (v : Vec ℕ Global). v.items) (files_only (still_told (g.F.Files.contents c.args.files.now) (g.F.Files.contents c.fetch.new.files)))
+    c.args.file.now 2097664 c.in-Err.status c.in-Err.ensures.fetched c.args.blocks _ _ _
 
 pub returns-in-Ok-migrate-clause-means : goal.returns-in-Ok-migrate-clause-means
 returns-in-Ok-migrate-clause-means g c =

@@ -55,3 +55,7 @@ returns-in-Ok-clause-leaves g c =
     c.in-Ok.ensures.changes.leaves
     (told_both _ _ _ _ (Stores c.store.result title c.kind_of-kind.result bytes) (λ x y a l. record { answers = a; leaves = l })
     c.store.ensures.exact c.store.ensures.changes.leaves))
+
+pub returns-in-Ok-clause-size : goal.returns-in-Ok-clause-size
+returns-in-Ok-clause-size g c =
+    c.store.ensures.changes.count_stays ∙ (c.release.ensures.changes.count_stays ∙ c.store-answer.ensures.changes.count_stays)
