@@ -1,5 +1,5 @@
 -- A line that goes on has taken a byte, and none is taken behind the limit. So every session comes to an end.
-use Rattle.std.proofs.Common.{◌≡◌, ℕ, zero, suc, ◌+◌, ◌<◌, ◌≤◌, Bool, true, false, List, [], ◌∷◌, ◌++◌, refl, sym, subst, arith}
+use Rattle.std.proofs.Common.{◌≡◌, ℕ, zero, suc, ◌+◌, ◌<◌, ◌≤◌, Bool, true, false, List, [], ◌∷◌, ◌++◌, refl, subst, arith}
 use Rattle.std.specs.Prelude.{if◌then◌else◌, nat_le, ◌==◌, ⊤}
 use Rattle.std.proofs.lemmas.Bool.{leb-false}
 use Rattle.edi_calls.specs.Choice.{Choices}

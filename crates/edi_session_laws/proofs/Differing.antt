@@ -1,5 +1,5 @@
 -- What may differ between two ways on from one shell.
-use Rattle.std.proofs.Common.{◌≡◌, ◌∙◌, ◌⊎◌, inl, inr, ℕ, ◌+◌, ◌-◌, Bool, true, false, List, [], ◌∷◌, length, Option, Some, None, refl, sym}
+use Rattle.std.proofs.Common.{◌≡◌, ◌∙◌, ◌⊎◌, inl, inr, ℕ, ◌+◌, ◌-◌, true, false, List, [], ◌∷◌, length, Option, Some, None, refl, sym}
 use Rattle.std.specs.Prelude.{codes, insert, remove, slice_set}
 use Rattle.edi_calls.specs.declared.kinds.FileKind.{FileKind}
 use Rattle.edi_calls.specs.declared.kinds.FileKind.TheVariants as file_kind
@@ -7,7 +7,7 @@ use Rattle.edi_calls.specs.Choice.{Choices, listed}
 use Rattle.edi_calls.specs.Outcome.{outcome_of}
 use Rattle.edi_calls.specs.State.{File, State, fresh}
 use Rattle.edi_edit.specs.declared.EditEnd.{EditEnd}
-use Rattle.edi_edit.specs.Editing.{Editing, changed, is_index, missing, refusal, undone}
+use Rattle.edi_edit.specs.Editing.{Editing, changed, is_index, missing, refusal}
 use Rattle.edi_edit.specs.Lines as lines
 use Rattle.edi_target.specs.Check.{CodeParts}
 use Rattle.edi_target.specs.Fetch.{fetch}

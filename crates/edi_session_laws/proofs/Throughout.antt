@@ -1,6 +1,6 @@
 -- What each part of a line keeps, a session keeps throughout.
-use Rattle.std.proofs.Common.{◌≡◌, ◌⊎◌, inl, inr, ℕ, zero, suc, ◌+◌, ◌-◌, Bool, true, false, List, [], ◌∷◌, ◌++◌, length, Option, Some, None}
-use Rattle.std.proofs.Common.{refl, sym, subst}
+use Rattle.std.proofs.Common.{◌≡◌, inl, inr, ℕ, zero, suc, ◌+◌, ◌-◌, Bool, true, false, List, [], ◌∷◌, ◌++◌, length, Option, Some, None}
+use Rattle.std.proofs.Common.{sym, subst}
 use Rattle.std.specs.Prelude.{if◌then◌else◌, nat_le, nat_lt, ◌==◌, ◌&&◌, codes, insert, remove, slice_set}
 use Rattle.edi_calls.specs.declared.kinds.FileKind.{FileKind}
 use Rattle.edi_calls.specs.declared.kinds.FileKind.TheVariants as file_kind
@@ -32,7 +32,7 @@ use Rattle.edi_session.specs.Course.{has_slots}
 use Rattle.edi_session.specs.Files.{answered, copies_to, file_in, stores, why_line, with_file, with_text}
 use Rattle.edi_session.specs.Session.{Acts, ActsOn, BeginsEditing, ChangesLine, closes, ComesTo, CompilesFile, CompilesText, EditsBy, EditsFile, EditsLine}
 use Rattle.edi_session.specs.Session.{ExecutesBytes, ExecutesCode, ExecutesFile, Goes, GoesIn, Inserts, Next, Replaces, StoresText, Taking, Undoes, behind}
-use Rattle.edi_session.specs.Session.{edit_refusal, ends_with, goes, looked_at, prompted, says_no_memory, shell_in, stores_code, written}
+use Rattle.edi_session.specs.Session.{edit_refusal, ends_with, goes, looked_at, prompted, says_no_memory, shell_in, written}
 use Rattle.edi_session.specs.Shell.{Mode, Shell, Taken, commanding, echoed, editing, ended, is_end, last_line, limit, limited, line_with, next_line, next_text}
 use Rattle.edi_session.specs.Shell.{on_fresh_line, printed_by, says, shell_of, shown_by, shown_in, state_in, take_line, take_text, text_with, took}
 use Rattle.edi_session.specs.Shell.{took_byte}
