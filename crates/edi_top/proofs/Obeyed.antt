@@ -1,5 +1,6 @@
 -- From what the words are to the command that is obeyed.
-use Rattle.std.proofs.Common.{◌≡◌, ℕ, Bool, false, List, [], Option, Some, None, option_map, refl, sym, subst}
+use Rattle.std.proofs.Common.{◌≡◌, ◌∙◌, ◌⊎◌, inl, inr, ℕ, Bool, false, List, [], Option, Some, None, option_map, refl, sym, subst}
+use Rattle.edi_told.specs.Faults.{CountRose}
 use Rattle.edi_host.specs.Files.{Contents}
 use Rattle.std.specs.Borrow.{Bor}
 use Rattle.edi_words.specs.Words.{Command, Text}
@@ -9,11 +10,13 @@ use Rattle.edi_words.specs.declared.commands.Options.{Options}
 use Rattle.edi_words.specs.Words as words
 use Rattle.edi_words.specs.View.{options_of, view}
 use Rattle.edi_statuses.specs.declared.status.Status.{Status}
+use Rattle.edi_statuses.specs.declared.status.Status.TheVariants as status
 use Rattle.edi_statuses.specs.Outside.{Outside, KernelLeft, Lent}
 use Rattle.edi_statuses.proofs.Silent.{idle, nothing_shown}
 use Rattle.edi_disk_commands.specs.OnDisk.{MeansOnDisk, RestStays}
 use Rattle.edi_top.specs.Built.{built}
-use Rattle.edi_statuses.specs.Means.{Came}
+use Rattle.edi_statuses.specs.Lines.{text_of}
+use Rattle.edi_statuses.specs.Means.{Came, CountsBlocks, CountsNew}
 
 pub no_words : (f : Option commands.Command) (x : Option Command) → option_map view f ≡ x → f ≡ None → built x ≡ None
 no_words f x exact none = subst (λ y. built y ≡ None) exact (subst (λ g. built (option_map view g) ≡ None) (sym none) refl)
@@ -25,20 +28,21 @@ pub not_built : (c : commands.Command) → ((file : Bor Text) (o : Options) → 
     → ((blocks : ℕ) (old : Option (Bor Text)) → c ≡ command.NewDisk blocks old → ⊥)
     → ((file title : Bor Text) → c ≡ command.Put file title → ⊥) → ((title file : Bor Text) → c ≡ command.Get title file → ⊥)
     → ((file : Bor Text) → c ≡ command.List file → ⊥) → ((n : ℕ) (o : Options) → c ≡ command.Demo n o → ⊥)
+    → ((o : Options) → c ≡ command.Boot o → ⊥)
     → built (Some (view c)) ≡ None
-not_built (command.Run file o) run replay exec compile new put get list demo = absurd (run file o refl)
-not_built (command.Replay file choices turns) run replay exec compile new put get list demo = absurd (replay file choices turns refl)
-not_built (command.Exec file o) run replay exec compile new put get list demo = absurd (exec file o refl)
-not_built (command.Compile file out) run replay exec compile new put get list demo = absurd (compile file out refl)
-not_built (command.NewDisk blocks old) run replay exec compile new put get list demo = absurd (new blocks old refl)
-not_built (command.Put file title) run replay exec compile new put get list demo = absurd (put file title refl)
-not_built (command.Get title file) run replay exec compile new put get list demo = absurd (get title file refl)
-not_built (command.Boot o) run replay exec compile new put get list demo = refl
-not_built (command.List file) run replay exec compile new put get list demo = absurd (list file refl)
-not_built (command.Demo n o) run replay exec compile new put get list demo = absurd (demo n o refl)
-not_built (command.Check file) run replay exec compile new put get list demo = refl
-not_built (command.Walk file choices turns) run replay exec compile new put get list demo = refl
-not_built (command.Watch file stops out o) run replay exec compile new put get list demo = refl
+not_built (command.Run file o) run replay exec compile new put get list demo boot = absurd (run file o refl)
+not_built (command.Replay file choices turns) run replay exec compile new put get list demo boot = absurd (replay file choices turns refl)
+not_built (command.Exec file o) run replay exec compile new put get list demo boot = absurd (exec file o refl)
+not_built (command.Compile file out) run replay exec compile new put get list demo boot = absurd (compile file out refl)
+not_built (command.NewDisk blocks old) run replay exec compile new put get list demo boot = absurd (new blocks old refl)
+not_built (command.Put file title) run replay exec compile new put get list demo boot = absurd (put file title refl)
+not_built (command.Get title file) run replay exec compile new put get list demo boot = absurd (get title file refl)
+not_built (command.Boot o) run replay exec compile new put get list demo boot = absurd (boot o refl)
+not_built (command.List file) run replay exec compile new put get list demo boot = absurd (list file refl)
+not_built (command.Demo n o) run replay exec compile new put get list demo boot = absurd (demo n o refl)
+not_built (command.Check file) run replay exec compile new put get list demo boot = refl
+not_built (command.Walk file choices turns) run replay exec compile new put get list demo boot = refl
+not_built (command.Watch file stops out o) run replay exec compile new put get list demo boot = refl
 
 -- a command as the code has it
 pub obeyed_so : (c d : commands.Command) (s : Status) (due : Bool) (before after : Outside) (kernel : Lent) → c ≡ d
@@ -76,3 +80,39 @@ on_disk c s before files blocks kernel means =
       shows = nothing_shown before.shown;
       due_is = refl;
     }
+
+-- ---- the number of blocks
+
+-- a fault of the output stands for a status of `newdisk` whose line was not shown
+cut_short : (s t : Status) (wanted old new had has : ℕ) → t ≡ status.OutputFault → (text_of s ≡ None → t ≡ s) → (s ≡ status.DriveFault → CountRose had has)
+    → CountsNew s wanted old new had has → (new ≡ old) ⊎ CountRose had has
+cut_short status.Ok t wanted old new had has fault silent cause h =
+    let never : status.OutputFault ≡ status.Ok = sym fault ∙ silent refl in absurd (cc)
+cut_short status.DriveFault t wanted old new had has fault silent cause h = inr (cause refl)
+cut_short status.OutputFault t wanted old new had has fault silent cause h = h
+cut_short s t wanted old new had has fault silent cause h = inl h
+
+-- the status of a command is answered, or a fault of the output in its place
+pub counts_closed : (c : Option Command) (s t : Status) (old new had has : ℕ) → (t ≡ s) ⊎ (t ≡ status.OutputFault) → (text_of s ≡ None → t ≡ s)
+    → (s ≡ status.DriveFault → CountRose had has) → CountsBlocks c s old new had has → CountsBlocks c t old new had has
+counts_closed (Some (words.newdisk blocks image)) s t old new had has (inl same) silent cause h =
+    subst (λ x. CountsNew x blocks old new had has) (sym same) h
+counts_closed (Some (words.newdisk blocks image)) s t old new had has (inr fault) silent cause h =
+    subst (λ x. CountsNew x blocks old new had has) (sym fault) (cut_short s t blocks old new had has fault silent cause h)
+counts_closed c s t old new had has which silent cause h = h
+
+-- words that are none leave the drive alone
+pub counts_of_none : (c : Option Command) (s : Status) (n had : ℕ) → c ≡ None → CountsBlocks c s n n had had
+counts_of_none c s n had none = subst (λ x. CountsBlocks x s n n had had) (sym none) refl
+
+-- where memory was wanting for the words, no command has begun
+pub counts_unread : (c : Option Command) (s : Status) (n had : ℕ) → s ≡ status.NoMemory → CountsBlocks c s n n had had
+counts_unread (Some (words.newdisk blocks image)) s n had wants = subst (λ x. CountsNew x blocks n n had had) (sym wants) refl
+counts_unread c s n had wants = refl
+
+-- a command as the code has it, and its status
+pub counts_so : (c d : commands.Command) (meant s : Status) (old new had has : ℕ) → c ≡ d → s ≡ meant
+    → CountsBlocks (built (Some (view d))) meant old new had has → CountsBlocks (built (Some (view c))) s old new had has
+counts_so c d meant s old new had has is same h =
+    subst (λ x. CountsBlocks (built (Some (view x))) s old new had has) (sym is)
+    (subst (λ t. CountsBlocks (built (Some (view d))) t old new had has) (sym same) h)

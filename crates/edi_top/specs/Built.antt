@@ -1,6 +1,5 @@
 -- Words of contracts. Which commands are there.
 use Rattle.std.specs.Prelude.{Bool, true, false, Option, Some, None, if◌then◌else◌}
-use Rattle.edi_statuses.specs.Means.{uses_files}
 use Rattle.edi_words.specs.Words as words
 use Rattle.edi_words.specs.Words.{Command}
 
@@ -9,7 +8,7 @@ abbrev pub is_built : Command → Bool
 is_built (words.run file o) = true
 is_built (words.replay file choices turns) = true
 is_built (words.exec file o) = true
-is_built (words.boot o) = false
+is_built (words.boot o) = true
 is_built (words.compile file out) = true
 is_built (words.newdisk blocks old) = true
 is_built (words.put file title) = true
@@ -23,9 +22,3 @@ is_built (words.watch file points out o) = false
 abbrev pub built : Option Command → Option Command
 built None = None
 built (Some c) = if is_built c then Some c else None
-
--- The files may be touched: by each command that uses them, and by every demonstration, since no clause says that one whose options
--- name no file leaves them alone.
-abbrev pub may_use_files : Command → Bool
-may_use_files (words.demo n o) = true
-may_use_files c = uses_files c

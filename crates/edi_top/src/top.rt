@@ -1,16 +1,18 @@
 //! The call that does all that the program does.
 
-ghost use Rattle.std.specs.Prelude.{◌≡◌, ◌⊎◌, ◌≤◌, ℕ, List, None, Some, false, map, option_map};
+ghost use Rattle.std.specs.Prelude.{◌≡◌, ◌⊎◌, ◌≤◌, ℕ, List, None, Some, false, true, map, option_map};
 ghost use Rattle.std.specs.String.{string_bytes};
 ghost use Rattle.edi_told.specs.Faults.{CountRose};
 ghost use Rattle.edi_words.specs.Words.{command_of, newdisk};
 ghost use Rattle.edi_words.specs.View.{view, IsInRange};
 ghost use Rattle.edi_disk_commands.specs.OnDisk.{IsOfDisk, MeansOnDisk};
-ghost use Rattle.edi_top.specs.Built.{built, may_use_files};
+ghost use Rattle.edi_top.specs.Built.{built};
 ghost use Rattle.edi_statuses.specs.Outside.{lent, outside_of, Shows};
 ghost use Rattle.edi_statuses.specs.Counts.{counts_of, HasCause, NoneFalls};
-ghost use Rattle.edi_statuses.specs.Means.{does, uses_devices, uses_drive, uses_files, uses_input, Came, EndsWith};
+ghost use Rattle.edi_statuses.specs.Means.{does, is_silent, uses_devices, uses_drive, uses_files, uses_input};
+ghost use Rattle.edi_statuses.specs.Means.{Came, CountsBlocks, CountsNew, EndsWith};
 
+use edi_boot::boot;
 use edi_code_commands::list;
 use edi_disk_commands::{get, new_disk, new_disk_from, put};
 use edi_host::{Drive, Files, Sink, Source};
@@ -41,6 +43,8 @@ fn new_by<F: Files, D: Drive>(
     requires most { blocks ≤ 4096 }
     ensures means { MeansOnDisk (newdisk blocks (option_map (λ name. name.now) old.entry)) result (F.contents files.old) (F.contents files.new)
         (D.contents drive.old) (D.contents drive.new) }
+    ensures size { CountsNew result blocks (D.count drive.old) (D.count drive.new)
+        (D.faults drive.old) (D.faults drive.new) }
     ensures kind { IsOfDisk result }
     ensures no_files { uses_files (newdisk blocks (option_map (λ name. name.now) old.entry)) ≡ false → files.new ≡ files.old }
     ensures later_files { F.faults files.old ≤ F.faults files.new }
@@ -76,9 +80,12 @@ fn perform<F: Files, D: Drive, S: Source, T: Sink, P: Sink>(
     ensures later { NoneFalls
         (counts_of F.faults D.faults S.faults T.faults P.faults files.old drive.old input.old terminal.old printer.old)
         (counts_of F.faults D.faults S.faults T.faults P.faults files.new drive.new input.new terminal.new printer.new) }
-    ensures no_files { does may_use_files (built (Some (view command.entry))) ≡ false → files.new ≡ files.old }
+    ensures size { CountsBlocks (built (Some (view command.entry))) result.status (D.count drive.old) (D.count drive.new)
+        (D.faults drive.old) (D.faults drive.new) }
+    ensures no_files { does uses_files (built (Some (view command.entry))) ≡ false → files.new ≡ files.old }
     ensures no_drive { does uses_drive (built (Some (view command.entry))) ≡ false → drive.new ≡ drive.old }
     ensures no_input { does uses_input (built (Some (view command.entry))) ≡ false → input.new ≡ input.old }
+    ensures no_terminal { does is_silent (built (Some (view command.entry))) ≡ true → terminal.new ≡ terminal.old }
     ensures no_printer { does uses_devices (built (Some (view command.entry))) ≡ false → printer.new ≡ printer.old }
     ensures no_kernel { does uses_devices (built (Some (view command.entry))) ≡ false → kernel.new ≡ kernel.old }
 {
@@ -95,6 +102,9 @@ fn perform<F: Files, D: Drive, S: Source, T: Sink, P: Sink>(
         ),
         Command::Exec { file, options } => exec(
             alloc, file, options, files, drive, input, terminal, printer, kernel,
+        ),
+        Command::Boot { options } => boot(
+            alloc, options, files, drive, input, terminal, printer, kernel,
         ),
         Command::Compile { file, out } => silent(compile_file(alloc, files, file, out)),
         Command::NewDisk { blocks, old } => silent(new_by(alloc, files, drive, blocks, old)),
@@ -135,9 +145,12 @@ fn obey<F: Files, D: Drive, S: Source, T: Sink, P: Sink>(
     ensures later { NoneFalls
         (counts_of F.faults D.faults S.faults T.faults P.faults files.old drive.old input.old terminal.old printer.old)
         (counts_of F.faults D.faults S.faults T.faults P.faults files.new drive.new input.new terminal.new printer.new) }
-    ensures no_files { does may_use_files (built (command_of (map string_bytes words.now))) ≡ false → files.new ≡ files.old }
+    ensures size { CountsBlocks (built (command_of (map string_bytes words.now))) result.status (D.count drive.old) (D.count drive.new)
+        (D.faults drive.old) (D.faults drive.new) }
+    ensures no_files { does uses_files (built (command_of (map string_bytes words.now))) ≡ false → files.new ≡ files.old }
     ensures no_drive { does uses_drive (built (command_of (map string_bytes words.now))) ≡ false → drive.new ≡ drive.old }
     ensures no_input { does uses_input (built (command_of (map string_bytes words.now))) ≡ false → input.new ≡ input.old }
+    ensures no_terminal { does is_silent (built (command_of (map string_bytes words.now))) ≡ true → terminal.new ≡ terminal.old }
     ensures no_printer { does uses_devices (built (command_of (map string_bytes words.now))) ≡ false → printer.new ≡ printer.old }
     ensures no_kernel { does uses_devices (built (command_of (map string_bytes words.now))) ≡ false → kernel.new ≡ kernel.old }
 {
@@ -152,8 +165,8 @@ fn obey<F: Files, D: Drive, S: Source, T: Sink, P: Sink>(
 
 /// Does what the words say, which are those after the program's name, and answers how it ended.
 ///
-/// The line of the status is shown on the terminal. `Ok` has none, and neither has `OutputFault`: there the output of the command, or
-/// the line itself, could not be shown.
+/// The line of the status is shown on the terminal. `Ok` has none, and neither has `OutputFault`: there bytes of the command, on the
+/// terminal or the printer, or the line of its status could not be taken.
 pub fn edison<F: Files, D: Drive, S: Source, T: Sink, P: Sink>(
     alloc: Global,
     words: &[String],
@@ -189,10 +202,16 @@ pub fn edison<F: Files, D: Drive, S: Source, T: Sink, P: Sink>(
     ensures later_terminal { T.faults terminal.old ≤ T.faults terminal.new }
     ensures later_printer { P.faults printer.old ≤ P.faults printer.new }
 
+    // Only `newdisk` gives the drive another number of blocks, whatever the drive tells.
+    ensures size { CountsBlocks (built (command_of (map string_bytes words.now))) result (D.count drive.old) (D.count drive.new)
+        (D.faults drive.old) (D.faults drive.new) }
+
     // Objects that a command has no use for are not touched, whatever they tell; words that are refused touch none.
-    ensures no_files { does may_use_files (built (command_of (map string_bytes words.now))) ≡ false → files.new ≡ files.old }
+    ensures no_files { does uses_files (built (command_of (map string_bytes words.now))) ≡ false → files.new ≡ files.old }
     ensures no_drive { does uses_drive (built (command_of (map string_bytes words.now))) ≡ false → drive.new ≡ drive.old }
     ensures no_input { does uses_input (built (command_of (map string_bytes words.now))) ≡ false → input.new ≡ input.old }
+    ensures no_terminal { result ≡ Status.Ok → does is_silent (built (command_of (map string_bytes words.now))) ≡ true
+        → terminal.new ≡ terminal.old }
     ensures no_printer { does uses_devices (built (command_of (map string_bytes words.now))) ≡ false → printer.new ≡ printer.old }
     ensures no_kernel { does uses_devices (built (command_of (map string_bytes words.now))) ≡ false → kernel.new ≡ kernel.old }
 {

@@ -1,9 +1,13 @@
-use Rattle.std.proofs.Common.{ap, map}
+use Rattle.std.proofs.Common.{◌≡◌, ◌∙◌, ap, inl, inr, map, subst, sym}
 use Rattle.std.specs.String.{string_bytes}
 use Rattle.edi_words.specs.Words.{command_of}
 use Rattle.edi_top.specs.Built.{built}
+use Rattle.edi_statuses.specs.Counts.{HasCause}
+use Rattle.edi_statuses.specs.Lines.{text_of}
+use Rattle.edi_statuses.specs.declared.status.Status.TheVariants as status
 use Rattle.edi_statuses.proofs.Causes.{cause_later}
 use Rattle.edi_statuses.proofs.Closing.{lines_end}
+use Rattle.edi_top.proofs.Obeyed.{counts_closed}
 use Rattle.edi_top.proofs.top.edison.Goals as goal
 
 pub returns-clause-ends : goal.returns-clause-ends
@@ -13,3 +17,22 @@ returns-clause-ends g c =
     (cause_later c.obey-ended.result.status _ _ _ _ _ (g.T.Sink.faults c.show_status.new.terminal) _ c.show_status.ensures.later c.obey-ended.ensures.cause)
     c.obey-ended.ensures.came c.show_status.ensures.exact
     (λ none. let same = c.show_status.ensures.silent none in (same.0, ap g.T.Sink.taken same.1))
+
+pub returns-clause-size : goal.returns-clause-size
+returns-clause-size g c =
+    counts_closed (built (command_of (map string_bytes c.args.words.now))) c.obey-ended.result.status c.show_status.result _ _ _ _
+    (elim c.show_status.ensures.exact [
+      | inl same ↦ inl same.0
+      | inr fault ↦ inr fault.0
+    ])
+    (λ none. (c.show_status.ensures.silent none).0)
+    (λ is. subst (λ s. HasCause s _ _) is c.obey-ended.ensures.cause)
+    c.obey-ended.ensures.size
+
+pub returns-clause-no_terminal : goal.returns-clause-no_terminal
+returns-clause-no_terminal g c = λ ok silent.
+    let came : c.obey-ended.result.status ≡ status.Ok = elim c.show_status.ensures.exact [
+      | inl same ↦ sym same.0 ∙ ok
+      | inr fault ↦ let never : status.Ok ≡ status.OutputFault = sym ok ∙ fault.0 in absurd (cc)
+    ] in
+    (c.show_status.ensures.silent (ap text_of came)).1 ∙ c.obey-ended.ensures.no_terminal silent

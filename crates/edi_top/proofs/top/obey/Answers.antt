@@ -1,5 +1,5 @@
 use Rattle.edi_statuses.proofs.Silent.{refused, wants}
-use Rattle.edi_top.proofs.Obeyed.{no_words}
+use Rattle.edi_top.proofs.Obeyed.{counts_of_none, counts_unread, no_words}
 use Rattle.edi_top.proofs.top.obey.Goals as goal
 
 pub returns-in-Ok-None-clause-came : goal.returns-in-Ok-None-clause-came
@@ -10,3 +10,10 @@ returns-in-Ok-None-clause-came g c =
 pub returns-in-Err-clause-came : goal.returns-in-Err-clause-came
 returns-in-Err-clause-came g c =
     wants c.silent-in-Err.result.status c.silent-in-Err.result.due _ _ _ c.silent-in-Err.ensures.status c.silent-in-Err.ensures.due
+
+pub returns-in-Ok-None-clause-size : goal.returns-in-Ok-None-clause-size
+returns-in-Ok-None-clause-size g c =
+    counts_of_none _ c.silent.result.status _ _ (no_words c.in-Ok-None.field-0 _ c.in-Ok-None.ensures.exact c.in-Ok-None.field-0-is)
+
+pub returns-in-Err-clause-size : goal.returns-in-Err-clause-size
+returns-in-Err-clause-size g c = counts_unread _ c.silent-in-Err.result.status _ _ c.silent-in-Err.ensures.status

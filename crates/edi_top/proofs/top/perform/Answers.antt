@@ -3,7 +3,7 @@ use Rattle.edi_words.specs.Words as words
 use Rattle.edi_words.specs.declared.commands.Command.TheVariants as command
 use Rattle.edi_statuses.specs.Outside.{kernel_of}
 use Rattle.edi_statuses.proofs.Silent.{on_files, refused}
-use Rattle.edi_top.proofs.Obeyed.{not_built, obeyed, obeyed_demo, obeyed_so, on_disk}
+use Rattle.edi_top.proofs.Obeyed.{counts_of_none, counts_so, not_built, obeyed, obeyed_demo, obeyed_so, on_disk}
 use Rattle.edi_top.proofs.top.perform.Goals as goal
 
 pub returns-in-Compile-clause-came : goal.returns-in-Compile-clause-came
@@ -17,6 +17,11 @@ returns-in-NewDisk-clause-came g c =
     obeyed c.args.command (command.NewDisk c.in-NewDisk.blocks c.in-NewDisk.old) c.new_by.result c.silent-in-NewDisk.result.status
     c.silent-in-NewDisk.result.due _ _ _ c.in-NewDisk.is c.silent-in-NewDisk.ensures.status c.silent-in-NewDisk.ensures.due
     (on_disk (words.newdisk c.in-NewDisk.blocks (option_map (λ name. name.now) c.in-NewDisk.old)) c.new_by.result _ _ _ _ c.new_by.ensures.means)
+
+pub returns-in-NewDisk-clause-size : goal.returns-in-NewDisk-clause-size
+returns-in-NewDisk-clause-size g c =
+    counts_so c.args.command (command.NewDisk c.in-NewDisk.blocks c.in-NewDisk.old) c.new_by.result c.silent-in-NewDisk.result.status _ _ _ _
+    c.in-NewDisk.is c.silent-in-NewDisk.ensures.status c.new_by.ensures.size
 
 pub returns-in-Put-clause-came : goal.returns-in-Put-clause-came
 returns-in-Put-clause-came g c =
@@ -49,15 +54,19 @@ pub returns-in-Demo-clause-cause : goal.returns-in-Demo-clause-cause
 returns-in-Demo-clause-cause g c = c.demonstrate.ensures.cause (g.D.Drive.faults c.args.drive.now) (g.S.Source.faults c.args.input.now)
 
 pub returns-in_default : goal.returns-in_default
-returns-in_default g c = record {
-  came = refused c.silent-in_default.result.status c.silent-in_default.result.due _ _ _ c.silent-in_default.ensures.status c.silent-in_default.ensures.due
-      (not_built c.args.command c.in_default.not-Run c.in_default.not-Replay c.in_default.not-Exec c.in_default.not-Compile c.in_default.not-NewDisk
-      c.in_default.not-Put c.in_default.not-Get c.in_default.not-List c.in_default.not-Demo);
-  cause = search rules;
-  later = search rules;
-  no_files = λ e. refl;
-  no_drive = λ e. refl;
-  no_input = λ e. refl;
-  no_printer = λ e. refl;
-  no_kernel = λ e. refl;
-}
+returns-in_default g c =
+    let none = not_built c.args.command c.in_default.not-Run c.in_default.not-Replay c.in_default.not-Exec c.in_default.not-Compile
+    c.in_default.not-NewDisk c.in_default.not-Put c.in_default.not-Get c.in_default.not-List c.in_default.not-Demo c.in_default.not-Boot in
+    record {
+      came = refused c.silent-in_default.result.status c.silent-in_default.result.due _ _ _ c.silent-in_default.ensures.status
+          c.silent-in_default.ensures.due none;
+      cause = search rules;
+      later = search rules;
+      size = counts_of_none _ c.silent-in_default.result.status _ _ none;
+      no_files = λ e. refl;
+      no_drive = λ e. refl;
+      no_input = λ e. refl;
+      no_terminal = λ e. refl;
+      no_printer = λ e. refl;
+      no_kernel = λ e. refl;
+    }
