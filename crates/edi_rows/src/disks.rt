@@ -97,6 +97,10 @@ fn there_are_256_slots(rt: HostRuntime) -> Result<(), Fail> {
         script.push_str(&format!(in alloc; "call 0 put e t{n}\n")?)?;
     }
     script.push_str("call 15 put e t\nshows disk full/\nunchanged\ncall 0 put e t255\n")?;
+    script.push_str(
+        "input 0 enter x/./copy t0 x/copy t0 t1/rename t0 x/\ncall 0 boot\nshows > enter x/catalogue full/",
+    )?;
+    script.push_str("> copy t0 x/catalogue full/> copy t0 t1/> rename t0 x/> /\n")?;
     play(&rt, alloc, &script, 0)
 }
 

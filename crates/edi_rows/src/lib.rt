@@ -4,6 +4,8 @@
 #[cfg(test)]
 mod disks;
 #[cfg(test)]
+mod editings;
+#[cfg(test)]
 mod faults;
 #[cfg(test)]
 mod images;
@@ -13,5 +15,15 @@ mod play;
 mod refused;
 #[cfg(test)]
 mod runs;
+#[cfg(test)]
+mod script;
+#[cfg(test)]
+mod session_ends;
+#[cfg(test)]
+mod session_faults;
+#[cfg(test)]
+mod session_refusals;
+#[cfg(test)]
+mod sessions;
 #[cfg(test)]
 mod world;

@@ -12,8 +12,10 @@
 //! | `at N HEX` | these bytes of two digits each stand at N |
 //! | `copy NAME` | the bytes are those of this file |
 //! | `file NAME` | the bytes become this file, and there are none |
+//! | `types N` | the bytes are the input, whose call number N fails |
 //! | `call S WORDS` | a call with these words has the status S |
 //! | `shows TEXT`, `prints TEXT` | what the terminal and the printer have taken since |
+//! | `seen` | the terminal has taken the bytes since |
 //! | `leaves TEXT` | what is left of the input |
 //! | `holds NAME TEXT`, `none NAME` | the file with this name; that there is none |
 //! | `same NAME NAME` | two files with the same bytes |
@@ -24,56 +26,12 @@
 //! In a TEXT `/` is a line feed and `~` the byte 25. The number `n` is that of the round. All that is shown and printed has to be
 //! looked at before the next call.
 
-ghost use Rattle.std.specs.Prelude.{◌<◌};
-
+use crate::script::{meant, parts, write_hex};
 use crate::world::World;
 use edi_host::{MemoryDrive, MemoryFiles, MemorySink, MemorySource};
 use std::alloc::Global;
 use std::process::Abort;
 use std::test::Fail;
-
-// A text as a script writes it.
-fn meant(alloc: Global, text: &str) -> Result<Vec<u8>, Fail> {
-    let mut bytes = Vec::new(alloc);
-    for byte in text.as_bytes() {
-        bytes.push(match *byte {
-            b'/' => b'\n',
-            b'~' => 25,
-            byte => byte,
-        })?;
-    }
-    Ok(bytes)
-}
-
-// The value of a digit.
-fn digit(rt: &impl Abort, byte: u8) -> u8
-    ensures { result < 16 }
-{
-    match byte {
-        b'0'..=b'9' => byte - b'0',
-        b'a'..=b'f' => byte - b'a' + 10,
-        _ => panic!(rt; "no digit"),
-    }
-}
-
-// Writes bytes of two digits each from a place on.
-fn write_hex(rt: &impl Abort, bytes: &mut [u8], at: usize, hex: &str) -> Result<(), Fail> {
-    let (pairs, _) = hex.as_bytes().as_chunks::<2>();
-    let bytes = bytes.get_mut(at..).ok_or("no such place")?;
-    assert!(rt;
-        pairs.len() <= bytes.len() && hex.len() == 2 * pairs.len(),
-        "{hex}"
-    );
-    for (byte, [high, low]) in bytes.iter_mut().zip(pairs) {
-        *byte = digit(rt, *high) * 16 + digit(rt, *low);
-    }
-    Ok(())
-}
-
-// Two parts of a line.
-fn parts(text: &str) -> (&str, &str) {
-    text.split_once(' ').unwrap_or((text, ""))
-}
 
 // What a script has made so far.
 #[derive(Drop)]
@@ -169,6 +127,13 @@ impl Stage {
         Ok(())
     }
 
+    fn types(&mut self, alloc: Global, rest: &str) -> Result<(), Fail> {
+        let n = self.number(rest)?;
+        self.world.devices.input = MemorySource::new(alloc, &self.bytes, &[n])?;
+        self.bytes.clear();
+        Ok(())
+    }
+
     fn terminal(&mut self, rt: &impl Abort, alloc: Global, rest: &str) -> Result<(), Fail> {
         self.settle(rt, rest);
         self.world.devices.terminal = self.sink(alloc, rest)?;
@@ -240,6 +205,13 @@ impl Stage {
         assert_eq!(rt; seen.get(self.shown..), Some(wanted.as_slice()), "{text}");
         self.shown = seen.len();
         Ok(())
+    }
+
+    fn seen(&mut self, rt: &impl Abort) {
+        let seen = self.world.devices.terminal.bytes();
+        assert_eq!(rt; seen.get(self.shown..), Some(self.bytes.as_slice()));
+        self.shown = seen.len();
+        self.bytes.clear();
     }
 
     fn prints(&mut self, rt: &impl Abort, alloc: Global, text: &str) -> Result<(), Fail> {
@@ -362,6 +334,10 @@ impl Stage {
             "file" => self.file(rt, alloc, rest),
             "call" => self.call(rt, alloc, rest),
             "shows" => self.shows(rt, alloc, rest),
+            "seen" => {
+                self.seen(rt);
+                Ok(())
+            }
             "prints" => self.prints(rt, alloc, rest),
             "either" => self.either(rt, alloc, rest),
             _ => self.make_or_look(rt, alloc, word, rest),
@@ -382,6 +358,7 @@ impl Stage {
             "drive" => self.drive(rt, alloc, rest, false),
             "lands" => self.drive(rt, alloc, rest, true),
             "input" => self.input(alloc, rest),
+            "types" => self.types(alloc, rest),
             "terminal" => self.terminal(rt, alloc, rest),
             "printer" => self.printer(rt, alloc, rest),
             _ => self.look(rt, alloc, word, rest),
