@@ -1,12 +1,12 @@
 //! The shell's calls over objects in memory.
 
 use crate::image::image;
-use crate::requests::Answered::{File, No, Number, Refused, Yes};
+use crate::requests::Reply::{File, No, Number, Refused, Yes};
 use crate::requests::Request::{
     Delete, Due, Find, Free, FreshLine, Page, PrintOut, Protect, Release, Rename, Show, Slot,
     Store, Take, Whole,
 };
-use crate::requests::{Answered, Request, answered};
+use crate::requests::{Reply, Request, answered};
 use edi_calls::{FileKind, Outside};
 use edi_catalog::{CatEnd, check, mount};
 use edi_disk::Disk;
@@ -31,7 +31,7 @@ struct Left {
 fn ran(
     rt: &impl Abort,
     alloc: Global,
-    table: &[(Request, Answered)],
+    table: &[(Request, Reply)],
     n: u64,
     most_bytes: usize,
 ) -> Result<Left, Fail> {

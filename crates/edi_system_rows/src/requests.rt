@@ -34,7 +34,7 @@ pub(crate) enum Request {
 
 /// What a call tells.
 #[derive(Clone, Copy, PartialEq, Drop)]
-pub(crate) enum Answered {
+pub(crate) enum Reply {
     Yes,
     No,
     Number(u32),
@@ -59,27 +59,27 @@ fn is_fault<X>(answer: &Result<X, CatEnd>) -> bool
 }
 
 // What a call of the catalogue tells, unless it has failed.
-fn answer_of(answer: Result<(), CatEnd>) -> Option<Answered>
+fn reply_of(answer: Result<(), CatEnd>) -> Option<Reply>
     ensures { IsSome result → is_drive_fault answer ≡ false }
 {
     if is_fault(&answer) {
         return None;
     }
     match answer {
-        Ok(()) => Some(Answered::Yes),
-        Err(end) => Some(Answered::Refused(end)),
+        Ok(()) => Some(Reply::Yes),
+        Err(end) => Some(Reply::Refused(end)),
     }
 }
 
-fn file_of(entry: Option<Entry>) -> Answered {
+fn file_of(entry: Option<Entry>) -> Reply {
     match entry {
-        Some(entry) => Answered::File(entry.kind, entry.length, entry.protected),
-        None => Answered::No,
+        Some(entry) => Reply::File(entry.kind, entry.length, entry.protected),
+        None => Reply::No,
     }
 }
 
-fn truth_of(value: bool) -> Answered {
-    if value { Answered::Yes } else { Answered::No }
+fn truth_of(value: bool) -> Reply {
+    if value { Reply::Yes } else { Reply::No }
 }
 
 fn title(text: &str) -> Option<Title> {
@@ -91,19 +91,19 @@ fn first_byte<D: Drive, S: Source, T: Sink, P: Sink>(
     system: &mut System<'_, '_, '_, '_, '_, '_, D, S, T, P>,
     title: &Title,
     i: u32,
-) -> Option<Answered>
+) -> Option<Reply>
     requires { IsReady D.contents D.count system.old }
     ensures { IsSome result → IsReady D.contents D.count system.new }
 {
     let Some(entry) = system.find(title) else {
-        return Some(Answered::No);
+        return Some(Reply::No);
     };
     if i >= 510 || i * 512 >= entry.length {
-        return Some(Answered::No);
+        return Some(Reply::No);
     }
     let mut page = [0; 512];
     match system.read_page(title, i, &mut page) {
-        Ok(()) => Some(Answered::Number(u32::from(page[0]))),
+        Ok(()) => Some(Reply::Number(u32::from(page[0]))),
         Err(_) => None,
     }
 }
@@ -113,7 +113,7 @@ fn whole<D: Drive, S: Source, T: Sink, P: Sink>(
     system: &mut System<'_, '_, '_, '_, '_, '_, D, S, T, P>,
     title: &Title,
     room: &mut [u8],
-) -> Option<Answered>
+) -> Option<Reply>
     requires ready { IsReady D.contents D.count system.old }
     requires room { most_bytes ≤ length room.old }
     ensures ready { IsSome result → IsReady D.contents D.count system.new }
@@ -124,8 +124,8 @@ fn whole<D: Drive, S: Source, T: Sink, P: Sink>(
         return None;
     }
     match answer {
-        Ok(n) => Some(Answered::Number(n)),
-        Err(end) => Some(Answered::Refused(end)),
+        Ok(n) => Some(Reply::Number(n)),
+        Err(end) => Some(Reply::Refused(end)),
     }
 }
 
@@ -134,55 +134,55 @@ fn store<D: Drive, S: Source, T: Sink, P: Sink>(
     system: &mut System<'_, '_, '_, '_, '_, '_, D, S, T, P>,
     title: &Title,
     bytes: &[u8],
-) -> Option<Answered>
+) -> Option<Reply>
     requires { IsReady D.contents D.count system.old }
     ensures { IsSome result → IsReady D.contents D.count system.new }
 {
     if bytes.len() > 100 {
-        return Some(Answered::No);
+        return Some(Reply::No);
     }
-    answer_of(system.store(title, FileKind::Text, bytes))
+    reply_of(system.store(title, FileKind::Text, bytes))
 }
 
 // Makes a call on the objects; `None` where one has failed.
 fn stream<D: Drive, S: Source, T: Sink, P: Sink>(
     system: &mut System<'_, '_, '_, '_, '_, '_, D, S, T, P>,
     request: Request,
-) -> Option<Answered>
+) -> Option<Reply>
     requires { IsReady D.contents D.count system.old }
     ensures { IsSome result → IsReady D.contents D.count system.new }
 {
     match request {
         Request::Take => match system.take() {
-            Next::Byte(byte) => Some(Answered::Number(u32::from(byte))),
-            Next::End => Some(Answered::No),
+            Next::Byte(byte) => Some(Reply::Number(u32::from(byte))),
+            Next::End => Some(Reply::No),
             Next::Failed => None,
         },
         Request::Show(text) => {
             if system.show(text.as_bytes()) {
-                Some(Answered::Yes)
+                Some(Reply::Yes)
             } else {
                 None
             }
         }
         Request::PrintOut(text) => {
             if system.print_out(text.as_bytes()) {
-                Some(Answered::Yes)
+                Some(Reply::Yes)
             } else {
                 None
             }
         }
         Request::FreshLine => {
             if system.fresh_line() {
-                Some(Answered::Yes)
+                Some(Reply::Yes)
             } else {
                 None
             }
         }
         Request::Due => Some(truth_of(system.due())),
         Request::Slot(i) => Some(file_of(system.slot(i))),
-        Request::Free => Some(Answered::Number(system.free())),
-        _ => Some(Answered::No),
+        Request::Free => Some(Reply::Number(system.free())),
+        _ => Some(Reply::No),
     }
 }
 
@@ -191,7 +191,7 @@ fn make<D: Drive, S: Source, T: Sink, P: Sink>(
     system: &mut System<'_, '_, '_, '_, '_, '_, D, S, T, P>,
     request: Request,
     room: &mut [u8],
-) -> Option<Answered>
+) -> Option<Reply>
     requires ready { IsReady D.contents D.count system.old }
     requires room { most_bytes ≤ length room.old }
     ensures ready { IsSome result → IsReady D.contents D.count system.new }
@@ -202,10 +202,10 @@ fn make<D: Drive, S: Source, T: Sink, P: Sink>(
         Request::Page(text, i) => first_byte(system, &title(text)?, i),
         Request::Whole(text) => whole(system, &title(text)?, room),
         Request::Store(text, bytes) => store(system, &title(text)?, bytes.as_bytes()),
-        Request::Delete(text) => answer_of(system.delete(&title(text)?)),
-        Request::Rename(old, new) => answer_of(system.rename(&title(old)?, &title(new)?)),
-        Request::Protect(text) => answer_of(system.protect(&title(text)?)),
-        Request::Release(text) => answer_of(system.release(&title(text)?)),
+        Request::Delete(text) => reply_of(system.delete(&title(text)?)),
+        Request::Rename(old, new) => reply_of(system.rename(&title(old)?, &title(new)?)),
+        Request::Protect(text) => reply_of(system.protect(&title(text)?)),
+        Request::Release(text) => reply_of(system.release(&title(text)?)),
         other => stream(system, other),
     }
 }
@@ -213,7 +213,7 @@ fn make<D: Drive, S: Source, T: Sink, P: Sink>(
 /// How many of the calls tell what the table says, from the first on. No call is made after one that does not.
 pub(crate) fn answered<D: Drive, S: Source, T: Sink, P: Sink>(
     system: &mut System<'_, '_, '_, '_, '_, '_, D, S, T, P>,
-    table: &[(Request, Answered)],
+    table: &[(Request, Reply)],
     room: &mut [u8],
 ) -> usize
     requires ready { IsReady D.contents D.count system.old }
