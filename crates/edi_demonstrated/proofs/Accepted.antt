@@ -1,17 +1,20 @@
 -- The text of each demonstration is accepted.
 use Rattle.std.proofs.Common.{ℕ, ◌+◌, ◌*◌, ◌≤◌, refl, sym, subst}
-use Rattle.edi_calls.specs.State.{fresh}
+use Rattle.edi_calls.specs.Choice.{Choices}
+use Rattle.edi_calls.specs.Outcome.{Outcome}
+use Rattle.edi_calls.specs.State.{State, fresh}
 use Rattle.edi_lex.specs.Symbols.{symbols_of}
 use Rattle.edi_meaning.specs.Select.{Select}
 use Rattle.edi_utils.specs.Demo.{demo_text}
+use Rattle.edi_texts.specs.Run.{IsRunOf}
 use Rattle.edi_texts.specs.Texts.{AreAccepted, IsUnit}
 use Rattle.edi_texts.proofs.Once.{not_both, one_unit}
-use Rattle.edi_demonstrated.specs.Demonstrated.{DemonstrationsAreAccepted, DemonstrationsEnd, IsAccepted}
+use Rattle.edi_demonstrated.specs.Demonstrated.{DemonstrationsAreAccepted, DemonstrationsEnd, ShortDemonstrationsEnd, IsAccepted}
 use Rattle.edi_demonstrated.specs.Symbols.{demo_marks}
 use Rattle.edi_demonstrated.specs.Tree.{demo_tree}
 use Rattle.edi_demonstrated.proofs.Symbols.{text_symbols, marks_count}
 use Rattle.edi_demonstrated.proofs.Spelling.{is_the_tree}
-use Rattle.edi_demonstrated.proofs.Ending.{every_selection}
+use Rattle.edi_demonstrated.proofs.Ending.{every_selection, short_selection}
 use Rattle.edi_demonstrated.proofs.Resolving.{IsResolved, unit_of, is_resolved}
 
 pub has_unit : (n : ℕ) → 1 ≤ n → n ≤ 1000 → (r : IsResolved n) → IsUnit (demo_text n) (unit_of r.blocks)
@@ -36,8 +39,19 @@ accepted n some few =
 pub demonstrations_are_accepted : DemonstrationsAreAccepted
 demonstrations_are_accepted n some few = accepted n some few
 
+-- every execution of the text is one of the unit
+run_of_unit : (n : ℕ) → 1 ≤ n → n ≤ 1000 → (u : IsResolved n) (system : State) (bound : ℕ) (choices : Choices) (o : Outcome)
+    → IsRunOf (demo_text n) system bound choices o → Select (unit_of u.blocks) (fresh system) bound choices o
+run_of_unit n some few u system bound choices o r =
+    let same = one_unit (symbols_of (demo_text n)) r.unit (unit_of u.blocks) r.unit_is (has_unit n some few u) in
+    subst (λ unit. Select unit (fresh system) bound choices o) same r.run
+
 pub demonstrations_end : DemonstrationsEnd
 demonstrations_end n some few system bound choices o enough r =
     let u = is_resolved n some few in
-    let same = one_unit (symbols_of (demo_text n)) r.unit (unit_of u.blocks) r.unit_is (has_unit n some few u) in
-    every_selection n few u.blocks u.are (fresh system) bound choices o enough (subst (λ unit. Select unit (fresh system) bound choices o) same r.run)
+    every_selection n few u.blocks u.are (fresh system) bound choices o enough (run_of_unit n some few u system bound choices o r)
+
+pub short_demonstrations_end : ShortDemonstrationsEnd
+short_demonstrations_end n some few system bound choices o less r =
+    let u = is_resolved n some few in
+    short_selection n few u.blocks u.are (fresh system) bound choices o less (run_of_unit n some few u system bound choices o r)

@@ -3,6 +3,7 @@ pub mod Spelling
 pub mod Names
 pub mod Blocks
 pub mod Resolving
-pub mod Accepted
 pub mod Running
+pub mod Selecting
 pub mod Ending
+pub mod Accepted

@@ -159,3 +159,38 @@ leaves_last blocks false k x t system = refl
 
 pub finishes : (blocks : List Block) (x t : ℕ) (system : Traced) → step (unit_of blocks) (last_state x (suc t) system) [] ≡ ended outcome.done system t
 finishes blocks x t system = refl
+
+-- ---- without a turn
+
+pub call_stops : (blocks : List Block) (which : Bool) (other : Option At) (k b line body_line : ℕ) (position : Position) (work : List Work) (x : ℕ)
+    (system : Traced) → block_at blocks b ≡ procedure_block body_line
+    → step (unit_of blocks) (state which (at_call k (doing (call_act b line) position ∷ work)) other x 0 system) (name_of which)
+    ≡ ended outcome.turns system 0
+call_stops blocks true None k b line body_line position work x system is = rw is refl
+call_stops blocks true (Some o) k b line body_line position work x system is = rw is refl
+call_stops blocks false None k b line body_line position work x system is = rw is refl
+call_stops blocks false (Some o) k b line body_line position work x system is = rw is refl
+
+pub when_stops : (blocks : List Block) (which : Bool) (other : Option At) (k b line : ℕ) (work : List Work) (x : ℕ) (system : Traced)
+    → step (unit_of blocks) (state which (entered k b line work) other x 0 system) (name_of which) ≡ ended outcome.turns system 0
+when_stops blocks true None k b line work x system = refl
+when_stops blocks true (Some o) k b line work x system = refl
+when_stops blocks false None k b line work x system = refl
+when_stops blocks false (Some o) k b line work x system = refl
+
+pub return_stops : (blocks : List Block) (which : Bool) (other : Option At) (k b : ℕ) (work : List Work) (x : ℕ) (system : Traced)
+    → step (unit_of blocks) (state which (behind k b work) other x 0 system) (name_of which) ≡ ended outcome.turns system 0
+return_stops blocks true None k b work x system = refl
+return_stops blocks true (Some o) k b work x system = refl
+return_stops blocks false None k b work x system = refl
+return_stops blocks false (Some o) k b work x system = refl
+
+pub end_stops : (blocks : List Block) (which : Bool) (other : Option At) (k x : ℕ) (system : Traced)
+    → step (unit_of blocks) (state which (at_call k (branch_end ∷ [])) other x 0 system) (name_of which) ≡ ended outcome.turns system 0
+end_stops blocks true None k x system = refl
+end_stops blocks true (Some o) k x system = refl
+end_stops blocks false None k x system = refl
+end_stops blocks false (Some o) k x system = refl
+
+pub last_stops : (blocks : List Block) (x : ℕ) (system : Traced) → step (unit_of blocks) (last_state x 0 system) [] ≡ ended outcome.turns system 0
+last_stops blocks x system = refl

@@ -1,5 +1,5 @@
 -- Words of contracts. What is true of the text of every demonstration.
-use Rattle.std.specs.Prelude.{◌≡◌, ℕ, ◌+◌, ◌*◌, ◌≤◌, List, [], length, Ok}
+use Rattle.std.specs.Prelude.{◌≡◌, ℕ, ◌+◌, ◌*◌, ◌<◌, ◌≤◌, List, [], length, Ok}
 use Rattle.edi_calls.specs.Choice.{Choices}
 use Rattle.edi_calls.specs.Outcome as outcome
 use Rattle.edi_calls.specs.Outcome.{Outcome, outcome_of}
@@ -35,3 +35,9 @@ abbrev pub DemonstrationsEnd : Type 0
 DemonstrationsEnd =
     (n : ℕ) → 1 ≤ n → n ≤ 1000 → (system : State) (bound : ℕ) (choices : Choices) (o : Outcome) → 6 * n + 5 ≤ bound →
     IsRunOf (demo_text n) system bound choices o → o ≡ outcome_of system outcome.done (6 * n + 5) o.draws
+
+-- with fewer turns it takes all of them and ends for want of one more
+abbrev pub ShortDemonstrationsEnd : Type 0
+ShortDemonstrationsEnd =
+    (n : ℕ) → 1 ≤ n → n ≤ 1000 → (system : State) (bound : ℕ) (choices : Choices) (o : Outcome) → bound < 6 * n + 5 →
+    IsRunOf (demo_text n) system bound choices o → o ≡ outcome_of system outcome.turns bound o.draws

@@ -2,7 +2,7 @@
 //! `proofs/`; the functions here only state the laws.
 #![tactic(auto)]
 
-ghost use Rattle.edi_demonstrated.specs.Demonstrated.{DemonstrationsAreAccepted, DemonstrationsEnd};
+ghost use Rattle.edi_demonstrated.specs.Demonstrated.{DemonstrationsAreAccepted, DemonstrationsEnd, ShortDemonstrationsEnd};
 
 /// With every number of procedures that the command takes, 1 to 1000, the text of the demonstration has a unit and no fault,
 /// neither of its symbols nor of its syntax nor of a static rule; it has 19 symbols for each procedure and 13 more, and its
@@ -15,4 +15,9 @@ pub fn demonstrations_are_accepted()
 /// whatever the choices; and it leaves the system as it was.
 pub fn demonstrations_end()
     ensures law { DemonstrationsEnd }
+{}
+
+/// With a smaller bound it uses all of its turns, whatever the choices, and ends for want of one more; the system is as it was.
+pub fn short_demonstrations_end()
+    ensures law { ShortDemonstrationsEnd }
 {}
