@@ -11,6 +11,7 @@ use Rattle.edi_words.specs.Words as words
 use Rattle.edi_words.specs.View.{options_of, view}
 use Rattle.edi_statuses.specs.declared.status.Status.{Status}
 use Rattle.edi_statuses.specs.declared.status.Status.TheVariants as status
+use Rattle.edi_statuses.specs.Counts.{Counts, HasCause, NoneFalls}
 use Rattle.edi_statuses.specs.Outside.{Outside, KernelLeft, Lent}
 use Rattle.edi_statuses.proofs.Silent.{idle, nothing_shown}
 use Rattle.edi_disk_commands.specs.OnDisk.{MeansOnDisk, RestStays}
@@ -100,6 +101,10 @@ counts_closed (Some (words.newdisk blocks image)) s t old new had has (inl same)
 counts_closed (Some (words.newdisk blocks image)) s t old new had has (inr fault) silent cause h =
     subst (λ x. CountsNew x blocks old new had has) (sym fault) (cut_short s t blocks old new had has fault silent cause h)
 counts_closed c s t old new had has which silent cause h = h
+
+-- a fault of the drive has its cause
+pub drive_rose : (s : Status) (had has : Counts) → NoneFalls had has → HasCause s had has → s ≡ status.DriveFault → CountRose had.drive has.drive
+drive_rose s had has later cause is = subst (λ x. HasCause x had has) is cause
 
 -- words that are none leave the drive alone
 pub counts_of_none : (c : Option Command) (s : Status) (n had : ℕ) → c ≡ None → CountsBlocks c s n n had had

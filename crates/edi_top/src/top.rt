@@ -206,7 +206,7 @@ pub fn edison<F: Files, D: Drive, S: Source, T: Sink, P: Sink>(
     ensures size { CountsBlocks (built (command_of (map string_bytes words.now))) result (D.count drive.old) (D.count drive.new)
         (D.faults drive.old) (D.faults drive.new) }
 
-    // Objects that a command has no use for are not touched, whatever they tell; words that are refused touch none.
+    // Objects that a command has no use for are not touched, whatever they tell; words that are refused touch none but the terminal.
     ensures no_files { does uses_files (built (command_of (map string_bytes words.now))) ≡ false → files.new ≡ files.old }
     ensures no_drive { does uses_drive (built (command_of (map string_bytes words.now))) ≡ false → drive.new ≡ drive.old }
     ensures no_input { does uses_input (built (command_of (map string_bytes words.now))) ≡ false → input.new ≡ input.old }

@@ -1,13 +1,12 @@
-use Rattle.std.proofs.Common.{◌≡◌, ◌∙◌, ap, inl, inr, map, subst, sym}
+use Rattle.std.proofs.Common.{◌≡◌, ◌∙◌, ap, inl, inr, map, sym}
 use Rattle.std.specs.String.{string_bytes}
 use Rattle.edi_words.specs.Words.{command_of}
 use Rattle.edi_top.specs.Built.{built}
-use Rattle.edi_statuses.specs.Counts.{HasCause}
 use Rattle.edi_statuses.specs.Lines.{text_of}
 use Rattle.edi_statuses.specs.declared.status.Status.TheVariants as status
 use Rattle.edi_statuses.proofs.Causes.{cause_later}
 use Rattle.edi_statuses.proofs.Closing.{lines_end}
-use Rattle.edi_top.proofs.Obeyed.{counts_closed}
+use Rattle.edi_top.proofs.Obeyed.{counts_closed, drive_rose}
 use Rattle.edi_top.proofs.top.edison.Goals as goal
 
 pub returns-clause-ends : goal.returns-clause-ends
@@ -26,7 +25,7 @@ returns-clause-size g c =
       | inr fault ↦ inr fault.0
     ])
     (λ none. (c.show_status.ensures.silent none).0)
-    (λ is. subst (λ s. HasCause s _ _) is c.obey-ended.ensures.cause)
+    (drive_rose c.obey-ended.result.status _ _ c.obey-ended.ensures.later c.obey-ended.ensures.cause)
     c.obey-ended.ensures.size
 
 pub returns-clause-no_terminal : goal.returns-clause-no_terminal
