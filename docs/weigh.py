@@ -1,21 +1,24 @@
 #!/usr/bin/env python3
 """Measures what the gate costs, crate by crate, and prints the table of docs/GATE.md.
 
-usage: docs/weigh.py [CRATE..]      the crates that are named, or all
+usage: docs/weigh.py                runs `rt ci` once, from nothing
        docs/weigh.py --table FILE   the table of what an earlier run wrote to FILE
 
-For each crate, lowest first, it runs `rt ci CRATE` and writes a line to out/weights.tsv: the crate, what came of it,
-processor seconds (of all processes, user and system), seconds of clock, edits tried. `rt ci` keeps what it has passed
-on a machine, so a crate that was passed before costs nothing: measure on a machine on which nothing is kept, and
-with nothing else running.
+While the gate runs, the processor time (user and system) of each process of the prover is read off /proc four times a
+second. A crate's processes are told apart by what they check: the crate itself, its tests, or a copy of it under a
+wrong edit. Each that has ended is a line of out/weights.tsv: seconds, crate, part. What a process does in the last
+quarter of a second before its end is missed; linking and running the tests is not counted.
 """
+import collections
 import os
-import resource
 import subprocess
 import sys
 import time
 
 TOP = os.path.dirname(os.path.dirname(os.path.abspath(__file__)))
+TICKS = os.sysconf("SC_CLK_TCK")
+PARTS = ("proof", "tests", "edits")
+PROVERS = ("rattle", "antt-kernel")
 
 
 def layers():
@@ -31,63 +34,78 @@ def layers():
     return lines
 
 
-def lowest_first():
-    below = {name: names for name, names in layers() if names is not None}
-    order = []
-
-    def visit(name):
-        if name in below and name not in order:
-            for other in below[name]:
-                visit(other)
-            order.append(name)
-
-    for name in below:
-        visit(name)
-    return order
+def read(path):
+    with open(path, encoding="utf-8", errors="replace") as file:
+        return file.read()
 
 
-def weigh(name, table):
-    before, start = resource.getrusage(resource.RUSAGE_CHILDREN), time.time()
-    run = subprocess.run(["rt", "ci", name], cwd=TOP, stdout=subprocess.PIPE, stderr=subprocess.STDOUT, text=True)
-    after = resource.getrusage(resource.RUSAGE_CHILDREN)
-    spent = after.ru_utime + after.ru_stime - before.ru_utime - before.ru_stime
-    edits = run.stdout.count("rt: must-fail ")
-    end = "passed" if run.returncode == 0 else "FAILED"
-    row = [name, end, f"{spent:.0f}", f"{time.time() - start:.0f}", str(edits)]
-    table.write("\t".join(row) + "\n")
-    table.flush()
-    print("  ".join(row), flush=True)
+def part_of(words, folder):
+    """What a process of the prover checks."""
+    if not folder.startswith(TOP):
+        return "edits"
+    return "tests" if "--test" in words or any(it.endswith("_tests.o") for it in words) else "proof"
+
+
+def provers(session):
+    """The processes of the prover in that session: their number and start, their seconds, and what they check."""
+    for number in filter(str.isdigit, os.listdir("/proc")):
+        try:
+            name, _, rest = read(f"/proc/{number}/stat").partition("(")[2].rpartition(")")
+            fields = rest.split()
+            if name not in PROVERS or int(fields[3]) != session:
+                continue
+            words = read(f"/proc/{number}/cmdline").split("\0")
+            crate = words[words.index("--crate-name") + 1]
+            part = part_of(words, os.readlink(f"/proc/{number}/cwd"))
+            yield (number, fields[19]), (int(fields[11]) + int(fields[12])) / TICKS, (crate, part)
+        except (OSError, ValueError):
+            continue
+
+
+def weigh(table):
+    """Runs the gate and writes what each process of the prover has cost."""
+    gate = subprocess.Popen(["rt", "ci"], cwd=TOP, start_new_session=True)
+    running = {}
+    while True:
+        is_over = gate.poll() is not None
+        now = {key: (seconds, what) for key, seconds, what in provers(gate.pid)}
+        for key in [it for it in running if it not in now]:
+            seconds, (crate, part) = running.pop(key)
+            table.write(f"{seconds:.1f}\t{crate}\t{part}\n")
+            table.flush()
+        if is_over:
+            return gate.returncode
+        running.update(now)
+        time.sleep(0.25)
 
 
 def show(file):
-    weights = {}
+    spent = collections.Counter()
     for line in open(file, encoding="utf-8"):
-        name, end, spent, clock, edits = line.rstrip("\n").split("\t")[:5]
-        if end in ("passed", "ok"):
-            weights[name] = (max(int(spent), weights.get(name, (0, 0))[0]), int(edits))
-    print("| Crate | Processor seconds | Edits |\n|---|---:|---:|")
-    total = edits = 0
+        seconds, crate, part = line.rstrip("\n").split("\t")
+        spent[crate, part] += float(seconds)
+    print("| Crate | Proof | Tests | Edits |\n|---|---:|---:|---:|")
     for name, below in layers():
         if below is None:
-            print(f"| *{name}* | | |")
-        elif name in weights:
-            print(f"| `{name}` | {weights[name][0]} | {weights[name][1]} |")
-            total += weights[name][0]
-            edits += weights[name][1]
+            print(f"| *{name}* | | | |")
         else:
-            print(f"| `{name}` | not measured | |")
-    print(f"| **all** | **{total}** ({total / 60:.0f} minutes) | **{edits}** |")
+            print(f"| `{name}` | {' | '.join(f'{spent[name, part]:.0f}' if spent[name, part] else '' for part in PARTS)} |")
+    sums = [sum(spent[name, part] for name, _ in layers()) for part in PARTS]
+    print(f"| **all, seconds** | {' | '.join(f'**{it:.0f}**' for it in sums)} |")
+    print(f"| **all, minutes** | {' | '.join(f'**{it / 60:.0f}**' for it in sums)} |")
+    print(f"\n{sum(sums) / 60:.0f} minutes of processor time.")
 
 
 def main():
     if sys.argv[1:2] == ["--table"]:
         show(sys.argv[2])
-        return
+        return 0
     os.makedirs(os.path.join(TOP, "out"), exist_ok=True)
-    with open(os.path.join(TOP, "out", "weights.tsv"), "a", encoding="utf-8") as table:
-        for name in lowest_first():
-            if name in sys.argv[1:] or not sys.argv[1:]:
-                weigh(name, table)
+    file = os.path.join(TOP, "out", "weights.tsv")
+    with open(file, "w", encoding="utf-8") as table:
+        status = weigh(table)
+    show(file)
+    return status
 
 
-main()
+sys.exit(main())
