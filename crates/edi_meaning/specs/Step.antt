@@ -244,7 +244,7 @@ abbrev pub notified : Processes → Name → Option Process → Stepped
 notified s p None = went s (joins []) false
 notified s p (Some q) = one_less s p q q.standing
 
--- the process and its instance go, and its parent is told
+-- the process and its instance go, and its parent is notified
 abbrev pub exited : Processes → Name → World → Stepped
 exited s p w =
     let rest : Processes = record { live = without s.live p; world = record w { store = without w.store p } } in

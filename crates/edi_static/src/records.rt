@@ -18,8 +18,8 @@ use edi_unit::{List, Numbers};
 use std::alloc::Global;
 use std::collections::BTreeSet;
 
-/// The names of a record's fields, and their types. The names are kept as a set too, in which each is looked up in logarithmic
-/// time, however many there are.
+/// The names of a record's fields, and their types. The names are kept as a set too, so that a new one need not be compared
+/// with each of them.
 #[derive(Drop)]
 pub(crate) struct Fields {
     pub(crate) names: Vec<Vec<u8>>,

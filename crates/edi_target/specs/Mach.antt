@@ -190,7 +190,7 @@ one_less m p a (waiting n) =
     went (record m { activities = with_at m.activities p (record a { standing = awaits (n - 1) }) }) (freed (n - 1) p)
 one_less m p a standing = went m (joins [])
 
--- the end of a child is told to its parent
+-- the end of a child is notified to its parent
 abbrev pub notified : Machine → Name → Option Activity → Stepped
 notified m p None = went m (joins [])
 notified m p (Some a) = one_less m p a a.standing
