@@ -1,5 +1,5 @@
 -- The files of which one is changed still use no block twice.
-use Rattle.std.proofs.Common.{◌≡◌, ◌⊎◌, inl, inr, ℕ, zero, suc, true, false, List, [], ◌∷◌, ◌++◌, Some, None, Option, refl, ap, sym, subst, ◌∙◌, set, get_or}
+use Rattle.std.proofs.Common.{◌≡◌, ◌⊎◌, inl, inr, ℕ, zero, suc, true, List, [], ◌∷◌, ◌++◌, Some, None, Option, refl, ap, sym, ◌∙◌, set, get_or}
 use Rattle.std.proofs.lemmas.Bool.{or_cases, false_from_ne_true, true≢false}
 use Rattle.edi_image.specs.Records.{FileRecord}
 use Rattle.edi_image.specs.Rules.{is_in}

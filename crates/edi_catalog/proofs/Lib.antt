@@ -25,3 +25,4 @@ pub mod PageBytes
 pub mod InSlots
 pub mod Taken
 pub mod Apart
+pub mod Marking

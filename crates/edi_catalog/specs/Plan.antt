@@ -1,6 +1,6 @@
 -- Words of contracts. Free blocks, and what is put in the blocks of a new file.
-use Rattle.std.specs.Prelude.{◌≡◌, ℕ, ◌-◌, ◌*◌, ◌<◌, Bool, true, false, not, ◌&&◌, nat_lt, if◌then◌else◌, List, [], ◌∷◌, ◌++◌, take, drop, length}
-use Rattle.std.specs.Prelude.{slice_index, Option, Some, None}
+use Rattle.std.specs.Prelude.{◌≡◌, ℕ, ◌-◌, ◌*◌, ◌<◌, Bool, true, false, not, ◌&&◌, ◌||◌, nat_lt, if◌then◌else◌, List, [], ◌∷◌, ◌++◌, take, drop, length}
+use Rattle.std.specs.Prelude.{slice_index, slice_index_or, Option, Some, None}
 use Rattle.std.specs.List.{list_all}
 use Rattle.edi_image.specs.Rules.{is_in}
 use Rattle.edi_image.specs.Entries.{block_at}
@@ -27,6 +27,16 @@ pub record AreFree (count : ℕ) (files : List (Option StoredFile)) (blocks : Li
   pub on_drive : are_data count blocks ≡ true
   pub unused : list_all (λ n. not (is_in n (blocks_used files))) blocks ≡ true
   pub different : are_different blocks ≡ true
+
+-- a number, where there is one
+abbrev pub one_or_none : Option ℕ → List ℕ
+one_or_none None = []
+one_or_none (Some n) = n ∷ []
+
+-- these blocks were put into a set of blocks, which tells of each of 4,096 whether it is in it
+pub record Marks (blocks : List ℕ) (before after : List Bool) : Type 0 where
+  pub as_many : length after ≡ length before
+  pub marked : (n : ℕ) → n < length before → slice_index_or after n false ≡ (is_in n blocks || slice_index_or before n false)
 
 -- ---- what is put
 

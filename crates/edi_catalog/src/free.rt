@@ -1,10 +1,11 @@
 //! Free blocks.
 
-ghost use Rattle.std.specs.Prelude.{◌≡◌, ◌≤◌, ◌+◌, true, length};
+ghost use Rattle.std.specs.Prelude.{◌≡◌, ◌≤◌, ◌<◌, ◌+◌, ◌++◌, ℕ, [], ◌∷◌, true, false, length, slice_index_or};
+ghost use Rattle.edi_image.specs.Records.{maps_of};
 ghost use Rattle.std.specs.List.{list_all};
 ghost use Rattle.edi_image.specs.Rules.{is_in};
 ghost use Rattle.edi_image.specs.Stored.{is_stored, blocks_taken};
-ghost use Rattle.edi_catalog.specs.Plan.{used_in, blocks_used, AreFree};
+ghost use Rattle.edi_catalog.specs.Plan.{used_in, blocks_used, one_or_none, AreFree, Marks};
 
 use arrayvec::ArrayVec;
 use edi_image::{FIRST, StoredFile};
@@ -15,30 +16,74 @@ pub(crate) const FILE_BLOCKS: usize = 512;
 /// The blocks of a file.
 pub(crate) type Blocks = ArrayVec<u16, FILE_BLOCKS>;
 
-// Whether the file in a slot uses a block.
-fn uses(file: &Option<StoredFile>, block: u16) -> bool
-    ensures { result ≡ is_in block (used_in file.now) }
+/// The greatest number of blocks of a drive.
+const MOST_BLOCKS: usize = 4096;
+
+/// A set of blocks: for each whether it is in it.
+type BlockSet = [bool; MOST_BLOCKS];
+
+// Puts a block into the set.
+fn mark(used: &mut BlockSet, block: u16)
+    ensures exact { Marks (block ∷ []) used.old used.new }
 {
-    match file {
-        Some(file) => {
-            file.record.first_map == block
-                || file.record.second_map == Some(block)
-                || file.pages.as_slice().contains(&block)
-        }
-        None => false,
+    let block = usize::from(block);
+    if block < MOST_BLOCKS {
+        used[block] = true;
     }
 }
 
-// Whether a file uses a block.
-fn is_used(files: &[Option<StoredFile>], block: u16) -> bool
-    ensures { result ≡ is_in block (blocks_used files.now) }
+// Puts these blocks into the set.
+fn mark_all(used: &mut BlockSet, blocks: &[u16])
+    ensures exact { Marks blocks.now used.old used.new }
 {
-    for file in files {
-        if uses(file, block) {
-            return true;
-        }
+    for block in blocks {
+        mark(used, *block);
     }
-    false
+}
+
+// Puts a block into the set, where there is one.
+fn mark_any(used: &mut BlockSet, block: Option<u16>)
+    ensures exact { Marks (one_or_none block) used.old used.new }
+{
+    match block {
+        Some(block) => mark(used, block),
+        None => {}
+    }
+}
+
+// Puts the maps and the pages of a file into the set.
+fn mark_stored(used: &mut BlockSet, first: u16, second: Option<u16>, pages: &[u16])
+    ensures exact { Marks (maps_of first second ++ pages.now) used.old used.new }
+{
+    mark(used, first);
+    mark_any(used, second);
+    mark_all(used, pages);
+}
+
+// Puts the blocks of the file in a slot into the set.
+fn mark_file(used: &mut BlockSet, file: &Option<StoredFile>)
+    ensures exact { Marks (used_in file.now) used.old used.new }
+{
+    match file {
+        Some(file) => mark_stored(
+            used,
+            file.record.first_map,
+            file.record.second_map,
+            file.pages.as_slice(),
+        ),
+        None => {}
+    }
+}
+
+// The set of the blocks that files use.
+fn used_blocks(files: &[Option<StoredFile>]) -> BlockSet
+    ensures exact { (n : ℕ) → n < 4096 → slice_index_or result n false ≡ is_in n (blocks_used files.now) }
+{
+    let mut used: BlockSet = [false; MOST_BLOCKS];
+    for file in files {
+        mark_file(&mut used, file);
+    }
+    used
 }
 
 /// So many blocks that are free on a drive of `count` blocks, the first ones.
@@ -50,12 +95,13 @@ pub(crate) fn free_blocks(files: &[Option<StoredFile>], count: u32, wanted: usiz
     ensures many { length result.items ≡ wanted }
     ensures free { AreFree count files.now result.items }
 {
+    let used = used_blocks(files);
     let mut blocks = Blocks::new();
     for block in FIRST..count as u16 {
         if blocks.len() == wanted {
             return blocks;
         }
-        if !is_used(files, block) {
+        if !used[usize::from(block)] {
             blocks.push(block);
         }
     }

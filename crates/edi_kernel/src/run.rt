@@ -2,14 +2,13 @@
 
 ghost use Rattle.std.specs.Prelude.{◌≡◌, ◌≤◌, ◌<◌, ◌+◌, ◌-◌, ◌^◌, if◌then◌else◌, length, min, None, Some, IsSome, ℕ, List, true, false};
 ghost use Rattle.edi_told.specs.Told.{WhereTold};
-ghost use Rattle.edi_calls.specs.declared.ends.Outside.{Outside};
 ghost use Rattle.edi_calls.specs.Names.{Name};
 ghost use Rattle.edi_target.specs.Mach.{Machine};
 ghost use Rattle.std.specs.Prelude.{Option};
 ghost use Rattle.edi_machine.specs.declared.activity.Activity.{Activity};
 ghost use Rattle.edi_kernel.specs.declared.table.Table.{Table};
 ghost use Rattle.edi_kernel.specs.Table.{ready_slots};
-ghost use Rattle.edi_kernel.specs.Stretch.{Blamed};
+ghost use Rattle.edi_kernel.specs.Stretch.{Blamed, CallsLast};
 ghost use Rattle.edi_kernel.specs.Kernel.{GoesTo, Holds, IsKernel, ended_by, fault_of, faulted, is_over, later_by, used_in, StandsAfter, StandsAtEnd};
 ghost use Rattle.edi_kernel.specs.Runs.{Chooses, EndsUnready, IsAt, Picks, Proceeds, Rounds, RunsTo, Started, TakesNext};
 
@@ -161,10 +160,8 @@ impl KernelState {
         ensures standing { StandsAtEnd result self.new.table self.new.arrived }
         ensures source { choices.new.source ≡ choices.old.source }
         ensures drawn { choices.new.drawn ≤ choices.old.drawn + 1 }
-        ensures later { (outside : Outside) → C.faults calls.old outside ≤ C.faults calls.new outside }
         ensures blame { Blamed (fault_of result) (C.failed calls.new) (C.faults calls.old) (C.faults calls.new) }
-        ensures references { C.references calls.new ≡ C.references calls.old }
-        ensures leads { (start : C) → C.leads start calls.old → C.leads start calls.new }
+        ensures lasts { CallsLast C.faults C.references C.leads calls.old calls.new }
     {
         let end = self.go(code, calls, bound - self.used);
         self.used += used_in(end);
@@ -190,10 +187,8 @@ impl KernelState {
         ensures used { self.new.used ≤ bound }
         ensures source { choices.new.source ≡ choices.old.source }
         ensures drawn { choices.new.drawn ≤ choices.old.drawn + bound }
-        ensures later { (outside : Outside) → C.faults calls.old outside ≤ C.faults calls.new outside }
         ensures blame { Blamed (fault_of (Some result)) (C.failed calls.new) (C.faults calls.old) (C.faults calls.new) }
-        ensures references { C.references calls.new ≡ C.references calls.old }
-        ensures leads { (start : C) → C.leads start calls.old → C.leads start calls.new }
+        ensures lasts { CallsLast C.faults C.references C.leads calls.old calls.new }
     {
         self.start(code);
         self.entering = false;
@@ -227,10 +222,8 @@ impl KernelState {
         ensures entering { is_over result ≡ false → self.new.entering ≡ false }
         ensures standing { StandsAfter result self.old.taken (ready_slots self.old.table) self.new.table self.new.arrived }
         ensures used { used_in result ≤ turns_left }
-        ensures later { (outside : Outside) → C.faults calls.old outside ≤ C.faults calls.new outside }
         ensures blame { Blamed (faulted result) (C.failed calls.new) (C.faults calls.old) (C.faults calls.new) }
-        ensures references { C.references calls.new ≡ C.references calls.old }
-        ensures leads { (start : C) → C.leads start calls.old → C.leads start calls.new }
+        ensures lasts { CallsLast C.faults C.references C.leads calls.old calls.new }
         ensures turns { self.new.used ≡ min (self.old.used + used_in result) (2 ^ 64 - 1) }
     {
         let used_before = self.used;

@@ -9,11 +9,10 @@ ghost use Rattle.edi_kernel.specs.declared.table.Table.{Table};
 ghost use Rattle.edi_kernel.specs.Table.{process_at, free_slots, ready_slots, resumed};
 ghost use Rattle.edi_kernel.specs.TableIsMachine.{IsTable, IsTaken};
 ghost use Rattle.edi_told.specs.Told.{WhereTold};
-ghost use Rattle.edi_calls.specs.declared.ends.Outside.{Outside};
 ghost use Rattle.edi_calls.specs.Names.{Name};
 ghost use Rattle.edi_target.specs.Mach.{Machine};
 ghost use Rattle.edi_machine.specs.declared.activity.Activity.{Activity};
-ghost use Rattle.edi_kernel.specs.Stretch.{Allows, Blamed, Spends, Stretches, is_standstill, running_in};
+ghost use Rattle.edi_kernel.specs.Stretch.{Allows, Blamed, CallsLast, Spends, Stretches, is_standstill, running_in};
 ghost use Rattle.edi_kernel.specs.Kernel.{
   GoesTo,
   Handles,
@@ -186,10 +185,8 @@ impl KernelState {
             (local_of self.new.store result.1.activity) }
         ensures less { result.1.left ≤ left }
         ensures spends { Spends (Some result.0) left result.1.left }
-        ensures later { (outside : Outside) → C.faults calls.old outside ≤ C.faults calls.new outside }
         ensures blame { Blamed (Some result.0) (C.failed calls.new) (C.faults calls.old) (C.faults calls.new) }
-        ensures references { C.references calls.new ≡ C.references calls.old }
-        ensures leads { (start : C) → C.leads start calls.old → C.leads start calls.new }
+        ensures lasts { CallsLast C.faults C.references C.leads calls.old calls.new }
         ensures ordered { IsOrdered result.1.activity }
     {
         let mut progress = Progress {
@@ -215,10 +212,8 @@ impl KernelState {
         ensures standing { StandsAfter result self.old.taken (ready_slots self.old.table) self.new.table self.new.arrived }
         ensures used { used_in result ≤ left }
         ensures spent { is_over result ≡ false → 0 < used_in result }
-        ensures later { (outside : Outside) → C.faults calls.old outside ≤ C.faults calls.new outside }
         ensures blame { Blamed (faulted result) (C.failed calls.new) (C.faults calls.old) (C.faults calls.new) }
-        ensures references { C.references calls.new ≡ C.references calls.old }
-        ensures leads { (start : C) → C.leads start calls.old → C.leads start calls.new }
+        ensures lasts { CallsLast C.faults C.references C.leads calls.old calls.new }
         ensures entering { self.new.entering ≡ self.old.entering }
         ensures turns { self.new.used ≡ self.old.used }
     {

@@ -2,7 +2,6 @@
 
 ghost use Rattle.std.specs.Prelude.{◌≡◌, ◌≤◌, None, Some, ℕ, false, length};
 ghost use Rattle.edi_told.specs.Told.{WhereTold};
-ghost use Rattle.edi_calls.specs.declared.ends.Outside.{Outside};
 ghost use Rattle.edi_store.specs.Memory.{IsMemory};
 ghost use Rattle.edi_target.specs.Fetch.{fetch};
 ghost use Rattle.edi_machine.specs.Activities.{IsOrdered, local_of};
@@ -10,6 +9,7 @@ ghost use Rattle.edi_machine.specs.Steps.{ends_phase};
 ghost use Rattle.edi_kernel.specs.Stretch.{
   Allows,
   Blamed,
+  CallsLast,
   Falls,
   OneStep,
   IsNoStandstill,
@@ -133,10 +133,8 @@ fn instruct<C: Calls>(
     ensures falls { Falls result code.now.words progress.old.left progress.old.activity.pc progress.new.left progress.new.activity.pc }
     ensures less { progress.new.left ≤ progress.old.left }
     ensures spends { Spends result progress.old.left progress.new.left }
-    ensures later { (outside : Outside) → C.faults calls.old outside ≤ C.faults calls.new outside }
     ensures blame { Blamed result (C.failed calls.new) (C.faults calls.old) (C.faults calls.new) }
-    ensures references { C.references calls.new ≡ C.references calls.old }
-    ensures leads { (start : C) → C.leads start calls.old → C.leads start calls.new }
+    ensures lasts { CallsLast C.faults C.references C.leads calls.old calls.new }
     ensures ordered { IsOrdered progress.new.activity }
     ensures was_whole { IsMemory store.old }
     ensures whole { IsMemory store.new }
@@ -168,10 +166,8 @@ pub(crate) fn advance<C: Calls>(
     ensures allowed { Allows (Some result) code.now.words live first (local_of store.new progress.new.activity) }
     ensures less { progress.new.left ≤ progress.old.left }
     ensures spends { Spends (Some result) progress.old.left progress.new.left }
-    ensures later { (outside : Outside) → C.faults calls.old outside ≤ C.faults calls.new outside }
     ensures blame { Blamed (Some result) (C.failed calls.new) (C.faults calls.old) (C.faults calls.new) }
-    ensures references { C.references calls.new ≡ C.references calls.old }
-    ensures leads { (start : C) → C.leads start calls.old → C.leads start calls.new }
+    ensures lasts { CallsLast C.faults C.references C.leads calls.old calls.new }
     ensures ordered { IsOrdered progress.new.activity }
     ensures whole { IsMemory store.new }
 {

@@ -1,5 +1,5 @@
 -- A command line, from its prompt on.
-use Rattle.std.proofs.Common.{◌≡◌, ◌<◌, ◌≤◌, ◌+◌, ℕ, zero, suc, Bool, true, false, List, [], ◌∷◌, Option, take, length, refl, sym, ap, subst, ◌∙◌, arith, rules}
+use Rattle.std.proofs.Common.{◌≡◌, ◌<◌, ℕ, zero, suc, Bool, true, false, List, [], ◌∷◌, Option, take, length, refl, sym, ap, subst, ◌∙◌, arith, rules}
 use Rattle.std.specs.Prelude.{Result, Ok, Err, nat_le, codes}
 use Rattle.edi_calls.specs.declared.ends.Outside.{Outside}
 use Rattle.edi_calls.specs.Choice.{Choices}
@@ -7,7 +7,7 @@ use Rattle.edi_calls.specs.State.{State}
 use Rattle.edi_session.specs.declared.end.SessionEnd.{SessionEnd}
 use Rattle.edi_session.specs.declared.end.SessionEnd.TheVariants as end
 use Rattle.edi_session.specs.Session.{Next, closes, shell_in, Acts, ActsOn, Goes, GoesIn, prompted, Taking}
-use Rattle.edi_session.specs.Shell.{Shell, Mode, commanding, state_in, Taken, took, ended, limited, shell_of, next_line, on_fresh_line}
+use Rattle.edi_session.specs.Shell.{Shell, commanding, state_in, Taken, took, ended, limited, shell_of, next_line, on_fresh_line}
 use Rattle.edi_session.specs.Words.{command_line}
 use Rattle.edi_session.proofs.Later.{Later, shown_on, take_line_on}
 use Rattle.edi_session.proofs.Total.{acts}

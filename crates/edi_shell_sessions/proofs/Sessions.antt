@@ -1,12 +1,12 @@
 -- A session that is held.
-use Rattle.std.proofs.Common.{◌≡◌, ◌<◌, ◌≤◌, ◌+◌, ◌-◌, ◌*◌, ℕ, zero, suc, true, false, refl, subst, arith, rules}
+use Rattle.std.proofs.Common.{◌≡◌, ◌<◌, ◌≤◌, ◌+◌, ◌-◌, ◌*◌, ℕ, zero, suc, true, false, refl, arith, rules}
 use Rattle.std.specs.Prelude.{Result, Ok, Err, IfOk}
 use Rattle.std.proofs.Math.Nat.{mul-le-mul_right}
 use Rattle.edi_calls.specs.Choice.{Choices}
 use Rattle.edi_calls.specs.State.{State}
 use Rattle.edi_session.specs.declared.end.SessionEnd.{SessionEnd}
 use Rattle.edi_session.specs.declared.end.SessionEnd.TheVariants as end
-use Rattle.edi_session.specs.Session.{Next, goes, closes, ComesTo, Goes}
+use Rattle.edi_session.specs.Session.{goes, closes, ComesTo, Goes}
 use Rattle.edi_session.specs.Shell.{Shell, on_fresh_line}
 use Rattle.edi_shell_calls.specs.Standing.{At, IsFault, StandsIn}
 use Rattle.edi_shell_edit.specs.Chain.{LinesBreakOff, LinesClose, LinesCome}

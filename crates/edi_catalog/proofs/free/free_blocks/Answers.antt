@@ -1,9 +1,10 @@
-use Rattle.std.proofs.Common.{◌≡◌, ◌≤◌, ◌+◌, ◌-◌, ◌++◌, [], ◌∷◌, length, arith, ap, sym, ◌∙◌, rules}
+use Rattle.std.proofs.Common.{◌≡◌, ◌≤◌, ◌+◌, ◌-◌, ◌++◌, [], ◌∷◌, false, length, arith, ap, sym, ◌∙◌, rules}
+use Rattle.std.specs.Prelude.{slice_index_or}
 use Rattle.std.proofs.lemmas.List.{length_push}
 use Rattle.edi_catalog.specs.Plan.{blocks_used}
 use Rattle.edi_catalog.proofs.FreeBlocks.{free_found, free_more, free_skips, free_enough}
 use Rattle.edi_catalog.proofs.free.free_blocks.Goals as goal
-use Rattle.edi_catalog.proofs.free.free_blocks.Goals.{then-not-is_used, else-not-is_used}
+use Rattle.edi_catalog.proofs.free.free_blocks.Goals.{then-not-used-from, else-not-used-from}
 
 pub returns-then-len-wanted-clause-free : goal.returns-then-len-wanted-clause-free
 returns-then-len-wanted-clause-free c =
@@ -11,24 +12,24 @@ returns-then-len-wanted-clause-free c =
 
 pub loop-block-preserved : goal.loop-block-preserved
 loop-block-preserved c =
-    elim c.if-not-is_used.branch [
-      | then-not-is_used w ↦
-          let after : c.if-not-is_used.blocks.items ≡ c.loop-block.blocks.items ++ c.loop-block.block ∷ [] = search rules in
-          let size : length c.if-not-is_used.blocks.items ≡ length c.loop-block.blocks.items + 1 =
+    elim c.if-not-used-from.branch [
+      | then-not-used-from w ↦
+          let after : c.if-not-used-from.blocks.items ≡ c.loop-block.blocks.items ++ c.loop-block.block ∷ [] = search rules in
+          let size : length c.if-not-used-from.blocks.items ≡ length c.loop-block.blocks.items + 1 =
           ap length after ∙ length_push c.loop-block.blocks.items c.loop-block.block in
           record {
             so_far =
                 free_more (blocks_used c.args.files.now) c.loop-block.blocks.items _ c.loop-block.block (omega arith)
-                c.loop-block.invariant.so_far (sym c.is_used.ensures ∙ w.if-not-is_used.true) after;
+                c.loop-block.invariant.so_far (sym (c.used_blocks-used.ensures.exact c.loop-block.block (omega arith)) ∙ ap (λ k. slice_index_or c.used_blocks-used.result k false) (sym c.from.ensures) ∙ w.if-not-used-from.true) after;
             most = omega (arith, size, c.len.ensures.value, c.if-len-wanted.false, c.loop-block.invariant.most);
           }
-      | else-not-is_used w ↦
-          let after : c.if-not-is_used.blocks.items ≡ c.loop-block.blocks.items = search rules in
+      | else-not-used-from w ↦
+          let after : c.if-not-used-from.blocks.items ≡ c.loop-block.blocks.items = search rules in
           record {
             so_far =
                 after
                 ∙ free_skips (blocks_used c.args.files.now) c.loop-block.blocks.items c.loop-block.block (omega arith)
-                c.loop-block.invariant.so_far (sym c.is_used.ensures ∙ w.if-not-is_used.false);
+                c.loop-block.invariant.so_far (sym (c.used_blocks-used.ensures.exact c.loop-block.block (omega arith)) ∙ ap (λ k. slice_index_or c.used_blocks-used.result k false) (sym c.from.ensures) ∙ w.if-not-used-from.false);
             most = omega (arith, ap length after, c.loop-block.invariant.most);
           }
     ]

@@ -23,11 +23,13 @@ stretch-preserved g c = record {
       c.args.progress.now.cleared c.stretch.progress.cleared c.instruct.new.progress.cleared
       _ (g.C.Calls.state c.stretch.calls) _ c.stretch.invariant.reached c.in_default.ensures.exact;
   working = c.in_default.ensures.blame;
-  references = c.in_default.ensures.references ∙ c.stretch.invariant.references;
-  leads = λ start led. c.in_default.ensures.leads start (c.stretch.invariant.leads start led);
+  lasts = (
+    λ outside. omega (arith, c.in_default.ensures.lasts.0 outside, c.stretch.invariant.lasts.0 outside),
+    c.in_default.ensures.lasts.1 ∙ c.stretch.invariant.lasts.1,
+    λ start led. c.in_default.ensures.lasts.2 start (c.stretch.invariant.lasts.2 start led),
+  );
   ordered = c.in_default.ensures.ordered;
   less = omega (arith, c.in_default.ensures.less, c.stretch.invariant.less);
-  later = λ outside. omega (arith, c.in_default.ensures.later outside, c.stretch.invariant.later outside);
 }
 
 pub returns-in-Some-clause-spends : goal.returns-in-Some-clause-spends

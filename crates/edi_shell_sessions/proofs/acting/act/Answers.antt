@@ -1,5 +1,5 @@
 -- What each command comes to.
-use Rattle.std.proofs.Common.{refl, sym, subst, true, false}
+use Rattle.std.proofs.Common.{refl, subst, true, false}
 use Rattle.edi_catalog.specs.Changes.{deleted, file_protected, file_renamed, slots_changed}
 use Rattle.edi_catalog.specs.InSlots.{no_deletion, no_renaming, no_room, no_such}
 use Rattle.edi_catalog.specs.Storing.{slots_stored}
@@ -7,7 +7,7 @@ use Rattle.edi_calls.specs.State.{free}
 use Rattle.std.specs.Prelude.{codes, length}
 use Rattle.edi_session.specs.declared.line.Line.TheVariants as line
 use Rattle.edi_session.specs.Files.{copies_to, deletes, file_in, protects, renames, with_file, with_text}
-use Rattle.edi_session.specs.Session.{Acts, CompilesFile, ExecutesFile, goes}
+use Rattle.edi_session.specs.Session.{Acts, CompilesFile, ExecutesFile}
 use Rattle.edi_session.specs.Shell.{on_fresh_line, printed_by, says, shown_by, state_in}
 use Rattle.edi_session.specs.Texts.{catalogue_text}
 use Rattle.edi_shell.specs.Rows.{EntersFile, LineDoes, LineDoesOrEnds}

@@ -1,7 +1,6 @@
 -- The loop of a session.
-use Rattle.std.proofs.Common.{◌<◌, ◌≤◌, ◌∙◌, length, subst, rules}
+use Rattle.std.proofs.Common.{◌<◌, ◌∙◌, subst, rules}
 use Rattle.std.specs.Prelude.{Ok, Err}
-use Rattle.edi_calls.specs.State.{most_bytes}
 use Rattle.edi_session.specs.Session.{Goes}
 use Rattle.edi_shell_edit.specs.Chain.{LinesCome}
 use Rattle.edi_shell_sessions.proofs.Sessions.{below, comes_on, fewer, stops_since, within_all}

@@ -1,11 +1,10 @@
 -- A session on a system is one on an object that the shell works on.
-use Rattle.std.proofs.Common.{sym, subst, refl, Some}
-use Rattle.std.specs.Prelude.{IfSome, IsSome}
-use Rattle.edi_calls.specs.State.{fresh}
+use Rattle.std.proofs.Common.{sym, subst, refl}
+use Rattle.std.specs.Prelude.{IsSome}
 use Rattle.edi_session.specs.Shell.{session_on}
 use Rattle.edi_shell_calls.specs.OnSystem.{HasState, StandsAt}
 use Rattle.edi_system.specs.State.{failed_in, state_of, IsReady}
-use Rattle.edi_shell_sessions.specs.Ends.{IsFreshly, IsFreshlySince, SessionLeaves}
+use Rattle.edi_shell_sessions.specs.Ends.{IsFreshly, IsFreshlySince}
 use Rattle.edi_system.proofs.Chained.{told_behind}
 use Rattle.edi_system.proofs.Lasting.{valid_ready}
 use Rattle.edi_shell_sessions.proofs.OnSystem.{ends_otherwise, failed_so, keeps_all, told_both}

@@ -15,12 +15,10 @@ rounds-init g c = record {
   kernel = record { table = c.start.ensures.kernel.table; taken = c.start.ensures.kernel.taken };
   taken = ap is_some c.start.ensures.taken;
   working = c.requires.working;
-  references = refl;
-  leads = λ start led. led;
+  lasts = (λ outside. omega arith, refl, λ start led. led);
   used = omega (arith, c.if-bound-eq0.false);
   source = refl;
   drawn = omega arith;
-  later = λ outside. omega arith;
   exact = λ small.
       told_begins c.args.code.now c.args.bound c.args.choices.now (g.C.Calls.state c.args.calls.now) c.start.new.self
       (record c.start.new.self { entering = false; used = 1 }) c.start.ensures (omega (arith, c.if-bound-eq0.false)) refl refl refl refl;
@@ -39,12 +37,14 @@ rounds-preserved g c = record {
   kernel = c.in_default.ensures.kernel;
   taken = c.in_default.ensures.taken refl;
   working = c.in_default.ensures.blame;
-  references = c.in_default.ensures.references ∙ c.rounds.invariant.references;
-  leads = λ start led. c.in_default.ensures.leads start (c.rounds.invariant.leads start led);
+  lasts = (
+    λ outside. omega (arith, c.in_default.ensures.lasts.0 outside, c.rounds.invariant.lasts.0 outside),
+    c.in_default.ensures.lasts.1 ∙ c.rounds.invariant.lasts.1,
+    λ start led. c.in_default.ensures.lasts.2 start (c.rounds.invariant.lasts.2 start led),
+  );
   used = c.in_default.ensures.used;
   source = c.in_default.ensures.source ∙ c.rounds.invariant.source;
   drawn = omega (arith, c.in_default.ensures.drawn, c.in_default.ensures.spent refl, c.rounds.invariant.drawn);
-  later = λ outside. omega (arith, c.in_default.ensures.later outside, c.rounds.invariant.later outside);
   exact = λ small.
       told_more c.args.code.now c.args.bound c.args.choices.now (g.C.Calls.state c.args.calls.now) (g.C.Calls.state c.rounds.calls)
       (g.C.Calls.state c.round.new.calls) c.rounds.self c.round.new.self c.rounds.choices c.round.new.choices

@@ -1,8 +1,8 @@
 use Rattle.std.proofs.Common.{◌≡◌, ℕ, ◌+◌, ◌-◌, ◌^◌, ◌<◌, ◌≤◌, None}
 use Rattle.std.specs.Prelude.{IsSome}
 use Rattle.edi_told.specs.Told.{WhereTold}
-use Rattle.edi_calls.specs.declared.ends.Outside.{Outside}
 use Rattle.edi_kernel.specs.Kernel.{IsKernel}
+use Rattle.edi_kernel.specs.Stretch.{CallsLast}
 use Rattle.edi_kernel.proofs.Rounds.{Underway}
 use Rattle.edi_kernel.proofs.state.KernelState.run.Given as goal
 
@@ -11,12 +11,10 @@ invariant-rounds g l = record {
   kernel : IsKernel l.self;
   taken : IsSome l.self.taken;
   working : g.C.Calls.failed l.calls None;
-  references : g.C.Calls.references l.calls ≡ g.C.Calls.references l.initial.calls;
-  leads : (start : g.row.C.Denot) → g.C.Calls.leads start l.initial.calls → g.C.Calls.leads start l.calls;
+  lasts : CallsLast g.C.Calls.faults g.C.Calls.references g.C.Calls.leads l.initial.calls l.calls;
   used : l.self.used ≤ l.bound;
   source : l.choices.source ≡ l.initial.choices.source;
   drawn : l.choices.drawn + 1 ≤ l.initial.choices.drawn + l.self.used;
-  later : (outside : Outside) → g.C.Calls.faults l.initial.calls outside ≤ g.C.Calls.faults l.calls outside;
   exact : l.initial.choices.drawn + l.bound < 2 ^ 64 →
       WhereTold (g.C.Calls.state l.initial.calls) (g.C.Calls.state l.calls) (λ s t. Underway l.code s l.bound l.initial.choices l.self t l.choices);
 }
