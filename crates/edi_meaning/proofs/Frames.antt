@@ -10,7 +10,8 @@ use Rattle.edi_meaning.specs.Store.{Location, Cell, Frame, Instance, Store, Shap
 use Rattle.edi_meaning.specs.Evaluation.{World}
 use Rattle.edi_meaning.specs.Whole.{instance_of}
 use Rattle.edi_meaning.specs.Step.{Work, Standing, local_step}
-use Rattle.edi_meaning.proofs.Lasting.{Any, Lasting, Keeps}
+use Rattle.edi_meaning.proofs.Lasting.{Lasting, Keeps}
+use Rattle.edi_meaning.proofs.Worlds.{lasting}
 use Rattle.edi_meaning.proofs.Local.{Moving, local_keeps}
 use Rattle.edi_meaning.proofs.Own.{instances-same, instances-other}
 
@@ -77,26 +78,18 @@ returned p i F before store h k = record { each = λ r. go r (same-or-other r p)
     go r (inr n) = ap frames (instances-other store p r _ n) ∙ k.each r ∙ ap frames (instances-other before p r _ n) ∙ h.each r
 
 abbrev pub framing : (unit : ProgramUnit) (p : Name) (size : ℕ) → Lasting unit p size
-framing unit p size = record {
+framing unit p size = lasting (record {
   Level = Shape;
   Holds = λ F w. HasShape F w.store;
   Ends = λ e system turns. Unit {0};
-  Comes = λ x. Any;
-  Fits = λ x. Any;
   over = λ F e w o h. tt;
   turned = λ F n w e h. h;
-  stored = λ F l v w c h. record { each = λ r. shape-put w.store l v r ∙ h.each r };
+  stored = λ F l v w h. record { each = λ r. shape-put w.store l v r ∙ h.each r };
   replied = λ F number asked words system w e h. h;
-  called = λ F number parent cells w c f h.
+  called = λ F number parent cells w h.
       let i : Instance = instance_of unit p size number parent cells in
       (shape (grown p i w.store), own_shape (grown p i w.store), λ v k. returned p i F w.store v.store h k);
-  of_slot = λ F levels variable w h. tt;
-  of_part = λ x l n c. tt;
-  by_value = λ x v. tt;
-  by_location = λ x l c. tt;
-  to_location = λ x l f. tt;
-  by_procedure = λ F c w h. tt;
-}
+})
 
 -- ---- local steps
 

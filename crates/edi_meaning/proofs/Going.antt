@@ -11,7 +11,8 @@ use Rattle.edi_meaning.specs.Evaluation.{World}
 use Rattle.edi_meaning.specs.Step.{waiting, Process, Processes, Stepped, went, ended, back, local_step, step_of, step, may_step, Led, at, over, nowhere}
 use Rattle.edi_meaning.specs.Step.{onward, permitted}
 use Rattle.edi_meaning.specs.Laws.{Grows, GoesFrom, LedOn, StepsGoOn}
-use Rattle.edi_meaning.proofs.Lasting.{Any, Lasting}
+use Rattle.edi_meaning.proofs.Lasting.{Lasting}
+use Rattle.edi_meaning.proofs.Worlds.{lasting}
 use Rattle.edi_meaning.proofs.Local.{Moving, local_keeps}
 use Rattle.edi_meaning.proofs.Work.{world_of_children}
 use Rattle.edi_meaning.proofs.Kernel.{if_either, Handles, kernel_handles}
@@ -53,28 +54,20 @@ goes_all w v system turns h k = (omega (arith, h.0, k.0), goes_on_all w.system.n
 -- ---- of one process
 
 abbrev pub going : (unit : ProgramUnit) (p : Name) (size : ℕ) (before : World) → Lasting unit p size
-going unit p size before = record {
+going unit p size before = lasting (record {
   Level = Unit {0};
   Holds = λ x w. GoesFrom before w.system w.turns;
   Ends = λ e system turns. GoesFrom before system turns;
-  Comes = λ x. Any;
-  Fits = λ x. Any;
   over = λ x e w o h. h;
   turned = λ x n w e h. (omega (arith, e, h.0), h.1, h.2);
-  stored = λ x l v w c h. h;
+  stored = λ x l v w h. h;
   replied = λ x number asked words system w e h. (
     h.0,
     goes_on_all before.system.now w.system.now system h.1 (each_call_goes_on_all number asked words w.system.now system e),
     grows_all before.system w.system (after_call system w.system) h.2 (system ∷ [], refl, refl),
   );
-  called = λ x number parent cells w c f h. (tt, h, λ v k. k);
-  of_slot = λ x levels variable w h. tt;
-  of_part = λ x l n c. tt;
-  by_value = λ x v. tt;
-  by_location = λ x l c. tt;
-  to_location = λ x l f. tt;
-  by_procedure = λ x c w h. tt;
-}
+  called = λ x number parent cells w h. (tt, h, λ v k. k);
+})
 
 abbrev goes_further : (unit : ProgramUnit) (p : Name) (size : ℕ) (before : World) → Moving (going unit p size before) tt (λ w. GoesFrom before w.system w.turns)
 goes_further unit p size before = record { stays = λ w h. h; grows = λ number parent cells w c f h. h; shrinks = λ w h. h; begins = λ w h. h }

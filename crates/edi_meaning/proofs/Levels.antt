@@ -5,7 +5,6 @@ use Rattle.edi_calls.specs.Calls.{CallResult, answered, no_file, file_limit, cal
 use Rattle.edi_calls.specs.Names.{Name}
 use Rattle.edi_calls.specs.Outcome.{Ending}
 use Rattle.edi_calls.specs.State.{Traced}
-use Rattle.edi_unit.specs.declared.expressions.Callee.{Callee}
 use Rattle.edi_unit.specs.Types.{Shape, shape_at, is_set_shape}
 use Rattle.edi_unit.specs.Types as types
 use Rattle.edi_unit.specs.Values.{Value, ordinal_of, is_true, apply, decides, sign, converted, with_ordinal, element_at}
@@ -14,10 +13,10 @@ use Rattle.edi_unit.specs.Tree as tree
 use Rattle.edi_unit.specs.Tree.{Expression, Expressions, Link, Links, Place, Part, Parts, Argument, Arguments, Act, Acts, Clause, Clauses, ProgramUnit}
 use Rattle.edi_meaning.specs.Store.{Spot, Location, Closure, system_procedure, block_procedure, Cell, shape, room}
 use Rattle.edi_meaning.specs.Evaluation.{World, Evaluation, gives, ends, ◌>>=◌, turn, turn_from}
-use Rattle.edi_meaning.specs.Whole.{in_range, Designated, element_of, words_of_cells, answered_by, system_call, meant, entered, left, named, function_body}
+use Rattle.edi_meaning.specs.Whole.{in_range, Designated, element_of, words_of_cells, answered_by, meant, entered, left, named, function_body}
 use Rattle.edi_meaning.specs.Whole.{function_call, expression, expressions, members_of, linked, operated, designated, parts, part, argument, arguments}
 use Rattle.edi_meaning.specs.Whole.{procedure_body, procedure_call, assigned, act, acts, first, guarded, levels_of}
-use Rattle.edi_meaning.specs.Levels.{AreEnough, LevelsAreEnough}
+use Rattle.edi_meaning.specs.Levels.{LevelsAreEnough}
 
 -- what it gives has no more than so many turns left
 Low : {A : Type 0} → ℕ → Evaluation A → Type 0

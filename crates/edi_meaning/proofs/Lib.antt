@@ -4,6 +4,7 @@ pub mod Own
 pub mod Turns
 pub mod Kernel
 pub mod Work
+pub mod Worlds
 pub mod Selections
 pub mod Attempts
 pub mod Family

@@ -3,14 +3,14 @@ use Rattle.std.proofs.Common.{◌≡◌, ℕ, Bool, true, false, if◌then◌els
 use Rattle.std.specs.Prelude.{⊤}
 use Rattle.edi_calls.specs.Names.{Name, find}
 use Rattle.edi_calls.specs.Outcome as outcome
-use Rattle.edi_calls.specs.Outcome.{Ending}
 use Rattle.edi_calls.specs.State.{Traced}
 use Rattle.edi_unit.specs.Tree.{ProgramUnit}
 use Rattle.edi_meaning.specs.Store.{shape}
 use Rattle.edi_meaning.specs.Step.{Work, Standing, ready, at_when, waiting, Process, Processes, Stepped, went, ended, local_step, step, start, is_running}
 use Rattle.edi_meaning.specs.Step.{is_running_process, may_step, over, nowhere, onward, permitted}
 use Rattle.edi_meaning.specs.Spent.{PermittedEndsSpent, SelectionEndsSpent}
-use Rattle.edi_meaning.proofs.Lasting.{spent_over, Any, Lasting}
+use Rattle.edi_meaning.proofs.Lasting.{spent_over, Lasting}
+use Rattle.edi_meaning.proofs.Worlds.{lasting}
 use Rattle.edi_meaning.proofs.Local.{Moving, IsIdle, local_keeps}
 use Rattle.edi_meaning.proofs.Kernel.{After, Handles, kernel_handles, of_process}
 use Rattle.edi_meaning.proofs.Due.{DueAs}
@@ -19,24 +19,16 @@ use Rattle.edi_meaning.proofs.Permitted.{select_is_permitted}
 
 -- an end by turns leaves none
 abbrev spending : (unit : ProgramUnit) (p : Name) (size : ℕ) → Lasting unit p size
-spending unit p size = record {
+spending unit p size = lasting (record {
   Level = Unit {0};
   Holds = λ x w. ⊤;
   Ends = λ e system turns. e ≡ outcome.turns → turns ≡ 0;
-  Comes = λ x. Any;
-  Fits = λ x. Any;
   over = λ x e w o h. spent_over e w.turns o;
   turned = λ x n w e h. tt;
-  stored = λ x l v w c h. tt;
+  stored = λ x l v w h. tt;
   replied = λ x number asked words system w e h. tt;
-  called = λ x number parent cells w c f h. (tt, tt, λ v k. tt);
-  of_slot = λ x levels variable w h. tt;
-  of_part = λ x l n c. tt;
-  by_value = λ x v. tt;
-  by_location = λ x l c. tt;
-  to_location = λ x l f. tt;
-  by_procedure = λ x c w h. tt;
-}
+  called = λ x number parent cells w h. (tt, tt, λ v k. tt);
+})
 
 abbrev moves : (unit : ProgramUnit) (p : Name) (size : ℕ) → Moving (spending unit p size) tt (λ w. ⊤)
 moves unit p size = record {
