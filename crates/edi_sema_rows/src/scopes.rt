@@ -1,3 +1,5 @@
+//! Scopes, through every call.
+
 use edi_scope::{Entity, ScopeFault, Scopes};
 use std::test::Fail;
 

@@ -1,3 +1,5 @@
+//! Code files.
+
 use edi_codefile::{load, pack};
 use edi_target::CodeFault;
 use std::test::Fail;

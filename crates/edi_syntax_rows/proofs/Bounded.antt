@@ -12,7 +12,7 @@ use Rattle.edi_tree.specs.Tree.{Program, program, no_global}
 use Rattle.edi_tree.specs.View.{globals, global_of, procedure_of, program_with}
 use Rattle.edi_tree.specs.Spells.{IsBounded}
 use Rattle.edi_tree.specs.Depth.{depth}
-use Rattle.edi_tree_rows.specs.First.{display, main, letter, shows, body, procedure_main}
+use Rattle.edi_syntax_rows.specs.First.{display, main, letter, shows, body, procedure_main}
 
 at : Symbol → Mark
 at symbol = record { symbol = symbol; line = 1 }

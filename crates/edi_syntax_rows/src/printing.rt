@@ -3,7 +3,7 @@
 ghost use Rattle.std.specs.Prelude.{◌≡◌, [], ◌∷◌, IfOk};
 ghost use Rattle.edi_tree.specs.Sequences.{items_of};
 ghost use Rattle.edi_tree.specs.View.{expr_of, heading_of, list_of, procedure_of, statement_of};
-ghost use Rattle.edi_tree_rows.specs.First as first;
+ghost use Rattle.edi_syntax_rows.specs.First as first;
 
 use edi_lex::Text;
 use edi_tree::{

@@ -1,7 +1,7 @@
 //! The host's files, and files in memory.
 
-use crate::calls::FilesCall::{Fetch, Keep};
-use crate::calls::call_files;
+use crate::outside::FilesCall::{Fetch, Keep};
+use crate::outside::call_files;
 use edi_host::{FetchEnd, Files, HostFiles, KeepEnd, MemoryFiles, SteadyFiles};
 use std::fs;
 use std::test::Fail;

@@ -1,7 +1,7 @@
 //! A drive in a file, and drives in memory.
 
-use crate::calls::DriveCall::{Blocks, Read, Resize, Write};
-use crate::calls::call_drive;
+use crate::outside::DriveCall::{Blocks, Read, Resize, Write};
+use crate::outside::call_drive;
 use edi_host::{DRIVE_FILE, HostDrive, MemoryDrive, SteadyDrive};
 use std::fs;
 use std::test::Fail;

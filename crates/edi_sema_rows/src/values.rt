@@ -1,3 +1,5 @@
+//! The static rules on expressions, variables and arguments.
+
 use edi_lex::Text;
 use edi_scope::{Entity, Scopes};
 use edi_static::{Asked, Formal, Known, StaticFault, StaticKind};

@@ -1,0 +1,98 @@
+//! Lists linked by index, each checked by every call that reads them.
+
+use edi_ring::Lists;
+use std::test::Fail;
+
+const NODES: usize = 5;
+
+const LISTS: usize = 2;
+
+#[derive(Clone, Copy, Debug)]
+enum Call {
+    PushBack(usize, usize),
+    Take(usize),
+    ToBack(usize),
+}
+
+// Makes the call, where what it asks for holds, and says whether it did.
+fn make(lists: &mut Lists<NODES, LISTS>, call: Call) -> bool {
+    match call {
+        Call::PushBack(list, node) => {
+            if list >= LISTS || node >= NODES || lists.home(node).is_some() {
+                return false;
+            }
+            lists.push_back(list, node);
+        }
+        Call::Take(node) => {
+            if node >= NODES || lists.home(node).is_none() {
+                return false;
+            }
+            lists.take(node);
+        }
+        Call::ToBack(node) => {
+            if node >= NODES || lists.home(node).is_none() {
+                return false;
+            }
+            lists.to_back(node);
+        }
+    }
+    true
+}
+
+fn holds(lists: &Lists<NODES, LISTS>, list: usize, nodes: &[usize]) -> bool {
+    if list >= LISTS
+        || lists.len(list) != nodes.len()
+        || lists.front(list) != nodes.first().copied()
+    {
+        return false;
+    }
+    for i in 0..7 {
+        if lists.nth(list, i) != nodes.get(i).copied() {
+            return false;
+        }
+    }
+    for node in 0..NODES {
+        if (lists.home(node) == Some(list)) != nodes.contains(&node) {
+            return false;
+        }
+    }
+    true
+}
+
+#[test]
+fn calls_in_a_row(rt: HostRuntime) -> Result<(), Fail> {
+    use Call::{PushBack, Take, ToBack};
+    let none: &[usize] = &[];
+    let steps: [(Call, &[usize], &[usize]); 17] = [
+        (PushBack(0, 3), &[3], none),
+        (PushBack(0, 1), &[3, 1], none),
+        (PushBack(0, 4), &[3, 1, 4], none),
+        (PushBack(1, 0), &[3, 1, 4], &[0]),
+        // the last, a middle one, the first
+        (ToBack(4), &[3, 1, 4], &[0]),
+        (ToBack(1), &[3, 4, 1], &[0]),
+        (ToBack(3), &[4, 1, 3], &[0]),
+        // the only one
+        (ToBack(0), &[4, 1, 3], &[0]),
+        (PushBack(1, 2), &[4, 1, 3], &[0, 2]),
+        // a middle one, the last, the first, the only one
+        (Take(1), &[4, 3], &[0, 2]),
+        (Take(3), &[4], &[0, 2]),
+        (Take(0), &[4], &[2]),
+        (Take(2), &[4], none),
+        // a node goes on in another list
+        (PushBack(1, 1), &[4], &[1]),
+        (Take(4), none, &[1]),
+        (PushBack(1, 4), none, &[1, 4]),
+        (PushBack(0, 0), &[0], &[1, 4]),
+    ];
+    let mut lists = Lists::new();
+    assert!(rt; holds(&lists, 0, none));
+    assert!(rt; holds(&lists, 1, none));
+    for (call, first, second) in steps {
+        assert!(rt; make(&mut lists, call), "{call:?}");
+        assert!(rt; holds(&lists, 0, first), "{call:?}");
+        assert!(rt; holds(&lists, 1, second), "{call:?}");
+    }
+    Ok(())
+}

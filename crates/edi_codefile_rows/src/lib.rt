@@ -1,5 +1,0 @@
-//! Worked examples of code files.
-#![tactic(auto)]
-
-#[cfg(test)]
-mod tests;

@@ -1,5 +1,0 @@
-//! Worked examples of trees that are printed.
-#![tactic(auto)]
-
-#[cfg(test)]
-mod printing;
