@@ -14,10 +14,11 @@ use Rattle.edi_catalog.specs.declared.ends.CatEnd.{CatEnd}
 use Rattle.edi_catalog.specs.declared.ends.CatEnd.TheVariants as cat
 use Rattle.edi_catalog.specs.declared.catalog.Catalog.{Catalog}
 use Rattle.edi_image.specs.Records.{FileRecord}
+use Rattle.edi_image.specs.Entries.{entry_says}
 use Rattle.edi_image.specs.Image.{slots_of}
 use Rattle.edi_image.specs.Stored.{StoredFile, is_record, is_stored, are_data, is_titled, IsKeptOf}
 use Rattle.edi_catalog.specs.Files.{find_index, file_titled}
-use Rattle.edi_catalog.specs.Mounted.{AreEntries, IsMounted, disk_of, entry_blocks_of, files_of, room_reference}
+use Rattle.edi_catalog.specs.Mounted.{AreEntries, AreWhole, HaveEntries, IsMounted, disk_of, entry_blocks_of, files_of, room_reference}
 use Rattle.edi_catalog.specs.Changes.{CatalogAnswers, BeforeOrAfter, Changes, Leaves, Untouched, changed_at, kept_changed, not_deleted, not_renamed}
 use Rattle.edi_catalog.specs.Changes.{slots_changed}
 use Rattle.edi_image.specs.Bytes.{bytes_of_slot}
@@ -30,6 +31,7 @@ use Rattle.edi_catalog.proofs.WholeFiles.{index_same}
 use Rattle.edi_catalog.specs.Plan.{are_different, blocks_used}
 use Rattle.edi_catalog.proofs.Apart.{put_apart}
 use Rattle.edi_catalog.proofs.EntryBlocks.{entries_over}
+use Rattle.edi_catalog.proofs.KeptEntries.{record_said, said_over, whole_over}
 use Rattle.edi_catalog.proofs.Changed.{IsChangedTo, written_changes, put_stored, record_room}
 
 -- ---- a slot that is written
@@ -46,7 +48,7 @@ has_catalogue count files index r all at =
 
 -- the blocks with the entries are kept
 pub slot_room : {D : Type 0} (contents : D → Option (List (List ℕ))) (count : D → ℕ) (a : Catalog D) (index : ℕ) (r : Option FileRecord)
-    → IsMounted contents count a → IsRecordAt (files_of a) index r → length (entry_blocks_of a) ≡ 32
+    → IsMounted contents count a → IsRecordAt (files_of a) index r → AreWhole (entry_blocks_of a)
 slot_room contents count a index r mounted at =
     mounted.room (let room : 33 ≤ count (drive_of (disk_of a)) = has_catalogue (count (drive_of (disk_of a))) (files_of a) index r mounted.stored at in
     omega (arith, room))
@@ -72,6 +74,7 @@ slot_done {X = X} contents count faults x index slot entry r a b mounted h at lo
   mounted = inr (record {
     works = puts.works refl;
     settled = puts.settled refl;
+    clean = puts.clean refl;
     many = ap length files ∙ length-set (files_of a) index _ ∙ mounted.many;
     most = subst (λ n. n ≤ 4096) (sym puts.count_stays) mounted.most;
     stored =
@@ -79,11 +82,19 @@ slot_done {X = X} contents count faults x index slot entry r a b mounted h at lo
         ∙ subst (λ n. list_all (is_stored n) (put_kept (files_of a) index r) ≡ true) (sym puts.count_stays)
         (put_stored (count (drive_of (disk_of a))) (files_of a) index r mounted.stored at);
     apart = ap (λ fs. are_different (blocks_used fs)) files ∙ put_apart (files_of a) index r mounted.apart at;
-    room = λ some. ap length blocks ∙ length-set (entry_blocks_of a) (index / 8) _ ∙ many;
+    room = λ some. subst AreWhole (sym blocks) (whole_over index entry (entry_blocks_of a) h long whole);
+    said = λ some.
+        (let was : 0 < count (drive_of (disk_of a)) = subst (λ n. 0 < n) puts.count_stays some in
+        subst (λ n. HaveEntries n (entry_blocks_of b) (files_of b)) (sym puts.count_stays)
+        (subst (HaveEntries (count (drive_of (disk_of a))) (entry_blocks_of b)) (sym files)
+        (subst (λ es. HaveEntries (count (drive_of (disk_of a))) es (put_kept (files_of a) index r)) (sym blocks)
+        (said_over (count (drive_of (disk_of a))) index entry (entry_blocks_of a) (files_of a) (kept_as r (get_or (files_of a) index None)) h long whole
+        mounted.many (ap (entry_says (count (drive_of (disk_of a)))) is ∙ record_said (count (drive_of (disk_of a))) (files_of a) index r mounted.stored at)
+        (mounted.said was)))));
     entries = λ new e.
         (let was = told (EntryLeaves disk.Ok slot entry) (contents (drive_of (disk_of a))) (contents (drive_of (disk_of b))) new puts.leaves e in
         subst (λ es. AreEntries es new) (sym blocks)
-        (entries_over index entry (entry_blocks_of a) was.0 new h many (mounted.entries was.0 was.1) (subst (λ n. IsWritten n entry was.0 new) same was.2)));
+        (entries_over index entry (entry_blocks_of a) was.0 new h whole.many (mounted.entries was.0 was.1) (subst (λ n. IsWritten n entry was.0 new) same was.2)));
     image = λ new e. (let was = written new e in subst (IsKeptOf new) (sym files) was.2.kept);
   });
   leaves =
@@ -96,8 +107,8 @@ slot_done {X = X} contents count faults x index slot entry r a b mounted h at lo
   later = puts.later;
   cause = λ e. absurd (let not_err : Ok x ≡ Err cat.Fault = e in cc);
 } where
-  many : length (entry_blocks_of a) ≡ 32
-  many = slot_room contents count a index r mounted at
+  whole : AreWhole (entry_blocks_of a)
+  whole = slot_room contents count a index r mounted at
 
   written : (new : List (List ℕ)) → contents (drive_of (disk_of b)) ≡ Some new
       → (old : List (List ℕ)) × (contents (drive_of (disk_of a)) ≡ Some old) × IsChangedTo (files_of a) index r old new

@@ -67,13 +67,13 @@ pub block_kept : (blocks : List (List ℕ)) (slot : ℕ) (entry : List ℕ) (n :
     → block_at (with_entry blocks slot entry) n ≡ block_at blocks n
 block_kept blocks slot entry n other = get_or-set_other blocks (1 + slot / 8) n _ [] other
 
-entry_here : (blocks : List (List ℕ)) (slot : ℕ) (entry : List ℕ) → length (block_at blocks (1 + slot / 8)) ≡ 512 → length entry ≡ 64
+pub entry_here : (blocks : List (List ℕ)) (slot : ℕ) (entry : List ℕ) → length (block_at blocks (1 + slot / 8)) ≡ 512 → length entry ≡ 64
     → 1 + slot / 8 < length blocks → entry_at (with_entry blocks slot entry) slot ≡ entry
 entry_here blocks slot entry whole long h =
     ap (λ b. take 64 (drop (64 * (slot % 8)) b)) (get_or-set_same blocks (1 + slot / 8) (patched (64 * (slot % 8)) entry (block_at blocks (1 + slot / 8))) [] h)
     ∙ patch_here (64 * (slot % 8)) entry (block_at blocks (1 + slot / 8)) (omega arith) long
 
-entry_other : (blocks : List (List ℕ)) (slot other : ℕ) (entry : List ℕ) → length (block_at blocks (1 + slot / 8)) ≡ 512 → length entry ≡ 64
+pub entry_other : (blocks : List (List ℕ)) (slot other : ℕ) (entry : List ℕ) → length (block_at blocks (1 + slot / 8)) ≡ 512 → length entry ≡ 64
     → 1 + slot / 8 < length blocks → (other ≡ slot → ⊥) → entry_at (with_entry blocks slot entry) other ≡ entry_at blocks other
 entry_other blocks slot other entry whole long h apart = go (cases_eq (other / 8) (slot / 8)) where
   go : (other / 8 ≡ slot / 8) ⊎ (other / 8 ≡ slot / 8 → ⊥) → entry_at (with_entry blocks slot entry) other ≡ entry_at blocks other

@@ -26,3 +26,4 @@ pub mod InSlots
 pub mod Taken
 pub mod Apart
 pub mod Marking
+pub mod KeptEntries

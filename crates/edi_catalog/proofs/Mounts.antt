@@ -11,7 +11,7 @@ use Rattle.edi_image.specs.declared.faults.MountFault.{MountFault}
 use Rattle.edi_image.specs.declared.faults.MountFault.TheVariants as fault
 use Rattle.edi_image.specs.Image.{mount_fault_of}
 use Rattle.edi_image.specs.Stored.{IsKeptOf, is_stored}
-use Rattle.edi_catalog.specs.Mounted.{AreEntries, IsMounted, disk_of, entry_blocks_of, files_of}
+use Rattle.edi_catalog.specs.Mounted.{AreEntries, AreWhole, HaveEntries, IsMounted, disk_of, entry_blocks_of, files_of}
 use Rattle.edi_catalog.specs.Plan.{are_different, blocks_used}
 use Rattle.edi_catalog.specs.declared.catalog.Catalog.{Catalog}
 use Rattle.std.specs.List.{list_all}
@@ -108,13 +108,19 @@ pub still_mounted : {D : Type 0} (contents : D → Option (List (List ℕ))) (co
 still_mounted contents count faults one other P same entries_same mounted checks = record {
   works = checks.works refl;
   settled = still_settled contents count faults (disk_of one) (disk_of other) P mounted.settled checks;
+  clean = checks.clean refl mounted.clean;
   many = ap length same ∙ mounted.many;
   most = subst (λ n. n ≤ 4096) (sym checks.count_stays) mounted.most;
   stored =
       ap (list_all (is_stored (count (drive_of (disk_of other))))) same
       ∙ subst (λ n. list_all (is_stored n) (files_of one) ≡ true) (sym checks.count_stays) mounted.stored;
   apart = ap (λ fs. are_different (blocks_used fs)) same ∙ mounted.apart;
-  room = λ some. ap length entries_same ∙ mounted.room (subst (λ n. 0 < n) checks.count_stays some);
+  room = λ some. subst AreWhole (sym entries_same) (mounted.room (subst (λ n. 0 < n) checks.count_stays some));
+  said = λ some.
+      subst (λ n. HaveEntries n (entry_blocks_of other) (files_of other)) (sym checks.count_stays)
+      (subst (HaveEntries (count (drive_of (disk_of one))) (entry_blocks_of other)) (sym same)
+      (subst (λ es. HaveEntries (count (drive_of (disk_of one))) es (files_of one)) (sym entries_same)
+      (mounted.said (subst (λ n. 0 < n) checks.count_stays some))));
   entries = λ blocks told.
       subst (λ es. AreEntries es blocks) (sym entries_same)
       (mounted.entries blocks (found_of contents count faults (disk_of one) (disk_of other) P mounted.settled checks blocks told).0);

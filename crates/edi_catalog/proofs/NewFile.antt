@@ -64,6 +64,7 @@ new_fails contents count faults slot file bytes a b settled puts = record {
   cause = puts.cause;
   works = λ e. absurd (cc);
   settled = λ e. absurd (cc);
+  clean = λ e. absurd (cc);
   leaves =
       writing.where_told _ (contents (drive_of a)) (contents (drive_of b))
       (λ new there.
@@ -94,6 +95,7 @@ new_entry contents count faults end slot file bytes a b c settled settles puts e
       let later : faults (drive_of a) ≤ faults (drive_of b) = puts.later in omega arith);
   works = entry.works;
   settled = entry.settled;
+  clean = entry.clean;
   leaves =
       writing.where_told _ (contents (drive_of a)) (contents (drive_of c))
       (λ new there.

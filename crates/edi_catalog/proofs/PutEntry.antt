@@ -9,7 +9,7 @@ use Rattle.edi_told.specs.Faults.{CountRose}
 use Rattle.edi_disk.specs.declared.disk.Disk.{Disk}
 use Rattle.edi_disk.specs.declared.disk.DiskEnd.{DiskEnd}
 use Rattle.edi_disk.specs.declared.disk.DiskEnd.TheVariants as disk
-use Rattle.edi_disk.specs.Shown.{over, shown, drive_of, reference_of, IsWorking}
+use Rattle.edi_disk.specs.Shown.{over, shown, drive_of, reference_of, IsClean, IsWorking}
 use Rattle.edi_disk.specs.Since.{Kept, only}
 use Rattle.edi_disk.proofs.Since.{kept_settled, between_only}
 use Rattle.edi_disk.proofs.Writing.{told, where_told, shown_some}
@@ -26,6 +26,7 @@ pub record PutsBlock {D : Type 0} (contents : D → Option (List (List ℕ))) (c
   pub cause : end ≡ disk.Fault → CountRose (faults (drive_of before)) (faults (drive_of after))
   pub works : end ≡ disk.Ok → IsWorking contents count after
   pub settled : end ≡ disk.Ok → contents (drive_of after) ≡ shown contents after
+  pub clean : end ≡ disk.Ok → IsClean after
   pub since : (base : List (List ℕ)) (was_put : ℕ → List ℕ → Bool) → was_put n bytes ≡ true → Kept contents base was_put before
       → Kept contents base was_put after
   pub told_too : WhereTold (shown contents before) (shown contents after) (λ old new. ⊤)
@@ -93,6 +94,7 @@ puts_made contents count faults end slot n entry bytes read b d settled kept ove
   cause = puts.cause;
   works = puts.works;
   settled = puts.settled;
+  clean = puts.clean;
   leaves = go end puts;
 } where
   go : (end : DiskEnd) → PutsBlock contents count faults end n bytes b d
@@ -115,6 +117,7 @@ put_failed contents count faults n bytes b c reference stays later rose since to
   cause = λ e. rose;
   works = λ e. absurd (let not_ok : disk.Fault ≡ disk.Ok = e in cc);
   settled = λ e. absurd (let not_ok : disk.Fault ≡ disk.Ok = e in cc);
+  clean = λ e. absurd (let not_ok : disk.Fault ≡ disk.Ok = e in cc);
   since = since;
   told_too = told_too;
   shows = λ e. absurd (let not_ok : disk.Fault ≡ disk.Ok = e in cc);
@@ -127,16 +130,17 @@ pub put_flushed : {D : Type 0} (contents : D → Option (List (List ℕ))) (coun
     → WhereTold (shown contents b) (shown contents c) (λ old new. new ≡ slice_set old n bytes)
     → reference_of d ≡ reference_of c → count (drive_of d) ≡ count (drive_of c) → faults (drive_of c) ≤ faults (drive_of d)
     → (end ≡ disk.Fault → CountRose (faults (drive_of c)) (faults (drive_of d)))
-    → (end ≡ disk.Ok → IsWorking contents count d) → (end ≡ disk.Ok → contents (drive_of d) ≡ shown contents d)
+    → (end ≡ disk.Ok → IsWorking contents count d) → (end ≡ disk.Ok → contents (drive_of d) ≡ shown contents d) → (end ≡ disk.Ok → IsClean d)
     → ((base : List (List ℕ)) (was_put : ℕ → List ℕ → Bool) → Kept contents base was_put c → Kept contents base was_put d)
     → WhereTold (shown contents c) (shown contents d) (λ old new. end ≡ disk.Ok → new ≡ old) → PutsBlock contents count faults end n bytes b d
-put_flushed contents count faults end n bytes b c d reference stays later since put reference2 stays2 later2 rose works settled since2 flushed = record {
+put_flushed contents count faults end n bytes b c d reference stays later since put reference2 stays2 later2 rose works settled clean since2 flushed = record {
   same_reference = reference2 ∙ reference;
   count_stays = stays2 ∙ stays;
   later = omega (arith, later, later2);
   cause = λ e. (let rises : min (faults (drive_of c) + 1) (2 ^ 64 - 1) ≤ faults (drive_of d) = rose e in omega (arith, later));
   works = works;
   settled = settled;
+  clean = clean;
   since = λ base was_put has kept. since2 base was_put (since base was_put has kept);
   told_too =
       told_then (shown contents b) (shown contents c) (shown contents d) (λ old new. new ≡ slice_set old n bytes) (λ old new. end ≡ disk.Ok → new ≡ old)

@@ -21,12 +21,19 @@ checks_then contents count faults broke a b c P Q R both one other = record {
   cause = λ e. (let later : faults (drive_of a) ≤ faults (drive_of b) = one.later in
       let rose : min (faults (drive_of b) + 1) (2 ^ 64 - 1) ≤ faults (drive_of c) = other.cause e in omega arith);
   works = other.works;
+  clean = λ fine was. other.clean fine (one.clean refl was);
   shows = λ e.
       told_then (shown contents a) (shown contents b) (shown contents c) (λ old new. (new ≡ old) × P old) (λ old new. (new ≡ old) × Q old)
       (λ old new. (new ≡ old) × R old)
       (λ old between new p q. (q.0 ∙ p.0, both old p.1 (subst Q p.0 q.1)))
       (one.shows refl) (other.shows e);
 }
+
+-- both are known
+pub checks_both : {D : Type 0} (contents : D → Option (List (List ℕ))) (count faults : D → ℕ) (a b c : Disk D) (P Q : List (List ℕ) → Type 0)
+    → Checks contents count faults false a b P → Checks contents count faults false b c Q → Checks contents count faults false a c (λ blocks. P blocks × Q blocks)
+checks_both contents count faults a b c P Q one other =
+    checks_then contents count faults false a b c P Q (λ blocks. P blocks × Q blocks) (λ blocks p q. (p, q)) one other
 
 pub checks_map : {D : Type 0} (contents : D → Option (List (List ℕ))) (count faults : D → ℕ) (broke : Bool) (a b : Disk D)
     (P Q : List (List ℕ) → Type 0) → ((blocks : List (List ℕ)) → P blocks → Q blocks)
@@ -39,6 +46,7 @@ checks_map contents count faults broke a b P Q so one = record {
   told = one.told;
   cause = one.cause;
   works = one.works;
+  clean = one.clean;
   shows = λ e.
       told_map (shown contents a) (shown contents b) (λ old new. (new ≡ old) × P old) (λ old new. (new ≡ old) × Q old)
       (λ old new p. (p.0, so old p.1)) (one.shows e);
@@ -55,6 +63,7 @@ checks_none contents count faults a P works all = record {
   told = told_same (shown contents a) (λ old new. ⊤) (λ blocks. tt);
   cause = λ e. absurd (let no : false ≡ true = e in cc);
   works = λ e. works;
+  clean = λ e was. was;
   shows = λ e. told_same (shown contents a) (λ old new. (new ≡ old) × P old) (λ blocks. (refl, all blocks));
 }
 
@@ -76,6 +85,7 @@ checks_with contents count faults broke a b P L l one = record {
   told = one.told;
   cause = one.cause;
   works = one.works;
+  clean = one.clean;
   shows = λ e.
       told_map (shown contents a) (shown contents b) (λ old new. ((new ≡ old) × P old) × L old) (λ old new. (new ≡ old) × (P old × L old))
       (λ old new p. (p.0.0, (p.0.1, p.1)))

@@ -16,7 +16,7 @@ use Rattle.edi_catalog.specs.declared.catalog.Catalog.{Catalog}
 use Rattle.edi_image.specs.Image.{Holds, slots_of}
 use Rattle.edi_image.specs.Stored.{StoredFile, is_stored, IsKeptOf}
 use Rattle.edi_catalog.specs.Files.{entry_of, file_titled}
-use Rattle.edi_catalog.specs.Mounted.{IsMounted, disk_of, files_of, AreEntries, entry_blocks_of, room_reference}
+use Rattle.edi_catalog.specs.Mounted.{AreEntries, AreWhole, HaveEntries, IsMounted, disk_of, files_of, entry_blocks_of, room_reference}
 use Rattle.edi_catalog.specs.Changes.{Leaves}
 use Rattle.edi_image.specs.Bytes.{bytes_of_record, field_bytes}
 use Rattle.edi_catalog.specs.Writing.{is_protected, patched}
@@ -34,6 +34,7 @@ use Rattle.edi_image.proofs.Spelled.{title_length}
 use Rattle.edi_catalog.proofs.StoredImage.{IsStoredIn, stored_holds}
 use Rattle.edi_catalog.proofs.Changed.{all_set}
 use Rattle.edi_catalog.proofs.EntryBlocks.{entries_over, entries_laid}
+use Rattle.edi_catalog.proofs.KeptEntries.{said_over, stored_said, whole_over}
 use Rattle.edi_catalog.proofs.Apart.{free_apart}
 use Rattle.std.proofs.lemmas.List.{get_or-set_same}
 
@@ -137,13 +138,14 @@ module _ {D : Type 0} (contents : D → Option (List (List ℕ))) (count faults 
   pub store_mounted : (one other : Catalog D) (title : List ℕ) (kind : FileKind) (bytes : List ℕ) (slot : ℕ) (file : StoredFile)
       → IsMounted contents count one → Stores (count (drive_of (disk_of one))) (files_of one) title kind bytes slot file
       → WritesNew contents count faults disk.Ok slot file bytes (disk_of one) (disk_of other)
-      → files_of other ≡ set (files_of one) slot (Some file) → length (entry_blocks_of one) ≡ 32
+      → files_of other ≡ set (files_of one) slot (Some file) → AreWhole (entry_blocks_of one)
       → entry_blocks_of other ≡ set (entry_blocks_of one) (slot / 8)
       (patched (64 * (slot % 8)) (bytes_of_record file.record_) (get_or (entry_blocks_of one) (slot / 8) []))
       → IsMounted contents count other
-  store_mounted one other title kind bytes slot file mounted stores writes now many blocks_now = record {
+  store_mounted one other title kind bytes slot file mounted stores writes now whole blocks_now = record {
     works = writes.works refl;
     settled = writes.settled refl;
+    clean = writes.clean refl;
     many = ap length now ∙ length-set (files_of one) slot (Some file) ∙ mounted.many;
     most = subst (λ n. n ≤ 4096) (sym writes.count_stays) mounted.most;
     stored =
@@ -153,12 +155,20 @@ module _ {D : Type 0} (contents : D → Option (List (List ℕ))) (count faults 
     apart =
         ap (λ fs. are_different (blocks_used fs)) now
         ∙ free_apart (count (drive_of (disk_of one))) (files_of one) slot file mounted.apart stores.laid.free;
-    room = λ some. ap length blocks_now ∙ length-set (entry_blocks_of one) (slot / 8) _ ∙ many;
+    room = λ some. subst AreWhole (sym blocks_now)
+        (whole_over slot (bytes_of_record file.record_) (entry_blocks_of one) stores.within stores.whole whole);
+    said = λ some.
+        (let was : 0 < count (drive_of (disk_of one)) = subst (λ n. 0 < n) writes.count_stays some in
+        subst (λ n. HaveEntries n (entry_blocks_of other) (files_of other)) (sym writes.count_stays)
+        (subst (HaveEntries (count (drive_of (disk_of one))) (entry_blocks_of other)) (sym now)
+        (subst (λ es. HaveEntries (count (drive_of (disk_of one))) es (set (files_of one) slot (Some file))) (sym blocks_now)
+        (said_over (count (drive_of (disk_of one))) slot (bytes_of_record file.record_) (entry_blocks_of one) (files_of one) (Some file) stores.within
+        stores.whole whole mounted.many (stored_said (count (drive_of (disk_of one))) file stores.laid.kept) (mounted.said was)))));
     entries = λ blocks told.
         (let old = writing.told (NewLeaves disk.Ok slot file bytes) (contents (drive_of (disk_of one))) (contents (drive_of (disk_of other))) blocks
         writes.leaves told in
         subst (λ es. AreEntries es blocks) (sym blocks_now)
-        (entries_over slot (bytes_of_record file.record_) (entry_blocks_of one) old.2.laid blocks stores.within many
+        (entries_over slot (bytes_of_record file.record_) (entry_blocks_of one) old.2.laid blocks stores.within whole.many
         (entries_laid (count (drive_of (disk_of one))) (used_in (Some file)) (entry_blocks_of one) old.0 old.2.laid stores.laid.free.on_drive
         old.2.put.others (mounted.entries old.0 old.1)) old.2.written));
     image = λ blocks told.
@@ -172,11 +182,11 @@ module _ {D : Type 0} (contents : D → Option (List (List ℕ))) (count faults 
   pub changes_done : (one other : Catalog D) (title : List ℕ) (kind : FileKind) (bytes : List ℕ) (slot : ℕ) (file : StoredFile)
       → IsMounted contents count one → Stores (count (drive_of (disk_of one))) (files_of one) title kind bytes slot file
       → WritesNew contents count faults disk.Ok slot file bytes (disk_of one) (disk_of other) → room_reference other ≡ room_reference one
-      → files_of other ≡ set (files_of one) slot (Some file) → length (entry_blocks_of one) ≡ 32
+      → files_of other ≡ set (files_of one) slot (Some file) → AreWhole (entry_blocks_of one)
       → entry_blocks_of other ≡ set (entry_blocks_of one) (slot / 8)
       (patched (64 * (slot % 8)) (bytes_of_record file.record_) (get_or (entry_blocks_of one) (slot / 8) []))
       → StoreChanges {X = Unit {0}} contents count faults (Ok tt) None title kind bytes one other
-  changes_done one other title kind bytes slot file mounted stores writes lent now many blocks_now = record {
+  changes_done one other title kind bytes slot file mounted stores writes lent now whole blocks_now = record {
     answers = (refl, record { file = file; entry_ = stores.entry; at = slot; index_ = stores.index; others = now });
     free = λ at e.
         (let both : Some slot ≡ Some at = sym stores.index ∙ e in
@@ -187,7 +197,7 @@ module _ {D : Type 0} (contents : D → Option (List (List ℕ))) (count faults 
         ∙ get_or-set_same (files_of one) slot (Some file) None many in
         subst (λ f. AreFree (count (drive_of (disk_of one))) (files_of one) (used_in f)) (sym there) stores.laid.free);
     untouched = tt;
-    mounted = inr (store_mounted one other title kind bytes slot file mounted stores writes now many blocks_now);
+    mounted = inr (store_mounted one other title kind bytes slot file mounted stores writes now whole blocks_now);
     leaves = store_done one other title kind bytes slot file mounted stores writes;
     same_reference = writes.same_reference;
     same_room = lent;

@@ -1,10 +1,12 @@
 -- Words of contracts. A catalogue between two calls.
-use Rattle.std.specs.Prelude.{◌≡◌, ◌≤◌, ◌<◌, ◌+◌, ℕ, true, List, [], length, slice_index_or, Option}
+use Rattle.std.specs.Prelude.{◌≡◌, ◌≤◌, ◌<◌, ◌+◌, ◌*◌, ◌/◌, ◌%◌, ℕ, true, List, [], length, take, drop, slice_index_or, Option, Some, None}
 use Rattle.std.specs.List.{list_all}
 use Rattle.std.specs.Option.{ForSome}
 use Rattle.edi_disk.specs.declared.disk.Disk.{Disk}
-use Rattle.edi_disk.specs.Shown.{shown, drive_of, IsWorking}
-use Rattle.edi_image.specs.Entries.{block_at}
+use Rattle.edi_disk.specs.Shown.{shown, drive_of, IsClean, IsWorking}
+use Rattle.edi_image.specs.Entries.{block_at, entry_says}
+use Rattle.edi_image.specs.declared.entries.Said.{Said}
+use Rattle.edi_image.specs.declared.entries.Said.TheVariants as said
 use Rattle.edi_image.specs.Stored.{StoredFile, is_stored, IsKeptOf}
 use Rattle.edi_catalog.specs.Plan.{are_different, blocks_used}
 use Rattle.edi_catalog.specs.declared.catalog.Catalog.{Catalog}
@@ -32,17 +34,37 @@ entry_blocks_of catalog = (room_of catalog).entries.items
 abbrev pub AreEntries : (kept blocks : List (List ℕ)) → Type 0
 AreEntries kept blocks = (k : ℕ) → k < 32 → slice_index_or kept k [] ≡ block_at blocks (1 + k)
 
--- What is known of the disk and the room of a catalogue: the disk may be called, has nothing that is not written and has at most
--- 4096 blocks; the room has 256 slots, whose files use no block twice and are those of the image, where the drive tells its blocks,
--- and it has the blocks with the entries.
+-- the bytes of the entry of a slot, in the blocks as they are kept
+abbrev pub entry_kept : (kept : List (List ℕ)) → (slot : ℕ) → List ℕ
+entry_kept kept slot = take 64 (drop (64 * (slot % 8)) (slice_index_or kept (slot / 8) []))
+
+-- what the entry of a file that is kept says
+abbrev pub said_kept : Option StoredFile → Said
+said_kept None = said.Free
+said_kept (Some file) = said.File file.record_
+
+-- 32 whole blocks
+pub record AreWhole (kept : List (List ℕ)) : Type 0 where
+  pub many : length kept ≡ 32
+  pub each : (k : ℕ) → k < 32 → length (slice_index_or kept k []) ≡ 512
+
+-- the entry of each slot says the file that is kept of it, on a drive of so many blocks
+abbrev pub HaveEntries : (count : ℕ) → (kept : List (List ℕ)) → List (Option StoredFile) → Type 0
+HaveEntries count kept files = (slot : ℕ) → slot < 256 → entry_says count (entry_kept kept slot) ≡ said_kept (slice_index_or files slot None)
+
+-- What is known of the disk and the room of a catalogue, whatever the drive tells: the disk may be called, has nothing that is not
+-- written and has at most 4096 blocks; the room has 256 slots, whose files use no block twice, and the 32 blocks with the entries of
+-- these files. Where the drive tells its blocks, they are those of the image.
 pub record IsMountedOn {D : Type 0} (contents : D → Option (List (List ℕ))) (count : D → ℕ) (disk : Disk D) (room_ : Checked) : Type 0 where
   pub works : IsWorking contents count disk
   pub settled : contents (drive_of disk) ≡ shown contents disk
+  pub clean : IsClean disk
   pub many : length room_.files.items ≡ 256
   pub most : count (drive_of disk) ≤ 4096
   pub stored : list_all (is_stored (count (drive_of disk))) room_.files.items ≡ true
   pub apart : are_different (blocks_used room_.files.items) ≡ true
-  pub room : 0 < count (drive_of disk) → length room_.entries.items ≡ 32
+  pub room : 0 < count (drive_of disk) → AreWhole room_.entries.items
+  pub said : 0 < count (drive_of disk) → HaveEntries (count (drive_of disk)) room_.entries.items room_.files.items
   pub entries : ForSome (contents (drive_of disk)) (AreEntries room_.entries.items)
   pub image : ForSome (contents (drive_of disk)) (λ blocks. IsKeptOf blocks room_.files.items)
 

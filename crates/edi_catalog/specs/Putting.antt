@@ -5,7 +5,7 @@ use Rattle.edi_told.specs.Told.{WhereTold}
 use Rattle.edi_disk.specs.declared.disk.Disk.{Disk}
 use Rattle.edi_disk.specs.declared.disk.DiskEnd.{DiskEnd}
 use Rattle.edi_disk.specs.declared.disk.DiskEnd.TheVariants as disk
-use Rattle.edi_disk.specs.Shown.{shown, drive_of, reference_of, IsWorking}
+use Rattle.edi_disk.specs.Shown.{shown, drive_of, reference_of, IsClean, IsWorking}
 use Rattle.edi_disk.specs.Since.{Kept}
 use Rattle.edi_image.specs.Rules.{is_in}
 use Rattle.edi_image.specs.Entries.{block_at}
@@ -59,4 +59,5 @@ pub record WritesNew {D : Type 0} (contents : D → Option (List (List ℕ))) (c
   pub cause : end ≡ disk.Fault → CountRose (faults (drive_of before)) (faults (drive_of after))
   pub works : end ≡ disk.Ok → IsWorking contents count after
   pub settled : end ≡ disk.Ok → contents (drive_of after) ≡ shown contents after
+  pub clean : end ≡ disk.Ok → IsClean after
   pub leaves : WhereTold (contents (drive_of before)) (contents (drive_of after)) (NewLeaves end slot file bytes)

@@ -3,11 +3,9 @@ use Rattle.std.specs.Prelude.{◌≡◌, ℕ, ◌≤◌, Bool, true, false, List
 use Rattle.edi_told.specs.Faults.{CountRose}
 use Rattle.edi_told.specs.Told.{WhereTold}
 use Rattle.edi_disk.specs.declared.disk.Disk.{Disk}
-use Rattle.edi_disk.specs.Shown.{shown, drive_of, reference_of, IsWorking}
+use Rattle.edi_disk.specs.Shown.{shown, drive_of, reference_of, IsClean, IsWorking}
 use Rattle.edi_disk.specs.Since.{Kept}
 use Rattle.edi_image.specs.Entries.{block_at}
-use Rattle.edi_image.specs.Image.{said_at}
-use Rattle.edi_image.specs.declared.entries.Said.{Said}
 use Rattle.edi_image.specs.declared.faults.MountFault.{MountFault}
 
 -- From before to after the disk was only read. Where the drive has not failed, the disk shows what it showed, and P is known
@@ -21,14 +19,10 @@ pub record Checks {D : Type 0} (contents : D → Option (List (List ℕ))) (coun
   pub told : WhereTold (shown contents before) (shown contents after) (λ old new. ⊤)
   pub cause : broke ≡ true → CountRose (faults (drive_of before)) (faults (drive_of after))
   pub works : broke ≡ false → IsWorking contents count after
+  pub clean : broke ≡ false → IsClean before → IsClean after
   pub shows : broke ≡ false → WhereTold (shown contents before) (shown contents after) (λ old new. (new ≡ old) × P old)
 
 -- on Ok these are the bytes of the block
 abbrev pub BlockIs : Result (List ℕ) MountFault → ℕ → List (List ℕ) → Type 0
 BlockIs (Ok bytes) n blocks = block_at blocks n ≡ bytes
 BlockIs (Err e) n blocks = ⊤
-
--- on Ok this is what the entry says
-abbrev pub SaysSlot : Result Said MountFault → ℕ → List (List ℕ) → Type 0
-SaysSlot (Ok said) slot blocks = said_at blocks slot ≡ said
-SaysSlot (Err e) slot blocks = ⊤

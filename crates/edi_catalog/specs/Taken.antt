@@ -48,7 +48,7 @@ IsOfCount count fault.Fault = ⊤
 IsOfCount count fault.NoMemory = ⊤
 IsOfCount count other = (64 ≤ count) × ((count ≤ 4096) × IsInRange count other)
 
--- block 0 was read, and is not that of an image of so many blocks
+-- block 0 is cached, and is not that of an image of so many blocks; of a clean disk it is as the drive has given it or has taken it
 pub record IsOtherHeader {D : Type 0} (count : ℕ) (disk : Disk D) : Type 0 where
   pub bytes : List ℕ
   pub read : cached 0 disk ≡ Some bytes

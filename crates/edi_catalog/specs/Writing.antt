@@ -8,7 +8,7 @@ use Rattle.edi_calls.specs.State.{File, is_title}
 use Rattle.edi_disk.specs.declared.disk.Disk.{Disk}
 use Rattle.edi_disk.specs.declared.disk.DiskEnd.{DiskEnd}
 use Rattle.edi_disk.specs.declared.disk.DiskEnd.TheVariants as disk
-use Rattle.edi_disk.specs.Shown.{shown, drive_of, reference_of, IsWorking}
+use Rattle.edi_disk.specs.Shown.{shown, drive_of, reference_of, IsClean, IsWorking}
 use Rattle.edi_image.specs.Records.{FileRecord}
 use Rattle.edi_image.specs.Entries.{block_at}
 use Rattle.edi_image.specs.Stored.{StoredFile}
@@ -49,6 +49,7 @@ pub record PutsEntry {D : Type 0} (contents : D → Option (List (List ℕ))) (c
   pub cause : end ≡ disk.Fault → CountRose (faults (drive_of before)) (faults (drive_of after))
   pub works : end ≡ disk.Ok → IsWorking contents count after
   pub settled : end ≡ disk.Ok → contents (drive_of after) ≡ shown contents after
+  pub clean : end ≡ disk.Ok → IsClean after
   pub leaves : WhereTold (contents (drive_of before)) (contents (drive_of after)) (EntryLeaves end slot entry)
 
 -- ---- another entry in place of that of a file

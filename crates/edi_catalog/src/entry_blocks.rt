@@ -1,10 +1,10 @@
 //! The blocks with the entries, which a mounted catalogue keeps.
 
-ghost use Rattle.std.specs.Prelude.{◌≡◌, ◌≤◌, ◌<◌, ◌⊎◌, IfErr, IfOk, length};
+ghost use Rattle.std.specs.Prelude.{◌≡◌, ◌≤◌, ◌⊎◌, IfErr, IfOk};
 ghost use Rattle.edi_disk.specs.Shown.{drive_of, IsWorking};
 ghost use Rattle.edi_image.specs.Finds.{failed};
 ghost use Rattle.edi_catalog.specs.Reads.{Checks};
-ghost use Rattle.edi_catalog.specs.Mounted.{AreEntries};
+ghost use Rattle.edi_catalog.specs.Mounted.{AreEntries, AreWhole};
 
 use crate::reading::block;
 use edi_disk::Disk;
@@ -12,15 +12,15 @@ use edi_host::Drive;
 use edi_image::{BLOCK, FIRST, MountFault};
 use std::alloc::Global;
 
-// Reads the blocks with the entries.
-fn read_entry_blocks<D: Drive>(
+/// Reads the blocks with the entries.
+pub(crate) fn entry_blocks<D: Drive>(
     alloc: Global,
     disk: &mut Disk<'_, D>,
 ) -> Result<Vec<[u8; BLOCK]>, MountFault>
     requires works { IsWorking D.contents D.count disk.old }
     requires catalogue { FIRST ≤ D.count (drive_of disk.old) }
     ensures checks { Checks D.contents D.count D.faults (failed result) disk.old disk.new (λ blocks. IfOk result (λ kept. AreEntries kept.items blocks)) }
-    ensures many { IfOk result (λ kept. length kept.items ≡ 32) }
+    ensures whole { IfOk result (λ kept. AreWhole kept.items) }
     ensures fault { IfErr result (λ why. (why ≡ MountFault.Fault) ⊎ (why ≡ MountFault.NoMemory)) }
 {
     let mut entries = Vec::new(alloc);
@@ -34,21 +34,4 @@ fn read_entry_blocks<D: Drive>(
         }
     }
     Ok(entries)
-}
-
-/// The blocks with the entries of a disk. No disk has none.
-pub(crate) fn entry_blocks<D: Drive>(
-    alloc: Global,
-    disk: &mut Disk<'_, D>,
-) -> Result<Vec<[u8; BLOCK]>, MountFault>
-    requires works { IsWorking D.contents D.count disk.old }
-    requires catalogue { 0 < D.count (drive_of disk.old) → FIRST ≤ D.count (drive_of disk.old) }
-    ensures checks { Checks D.contents D.count D.faults (failed result) disk.old disk.new (λ blocks. IfOk result (λ kept. AreEntries kept.items blocks)) }
-    ensures many { IfOk result (λ kept. 0 < D.count (drive_of disk.old) → length kept.items ≡ 32) }
-    ensures fault { IfErr result (λ why. (why ≡ MountFault.Fault) ⊎ (why ≡ MountFault.NoMemory)) }
-{
-    if disk.blocks() == 0 {
-        return Ok(Vec::new(alloc));
-    }
-    read_entry_blocks(alloc, disk)
 }

@@ -8,3 +8,4 @@ pub mod View
 pub mod Writing
 pub mod Calls
 pub mod Cached
+pub mod Clean

@@ -1,5 +1,6 @@
 -- Words of contracts. What a disk shows: the drive's blocks with the cached ones over them.
-use Rattle.std.specs.Prelude.{◌≡◌, ℕ, ◌<◌, false, Option, Some, List, [], ◌∷◌, map, slice_get, slice_set}
+use Rattle.std.specs.Prelude.{◌≡◌, ℕ, ◌<◌, Bool, true, false, not, Option, Some, List, [], ◌∷◌, map, slice_get, slice_set}
+use Rattle.std.specs.List.{list_all}
 use Rattle.std.specs.Option.{option_map, ForSome}
 use Rattle.edi_disk.specs.Use.{slot_of, AreDifferent, driven_out}
 use Rattle.edi_disk.specs.declared.cache.Slot.{Slot}
@@ -60,3 +61,10 @@ pub record CachesIn (n : ℕ) (bytes : List ℕ) (before after : List Slot) : Ty
 
 abbrev pub Caches : {D : Type 0} → (n : ℕ) → (bytes : List ℕ) → (before after : Disk D) → Type 0
 Caches n bytes before after = CachesIn n bytes before.cache after.cache
+
+-- no block was put and is not written yet
+abbrev pub are_written : List Slot → Bool
+are_written slots = list_all (λ (slot : Slot). not slot.unwritten) slots
+
+abbrev pub IsClean : {D : Type 0} → Disk D → Type 0
+IsClean disk = are_written disk.cache ≡ true

@@ -5,7 +5,7 @@ ghost use Rattle.std.specs.Option.{ForSome};
 ghost use Rattle.edi_told.specs.Faults.{CountRose};
 ghost use Rattle.edi_told.specs.Told.{WhereTold};
 ghost use Rattle.edi_disk.specs.Use.{after_use, is_listed, first_of_full, driven_out};
-ghost use Rattle.edi_disk.specs.Shown.{cached, Caches, shown, numbers_cached, drive_of, reference_of, IsWorking, IsBacked, numbers_of};
+ghost use Rattle.edi_disk.specs.Shown.{cached, Caches, IsClean, shown, numbers_cached, drive_of, reference_of, IsWorking, IsBacked, numbers_of};
 ghost use Rattle.edi_disk.specs.Since.{Kept, PageGives, PutLeaves, ChangesOnly, AllOn, Writes};
 
 use crate::cache::{Cache, SLOTS};
@@ -92,6 +92,7 @@ impl<'a, D: Drive> Disk<'a, D> {
         // From here on each block is as it is now, or is one that is put.
         ensures begins { (was_put : ℕ → List ℕ → Bool) → ForSome (D.contents drive.old) (λ base. Kept D.contents base was_put result) }
         ensures holds_none { numbers_cached result ≡ [] }
+        ensures clean { IsClean result }
     {
         Disk {
             drive,
@@ -127,6 +128,7 @@ impl<'a, D: Drive> Disk<'a, D> {
         // then on. So are the others, but for the one that is driven out.
         ensures held { IfSome (cached n self.old) (λ bytes. into.new ≡ bytes) }
         ensures caches { result ≡ DiskEnd.Ok → Caches n into.new self.old self.new }
+        ensures clean { result ≡ DiskEnd.Ok → IsClean self.old → IsClean self.new }
         // Whatever the answer: each block that the drive has is as it was at the last flush that was Ok (or at
         // `attach`), or was put since.
         ensures since { (base : List (List ℕ)) (was_put : ℕ → List ℕ → Bool) → Kept D.contents base was_put self.old → Kept D.contents base was_put self.new }
@@ -198,6 +200,8 @@ impl<'a, D: Drive> Disk<'a, D> {
         ensures works { result ≡ DiskEnd.Ok → IsWorking D.contents D.count self.new }
         ensures shows { WhereTold (shown D.contents self.old) (shown D.contents self.new) (λ old new. result ≡ DiskEnd.Ok → new ≡ old) }
         ensures settles { result ≡ DiskEnd.Ok → D.contents (drive_of self.new) ≡ shown D.contents self.new }
+        // Whatever the drive tells: after Ok no cached block is left to be written.
+        ensures clean { result ≡ DiskEnd.Ok → IsClean self.new }
         // From an Ok on each block is as it is now, or is one that is put.
         ensures begins { result ≡ DiskEnd.Ok → (was_put : ℕ → List ℕ → Bool) → ForSome (D.contents (drive_of self.new))
             (λ base. Kept D.contents base was_put self.new) }

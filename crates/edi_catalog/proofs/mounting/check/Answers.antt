@@ -4,6 +4,7 @@ use Rattle.edi_image.specs.Image.{mount_fault_of}
 use Rattle.edi_image.specs.Finds.{IsFirst, failed}
 use Rattle.edi_image.specs.Stored.{is_stored}
 use Rattle.edi_catalog.proofs.Mounts.{still_settled, found_of, same_blocks, told_same_blocks, first_found}
+use Rattle.edi_catalog.specs.Mounted.{HaveEntries}
 use Rattle.edi_catalog.specs.Reads.{Checks}
 use Rattle.edi_catalog.proofs.mounting.check.Goals as goal
 
@@ -11,6 +12,7 @@ pub returns-in-Ok-clause-checked : goal.returns-in-Ok-clause-checked
 returns-in-Ok-clause-checked g c = record {
   works = c.in-Ok.ensures.checks.works refl;
   settled = still_settled _ _ _ _ _ _ c.requires.settled c.in-Ok.ensures.checks;
+  clean = c.in-Ok.ensures.checks.clean refl c.requires.clean;
   many = c.in-Ok.ensures.many;
   most = subst (λ n. n ≤ 4096) (sym c.in-Ok.ensures.checks.count_stays) c.in-Ok.ensures.most;
   stored =
@@ -19,7 +21,10 @@ returns-in-Ok-clause-checked g c = record {
   image = λ blocks told.
       (let found = found_of _ _ _ _ _ _ c.requires.settled c.in-Ok.ensures.checks blocks told in
       record { valid = found.1.0; slots = found.1.1.0 });
-  room = λ some. c.in-Ok.ensures.room (subst (λ n. 0 < n) c.in-Ok.ensures.checks.count_stays some);
+  room = λ some. c.in-Ok.ensures.whole (subst (λ n. 0 < n) c.in-Ok.ensures.checks.count_stays some);
+  said = λ some.
+      subst (λ n. HaveEntries n c.in-Ok.checked.entries.items c.in-Ok.checked.files.items) (sym c.in-Ok.ensures.checks.count_stays)
+      (c.in-Ok.ensures.said (subst (λ n. 0 < n) c.in-Ok.ensures.checks.count_stays some));
   entries = λ blocks told. (found_of _ _ _ _ _ _ c.requires.settled c.in-Ok.ensures.checks blocks told).1.1.1;
 }
 
@@ -47,3 +52,9 @@ returns-in-Err-clause-settled g c = λ fine.
 
 pub returns-in-Ok-clause-settled : goal.returns-in-Ok-clause-settled
 returns-in-Ok-clause-settled g c = λ fine. still_settled _ _ _ _ _ _ c.requires.settled c.in-Ok.ensures.checks
+
+pub returns-in-Err-clause-clean : goal.returns-in-Err-clause-clean
+returns-in-Err-clause-clean g c = λ fine. c.in-Err.ensures.checks.clean fine c.requires.clean
+
+pub returns-in-Ok-clause-clean : goal.returns-in-Ok-clause-clean
+returns-in-Ok-clause-clean g c = λ fine. c.in-Ok.ensures.checks.clean refl c.requires.clean

@@ -28,5 +28,5 @@ returns-in-Ok-clause-puts g c =
     })
     (put_flushed _ _ _ _ _ _ _ c.put_page.new.self _ c.in-Ok.ensures.same_reference c.in-Ok.ensures.count c.in-Ok.ensures.later
     c.in-Ok.ensures.since c.in-Ok.ensures.shows
-    c.flush.ensures.same_reference c.flush.ensures.count c.flush.ensures.later c.flush.ensures.cause c.flush.ensures.works c.flush.ensures.settles
+    c.flush.ensures.same_reference c.flush.ensures.count c.flush.ensures.later c.flush.ensures.cause c.flush.ensures.works c.flush.ensures.settles c.flush.ensures.clean
     c.flush.ensures.since c.flush.ensures.shows)

@@ -10,7 +10,7 @@ put_kept_entry-requires-clause-catalogue g c =
 
 pub put_kept_entry-requires-clause-many : goal.put_kept_entry-requires-clause-many
 put_kept_entry-requires-clause-many g c =
-    slot_room _ _ c.args.self.now c.args.index c.args.entry c.requires.mounted c.requires.fits
+    (slot_room _ _ c.args.self.now c.args.index c.args.entry c.requires.mounted c.requires.fits).many
 
 pub returns-in-Ok : goal.returns-in-Ok
 returns-in-Ok g c = record {

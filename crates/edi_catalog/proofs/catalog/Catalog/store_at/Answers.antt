@@ -9,7 +9,7 @@ use Rattle.edi_catalog.proofs.StoredFiles.{changes_done, changes_failed, stores_
 use Rattle.edi_catalog.proofs.catalog.Catalog.store_at.Goals as goal
 
 pub write_kept-requires-clause-many : goal.write_kept-requires-clause-many
-write_kept-requires-clause-many g c = c.requires.mounted.room (omega (arith, c.requires.room))
+write_kept-requires-clause-many g c = (c.requires.mounted.room (omega (arith, c.requires.room))).many
 
 pub returns-in-Ok : goal.returns-in-Ok
 returns-in-Ok g c = record {

@@ -1,5 +1,6 @@
 use Rattle.edi_disk.proofs.Calls as calls
 use Rattle.edi_disk.proofs.Cached.{cached_settled}
+use Rattle.edi_disk.proofs.Clean.{clean_settled}
 use Rattle.edi_disk.proofs.disk.Disk.flush.Goals as goal
 
 pub returns-in-Ok-clause-works : goal.returns-in-Ok-clause-works
@@ -29,3 +30,6 @@ returns-in-Ok-clause-begins g c = λ _. calls.flush_begins g.D.Drive.contents g.
 
 pub returns-in-Ok-clause-caches : goal.returns-in-Ok-clause-caches
 returns-in-Ok-clause-caches g c = λ n. cached_settled n c.args.self.now.cache c.settle.new.self c.settle.ensures
+
+pub returns-in-Ok-clause-clean : goal.returns-in-Ok-clause-clean
+returns-in-Ok-clause-clean g c = λ _. clean_settled c.args.self.now.cache c.settle.new.self c.settle.ensures

@@ -4,6 +4,7 @@ use Rattle.edi_disk.specs.Shown.{numbers_of}
 use Rattle.edi_disk.proofs.Calls as calls
 use Rattle.edi_disk.proofs.Writing as writing
 use Rattle.edi_disk.proofs.Cached.{held_given, none_held, caches_hit, caches_taken}
+use Rattle.edi_disk.proofs.Clean.{clean_hit, clean_taken}
 use Rattle.edi_disk.proofs.Lookup.{slot_of_number}
 use Rattle.edi_disk.proofs.disk.Disk.page.Goals as goal
 
@@ -163,3 +164,12 @@ pub returns-in-Ok-read-clause-caches : goal.returns-in-Ok-read-clause-caches
 returns-in-Ok-read-clause-caches g c = λ _. let f = c.recall.ensures.absent c.if-recall.false in
     caches_taken c.args.n c.args.self.now.cache c.hold.new.self (cached_slot c.args.n c.read.new.into false) c.read.new.into f.0 refl refl
     (c.hold.ensures ∙ ap (λ ps. with_room ps ++ cached_slot c.args.n c.read.new.into false ∷ []) f.1)
+
+pub returns-then-recall-clause-clean : goal.returns-then-recall-clause-clean
+returns-then-recall-clause-clean g c = λ _ clean.
+    (let f = c.recall.ensures.found c.if-recall.true in clean_hit c.args.n c.args.self.now.cache c.recall.new.self f.0 f.1 f.3 clean)
+
+pub returns-in-Ok-read-clause-clean : goal.returns-in-Ok-read-clause-clean
+returns-in-Ok-read-clause-clean g c = λ _ clean.
+    (let f = c.recall.ensures.absent c.if-recall.false in
+    clean_taken c.args.self.now.cache c.recall.new.self c.hold.new.self (cached_slot c.args.n c.read.new.into false) f.1 c.hold.ensures refl clean)
