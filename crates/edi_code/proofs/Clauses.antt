@@ -5,12 +5,13 @@ use Rattle.std.proofs.lemmas.List.{length-map, length-drop}
 use Rattle.std.specs.Prelude.{◌==◌, map}
 use Rattle.edi_unit.specs.Tree.{Clause, Clauses, clause_then}
 use Rattle.edi_unit.specs.View.{clauses}
-use Rattle.edi_scheme.specs.Pieces.{Code, words_of_code, code_length, ClauseKind, close_code}
+use Rattle.edi_scheme.specs.Pieces.{Code, code_length, ClauseKind, close_code}
 use Rattle.edi_code.specs.Scope.{is_end}
+use Rattle.edi_code.specs.Aimed.{Opens}
 use Rattle.edi_code.specs.Emits.{Emits}
 use Rattle.edi_code.specs.InScope.{clause_length, clause_code, clauses_code}
 use Rattle.edi_code.specs.declared.scope.Scope.{Scope}
-use Rattle.edi_code.proofs.Emitting.{emits_then, rest_words}
+use Rattle.edi_code.proofs.Aiming.{IsOpen, open_later, opens_then, opens_closed}
 
 none_behind : (cs : List Clause) → (length cs == 0) ≡ is_end (clauses cs)
 none_behind [] = refl
@@ -23,16 +24,23 @@ end_is f items i behind e =
     let long : behind ≡ length (map f (drop (i + 1) items)) = omega (arith, e, length-map (drop (i + 1) items) f, length-drop (i + 1) items) in
     ap (λ (n : ℕ). n == 0) long ∙ none_behind (map f (drop (i + 1) items))
 
+-- the first of clauses, and the others
+pub clauses_are : (s : Scope) (kind : ClauseKind) (here later target : ℕ) (c : Clause) (cs : Clauses)
+    → later ≡ here + clause_length s c + code_length (close_code kind 0 cs) → clauses_code s kind target here (clause_then c cs)
+    ≡ (clause_code s here later c ++ close_code kind target cs) ++ clauses_code s kind target later cs
+clauses_are s kind here later target c cs is =
+    ap (λ (k : ℕ). clause_code s here k c ++ (close_code kind target cs ++ clauses_code s kind target k cs)) (sym is)
+    ∙ sym (append_assoc (clause_code s here later c) (close_code kind target cs) (clauses_code s kind target later cs))
+
 -- one step of the loop over clauses
-pub clause_words : (s : Scope) (out middle next whole : List ℕ) (choice : ClauseKind) (target here later : ℕ) (c : Clause) (cs : Clauses)
-    → later ≡ here + clause_length s c + code_length (close_code choice 0 cs) → Emits out middle (clause_code s here later c)
-    → Emits middle next (close_code choice target cs) → out ++ words_of_code (clauses_code s choice target here (clause_then c cs)) ≡ whole → next
-    ++ words_of_code (clauses_code s choice target later cs) ≡ whole
-clause_words s out middle next whole choice target here later c cs is p q h =
-    let end : ℕ = here + clause_length s c + code_length (close_code choice 0 cs) in
-    let all : clauses_code s choice target here (clause_then c cs) ≡ (clause_code s here later c ++ close_code choice target cs)
-    ++ clauses_code s choice target later cs =
-    ap (λ (k : ℕ). clause_code s here k c ++ (close_code choice target cs ++ clauses_code s choice target k cs)) (sym is)
-    ∙ sym (append_assoc (clause_code s here later c) (close_code choice target cs) (clauses_code s choice target later cs)) in
-    rest_words out next whole (clause_code s here later c ++ close_code choice target cs) (λ a k. clauses_code s choice target k cs) 0 0 0 later later refl refl
-    (emits_then out middle next (clause_code s here later c) (close_code choice target cs) p q) (ap (λ (l : Code). out ++ words_of_code l) (sym all) ∙ h)
+pub clause_open : (s : Scope) (kind : ClauseKind) (top : ℕ) (first second third old out middle next : List ℕ) (here later : ℕ) (c : Clause) (cs : Clauses)
+    (code : ℕ → Code) → later ≡ here + clause_length s c + code_length (close_code kind 0 cs) → Emits out middle (clause_code s here later c)
+    → Opens kind top second third middle next (λ t. close_code kind t cs)
+    → IsOpen kind top first second old out (λ t. clauses_code s kind t here (clause_then c cs)) code
+    → IsOpen kind top first third old next (λ t. clauses_code s kind t later cs) code
+clause_open s kind top first second third old out middle next here later c cs code is p q h =
+    open_later kind top first second third old out next (λ t. clause_code s here later c ++ close_code kind t cs)
+    (λ t. clauses_code s kind t here (clause_then c cs)) (λ t. clauses_code s kind t later cs) code h
+    (opens_then kind top second second third out middle next (λ t. clause_code s here later c) (λ t. close_code kind t cs)
+    (opens_closed kind top second out middle (clause_code s here later c) (λ t. clause_code s here later c) p (λ t i. refl)) q)
+    (λ t. clauses_are s kind here later t c cs is)

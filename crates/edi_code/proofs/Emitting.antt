@@ -1,6 +1,6 @@
 -- Codes that are appended one behind another.
 use Rattle.std.proofs.Common.{◌≡◌, ℕ, ◌+◌, List, [], ◌∷◌, ◌++◌, Result, Ok, Err, refl, sym, ap, subst, ◌∙◌, append_assoc}
-use Rattle.std.specs.Prelude.{OnOk}
+use Rattle.std.specs.Prelude.{IfOk, OnOk}
 use Rattle.std.proofs.lemmas.List.{append-nil}
 use Rattle.edi_target.specs.Op.{Instruction, words_of}
 use Rattle.edi_scheme.specs.Pieces.{Code, words_of_code}
@@ -55,3 +55,18 @@ rest_words out next whole x f here long took s u e g p h =
     ∙ ap (λ (k : ℕ). out ++ words_of_code (x ++ f (here + k) u)) e
     ∙ ap (λ (k : ℕ). out ++ words_of_code (x ++ f (here + long) k)) g
     ∙ h
+
+-- the same, where the address behind what was appended is told
+pub rest_behind : (out next whole : List ℕ) (x : Code) (f : ℕ → ℕ → Code) (here long behind s u : ℕ) → behind ≡ here + long → u ≡ s → Emits out next x → out
+    ++ words_of_code (x ++ f (here + long) s) ≡ whole → next ++ words_of_code (f behind u) ≡ whole
+rest_behind out next whole x f here long behind s u e g p h =
+    ap (λ (k : ℕ). next ++ words_of_code (f k u)) e ∙ rest_words out next whole x f here long long s u refl g p h
+
+-- two codes, where both were appended
+pub both : (old middle new : List ℕ) (a b c all : Code) → Emits old middle a → Emits middle new b → b ≡ c → all ≡ a ++ c → Emits old new all
+both old middle new a b c all p q s t = subst (Emits old new) (ap (λ (l : Code). a ++ l) s ∙ sym t) (emits_then old middle new a b p q)
+
+-- an address behind what was appended, told in another form
+pub told : {E : Type 0} (r : Result ℕ E) (a b : ℕ) → IfOk r (λ k. k ≡ a) → a ≡ b → IfOk r (λ k. k ≡ b)
+told (Err e) a b p same = tt
+told (Ok k) a b p same = p ∙ same

@@ -4,6 +4,7 @@ pub mod Constants
 pub mod Cobegins
 pub mod Links
 pub mod Clauses
+pub mod Aiming
 pub mod Layers
 pub mod Entries
 pub mod Fitting

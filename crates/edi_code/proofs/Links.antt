@@ -10,7 +10,7 @@ use Rattle.edi_code.specs.InScope.{operator_of, expression_length, expression_co
 use Rattle.edi_code.specs.InScope.{LinksAreWritable}
 use Rattle.edi_code.specs.declared.scope.Scope.{Scope}
 use Rattle.edi_code.specs.Emits.{Emits}
-use Rattle.edi_code.proofs.Emitting.{emits_then, rest_words}
+use Rattle.edi_code.proofs.Emitting.{emits_then, rest_words, rest_behind}
 
 pub link_is : (s : Scope) (at left : ℕ) (o : Operator) (e : Expression) (line right behind : ℕ) → right ≡ at + code_length (decision o 0)
     → behind ≡ right + expression_length s e + code_length (operation (types_in s) left o line) → link_code s at left (link o e line) ≡ decision o behind
@@ -51,16 +51,16 @@ linked_words s out next whole here of behind later l ls b t p h =
     (operator_type (operator_of l) of) later refl t p
     (ap (λ (c : Code). out ++ words_of_code c) (sym (links_are s here of l ls)) ∙ h)
 
-pub member_words : (s : Scope) (out middle next whole : List ℕ) (here line took : ℕ) (e : Expression) (es : Expressions) → took ≡ expression_length s e
-    → Emits out middle (expression_code s here e) → Emits middle next (instruction.member line ∷ []) → out
-    ++ words_of_code (members_code s here line (expression_then e es)) ≡ whole → next ++ words_of_code (members_code s (here + (took + 2)) line es) ≡ whole
-member_words s out middle next whole here line took e es is p q h =
+pub member_words : (s : Scope) (out middle next whole : List ℕ) (here line behind : ℕ) (e : Expression) (es : Expressions) → behind
+    ≡ here + expression_length s e → Emits out middle (expression_code s here e) → Emits middle next (instruction.member line ∷ []) → out
+    ++ words_of_code (members_code s here line (expression_then e es)) ≡ whole → next ++ words_of_code (members_code s (behind + 2) line es) ≡ whole
+member_words s out middle next whole here line behind e es is p q h =
     let sum : here + expression_length s e + 2 ≡ here + (expression_length s e + 2) = omega arith in
-    let more : took + 2 ≡ expression_length s e + 2 = ap (λ (k : ℕ). k + 2) is in
+    let more : behind + 2 ≡ here + (expression_length s e + 2) = omega (arith, is) in
     let all : expression_code s here e ++ (instruction.member line ∷ members_code s (here + expression_length s e + 2) line es)
     ≡ (expression_code s here e ++ instruction.member line ∷ []) ++ members_code s (here + (expression_length s e + 2)) line es =
     ap (λ (k : ℕ). expression_code s here e ++ (instruction.member line ∷ members_code s k line es)) sum
     ∙ sym (append_assoc (expression_code s here e) (instruction.member line ∷ []) (members_code s (here + (expression_length s e + 2)) line es)) in
-    rest_words out next whole (expression_code s here e ++ instruction.member line ∷ []) (λ a k. members_code s a line es) here (expression_length s e + 2)
-    (took + 2) 0 0 more refl
+    rest_behind out next whole (expression_code s here e ++ instruction.member line ∷ []) (λ a k. members_code s a line es) here (expression_length s e + 2)
+    (behind + 2) 0 0 more refl
     (emits_then out middle next (expression_code s here e) (instruction.member line ∷ []) p q) (ap (λ (c : Code). out ++ words_of_code c) (sym all) ∙ h)

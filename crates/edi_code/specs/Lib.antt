@@ -2,3 +2,4 @@ pub mod Scope
 pub mod Emits
 pub mod Writable
 pub mod InScope
+pub mod Aimed

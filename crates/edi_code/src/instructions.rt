@@ -1,10 +1,11 @@
 //! How instructions are appended, and those that depend on types, operators and kinds alone.
 
-ghost use Rattle.std.specs.Prelude.{◌≡◌, ◌≤◌, ◌<◌, IfSome, OnOk, length};
+ghost use Rattle.std.specs.Prelude.{◌≡◌, ◌+◌, ◌≤◌, ◌<◌, ◌^◌, IfOk, IfSome, OnOk, length};
 ghost use Rattle.edi_unit.specs.Types.{shape_at};
 ghost use Rattle.edi_unit.specs.Fits.{ShapesFit, greatest_levels};
 ghost use Rattle.edi_target.specs.View.{instruction_of};
 ghost use Rattle.edi_scheme.specs.Pieces as pieces;
+ghost use Rattle.edi_scheme.specs.Pieces.{code_length};
 ghost use Rattle.edi_code.specs.Emits.{Emits, IsWhole, code_of_op, code_of_option};
 ghost use Rattle.edi_code.specs.InScope as in_scope;
 ghost use Rattle.edi_code.specs.InScope.{CalleeIsWritable};
@@ -23,6 +24,24 @@ pub(crate) fn put(alloc: Global, op: &Op<'_>, out: &mut Vec<u16>) -> Result<(), 
     ensures emits { OnOk result (Emits out.old.items out.new.items (code_of_op op.now)) }
 {
     write_op(alloc, out, op)
+}
+
+// Appends an instruction of so many words, which stands at `at`; gives the address behind it.
+pub(crate) fn put_at(
+    alloc: Global,
+    op: &Op<'_>,
+    at: u32,
+    long: u32,
+    out: &mut Vec<u16>,
+) -> Result<u32, AllocError>
+    requires allowed { IsWhole op.now }
+    requires long { long ≡ code_length (code_of_op op.now) }
+    requires room { at + long < 2 ^ 32 }
+    ensures emits { OnOk result (Emits out.old.items out.new.items (code_of_op op.now)) }
+    ensures behind { IfOk result (λ behind. behind ≡ at + long) }
+{
+    put(alloc, op, out)?;
+    Ok(at + long)
 }
 
 // Appends an instruction where there is one.

@@ -4,6 +4,7 @@
 
 mod expressions;
 mod instructions;
+mod jumps;
 mod lengths;
 mod pieces;
 mod program;

@@ -7,18 +7,20 @@ ghost use Rattle.edi_unit.specs.View.{act_of, acts_of, clause_of, clauses_of, ex
 ghost use Rattle.edi_unit.specs.Tree.{Clauses, assign, when_act, cobegin};
 ghost use Rattle.edi_unit.specs.Tree.{clause as plain_clause};
 ghost use Rattle.edi_scheme.specs.Pieces.{close_code};
+ghost use Rattle.edi_code.specs.Aimed.{Opens, target_of};
 ghost use Rattle.edi_code.specs.Emits.{Emits};
 ghost use Rattle.edi_code.specs.InScope as in_scope;
 ghost use Rattle.edi_code.specs.InScope.{ActIsWritable, ActsAreWritable, ClauseIsWritable, ClausesAreWritable};
 ghost use Rattle.edi_code.specs.Scope.{IsScope, blocks_in, clause_kind_of, is_end};
 
-use crate::expressions::{emit_call, emit_place, emit_value};
-use crate::instructions::{again, entry_of, put};
-use crate::lengths::{place_length, value_length};
+use crate::expressions::calls::emit_call;
+use crate::expressions::emit_value;
+use crate::expressions::places::emit_place;
+use crate::instructions::{again, entry_of, put, put_at};
+use crate::jumps::{aim, aim_all, open_jump, target_of};
 use crate::pieces::close_length;
 use crate::quiet::is_quiet;
 use crate::scope::{Closing, Scope};
-use crate::statement_lengths::{act_length, clause_length, clauses_length};
 use edi_target::Op;
 use edi_unit::{Act, Acts, Clause, Clauses, Numbers, Place, Value, place_type, type_words};
 use std::alloc::{AllocError, Global};
@@ -31,28 +33,27 @@ fn emit_act(
     scope: &Scope<'_>,
     at: u32,
     out: &mut Vec<u16>,
-) -> Result<(), AllocError>
+) -> Result<u32, AllocError>
     requires scope { IsScope scope.now }
     requires writable { ActIsWritable scope.now (act_of act.now) }
     requires room { at + in_scope.act_length scope.now (act_of act.now) < 2 ^ 32 }
     ensures emits { OnOk result (Emits out.old.items out.new.items (in_scope.act_code scope.now at (act_of act.now))) }
+    ensures behind { IfOk result (λ behind. behind ≡ at + in_scope.act_length scope.now (act_of act.now)) }
 {
     match act {
-        Act::Skip => Ok(()),
+        Act::Skip => Ok(at),
         Act::Assign(place, value) => emit_assign(alloc, place, value, scope, at, out),
         Act::Call(callee, arguments, line) => {
             emit_call(alloc, arguments, scope, at, *callee, *line, out)
         }
-        Act::Halt(line) => put(alloc, &Op::Halt { line: *line }, out),
-        Act::If(clauses) => {
-            let end = at + clauses_length(clauses, scope, Closing::Once);
-            emit_clauses(alloc, clauses, scope, at, Closing::Once, end, out)
-        }
-        Act::While(clauses) => {
-            emit_clauses(alloc, clauses, scope, at, Closing::Repeated, at, out)
-        }
+        Act::Halt(line) => put_at(alloc, &Op::Halt { line: *line }, at, 2, out),
+        Act::If(clauses) => emit_clauses(alloc, clauses, scope, at, Closing::Once, out),
+        Act::While(clauses) => emit_clauses(alloc, clauses, scope, at, Closing::Repeated, out),
         Act::When(clauses, line) => emit_await(alloc, clauses, scope, at, *line, out),
-        Act::Cobegin(branches, line) => emit_cobegin(alloc, branches, scope, *line, out),
+        Act::Cobegin(branches, line) => {
+            emit_cobegin(alloc, branches, scope, *line, out)?;
+            Ok(at + 3 + 3 * branches.len() as u32)
+        }
     }
 }
 
@@ -64,18 +65,19 @@ fn emit_assign(
     scope: &Scope<'_>,
     at: u32,
     out: &mut Vec<u16>,
-) -> Result<(), AllocError>
+) -> Result<u32, AllocError>
     requires scope { IsScope scope.now }
     requires writable { ActIsWritable scope.now (assign (place_of place.now) (expression_of value.now)) }
     requires room { at + in_scope.act_length scope.now (assign (place_of place.now) (expression_of value.now)) < 2 ^ 32 }
     ensures emits { OnOk result (Emits out.old.items out.new.items (in_scope.act_code scope.now at (assign (place_of place.now) (expression_of value.now)))) }
+    ensures behind { IfOk result (λ behind. behind ≡ at + in_scope.act_length scope.now (assign (place_of place.now) (expression_of value.now))) }
 {
     let of = place_type(scope.types, scope.blocks, scope.block, place);
     let count = type_words(scope.types, of) as u16;
-    let behind = at + place_length(place, scope);
-    emit_place(alloc, place, scope, at, out)?;
-    emit_value(alloc, value, scope, behind, out)?;
-    put(alloc, &Op::Store { count }, out)
+    let middle = emit_place(alloc, place, scope, at, out)?;
+    let behind = emit_value(alloc, value, scope, middle, out)?;
+    put(alloc, &Op::Store { count }, out)?;
+    Ok(behind + 2)
 }
 
 // The code of a `when`.
@@ -87,17 +89,18 @@ fn emit_await(
     at: u32,
     line: u16,
     out: &mut Vec<u16>,
-) -> Result<(), AllocError>
+) -> Result<u32, AllocError>
     requires scope { IsScope scope.now }
     requires writable { ClausesAreWritable scope.now (clauses_of clauses.now) }
     requires room { at + in_scope.act_length scope.now (when_act (clauses_of clauses.now) line) < 2 ^ 32 }
     ensures emits { OnOk result (Emits out.old.items out.new.items (in_scope.act_code scope.now at (when_act (clauses_of clauses.now) line))) }
+    ensures behind { IfOk result (λ behind. behind ≡ at + in_scope.act_length scope.now (when_act (clauses_of clauses.now) line)) }
 {
     let top = at + 2;
-    let end = top + clauses_length(clauses, scope, Closing::Released) + 3;
     put(alloc, &Op::When { line }, out)?;
-    emit_clauses(alloc, clauses, scope, top, Closing::Released, end, out)?;
-    put(alloc, &again(is_quiet(clauses), top), out)
+    let behind = emit_clauses(alloc, clauses, scope, top, Closing::Released, out)?;
+    put(alloc, &again(is_quiet(clauses), top), out)?;
+    Ok(behind + 3)
 }
 
 // The words of the branches of a `cobegin`: of each its need, and the address where it begins.
@@ -150,36 +153,38 @@ pub fn emit_acts(
     scope: &Scope<'_>,
     at: u32,
     out: &mut Vec<u16>,
-) -> Result<(), AllocError>
+) -> Result<u32, AllocError>
     requires scope { IsScope scope.now }
     requires writable { ActsAreWritable scope.now (acts_of acts.now) }
     requires room { at + in_scope.acts_length scope.now (acts_of acts.now) < 2 ^ 32 }
     ensures emits { OnOk result (Emits out.old.items out.new.items (in_scope.acts_code scope.now at (acts_of acts.now))) }
+    ensures behind { IfOk result (λ behind. behind ≡ at + in_scope.acts_length scope.now (acts_of acts.now)) }
 {
     let mut here = at;
     for act in acts.items() {
-        emit_act(alloc, act, scope, here, out)?;
-        here += act_length(act, scope);
+        here = emit_act(alloc, act, scope, here, out)?;
     }
-    Ok(())
+    Ok(here)
 }
 
-// The code of a clause; where its condition is false the program goes on at `next`.
+// The code of a clause; where its condition is false the program goes on behind the words, `more` of them, that close its list.
 #[cycle(statements)]
 fn emit_clause(
     alloc: Global,
     clause: &Clause,
     scope: &Scope<'_>,
     at: u32,
-    next: u32,
+    more: u32,
     out: &mut Vec<u16>,
-) -> Result<(), AllocError>
+) -> Result<u32, AllocError>
     requires scope { IsScope scope.now }
     requires writable { ClauseIsWritable scope.now (clause_of clause.now) }
     requires room { at + in_scope.clause_length scope.now (clause_of clause.now) < 2 ^ 32 }
-    ensures emits { OnOk result (Emits out.old.items out.new.items (in_scope.clause_code scope.now at next (clause_of clause.now))) }
+    ensures emits { OnOk result (at + in_scope.clause_length scope.now (clause_of clause.now) + more < 2 ^ 32 → Emits out.old.items out.new.items
+        (in_scope.clause_code scope.now at (at + in_scope.clause_length scope.now (clause_of clause.now) + more) (clause_of clause.now))) }
+    ensures behind { IfOk result (λ behind. behind ≡ at + in_scope.clause_length scope.now (clause_of clause.now)) }
 {
-    emit_guarded(alloc, &clause.body, &clause.condition, scope, at, next, out)
+    emit_guarded(alloc, &clause.body, &clause.condition, scope, at, more, out)
 }
 
 // The code of a condition and the list behind it.
@@ -190,48 +195,85 @@ fn emit_guarded(
     condition: &Value,
     scope: &Scope<'_>,
     at: u32,
-    next: u32,
+    more: u32,
     out: &mut Vec<u16>,
-) -> Result<(), AllocError>
+) -> Result<u32, AllocError>
     requires scope { IsScope scope.now }
     requires writable { ClauseIsWritable scope.now (plain_clause (expression_of condition.now) (acts_of body.now)) }
     requires room { at + in_scope.clause_length scope.now (plain_clause (expression_of condition.now) (acts_of body.now)) < 2 ^ 32 }
-    ensures emits { OnOk result (Emits out.old.items out.new.items
-        (in_scope.clause_code scope.now at next (plain_clause (expression_of condition.now) (acts_of body.now)))) }
+    ensures emits { OnOk result (at + in_scope.clause_length scope.now (plain_clause (expression_of condition.now) (acts_of body.now)) + more < 2 ^ 32
+        → Emits out.old.items out.new.items (in_scope.clause_code scope.now at
+        (at + in_scope.clause_length scope.now (plain_clause (expression_of condition.now) (acts_of body.now)) + more)
+        (plain_clause (expression_of condition.now) (acts_of body.now)))) }
+    ensures behind { IfOk result (λ behind. behind ≡ at + in_scope.clause_length scope.now (plain_clause (expression_of condition.now) (acts_of body.now))) }
 {
-    let list = at + value_length(condition, scope) + 3;
-    emit_value(alloc, condition, scope, at, out)?;
-    put(alloc, &Op::False { target: next }, out)?;
-    emit_acts(alloc, body, scope, list, out)
+    let list = emit_value(alloc, condition, scope, at, out)?;
+    let jump = out.len();
+    put(alloc, &Op::False { target: 0 }, out)?;
+    let behind = emit_acts(alloc, body, scope, list + 3, out)?;
+    aim(out, jump, behind.saturating_add(more));
+    Ok(behind)
 }
 
-// What closes the list of a clause; `last` tells whether no clause follows.
+// What closes the list of a clause of a statement whose clauses begin at `top`; `last` tells whether no clause follows. The target of
+// a jump behind the statement is left open, and its place put behind the others.
 fn emit_close(
     alloc: Global,
     closing: Closing,
-    target: u32,
+    top: u32,
     last: bool,
+    places: &mut Vec<usize>,
     out: &mut Vec<u16>,
 ) -> Result<(), AllocError>
-    ensures emits { OnOk result ((clauses : Clauses) → last ≡ is_end clauses →
-        Emits out.old.items out.new.items (close_code (clause_kind_of closing) target clauses)) }
+    ensures closes { OnOk result ((clauses : Clauses) → last ≡ is_end clauses →
+        Opens (clause_kind_of closing) top places.old.items places.new.items out.old.items out.new.items (λ target. close_code (clause_kind_of closing) target clauses)) }
 {
     match closing {
         Closing::Once => {
             if last {
                 return Ok(());
             }
-            put(alloc, &Op::Jump { target }, out)
+            open_jump(alloc, places, out)
         }
-        Closing::Repeated => put(alloc, &Op::Loop { target }, out),
+        Closing::Repeated => put(alloc, &Op::Loop { target: top }, out),
         Closing::Released => {
             put(alloc, &Op::Done, out)?;
-            put(alloc, &Op::Jump { target }, out)
+            open_jump(alloc, places, out)
         }
     }
 }
 
-// The code of clauses, whose lists close with `target`.
+// The code of clauses, from `at` on; the targets of jumps behind the statement are left open, at these places.
+#[cycle(statements)]
+fn emit_open_clauses(
+    alloc: Global,
+    clauses: &Clauses,
+    scope: &Scope<'_>,
+    at: u32,
+    closing: Closing,
+    places: &mut Vec<usize>,
+    out: &mut Vec<u16>,
+) -> Result<u32, AllocError>
+    requires scope { IsScope scope.now }
+    requires writable { ClausesAreWritable scope.now (clauses_of clauses.now) }
+    requires room { at + in_scope.clauses_length scope.now (clause_kind_of closing) (clauses_of clauses.now) < 2 ^ 32 }
+    ensures opens { OnOk result (Opens (clause_kind_of closing) at places.old.items places.new.items out.old.items out.new.items
+        (λ target. in_scope.clauses_code scope.now (clause_kind_of closing) target at (clauses_of clauses.now))) }
+    ensures behind { IfOk result (λ behind. behind ≡ at + in_scope.clauses_length scope.now (clause_kind_of closing) (clauses_of clauses.now)) }
+{
+    let mut behind = clauses.len();
+    let mut here = at;
+    for clause in clauses.items() {
+        behind -= 1;
+        let more = close_length(closing, behind == 0);
+        let ends = emit_clause(alloc, clause, scope, here, more, out)?;
+        emit_close(alloc, closing, at, behind == 0, places, out)?;
+        here = ends + more;
+    }
+    Ok(here)
+}
+
+// The code of clauses, from `at` on, whose lists close as those of their statement do.
 #[cycle(statements)]
 fn emit_clauses(
     alloc: Global,
@@ -239,23 +281,19 @@ fn emit_clauses(
     scope: &Scope<'_>,
     at: u32,
     closing: Closing,
-    target: u32,
     out: &mut Vec<u16>,
-) -> Result<(), AllocError>
+) -> Result<u32, AllocError>
     requires scope { IsScope scope.now }
     requires writable { ClausesAreWritable scope.now (clauses_of clauses.now) }
-    requires room { at + in_scope.clauses_length scope.now (clause_kind_of closing) (clauses_of clauses.now) < 2 ^ 32 }
-    ensures emits { OnOk result (Emits out.old.items out.new.items
-        (in_scope.clauses_code scope.now (clause_kind_of closing) target at (clauses_of clauses.now))) }
+    requires room { target_of (clause_kind_of closing) at (in_scope.clauses_length scope.now (clause_kind_of closing) (clauses_of clauses.now)) < 2 ^ 32 }
+    requires room_behind { at + in_scope.clauses_length scope.now (clause_kind_of closing) (clauses_of clauses.now) < 2 ^ 32 }
+    ensures emits { OnOk result (Emits out.old.items out.new.items (in_scope.clauses_code scope.now (clause_kind_of closing)
+        (target_of (clause_kind_of closing) at (in_scope.clauses_length scope.now (clause_kind_of closing) (clauses_of clauses.now)))
+        at (clauses_of clauses.now))) }
+    ensures behind { IfOk result (λ behind. behind ≡ at + in_scope.clauses_length scope.now (clause_kind_of closing) (clauses_of clauses.now)) }
 {
-    let mut behind = clauses.len();
-    let mut here = at;
-    for clause in clauses.items() {
-        behind -= 1;
-        let next = here + clause_length(clause, scope) + close_length(closing, behind == 0);
-        emit_clause(alloc, clause, scope, here, next, out)?;
-        emit_close(alloc, closing, target, behind == 0, out)?;
-        here = next;
-    }
-    Ok(())
+    let mut places: Vec<usize> = Vec::new(alloc);
+    let behind = emit_open_clauses(alloc, clauses, scope, at, closing, &mut places, out)?;
+    aim_all(out, &places, target_of(closing, at, behind));
+    Ok(behind)
 }

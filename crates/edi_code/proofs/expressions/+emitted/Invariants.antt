@@ -24,8 +24,8 @@ invariant-emit_members-loop-member l = record {
       ≡ l.fn.out.items ++ words_of_code (members_code l.scope l.at l.line (expressions (map expression_of l.member-items)));
 }
 
-abbrev pub invariant-emit_links-loop-link : goal.invariant-emit_links-loop-link
-invariant-emit_links-loop-link l = record {
+abbrev pub invariant-operators::emit_links-loop-link : goal.invariant-operators::emit_links-loop-link
+invariant-operators::emit_links-loop-link l = record {
   writable : LinksAreWritable l.scope l.of (links (map link_of (drop l.link-index l.link-items)));
   room : l.here + links_length l.scope l.of (links (map link_of (drop l.link-index l.link-items))) ≡ l.at + links_length l.scope l.left
       (links (map link_of l.link-items));
@@ -33,8 +33,8 @@ invariant-emit_links-loop-link l = record {
       ++ words_of_code (links_code l.scope l.at l.left (links (map link_of l.link-items)));
 }
 
-abbrev pub invariant-emit_parts-loop-part : goal.invariant-emit_parts-loop-part
-invariant-emit_parts-loop-part l = record {
+abbrev pub invariant-places::emit_parts-loop-part : goal.invariant-places::emit_parts-loop-part
+invariant-places::emit_parts-loop-part l = record {
   writable : PartsAreWritable l.scope (parts (map part_of (drop l.part-index l.part-items)));
   room : l.here + parts_length l.scope l.of (parts (map part_of (drop l.part-index l.part-items))) ≡ l.at + parts_length l.scope l.root
       (parts (map part_of l.part-items));
@@ -42,8 +42,8 @@ invariant-emit_parts-loop-part l = record {
       ++ words_of_code (parts_code l.scope l.at l.root (parts (map part_of l.part-items)));
 }
 
-abbrev pub invariant-emit_arguments-loop-argument : goal.invariant-emit_arguments-loop-argument
-invariant-emit_arguments-loop-argument l = record {
+abbrev pub invariant-calls::emit_arguments-loop-argument : goal.invariant-calls::emit_arguments-loop-argument
+invariant-calls::emit_arguments-loop-argument l = record {
   writable : ArgumentsAreWritable l.scope (arguments (map argument_of (drop l.argument-index l.argument-items)));
   room : l.here + arguments_length l.scope (arguments (map argument_of (drop l.argument-index l.argument-items))) ≡ l.at + arguments_length l.scope
       (arguments (map argument_of l.argument-items));

@@ -11,14 +11,14 @@ use Rattle.edi_code.proofs.statement_lengths.+statement_lengths.Goals as goal
 pub clauses_length-loop-clause-preserved : goal.clauses_length-loop-clause-preserved
 clauses_length-loop-clause-preserved t c =
     let s = c.args.scope.now in
-    let choice = clause_kind_of c.args.closing in
+    let kind = clause_kind_of c.args.closing in
     let items = c.items-clause-items.result.now in
     let i = c.loop-clause.clause-index in
     let part = drop_item items i c.clause-item.result c.loop-clause-test.true c.clause-item.is in
     let x = clause_of c.clause-item.result in
     let rest = clauses (map clause_of (drop (i + 1) items)) in
-    let words : c.loop-clause.words + clauses_length s choice (clause_then x rest) ≡ clauses_length s choice (clauses (map clause_of items)) = subst
-    (λ l. c.loop-clause.words + clauses_length s choice (clauses (map clause_of l)) ≡ clauses_length s choice (clauses (map clause_of items))) part
+    let words : c.loop-clause.words + clauses_length s kind (clause_then x rest) ≡ clauses_length s kind (clauses (map clause_of items)) = subst
+    (λ l. c.loop-clause.words + clauses_length s kind (clauses (map clause_of l)) ≡ clauses_length s kind (clauses (map clause_of items))) part
     c.loop-clause.invariant.words in
     let behind : c.loop-clause.behind - 1 + (i + 1) ≡ length items = omega (arith, c.loop-clause.invariant.behind, c.loop-clause-test.true) in
     let closes = c.close_length.ensures.exact 0 rest (end_is clause_of items i (c.loop-clause.behind - 1) behind) in
@@ -27,14 +27,14 @@ clauses_length-loop-clause-preserved t c =
 pub clauses_length-overflow_add-words : goal.clauses_length-overflow_add-words
 clauses_length-overflow_add-words t c =
     let s = c.args.scope.now in
-    let choice = clause_kind_of c.args.closing in
+    let kind = clause_kind_of c.args.closing in
     let items = c.items-clause-items.result.now in
     let i = c.loop-clause.clause-index in
     let part = drop_item items i c.clause-item.result c.loop-clause-test.true c.clause-item.is in
     let x = clause_of c.clause-item.result in
     let rest = clauses (map clause_of (drop (i + 1) items)) in
-    let words : c.loop-clause.words + clauses_length s choice (clause_then x rest) ≡ clauses_length s choice (clauses (map clause_of items)) = subst
-    (λ l. c.loop-clause.words + clauses_length s choice (clauses (map clause_of l)) ≡ clauses_length s choice (clauses (map clause_of items))) part
+    let words : c.loop-clause.words + clauses_length s kind (clause_then x rest) ≡ clauses_length s kind (clauses (map clause_of items)) = subst
+    (λ l. c.loop-clause.words + clauses_length s kind (clauses (map clause_of l)) ≡ clauses_length s kind (clauses (map clause_of items))) part
     c.loop-clause.invariant.words in
     let behind : c.loop-clause.behind - 1 + (i + 1) ≡ length items = omega (arith, c.loop-clause.invariant.behind, c.loop-clause-test.true) in
     let closes = c.close_length.ensures.exact 0 rest (end_is clause_of items i (c.loop-clause.behind - 1) behind) in
@@ -44,21 +44,21 @@ clauses_length-overflow_add-words t c =
       closes,
       c.clause_length.ensures.exact,
       c.requires.small,
-      ap (λ l. clauses_length s choice (clauses (map clause_of l)))
+      ap (λ l. clauses_length s kind (clauses (map clause_of l)))
           c.items-clause-items.ensures.exact,
     )
 
 pub clauses_length-overflow_add-words-in-loop-clause : goal.clauses_length-overflow_add-words-in-loop-clause
 clauses_length-overflow_add-words-in-loop-clause t c =
     let s = c.args.scope.now in
-    let choice = clause_kind_of c.args.closing in
+    let kind = clause_kind_of c.args.closing in
     let items = c.items-clause-items.result.now in
     let i = c.loop-clause.clause-index in
     let part = drop_item items i c.clause-item.result c.loop-clause-test.true c.clause-item.is in
     let x = clause_of c.clause-item.result in
     let rest = clauses (map clause_of (drop (i + 1) items)) in
-    let words : c.loop-clause.words + clauses_length s choice (clause_then x rest) ≡ clauses_length s choice (clauses (map clause_of items)) = subst
-    (λ l. c.loop-clause.words + clauses_length s choice (clauses (map clause_of l)) ≡ clauses_length s choice (clauses (map clause_of items))) part
+    let words : c.loop-clause.words + clauses_length s kind (clause_then x rest) ≡ clauses_length s kind (clauses (map clause_of items)) = subst
+    (λ l. c.loop-clause.words + clauses_length s kind (clauses (map clause_of l)) ≡ clauses_length s kind (clauses (map clause_of items))) part
     c.loop-clause.invariant.words in
     let behind : c.loop-clause.behind - 1 + (i + 1) ≡ length items = omega (arith, c.loop-clause.invariant.behind, c.loop-clause-test.true) in
     let closes = c.close_length.ensures.exact 0 rest (end_is clause_of items i (c.loop-clause.behind - 1) behind) in
@@ -68,6 +68,6 @@ clauses_length-overflow_add-words-in-loop-clause t c =
       closes,
       c.clause_length.ensures.exact,
       c.requires.small,
-      ap (λ l. clauses_length s choice (clauses (map clause_of l)))
+      ap (λ l. clauses_length s kind (clauses (map clause_of l)))
           c.items-clause-items.ensures.exact,
     )

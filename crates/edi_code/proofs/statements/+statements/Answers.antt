@@ -1,16 +1,20 @@
-use Rattle.std.proofs.Common.{rules, ◌≡◌, ◌+◌, ◌-◌, ◌<◌, ◌^◌, ◌++◌, ◌∷◌, length, drop, refl, ap, subst, ◌∙◌, arith}
+use Rattle.std.proofs.Common.{rules, ◌≡◌, ◌+◌, ◌-◌, ◌<◌, ◌^◌, ◌++◌, ◌∷◌, length, drop, refl, sym, ap, subst, ◌∙◌, arith}
 use Rattle.std.specs.Prelude.{map}
+use Rattle.std.proofs.lemmas.List.{drop_all}
 use Rattle.edi_unit.specs.Tree.{act_then, clause_then}
-use Rattle.edi_unit.specs.View.{acts, act_of, acts_of, clauses, clause_of, clauses_of}
+use Rattle.edi_unit.specs.Tree.{clause as plain_clause}
+use Rattle.edi_unit.specs.View.{acts, act_of, acts_of, clauses, clause_of, clauses_of, expression_of}
 use Rattle.edi_unit.proofs.Limits.{drop_item}
 use Rattle.edi_target.specs.Op as instruction
 use Rattle.edi_scheme.specs.Pieces.{words_of_code, again_code, released}
-use Rattle.edi_code.specs.Emits.{code_of_op}
 use Rattle.edi_code.specs.Scope.{clause_kind_of}
-use Rattle.edi_code.specs.InScope.{clause_length, act_length, acts_length, clauses_length, act_code, acts_code, clauses_code, ActsAreWritable}
-use Rattle.edi_code.specs.InScope.{ClausesAreWritable}
-use Rattle.edi_code.proofs.Emitting.{two, rest_words}
-use Rattle.edi_code.proofs.Clauses.{end_is, clause_words}
+use Rattle.edi_code.specs.InScope.{clause_length, act_length, acts_length, clauses_length, act_code, acts_code, clause_code, clauses_code}
+use Rattle.edi_code.specs.InScope.{ActsAreWritable, ClausesAreWritable}
+use Rattle.edi_code.specs.Aimed.{AreThere, IsTarget, Opens, aimed, aimed_at, target_of}
+use Rattle.edi_code.specs.Emits.{Emits}
+use Rattle.edi_code.proofs.Aiming.{IsOpen, grown, aims, open_at_first, open_at_last, opens_all, target_is}
+use Rattle.edi_code.proofs.Emitting.{both, emits_then, rest_behind}
+use Rattle.edi_code.proofs.Clauses.{end_is, clause_open}
 use Rattle.edi_code.proofs.statements.+statements.Goals as goal
 
 pub emit_acts-loop-act-preserved : goal.emit_acts-loop-act-preserved
@@ -29,94 +33,153 @@ emit_acts-loop-act-preserved t c =
     ++ words_of_code (acts_code s c.args.at (acts (map act_of items)))) part c.loop-act.invariant.words in
     record {
       writable = writable.1;
-      room = omega (arith, room, c.act_length-here.ensures.exact);
-      words = rest_words c.loop-act.out.items _ _ (act_code s here x) (λ h k. acts_code s h rest) here (act_length s x) c.act_length-here.result 0 0
-          c.act_length-here.ensures.exact refl c.in_ok-emit_act.ensures.emits words;
+      room = omega (arith, room, c.in_ok-here.ensures.behind);
+      words = rest_behind c.loop-act.out.items _ _ (act_code s here x) (λ h k. acts_code s h rest) here (act_length s x) c.in_ok-here.here 0 0
+          c.in_ok-here.ensures.behind refl c.in_ok-here.ensures.emits words;
     }
 
-pub emit_clauses-loop-clause-preserved : goal.emit_clauses-loop-clause-preserved
-emit_clauses-loop-clause-preserved t c =
+pub emit_open_clauses-loop-clause-init : goal.emit_open_clauses-loop-clause-init
+emit_open_clauses-loop-clause-init t c = record {
+  behind = search rules;
+  writable = search rules;
+  room = refl;
+  opens = open_at_first _ _ _ _ _;
+}
+
+pub emit_open_clauses-overflow_add-here : goal.emit_open_clauses-overflow_add-here
+emit_open_clauses-overflow_add-here t c =
     let s = c.args.scope.now in
-    let choice = clause_kind_of c.args.closing in
+    let kind = clause_kind_of c.args.closing in
     let items = c.items-clause-items.result.now in
     let i = c.loop-clause.clause-index in
     let here = c.loop-clause.here in
-    let target = c.args.target in
+    let part = drop_item items i c.clause-item.result c.loop-clause-test.true c.clause-item.is in
+    let x = clause_of c.clause-item.result in
+    let rest = clauses (map clause_of (drop (i + 1) items)) in
+    let room : here + clauses_length s kind (clause_then x rest) ≡ c.args.at + clauses_length s kind (clauses (map clause_of items)) = subst
+    (λ l. here + clauses_length s kind (clauses (map clause_of l)) ≡ c.args.at + clauses_length s kind (clauses (map clause_of items))) part
+    c.loop-clause.invariant.room in
+    let all = ap (λ l. clauses_length s kind (clauses (map clause_of l))) c.items-clause-items.ensures.exact in
+    let behind : c.loop-clause.behind - 1 + (i + 1) ≡ length items = omega (arith, c.loop-clause.invariant.behind, c.loop-clause-test.true) in
+    let last = end_is clause_of items i (c.loop-clause.behind - 1) behind in
+    let closes = c.close_length-more.ensures.exact 0 rest last in
+    omega (arith, room, all, closes, c.in_ok-ends.ensures.behind, c.requires.room)
+
+pub emit_open_clauses-loop-clause-preserved : goal.emit_open_clauses-loop-clause-preserved
+emit_open_clauses-loop-clause-preserved t c =
+    let s = c.args.scope.now in
+    let kind = clause_kind_of c.args.closing in
+    let items = c.items-clause-items.result.now in
+    let i = c.loop-clause.clause-index in
+    let here = c.loop-clause.here in
     let part = drop_item items i c.clause-item.result c.loop-clause-test.true c.clause-item.is in
     let x = clause_of c.clause-item.result in
     let rest = clauses (map clause_of (drop (i + 1) items)) in
     let writable : ClausesAreWritable s (clause_then x rest) = subst (λ l. ClausesAreWritable s (clauses (map clause_of l))) part
     c.loop-clause.invariant.writable in
-    let room : here + clauses_length s choice (clause_then x rest) ≡ c.args.at + clauses_length s choice (clauses (map clause_of items)) = subst
-    (λ l. here + clauses_length s choice (clauses (map clause_of l)) ≡ c.args.at + clauses_length s choice (clauses (map clause_of items))) part
+    let room : here + clauses_length s kind (clause_then x rest) ≡ c.args.at + clauses_length s kind (clauses (map clause_of items)) = subst
+    (λ l. here + clauses_length s kind (clauses (map clause_of l)) ≡ c.args.at + clauses_length s kind (clauses (map clause_of items))) part
     c.loop-clause.invariant.room in
-    let words = subst (λ l. c.loop-clause.out.items ++ words_of_code (clauses_code s choice target here (clauses (map clause_of l))) ≡ c.args.out.now.items
-    ++ words_of_code (clauses_code s choice target c.args.at (clauses (map clause_of items)))) part c.loop-clause.invariant.words in
+    let opens = subst (λ l. IsOpen kind c.args.at c.args.places.now.items c.loop-clause.places.items c.args.out.now.items c.loop-clause.out.items
+    (λ k. clauses_code s kind k here (clauses (map clause_of l))) (λ k. clauses_code s kind k c.args.at (clauses (map clause_of items)))) part
+    c.loop-clause.invariant.opens in
     let behind : c.loop-clause.behind - 1 + (i + 1) ≡ length items = omega (arith, c.loop-clause.invariant.behind, c.loop-clause-test.true) in
     let last = end_is clause_of items i (c.loop-clause.behind - 1) behind in
-    let closes = c.close_length.ensures.exact 0 rest last in
+    let closes = c.close_length-more.ensures.exact 0 rest last in
+    let all = ap (λ l. clauses_length s kind (clauses (map clause_of l))) c.items-clause-items.ensures.exact in
+    let fits : here + clause_length s x + c.close_length-more.result < 2 ^ 32 = omega (arith, room, all, closes, c.requires.room) in
+    let emits = subst (λ k. Emits c.loop-clause.out.items c.emit_clause.new.out.items (clause_code s here (k + c.close_length-more.result) x))
+    (sym c.in_ok-ends.ensures.behind) (c.in_ok-ends.ensures.emits fits) in
     record {
       behind = behind;
       writable = writable.1;
-      room = omega (arith, room, c.clause_length.ensures.exact, closes);
-      words = clause_words s c.loop-clause.out.items _ _ _ choice target here _ x rest
-          (ap (λ k. here + k + c.close_length.result) c.clause_length.ensures.exact ∙ ap (λ k. here + clause_length s x + k) closes)
-          c.in_ok-emit_clause.ensures.emits (c.in_ok-emit_close.ensures.emits rest last) words;
+      room = omega (arith, room, c.in_ok-ends.ensures.behind, closes);
+      opens = clause_open s kind c.args.at _ _ _ _ _ _ _ here _ x rest _ (omega (arith, c.in_ok-ends.ensures.behind, closes)) emits
+          (c.in_ok-emit_close.ensures.closes rest last) opens;
     }
-
-pub emit_guarded-returns : goal.emit_guarded-returns
-emit_guarded-returns t c =
-    record {
-      emits =
-          two c.emit_acts.result _ _ _ _ _ _ _ c.in_ok-emit_value.ensures.emits
-          (two c.emit_acts.result _ _ _ _ _ _ _ c.in_ok-put.ensures.emits c.emit_acts.ensures.emits refl refl)
-          (ap (λ k. instruction.false_ c.args.next ∷ acts_code c.args.scope.now (c.args.at + k + 3) (acts_of c.args.body.now)) c.value_length.ensures.exact)
-          refl;
-    }
-
-pub emit_await-returns : goal.emit_await-returns
-emit_await-returns t c =
-    let s = c.args.scope.now in
-    let clauses_in = clauses_of c.args.clauses.now in
-    let quiet = c.is_quiet.ensures.exact in
-    record {
-      emits =
-          two c.put-2.result _ _ _ _ _ _ _ c.in_ok-put.ensures.emits
-          (two c.put-2.result _ _ _ _ _ _ _ c.in_ok-emit_clauses.ensures.emits c.put-2.ensures.emits refl refl)
-          (ap (λ k. clauses_code s released (c.args.at + 2 + k + 3) (c.args.at + 2) clauses_in ++ code_of_op c.again.result) c.clauses_length.ensures.exact
-          ∙ ap (λ l. clauses_code s released (c.args.at + 2 + clauses_length s released clauses_in + 3) (c.args.at + 2) clauses_in ++ l)
-          (c.again.ensures.exact ∙ ap (λ q. again_code q (c.args.at + 2)) quiet)) refl;
-    }
-
-pub emit_clauses-overflow_add-next-in-loop-clause : goal.emit_clauses-overflow_add-next-in-loop-clause
-emit_clauses-overflow_add-next-in-loop-clause t c =
-    let s = c.args.scope.now in
-    let choice = clause_kind_of c.args.closing in
-    let items = c.items-clause-items.result.now in
-    let i = c.loop-clause.clause-index in
-    let here = c.loop-clause.here in
-    let part = drop_item items i c.clause-item.result c.loop-clause-test.true c.clause-item.is in
-    let x = clause_of c.clause-item.result in
-    let rest = clauses (map clause_of (drop (i + 1) items)) in
-    let room : here + clauses_length s choice (clause_then x rest) ≡ c.args.at + clauses_length s choice (clauses (map clause_of items)) = subst
-    (λ l. here + clauses_length s choice (clauses (map clause_of l)) ≡ c.args.at + clauses_length s choice (clauses (map clause_of items))) part
-    c.loop-clause.invariant.room in
-    let behind : c.loop-clause.behind - 1 + (i + 1) ≡ length items = omega (arith, c.loop-clause.invariant.behind, c.loop-clause-test.true) in
-    let closes = c.close_length.ensures.exact 0 rest (end_is clause_of items i (c.loop-clause.behind - 1) behind) in
-    omega (
-      arith,
-      room,
-      closes,
-      c.clause_length.ensures.exact,
-      c.requires.room,
-      ap (λ l. clauses_length s choice (clauses (map clause_of l)))
-          c.items-clause-items.ensures.exact,
-    )
 
 pub emit_guarded-emit_acts-requires : goal.emit_guarded-emit_acts-requires
 emit_guarded-emit_acts-requires t c =
     let s = c.args.scope.now in
     let writable : ActsAreWritable s (acts_of c.args.body.now) = c.requires.writable.1 in
-    let room : c.args.at + c.value_length.result + 3 + acts_length s (acts_of c.args.body.now) < 2 ^ 32 = omega
-    (arith, c.requires.room, c.value_length.ensures.exact) in
+    let room : c.in_ok-list.list + 3 + acts_length s (acts_of c.args.body.now) < 2 ^ 32 = omega
+    (arith, c.requires.room, c.in_ok-list.ensures.behind) in
     search (rules, writable, room)
+
+pub emit_guarded-aim-requires : goal.emit_guarded-aim-requires
+emit_guarded-aim-requires t c =
+    let put = grown _ _ _ c.in_ok-put.ensures.emits in
+    let acts = grown _ _ _ c.in_ok-behind.ensures.emits in
+    let place = c.len-jump.ensures ∙ c.emit_value.new.out.ok.0 in
+    record { there = omega (arith, put, acts, place) }
+
+pub emit_guarded-returns-clause-emits : goal.emit_guarded-returns-clause-emits
+emit_guarded-returns-clause-emits t c =
+    let s = c.args.scope.now in
+    let e = expression_of c.args.condition.now in
+    let body = acts_of c.args.body.now in
+    λ fits.
+    let target : c.saturating_add.result ≡ c.args.at + clause_length s (plain_clause e body) + c.args.more = omega
+    (arith, c.in_ok-list.ensures.behind, c.in_ok-behind.ensures.behind, c.saturating_add.ensures, fits) in
+    let place = c.len-jump.ensures ∙ c.emit_value.new.out.ok.0 in
+    let set = c.aim.ensures.exact ∙ ap (λ k. aimed_at c.saturating_add.result k c.emit_acts.new.out.items) place in
+    let list = aims _ _ _ _ instruction.false_ 29 _ _ (λ k. refl) c.in_ok-put.ensures.emits c.in_ok-behind.ensures.emits set in
+    both _ _ _ _ _ _ _ c.in_ok-list.ensures.emits list
+    (ap (λ k. instruction.false_ k ∷ acts_code s (c.in_ok-list.list + 3) body) target
+    ∙ ap (λ k. instruction.false_ (c.args.at + clause_length s (plain_clause e body) + c.args.more) ∷ acts_code s (k + 3) body) c.in_ok-list.ensures.behind) refl
+
+pub emit_await-returns-clause-emits : goal.emit_await-returns-clause-emits
+emit_await-returns-clause-emits t c =
+    let s = c.args.scope.now in
+    let clauses_in = clauses_of c.args.clauses.now in
+    both _ _ _ _ _ _ _ c.in_ok-put.ensures.emits (emits_then _ _ _ _ _ c.in_ok-behind.ensures.emits c.in_ok-put-2.ensures.emits)
+    (ap (λ l. clauses_code s released (c.args.at + 2 + clauses_length s released clauses_in + 3) (c.args.at + 2) clauses_in ++ l)
+    (c.again.ensures.exact ∙ ap (λ q. again_code q (c.args.at + 2)) c.is_quiet.ensures.exact)) refl
+
+pub emit_open_clauses-returns-clause-opens : goal.emit_open_clauses-returns-clause-opens
+emit_open_clauses-returns-clause-opens t c =
+    let s = c.args.scope.now in
+    let kind = clause_kind_of c.args.closing in
+    let items = c.items-clause-items.result.now in
+    let none = drop_all c.loop-clause.clause-index items (omega (arith, c.loop-clause-test.false)) in
+    let opens = open_at_last kind c.args.at c.args.places.now.items c.loop-clause.places.items c.args.out.now.items c.loop-clause.out.items
+    (λ k. clauses_code s kind k c.args.at (clauses (map clause_of items)))
+    (subst (λ l. IsOpen kind c.args.at c.args.places.now.items c.loop-clause.places.items c.args.out.now.items c.loop-clause.out.items
+    (λ k. clauses_code s kind k c.loop-clause.here (clauses (map clause_of l))) (λ k. clauses_code s kind k c.args.at (clauses (map clause_of items)))) none
+    c.loop-clause.invariant.opens) in
+    subst (λ l. Opens kind c.args.at c.args.places.now.items c.loop-clause.places.items c.args.out.now.items c.loop-clause.out.items
+    (λ k. clauses_code s kind k c.args.at (clauses (map clause_of l)))) c.items-clause-items.ensures.exact opens
+
+pub emit_clauses-aim_all-requires : goal.emit_clauses-aim_all-requires
+emit_clauses-aim_all-requires t c =
+    let s = c.args.scope.now in
+    let kind = clause_kind_of c.args.closing in
+    let opens = subst (λ l. Opens kind c.args.at l c.emit_open_clauses.new.places.items c.args.out.now.items c.emit_open_clauses.new.out.items
+    (λ k. clauses_code s kind k c.args.at (clauses_of c.args.clauses.now))) c.new-places.ensures.items c.in_ok-behind.ensures.opens in
+    record { there = subst (λ l. AreThere l (length c.emit_open_clauses.new.out.items)) (sym c.deref.ensures.value) (opens.there tt) }
+
+pub emit_clauses-target_of-requires : goal.emit_clauses-target_of-requires
+emit_clauses-target_of-requires t c =
+    let s = c.args.scope.now in
+    let kind = clause_kind_of c.args.closing in
+    let long : c.in_ok-behind.behind - c.args.at ≡ clauses_length s kind (clauses_of c.args.clauses.now) = omega (arith, c.in_ok-behind.ensures.behind) in
+    record {
+      begins = omega (arith, c.in_ok-behind.ensures.behind);
+      room = subst (λ k. target_of kind c.args.at k < 2 ^ 32) (sym long) c.requires.room;
+    }
+
+pub emit_clauses-returns-clause-emits : goal.emit_clauses-returns-clause-emits
+emit_clauses-returns-clause-emits t c =
+    let s = c.args.scope.now in
+    let kind = clause_kind_of c.args.closing in
+    let all = clauses_of c.args.clauses.now in
+    let long : c.in_ok-behind.behind - c.args.at ≡ clauses_length s kind all = omega (arith, c.in_ok-behind.ensures.behind) in
+    let target : c.target_of.result ≡ target_of kind c.args.at (clauses_length s kind all) = c.target_of.ensures.exact
+    ∙ ap (target_of kind c.args.at) long in
+    let opens = subst (λ l. Opens kind c.args.at l c.emit_open_clauses.new.places.items c.args.out.now.items c.emit_open_clauses.new.out.items
+    (λ k. clauses_code s kind k c.args.at all)) c.new-places.ensures.items c.in_ok-behind.ensures.opens in
+    subst (λ k. Emits c.args.out.now.items c.aim_all.new.out.items (clauses_code s kind k c.args.at all)) target
+    (opens_all kind c.args.at c.target_of.result c.emit_open_clauses.new.places.items c.args.out.now.items c.emit_open_clauses.new.out.items
+    c.aim_all.new.out.items (λ k. clauses_code s kind k c.args.at all)
+    (subst (IsTarget kind c.args.at) (sym target) (target_is kind c.args.at (clauses_length s kind all))) opens
+    (c.aim_all.ensures.exact ∙ ap (λ l. aimed c.target_of.result l c.emit_open_clauses.new.out.items) c.deref.ensures.value))

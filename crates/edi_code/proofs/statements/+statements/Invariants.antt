@@ -4,6 +4,7 @@ use Rattle.edi_unit.specs.View.{acts, act_of, clauses, clause_of}
 use Rattle.edi_scheme.specs.Pieces.{words_of_code}
 use Rattle.edi_code.specs.InScope.{acts_length, clauses_length, acts_code, clauses_code, ActsAreWritable, ClausesAreWritable}
 use Rattle.edi_code.specs.Scope.{clause_kind_of}
+use Rattle.edi_code.proofs.Aiming.{IsOpen}
 use Rattle.edi_code.proofs.statements.+statements.Given as goal
 
 abbrev pub invariant-emit_acts-loop-act : goal.invariant-emit_acts-loop-act
@@ -14,13 +15,13 @@ invariant-emit_acts-loop-act l = record {
       ++ words_of_code (acts_code l.scope l.at (acts (map act_of l.act-items)));
 }
 
-abbrev pub invariant-emit_clauses-loop-clause : goal.invariant-emit_clauses-loop-clause
-invariant-emit_clauses-loop-clause l = record {
+abbrev pub invariant-emit_open_clauses-loop-clause : goal.invariant-emit_open_clauses-loop-clause
+invariant-emit_open_clauses-loop-clause l = record {
   behind : l.behind + l.clause-index ≡ length l.clause-items;
   writable : ClausesAreWritable l.scope (clauses (map clause_of (drop l.clause-index l.clause-items)));
   room : l.here + clauses_length l.scope (clause_kind_of l.closing) (clauses (map clause_of (drop l.clause-index l.clause-items))) ≡ l.at + clauses_length
       l.scope (clause_kind_of l.closing) (clauses (map clause_of l.clause-items));
-  words : l.out.items ++ words_of_code (clauses_code l.scope (clause_kind_of l.closing) l.target l.here
-      (clauses (map clause_of (drop l.clause-index l.clause-items)))) ≡ l.fn.out.items
-      ++ words_of_code (clauses_code l.scope (clause_kind_of l.closing) l.target l.at (clauses (map clause_of l.clause-items)));
+  opens : IsOpen (clause_kind_of l.closing) l.at l.fn.places.items l.places.items l.fn.out.items l.out.items
+      (λ t. clauses_code l.scope (clause_kind_of l.closing) t l.here (clauses (map clause_of (drop l.clause-index l.clause-items))))
+      (λ t. clauses_code l.scope (clause_kind_of l.closing) t l.at (clauses (map clause_of l.clause-items)));
 }

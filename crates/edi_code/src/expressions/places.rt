@@ -1,0 +1,115 @@
+//! The code of variables: of their addresses, and of their values.
+#![tactic(auto, using(crate::proofs::Emitting::words_append))]
+
+ghost use Rattle.std.specs.Prelude.{◌≡◌, ◌+◌, ◌<◌, ◌^◌, IfOk, OnOk};
+ghost use Rattle.edi_unit.specs.View.{part_of, parts_of, place_of};
+ghost use Rattle.edi_unit.specs.Tree.{load};
+ghost use Rattle.edi_code.specs.Emits.{Emits};
+ghost use Rattle.edi_code.specs.InScope as in_scope;
+ghost use Rattle.edi_code.specs.InScope.{ExpressionIsWritable, PartIsWritable, PartsAreWritable, PlaceIsWritable};
+ghost use Rattle.edi_code.specs.Scope.{IsScope};
+
+use crate::expressions::emit_operand;
+use crate::instructions::{element, emit_variable, put, put_at};
+use crate::pieces::{element_length, field_offset, slot_type, variable_length};
+use crate::scope::Scope;
+use edi_target::Op;
+use edi_unit::{Part, Parts, Place, part_type, place_type, slot, type_words};
+use std::alloc::{AllocError, Global};
+
+// The code of the value of a variable.
+#[cycle(emitted)]
+pub(crate) fn emit_load(
+    alloc: Global,
+    place: &Place,
+    scope: &Scope<'_>,
+    at: u32,
+    out: &mut Vec<u16>,
+) -> Result<u32, AllocError>
+    requires scope { IsScope scope.now }
+    requires writable { ExpressionIsWritable scope.now (load (place_of place.now)) }
+    requires room { at + in_scope.expression_length scope.now (load (place_of place.now)) < 2 ^ 32 }
+    ensures emits { OnOk result (Emits out.old.items out.new.items (in_scope.expression_code scope.now at (load (place_of place.now)))) }
+    ensures behind { IfOk result (λ behind. behind ≡ at + in_scope.expression_length scope.now (load (place_of place.now))) }
+{
+    let of = place_type(scope.types, scope.blocks, scope.block, place);
+    let count = type_words(scope.types, of) as u16;
+    let behind = emit_place(alloc, place, scope, at, out)?;
+    put(alloc, &Op::Load { count }, out)?;
+    Ok(behind + 2)
+}
+
+// The code of a place, which leaves its address.
+#[cycle(emitted)]
+pub(crate) fn emit_place(
+    alloc: Global,
+    place: &Place,
+    scope: &Scope<'_>,
+    at: u32,
+    out: &mut Vec<u16>,
+) -> Result<u32, AllocError>
+    requires scope { IsScope scope.now }
+    requires writable { PlaceIsWritable scope.now (place_of place.now) }
+    requires room { at + in_scope.place_length scope.now (place_of place.now) < 2 ^ 32 }
+    ensures emits { OnOk result (Emits out.old.items out.new.items (in_scope.place_code scope.now at (place_of place.now))) }
+    ensures behind { IfOk result (λ behind. behind ≡ at + in_scope.place_length scope.now (place_of place.now)) }
+{
+    let variable = slot(scope.blocks, scope.block, place.levels, place.variable);
+    emit_variable(alloc, scope, place.levels, place.variable, variable, out)?;
+    let behind = at + variable_length(variable);
+    emit_parts(alloc, &place.parts, scope, behind, slot_type(variable), out)
+}
+
+// The code of the steps to a part of a variable of type `root`.
+#[cycle(emitted)]
+fn emit_parts(
+    alloc: Global,
+    parts: &Parts,
+    scope: &Scope<'_>,
+    at: u32,
+    root: u32,
+    out: &mut Vec<u16>,
+) -> Result<u32, AllocError>
+    requires scope { IsScope scope.now }
+    requires writable { PartsAreWritable scope.now (parts_of parts.now) }
+    requires room { at + in_scope.parts_length scope.now root (parts_of parts.now) < 2 ^ 32 }
+    ensures emits { OnOk result (Emits out.old.items out.new.items (in_scope.parts_code scope.now at root (parts_of parts.now))) }
+    ensures behind { IfOk result (λ behind. behind ≡ at + in_scope.parts_length scope.now root (parts_of parts.now)) }
+{
+    let mut of = root;
+    let mut here = at;
+    for part in parts.items() {
+        here = emit_part(alloc, part, scope, here, of, out)?;
+        of = part_type(scope.types, of, part);
+    }
+    Ok(here)
+}
+
+// The code of one step, from a variable of type `of`.
+#[cycle(emitted)]
+fn emit_part(
+    alloc: Global,
+    part: &Part,
+    scope: &Scope<'_>,
+    at: u32,
+    of: u32,
+    out: &mut Vec<u16>,
+) -> Result<u32, AllocError>
+    requires scope { IsScope scope.now }
+    requires writable { PartIsWritable scope.now (part_of part.now) }
+    requires room { at + in_scope.part_length scope.now of (part_of part.now) < 2 ^ 32 }
+    ensures emits { OnOk result (Emits out.old.items out.new.items (in_scope.part_code scope.now at of (part_of part.now))) }
+    ensures behind { IfOk result (λ behind. behind ≡ at + in_scope.part_length scope.now of (part_of part.now)) }
+{
+    match part {
+        Part::Field(field) => {
+            let offset = field_offset(scope.types, of, *field);
+            put_at(alloc, &Op::Field { offset }, at, 2, out)
+        }
+        Part::Index(index, line) => {
+            let indexes = element(scope.types, of, *line);
+            let long = element_length(scope.types, of);
+            emit_operand(alloc, index, scope, at, indexes, long, out)
+        }
+    }
+}
