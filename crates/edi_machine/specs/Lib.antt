@@ -1,5 +1,4 @@
 pub mod Activities
-pub mod Groups
 pub mod Numbers
 pub mod Starts
 pub mod Steps

@@ -1,6 +1,6 @@
 //! The common instructions, each read, tested and executed at once by its number.
 
-ghost use Rattle.std.specs.Prelude.{◌≡◌, ◌+◌, ◌<◌, ◌≤◌, ◌^◌, ◌∷◌, None, length, drop};
+ghost use Rattle.std.specs.Prelude.{◌≡◌, ◌+◌, ◌<◌, ◌≤◌, ◌^◌, ◌∷◌, None, length};
 ghost use Rattle.edi_target.specs.Effect.{Local};
 ghost use Rattle.edi_machine.specs.Activities.{IsOrdered, local_of};
 ghost use Rattle.edi_machine.specs.Numbers.{effect_by};
@@ -13,14 +13,13 @@ use crate::constants::{check, constant, element_address, field_address, frame_ad
 use crate::ends::StepEnd;
 use crate::instruction::code_address;
 use crate::procedures::{call, leave_block};
-use crate::rare::execute_any;
+use crate::rare::execute_rare;
 use crate::variables::{keep, load};
 use crate::{jumps, processes};
 use edi_calls::Calls;
 use edi_store::Store;
 
-// Executes the instruction of this number and these operands, which stands at the activity's `pc`: a common one here, and each other
-// in one function for all of them.
+// Executes the instruction of this number and these operands: a common one here, and each other in one function for all of them.
 #[tactic(auto, using(crate::proofs::Commonly::asks_nothing))]
 #[inline(always)]
 fn execute_by<C: Calls>(
@@ -34,7 +33,6 @@ fn execute_by<C: Calls>(
     calls: &mut C,
 ) -> StepEnd
     requires size { length words.now < 2 ^ 32 }
-    requires here { drop activity.old.pc words.now ≡ number ∷ operands.now }
     requires room { activity.old.pc + 1 + length operands.now < 2 ^ 32 }
     requires working { C.failed calls.old None }
     requires live { live ≤ 32 }
@@ -208,7 +206,11 @@ fn execute_by<C: Calls>(
             [high, low, ..] => processes::try_again(store, activity, true, code_address(high, low)),
             _ => StepEnd::Bad(at)
         },
-        _ => execute_any(store, activity, words, live, first, calls),
+        2 | 3 | 22 | 23 | 24 | 25 | 26 | 35 | 36 | 38 | 40 | 42 | 43 => {
+            execute_rare(store, activity, words, live, first, number, operands, calls)
+        }
+        0 | 33 => StepEnd::Bad(at),
+        _ => StepEnd::Bad(at),
     }
 }
 
@@ -224,7 +226,6 @@ fn execute_front<C: Calls>(
     calls: &mut C,
 ) -> StepEnd
     requires size { length words.now < 2 ^ 32 }
-    requires here { drop activity.old.pc words.now ≡ front.now }
     requires room { activity.old.pc + length front.now < 2 ^ 32 }
     requires working { C.failed calls.old None }
     requires live { live ≤ 32 }

@@ -8,7 +8,6 @@ mod comparisons;
 mod constants;
 mod ends;
 mod frame;
-mod groups;
 mod instruction;
 mod jumps;
 mod procedures;

@@ -1,84 +1,149 @@
-//! An instruction by what was read of it, whichever it is.
+//! The instructions that are not common, each read, tested and executed by its number.
 
-ghost use Rattle.std.specs.Prelude.{◌≡◌, ◌<◌, ◌≤◌, ◌^◌, None, true, length, IsTrue};
-ghost use Rattle.edi_calls.specs.declared.ends.Outside.{Outside};
+ghost use Rattle.std.specs.Prelude.{◌≡◌, ◌+◌, ◌<◌, ◌≤◌, ◌^◌, ◌∷◌, None, true, length};
+ghost use Rattle.edi_target.specs.Effect.{Local};
 ghost use Rattle.edi_target.specs.Fetch.{fetch};
-ghost use Rattle.edi_target.specs.Op.{is_allowed};
+ghost use Rattle.edi_target.specs.Op as op;
 ghost use Rattle.edi_target.specs.Perform.{perform};
-ghost use Rattle.edi_target.specs.View.{instruction_of, is_whole};
 ghost use Rattle.edi_machine.specs.Activities.{IsOrdered, local_of};
-ghost use Rattle.edi_machine.specs.Steps.{Blames, Keeps, Stepped, Takes, effect_of};
+ghost use Rattle.edi_machine.specs.Numbers.{effect_by, is_rare};
+ghost use Rattle.edi_machine.specs.Steps.{Stepped};
 
 use crate::activity::Activity;
+use crate::constants::{descriptor, text, zeros};
 use crate::ends::StepEnd;
-use crate::groups::data_instruction;
-use crate::instruction::instruction_at;
+use crate::instruction::code_address;
 use crate::system::call_described;
-use edi_calls::Calls;
+use crate::{processes, sets};
+use edi_calls::{Calls, Cause};
 use edi_store::Store;
 use edi_target::Op;
 
-// Executes an instruction, behind which the next one stands at `next`.
+// CALLP.
 #[inline(always)]
-fn execute<C: Calls>(
+fn execute_described<C: Calls>(
     store: &mut Store,
     activity: &mut Activity,
     words: &[u16],
-    live: u32,
-    first: bool,
-    op: Op<'_>,
+    level: u16,
+    offset: u16,
+    line: u16,
     next: u32,
     calls: &mut C,
 ) -> StepEnd
     requires size { length words.now < 2 ^ 32 }
     requires working { C.failed calls.old None }
-    requires live { live ≤ 32 }
     requires ordered { IsOrdered activity.old }
-    requires allowed { is_allowed (instruction_of op) ≡ true }
-    requires whole { IsTrue (is_whole op) }
-    ensures exact { let l = local_of store.old activity.old in
-        Takes (perform (fetch words.now) live first (instruction_of op.entry) next l) result l (local_of store.new activity.new) (C.state calls.old)
-        (C.state calls.new) }
-    ensures keeps { let l = local_of store.old activity.old in
-        Keeps (perform (fetch words.now) live first (instruction_of op.entry) next l) calls.old calls.new }
-    ensures later { (outside : Outside) → C.faults calls.old outside ≤ C.faults calls.new outside }
-    ensures blame { Blames result (C.failed calls.new) (C.faults calls.old) (C.faults calls.new) }
-    ensures references { C.references calls.new ≡ C.references calls.old }
-    ensures leads { (start : C) → C.leads start calls.old → C.leads start calls.new }
+    ensures all { let l = local_of store.old activity.old in
+        Stepped C.state C.failed C.faults C.references C.leads (perform (fetch words.now) 0 true (op.call_p level offset line) next l) result l
+        (local_of store.new activity.new) calls.old calls.new }
     ensures ordered { IsOrdered activity.new }
 {
-    match op {
-        Op::CallP {
-            level,
-            offset,
-            line,
-        } => call_described(store, activity, words, level, offset, line, next, calls),
-        _ => data_instruction(store, activity, words, live, first, op, next),
-    }
+    call_described(store, activity, words, level, offset, line, next, calls)
 }
 
-/// Executes the instruction at the activity's `pc`, whichever it is. It is never inlined, so that the path of the common instructions
-/// has one place in memory for the answers of all others.
+/// Executes the instruction of this number and these operands. It is never inlined, so that the path of the common instructions has
+/// one place in memory for the answers of all these.
+#[tactic(auto, using(crate::proofs::Commonly::asks_nothing))]
 #[inline(never)]
-pub fn execute_any<C: Calls>(
+pub fn execute_rare<C: Calls>(
     store: &mut Store,
     activity: &mut Activity,
     words: &[u16],
     live: u32,
     first: bool,
+    number: u16,
+    operands: &[u16],
     calls: &mut C,
 ) -> StepEnd
     requires size { length words.now < 2 ^ 32 }
+    requires rare { is_rare number ≡ true }
+    requires room { activity.old.pc + 1 + length operands.now < 2 ^ 32 }
     requires working { C.failed calls.old None }
     requires live { live ≤ 32 }
     requires ordered { IsOrdered activity.old }
     ensures all { let l = local_of store.old activity.old in
-        Stepped C.state C.failed C.faults C.references C.leads (effect_of words.now live first l) result l (local_of store.new activity.new)
-        calls.old calls.new }
+        Stepped C.state C.failed C.faults C.references C.leads (effect_by words.now live first (number ∷ operands.now) l) result l
+        (local_of store.new activity.new) calls.old calls.new }
     ensures ordered { IsOrdered activity.new }
 {
-    let Some((op, next)) = instruction_at(words, activity.pc) else {
-        return StepEnd::Bad(activity.pc);
-    };
-    execute(store, activity, words, live, first, op, next, calls)
+    let at = activity.pc;
+    match number {
+        2 => match *operands {
+            [count, ref rest @ ..] => match rest.get(..usize::from(count)) {
+                Some(words) => if count >= 1 {
+                    text(store, activity, words, at + (u32::from(count) + 2))
+                } else {
+                    StepEnd::Bad(at)
+                },
+                None => StepEnd::Bad(at)
+            },
+            _ => StepEnd::Bad(at)
+        },
+        3 => match *operands {
+            [count, ..] => if count >= 1 {
+                zeros(store, activity, count, at + 2)
+            } else {
+                StepEnd::Bad(at)
+            },
+            _ => StepEnd::Bad(at)
+        },
+        22 => sets::union(store, activity, at + 1),
+        23 => sets::difference(store, activity, at + 1),
+        24 => sets::intersection(store, activity, at + 1),
+        25 => sets::is_member(store, activity, at + 1),
+        26 => match *operands {
+            [line, ..] => sets::join(store, activity, line, at + 2),
+            _ => StepEnd::Bad(at)
+        },
+        35 => match *operands {
+            [level, offset, line, ..] => if level <= 64 {
+                execute_described(store, activity, words, level, offset, line, at + 4, calls)
+            } else {
+                StepEnd::Bad(at)
+            },
+            _ => StepEnd::Bad(at)
+        },
+        36 => match *operands {
+            [level, high, low, ..] => if level <= 64 {
+                descriptor(store, activity, level, code_address(high, low), at + 4)
+            } else {
+                StepEnd::Bad(at)
+            },
+            _ => StepEnd::Bad(at)
+        },
+        38 => match *operands {
+            [line, ..] => StepEnd::Fail(Cause::Halt, line),
+            _ => StepEnd::Bad(at)
+        },
+        40 => match *operands {
+            [high, low, ..] => processes::try_again(
+                store,
+                activity,
+                false,
+                code_address(high, low),
+            ),
+            _ => StepEnd::Bad(at)
+        },
+        42 => match *operands {
+            [count, line, ref rest @ ..] => match rest.get(..3 * usize::from(count)) {
+                Some(branches) => if (Op::Cobegin { line, branches }).is_allowed() {
+                    processes::split(
+                        store,
+                        activity,
+                        live,
+                        line,
+                        branches,
+                        at + (3 * u32::from(count) + 3),
+                    )
+                } else {
+                    StepEnd::Bad(at)
+                },
+                None => StepEnd::Bad(at)
+            },
+            _ => StepEnd::Bad(at)
+        },
+        43 => processes::exit(store, activity, first),
+        _ => unreachable!(),
+    }
 }

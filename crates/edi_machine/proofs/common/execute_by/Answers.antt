@@ -1,7 +1,7 @@
-use Rattle.std.proofs.Common.{◌∷◌, rules}
+use Rattle.std.proofs.Common.{◌∷◌, arith, refl, rules}
 use Rattle.edi_machine.specs.Activities.{local_of}
 use Rattle.edi_machine.specs.Numbers.{effect_by}
-use Rattle.edi_machine.proofs.Commonly.{asks_nothing, stepped_there}
+use Rattle.edi_machine.proofs.Commonly.{asks_nothing, nowhere_refused, stepped_as}
 use Rattle.edi_machine.proofs.common.execute_by.Goals as goal
 
 pub returns-then-cast_signed-clause-all : goal.returns-then-cast_signed-clause-all
@@ -18,5 +18,7 @@ returns-in-len3-up-clause-all g c =
 
 pub returns-in_default-clause-all : goal.returns-in_default-clause-all
 returns-in_default-clause-all g c =
-    stepped_there g.C.Calls.state g.C.Calls.failed g.C.Calls.faults g.C.Calls.references g.C.Calls.leads c.args.words.now c.args.live c.args.first
-    (local_of c.args.store.now c.args.activity.now) (c.args.number ∷ c.args.operands.now) c.requires.here _ _ _ _ c.execute_any.ensures.all
+    let l = local_of c.args.store.now c.args.activity.now in
+    stepped_as g.C.Calls.state g.C.Calls.failed g.C.Calls.faults g.C.Calls.references g.C.Calls.leads c.args.words.now c.args.live c.args.first
+    (c.args.number ∷ c.args.operands.now) l _ (nowhere_refused c.args.words.now c.args.live c.args.first l c.args.number c.args.operands.now (omega arith)) _ _
+    c.args.calls.now (refl, refl) c.requires.working
