@@ -115,12 +115,11 @@ fn a_fault_leaves_the_files_from_before_or_after(rt: HostRuntime) -> Result<(), 
     let alloc = rt.alloc();
     let plain = Some((b'a', false));
     let fault = Err(CatEnd::Fault);
-    // mounting reads 33 blocks of the catalogue, two maps, and the 32 blocks with the entries once more, to keep them; then
-    // one block is written
+    // mounting reads the 33 blocks of the catalogue and two maps; then one block is written
     let cases: [(u64, bool, Result<(), CatEnd>, Option<File>); 3] = [
-        (68, false, fault, plain),
-        (68, true, fault, None),
-        (69, true, Ok(()), None),
+        (36, false, fault, plain),
+        (36, true, fault, None),
+        (37, true, Ok(()), None),
     ];
     for (n, lands, expected, after) in cases {
         let bytes = two_slots(alloc, plain)?;

@@ -204,13 +204,12 @@ fn a_drive_that_fails_is_answered(rt: HostRuntime) -> Result<(), Fail> {
     let alloc = rt.alloc();
     let bytes = image(alloc, b"EDIS\0\x02\0\x40", 64, &[], &[], &[])?;
     assert!(rt; bytes.len() % 512 == 0);
-    // a format makes 34 calls; a check of a new image reads 33 blocks, and the 32 with the entries once more
-    let cases: [(u64, FormatEnd, Option<MountFault>); 5] = [
+    // a format makes 34 calls; a check of a new image reads 33 blocks
+    let cases: [(u64, FormatEnd, Option<MountFault>); 4] = [
         (1, FormatEnd::Fault, Some(MountFault::Fault)),
-        (34, FormatEnd::Fault, Some(MountFault::Fault)),
-        (35, FormatEnd::Ok, Some(MountFault::Fault)),
-        (65, FormatEnd::Ok, Some(MountFault::Fault)),
-        (66, FormatEnd::Ok, None),
+        (33, FormatEnd::Fault, Some(MountFault::Fault)),
+        (34, FormatEnd::Fault, None),
+        (35, FormatEnd::Ok, None),
     ];
     for (n, end, expected) in cases {
         let mut drive = MemoryDrive::new(alloc, &bytes, &[n], false)?;

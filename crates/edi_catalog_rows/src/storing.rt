@@ -106,26 +106,26 @@ fn a_fault_leaves_the_files_before_or_after(rt: HostRuntime) -> Result<(), Fail>
     let bytes = with_pages(alloc, 1)?;
     let before = (None, 29);
     let after = (Some(sevens(464)), 24);
-    // a mount reads the 33 blocks of the catalogue, one map, and the 32 blocks with the entries once more, to keep them; a
-    // store of 2,000 bytes writes five blocks, and then that of the entry
+    // a mount reads the 33 blocks of the catalogue and one map; a store of 2,000 bytes writes five blocks, and then that of
+    // the entry
     let cases: [(u64, bool, bool); 14] = [
-        (67, false, false),
-        (67, true, false),
-        (68, false, false),
-        (68, true, false),
-        (69, false, false),
-        (69, true, false),
-        (70, false, false),
-        (70, true, false),
-        (71, false, false),
-        (71, true, false),
-        (72, false, false),
-        (72, true, true),
-        (73, false, true),
-        (73, true, true),
+        (35, false, false),
+        (35, true, false),
+        (36, false, false),
+        (36, true, false),
+        (37, false, false),
+        (37, true, false),
+        (38, false, false),
+        (38, true, false),
+        (39, false, false),
+        (39, true, false),
+        (40, false, false),
+        (40, true, true),
+        (41, false, true),
+        (41, true, true),
     ];
     for (n, lands, is_stored) in cases {
-        let expected = if n < 73 { Err(CatEnd::Fault) } else { Ok(()) };
+        let expected = if n < 41 { Err(CatEnd::Fault) } else { Ok(()) };
         let (answer, left) = stored(&rt, alloc, &bytes, n, lands, &[7; 2000])?;
         assert_eq!(rt; answer, expected, "{n}");
         let files = if is_stored { after } else { before };

@@ -8,12 +8,12 @@ use edi_migrate::{MigrateEnd, MountFault, migrate};
 use std::alloc::{AllocError, Global};
 use std::test::Fail;
 
-/// An entry of version 1: a title of one character, or 0 for a free slot, the map, the length.
-type Slot = (u8, u8, u32);
+/// An entry of version 1: a title of one character, or 0 for a free slot, the kind, the map, the length.
+type Slot = (u8, u8, u8, u32);
 
-// The bytes of an entry of version 1, of a text.
+// The bytes of an entry of version 1.
 fn entry_bytes(slot: Slot) -> [u8; 32] {
-    let (title, map, length) = slot;
+    let (title, kind, map, length) = slot;
     let mut bytes = [0; 32];
     if title == 0 {
         return bytes;
@@ -22,7 +22,7 @@ fn entry_bytes(slot: Slot) -> [u8; 32] {
         *byte = b' ';
     }
     bytes[0] = title;
-    bytes[12] = 1;
+    bytes[12] = kind;
     bytes[15] = map;
     bytes[17] = (length / 65_536 % 256) as u8;
     bytes[18] = (length / 256 % 256) as u8;
@@ -54,7 +54,7 @@ fn each_end_comes(rt: HostRuntime) -> Result<(), Fail> {
     let alloc = rt.alloc();
     let old = b"EDIS\0\x01\0\x40".as_slice();
     let new = b"EDIS\0\x02\0\x40".as_slice();
-    let long = [(b't', 5, 29_696)];
+    let long = [(b't', 1, 5, 29_696)];
     let entry = MigrateEnd::Image(MountFault::Entry(0));
     let full = MigrateEnd::Full {
         wanted: 59,
@@ -62,17 +62,28 @@ fn each_end_comes(rt: HostRuntime) -> Result<(), Fail> {
     };
     let shared = MigrateEnd::Image(MountFault::Shared(5));
     let page = MigrateEnd::Image(MountFault::Page(0, 64));
-    let cases: [(&[u8], &[Slot], u8, u32, MigrateEnd); 10] = [
+    let again = MigrateEnd::Image(MountFault::Entry(1));
+    let cases: [(&[u8], &[Slot], u8, u32, MigrateEnd); 13] = [
         (old, &[], 0, 64, MigrateEnd::Ok),
-        (old, &[(0, 0, 0), (b't', 5, 60)], 1, 64, MigrateEnd::Ok),
+        (
+            old,
+            &[(0, 0, 0, 0), (b't', 1, 5, 60)],
+            1,
+            64,
+            MigrateEnd::Ok,
+        ),
+        (old, &[(b't', 2, 5, 0)], 0, 64, MigrateEnd::Ok),
         (old, &long, 58, 64, full),
         (old, &long, 58, 92, MigrateEnd::Ok),
         (new, &[], 0, 64, MigrateEnd::Image(MountFault::Header)),
-        (old, &[(b't', 4, 0)], 0, 64, entry),
-        (old, &[(b't', 5, 60)], 2, 64, entry),
-        (old, &[(b't', 5, 130_561)], 0, 64, entry),
-        (old, &[(b't', 5, 0), (b'u', 5, 0)], 0, 64, shared),
-        (old, &[(b't', 5, 30_000)], 59, 64, page),
+        (old, &[(b't', 1, 4, 0)], 0, 64, entry),
+        (old, &[(b't', 3, 5, 0)], 0, 64, entry),
+        (old, &[(b't', 1, 5, 60)], 2, 64, entry),
+        (old, &[(b't', 1, 5, 130_561)], 0, 64, entry),
+        (old, &[(b't', 1, 5, 0), (b'u', 1, 5, 0)], 0, 64, shared),
+        // a title that stands twice is found before its map
+        (old, &[(b't', 1, 5, 0), (b't', 1, 5, 0)], 0, 64, again),
+        (old, &[(b't', 1, 5, 30_000)], 59, 64, page),
     ];
     for (start, slots, pages, blocks, expected) in cases {
         let bytes = image(alloc, start, slots, pages)?;
@@ -100,7 +111,7 @@ fn each_end_comes(rt: HostRuntime) -> Result<(), Fail> {
 #[test]
 fn files_keep_their_slots(rt: HostRuntime) -> Result<(), Fail> {
     let alloc = rt.alloc();
-    let slots = [(0, 0, 0), (b't', 5, 60)];
+    let slots = [(0, 0, 0, 0), (b't', 1, 5, 60)];
     let mut bytes = image(alloc, b"EDIS\0\x01\0\x40", &slots, 1)?;
     bytes.push(1)?;
     let mut drive = SteadyDrive::new(alloc, &[])?;
@@ -131,7 +142,7 @@ fn files_keep_their_slots(rt: HostRuntime) -> Result<(), Fail> {
 #[test]
 fn a_drive_that_fails_is_told(rt: HostRuntime) -> Result<(), Fail> {
     let alloc = rt.alloc();
-    let bytes = image(alloc, b"EDIS\0\x01\0\x40", &[(b't', 5, 60)], 1)?;
+    let bytes = image(alloc, b"EDIS\0\x01\0\x40", &[(b't', 1, 5, 60)], 1)?;
     // a call that gives the drive its size, and 35 blocks
     let cases: [(u64, MigrateEnd); 4] = [
         (1, MigrateEnd::Fault),

@@ -125,13 +125,13 @@ fn a_fault_ends_the_calls(rt: HostRuntime) -> Result<(), Fail> {
         (Delete("new"), Yes),
         (Show("fg"), Yes),
     ];
-    // Mounting reads 68 blocks: 36, and the 32 with the entries once more; then a page is read, a store writes two blocks and
-    // that of the entry, and a delete writes this again. The terminal has room for 5 bytes.
+    // Mounting reads the 33 blocks of the catalogue and three maps; then a page is read, a store writes two blocks and that of
+    // the entry, and a delete writes this again. The terminal has room for 5 bytes.
     let cases: [(u64, usize, Outside, &[u8]); 4] = [
-        (69, 1, Outside::Drive, b"abc"),
-        (72, 3, Outside::Drive, b"abcde"),
-        (73, 4, Outside::Drive, b"abcde"),
-        (74, 5, Outside::Terminal, b"abcde"),
+        (37, 1, Outside::Drive, b"abc"),
+        (40, 3, Outside::Drive, b"abcde"),
+        (41, 4, Outside::Drive, b"abcde"),
+        (42, 5, Outside::Terminal, b"abcde"),
     ];
     for (n, calls, object, shown) in cases {
         let left = ran(&rt, rt.alloc(), &table, n, 261_120)?;

@@ -139,8 +139,8 @@ fn each_object_fails_in_each_of_its_calls(rt: HostRuntime) -> Result<(), Fail> {
     ];
     let (drive, input) = (Outside::Drive, Outside::Input);
     let (terminal, printer) = (Outside::Terminal, Outside::Printer);
-    // Mounting reads the 33 blocks of the catalogue and three maps, and the 32 blocks with the entries once more. Then `more`
-    // reads a page; `close` writes a map and a page, and the block of the entry; `remove` writes this block again.
+    // Mounting reads the 33 blocks of the catalogue and three maps. Then `more` reads a page; `close` writes a map and a page,
+    // and the block of the entry; `remove` writes this block again.
     let cases: [(Outside, u64, usize, &[u8], &[u8]); 15] = [
         (input, 1, 0, b"", b""),
         (input, 2, 11, b"ab", b"c"),
@@ -151,12 +151,12 @@ fn each_object_fails_in_each_of_its_calls(rt: HostRuntime) -> Result<(), Fail> {
         (printer, 1, 2, b"a", b""),
         (printer, 2, 12, b"ab", b"c"),
         (printer, 3, 13, b"ab", b"cd"),
-        (drive, 69, 4, b"a", b"c"),
-        (drive, 70, 9, b"ab", b"c"),
-        (drive, 71, 9, b"ab", b"c"),
-        (drive, 72, 9, b"ab", b"c"),
-        (drive, 73, 10, b"ab", b"c"),
-        (drive, 74, 13, b"ab", b"cd"),
+        (drive, 37, 4, b"a", b"c"),
+        (drive, 38, 9, b"ab", b"c"),
+        (drive, 39, 9, b"ab", b"c"),
+        (drive, 40, 9, b"ab", b"c"),
+        (drive, 41, 10, b"ab", b"c"),
+        (drive, 42, 13, b"ab", b"cd"),
     ];
     for (object, n, calls, shown, printed) in cases {
         let left = ran(&rt, rt.alloc(), &table, object, n)?;
