@@ -1,7 +1,7 @@
-//! The worked examples, over drives of 17 blocks.
+//! A disk, over drives of 17 blocks.
 
-use crate::calls::Call::{Blocks, Flush, Held, Page, Put};
-use crate::calls::{NONE, answered, are_blocks};
+use crate::disk_calls::Call::{Blocks, Flush, Held, Page, Put};
+use crate::disk_calls::{NONE, answered, are_blocks};
 use edi_host::MemoryDrive;
 use std::test::Fail;
 
