@@ -21,9 +21,9 @@ use Rattle.edi_operated.proofs.Given.{answers_are_values}
 use Rattle.edi_spots.specs.Coded.{Coded}
 use Rattle.edi_spots.specs.Spots.{frames_end, location_address, cells_words}
 use Rattle.edi_spots.specs.Walks.{Walker, plain, Moves, Stops}
-use Rattle.edi_spots.specs.Scene.{Scene, Outer, alone, Stands, After, Does}
+use Rattle.edi_spots.specs.Scene.{Scene, Outer, alone, Stands, After, Does, local_at}
 use Rattle.edi_spots.specs.Claims.{Ran}
-use Rattle.edi_spots.specs.Instructions.{local_at, Stored}
+use Rattle.edi_spots.specs.Instructions.{Stored}
 use Rattle.edi_spots.proofs.Doing.{moves_asks, gets_one, stops_by}
 use Rattle.edi_instructed.proofs.Stores.{store_does}
 use Rattle.edi_worded.proofs.Lengths.{values_are_long}

@@ -14,13 +14,13 @@ use Rattle.edi_scheme.specs.Code.{slot_offset}
 use Rattle.edi_scheme.specs.Stands as code
 use Rattle.edi_spots.specs.Coded.{Coded, entry}
 use Rattle.edi_spots.specs.Spots.{frames_end, cells_words, IsMeantBy}
-use Rattle.edi_spots.specs.Scene.{Scene, here, Stands, Able, Does}
+use Rattle.edi_spots.specs.Scene.{Scene, here, Stands, Able, Does, local_at}
 use Rattle.edi_spots.specs.Claims.{Passed, Ran, SystemClaim}
-use Rattle.edi_spots.specs.Instructions.{local_at}
 use Rattle.edi_instructed.proofs.Formals.{far, result, head, far_slot, far_holds, means, stands_at}
 use Rattle.edi_instructed.proofs.Slots.{HasProcedure}
 use Rattle.edi_instructed.proofs.Variables.{calls_formal}
-use Rattle.edi_asked.proofs.Fed.{Silent, Answering, numbered, fed}
+use Rattle.edi_scheme.proofs.Calls.{is_number}
+use Rattle.edi_asked.proofs.Fed.{Silent, Answering, fed}
 use Rattle.edi_asked.proofs.Asking.{silent_asks, answering_asks}
 use Rattle.edi_asked.proofs.Answered.{silent_does, answering_does}
 
@@ -69,7 +69,7 @@ module _
       done = go (fed g s F cells number asks_for passed.cells_fit is_asked)
         where
           ten : (1 ≤ number) × (number ≤ 10)
-          ten = numbered g.unit.types number asks_for is_asked
+          ten = is_number g.unit.types number asks_for is_asked
 
           asked : done_at pc top held ≡ machine.system_call number line to (local_at s F m pc top held)
           asked = does_ask line pc to top held at

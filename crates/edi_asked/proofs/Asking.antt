@@ -14,8 +14,7 @@ use Rattle.edi_target.specs.Perform.{with_answer_address, system_call}
 use Rattle.edi_worded.proofs.Reading.{read_within}
 use Rattle.edi_spots.specs.Coded.{Coded}
 use Rattle.edi_spots.specs.Spots.{location_address, cells_words}
-use Rattle.edi_spots.specs.Scene.{Scene, base_of}
-use Rattle.edi_spots.specs.Instructions.{local_at}
+use Rattle.edi_spots.specs.Scene.{Scene, base_of, local_at}
 use Rattle.edi_instructed.proofs.Effects.{word_is, pops, pops_word}
 use Rattle.edi_asked.proofs.Fed.{Silent, Answering}
 

@@ -1,5 +1,5 @@
 -- What a call of the system is fed with: the words of a value, the address of a variable for the answer, both, or nothing.
-use Rattle.std.proofs.Common.{◌≡◌, ℕ, ◌<◌, ◌≤◌, ◌⊎◌, inl, inr, pos, List, [], ◌∷◌, ◌++◌, length, refl, sym, subst, ap, ◌∙◌, arith}
+use Rattle.std.proofs.Common.{◌≡◌, ℕ, ◌<◌, ◌⊎◌, inl, inr, pos, List, [], ◌∷◌, ◌++◌, length, refl, sym, subst, ap, ◌∙◌}
 use Rattle.std.proofs.lemmas.Bool.{cases_lt}
 use Rattle.std.proofs.lemmas.List.{append-nil, get_or_past}
 use Rattle.edi_calls.specs.Calls.{argument_words, answer_words}
@@ -120,18 +120,6 @@ title_known g t title = elim (cases_lt t (length g.unit.types)) [
   | inl less ↦ less
   | inr past ↦ let never : ◌≡◌ {A = Shape} int (array_of int_type (pos 1) (pos 12) char_type) = sym (get_or_past g.unit.types t int past) ∙ title in absurd (cc)
 ]
-
-pub numbered : (types : List Shape) (number : ℕ) (formals : Formals) → IsCall types number formals → (1 ≤ number) × (number ≤ 10)
-numbered types number formals (accept e d) = (omega (arith, e), omega (arith, e))
-numbered types number formals (display e d) = (omega (arith, e), omega (arith, e))
-numbered types number formals (print e d) = (omega (arith, e), omega (arith, e))
-numbered types number formals (find t e title d) = (omega (arith, e), omega (arith, e))
-numbered types number formals (more e d) = (omega (arith, e), omega (arith, e))
-numbered types number formals (read e d) = (omega (arith, e), omega (arith, e))
-numbered types number formals (fresh e d) = (omega (arith, e), omega (arith, e))
-numbered types number formals (write e d) = (omega (arith, e), omega (arith, e))
-numbered types number formals (close t e title d) = (omega (arith, e), omega (arith, e))
-numbered types number formals (remove t e title d) = (omega (arith, e), omega (arith, e))
 
 module _
     (g : Coded) (s : Scene) (F : meaning.Shape) (cells : List Cell) (number : ℕ) (formals : Formals)

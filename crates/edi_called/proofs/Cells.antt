@@ -42,19 +42,8 @@ cells_append g first F [] ds = refl
 cells_append g first F (c ∷ cs) ds = ap (λ l. cell_words g first F c ++ l) (cells_append g first F cs ds)
     ∙ sym (append_assoc (cell_words g first F c) (cells_words g first F cs) (cells_words g first F ds))
 
-module _ (g : Coded) (long : ValuesAreLong) (zeros : ZeroIsZeros) (s : Scene) (F : Shape) (z : Spot) (n : ℕ) (known : n < length g.unit.blocks) where
-  abbrev ts : List types.Shape
-  ts = g.unit.types
-
-  abbrev B : Block
-  B = block g n
-
-  abbrev bf : BlockFits ts g.unit.blocks g.fits.headings n
-  bf = g.fits.fits_blocks n known
-
-  table : IsTable ts
-  table = record { table = g.fits.table; shapes = g.fits.shapes; parts = g.parts }
-
+-- what the cells of a frame at z hold, of a block with number n
+module _ (g : Coded) (F : Shape) (z : Spot) (n : ℕ) where
   -- the cells of variables from number v on
   abbrev pub HoldAll : ℕ → List Parameter → List Cell → Type 0
   HoldAll v [] [] = Unit {0}
@@ -70,11 +59,31 @@ module _ (g : Coded) (long : ValuesAreLong) (zeros : ZeroIsZeros) (s : Scene) (F
   hold_at u (p ∷ ps) (c ∷ cs) (suc v) h l = subst (λ k. Holds g F z (heading_of g n k) (slice_get ps v) (slice_index_or cs v no_cell)) (omega arith)
       (hold_at (suc u) ps cs v h.1 (omega (arith, l)))
 
-  hold_append : (u v : ℕ) (ps qs : List Parameter) (cs ds : List Cell) → u + length ps ≡ v → HoldAll u ps cs → HoldAll v qs ds → HoldAll u (ps ++ qs) (cs ++ ds)
+  pub hold_append : (u v : ℕ) (ps qs : List Parameter) (cs ds : List Cell) → u + length ps ≡ v → HoldAll u ps cs → HoldAll v qs ds → HoldAll u (ps ++ qs) (cs ++ ds)
   hold_append u v [] qs [] ds e h k = subst (λ y. HoldAll y qs ds) (omega (arith, e)) k
   hold_append u v [] qs (c ∷ cs) ds e h k = absurd h
   hold_append u v (p ∷ ps) qs [] ds e h k = absurd h
   hold_append u v (p ∷ ps) qs (c ∷ cs) ds e h k = (h.0, hold_append (suc u) v ps qs cs ds (omega (arith, e)) h.1 k)
+
+  pub zeros_hold : (v : ℕ) (vs : List ℕ) → All (SlotIsKnown g.unit.types) (map slot.Value vs) → HoldAll v (map slot.Value vs) (map (λ t. value (zero_value g.unit.types t)) vs)
+  zeros_hold v [] h = tt
+  zeros_hold v (t ∷ vs) h = (
+    zero_is_of g.unit.types t g.fits.table g.fits.shapes (h 0 (slot.Value t) (omega arith)),
+    zeros_hold (suc v) vs (λ i d l. h (suc i) d (omega (arith, l))),
+  )
+
+module _ (g : Coded) (long : ValuesAreLong) (zeros : ZeroIsZeros) (s : Scene) (F : Shape) (z : Spot) (n : ℕ) (known : n < length g.unit.blocks) where
+  abbrev ts : List types.Shape
+  ts = g.unit.types
+
+  abbrev B : Block
+  B = block g n
+
+  abbrev bf : BlockFits ts g.unit.blocks g.fits.headings n
+  bf = g.fits.fits_blocks n known
+
+  table : IsTable ts
+  table = record { table = g.fits.table; shapes = g.fits.shapes; parts = g.parts }
 
   -- ---- zeros
 
@@ -83,13 +92,6 @@ module _ (g : Coded) (long : ValuesAreLong) (zeros : ZeroIsZeros) (s : Scene) (F
   zeros_aligned (t ∷ vs) h =
       let k : t < length ts = h 0 (slot.Value t) (omega arith) in
       (long ts table (zero_value ts t) t k (zero_is_of ts t g.fits.table g.fits.shapes k), zeros_aligned vs (λ i d l. h (suc i) d (omega (arith, l))))
-
-  zeros_hold : (v : ℕ) (vs : List ℕ) → All (SlotIsKnown ts) (map slot.Value vs) → HoldAll v (map slot.Value vs) (map (λ t. value (zero_value ts t)) vs)
-  zeros_hold v [] h = tt
-  zeros_hold v (t ∷ vs) h = (
-    zero_is_of ts t g.fits.table g.fits.shapes (h 0 (slot.Value t) (omega arith)),
-    zeros_hold (suc v) vs (λ i d l. h (suc i) d (omega (arith, l))),
-  )
 
   zero_words_of : (vs : List ℕ) → All (SlotIsKnown ts) (map slot.Value vs) → cells_words g s.first F (map (λ t. value (zero_value ts t)) vs) ≡ replicate
       (sum_by (size ts) vs) 0
@@ -105,9 +107,9 @@ module _ (g : Coded) (long : ValuesAreLong) (zeros : ZeroIsZeros) (s : Scene) (F
   result_aligned None h = tt
   result_aligned (Some t) h = zeros_aligned (t ∷ []) h
 
-  result_holds : (r : Option ℕ) → All (SlotIsKnown ts) (map slot.Value (option_to_list r)) → HoldAll 0 (map slot.Value (option_to_list r)) (result_cells ts r)
+  result_holds : (r : Option ℕ) → All (SlotIsKnown ts) (map slot.Value (option_to_list r)) → HoldAll g F z n 0 (map slot.Value (option_to_list r)) (result_cells ts r)
   result_holds None h = tt
-  result_holds (Some t) h = zeros_hold 0 (t ∷ []) h
+  result_holds (Some t) h = zeros_hold g F z n 0 (t ∷ []) h
 
   result_zeros : (r : Option ℕ) → All (SlotIsKnown ts) (map slot.Value (option_to_list r)) →
       cells_words g s.first F (result_cells ts r) ≡ replicate (pieces.result_words ts r) 0
@@ -143,7 +145,7 @@ module _ (g : Coded) (long : ValuesAreLong) (zeros : ZeroIsZeros) (s : Scene) (F
   args_aligned v (slot.Formal r ∷ ps) (procedure (block_procedure number parent) ∷ cs) k h =
       (refl, args_aligned (suc v) ps cs (λ i d l. k (suc i) d (omega (arith, l))) h.1)
 
-  args_hold : (v : ℕ) (ps : List Parameter) (cs : List Cell) → CellsFit g s F z (fits.formals_from (g.fits.headings n) v ps) cs → HoldAll v ps cs
+  args_hold : (v : ℕ) (ps : List Parameter) (cs : List Cell) → CellsFit g s F z (fits.formals_from (g.fits.headings n) v ps) cs → HoldAll g F z n v ps cs
   args_hold v [] [] h = tt
   args_hold v [] (c ∷ cs) h = absurd h
   args_hold v (slot.Value t ∷ ps) [] h = absurd h
@@ -188,14 +190,14 @@ module _ (g : Coded) (long : ValuesAreLong) (zeros : ZeroIsZeros) (s : Scene) (F
         (aligned_append g s.first F B.parameters (map slot.Value B.variables) cells (map (λ t. value (zero_value ts t)) B.variables) arguments_aligned
         (zeros_aligned B.variables known_variables))
 
-    pub all_hold : HoldAll 0 (slots B) all_cells
+    pub all_hold : HoldAll g F z n 0 (slots B) all_cells
     all_hold =
-        hold_append 0 (fits.first_parameter B.result) (map slot.Value (option_to_list B.result)) (B.parameters ++ map slot.Value B.variables)
+        hold_append g F z n 0 (fits.first_parameter B.result) (map slot.Value (option_to_list B.result)) (B.parameters ++ map slot.Value B.variables)
         (result_cells ts B.result) _ (result_count B.result) (result_holds B.result known_result)
-        (hold_append (fits.first_parameter B.result) (fits.first_parameter B.result + length B.parameters) B.parameters (map slot.Value B.variables) cells
+        (hold_append g F z n (fits.first_parameter B.result) (fits.first_parameter B.result + length B.parameters) B.parameters (map slot.Value B.variables) cells
         (map (λ t. value (zero_value ts t)) B.variables) refl
         (args_hold (fits.first_parameter B.result) B.parameters cells fit)
-        (zeros_hold (fits.first_parameter B.result + length B.parameters) B.variables known_variables))
+        (zeros_hold g F z n (fits.first_parameter B.result + length B.parameters) B.variables known_variables))
 
     -- their words: zeros, the arguments, and zeros
     pub all_words : cells_words g s.first F all_cells ≡ replicate (pieces.result_words ts B.result) 0 ++

@@ -243,7 +243,7 @@ module _ (g : Coded) (long : ValuesAreLong) (zeros : ZeroIsZeros) (s : Scene) (F
       new_cell v k =
           words_stay g s.first F G (now F p) nu (heading_of g n v) (slot_in g n v) (slice_index_or inst.cells v no_cell) (λ y l o. (stays y l, later y o))
           (subst (λ u. Holds g F (now F p) (heading_of g n u) (slot_in g n v) (slice_index_or inst.cells v no_cell)) (omega arith)
-          (hold_at g long zeros s F (now F p) n c.known 0 (slots (block g n)) inst.cells v (all_hold g long zeros s F (now F p) n c.known cells c.cells_fit) k))
+          (hold_at g F (now F p) n 0 (slots (block g n)) inst.cells v (all_hold g long zeros s F (now F p) n c.known cells c.cells_fit) k))
 
       old_cell : (z : Spot) (v : ℕ) → IsLive F z → v < slots_of g (block_at g F z) →
           (cell_words g s.first G (cell w.store z v) ≡ cell_words g s.first F (cell w.store z v))

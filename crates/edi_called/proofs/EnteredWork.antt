@@ -91,9 +91,6 @@ module _ (g : Coded) (long : ValuesAreLong) (zeros : ZeroIsZeros) (s : Scene) (F
   some : 0 < length (F p)
   some = h.layout.some p s.lives
 
-  all : kept g n + acts_height g.unit.types g.unit.blocks n B.body ≡ B.need
-  all = enough g long zeros s F w m h n parent cells c
-
   -- the depth of the calling frame
   abbrev d : ℕ
   d = length (F p) - 1
@@ -125,7 +122,7 @@ module _ (g : Coded) (long : ValuesAreLong) (zeros : ZeroIsZeros) (s : Scene) (F
       let start : frame_start (K p) (suc d) ≡ used (F p) = ap (frame_start (K p)) deeper ∙ starts (length (F p)) (omega arith) ∙ start_all (F p) in
       ap (λ x. word new_mem (from + x + j)) start
       ∙ word_new g long zeros s F w m h n parent cells c words (ws_length g long zeros s F w m h n parent cells c t to) fitting j
-      (omega (arith, l, ws_length g long zeros s F w m h n parent cells c t to, all))
+      (omega (arith, l, ws_length g long zeros s F w m h n parent cells c t to, enough g long zeros s F w m h n parent cells c))
 
   links : Links g from (K p) new_mem d to
   links =
@@ -144,7 +141,7 @@ module _ (g : Coded) (long : ValuesAreLong) (zeros : ZeroIsZeros) (s : Scene) (F
       (matches_acts g lead from (K p) new_mem B.body _ 0 (procedure_end ∷ left) bodied.body bodied.end (suc d)
       (subst (λ (x : Frame). code.AreActs g.fetched g.unit.types g.unit.blocks (entry g) x.block B.body bodied.body bodied.end) (sym frame_is) bodied.list)
       (subst (λ (x : Frame). ActsFit g.unit.types g.unit.blocks g.fits.headings x.block B.body) (sym frame_is) (g.fits.fits_blocks n c.known).statements)
-      (subst (λ (x : Frame). Room g x (acts_height g.unit.types g.unit.blocks x.block B.body)) (sym frame_is) (omega (arith, all))) (
+      (subst (λ (x : Frame). Room g x (acts_height g.unit.types g.unit.blocks x.block B.body)) (sym frame_is) (omega (arith, enough g long zeros s F w m h n parent cells c))) (
         0,
         bodied.end,
         refl,

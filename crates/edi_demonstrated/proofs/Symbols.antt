@@ -5,6 +5,7 @@ use Rattle.std.specs.Prelude.{codes, unwrap_or}
 use Rattle.std.specs.List.{list_all}
 use Rattle.std.proofs.lemmas.Bool.Decides.{nat_tests}
 use Rattle.std.proofs.lemmas.Fmt.{decimal_digit, length-decimal-le}
+use Rattle.std.proofs.Math.Nat.{mul-suc}
 use native.Mathlib.Numerals.{unary_clauses}
 use Rattle.edi_lex.specs.Bytes.{is_digit, is_name_byte, line_feeds}
 use Rattle.edi_lex.specs.Words.{word_of}
@@ -179,104 +180,78 @@ text_scans n some few =
 
 -- ---- its length and its lines
 
+-- a sum over the bytes of a text: its parts add up
+module _ (f : List ℕ → ℕ) (append : (xs ys : List ℕ) → f (xs ++ ys) ≡ f xs + f ys) (empty : f [] ≡ 0) where
+  procedure_sum : (i : ℕ)
+      → f (demo_procedure i) ≡ f (codes "proc p") + (f (decimal i) + f (codes "\nbegin when x < 32767 do x := x + 1 end end\n"))
+  procedure_sum i =
+      let body : List ℕ = codes "\nbegin when x < 32767 do x := x + 1 end end\n" in
+      append (codes "proc p") (decimal i ++ body) ∙ ap (λ k. f (codes "proc p") + k) (append (decimal i) body)
+
+  -- of n numbered parts, each of which comes to so much at the most
+  numbered_most : (text : ℕ → List ℕ) (each : ℕ) → ((i : ℕ) → i ≤ 1000 → f (text i) ≤ each) → (i n : ℕ) → i + n ≤ 1001 → f (numbered text i n) ≤ each * n
+  numbered_most text each most i zero few = omega (arith, empty)
+  numbered_most text each most i (suc n) few =
+      let more = mul-suc each n in
+      omega (
+        arith,
+        append (text i) (numbered text (suc i) n),
+        most i (omega (arith, few)),
+        numbered_most text each most (suc i) n (omega (arith, few)),
+        more,
+      )
+
+  calls_sum : (n : ℕ) → f (demo_calls n) ≡ f (codes "p1") + f (numbered next_call 2 (n - 1))
+  calls_sum n = append (codes "p1") (numbered next_call 2 (n - 1))
+
+  text_sum : (n : ℕ) → f (demo_text n) ≡ f (codes "proc main\nvar x: int\n") + f (numbered demo_procedure 1 n) + f (codes "begin cobegin\n1 do ")
+      + f (demo_calls n) + f (codes "\nalso 2 do ") + f (demo_calls n) + f (codes "\nend end\n")
+  text_sum n =
+      let end : List ℕ = codes "\nend end\n" in
+      let second : List ℕ = demo_calls n ++ end in
+      let first : List ℕ = demo_calls n ++ (codes "\nalso 2 do " ++ second) in
+      let statement : List ℕ = codes "begin cobegin\n1 do " ++ first in
+      omega (
+        arith,
+        append (codes "proc main\nvar x: int\n") (numbered demo_procedure 1 n ++ statement),
+        append (numbered demo_procedure 1 n) statement,
+        append (codes "begin cobegin\n1 do ") first,
+        append (demo_calls n) (codes "\nalso 2 do " ++ second),
+        append (codes "\nalso 2 do ") second,
+        append (demo_calls n) end,
+      )
+
 decimal_short : (i : ℕ) → i ≤ 1000 → length (decimal i) ≤ 4
 decimal_short i few = length-decimal-le 4 i (omega arith) (omega (arith, few)) (omega (arith, few))
-
-procedure_short : (i : ℕ) → i ≤ 1000 → length (demo_procedure i) ≤ 60
-procedure_short i few =
-    let body : List ℕ = codes "\nbegin when x < 32767 do x := x + 1 end end\n" in
-    omega (arith, length-append (codes "proc p") (decimal i ++ body), length-append (decimal i) body, decimal_short i few)
-
-procedures_short : (i n : ℕ) → i + n ≤ 1001 → length (numbered demo_procedure i n) ≤ 60 * n
-procedures_short i zero few = omega arith
-procedures_short i (suc n) few = omega (
-  arith,
-  length-append (demo_procedure i) (numbered demo_procedure (suc i) n),
-  procedure_short i (omega (arith, few)),
-  procedures_short (suc i) n (omega (arith, few)),
-)
-
-next_calls_short : (i n : ℕ) → i + n ≤ 1001 → length (numbered next_call i n) ≤ 7 * n
-next_calls_short i zero few = omega arith
-next_calls_short i (suc n) few = omega (
-  arith,
-  length-append (next_call i) (numbered next_call (suc i) n),
-  length-append (codes "; p") (decimal i),
-  decimal_short i (omega (arith, few)),
-  next_calls_short (suc i) n (omega (arith, few)),
-)
 
 decimal_feeds : (i : ℕ) → i ≤ 1000 → line_feeds (decimal i) ≡ 0
 decimal_feeds i few = no_feeds is_digit refl (decimal i) (decimal_digits i few)
 
-procedure_feeds : (i : ℕ) → i ≤ 1000 → line_feeds (demo_procedure i) ≡ 2
-procedure_feeds i few =
-    let body : List ℕ = codes "\nbegin when x < 32767 do x := x + 1 end end\n" in
-    omega (arith, line_feeds-append (codes "proc p") (decimal i ++ body), line_feeds-append (decimal i) body, decimal_feeds i few)
-
-procedures_feeds : (i n : ℕ) → i + n ≤ 1001 → line_feeds (numbered demo_procedure i n) ≡ 2 * n
-procedures_feeds i zero few = omega arith
-procedures_feeds i (suc n) few = omega (
-  arith,
-  line_feeds-append (demo_procedure i) (numbered demo_procedure (suc i) n),
-  procedure_feeds i (omega (arith, few)),
-  procedures_feeds (suc i) n (omega (arith, few)),
-)
-
-next_calls_feeds : (i n : ℕ) → i + n ≤ 1001 → line_feeds (numbered next_call i n) ≡ 0
-next_calls_feeds i zero few = omega arith
-next_calls_feeds i (suc n) few = omega (
-  arith,
-  line_feeds-append (next_call i) (numbered next_call (suc i) n),
-  line_feeds-append (codes "; p") (decimal i),
-  decimal_feeds i (omega (arith, few)),
-  next_calls_feeds (suc i) n (omega (arith, few)),
-)
-
-calls_short : (n : ℕ) → 1 ≤ n → n ≤ 1000 → length (demo_calls n) ≤ 7 * n
-calls_short n some few = omega (arith, length-append (codes "p1") (numbered next_call 2 (n - 1)), next_calls_short 2 (n - 1) (omega (arith, some, few)))
-
-calls_feeds : (n : ℕ) → 1 ≤ n → n ≤ 1000 → line_feeds (demo_calls n) ≡ 0
-calls_feeds n some few = omega (
-  arith,
-  line_feeds-append (codes "p1") (numbered next_call 2 (n - 1)),
-  next_calls_feeds 2 (n - 1) (omega (arith, some, few)),
-)
+lengths_add : (xs ys : List ℕ) → length (xs ++ ys) ≡ length xs + length ys
+lengths_add xs ys = length-append xs ys
 
 text_short : (n : ℕ) → 1 ≤ n → n ≤ 1000 → length (demo_text n) ≤ 100 * n + 100
 text_short n some few =
-    let end : List ℕ = codes "\nend end\n" in
-    let second : List ℕ = demo_calls n ++ end in
-    let first : List ℕ = demo_calls n ++ (codes "\nalso 2 do " ++ second) in
-    let statement : List ℕ = codes "begin cobegin\n1 do " ++ first in
     omega (
       arith,
-      length-append (codes "proc main\nvar x: int\n") (numbered demo_procedure 1 n ++ statement),
-      length-append (numbered demo_procedure 1 n) statement,
-      length-append (codes "begin cobegin\n1 do ") first,
-      length-append (demo_calls n) (codes "\nalso 2 do " ++ second),
-      length-append (codes "\nalso 2 do ") second,
-      length-append (demo_calls n) end,
-      procedures_short 1 n (omega (arith, few)),
-      calls_short n some few,
+      text_sum length lengths_add refl n,
+      numbered_most length lengths_add refl demo_procedure 60 (λ i l. omega (arith, procedure_sum length lengths_add refl i, decimal_short i l)) 1 n
+          (omega (arith, few)),
+      calls_sum length lengths_add refl n,
+      numbered_most length lengths_add refl next_call 7 (λ i l. omega (arith, lengths_add (codes "; p") (decimal i), decimal_short i l)) 2 (n - 1)
+          (omega (arith, some, few)),
     )
 
 text_feeds : (n : ℕ) → 1 ≤ n → n ≤ 1000 → line_feeds (demo_text n) ≤ 2 * n + 6
 text_feeds n some few =
-    let end : List ℕ = codes "\nend end\n" in
-    let second : List ℕ = demo_calls n ++ end in
-    let first : List ℕ = demo_calls n ++ (codes "\nalso 2 do " ++ second) in
-    let statement : List ℕ = codes "begin cobegin\n1 do " ++ first in
     omega (
       arith,
-      line_feeds-append (codes "proc main\nvar x: int\n") (numbered demo_procedure 1 n ++ statement),
-      line_feeds-append (numbered demo_procedure 1 n) statement,
-      line_feeds-append (codes "begin cobegin\n1 do ") first,
-      line_feeds-append (demo_calls n) (codes "\nalso 2 do " ++ second),
-      line_feeds-append (codes "\nalso 2 do ") second,
-      line_feeds-append (demo_calls n) end,
-      procedures_feeds 1 n (omega (arith, few)),
-      calls_feeds n some few,
+      text_sum line_feeds line_feeds-append refl n,
+      numbered_most line_feeds line_feeds-append refl demo_procedure 2
+          (λ i l. omega (arith, procedure_sum line_feeds line_feeds-append refl i, decimal_feeds i l)) 1 n (omega (arith, few)),
+      calls_sum line_feeds line_feeds-append refl n,
+      numbered_most line_feeds line_feeds-append refl next_call 0 (λ i l. omega (arith, line_feeds-append (codes "; p") (decimal i), decimal_feeds i l)) 2
+          (n - 1) (omega (arith, some, few)),
     )
 
 pub text_symbols : (n : ℕ) → 1 ≤ n → n ≤ 1000 → symbols_of (demo_text n) ≡ Ok (demo_marks n, 3 + 2 * n + 4)

@@ -1,7 +1,7 @@
 -- The program's entry: from there on both sides are related.
 use Rattle.std.proofs.Common.{◌≡◌, ℕ, zero, suc, ◌+◌, ◌<◌, ◌≤◌, ◌^◌, inl, true, false, List, [], ◌∷◌, ◌++◌, map, take, length, length-append, Option, Some}
 use Rattle.std.proofs.Common.{None, refl, sym, subst, ap, ◌∙◌, arith}
-use Rattle.std.specs.Prelude.{sum_by, slice_get, slice_index, slice_index_or, option_to_list, All}
+use Rattle.std.specs.Prelude.{sum_by, slice_index, slice_index_or, option_to_list, All}
 use Rattle.edi_calls.specs.Names.{Name, same, find}
 use Rattle.edi_calls.specs.Ready.{has, stays}
 use Rattle.edi_calls.specs.State.{State, begun}
@@ -16,7 +16,7 @@ use Rattle.edi_unit.proofs.ZeroValues.{zero_is_of}
 use Rattle.edi_unit.specs.Tree.{Block}
 use Rattle.edi_unit.specs.Need.{slots, slot_words, variable_words, acts_height}
 use Rattle.edi_unit.specs.Fits as fits
-use Rattle.edi_unit.specs.Fits.{KindFits, BlockFits, SlotIsKnown}
+use Rattle.edi_unit.specs.Fits.{BlockFits, SlotIsKnown}
 use Rattle.edi_meaning.specs.Store.{Spot, system_procedure, Cell, value, procedure, Instance, Store, Shape, instances, cells_in, shape, frame_at, used, cell}
 use Rattle.edi_meaning.specs.Store.{no_cell, IsLive, within}
 use Rattle.edi_meaning.specs.Whole.{result_cells, instance_of}
@@ -26,7 +26,7 @@ use Rattle.edi_meaning.specs.Laws.{IsWaiting}
 use Rattle.edi_meaning.proofs.Dangling.{Coherent, permitted_coherent, step_coherent}
 use Rattle.edi_calls.proofs.Names.{some_is}
 use Rattle.edi_target.specs.Op as op
-use Rattle.edi_target.specs.Op.{Instruction, is_allowed}
+use Rattle.edi_target.specs.Op.{is_allowed}
 use Rattle.edi_target.specs.Memory.{word}
 use Rattle.edi_target.specs.Mach as target
 use Rattle.edi_target.specs.Mach.{Machine, Activity, descriptors, start_memory, first_activity, machine_at}
@@ -38,6 +38,7 @@ use Rattle.edi_scheme.specs.Pieces as pieces
 use Rattle.edi_scheme.specs.Pieces.{is_branch, function_flag, entry_of, return_of}
 use Rattle.edi_scheme.specs.Stands as code
 use Rattle.edi_worded.specs.Words.{value_words, IsTable, ValuesAreLong, ZeroIsZeros}
+use Rattle.edi_called.proofs.Cells.{HoldAll, hold_append, hold_at, zeros_hold}
 use Rattle.edi_spots.specs.Coded.{Coded, block, entry, slot_in, slots_of, words_in, offset, kept, heading_of}
 use Rattle.edi_spots.specs.Spots.{cell_words, cells_words, Segments, address, block_at, Fine, Layout, Mirrors, Typed, Holds}
 use Rattle.edi_spots.specs.Located.{Matches}
@@ -255,41 +256,13 @@ module _ (g : Coded) (long : ValuesAreLong) (zeros : ZeroIsZeros) (system : Stat
 
   -- ---- each variable holds what it may
 
-  -- the cells of variables from number v on
-  abbrev HoldAll : ℕ → List Parameter → List Cell → Type 0
-  HoldAll v [] [] = Unit {0}
-  HoldAll v [] (c ∷ cs) = ⊥
-  HoldAll v (p ∷ ps) [] = ⊥
-  HoldAll v (p ∷ ps) (c ∷ cs) = Holds g F ([], 0) (heading_of g b0 v) (Some p) c × HoldAll (suc v) ps cs
-
-  hold_at : (u : ℕ) (ps : List Parameter) (cs : List Cell) (v : ℕ) → HoldAll u ps cs → v < length ps →
-      Holds g F ([], 0) (heading_of g b0 (u + v)) (slice_get ps v) (slice_index_or cs v no_cell)
-  hold_at u [] cs v h l = absurd (omega (arith, l))
-  hold_at u (p ∷ ps) [] v h l = absurd h
-  hold_at u (p ∷ ps) (c ∷ cs) zero h l = subst (λ k. Holds g F ([], 0) (heading_of g b0 k) (Some p) c) (omega arith) h.0
-  hold_at u (p ∷ ps) (c ∷ cs) (suc v) h l = subst (λ k. Holds g F ([], 0) (heading_of g b0 k) (slice_get ps v) (slice_index_or cs v no_cell)) (omega arith)
-      (hold_at (suc u) ps cs v h.1 (omega (arith, l)))
-
-  hold_append : (u v : ℕ) (ps qs : List Parameter) (cs ds : List Cell) → u + length ps ≡ v → HoldAll u ps cs → HoldAll v qs ds → HoldAll u (ps ++ qs) (cs ++ ds)
-  hold_append u v [] qs [] ds e h k = subst (λ y. HoldAll y qs ds) (omega (arith, e)) k
-  hold_append u v [] qs (c ∷ cs) ds e h k = absurd h
-  hold_append u v (p ∷ ps) qs [] ds e h k = absurd h
-  hold_append u v (p ∷ ps) qs (c ∷ cs) ds e h k = (h.0, hold_append (suc u) v ps qs cs ds (omega (arith, e)) h.1 k)
-
-  zeros_hold : (v : ℕ) (vs : List ℕ) → All (SlotIsKnown ts) (map slot.Value vs) → HoldAll v (map slot.Value vs) (map (λ t. value (zero_value ts t)) vs)
-  zeros_hold v [] h = tt
-  zeros_hold v (t ∷ vs) h = (
-    zero_is_of ts t g.fits.table g.fits.shapes (h 0 (slot.Value t) (omega arith)),
-    zeros_hold (suc v) vs (λ i d l. h (suc i) d (omega (arith, l))),
-  )
-
   -- the heading of a call: its formals, and no result
   abbrev CallsFrom : ℕ → List Parameter → List ℕ → Type 0
   CallsFrom v ps ns = (i : ℕ) → i < length ns → fits.IsCall ts (slice_index ns i) (fits.heading_formals (heading_of g b0 (v + i)))
 
   calls_hold : (v : ℕ) (ps : List Parameter) (ns : List ℕ) → All (λ p. p ≡ slot.Formal None) ps → length ps ≡ length ns → CallsFrom v ps ns →
       fits.ResultsAgree (g.fits.headings b0) v ps →
-      HoldAll v ps (map (λ k. procedure (system_procedure k)) ns)
+      HoldAll g F ([], 0) b0 v ps (map (λ k. procedure (system_procedure k)) ns)
   calls_hold v [] [] h e c r = tt
   calls_hold v [] (k ∷ ns) h e c r = absurd (omega (arith, e))
   calls_hold v (p ∷ ps) [] h e c r = absurd (omega (arith, e))
@@ -302,22 +275,22 @@ module _ (g : Coded) (long : ValuesAreLong) (zeros : ZeroIsZeros) (system : Stat
             (λ i l. subst (λ y. fits.IsCall ts (slice_index ns i) (fits.heading_formals (heading_of g b0 y))) (omega arith) (c (suc i) (omega (arith, l)))) r.1,
       )
 
-  all_hold : HoldAll 0 (slots B) inst.cells
+  all_hold : HoldAll g F ([], 0) b0 0 (slots B) inst.cells
   all_hold = go B.result no_result bf.results
     where
-      rest : fits.ResultsAgree (g.fits.headings b0) 0 B.parameters → HoldAll 0 (B.parameters ++ map slot.Value B.variables)
+      rest : fits.ResultsAgree (g.fits.headings b0) 0 B.parameters → HoldAll g F ([], 0) b0 0 (B.parameters ++ map slot.Value B.variables)
           (map (λ k. procedure (system_procedure k)) g.unit.calls ++ map (λ t. value (zero_value ts t)) B.variables)
       rest r =
-          hold_append 0 (length B.parameters) B.parameters (map slot.Value B.variables) (map (λ k. procedure (system_procedure k)) g.unit.calls)
+          hold_append g F ([], 0) b0 0 (length B.parameters) B.parameters (map slot.Value B.variables) (map (λ k. procedure (system_procedure k)) g.unit.calls)
           (map (λ t. value (zero_value ts t)) B.variables) (omega arith)
           (calls_hold 0 B.parameters g.unit.calls procedures as_many
           (λ i l. subst (λ b. fits.IsCall ts (slice_index g.unit.calls i) (fits.heading_formals (g.fits.headings b (0 + i)))) (sym g.fits.first)
           (subst (λ y. fits.IsCall ts (slice_index g.unit.calls i) (fits.heading_formals (g.fits.headings 0 y))) (omega arith)
           (g.fits.fits_calls.each i l))) r)
-          (zeros_hold (length B.parameters) B.variables known_variables)
+          (zeros_hold g F ([], 0) b0 (length B.parameters) B.variables known_variables)
 
       go : (r : Option ℕ) → r ≡ None → fits.ResultsAgree (g.fits.headings b0) (fits.first_parameter r) B.parameters →
-          HoldAll 0 (map slot.Value (option_to_list r) ++ (B.parameters ++ map slot.Value B.variables))
+          HoldAll g F ([], 0) b0 0 (map slot.Value (option_to_list r) ++ (B.parameters ++ map slot.Value B.variables))
           (result_cells ts r ++ (map (λ k. procedure (system_procedure k)) g.unit.calls ++ map (λ t. value (zero_value ts t)) B.variables))
       go None e r = rest r
       go (Some t) e r = absurd (cc)
@@ -334,7 +307,7 @@ module _ (g : Coded) (long : ValuesAreLong) (zeros : ZeroIsZeros) (system : Stat
 
       holds : (v : ℕ) → v < slots_of g b0 → Holds g F ([], 0) (heading_of g b0 v) (slot_in g b0 v) (slice_index_or inst.cells v no_cell)
       holds v k = subst (λ y. Holds g F ([], 0) (heading_of g b0 y) (slot_in g b0 v) (slice_index_or inst.cells v no_cell)) (omega arith)
-          (hold_at 0 (slots B) inst.cells v all_hold k)
+          (hold_at g F ([], 0) b0 0 (slots B) inst.cells v all_hold k)
 
   -- ---- where the program stands
 

@@ -16,8 +16,8 @@ use Rattle.edi_target.specs.Perform.{push_address, element, joined, fork, short_
 use Rattle.edi_worded.proofs.Reading.{words_at-append}
 use Rattle.edi_spots.specs.Coded.{Coded}
 use Rattle.edi_spots.specs.Spots.{address}
-use Rattle.edi_spots.specs.Scene.{Scene}
-use Rattle.edi_spots.specs.Instructions.{WordIs, OneWord, RowSplits, local_at, effect, Pops, PopsWord, Looks, DoesArithmetic, DoesComparison, DoesEquality}
+use Rattle.edi_spots.specs.Scene.{Scene, local_at}
+use Rattle.edi_spots.specs.Instructions.{WordIs, OneWord, RowSplits, effect, Pops, PopsWord, Looks, DoesArithmetic, DoesComparison, DoesEquality}
 use Rattle.edi_spots.specs.Instructions.{DoesOnSets, DoesIn, DoesMember, DoesIndex, PushesAddress, DoesField, FailsHeld, Jumps, DoesFalse, DoesDecide}
 
 -- ---- words in a row

@@ -18,9 +18,9 @@ use Rattle.edi_worded.specs.Words.{ValuesAreLong}
 use Rattle.edi_spots.specs.Coded.{Coded}
 use Rattle.edi_spots.specs.Spots.{frames_end, IsOther}
 use Rattle.edi_spots.specs.Walks.{plain, onward, onward_turn, Gets}
-use Rattle.edi_spots.specs.Scene.{Scene, Outer, alone, base_of, Stands, After, Does}
+use Rattle.edi_spots.specs.Scene.{Scene, Outer, alone, base_of, Stands, After, Does, local_at}
 use Rattle.edi_spots.specs.Claims.{Pushed}
-use Rattle.edi_spots.specs.Instructions.{local_at, effect, PushesThen, PopsPushes, PopsPushesValue, GoesThen, FailsAt, StepsTurn, IsOnward, TurnMoves}
+use Rattle.edi_spots.specs.Instructions.{effect, PushesThen, PopsPushes, PopsPushesValue, GoesThen, FailsAt, StepsTurn, IsOnward, TurnMoves}
 use Rattle.edi_spots.specs.Instructions.{TurnStops, OperandsStay, AbleThen, AbleAbove}
 use Rattle.edi_spots.proofs.Doing.{moves_by, moves_goes, gets_one, gets_then, stops_then, stops_by, stops_fails, after_then, after_lower, stands_after, give}
 use Rattle.edi_spots.proofs.Free.{beside, written_free, outer_kept}

@@ -23,8 +23,8 @@ use Rattle.edi_scheme.proofs.Known.{all_some, size_positive}
 use Rattle.edi_worded.specs.Words.{value_words, ValuesAreLong, PartsStand}
 use Rattle.edi_spots.specs.Coded.{Coded, block, entry, slot_in, slots_of, words_in, heading_of}
 use Rattle.edi_spots.specs.Spots.{address, block_at, slot_address, location_address, cell_words, closure_words, Layout, Holds, IsMeantBy}
-use Rattle.edi_spots.specs.Scene.{Scene, Stands}
-use Rattle.edi_spots.specs.Instructions.{local_at, effect, Reaches, LevelsReach, DoesAddress, LoadsCell, IsPart, LoadsPart, Stored, Stores, called_closure}
+use Rattle.edi_spots.specs.Scene.{Scene, Stands, local_at}
+use Rattle.edi_spots.specs.Instructions.{effect, Reaches, LevelsReach, DoesAddress, LoadsCell, IsPart, LoadsPart, Stored, Stores, called_closure}
 use Rattle.edi_spots.specs.Instructions.{CallsBlock, CallsFormal, DoesProc}
 use Rattle.edi_spots.proofs.Places.{reached_live, level_is}
 use Rattle.edi_spots.proofs.Free.{slot_within, in_memory}

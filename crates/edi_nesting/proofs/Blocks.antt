@@ -1,31 +1,26 @@
 -- The bodies of blocks nest no deeper than the levels of their text allow, construct by construct.
-use Rattle.std.proofs.Common.{◌≡◌, ℕ, suc, ◌+◌, ◌*◌, ◌<◌, ◌≤◌, max, Bool, true, false, List, [], length, Option, Some, None, All, nat_lt, nat_le, is_some}
-use Rattle.std.proofs.Common.{◌||◌, ◌&&◌, ◌==◌, int_le, refl, arith, subst, sym}
+use Rattle.std.proofs.Common.{◌≡◌, ℕ, suc, ◌+◌, ◌*◌, ◌<◌, ◌≤◌, max, Bool, true, false, List, length, Option, Some, None, All, nat_lt, nat_le}
+use Rattle.std.proofs.Common.{◌==◌, refl, arith, subst, sym}
 use Rattle.std.proofs.lemmas.List.{get_or_past}
 use Rattle.std.proofs.lemmas.List.Elements.{All-set, All-get_or, All-push}
-use Rattle.edi_scope.specs.declared.entity.Entity.{Entity}
 use Rattle.edi_scope.specs.declared.entity.Entity.TheVariants as entity
-use Rattle.edi_scope.specs.Scope.{declared, outside}
 use Rattle.edi_tree.specs.declared.names.Name.{Name}
-use Rattle.edi_tree.specs.declared.constants.Constant.{Constant}
-use Rattle.edi_tree.specs.declared.constants.ConstDecl.{ConstDecl}
 use Rattle.edi_tree.specs.Tree as text
 use Rattle.edi_tree.specs.Depth.{constant_depth, expr_depth, args_depth, optional_args_depth, variable_depth, list_depth, statements_depth, statement_depth}
 use Rattle.edi_tree.specs.Depth.{conditions_depth, condition_depth, else_depth, branch_depth, branches_depth, procedure_depth, item_depth, module_depth}
 use Rattle.edi_tree.specs.Depth.{member_depth, members_depth, declaration_depth, declarations_depth, depth}
 use Rattle.edi_unit.specs.declared.units.BlockKind.{BlockKind}
 use Rattle.edi_unit.specs.declared.units.BlockKind.TheVariants as block_kind
-use Rattle.edi_unit.specs.Types.{Shape, record_of, array_of, set_of, is_elementary, greatest_size, int_type, bool_type}
+use Rattle.edi_unit.specs.Types.{greatest_size, int_type, bool_type}
 use Rattle.edi_unit.specs.Tree.{Act, Acts, no_act, act_then, Clause, Clauses, Block, ProgramUnit}
 use Rattle.edi_unit.specs.Need.{no_block, block_at, need}
-use Rattle.edi_unit.specs.Fits.{heading, heading_result, heading_formals, Formals}
+use Rattle.edi_unit.specs.Fits.{heading_result, heading_formals}
 use Rattle.edi_static.specs.declared.faults.StaticKind.TheVariants as kind
-use Rattle.edi_static.specs.Judged.{gives, ◌>>=◌, must}
-use Rattle.edi_static.specs.Environment.{Environment, at_first, look_up, type_named, declare, give_outside, enter, here, set_block}
-use Rattle.edi_static.specs.Types.{constant, const_decl, const_decls, const_list, most_constants, enum_constants, enum_decl, fields_of_groups, no_fields}
-use Rattle.edi_static.specs.Types.{declare_type, array_decl, set_decl, type_decl, variable_decl, variables_named, variables_of_groups, var_list}
-use Rattle.edi_static.specs.Headings.{Listed, Headed, leave, round, own_name, params_named, param_group, procedure_named, result_named, with_result}
-use Rattle.edi_static.specs.Headings.{heading_parts, parameters, more_parameters, parameter}
+use Rattle.edi_static.specs.Judged.{◌>>=◌}
+use Rattle.edi_static.specs.Environment.{Environment, at_first, look_up, declare, enter, here, set_block}
+use Rattle.edi_static.specs.Types.{constant}
+use Rattle.edi_static.specs.Headings.{Listed, Headed, round, own_name}
+use Rattle.edi_static.specs.Headings.{heading_parts}
 use Rattle.edi_static.specs.Fitting.{Use, constructs, calls, halts, neither, use_of}
 use Rattle.edi_static.specs.Expressions.{expression, variable_place, all_arguments, args_count}
 use Rattle.edi_static.specs.Statements.{After, procedure_called, acts_append, assigned, called, add_statements, with_need, close_block, enter_branch}
@@ -34,8 +29,9 @@ use Rattle.edi_static.specs.Declarations.{kind_of, with_heading, block_of, proce
 use Rattle.edi_static.specs.Declarations.{begin_procedure, begin_post, pre_decl, procedure_rest, item, module_decl, members, member, declarations}
 use Rattle.edi_static.specs.Declarations.{declaration}
 use Rattle.edi_static.specs.Programs.{program_heading, global_decl, global_decls, program_procedure, resolve_tree}
-use Rattle.edi_static.proofs.Judging.{Gives, bind, behind, choose, ruled, weaker}
+use Rattle.edi_static.proofs.Judging.{Gives, bind, behind, ruled, weaker}
 use Rattle.edi_nesting.specs.Nesting.{IsShallow, UnitsAreShallow, act_nesting, acts_nesting, clause_nesting, clauses_nesting}
+use Rattle.edi_nesting.proofs.Declared.{Keeping, const_list_kept, type_decl_kept, var_kept, heading_kept, round_kept, outside_round_kept}
 use Rattle.edi_nesting.proofs.Parts.{Within}
 use Rattle.edi_nesting.proofs.Expressions.{PlaceWithin, ArgumentsWithin, expression_within, place_within, arguments_within}
 
@@ -107,132 +103,21 @@ module _ (levels : ℕ) where
   set_shallow : (n : ℕ) (b : Block) (env : Environment) → Low b → Shallow env → Shallow (set_block n b env)
   set_shallow n b env hb h = All-set Low env.blocks n b hb h
 
-  -- ---- names
+  -- ---- constants, types, variables and headings
 
-  declare_shallow : (m : Bool) (name : Name) (means : Entity) (env : Environment) → Shallow env → Gives Shallow (declare m name means env)
-  declare_shallow m name means env h =
-      choose Shallow (is_some (declared env.scopes name.text) || (m && is_some (declared (outside env.scopes) name.text))) _ _ tt h
-
-  outside_shallow : (name : Name) (means : Entity) (env : Environment) → Shallow env → Gives Shallow (give_outside name means env)
-  outside_shallow name means env h = choose Shallow (is_some (declared (outside env.scopes) name.text)) _ _ tt h
-
-  -- ---- constants, types and variables
-
-  const_shallow : (m : Bool) (d : ConstDecl) (env : Environment) → Shallow env → Gives Shallow (const_decl m d env)
-  const_shallow m d env h = behind Shallow _ _ (λ c. declare_shallow m d.name _ env h)
-
-  consts_shallow : (m : Bool) (ds : text.ConstDecls) (env : Environment) → Shallow env → Gives Shallow (const_decls m ds env)
-  consts_shallow m text.no_const_decl env h = h
-  consts_shallow m (text.next_const_decl d ds) env h = bind Shallow Shallow _ _ (const_shallow m d env h) (λ e k. consts_shallow m ds e k)
-
-  const_list_shallow : (m : Bool) (cs : text.ConstList) (env : Environment) → Shallow env → Gives Shallow (const_list m cs env)
-  const_list_shallow m (text.const_list d ds) env h = bind Shallow Shallow _ _ (const_shallow m d env h) (λ e k. consts_shallow m ds e k)
-
-  enum_shallow : (m : Bool) (of n : ℕ) (ns : text.Names) (env : Environment) → Shallow env → Gives Shallow (enum_constants m of n ns env)
-  enum_shallow m of n text.no_name env h = h
-  enum_shallow m of n (text.next_name name ns) env h =
-      bind Shallow Shallow _ _
-      (bind Shallow Shallow _ _ (declare_shallow m name _ env h) (λ e k.
-      behind Shallow (must (nat_lt n most_constants) kind.Range name.line) (λ _. gives e) (λ _. k)))
-      (λ e k. enum_shallow m of (suc n) ns e k)
-
-  type_shallow : (m : Bool) (name : Name) (shape : Shape) (fields : List (List ℕ)) (env : Environment) → Shallow env
-      → Gives Shallow (declare_type m name shape fields env)
-  type_shallow m name shape fields env h = behind Shallow _ _ (λ _. bind Shallow Shallow _ _ (declare_shallow m name _ env h) (λ e k. k))
-
-  enum_decl_shallow : (m : Bool) (name : Name) (ns : text.Names) (env : Environment) → Shallow env → Gives Shallow (enum_decl m name ns env)
-  enum_decl_shallow m name ns env h =
-      bind Shallow Shallow _ _
-      (bind Shallow Shallow _ _ (declare_shallow m name _ env h) (λ e k. enum_shallow m _ 0 ns e k))
-      (λ e k. k)
-
-  array_shallow : (m : Bool) (name : Name) (lower upper : Constant) (element : Name) (env : Environment) → Shallow env
-      → Gives Shallow (array_decl m name lower upper element env)
-  array_shallow m name lower upper element env h =
-      behind Shallow (constant env lower) _ (λ lo.
-      behind Shallow (constant env upper) _ (λ hi.
-      behind Shallow (type_named env element) _ (λ e.
-      ruled Shallow (lo.of == hi.of) _ _ _ (λ _.
-      ruled Shallow (int_le lo.ordinal hi.ordinal) _ _ _ (λ _. type_shallow m name (array_of lo.of lo.ordinal hi.ordinal e) [] env h)))))
-
-  set_decl_shallow : (m : Bool) (name base : Name) (env : Environment) → Shallow env → Gives Shallow (set_decl m name base env)
-  set_decl_shallow m name base env h =
-      behind Shallow (type_named env base) _ (λ b. ruled Shallow (is_elementary env.types b) _ _ _ (λ _. type_shallow m name (set_of b) [] env h))
-
-  type_decl_shallow : (m : Bool) (t : text.TypeDecl) (env : Environment) → Shallow env → Gives Shallow (type_decl m t env)
-  type_decl_shallow m (text.enum_decl name first more) env h = enum_decl_shallow m name (text.next_name first more) env h
-  type_decl_shallow m (text.record_decl name first more) env h =
-      behind Shallow (fields_of_groups env (text.next_group first more) no_fields) _ (λ fields. type_shallow m name (record_of fields.types) fields.names env h)
-  type_decl_shallow m (text.array_decl name line lower upper element) env h = array_shallow m name lower upper element env h
-  type_decl_shallow m (text.set_decl name base) env h = set_decl_shallow m name base env h
-
-  variable_shallow : (m : Bool) (of : ℕ) (name : Name) (env : Environment) → Shallow env → Gives Shallow (variable_decl m of name env)
-  variable_shallow m of name env h =
-      bind Shallow Shallow _ _ (declare_shallow m name _ env h) (λ e k. set_shallow (here e) _ e (at_shallow e.blocks (here e) k) k)
-
-  named_shallow : (m : Bool) (of : ℕ) (ns : text.Names) (env : Environment) → Shallow env → Gives Shallow (variables_named m of ns env)
-  named_shallow m of text.no_name env h = h
-  named_shallow m of (text.next_name name ns) env h = bind Shallow Shallow _ _ (variable_shallow m of name env h) (λ e k. named_shallow m of ns e k)
-
-  groups_shallow : (m : Bool) (gs : text.Groups) (env : Environment) → Shallow env → Gives Shallow (variables_of_groups m gs env)
-  groups_shallow m text.no_group env h = h
-  groups_shallow m (text.next_group (text.group first names of) gs) env h =
-      bind Shallow Shallow _ _
-      (behind Shallow (type_named env of) _ (λ t. named_shallow m t (text.next_name first names) env h))
-      (λ e k. groups_shallow m gs e k)
-
-  var_shallow : (m : Bool) (vs : text.VarList) (env : Environment) → Shallow env → Gives Shallow (var_list m vs env)
-  var_shallow m (text.var_list first more) env h = groups_shallow m (text.next_group first more) env h
-
-  -- ---- headings
-
-  params_shallow : (block before of : ℕ) (one : Formals) (ns : text.Names) (l : Listed) → ShallowListed l
-      → Gives ShallowListed (params_named block before of one ns l)
-  params_shallow block before of one text.no_name l h = h
-  params_shallow block before of one (text.next_name name ns) l h =
-      bind ShallowListed ShallowListed _ _
-      (bind Shallow ShallowListed _ _ (declare_shallow false name _ l.env h) (λ e k. k))
-      (λ m k. params_shallow block before of one ns m k)
-
-  group_shallow : (block before : ℕ) (v : Bool) (g : text.Group) (l : Listed) → ShallowListed l → Gives ShallowListed (param_group block before v g l)
-  group_shallow block before v (text.group first names of) l h = behind ShallowListed (type_named l.env of) _
-      (λ t. params_shallow block before t _ (text.next_name first names) l h)
-
-  procedure_named_shallow : (block before : ℕ) (name : Name) (fs : Formals) (inner : Headed) → ShallowHeaded inner
-      → Gives ShallowListed (procedure_named block before name fs inner)
-  procedure_named_shallow block before name fs inner h = bind Shallow ShallowListed _ _ (declare_shallow false name _ (leave inner.env) h) (λ e k. k)
-
-  result_shallow : (r : Option Name) (l : Listed) → ShallowListed l → Gives ShallowHeaded (with_result r l)
-  result_shallow r l h =
-      behind ShallowHeaded (result_named r l.env) (λ t. gives (record { env = l.env; asks = heading l.formals t })) (λ t. h)
-
-  mutual
-    heading_shallow : (block : ℕ) (h : text.Heading) (env : Environment) → Shallow env → Gives ShallowHeaded (heading_parts block h env)
-    heading_shallow block (text.heading name ps r) env h =
-        bind ShallowListed ShallowHeaded _ _ (parameters_shallow block _ ps _ h) (λ l k. result_shallow r l k)
-
-    parameters_shallow : (block before : ℕ) (ps : text.Params) (l : Listed) → ShallowListed l → Gives ShallowListed (parameters block before ps l)
-    parameters_shallow block before text.no_params l h = h
-    parameters_shallow block before (text.params p ps) l h =
-        bind ShallowListed ShallowListed _ _ (parameter_shallow block before p l h) (λ m k. more_shallow block before ps m k)
-
-    more_shallow : (block before : ℕ) (ps : text.MoreParams) (l : Listed) → ShallowListed l → Gives ShallowListed (more_parameters block before ps l)
-    more_shallow block before text.no_param l h = h
-    more_shallow block before (text.next_param p ps) l h =
-        bind ShallowListed ShallowListed _ _ (parameter_shallow block before p l h) (λ m k. more_shallow block before ps m k)
-
-    parameter_shallow : (block before : ℕ) (p : text.Param) (l : Listed) → ShallowListed l → Gives ShallowListed (parameter block before p l)
-    parameter_shallow block before (text.value_param g) l h = group_shallow block before false g l h
-    parameter_shallow block before (text.var_param g) l h = group_shallow block before true g l h
-    parameter_shallow block before (text.procedure_param inner) l h =
-        bind ShallowHeaded ShallowListed _ _ (heading_shallow block inner l.env h) (λ i k. procedure_named_shallow block before (own_name inner) l.formals i k)
-
-  -- a name is declared in the scope round the innermost, or given to it
-  round_shallow : (m : Bool) (name : Name) (means : Entity) (env : Environment) → Shallow env → Gives Shallow (round (declare m name means) env)
-  round_shallow m name means env h = bind Shallow Shallow (declare m name means (leave env)) _ (declare_shallow m name means (leave env) h) (λ e s. s)
-
-  outside_round_shallow : (name : Name) (means : Entity) (env : Environment) → Shallow env → Gives Shallow (round (give_outside name means) env)
-  outside_round_shallow name means env h = bind Shallow Shallow (give_outside name means (leave env)) _ (outside_shallow name means (leave env) h) (λ e s. s)
+  abbrev keeping : Keeping
+  keeping = record {
+    Is = λ types blocks. All Low blocks;
+    Becomes = λ types blocks. All Low blocks;
+    Fine = λ shape. Unit {0};
+    enumerated = λ n. tt;
+    filled = λ parts some. tt;
+    arrayed = λ of lower upper element. tt;
+    set = λ of. tt;
+    typed = λ types blocks shape fine h. h;
+    varied = λ types blocks n block same h.
+        All-set Low blocks n block (subst (λ s. acts_nesting s ≤ 5 * levels + 1) (sym same) (at_shallow blocks n h)) h;
+  }
 
   with_heading_shallow : (k : BlockKind) (headed : Headed) → ShallowHeaded headed → Shallow (with_heading k headed)
   with_heading_shallow k headed h =
@@ -357,17 +242,17 @@ module _ (levels : ℕ) where
 
   begin_shallow : (m : Bool) (h : text.Heading) (env : Environment) → Shallow env → Gives Shallow (begin_procedure m h env)
   begin_shallow m h env s =
-      bind ShallowHeaded Shallow _ _ (heading_shallow _ h env s) (λ headed k.
-      round_shallow m (own_name h) (entity.Procedure (length env.blocks))
+      bind ShallowHeaded Shallow _ _ (heading_kept keeping _ h env s) (λ headed k.
+      round_kept keeping m (own_name h) (entity.Procedure (length env.blocks))
       (with_heading (kind_of (heading_result headed.asks)) headed) (with_heading_shallow _ headed k))
 
   export_shallow : (m : Bool) (name : Name) (block : ℕ) (env : Environment) → Shallow env → Gives Shallow (post_export m name block env)
-  export_shallow true name block env h = outside_round_shallow name (entity.Procedure block) env h
+  export_shallow true name block env h = outside_round_kept keeping name (entity.Procedure block) env h
   export_shallow false name block env h = h
 
   post_shallow : (m : Bool) (h : text.Heading) (env : Environment) → Shallow env → Gives Shallow (begin_post m h env)
   post_shallow m h env s =
-      bind ShallowHeaded Shallow _ _ (heading_shallow _ h env s) (λ headed k.
+      bind ShallowHeaded Shallow _ _ (heading_kept keeping _ h env s) (λ headed k.
       behind Shallow (completes (begun_named env.begun (own_name h).text) (own_name h) headed) _ (λ _. export_shallow m (own_name h) _ headed.env k))
 
   pre_shallow : (m : Bool) (h : text.Heading) (env : Environment) → Shallow env → Gives Shallow (pre_decl m h env)
@@ -383,9 +268,9 @@ module _ (levels : ℕ) where
         (λ done i. close_shallow block done.what end done.env (omega (arith, less, i.1)) i.0)))
 
     item_shallow : (m : Bool) (i : text.Item) (env : Environment) → item_depth i ≤ levels → Shallow env → Gives Shallow (item m i env)
-    item_shallow m (text.const_item cs) env small h = const_list_shallow m cs env h
-    item_shallow m (text.type_item t) env small h = type_decl_shallow m t env h
-    item_shallow m (text.var_item vs) env small h = var_shallow m vs env h
+    item_shallow m (text.const_item cs) env small h = const_list_kept keeping m cs env h
+    item_shallow m (text.type_item t) env small h = type_decl_kept keeping m t env h
+    item_shallow m (text.var_item vs) env small h = var_kept keeping m vs env h
     item_shallow m (text.procedure_item p) env small h =
         bind Shallow Shallow (begin_procedure m (heading_of p) env >>= procedure_rest (length env.blocks) p) _
         (bind Shallow Shallow (begin_procedure m (heading_of p) env) _ (begin_shallow m (heading_of p) env h) (λ e k. rest_shallow _ p e small k))
@@ -427,8 +312,8 @@ module _ (levels : ℕ) where
   -- ---- programs
 
   global_shallow : (g : text.Global) (env : Environment) → Shallow env → Gives Shallow (global_decl g env)
-  global_shallow (text.const_global cs) env h = const_list_shallow false cs env h
-  global_shallow (text.type_global t) env h = type_decl_shallow false t env h
+  global_shallow (text.const_global cs) env h = const_list_kept keeping false cs env h
+  global_shallow (text.type_global t) env h = type_decl_kept keeping false t env h
 
   globals_shallow : (gs : text.Globals) (env : Environment) → Shallow env → Gives Shallow (global_decls gs env)
   globals_shallow text.no_global env h = h
@@ -439,9 +324,9 @@ module _ (levels : ℕ) where
 
   program_shallow : (p : text.Procedure) (env : Environment) → procedure_depth p ≤ levels → Shallow env → Gives ShallowUnit (program_procedure p env)
   program_shallow p env small h =
-      bind ShallowHeaded ShallowUnit (heading_parts 0 (heading_of p) env) _ (heading_shallow 0 (heading_of p) env h) (λ headed k.
+      bind ShallowHeaded ShallowUnit (heading_parts 0 (heading_of p) env) _ (heading_kept keeping 0 (heading_of p) env h) (λ headed k.
       bind Shallow ShallowUnit (round (declare false (own_name (heading_of p)) (entity.Procedure 0)) (with_heading block_kind.Program headed)) _
-      (round_shallow false (own_name (heading_of p)) (entity.Procedure 0) (with_heading block_kind.Program headed)
+      (round_kept keeping false (own_name (heading_of p)) (entity.Procedure 0) (with_heading block_kind.Program headed)
       (with_heading_shallow block_kind.Program headed k)) (λ begun j.
       behind ShallowUnit (program_heading begun.types (heading_of p) headed.asks) _ (λ calls.
       bind Shallow ShallowUnit (procedure_rest 0 p begun) _ (rest_shallow 0 p begun small j) (λ after i. i))))

@@ -1,3 +1,4 @@
 pub mod Parts
 pub mod Expressions
+pub mod Declared
 pub mod Blocks

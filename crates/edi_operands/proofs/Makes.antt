@@ -28,9 +28,9 @@ use Rattle.edi_spots.specs.Scene.{Scene, here, Able, Does}
 use Rattle.edi_spots.specs.Claims.{Pushed, PushedRow, PushedSet}
 use Rattle.edi_spots.specs.Constructs.{E, Es, Ms}
 use Rattle.edi_spots.specs.Instructions.{Instructed}
-use Rattle.edi_spots.proofs.Doing.{stands_after, give}
+use Rattle.edi_spots.proofs.Doing.{bind_up, give, stands_after}
 use Rattle.edi_instructed.proofs.Instructed.{instructed}
-use Rattle.edi_instructed.proofs.Binding.{bind_up, at_same}
+use Rattle.edi_instructed.proofs.Binding.{at_same}
 use Rattle.edi_operands.proofs.Unary.{table_of}
 use Rattle.edi_operands.proofs.Texts.{Constants, constants_are}
 

@@ -23,10 +23,10 @@ use Rattle.edi_operated.specs.Operated.{word_of, joined}
 use Rattle.edi_operated.proofs.Checks.{member_follows}
 use Rattle.edi_spots.specs.Coded.{Coded}
 use Rattle.edi_spots.specs.Spots.{frames_end}
-use Rattle.edi_spots.specs.Scene.{Scene, here, base_of, Stands, Able, After, Does}
+use Rattle.edi_spots.specs.Scene.{Scene, here, base_of, Stands, Able, After, Does, local_at}
 use Rattle.edi_spots.specs.Claims.{PushedSet}
 use Rattle.edi_spots.specs.Constructs.{E, Ms}
-use Rattle.edi_spots.specs.Instructions.{Instructed, local_at, effect}
+use Rattle.edi_spots.specs.Instructions.{Instructed, effect}
 use Rattle.edi_spots.proofs.Doing.{stands_after, give}
 use Rattle.edi_instructed.proofs.Instructed.{instructed}
 use Rattle.edi_instructed.proofs.Binding.{bind_value, at_same}

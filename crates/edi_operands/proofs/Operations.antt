@@ -27,8 +27,8 @@ use Rattle.edi_operated.proofs.Alone.{standard_known, int_elementary, bool_eleme
 use Rattle.edi_operated.proofs.Operators.{base_elementary}
 use Rattle.edi_operated.proofs.Checks.{one_word_each}
 use Rattle.edi_spots.specs.Coded.{Coded}
-use Rattle.edi_spots.specs.Scene.{Scene, base_of}
-use Rattle.edi_spots.specs.Instructions.{Instructed, local_at, effect}
+use Rattle.edi_spots.specs.Scene.{Scene, base_of, local_at}
+use Rattle.edi_spots.specs.Instructions.{Instructed, effect}
 use Rattle.edi_instructed.proofs.Instructed.{instructed}
 use Rattle.edi_operands.proofs.Unary.{table_of, pushes_or_fails, range_pushes, Lone, lone}
 

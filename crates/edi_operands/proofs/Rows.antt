@@ -18,9 +18,9 @@ use Rattle.edi_spots.specs.Scene.{Scene, here, Stands, Able}
 use Rattle.edi_spots.specs.Claims.{PushedRow}
 use Rattle.edi_spots.specs.Constructs.{E, Es}
 use Rattle.edi_spots.specs.Instructions.{Instructed}
-use Rattle.edi_spots.proofs.Doing.{stands_after, give}
+use Rattle.edi_spots.proofs.Doing.{bind_up, give, stands_after}
 use Rattle.edi_instructed.proofs.Instructed.{instructed}
-use Rattle.edi_instructed.proofs.Binding.{bind_value, bind_up}
+use Rattle.edi_instructed.proofs.Binding.{bind_value}
 
 -- the height of a row behind so many words more
 compound_deeper : (ts : List types.Shape) (blocks : List tree.Block) (b n k : ℕ) (es : Expressions) →

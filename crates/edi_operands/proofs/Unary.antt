@@ -31,10 +31,10 @@ use Rattle.edi_operated.proofs.Operators.{sign_follows, negation_follows}
 use Rattle.edi_operated.proofs.Checks.{conversion_follows}
 use Rattle.edi_spots.specs.Coded.{Coded}
 use Rattle.edi_spots.specs.Spots.{frames_end}
-use Rattle.edi_spots.specs.Scene.{Scene, here, base_of, Stands, Does}
+use Rattle.edi_spots.specs.Scene.{Scene, here, base_of, Stands, Does, local_at}
 use Rattle.edi_spots.specs.Claims.{Pushed}
 use Rattle.edi_spots.specs.Constructs.{E}
-use Rattle.edi_spots.specs.Instructions.{Instructed, local_at, effect}
+use Rattle.edi_spots.specs.Instructions.{Instructed, effect}
 use Rattle.edi_spots.proofs.Doing.{stands_after, give}
 use Rattle.edi_instructed.proofs.Instructed.{instructed}
 use Rattle.edi_instructed.proofs.Binding.{bind_value}

@@ -20,10 +20,10 @@ use Rattle.edi_operated.specs.Operated.{word_of, IsAlone}
 use Rattle.edi_operated.proofs.Alone.{elementary_is_alone, standard_known, bool_elementary, truth_is_tested}
 use Rattle.edi_spots.specs.Coded.{Coded, entry}
 use Rattle.edi_spots.specs.Spots.{frames_end}
-use Rattle.edi_spots.specs.Scene.{Scene, here, Stands, Able, Does}
+use Rattle.edi_spots.specs.Scene.{Scene, here, Stands, Able, Does, local_at}
 use Rattle.edi_spots.specs.Claims.{Pushed, Ran, TriedSo, Tried}
 use Rattle.edi_spots.specs.Constructs.{E, A, As, Cs}
-use Rattle.edi_spots.specs.Instructions.{Instructed, effect, local_at}
+use Rattle.edi_spots.specs.Instructions.{Instructed, effect}
 use Rattle.edi_spots.proofs.Doing.{stands_after, give, bind}
 use Rattle.edi_spots.proofs.Rises.{one_up, codes_up, acts_up, clauses_up}
 use Rattle.edi_instructed.proofs.Instructed.{instructed}

@@ -18,8 +18,8 @@ use Rattle.edi_spots.specs.Spots.{frames_end, cell_words, cells_words}
 use Rattle.edi_spots.specs.Scene.{Scene, here, Stands, Able, After, Does}
 use Rattle.edi_spots.specs.Claims.{Passed, CellsFit}
 use Rattle.edi_spots.specs.Constructs.{Xs}
-use Rattle.edi_spots.proofs.Doing.{give, stands_after}
-use Rattle.edi_instructed.proofs.Binding.{bind_up, at_same}
+use Rattle.edi_spots.proofs.Doing.{bind_up, give, stands_after}
+use Rattle.edi_instructed.proofs.Binding.{at_same}
 use Rattle.edi_instructed.proofs.Steps.{operands_stay}
 
 -- ---- heights

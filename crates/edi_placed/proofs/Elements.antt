@@ -26,10 +26,10 @@ use Rattle.edi_operated.proofs.Alone.{elementary_is_alone}
 use Rattle.edi_operated.proofs.Checks.{index_follows}
 use Rattle.edi_spots.specs.Coded.{Coded}
 use Rattle.edi_spots.specs.Spots.{frames_end, location_address, Leads}
-use Rattle.edi_spots.specs.Scene.{Scene, here, base_of, Stands, Does}
+use Rattle.edi_spots.specs.Scene.{Scene, here, base_of, Stands, Does, local_at}
 use Rattle.edi_spots.specs.Claims.{Pointed}
 use Rattle.edi_spots.specs.Constructs.{E, Ps}
-use Rattle.edi_spots.specs.Instructions.{local_at, effect}
+use Rattle.edi_spots.specs.Instructions.{effect}
 use Rattle.edi_spots.proofs.Doing.{stands_after}
 use Rattle.edi_instructed.proofs.Binding.{bind_value}
 use Rattle.edi_instructed.proofs.Effects.{word_is, index_is, pushes_address}

@@ -22,10 +22,10 @@ use Rattle.edi_worded.proofs.Paths.{path_type-push, path_offset-push, IsPath-pus
 use Rattle.edi_operated.proofs.Operators.{ordinal_elementary}
 use Rattle.edi_spots.specs.Coded.{Coded, slot_in}
 use Rattle.edi_spots.specs.Spots.{block_at, location_address, Leads}
-use Rattle.edi_spots.specs.Scene.{Scene, here, Stands}
+use Rattle.edi_spots.specs.Scene.{Scene, here, Stands, local_at}
 use Rattle.edi_spots.specs.Claims.{Pointed}
 use Rattle.edi_spots.specs.Constructs.{Ps}
-use Rattle.edi_spots.specs.Instructions.{local_at, IsPart}
+use Rattle.edi_spots.specs.Instructions.{IsPart}
 use Rattle.edi_spots.proofs.Doing.{give}
 use Rattle.edi_instructed.proofs.Effects.{word_is, field_is}
 use Rattle.edi_instructed.proofs.Steps.{pushes_then, able_then}

@@ -9,7 +9,8 @@ use Rattle.edi_spots.specs.Coded.{Coded}
 use Rattle.edi_spots.specs.Spots.{frames_end}
 use Rattle.edi_spots.specs.Scene.{Scene, base_of, Stands, After, Does}
 use Rattle.edi_spots.specs.Claims.{Pointed}
-use Rattle.edi_instructed.proofs.Binding.{bind_up, at_same}
+use Rattle.edi_spots.proofs.Doing.{bind_up}
+use Rattle.edi_instructed.proofs.Binding.{at_same}
 use Rattle.edi_instructed.proofs.Effects.{word_is, one_word}
 use Rattle.edi_instructed.proofs.Steps.{operands_stay}
 

@@ -17,9 +17,9 @@ use Rattle.edi_scheme.specs.Code.{slot_offset, procedure_code}
 use Rattle.edi_scheme.specs.Stands as code
 use Rattle.edi_spots.specs.Coded.{Coded, entry, words_in}
 use Rattle.edi_spots.specs.Spots.{frames_end, slot_address, closure_words, cell_words, IsMeantBy}
-use Rattle.edi_spots.specs.Scene.{Scene, here, base_of, Stands, Does}
+use Rattle.edi_spots.specs.Scene.{Scene, here, base_of, Stands, Does, local_at}
 use Rattle.edi_spots.specs.Constructs.{Xs}
-use Rattle.edi_spots.specs.Instructions.{local_at, effect, Reaches}
+use Rattle.edi_spots.specs.Instructions.{effect, Reaches}
 use Rattle.edi_spots.proofs.Doing.{stands_after}
 use Rattle.edi_instructed.proofs.Effects.{word_is}
 use Rattle.edi_instructed.proofs.Steps.{pushes_then, pops_pushes}

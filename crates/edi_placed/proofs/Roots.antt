@@ -21,10 +21,10 @@ use Rattle.edi_scheme.specs.Code.{slot_offset}
 use Rattle.edi_scheme.specs.Stands as code
 use Rattle.edi_spots.specs.Coded.{Coded, entry, slot_in, slots_of, words_in, offset, heading_of}
 use Rattle.edi_spots.specs.Spots.{frames_end, block_at, slot_address, location_address, cell_words, Leads, Holds}
-use Rattle.edi_spots.specs.Scene.{Scene, here, base_of, Stands, After, Does}
+use Rattle.edi_spots.specs.Scene.{Scene, here, base_of, Stands, After, Does, local_at}
 use Rattle.edi_spots.specs.Claims.{Pointed}
 use Rattle.edi_spots.specs.Constructs.{P, Ps}
-use Rattle.edi_spots.specs.Instructions.{local_at, effect, Reaches}
+use Rattle.edi_spots.specs.Instructions.{effect, Reaches}
 use Rattle.edi_spots.proofs.Doing.{stands_after, after_then}
 use Rattle.edi_instructed.proofs.Effects.{word_is}
 use Rattle.edi_instructed.proofs.Slots.{slot_is_in, value_cell, HasLocation, location_cell}

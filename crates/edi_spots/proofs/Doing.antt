@@ -153,6 +153,38 @@ module _ (g : Coded) (s : Scene) where
   pub stands_after : (F : Shape) (w v : World) (m m' : List ℕ) (t : ℕ) (c : Bool) → Stands g s F w m → After g s F w v m m' t c → Stands g s F v m'
   stands_after F w v m m' t c h k = record { shaped = k.shaped; layout = h.layout; mirrors = k.mirrors; typed = k.typed; long = k.long; others = h.others }
 
+  module _ (A : Type 0) (F : Shape) (pc top t u held : ℕ) (w : World) (m : List ℕ) where
+    -- a stretch whose operands may begin higher, at u, and what comes then
+    pub bind_up : (B : Type 0) (P : A → List ℕ → ℕ → ℕ → Type 0) (Q : B → List ℕ → ℕ → ℕ → Type 0) (r : Evaluation A) (f : A → World → Evaluation B) →
+        t ≤ u → Does g s F pc top u held w m P r →
+        ((a : A) (v : World) (m' : List ℕ) (pc' top' : ℕ) (c : Bool) → u ≤ top' → top' ≤ frames_end s.first F s.name → After g s F w v m m' u c →
+        P a m' pc' top' → Does g s F pc' top' t held v m' Q (f a v)) →
+        Does g s F pc top t held w m Q (r >>= f)
+    bind_up B P Q (gives a v) f le h k = record {
+      is = go (f a v) (k a v h.is.memory h.is.to h.is.up h.is.cleared h.is.above h.is.within h.is.after h.is.post).is;
+    }
+      where
+        go : (x : Evaluation B) → DoesSo g s F h.is.to h.is.up t held v h.is.memory Q x → DoesSo g s F pc top t held w m Q x
+        go (gives b z) x = record {
+          memory = x.memory;
+          to = x.to;
+          up = x.up;
+          cleared = h.is.cleared || x.cleared;
+          walked =
+              gets_then g.fetched s.count (is_first s.name) (Outer s) (alone s F m pc top held w) (alone s F h.is.memory h.is.to h.is.up held v)
+              (alone s F x.memory x.to x.up held z) h.is.cleared x.cleared h.is.walked x.walked;
+          after =
+              after_then F w v z m h.is.memory x.memory t h.is.cleared x.cleared
+              (after_lower F w v m h.is.memory t u h.is.cleared le h.is.after) x.after;
+          above = x.above;
+          within = x.within;
+          post = x.post;
+        }
+        go (ends e system turns) x =
+            stops_then g.fetched s.count (is_first s.name) (Outer s) (alone s F m pc top held w) (alone s F h.is.memory h.is.to h.is.up held v)
+            h.is.cleared e system turns h.is.walked x
+    bind_up B P Q (ends e system turns) f le h k = record { is = h.is }
+
   module _ {A : Type 0} (F : Shape) (pc top t held : ℕ) (w : World) (m : List ℕ) where
     -- nothing is to be done
     pub give : (Post : A → List ℕ → ℕ → ℕ → Type 0) (a : A) → Stands g s F w m → t ≤ top → top ≤ frames_end s.first F s.name → Post a m pc top →
@@ -185,22 +217,4 @@ module _ (g : Coded) (s : Scene) where
         Does g s F pc top t held w m P r →
         ((a : A) (v : World) (m' : List ℕ) (pc' top' : ℕ) (c : Bool) → t ≤ top' → top' ≤ frames_end s.first F s.name → After g s F w v m m' t c →
         P a m' pc' top' → Does g s F pc' top' t held v m' Q (f a v)) → Does g s F pc top t held w m Q (r >>= f)
-    bind P Q (gives a v) f h k = record { is = go (f a v) (k a v h.is.memory h.is.to h.is.up h.is.cleared h.is.above h.is.within h.is.after h.is.post).is }
-      where
-        go : (x : Evaluation _) → DoesSo g s F h.is.to h.is.up t held v h.is.memory Q x → DoesSo g s F pc top t held w m Q x
-        go (gives b u) x = record {
-          memory = x.memory;
-          to = x.to;
-          up = x.up;
-          cleared = h.is.cleared || x.cleared;
-          walked =
-              gets_then g.fetched s.count (is_first s.name) (Outer s) (alone s F m pc top held w) (alone s F h.is.memory h.is.to h.is.up held v)
-              (alone s F x.memory x.to x.up held u) h.is.cleared x.cleared h.is.walked x.walked;
-          after = after_then F w v u m h.is.memory x.memory t h.is.cleared x.cleared h.is.after x.after;
-          above = x.above;
-          within = x.within;
-          post = x.post;
-        }
-        go (ends e system turns) x = stops_then g.fetched s.count (is_first s.name) (Outer s) (alone s F m pc top held w)
-            (alone s F h.is.memory h.is.to h.is.up held v) h.is.cleared e system turns h.is.walked x
-    bind P Q (ends e system turns) f h k = record { is = h.is }
+    bind {B = B} P Q r f h k = bind_up A F pc top t t held w m B P Q r f (omega arith) h k

@@ -25,21 +25,8 @@ use Rattle.edi_spots.specs.Coded.{Coded, entry, slot_in, slots_of, words_in, off
 use Rattle.edi_worded.specs.Words.{value_words}
 use Rattle.edi_spots.specs.Spots.{address, frames_end, block_at, slot_address, location_address, cell_words, closure_words, Leads}
 use Rattle.edi_spots.specs.Walks.{Moves}
-use Rattle.edi_spots.specs.Scene.{Scene, Outer, alone, here, base_of, Stands, Able, After, Does, stops}
+use Rattle.edi_spots.specs.Scene.{Scene, Outer, alone, local_at, here, base_of, Stands, Able, After, Does, stops}
 use Rattle.edi_spots.specs.Claims.{Pushed, Ran}
-
--- the process with these frames, as an instruction has it
-abbrev pub local_at : Scene → Shape → List ℕ → (pc top held : ℕ) → Local
-local_at s F m pc top held = record {
-  memory = m;
-  base = address s.first F (now F s.name);
-  end = frames_end s.first F s.name;
-  top = top;
-  pc = pc;
-  first = s.first s.name;
-  last = s.first s.name + s.size s.name;
-  held = held;
-}
 
 -- ---- words in a row
 

@@ -7,6 +7,7 @@ use Rattle.edi_meaning.specs.Store.{Shape, now, Owns}
 use Rattle.edi_meaning.specs.Evaluation.{World, Evaluation, gives, ends}
 use Rattle.edi_meaning.proofs.Frames.{HasShape}
 use Rattle.edi_target.specs.Memory.{word}
+use Rattle.edi_target.specs.Effect.{Local}
 use Rattle.edi_target.specs.Mach.{IsAncestor, is_first}
 use Rattle.edi_spots.specs.Coded.{Coded}
 use Rattle.edi_spots.specs.Spots.{address, frames_end, block_at, bottom, Layout, Mirrors, Typed, IsOther}
@@ -35,23 +36,23 @@ module _ (s : Scene) where
       ((a < s.first s.name) ⊎ (s.first s.name + s.size s.name ≤ a))
       × ((q : Name) → IsAncestor q s.name → s.live q → (a < s.first q) ⊎ (frames_end s.first s.around q ≤ a))
 
+  -- the process with these frames, as an instruction has it
+  abbrev pub local_at : Shape → List ℕ → (pc top held : ℕ) → Local
+  local_at F m pc top held = record {
+    memory = m;
+    base = address s.first F (now F s.name);
+    end = frames_end s.first F s.name;
+    top = top;
+    pc = pc;
+    first = s.first s.name;
+    last = s.first s.name + s.size s.name;
+    held = held;
+  }
+
   -- the process alone: all of it is told by its frames but the memory, the program counter, the top, and how many critical
   -- phases and function calls it is in
   abbrev pub alone : Shape → List ℕ → (pc top held : ℕ) → World → Walker
-  alone F m pc top held w = record {
-    local = record {
-      memory = m;
-      base = address s.first F (now F s.name);
-      end = frames_end s.first F s.name;
-      top = top;
-      pc = pc;
-      first = s.first s.name;
-      last = s.first s.name + s.size s.name;
-      held = held;
-    };
-    system = w.system;
-    turns = w.turns;
-  }
+  alone F m pc top held w = record { local = local_at F m pc top held; system = w.system; turns = w.turns }
 
 module _ (g : Coded) (s : Scene) where
   abbrev pub here : Shape → ℕ

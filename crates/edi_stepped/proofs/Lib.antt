@@ -2,5 +2,4 @@ pub mod Local
 pub mod Attempt
 pub mod Chosen
 pub mod Items
-pub mod Choices
 pub mod Stepped
