@@ -47,6 +47,16 @@ fn run_code(
 /// ENTRY 9 0 3 0 0; CONST 97; CALLP 0 5 1; RETURN 0 0.
 const LETTER: [u16; 15] = [33, 9, 0, 3, 0, 0, 1, 97, 35, 0, 5, 1, 37, 0, 0];
 
+/// The same with QUIET 0 12 in place of RETURN.
+const QUIET: [u16; 15] = [33, 9, 0, 3, 0, 0, 1, 97, 35, 0, 5, 1, 44, 0, 12];
+
+/// At 22 a TEXT with the words of ENTRY 5 0 0 0 0; QUIET 0 30. The descriptor in words 5 to 7 of the frame is 0, 24 and the
+/// frame itself, so that CALLP enters the first of them.
+const INSIDE: [u16; 33] = [
+    33, 12, 0, 0, 3, 0, 4, 0, 5, 1, 0, 1, 24, 4, 0, 0, 8, 3, 35, 0, 5, 1, 2, 9, 33, 5, 0, 0, 0, 0,
+    44, 0, 30,
+];
+
 /// main calls p, which calls itself at line 2, and so on.
 const RECURSION: [u16; 28] = [
     33, 8, 0, 3, 0, 0, 34, 0, 0, 14, 2, 37, 0, 0, 33, 5, 0, 0, 0, 0, 34, 0, 0, 14, 2, 37, 0, 0,
@@ -77,7 +87,7 @@ const LETTERS: [u16; 60] = [
 
 #[test]
 fn runs_end_as_worked_out(rt: HostRuntime) -> Result<(), Fail> {
-    let cases: [(&[u16], &[u8], &[u8], u64, Ending, u64, u64, &[u8]); 16] = [
+    let cases: [(&[u16], &[u8], &[u8], u64, Ending, u64, u64, &[u8]); 18] = [
         (&LETTER, &[2], &[], 1000, Ending::Done, 2, 0, b"a"),
         (&LETTER, &[2], &[], 2, Ending::Done, 2, 0, b"a"),
         (&LETTER, &[2], &[], 1, Ending::Turns, 1, 0, b"a"),
@@ -124,6 +134,10 @@ fn runs_end_as_worked_out(rt: HostRuntime) -> Result<(), Fail> {
             0,
             b"",
         ),
+        // the QUIET at 12 wants held 1
+        (&QUIET, &[2], &[], 9, Ending::Bad(12), 1, 0, b"a"),
+        // the call enters an ENTRY inside a TEXT, and behind it stands a QUIET
+        (&INSIDE, &[], &[], 9, Ending::Bad(30), 2, 0, b""),
     ];
     for (words, numbers, choices, bound, ending, turns, drawn, shown) in cases {
         let ran = run_code(&rt, rt.alloc(), words, numbers, choices, bound)?;
