@@ -3,6 +3,7 @@
 ghost use Rattle.std.specs.Prelude.{◌≡◌, ◌≤◌, ◌<◌, ◌+◌, ◌^◌, ◌↔◌, IfErr, IfOk, None, Some, IsSome, ⊤};
 ghost use Rattle.edi_told.specs.Faults.{CountRose};
 ghost use Rattle.edi_told.specs.Told.{WhereTold};
+ghost use Rattle.edi_catalog.specs.Taken.{IsOfCount};
 ghost use Rattle.edi_image.specs.Image.{mount_fault_of};
 ghost use Rattle.edi_image.specs.Finds.{IsFirst};
 ghost use Rattle.edi_kernel.specs.Kernel.{StandsAtEnd};
@@ -54,8 +55,10 @@ pub fn run_on<D: Drive, S: Source, T: Sink, P: Sink>(
     ensures valid { IfOk result (λ ran. IsValid (D.contents drive.new)) }
     // The drive has as many blocks as before, whatever the answer.
     ensures size { D.count drive.new ≡ D.count drive.old }
-    // The drive was a valid image before, and the kernel took no more turns than the bound.
+    // The drive was a valid image before, of 64 to 4096 blocks or of none, and the kernel took no more turns than the bound.
     ensures mounted { IfOk result (λ ran. WhereTold (D.contents drive.old) (D.contents drive.new) (λ old new. mount_fault_of old ≡ None)) }
+    ensures least { IfOk result (λ ran. 0 < D.count drive.old → D.count drive.old < 64 → ⊥) }
+    ensures most { IfOk result (λ ran. D.count drive.old ≤ 4096) }
     ensures used { IfOk result (λ ran. kernel.new.used ≤ bound) }
     ensures standing { IfOk result (λ ran. StandsAtEnd (Some ran.ending) kernel.new.table kernel.new.arrived) }
     // An object has failed exactly where the ending says so, and its count rose.
@@ -65,11 +68,12 @@ pub fn run_on<D: Drive, S: Source, T: Sink, P: Sink>(
         (faults_in D.faults S.faults T.faults P.faults (objects drive.new input.new terminal.new printer.new))) }
     ensures later { NoneFalls D.faults S.faults T.faults P.faults
         (objects drive.old input.old terminal.old printer.old) (objects drive.new input.new terminal.new printer.new) }
-    // A drive that is not mounted keeps its blocks; then nothing else has changed.
+    // A drive that is not mounted keeps its blocks, and the fault fits their number; then nothing else has changed.
     ensures not_mounted { IfErr result (λ why. WhereTold (D.contents drive.old) (D.contents drive.new)
         (λ old new. (new ≡ old) × IsFirst why (mount_fault_of old))) }
     ensures nothing_run { IfErr result (λ why. (input.new ≡ input.old) × (terminal.new ≡ terminal.old) × (printer.new ≡ printer.old)
         × (kernel.new ≡ kernel.old) × (choices.new ≡ choices.old)) }
+    ensures faults { IfErr result (IsOfCount (D.count drive.old)) }
     ensures cause { IfErr result (λ why. why ≡ MountFault.Fault → CountRose (D.faults drive.old) (D.faults drive.new)) }
     ensures source { choices.new.source ≡ choices.old.source }
     ensures drawn { choices.new.drawn ≤ choices.old.drawn + bound }

@@ -1,4 +1,4 @@
-use Rattle.std.proofs.Common.{rules}
+use Rattle.std.proofs.Common.{◌≡◌, ◌<◌, ap, arith, rules, subst}
 use Rattle.edi_disk.specs.Shown.{drive_of}
 use Rattle.edi_execute.proofs.Runs.{mounted_run, none_falls, only_read, run_leaves}
 use Rattle.edi_execute.proofs.run.run_on.Goals as goal
@@ -34,3 +34,13 @@ returns-clause-later g c =
     none_falls _ _ _ _ c.new-system.result c.execute-ending.new.system _ _ (search rules) (search rules) (search rules) (search rules)
     (record { drive = search rules; input = search rules; terminal = search rules; printer = search rules })
     c.execute-ending.ensures.keeps.later
+
+pub returns-clause-least : goal.returns-clause-least
+returns-clause-least g c = λ some few.
+    let same : c.args.drive.now ≡ drive_of c.attach-disk.result = search rules in
+    let never = c.in-Ok-check.ensures.short (subst (λ d. 0 < g.D.Drive.count d) same some) (subst (λ d. g.D.Drive.count d < 64) same few) in absurd (cc)
+
+pub returns-clause-most : goal.returns-clause-most
+returns-clause-most g c =
+    let same : c.args.drive.now ≡ drive_of c.attach-disk.result = search rules in
+    omega (arith, c.in-Ok-check.ensures.checked.most, c.check.ensures.count, ap g.D.Drive.count same)
