@@ -27,6 +27,16 @@ const CLOSE: u8 = 9;
 
 const REMOVE: u8 = 10;
 
+/// No call: a file of so many characters is begun and written.
+const FILE: u8 = 11;
+
+/// No call: the number of free blocks.
+const FREE: u8 = 12;
+
+/// A call with a character (for `FILE` their number) and a title, as far as it takes them, and what it answers: its word,
+/// 0 where it has none, and 1000 or more for another end than `Ok`.
+type Step = (u8, u32, &'static str, u16);
+
 /// Makes a call with an answer word, and gives it.
 fn ask<C: Calls>(rt: &impl Abort, calls: &mut C, number: u8, args: &[u16]) -> (CallEnd, u16)
     requires from { 1 ≤ number }
@@ -85,11 +95,52 @@ fn title(text: &str) -> [u16; 12] {
     words
 }
 
-/// Writes a file of so many characters.
-fn write(rt: &impl Abort, calls: &mut MemoryCalls, length: usize) {
-    assert_eq!(rt; end(rt, calls, FRESH, &[]), CallEnd::Ok);
+/// What the end of a call without answer is in a `Step`.
+fn ended(end: CallEnd) -> u16 {
+    match end {
+        CallEnd::Ok => 0,
+        CallEnd::NoFile => 1_000,
+        CallEnd::FileLimit => 1_001,
+        CallEnd::OutsideFault => 1_002,
+    }
+}
+
+/// Begins a file and writes so many characters.
+fn write(rt: &impl Abort, calls: &mut MemoryCalls, length: u32) -> u16 {
+    let mut last = ended(end(rt, calls, FRESH, &[]));
     for _ in 0..length {
-        assert_eq!(rt; end(rt, calls, WRITE, &[97]), CallEnd::Ok);
+        if last == 0 {
+            last = ended(end(rt, calls, WRITE, &[97]));
+        }
+    }
+    last
+}
+
+/// What a call of a system which works answers.
+fn made(rt: &impl Abort, calls: &mut MemoryCalls, number: u8, character: u32, text: &str) -> u16 {
+    if number == FILE {
+        return write(rt, calls, character);
+    }
+    if number == FREE {
+        return (calls.free_blocks() % 65_536) as u16;
+    }
+    if number < 1 || number > 10 {
+        return 1_003;
+    }
+    match words_of(number) {
+        (0, 1) => answer(rt, calls, number, &[]),
+        (12, 1) => answer(rt, calls, number, &title(text)),
+        (0, 0) => ended(end(rt, calls, number, &[])),
+        (1, 0) => ended(end(rt, calls, number, &[(character % 65_536) as u16])),
+        _ => 1_003,
+    }
+}
+
+/// Makes the calls of a table.
+fn walk(rt: &impl Abort, calls: &mut MemoryCalls, steps: &[Step]) {
+    for (number, character, text, word) in steps {
+        let found = made(rt, calls, *number, *character, text);
+        assert_eq!(rt; found, *word, "call {number} {text}");
     }
 }
 
@@ -154,12 +205,18 @@ fn files_take_blocks(rt: HostRuntime) -> Result<(), Fail> {
 #[test]
 fn terminal_and_printer_take_characters(rt: HostRuntime) -> Result<(), Fail> {
     let mut calls = MemoryCalls::new(rt.alloc(), b"x\xf8", 0)?;
-    for word in [120, 120, 25, 25] {
-        let c = answer(&rt, &mut calls, ACCEPT, &[]);
-        assert_eq!(rt; c, word);
-        assert_eq!(rt; end(&rt, &mut calls, DISPLAY, &[c]), CallEnd::Ok);
-    }
-    assert_eq!(rt; end(&rt, &mut calls, PRINT, &[0xff41]), CallEnd::Ok);
+    let steps = [
+        (ACCEPT, 0, "", 120),
+        (DISPLAY, 120, "", 0),
+        (ACCEPT, 0, "", 120),
+        (DISPLAY, 120, "", 0),
+        (ACCEPT, 0, "", 25),
+        (DISPLAY, 25, "", 0),
+        (ACCEPT, 0, "", 25),
+        (DISPLAY, 25, "", 0),
+        (PRINT, 0xff41, "", 0),
+    ];
+    walk(&rt, &mut calls, &steps);
     assert_eq!(rt; calls.shown(), b"xx\x19\x19".as_slice());
     assert_eq!(rt; calls.printed(), b"A".as_slice());
     assert_eq!(rt; calls.faults(Outside::Terminal), 0);
@@ -169,32 +226,31 @@ fn terminal_and_printer_take_characters(rt: HostRuntime) -> Result<(), Fail> {
 #[test]
 fn files_are_written_and_read(rt: HostRuntime) -> Result<(), Fail> {
     let mut calls = MemoryCalls::new(rt.alloc(), b"", 64)?;
-    assert_eq!(rt; calls.free_blocks(), 31);
-    assert_eq!(rt; answer(&rt, &mut calls, MORE, &[]), 1_000);
-    assert_eq!(rt; answer(&rt, &mut calls, READ, &[]), 1_000);
-    assert_eq!(rt; end(&rt, &mut calls, WRITE, &[97]), CallEnd::NoFile);
-    assert_eq!(rt; answer(&rt, &mut calls, CLOSE, &title("9")), 1_000);
-    write(&rt, &mut calls, 2);
-    assert_eq!(rt; answer(&rt, &mut calls, CLOSE, &title("9")), 0);
-    assert_eq!(rt; answer(&rt, &mut calls, CLOSE, &title("t")), 1);
-    assert_eq!(rt; answer(&rt, &mut calls, CLOSE, &title("t")), 1_000);
-    assert_eq!(rt; calls.free_blocks(), 29);
-    assert_eq!(rt; answer(&rt, &mut calls, FIND, &title("u")), 0);
-    assert_eq!(rt; answer(&rt, &mut calls, FIND, &title("t")), 1);
-    for (call, word) in [
-        (MORE, 1),
-        (READ, 97),
-        (READ, 97),
-        (MORE, 0),
-        (READ, 25),
-        (READ, 25),
-    ] {
-        assert_eq!(rt; answer(&rt, &mut calls, call, &[]), word);
-    }
-    assert_eq!(rt; answer(&rt, &mut calls, REMOVE, &title("t")), 1);
-    assert_eq!(rt; answer(&rt, &mut calls, REMOVE, &title("t")), 0);
-    assert_eq!(rt; answer(&rt, &mut calls, MORE, &[]), 1_000);
-    assert_eq!(rt; calls.free_blocks(), 31);
+    let steps = [
+        (FREE, 0, "", 31),
+        (MORE, 0, "", 1_000),
+        (READ, 0, "", 1_000),
+        (WRITE, 97, "", 1_000),
+        (CLOSE, 0, "9", 1_000),
+        (FILE, 2, "", 0),
+        (CLOSE, 0, "9", 0),
+        (CLOSE, 0, "t", 1),
+        (CLOSE, 0, "t", 1_000),
+        (FREE, 0, "", 29),
+        (FIND, 0, "u", 0),
+        (FIND, 0, "t", 1),
+        (MORE, 0, "", 1),
+        (READ, 0, "", 97),
+        (READ, 0, "", 97),
+        (MORE, 0, "", 0),
+        (READ, 0, "", 25),
+        (READ, 0, "", 25),
+        (REMOVE, 0, "t", 1),
+        (REMOVE, 0, "t", 0),
+        (MORE, 0, "", 1_000),
+        (FREE, 0, "", 31),
+    ];
+    walk(&rt, &mut calls, &steps);
     Ok(())
 }
 
@@ -208,8 +264,8 @@ fn files_need_room(rt: HostRuntime) -> Result<(), Fail> {
             calls.add(rt.alloc(), b"first", FileKind::Text, false, &bytes)?,
             true
         );
-        write(&rt, &mut calls, 513);
-        assert_eq!(rt; answer(&rt, &mut calls, CLOSE, &title("second")), done);
+        let steps = [(FILE, 513, "", 0), (CLOSE, 0, "second", done)];
+        walk(&rt, &mut calls, &steps);
     }
     Ok(())
 }
@@ -218,39 +274,48 @@ fn files_need_room(rt: HostRuntime) -> Result<(), Fail> {
 fn a_replaced_file_still_takes_its_blocks(rt: HostRuntime) -> Result<(), Fail> {
     // 4 blocks for files: one of 513 bytes takes 3 of them, and cannot be replaced by one as long.
     let mut calls = MemoryCalls::new(rt.alloc(), b"", 37)?;
-    write(&rt, &mut calls, 513);
-    assert_eq!(rt; answer(&rt, &mut calls, CLOSE, &title("t")), 1);
-    write(&rt, &mut calls, 513);
-    assert_eq!(rt; answer(&rt, &mut calls, CLOSE, &title("t")), 0);
-    write(&rt, &mut calls, 0);
-    assert_eq!(rt; answer(&rt, &mut calls, CLOSE, &title("t")), 1);
-    assert_eq!(rt; calls.free_blocks(), 3);
+    let steps = [
+        (FILE, 513, "", 0),
+        (CLOSE, 0, "t", 1),
+        (FILE, 513, "", 0),
+        (CLOSE, 0, "t", 0),
+        (FILE, 0, "", 0),
+        (CLOSE, 0, "t", 1),
+        (FREE, 0, "", 3),
+    ];
+    walk(&rt, &mut calls, &steps);
     Ok(())
 }
 
 #[test]
 fn protected_files_and_code_stay_as_they_are(rt: HostRuntime) -> Result<(), Fail> {
     let mut calls = MemoryCalls::new(rt.alloc(), b"", 64)?;
-    assert_eq!(rt;
-        calls.add(rt.alloc(), b"p", FileKind::Text, true, b"kept")?,
-        true
-    );
-    assert_eq!(rt;
-        calls.add(rt.alloc(), b"p", FileKind::Text, false, b"")?,
-        false
-    );
-    assert_eq!(rt;
-        calls.add(rt.alloc(), b"code", FileKind::Code, false, b"c")?,
-        true
-    );
-    assert_eq!(rt; answer(&rt, &mut calls, FIND, &title("p")), 1);
-    write(&rt, &mut calls, 1);
-    assert_eq!(rt; answer(&rt, &mut calls, CLOSE, &title("p")), 0);
-    assert_eq!(rt; answer(&rt, &mut calls, REMOVE, &title("p")), 0);
-    assert_eq!(rt; answer(&rt, &mut calls, READ, &[]), 107);
-    assert_eq!(rt; answer(&rt, &mut calls, FIND, &title("code")), 0);
-    assert_eq!(rt; answer(&rt, &mut calls, READ, &[]), 1_000);
-    assert_eq!(rt; answer(&rt, &mut calls, CLOSE, &title("code")), 1);
+    let files: [(&str, FileKind, bool, &str, bool); 3] = [
+        ("p", FileKind::Text, true, "kept", true),
+        ("p", FileKind::Text, false, "", false),
+        ("code", FileKind::Code, false, "c", true),
+    ];
+    for (text, kind, protected, bytes, done) in files {
+        let added = calls.add(
+            rt.alloc(),
+            text.as_bytes(),
+            kind,
+            protected,
+            bytes.as_bytes(),
+        )?;
+        assert_eq!(rt; added, done, "{text}");
+    }
+    let steps = [
+        (FIND, 0, "p", 1),
+        (FILE, 1, "", 0),
+        (CLOSE, 0, "p", 0),
+        (REMOVE, 0, "p", 0),
+        (READ, 0, "", 107),
+        (FIND, 0, "code", 0),
+        (READ, 0, "", 1_000),
+        (CLOSE, 0, "code", 1),
+    ];
+    walk(&rt, &mut calls, &steps);
     assert_eq!(rt; calls.slot(1).expect(&rt, "a file").kind(), FileKind::Text);
     assert_eq!(rt;
         calls.file(b"p").expect(&rt, "a file").bytes(),
@@ -262,34 +327,34 @@ fn protected_files_and_code_stay_as_they_are(rt: HostRuntime) -> Result<(), Fail
 #[test]
 fn a_file_has_at_most_261120_bytes(rt: HostRuntime) -> Result<(), Fail> {
     let mut calls = MemoryCalls::new(rt.alloc(), b"", 4_096)?;
-    write(&rt, &mut calls, 261_120);
-    assert_eq!(rt; end(&rt, &mut calls, WRITE, &[97]), CallEnd::FileLimit);
-    assert_eq!(rt; answer(&rt, &mut calls, CLOSE, &title("t")), 1);
-    assert_eq!(rt; calls.free_blocks(), 4_096 - 33 - 512);
+    let steps = [
+        (FILE, 261_120, "", 0),
+        (WRITE, 97, "", 1_001),
+        (CLOSE, 0, "t", 1),
+        // 4096 blocks less 33 of the catalogue and 512 of the file
+        (FREE, 0, "", 3_551),
+    ];
+    walk(&rt, &mut calls, &steps);
     Ok(())
 }
 
 #[test]
 fn there_are_256_slots(rt: HostRuntime) -> Result<(), Fail> {
     let mut calls = MemoryCalls::new(rt.alloc(), b"", 4_096)?;
-    for i in 0..256u32 {
+    for i in 0..257u32 {
         let text = format!(in rt.alloc(); "t{i}")?;
-        assert_eq!(rt;
-            calls.add(rt.alloc(), text.as_bytes(), FileKind::Text, false, b"")?,
-            true
-        );
+        let added = calls.add(rt.alloc(), text.as_bytes(), FileKind::Text, false, b"")?;
+        assert_eq!(rt; added, i < 256, "{i}");
     }
-    assert_eq!(rt;
-        calls.add(rt.alloc(), b"u", FileKind::Text, false, b"")?,
-        false
-    );
-    write(&rt, &mut calls, 0);
-    assert_eq!(rt; answer(&rt, &mut calls, CLOSE, &title("u")), 0);
-    assert_eq!(rt; answer(&rt, &mut calls, CLOSE, &title("t7")), 1);
-    assert_eq!(rt; answer(&rt, &mut calls, REMOVE, &title("t9")), 1);
+    let first = [
+        (FILE, 0, "", 0),
+        (CLOSE, 0, "u", 0),
+        (CLOSE, 0, "t7", 1),
+        (REMOVE, 0, "t9", 1),
+    ];
+    walk(&rt, &mut calls, &first);
     calls.fresh();
-    write(&rt, &mut calls, 0);
-    assert_eq!(rt; answer(&rt, &mut calls, CLOSE, &title("u")), 1);
+    walk(&rt, &mut calls, &[(FILE, 0, "", 0), (CLOSE, 0, "u", 1)]);
     assert_eq!(rt;
         calls.slot(9).expect(&rt, "a file").title(),
         b"u".as_slice()
