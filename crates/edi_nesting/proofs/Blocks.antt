@@ -12,11 +12,11 @@ use Rattle.edi_tree.specs.Depth.{member_depth, members_depth, declaration_depth,
 use Rattle.edi_unit.specs.declared.units.BlockKind.{BlockKind}
 use Rattle.edi_unit.specs.declared.units.BlockKind.TheVariants as block_kind
 use Rattle.edi_unit.specs.Types.{greatest_size, int_type, bool_type}
-use Rattle.edi_unit.specs.Tree.{Act, Acts, no_act, act_then, Clause, Clauses, Block, ProgramUnit}
+use Rattle.edi_unit.specs.Tree.{Act, Acts, no_act, act_then, Clause, Clauses, clause_then, Block, ProgramUnit}
 use Rattle.edi_unit.specs.Need.{no_block, block_at, need}
 use Rattle.edi_unit.specs.Fits.{heading_result, heading_formals}
 use Rattle.edi_static.specs.declared.faults.StaticKind.TheVariants as kind
-use Rattle.edi_static.specs.Judged.{◌>>=◌}
+use Rattle.edi_static.specs.Judged.{Judged, gives, ◌>>=◌}
 use Rattle.edi_static.specs.Environment.{Environment, at_first, look_up, declare, enter, here, set_block}
 use Rattle.edi_static.specs.Types.{constant}
 use Rattle.edi_static.specs.Headings.{Listed, Headed, round, own_name}
@@ -148,24 +148,33 @@ module _ (levels : ℕ) where
   leave_branch_shallow before line done d less h =
       bind Shallow ShallowAfter _ _ (close_shallow _ done.what line done.env (omega (arith, less, h.1)) h.0) (λ e k. k)
 
+  -- a first part, and the rest of a list
+  acts_joined : (a b : ℕ) (one : Judged (After Act)) (rest : After Act → Judged (After Acts)) → Gives (ActDone a) one
+      → ((first : After Act) → Shallow first.env → Gives (ActsDone b) (rest first))
+      → Gives (ActsDone (max a b)) (one >>= λ first. rest first >>= λ others. gives (record { what = act_then first.what others.what; env = others.env }))
+  acts_joined a b one rest h more =
+      bind (ActDone a) (ActsDone (max a b)) one _ h (λ first k.
+      bind (ActsDone b) (ActsDone (max a b)) (rest first) _ (more first k.0) (λ others j. (j.0, omega (arith, k.1, j.1))))
+
+  clauses_joined : (a b : ℕ) (one : Judged (After Clause)) (rest : After Clause → Judged (After Clauses)) → Gives (ClauseDone a) one
+      → ((first : After Clause) → Shallow first.env → Gives (ClausesDone b) (rest first))
+      → Gives (ClausesDone (max a b)) (one >>= λ first. rest first >>= λ others. gives (record { what = clause_then first.what others.what; env = others.env }))
+  clauses_joined a b one rest h more =
+      bind (ClauseDone a) (ClausesDone (max a b)) one _ h (λ first k.
+      bind (ClausesDone b) (ClausesDone (max a b)) (rest first) _ (more first k.0) (λ others j. (j.0, omega (arith, k.1, j.1))))
+
   mutual
     list_shallow : (s : text.StatementList) (env : Environment) → list_depth s < levels → Shallow env → Gives (ActsDone (list_depth s)) (statement_list s env)
     list_shallow (text.list s more) env less h =
-        bind (ActDone (statement_depth s)) (ActsDone (max (statement_depth s) (statements_depth more))) _ _ (statement_shallow s env (omega (arith, less)) h)
-        (λ one k.
-        bind (ActsDone (statements_depth more)) (ActsDone (max (statement_depth s) (statements_depth more))) _ _
-        (statements_shallow more one.env (omega (arith, less)) k.0) (λ others j.
-        (j.0, omega (arith, k.1, j.1))))
+        acts_joined (statement_depth s) (statements_depth more) (statement s env) (λ one. statements more one.env)
+        (statement_shallow s env (omega (arith, less)) h) (λ one k. statements_shallow more one.env (omega (arith, less)) k)
 
     statements_shallow : (s : text.Statements) (env : Environment) → statements_depth s < levels → Shallow env → Gives (ActsDone (statements_depth s))
         (statements s env)
     statements_shallow text.no_statement env less h = (h, omega arith)
     statements_shallow (text.next_statement s more) env less h =
-        bind (ActDone (statement_depth s)) (ActsDone (max (statement_depth s) (statements_depth more))) _ _ (statement_shallow s env (omega (arith, less)) h)
-        (λ one k.
-        bind (ActsDone (statements_depth more)) (ActsDone (max (statement_depth s) (statements_depth more))) _ _
-        (statements_shallow more one.env (omega (arith, less)) k.0) (λ others j.
-        (j.0, omega (arith, k.1, j.1))))
+        acts_joined (statement_depth s) (statements_depth more) (statement s env) (λ one. statements more one.env)
+        (statement_shallow s env (omega (arith, less)) h) (λ one k. statements_shallow more one.env (omega (arith, less)) k)
 
     statement_shallow : (s : text.Statement) (env : Environment) → statement_depth s < levels → Shallow env → Gives (ActDone (statement_depth s))
         (statement s env)
@@ -196,20 +205,14 @@ module _ (levels : ℕ) where
     conditions_shallow : (cs : text.Conditions) (env : Environment) → conditions_depth cs < levels → Shallow env → Gives (ClausesDone (conditions_depth cs))
         (conditions cs env)
     conditions_shallow (text.conditions c more) env less h =
-        bind (ClauseDone (condition_depth c)) (ClausesDone (max (condition_depth c) (else_depth more))) _ _ (condition_shallow c env (omega (arith, less)) h)
-        (λ one k.
-        bind (ClausesDone (else_depth more)) (ClausesDone (max (condition_depth c) (else_depth more))) _ _
-        (elses_shallow more one.env (omega (arith, less)) k.0) (λ others j.
-        (j.0, omega (arith, k.1, j.1))))
+        clauses_joined (condition_depth c) (else_depth more) (condition c env) (λ one. elses more one.env)
+        (condition_shallow c env (omega (arith, less)) h) (λ one k. elses_shallow more one.env (omega (arith, less)) k)
 
     elses_shallow : (cs : text.Else) (env : Environment) → else_depth cs < levels → Shallow env → Gives (ClausesDone (else_depth cs)) (elses cs env)
     elses_shallow text.no_else env less h = (h, omega arith)
     elses_shallow (text.next_else c more) env less h =
-        bind (ClauseDone (condition_depth c)) (ClausesDone (max (condition_depth c) (else_depth more))) _ _ (condition_shallow c env (omega (arith, less)) h)
-        (λ one k.
-        bind (ClausesDone (else_depth more)) (ClausesDone (max (condition_depth c) (else_depth more))) _ _
-        (elses_shallow more one.env (omega (arith, less)) k.0) (λ others j.
-        (j.0, omega (arith, k.1, j.1))))
+        clauses_joined (condition_depth c) (else_depth more) (condition c env) (λ one. elses more one.env)
+        (condition_shallow c env (omega (arith, less)) h) (λ one k. elses_shallow more one.env (omega (arith, less)) k)
 
     condition_shallow : (c : text.Condition) (env : Environment) → condition_depth c < levels → Shallow env → Gives (ClauseDone (condition_depth c))
         (condition c env)
