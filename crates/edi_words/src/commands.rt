@@ -1,7 +1,7 @@
 //! Commands with their operands and options.
 
 /// Where the choices of a run come from.
-#[derive(Clone, Copy, Debug, PartialEq, Eq)]
+#[derive(Clone, Copy, PartialEq, Eq)]
 pub enum ChoicesFrom<'a> {
     /// There are none: the first ready process is always taken.
     Nowhere,
@@ -12,7 +12,7 @@ pub enum ChoicesFrom<'a> {
 }
 
 /// How a run is to go.
-#[derive(Clone, Copy, Debug, PartialEq, Eq)]
+#[derive(Clone, Copy, PartialEq, Eq)]
 pub struct Options<'a> {
     /// The bound on the turns, 1 to 1,000,000,000.
     pub turns: u32,
@@ -23,7 +23,7 @@ pub struct Options<'a> {
 }
 
 /// A command. Its names of files and titles are texts of the words.
-#[derive(Clone, Copy, Debug, PartialEq, Eq)]
+#[derive(Clone, Copy, PartialEq, Eq)]
 pub enum Command<'a> {
     /// `run FILE`: runs the program of a text.
     Run {

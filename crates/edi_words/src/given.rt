@@ -75,17 +75,23 @@ fn choices_by<'a>(files: &[&'a str], seeds: &[&'a str]) -> Option<ChoicesFrom<'a
     }
 }
 
+fn at_most(most: usize, values: &[&str]) -> bool
+    ensures { result ≡ words.at_most most (texts values.now) }
+{
+    values.len() <= most
+}
+
 impl<'m, 'a> Given<'m, 'a> {
     /// Whether only these options are given, each at most so many times: `--turns`; `--choices`, `--seed` and `--record`;
     /// and `--from`.
     pub(crate) fn takes(&self, turns: usize, others: usize, from: usize) -> bool
         ensures { result ≡ words.takes turns others from (given_view self.now) }
     {
-        self.turns.len() <= turns
-            && self.choices.len() <= others
-            && self.seeds.len() <= others
-            && self.record_files.len() <= others
-            && self.old_disks.len() <= from
+        at_most(turns, self.turns)
+            && at_most(others, self.choices)
+            && at_most(others, self.seeds)
+            && at_most(others, self.record_files)
+            && at_most(from, self.old_disks)
     }
 
     /// The bound on the turns, a million where none is given.

@@ -105,12 +105,11 @@ fn new_disk<'a>(operands: &[&'a str], given: &Given<'_, 'a>) -> Option<(u16, Opt
     Some((blocks as u16, given.old_disk()))
 }
 
-/// `put FILE TITLE`.
-fn put_file<'a>(operands: &[&'a str], given: &Given<'_, 'a>) -> Option<(&'a str, &'a str)>
-    ensures exact { option_map (λ p. (p.0.now, p.1.now)) result ≡ words.put_file (texts operands.now) (given_view given.now) }
+/// The file and the title, if that is one.
+fn with_title<'a>(file: &'a str, title: &'a str) -> Option<(&'a str, &'a str)>
+    ensures exact { option_map (λ p. (p.0.now, p.1.now)) result ≡ words.with_title file.entry.now title.entry.now }
     ensures range { IfSome result (λ p. is_a_title p.1.now ≡ true) }
 {
-    let (file, title) = only_files(operands, given)?;
     if is_title(title.as_bytes()) {
         Some((file, title))
     } else {
@@ -118,17 +117,28 @@ fn put_file<'a>(operands: &[&'a str], given: &Given<'_, 'a>) -> Option<(&'a str,
     }
 }
 
+/// `put FILE TITLE`.
+fn put_file<'a>(operands: &[&'a str], given: &Given<'_, 'a>) -> Option<(&'a str, &'a str)>
+    ensures exact { option_map (λ p. (p.0.now, p.1.now)) result ≡ words.put_file (texts operands.now) (given_view given.now) }
+    ensures range { IfSome result (λ p. is_a_title p.1.now ≡ true) }
+{
+    if !given.takes(0, 0, 0) {
+        return None;
+    }
+    let (file, title) = two_operands(operands)?;
+    with_title(file, title)
+}
+
 /// `get TITLE FILE`, as the file and the title.
 fn get_file<'a>(operands: &[&'a str], given: &Given<'_, 'a>) -> Option<(&'a str, &'a str)>
     ensures exact { option_map (λ p. (p.0.now, p.1.now)) result ≡ words.get_file (texts operands.now) (given_view given.now) }
     ensures range { IfSome result (λ p. is_a_title p.1.now ≡ true) }
 {
-    let (title, file) = only_files(operands, given)?;
-    if is_title(title.as_bytes()) {
-        Some((file, title))
-    } else {
-        None
+    if !given.takes(0, 0, 0) {
+        return None;
     }
+    let (title, file) = two_operands(operands)?;
+    with_title(file, title)
 }
 
 /// `demo N`.
