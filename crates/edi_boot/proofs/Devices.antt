@@ -1,15 +1,12 @@
 -- What a session leaves, in the words of commands.
-use Rattle.std.proofs.Common.{◌≡◌, ◌∙◌, ◌++◌, ◌+◌, ◌*◌, ℕ, ◌<◌, ◌^◌, List, length, None, true, false, refl, sym, ap, subst}
-use Rattle.edi_told.specs.Told.{WhereTold}
-use Rattle.edi_calls.specs.Choice.{Choices}
-use Rattle.edi_calls.specs.State.{State}
-use Rattle.edi_execute.specs.Objects.{Contents, Show}
+use Rattle.std.proofs.Common.{◌≡◌, ◌∙◌, ◌++◌, ◌+◌, ℕ, List, length, None, true, false, sym, subst}
+use Rattle.edi_execute.specs.Objects.{Contents}
 use Rattle.edi_execute.specs.Objects as execute
 use Rattle.edi_image.specs.Image.{mount_fault_of}
 use Rattle.edi_session.specs.declared.end.SessionEnd.{SessionEnd}
 use Rattle.edi_session.specs.declared.end.SessionEnd.TheVariants as end
 use Rattle.edi_session.specs.Session.{IsMomentOfSession}
-use Rattle.edi_session.specs.Shell.{session_on, state_in}
+use Rattle.edi_session.specs.Shell.{session_on}
 use Rattle.edi_shell_sessions.specs.Ends.{ends_by_fault, SessionHasEnded, SessionHasFailed}
 use Rattle.edi_trace.specs.Drawn.{Drawn}
 use Rattle.edi_statuses.specs.Executions.{StandsAt}

@@ -1,39 +1,38 @@
 -- The exits of `boot`: the choices are not read, the drive is not mounted, an object has failed, the record is kept, or it is not.
-use Rattle.std.proofs.Common.{◌≡◌, ◌∙◌, ◌≤◌, ◌+◌, ◌*◌, ◌<◌, ◌^◌, ℕ, Bool, true, false, List, [], length, drop, Option, Some, None, Result, Ok, Err}
-use Rattle.std.proofs.Common.{IfSome, IsSome, option_map, refl, sym, subst, inl, inr}
+use Rattle.std.proofs.Common.{◌≡◌, ◌≤◌, ◌*◌, ℕ, Bool, true, false, List, [], Option, Some, None, Err}
+use Rattle.std.proofs.Common.{IsSome, option_map, refl, sym, subst, inl, inr}
 use Rattle.std.specs.Prelude.{⊤, ◌||◌, not, is_none}
 use Rattle.edi_told.specs.Told.{WhereTold}
 use Rattle.edi_host.specs.Files.{Contents}
 use Rattle.edi_calls.specs.Choice.{Choices}
 use Rattle.edi_image.specs.declared.faults.MountFault.{MountFault}
-use Rattle.edi_image.specs.declared.faults.MountFault.TheVariants as mount
-use Rattle.edi_image.specs.Finds.{IsFirst}
-use Rattle.edi_image.specs.Image.{mount_fault_of}
 use Rattle.edi_session.specs.declared.end.SessionEnd.{SessionEnd}
 use Rattle.edi_session.specs.declared.end.SessionEnd.TheVariants as end
 use Rattle.edi_session.specs.Session.{IsMomentOfSession}
 use Rattle.edi_shell_sessions.specs.Ends.{ends_by_fault}
-use Rattle.edi_system.specs.Parts.{IsValid, Grows, due_after}
 use Rattle.edi_trace.specs.Drawn.{Drawn}
 use Rattle.edi_words.specs.Words as words
 use Rattle.edi_words.specs.Words.{ChoicesFrom, Options, nowhere, file, seed}
 use Rattle.edi_statuses.specs.declared.status.Status.{Status}
 use Rattle.edi_statuses.specs.declared.status.Status.TheVariants as status
-use Rattle.edi_statuses.specs.Outside.{Outside, seen, still_told, with_kept, Keeps, SameBlocks, SameFiles, Shows, Lent}
+use Rattle.edi_statuses.specs.Outside.{Outside, seen, still_told, with_kept, Keeps, SameFiles, Shows, Lent}
 use Rattle.edi_statuses.specs.Lines.{is_due}
-use Rattle.edi_statuses.specs.Steps.{Reached, goes, stops, IsBrokenRule, Mounts, ReadsChoices}
+use Rattle.edi_statuses.specs.Steps.{goes, stops, Mounts, ReadsChoices, ChoicesAreThere}
 use Rattle.edi_statuses.specs.Executions.{record_of, StandsAt}
 use Rattle.edi_statuses.specs.Commands.{IsNothing}
-use Rattle.edi_statuses.specs.Means.{AtRecord, Came, HasNotBegun, MeansOf, is_in_file, names_in}
-use Rattle.edi_statuses.specs.Sessions.{BootSteps, BrokeSession, HasHeld, HeldUnkept, HeldWhole, HoldsSession, SessionHeld, session_status, shell_on}
+use Rattle.edi_statuses.specs.EachObject.{MayBeImage, is_in_file}
+use Rattle.edi_statuses.specs.Means.{Came, MeansOf}
+use Rattle.edi_statuses.specs.Sessions.{BootSteps, BrokeSession, HasHeld, HeldWhole, HoldsSession, SessionHeld, session_status, shell_on}
 use Rattle.edi_steps.specs.OnFiles.{ChoicesStep, RecordStep, files_only}
-use Rattle.edi_run_commands.specs.CodeRan.{mount_status}
-use Rattle.edi_run_commands.proofs.Endings.{IsLeft, IsUnmounted}
-use Rattle.edi_run_commands.proofs.Exits.{IsRefusal, choices_refusal, with_files}
+use Rattle.edi_steps.specs.NotMounted.{mount_status}
+use Rattle.edi_run_commands.specs.OnMounted.{DriveAsked}
+use Rattle.edi_run_commands.proofs.Mounting.{IsLeft, IsUnmounted, left_each, mounts, unkept, unmounted_by, unmounted_each}
+use Rattle.edi_run_commands.proofs.Exits.{IsRefusal, choices_refusal, not_begun, nothing, with_files}
 use Rattle.edi_run_commands.proofs.Meaning.{at_record}
 use Rattle.edi_run_commands.proofs.Left.{devices_told, told_by}
-use Rattle.edi_statuses.proofs.Told.{first_told, same_told, shows_nothing, still, still_same, told_so}
-use Rattle.edi_run_commands.proofs.Told.{on_files, reads_till_the_last}
+use Rattle.edi_statuses.proofs.EachLeft.{each_same}
+use Rattle.edi_statuses.proofs.Told.{same_told, shows_nothing, still, still_same}
+use Rattle.edi_run_commands.proofs.Told.{on_files, reads_till_the_last, there_on_files}
 use Rattle.edi_run_commands.proofs.Shown.{due_so, shown_since, shows_so}
 use Rattle.edi_boot.specs.OnObjects.{EndsOn}
 use Rattle.edi_boot.specs.SessionCame.{HeldSession, SessionCame}
@@ -41,63 +40,19 @@ use Rattle.edi_boot.proofs.Devices.{broken_at, held_to}
 
 -- ---- the drive is not mounted
 
-module _ (before after : Outside) (kernel : Lent) (why : MountFault) (h : IsUnmounted before after kernel why) where
-  same_blocks : SameBlocks (seen before after) after
-  same_blocks = still _ before.blocks after.blocks (told_so _ _ before.blocks after.blocks (λ old new both. both.0) h.blocks)
-
-  nothing : IsNothing (seen before after) after [] kernel
-  nothing = record {
-    shown_ = refl;
-    same = record {
-      files = same_told before.files after.files h.files;
-      blocks = same_blocks;
-      input = same_told before.input after.input h.input;
-      printed = same_told before.printed after.printed h.printed;
-    };
-    kernel_same = h.kernel_same;
-  }
-
-  not_begun : HasNotBegun (seen before after) after [] kernel
-  not_begun = record {
-    shown_ = refl;
-    blocks = same_blocks;
-    input = same_told before.input after.input h.input;
-    printed = same_told before.printed after.printed h.printed;
-    kernel_same = h.kernel_same;
-  }
-
-  first : IfSome (still_told before.blocks after.blocks) (λ old. IsFirst why (mount_fault_of old))
-  first = first_told _ _ before.blocks after.blocks (λ old new both. both.1) h.blocks
-
-unmounted_by : (before after : Outside) (kernel : Lent) (why : MountFault) → IsUnmounted before after kernel why → (bound : ℕ) (choices : Choices)
-    (name : Option (List ℕ)) → SessionCame bound choices name (mount_status why) (seen before after) after [] kernel
-unmounted_by before after kernel mount.Fault h bound choices name =
-    (same_told before.files after.files h.files, inl (not_begun before after kernel mount.Fault h))
-unmounted_by before after kernel mount.NoMemory h bound choices name = inl (nothing before after kernel mount.NoMemory h)
-unmounted_by before after kernel mount.Short h bound choices name =
-    ((mount.Short, refl, first before after kernel mount.Short h, tt), nothing before after kernel mount.Short h)
-unmounted_by before after kernel mount.Header h bound choices name =
-    ((mount.Header, refl, first before after kernel mount.Header h, tt), nothing before after kernel mount.Header h)
-unmounted_by before after kernel (mount.Entry slot) h bound choices name =
-    ((mount.Entry slot, refl, first before after kernel (mount.Entry slot) h, tt), nothing before after kernel (mount.Entry slot) h)
-unmounted_by before after kernel (mount.Page slot block) h bound choices name =
-    ((mount.Page slot block, refl, first before after kernel (mount.Page slot block) h, tt), nothing before after kernel (mount.Page slot block) h)
-unmounted_by before after kernel (mount.Shared block) h bound choices name =
-    ((mount.Shared block, refl, first before after kernel (mount.Shared block) h, tt), nothing before after kernel (mount.Shared block) h)
-
 pub unmounted : (bound : ℕ) (choices : Choices) (name : Option (List ℕ)) (s : Status) (due : Bool) (before after : Outside) (kernel : Lent)
     (why : MountFault) → s ≡ mount_status why → due ≡ false → IsUnmounted before after kernel why → HeldSession bound choices name s due before after kernel
 unmounted bound choices name s due before after kernel why is silent h = record {
   shown = [];
-  came = subst (λ x. SessionCame bound choices name x (seen before after) after [] kernel) (sym is) (unmounted_by before after kernel why h bound choices name);
+  came = subst (λ x. SessionCame bound choices name x (seen before after) after [] kernel) (sym is)
+      (unmounted_by before after kernel why h name (BrokeSession bound choices (seen before after) after []) (HeldWhole bound choices (seen before after) after [])
+      (λ end. HoldsSession bound choices name end (seen before after) after []));
   shows = shows_nothing before.shown after.shown h.shown;
   due_is = silent;
+  each = unmounted_each before after kernel why h;
 }
 
 -- ---- the session was held
-
-mounts : (due : Bool) (before after : Outside) → IsLeft due before after → Mounts (seen before after) (goes tt)
-mounts due before after left = first_told _ (λ blocks. mount_fault_of blocks ≡ None) before.blocks after.blocks (λ old new h. h) left.mounted
 
 module _ (bound : ℕ) (old : Drawn) (none : old.drawn ≡ 0) (due : Bool) (how : SessionEnd) (before after : Outside) (left : IsLeft due before after)
     (kernel : Lent) (new : Drawn) (told : WhereTold (told_by before) (told_by after) (EndsOn bound old how new.drawn)) where
@@ -136,6 +91,7 @@ module _ (bound : ℕ) (old : Drawn) (none : old.drawn ≡ 0) (due : Bool) (how 
         (broke_by how name f (same_told before.files after.files files) (broke_now f));
     shows = shows_now;
     due_is = due_now;
+    each = left_each due before after left;
   }
 
   module _ (unfailed : ends_by_fault how ≡ false) (within : new.drawn ≤ 4194304 * bound) where
@@ -174,18 +130,21 @@ module _ (bound : ℕ) (old : Drawn) (none : old.drawn ≡ 0) (due : Bool) (how 
           (subst (λ from. WhereTold before.files after.files (λ a b. b ≡ with_kept (record_of name from new.drawn) a)) source step))));
       shows = shows_now;
       due_is = due_now;
+      each = left_each due before after left;
     }
 
     -- it was not kept
-    unrecorded_by : (A : Type 0) (name : Option (List ℕ)) (s : Status) → RecordStep {A = A} name new (Err s) before.files after.files
-        → SessionCame bound old.source name s (seen before after) after shown_now kernel
-    unrecorded_by A name status.NoMemory step = inr (step.0, mounts due before after left, (whole, still _ before.files after.files step.1))
-    unrecorded_by A name status.FileFault step = (step.0, still _ before.files after.files step.1, mounts due before after left, whole)
-    unrecorded_by A name _ step = absurd step
-
     pub unrecorded : (A : Type 0) (name : Option (List ℕ)) (s : Status) → RecordStep {A = A} name new (Err s) before.files after.files
         → HeldSession bound old.source name s due before after kernel
-    unrecorded A name s step = record { shown = shown_now; came = unrecorded_by A name s step; shows = shows_now; due_is = due_now }
+    unrecorded A name s step = record {
+      shown = shown_now;
+      came = unkept due before after left new A name s step (BrokeSession bound old.source (seen before after) after shown_now)
+          (HeldWhole bound old.source (seen before after) after shown_now)
+          (λ e. HoldsSession bound old.source name e (seen before after) after shown_now) shown_now kernel whole;
+      shows = shows_now;
+      due_is = due_now;
+      each = left_each due before after left;
+    }
 
 -- another number that is the same
 pub with_bound : (n m : ℕ) → n ≡ m → (choices : Choices) (name : Option (List ℕ)) (s : Status) (due : Bool) (before after : Outside) (kernel : Lent)
@@ -195,10 +154,10 @@ with_bound n m same choices name s due before after kernel = subst (λ k. HeldSe
 -- ---- the meaning of the status
 
 -- a file is named: by the choices, or where a record is asked for
-chosen : (from : ChoicesFrom) (name : Option (List ℕ)) → is_in_file from ≡ true → (is_in_file from || not (is_none name)) ≡ true
-chosen nowhere name h = absurd (cc)
-chosen (file f) name h = refl
-chosen (seed n) name h = absurd (cc)
+chosen : (o : Outside) (from : ChoicesFrom) (name : Option (List ℕ)) → ChoicesAreThere o from → (is_in_file from || not (is_none name)) ≡ true
+chosen o nowhere name h = absurd h
+chosen o (file f) name h = refl
+chosen o (seed n) name h = absurd h
 
 recording : (from : ChoicesFrom) (name : Option (List ℕ)) → IsSome name → (is_in_file from || not (is_none name)) ≡ true
 recording from None h = absurd (cc)
@@ -267,16 +226,7 @@ module _ (o : Options) (before : Outside) (new : Option Contents) (kernel : Lent
     MeansUnread s = MeansOf s (words.boot o) (seen before (with_files before new)) (with_files before new) [] kernel
 
     nothing_done : IsNothing (seen before (with_files before new)) (with_files before new) [] kernel
-    nothing_done = record {
-      shown_ = refl;
-      same = record {
-        files = still _ before.files new same;
-        blocks = same_told before.blocks before.blocks refl;
-        input = same_told before.input before.input refl;
-        printed = same_told before.printed before.printed refl;
-      };
-      kernel_same = kept;
-    }
+    nothing_done = nothing before new kernel kept same
 
     refused : (s : Status) → IsRefusal s → BootSteps (seen before (with_files before new)) o.choices (stops s) → MeansUnread s
     refused status.Absent refusal h = inl (h, nothing_done)
@@ -288,17 +238,8 @@ module _ (o : Options) (before : Outside) (new : Option Contents) (kernel : Lent
     unread_means : (s : Status) → ChoicesStep (files_only (still_told before.files new)) o.choices (Err s) → MeansUnread s
     unread_means status.NoMemory h = inl nothing_done
     unread_means status.FileFault h = record {
-      uses = chosen o.choices o.record_file h;
-      far = inl (
-        nothing_done.same.files,
-        record {
-          shown_ = refl;
-          blocks = nothing_done.same.blocks;
-          input = nothing_done.same.input;
-          printed = nothing_done.same.printed;
-          kernel_same = kept;
-        },
-      );
+      uses = chosen (files_only (still_told before.files new)) o.choices o.record_file h;
+      far = inl (nothing_done.same.files, there_on_files (seen before (with_files before new)) o.choices h, not_begun before new kernel kept);
     }
     unread_means s h =
         refused s (choices_refusal (files_only (still_told before.files new)) o.choices s h)
@@ -311,6 +252,7 @@ module _ (o : Options) (before : Outside) (new : Option Contents) (kernel : Lent
       means = subst MeansUnread (sym is) (unread_means s h);
       shows = shows_nothing before.shown before.shown refl;
       due_is = silent;
+      each = each_same (Some (words.boot o)) before (with_files before new) refl refl refl;
     }
 
   -- the session was held, or its drive not mounted
@@ -322,4 +264,21 @@ module _ (o : Options) (before : Outside) (new : Option Contents) (kernel : Lent
       let there = on_files all o.choices (goes choices) (reads_till_the_last o.choices choices before.files new after.files last reads) in
       let came = subst (λ files. SessionCame o.turns choices o.record_file s (record all { files = files }) after h.shown kernel)
       (still_same before.files new after.files first last) h.came in
-      record { shown = h.shown; means = boot_means o choices all after h.shown kernel there s came; shows = h.shows; due_is = h.due_is }
+      record {
+        shown = h.shown;
+        means = boot_means o choices all after h.shown kernel there s came;
+        shows = h.shows;
+        due_is = h.due_is;
+        each = record { drive = λ stays. h.each.drive refl; input = h.each.input; printer = h.each.printer };
+      }
+
+-- ---- the drive was asked
+
+pub ended_asked : (count : ℕ) → MayBeImage count → (e : SessionEnd) → DriveAsked (session_status e) count
+ended_asked count image end.Halted = record { behind_steps = refl; fits = image }
+ended_asked count image end.InputEnd = record { behind_steps = refl; fits = image }
+ended_asked count image end.Limit = record { behind_steps = refl; fits = image }
+ended_asked count image end.DriveFault = record { behind_steps = refl; fits = tt }
+ended_asked count image end.InputFault = record { behind_steps = refl; fits = image }
+ended_asked count image end.TerminalFault = record { behind_steps = refl; fits = tt }
+ended_asked count image end.PrinterFault = record { behind_steps = refl; fits = tt }

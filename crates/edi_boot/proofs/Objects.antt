@@ -12,11 +12,11 @@ use Rattle.edi_shell_sessions.specs.Ends.{IsFreshly, IsFreshlySince, SessionEnds
 use Rattle.edi_shell_sessions.proofs.OnSystem.{ends_otherwise}
 use Rattle.edi_system.specs.AsCalls.{IsDueFrom, IsDueSince, KeepsDue}
 use Rattle.edi_system.specs.Ends.{Blames}
-use Rattle.edi_system.specs.Parts.{due_after, Grows, IsValid, KeepsTold, Shrinks, SystemBegins, ToldStays}
+use Rattle.edi_system.specs.Parts.{due_after, KeepsTold, SystemBegins}
 use Rattle.edi_system.specs.State.{all_told, drive_in, due_in, failed_in, faults_of, input_in, printer_in, state_of, state_with, terminal_in}
 use Rattle.edi_system.specs.declared.system.System.{System}
 use Rattle.edi_trace.specs.Drawn.{Drawn}
-use Rattle.edi_execute.specs.Objects.{Contents, FailedIs, Objects, contents_of, contents_with, faults_in, system_on}
+use Rattle.edi_execute.specs.Objects.{FailedIs, Objects, contents_with, faults_in, system_on}
 use Rattle.edi_execute.proofs.Runs.{AreOf, AreUnder, due_run, on_objects, told_run}
 use Rattle.edi_boot.specs.declared.holding.Held.{Held}
 use Rattle.edi_boot.specs.OnObjects.{EndsOn, HaveState, HaveStateSince, SessionLeft}

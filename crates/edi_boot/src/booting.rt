@@ -1,46 +1,27 @@
 //! `boot`.
 
-ghost use Rattle.std.specs.Prelude.{◌≡◌, false, Some, None, ⊤, option_map};
+ghost use Rattle.std.specs.Prelude.{◌≡◌, false, true, Some, None, ⊤, option_map};
 ghost use Rattle.edi_told.specs.Told.{WhereTold};
 ghost use Rattle.edi_words.specs.Words as words;
 ghost use Rattle.edi_words.specs.View.{options_of};
-ghost use Rattle.edi_run_commands.specs.CodeRan.{mount_status};
 ghost use Rattle.edi_statuses.specs.Outside.{lent, outside_of};
 ghost use Rattle.edi_statuses.specs.Counts.{counts_of, HasCause, NoneFalls};
-ghost use Rattle.edi_statuses.specs.Means.{Came, names_file};
+ghost use Rattle.edi_statuses.specs.EachObject.{DevicesStay, FitsCount, is_before_drive, names_file};
+ghost use Rattle.edi_statuses.specs.Means.{Came};
+ghost use Rattle.edi_run_commands.specs.OnMounted.{DriveAsked};
 ghost use Rattle.edi_statuses.specs.Sessions.{session_status};
 ghost use Rattle.edi_shell_sessions.specs.Ends.{ends_by_fault};
 ghost use Rattle.edi_boot.specs.SessionCame.{HeldSession};
 
 use crate::holding::hold_on;
 use edi_host::{Drive, Files, Sink, Source};
-use edi_image::MountFault;
 use edi_kernel::Kernel;
 use edi_session::SessionEnd;
 use edi_statuses::{Ended, Status};
-use edi_steps::{keep_record, read_from};
+use edi_steps::{keep_record, mount_status, read_from, stopped};
 use edi_trace::Choices;
 use edi_words::Options;
 use std::alloc::Global;
-
-// `boot` has stopped before its session.
-fn stopped(status: Status) -> Ended
-    ensures told { result.status ≡ status }
-    ensures due { result.due ≡ false }
-{
-    Ended { status, due: false }
-}
-
-// The status of a session whose drive was not mounted.
-fn mount_status(why: MountFault) -> Status
-    ensures exact { result ≡ mount_status why }
-{
-    match why {
-        MountFault::Fault => Status::DriveFault,
-        MountFault::NoMemory => Status::NoMemory,
-        broken => Status::BadImage(broken),
-    }
-}
 
 // The status of a session that ended so.
 fn session_status(end: SessionEnd) -> Status
@@ -91,6 +72,7 @@ fn hold_session<F: Files, D: Drive, S: Source, T: Sink, P: Sink>(
     ensures tells { WhereTold (F.contents files.old) (F.contents files.new) (λ old new. ⊤) }
     ensures untouched { record_file.entry ≡ None → files.new ≡ files.old }
     ensures size { D.count drive.new ≡ D.count drive.old }
+    ensures asked { DriveAsked result.status (D.count drive.old) }
     ensures cause { HasCause result.status
         (counts_of F.faults D.faults S.faults T.faults P.faults files.old drive.old input.old terminal.old printer.old)
         (counts_of F.faults D.faults S.faults T.faults P.faults files.new drive.new input.new terminal.new printer.new) }
@@ -142,9 +124,13 @@ pub fn boot<F: Files, D: Drive, S: Source, T: Sink, P: Sink>(
         (outside_of F.contents D.contents S.left T.taken P.taken files.old drive.old input.old terminal.old printer.old)
         (outside_of F.contents D.contents S.left T.taken P.taken files.new drive.new input.new terminal.new printer.new)
         (lent kernel.old.store kernel.old.used kernel.new.store kernel.new.used) }
-    // Files that no option names are left alone, and the drive keeps its number of blocks, whatever they tell.
+    // Files that no option names are left alone, the drive keeps its number of blocks, which the status fits, and where the drive is
+    // not asked, no object but the files is touched, whatever they tell.
     ensures no_files { names_file (options_of options.entry) ≡ false → files.new ≡ files.old }
     ensures size { D.count drive.new ≡ D.count drive.old }
+    ensures fits { FitsCount result.status (D.count drive.old) }
+    ensures early { is_before_drive result.status ≡ true
+        → DevicesStay drive.old drive.new input.old input.new terminal.old terminal.new printer.old printer.new kernel.old kernel.new }
     ensures cause { HasCause result.status
         (counts_of F.faults D.faults S.faults T.faults P.faults files.old drive.old input.old terminal.old printer.old)
         (counts_of F.faults D.faults S.faults T.faults P.faults files.new drive.new input.new terminal.new printer.new) }

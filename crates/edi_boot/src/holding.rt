@@ -1,12 +1,14 @@
 //! A session on four objects.
 
-ghost use Rattle.std.specs.Prelude.{◌≡◌, ◌≤◌, ◌+◌, ◌*◌, IfErr, IfOk, None, length};
+ghost use Rattle.std.specs.Prelude.{◌≡◌, ◌≤◌, ◌+◌, ◌*◌, IfErr, IfOk, None, vec_len};
 ghost use Rattle.edi_told.specs.Faults.{CountRose};
 ghost use Rattle.edi_told.specs.Told.{WhereTold};
 ghost use Rattle.edi_calls.specs.State.{most_bytes};
+ghost use Rattle.edi_catalog.specs.Taken.{IsOfCount};
 ghost use Rattle.edi_image.specs.Finds.{IsFirst};
 ghost use Rattle.edi_image.specs.Image.{mount_fault_of};
 ghost use Rattle.edi_shell_calls.specs.Standing.{failed_by};
+ghost use Rattle.edi_statuses.specs.EachObject.{MayBeImage};
 ghost use Rattle.edi_execute.specs.Objects.{FailedIs, NoneFalls, faults_in, objects};
 ghost use Rattle.edi_boot.specs.OnObjects.{SessionLeft};
 
@@ -18,7 +20,7 @@ use edi_session::SessionEnd;
 use edi_shell_sessions::session;
 use edi_system::{Buffer, System};
 use edi_trace::Choices;
-use std::alloc::Global;
+use std::alloc::{AllocError, Global};
 
 /// The greatest number of bytes of a file.
 const MOST: usize = 261_120;
@@ -32,59 +34,15 @@ pub(crate) struct Held {
     pub(crate) due: bool,
 }
 
-/// Mounts the drive and holds a session on it, on an input, a terminal and a printer. `room` has place for the bytes of a file. It errs
-/// where the drive cannot be mounted, and with `NoMemory` also where there is none for a file that a program writes; then nothing
-/// has begun.
-fn hold_in<D: Drive, S: Source, T: Sink, P: Sink>(
-    alloc: Global,
-    room: &mut [u8],
-    drive: &mut D,
-    input: &mut S,
-    terminal: &mut T,
-    printer: &mut P,
-    kernel: &mut Kernel,
-    bound: u64,
-    choices: &mut Choices,
-) -> Result<Held, MountFault>
-    requires room { most_bytes ≤ length room.old }
-    ensures leaves { IfOk result (λ held. SessionLeft D.contents S.left T.taken P.taken bound choices.old held choices.new.drawn
-        (objects drive.old input.old terminal.old printer.old) (objects drive.new input.new terminal.new printer.new)) }
-    // The drive has as many blocks as before, whatever the answer, and was a valid image, where it was mounted.
-    ensures size { D.count drive.new ≡ D.count drive.old }
-    ensures mounted { IfOk result (λ held. WhereTold (D.contents drive.old) (D.contents drive.new) (λ old new. mount_fault_of old ≡ None)) }
-    // An object has failed exactly where the end says so, and its count rose.
-    ensures blame { IfOk result (λ held. FailedIs (failed_by held.end)
-        (faults_in D.faults S.faults T.faults P.faults (objects drive.old input.old terminal.old printer.old))
-        (faults_in D.faults S.faults T.faults P.faults (objects drive.new input.new terminal.new printer.new))) }
-    ensures later { NoneFalls D.faults S.faults T.faults P.faults
-        (objects drive.old input.old terminal.old printer.old) (objects drive.new input.new terminal.new printer.new) }
-    // A drive that is not mounted keeps its blocks; then nothing else has changed.
-    ensures not_mounted { IfErr result (λ why. WhereTold (D.contents drive.old) (D.contents drive.new)
-        (λ old new. (new ≡ old) × IsFirst why (mount_fault_of old))) }
-    ensures nothing_begun { IfErr result (λ why. (input.new ≡ input.old) × (terminal.new ≡ terminal.old) × (printer.new ≡ printer.old)
-        × (kernel.new ≡ kernel.old) × (choices.new ≡ choices.old)) }
-    ensures cause { IfErr result (λ why. why ≡ MountFault.Fault → CountRose (D.faults drive.old) (D.faults drive.new)) }
-    ensures source { choices.new.source ≡ choices.old.source }
-    ensures drawn { choices.new.drawn ≤ choices.old.drawn + 4194304 * bound }
+// Place for the bytes of a file.
+fn place_for_a_file(alloc: Global) -> Result<Vec<u8>, AllocError>
+    ensures most { IfOk result (λ place. most_bytes ≤ vec_len place) }
 {
-    let Ok(mut buffer) = Buffer::new(alloc) else {
-        return Err(MountFault::NoMemory);
-    };
-    let mut disk = Disk::attach(drive);
-    let mut entries = match check(alloc, &mut disk) {
-        Ok(entries) => entries,
-        Err(fault) => return Err(fault),
-    };
-    let catalog = mount(disk, &mut entries);
-    let mut system = System::new(catalog, input, terminal, printer, &mut buffer);
-    let end = session(alloc, &mut system, kernel, room, bound, choices);
-    Ok(Held {
-        end,
-        due: system.due(),
-    })
+    vec![in alloc; 0; MOST]
 }
 
-/// The same with room of its own for the bytes of a file; where there is none, it errs with `NoMemory`, and nothing has begun.
+/// Mounts the drive and holds a session on it, on an input, a terminal and a printer. It errs where
+/// the drive cannot be mounted, and with `NoMemory` also where there is none for the bytes of a file; then nothing has begun.
 pub(crate) fn hold_on<D: Drive, S: Source, T: Sink, P: Sink>(
     alloc: Global,
     drive: &mut D,
@@ -100,25 +58,39 @@ pub(crate) fn hold_on<D: Drive, S: Source, T: Sink, P: Sink>(
     // The drive has as many blocks as before, whatever the answer, and was a valid image, where it was mounted.
     ensures size { D.count drive.new ≡ D.count drive.old }
     ensures mounted { IfOk result (λ held. WhereTold (D.contents drive.old) (D.contents drive.new) (λ old new. mount_fault_of old ≡ None)) }
+    ensures image { IfOk result (λ held. MayBeImage (D.count drive.old)) }
     // An object has failed exactly where the end says so, and its count rose.
     ensures blame { IfOk result (λ held. FailedIs (failed_by held.end)
         (faults_in D.faults S.faults T.faults P.faults (objects drive.old input.old terminal.old printer.old))
         (faults_in D.faults S.faults T.faults P.faults (objects drive.new input.new terminal.new printer.new))) }
     ensures later { NoneFalls D.faults S.faults T.faults P.faults
         (objects drive.old input.old terminal.old printer.old) (objects drive.new input.new terminal.new printer.new) }
-    // A drive that is not mounted keeps its blocks; then nothing else has changed.
+    // A drive that is not mounted keeps its blocks, and the fault fits their number; then nothing else has changed.
     ensures not_mounted { IfErr result (λ why. WhereTold (D.contents drive.old) (D.contents drive.new)
         (λ old new. (new ≡ old) × IsFirst why (mount_fault_of old))) }
     ensures nothing_begun { IfErr result (λ why. (input.new ≡ input.old) × (terminal.new ≡ terminal.old) × (printer.new ≡ printer.old)
         × (kernel.new ≡ kernel.old) × (choices.new ≡ choices.old)) }
+    ensures faults { IfErr result (IsOfCount (D.count drive.old)) }
     ensures cause { IfErr result (λ why. why ≡ MountFault.Fault → CountRose (D.faults drive.old) (D.faults drive.new)) }
     ensures source { choices.new.source ≡ choices.old.source }
     ensures drawn { choices.new.drawn ≤ choices.old.drawn + 4194304 * bound }
 {
-    let Ok(mut room) = vec![in alloc; 0; MOST] else {
+    let Ok(mut room) = place_for_a_file(alloc) else {
         return Err(MountFault::NoMemory);
     };
-    hold_in(
-        alloc, &mut room, drive, input, terminal, printer, kernel, bound, choices,
-    )
+    let Ok(mut buffer) = Buffer::new(alloc) else {
+        return Err(MountFault::NoMemory);
+    };
+    let mut disk = Disk::attach(drive);
+    let mut entries = match check(alloc, &mut disk) {
+        Ok(entries) => entries,
+        Err(fault) => return Err(fault),
+    };
+    let catalog = mount(disk, &mut entries);
+    let mut system = System::new(catalog, input, terminal, printer, &mut buffer);
+    let end = session(alloc, &mut system, kernel, &mut room, bound, choices);
+    Ok(Held {
+        end,
+        due: system.due(),
+    })
 }

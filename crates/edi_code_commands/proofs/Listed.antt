@@ -26,5 +26,5 @@ file_listed items o name bytes all fetched front (Err s) (inr stopped) = inr (in
 pub not_fetched : {V W : Type 0} (items : V → List ℕ) (others : W → List ℕ) (o : Outside) (name : List ℕ) (limit : ℕ) (s : Status)
     → FetchStep items o name limit (Err s) → ListsFile others o name (Err s)
 not_fetched items others o name limit status.NoMemory h = inl refl
-not_fetched items others o name limit status.FileFault h = inr (inl refl)
+not_fetched items others o name limit status.FileFault h = inr (inl (refl, h))
 not_fetched items others o name limit s h = inr (inr (inl h))

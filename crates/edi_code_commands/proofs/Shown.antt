@@ -9,12 +9,13 @@ use Rattle.edi_statuses.specs.declared.ended.Ended.{Ended}
 use Rattle.edi_statuses.specs.declared.status.Status.{Status}
 use Rattle.edi_statuses.specs.declared.status.Status.TheVariants as status
 use Rattle.edi_statuses.specs.Counts.{HasCause, counts_with}
-use Rattle.edi_statuses.specs.Outside.{IsAsBefore, KernelLeft, Outside, idle, outside_with, seen, still_told}
+use Rattle.edi_statuses.specs.Outside.{IsAsBefore, IsSomeFile, KernelLeft, Outside, idle, outside_with, seen, still_told}
 use Rattle.edi_statuses.specs.Commands.{IsNothing, ListSteps}
 use Rattle.edi_statuses.specs.Showing.{ShowsBytes, ShowsFar}
 use Rattle.edi_statuses.specs.Means.{HasNotBegun, Means}
 use Rattle.edi_statuses.specs.Steps.{stops}
 use Rattle.edi_statuses.proofs.Due.{due_then}
+use Rattle.edi_statuses.proofs.EachLeft.{each_same}
 use Rattle.edi_statuses.proofs.Told.{same_told, shows_nothing, still}
 use Rattle.edi_steps.specs.OnFiles.{files_only}
 use Rattle.edi_code_commands.specs.CodeCommands.{CameShowing, HasCauseShown, ListsFile}
@@ -54,10 +55,11 @@ module _ (file : List ℕ) (old new : Option Contents) (same : WhereTold old new
 
   -- the command stopped
   stops_means : (s : Status)
-      → (s ≡ status.NoMemory) ⊎ ((s ≡ status.FileFault) ⊎ ListSteps (files_only (still_told old new)) file (stops s)) → MeansHere s []
+      → (s ≡ status.NoMemory) ⊎ (((s ≡ status.FileFault) × IsSomeFile (files_only (still_told old new)) file)
+      ⊎ ListSteps (files_only (still_told old new)) file (stops s)) → MeansHere s []
   stops_means s (inl none) = subst (λ t. MeansHere t []) (sym none) nothing
   stops_means s (inr (inl failed)) =
-      subst (λ t. MeansHere t []) (sym failed) (record { uses = refl; far = inl (files_same, not_begun) })
+      subst (λ t. MeansHere t []) (sym failed.0) (record { uses = refl; far = inl (files_same, failed.1, not_begun) })
   stops_means s (inr (inr steps)) = step_means s steps
 
   -- it has shown bytes
@@ -80,6 +82,7 @@ stopped items file old new taken s same h = λ blocks input printed kernel. reco
   means = stops_means file old new same taken taken blocks input printed kernel s h;
   shows = shows_nothing taken taken refl;
   due_is = refl;
+  each = each_same (Some (words.list file)) _ _ refl refl refl;
 }
 
 pub lists : {V : Type 0} (items : V → List ℕ) (file : List ℕ) (old new : Option Contents) (taken takes : Option (List ℕ)) (v : V) (ended : Ended)
@@ -90,6 +93,7 @@ lists items file old new taken takes v ended same l h = λ blocks input printed 
   means = shows_means file old new same taken takes blocks input printed kernel items v l ended.status h.0 h.1;
   shows = h.2;
   due_is = h.3 ∙ sym (due_then [] h.0);
+  each = each_same (Some (words.list file)) _ _ refl refl refl;
 }
 
 -- ---- causes
@@ -99,7 +103,7 @@ pub stopped_cause : {V : Type 0} (items : V → List ℕ) (o : Outside) (file : 
 stopped_cause items o file s had has shown (inl none) rose = λ drive input printer. subst
     (λ t. HasCause t (counts_with had drive input shown printer) (counts_with has drive input shown printer)) (sym none) tt
 stopped_cause items o file s had has shown (inr (inl failed)) rose = λ drive input printer. subst
-    (λ t. HasCause t (counts_with had drive input shown printer) (counts_with has drive input shown printer)) (sym failed) (rose failed)
+    (λ t. HasCause t (counts_with had drive input shown printer) (counts_with has drive input shown printer)) (sym failed.0) (rose failed.0)
 stopped_cause items o file s had has shown (inr (inr (inl a))) rose = λ drive input printer. subst
     (λ t. HasCause t (counts_with had drive input shown printer) (counts_with has drive input shown printer)) (sym a.0) tt
 stopped_cause items o file s had has shown (inr (inr (inr l))) rose = λ drive input printer. subst

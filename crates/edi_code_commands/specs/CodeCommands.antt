@@ -7,7 +7,7 @@ use Rattle.edi_words.specs.Words.{Command}
 use Rattle.edi_statuses.specs.declared.status.Status.{Status}
 use Rattle.edi_statuses.specs.declared.status.Status.TheVariants as status
 use Rattle.edi_statuses.specs.Counts.{HasCause, counts_with}
-use Rattle.edi_statuses.specs.Outside.{Outside, KernelLeft, idle, outside_with}
+use Rattle.edi_statuses.specs.Outside.{Outside, IsSomeFile, KernelLeft, idle, outside_with}
 use Rattle.edi_statuses.specs.Steps.{goes, stops, Loads}
 use Rattle.edi_statuses.specs.Commands.{ListSteps}
 use Rattle.edi_statuses.specs.Means.{Came}
@@ -34,7 +34,7 @@ abbrev pub ListsBytes : {V : Type 0} → (V → List ℕ) → (bytes : List ℕ)
 ListsBytes items bytes (Ok v) = (parts : CodeParts) × Loads bytes (goes parts) × (items v ≡ listing_of parts.words)
 ListsBytes items bytes (Err s) = (s ≡ status.NoMemory) ⊎ Loads bytes (stops s)
 
--- so of the code in a file; want of memory and a fault may come at any file
+-- so of the code in a file; want of memory may come at any file, and a fault at one that is there
 abbrev pub ListsFile : {V : Type 0} → (V → List ℕ) → Outside → (name : List ℕ) → Result V Status → Type 0
 ListsFile items o name (Ok v) = (parts : CodeParts) × ListSteps o name (goes parts) × (items v ≡ listing_of parts.words)
-ListsFile items o name (Err s) = (s ≡ status.NoMemory) ⊎ ((s ≡ status.FileFault) ⊎ ListSteps o name (stops s))
+ListsFile items o name (Err s) = (s ≡ status.NoMemory) ⊎ (((s ≡ status.FileFault) × IsSomeFile o name) ⊎ ListSteps o name (stops s))

@@ -3,6 +3,7 @@ pub mod Slots
 pub mod Full
 pub mod Over
 pub mod Meant
+pub mod Counted
 pub mod PutMeans
 pub mod GetMeans
 pub mod NewMeans

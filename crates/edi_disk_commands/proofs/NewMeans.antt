@@ -11,7 +11,8 @@ use Rattle.edi_statuses.specs.declared.status.Status.{Status}
 use Rattle.edi_statuses.specs.declared.status.Status.TheVariants as status
 use Rattle.edi_statuses.specs.Outside.{Lent, Outside}
 use Rattle.edi_statuses.specs.Commands.{AreNew}
-use Rattle.edi_statuses.specs.Means.{CountsNew, IsOpen, Means}
+use Rattle.edi_statuses.specs.EachObject.{CountsNew}
+use Rattle.edi_statuses.specs.Means.{IsOpen, Means}
 use Rattle.edi_steps.specs.OnFiles.{FetchStep}
 use Rattle.edi_disk_commands.specs.OnDisk.{MeansOnDrive, RestStays}
 use Rattle.edi_statuses.proofs.Told.{itself, still, told_so}

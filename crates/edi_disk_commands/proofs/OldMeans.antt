@@ -39,9 +39,9 @@ not_taken s count file old new was now h = meant (NotFetched s file) (newdisk co
     | inr more ↦
         elim more [
           | inl e ↦
-              subst (λ s. Means s (Some (newdisk count (Some file))) before after [] kernel) (sym e) (record {
+              subst (λ s. Means s (Some (newdisk count (Some file))) before after [] kernel) (sym e.0) (record {
                 uses = refl;
-                far = inl (still (λ old new. new ≡ old) before.files after.files n.files, not_begun before after kernel rest n.blocks);
+                far = inl (still (λ old new. new ≡ old) before.files after.files n.files, e.1, not_begun before after kernel rest n.blocks);
               })
           | inr a ↦
               subst (λ s. Means s (Some (newdisk count (Some file))) before after [] kernel) (sym a.0)

@@ -12,11 +12,11 @@ use Rattle.edi_image.specs.Image.{mount_fault_of}
 use Rattle.edi_words.specs.Words.{put}
 use Rattle.edi_statuses.specs.declared.status.Status.{Status}
 use Rattle.edi_statuses.specs.declared.status.Status.TheVariants as status
-use Rattle.edi_statuses.specs.Outside.{IsNoFile, Lent, Outside, seen, still_told}
+use Rattle.edi_statuses.specs.Outside.{IsNoFile, IsSomeFile, Lent, Outside, seen, still_told}
 use Rattle.edi_statuses.specs.Steps.{Fetches, Mounts, goes}
 use Rattle.edi_statuses.specs.Commands.{ArePut, PutSteps, is_full}
 use Rattle.edi_statuses.specs.Means.{ArePutInPart, Means}
-use Rattle.edi_steps.specs.OnFiles.{FetchStep, files_only}
+use Rattle.edi_steps.specs.OnFiles.{files_only}
 use Rattle.edi_disk_commands.specs.OnDisk.{MeansOnDisk, RestStays}
 use Rattle.edi_disk_commands.specs.OnDrive.{IsOfPut, PutsOn}
 use Rattle.edi_statuses.proofs.Told.{first_told, still, told_so}
@@ -24,15 +24,10 @@ use Rattle.edi_disk_commands.proofs.Meant.{Same, changes_drive, meant, not_begun
 
 -- ---- no file
 
--- why nothing was fetched
-pub fetch_stopped : {V : Type 0} (items : V → List ℕ) (o : Outside) (name : List ℕ) (limit : ℕ) (s : Status)
-    → FetchStep items o name limit (Err s) → (s ≡ status.NoMemory) ⊎ ((s ≡ status.FileFault) ⊎ ((s ≡ status.Absent) × IsNoFile o name))
-fetch_stopped items o name limit status.NoMemory h = inl refl
-fetch_stopped items o name limit status.FileFault h = inr (inl refl)
-fetch_stopped items o name limit s h = inr (inr h)
-
 pub record NotFetched (s : Status) (file : List ℕ) (old new : Option Contents) (was now : Option (List (List ℕ))) : Type 0 where
-  pub why : (s ≡ status.NoMemory) ⊎ ((s ≡ status.FileFault) ⊎ ((s ≡ status.Absent) × IsNoFile (files_only (still_told old new)) file))
+  pub why : (s ≡ status.NoMemory)
+      ⊎ (((s ≡ status.FileFault) × IsSomeFile (files_only (still_told old new)) file)
+      ⊎ ((s ≡ status.Absent) × IsNoFile (files_only (still_told old new)) file))
   pub files : Same old new
   pub blocks : Same was now
 
@@ -46,9 +41,9 @@ not_put s file title old new was now h = meant (NotFetched s file) (put file tit
     | inr more ↦
         elim more [
           | inl e ↦
-              subst (λ s. Means s (Some (put file title)) before after [] kernel) (sym e) (record {
+              subst (λ s. Means s (Some (put file title)) before after [] kernel) (sym e.0) (record {
                 uses = refl;
-                far = inl (still (λ old new. new ≡ old) before.files after.files n.files, not_begun before after kernel rest n.blocks);
+                far = inl (still (λ old new. new ≡ old) before.files after.files n.files, e.1, not_begun before after kernel rest n.blocks);
               })
           | inr a ↦
               subst (λ s. Means s (Some (put file title)) before after [] kernel) (sym a.0)

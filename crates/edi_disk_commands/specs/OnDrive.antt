@@ -3,8 +3,6 @@ use Rattle.std.specs.Prelude.{◌≡◌, ◌⊎◌, ℕ, Bool, true, false, List
 use Rattle.edi_calls.specs.State.{File, find_file}
 use Rattle.edi_host.specs.declared.files.KeepEnd.{KeepEnd}
 use Rattle.edi_host.specs.declared.files.KeepEnd.TheVariants as keep
-use Rattle.edi_image.specs.declared.faults.MountFault.{MountFault}
-use Rattle.edi_image.specs.declared.faults.MountFault.TheVariants as mount
 use Rattle.edi_image.specs.Image.{mount_fault_of, slots_of}
 use Rattle.edi_catalog.specs.declared.ends.CatEnd.{CatEnd}
 use Rattle.edi_catalog.specs.declared.ends.CatEnd.TheVariants as cat
@@ -13,12 +11,6 @@ use Rattle.edi_statuses.specs.declared.status.Status.TheVariants as status
 use Rattle.edi_statuses.specs.Steps.{IsBrokenRule}
 use Rattle.edi_statuses.specs.Commands.{ArePut, is_full}
 use Rattle.edi_statuses.specs.Means.{ArePutInPart}
-
--- the status of a disk that is not mounted for this fault
-abbrev pub refused : MountFault → Status
-refused mount.Fault = status.DriveFault
-refused mount.NoMemory = status.NoMemory
-refused broken = status.BadImage broken
 
 -- ---- put
 

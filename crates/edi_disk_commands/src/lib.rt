@@ -1,7 +1,6 @@
 //! The commands on the disk: `newdisk BLOCKS`, `newdisk BLOCKS --from FILE`, `put FILE TITLE`, `get TITLE FILE`.
 #![tactic(auto)]
 
-mod mounting;
 mod new_disks;
 mod puts;
 mod reads;

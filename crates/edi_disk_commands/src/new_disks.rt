@@ -1,10 +1,10 @@
 //! `newdisk BLOCKS` and `newdisk BLOCKS --from FILE`.
 
-ghost use Rattle.std.specs.Prelude.{◌≡◌, ◌≤◌, None, Some};
+ghost use Rattle.std.specs.Prelude.{◌≡◌, ◌≤◌, None, Some, true};
 ghost use Rattle.edi_told.specs.Faults.{CountRose};
 ghost use Rattle.edi_words.specs.Words.{newdisk};
 ghost use Rattle.edi_disk_commands.specs.OnDisk.{IsOfDisk, MeansOnDisk, MeansOnDrive};
-ghost use Rattle.edi_statuses.specs.Means.{CountsNew};
+ghost use Rattle.edi_statuses.specs.EachObject.{CountsNew, is_before_format};
 
 use edi_catalog::{FormatEnd, format};
 use edi_host::{Drive, Files};
@@ -24,6 +24,7 @@ pub fn new_disk<D: Drive>(alloc: Global, drive: &mut D, blocks: u32) -> Status
     ensures kind { IsOfDisk result }
     ensures size { CountsNew result blocks (D.count drive.old) (D.count drive.new) (D.faults drive.old) (D.faults drive.new) }
     ensures no_files { result ≡ Status.FileFault → ⊥ }
+    ensures early { is_before_format result ≡ true → drive.new ≡ drive.old }
     ensures later { D.faults drive.old ≤ D.faults drive.new }
     ensures cause { result ≡ Status.DriveFault → CountRose (D.faults drive.old) (D.faults drive.new) }
 {
@@ -49,6 +50,8 @@ pub fn new_disk_from<F: Files, D: Drive>(
     ensures means { MeansOnDisk (newdisk blocks (Some file.now)) result (F.contents files.old) (F.contents files.new) (D.contents drive.old)
         (D.contents drive.new) }
     ensures size { CountsNew result blocks (D.count drive.old) (D.count drive.new) (D.faults drive.old) (D.faults drive.new) }
+    // Where it is refused, the drive is left alone, whatever that tells.
+    ensures early { is_before_format result ≡ true → drive.new ≡ drive.old }
     ensures kind { IsOfDisk result }
     ensures later_files { F.faults files.old ≤ F.faults files.new }
     ensures later_drive { D.faults drive.old ≤ D.faults drive.new }

@@ -5,17 +5,17 @@ ghost use Rattle.edi_told.specs.Faults.{CountRose};
 ghost use Rattle.edi_told.specs.Told.{WhereTold};
 ghost use Rattle.edi_calls.specs.State.{is_title, most_bytes};
 ghost use Rattle.edi_words.specs.Words.{put};
+ghost use Rattle.edi_statuses.specs.EachObject.{FitsCount, KeepsImage, is_before_drive};
 ghost use Rattle.edi_disk_commands.specs.OnDisk.{IsOfDisk, MeansOnDisk};
 ghost use Rattle.edi_disk_commands.specs.OnDrive.{IsOfPut, PutsOn};
 
-use crate::mounting::refused;
 use crate::storing::store_over;
 use crate::titles::title_of;
 use edi_catalog::{CatEnd, Title, check, mount};
 use edi_disk::Disk;
 use edi_host::{Drive, Files};
 use edi_statuses::Status;
-use edi_steps::fetch;
+use edi_steps::{fetch, mount_status};
 use std::alloc::Global;
 
 /// As many bytes as decide whether a file is too long for a disk.
@@ -32,11 +32,12 @@ fn put_on<D: Drive>(alloc: Global, drive: &mut D, title: &Title, bytes: &[u8]) -
     ensures later { D.faults drive.old ≤ D.faults drive.new }
     ensures cause { result ≡ Status.DriveFault → CountRose (D.faults drive.old) (D.faults drive.new) }
     ensures size { D.count drive.new ≡ D.count drive.old }
+    ensures fits { FitsCount result (D.count drive.old) }
 {
     let mut disk = Disk::attach(drive);
     let mut room = match check(alloc, &mut disk) {
         Ok(room) => room,
-        Err(fault) => return refused(fault),
+        Err(fault) => return mount_status(fault),
     };
     let mut catalog = mount(disk, &mut room);
     match store_over(&mut catalog, title, bytes) {
@@ -62,7 +63,12 @@ pub fn put<F: Files, D: Drive>(
     ensures later_drive { D.faults drive.old ≤ D.faults drive.new }
     ensures cause_files { result ≡ Status.FileFault → CountRose (F.faults files.old) (F.faults files.new) }
     ensures cause_drive { result ≡ Status.DriveFault → CountRose (D.faults drive.old) (D.faults drive.new) }
+    // The status fits the number of blocks, which stays, whatever the drive tells; and where the drive is not asked, it is left alone.
     ensures size { D.count drive.new ≡ D.count drive.old }
+    ensures fits { FitsCount result (D.count drive.old) }
+    ensures early { is_before_drive result ≡ true → drive.new ≡ drive.old }
+    // A valid image stays one, whatever the files tell.
+    ensures valid { WhereTold (D.contents drive.old) (D.contents drive.new) KeepsImage }
 {
     let bytes = match fetch(alloc, files, file, LIMIT) {
         Ok(bytes) => bytes,

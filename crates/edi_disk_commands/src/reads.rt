@@ -5,15 +5,16 @@ ghost use Rattle.edi_told.specs.Faults.{CountRose};
 ghost use Rattle.edi_told.specs.Told.{WhereTold};
 ghost use Rattle.edi_calls.specs.State.{is_title};
 ghost use Rattle.edi_words.specs.Words.{get};
+ghost use Rattle.edi_statuses.specs.EachObject.{FitsGet, MayBeImage};
 ghost use Rattle.edi_disk_commands.specs.OnDisk.{IsOfDisk, MeansOnDisk};
 ghost use Rattle.edi_disk_commands.specs.OnDrive.{IsOfRead, ReadsOn, status_kept};
 
-use crate::mounting::refused;
 use crate::titles::title_of;
 use edi_catalog::{Title, check, mount};
 use edi_disk::Disk;
 use edi_host::{Drive, Files, KeepEnd};
 use edi_statuses::Status;
+use edi_steps::mount_status;
 use std::alloc::Global;
 
 /// The greatest number of bytes of a file.
@@ -33,11 +34,13 @@ fn read_on<D: Drive>(
     ensures later { D.faults drive.old ≤ D.faults drive.new }
     ensures cause { IfErr result (λ s. s ≡ Status.DriveFault → CountRose (D.faults drive.old) (D.faults drive.new)) }
     ensures size { D.count drive.new ≡ D.count drive.old }
+    ensures mounted { IfOk result (λ n. MayBeImage (D.count drive.old)) }
+    ensures fits { IfErr result (λ s. FitsGet s (D.count drive.old)) }
 {
     let mut disk = Disk::attach(drive);
     let mut room = match check(alloc, &mut disk) {
         Ok(room) => room,
-        Err(fault) => return Err(refused(fault)),
+        Err(fault) => return Err(mount_status(fault)),
     };
     let mut catalog = mount(disk, &mut room);
     if catalog.find(title).is_none() {
@@ -76,7 +79,11 @@ pub fn get<F: Files, D: Drive>(
     ensures later_drive { D.faults drive.old ≤ D.faults drive.new }
     ensures cause_files { result ≡ Status.FileFault → CountRose (F.faults files.old) (F.faults files.new) }
     ensures cause_drive { result ≡ Status.DriveFault → CountRose (D.faults drive.old) (D.faults drive.new) }
+    // The status fits the number of blocks, which stays, whatever the drive tells.
     ensures size { D.count drive.new ≡ D.count drive.old }
+    ensures fits { FitsGet result (D.count drive.old) }
+    // The drive keeps its blocks, whatever the files tell.
+    ensures same { WhereTold (D.contents drive.old) (D.contents drive.new) (λ old new. new ≡ old) }
 {
     let title = title_of(title);
     let Ok(mut into) = vec![in alloc; 0; MOST] else {

@@ -131,6 +131,9 @@ zeros 512 576
 sees 576 742020202020202020202020202020202020202020202020
 call 0 get t g
 same g t60
+input 0 list
+call 0 boot
+shows > list/t                        text     60/29 blocks free/> /
 bytes 14336 3
 file f29
 call 0 put f29 u

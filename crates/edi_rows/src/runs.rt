@@ -326,7 +326,10 @@ input 0 edison
 call 0 run buffer
 shows edison
 input 0 edison
-call 0 run buffer --seed 7
+call 0 run buffer --seed 7 --record kept
+shows edison
+input 0 edison
+call 0 replay buffer kept
 shows edison
 input 0 edison
 call 0 run buffer --choices one

@@ -6,6 +6,9 @@ use std::test::Fail;
 /// A text is entered, compiled and executed; lines that end at the input's end.
 const WORKED: &str = "
 call 0 newdisk 64
+input 0 list
+call 0 boot
+shows > list/31 blocks free/> /
 | enter t
 | proc main(proc display(value: char))
 | begin display('a') end

@@ -1,6 +1,6 @@
 -- How `demo` came to its status, whatever the drive and the input are.
-use Rattle.std.proofs.Common.{◌≡◌, ◌∙◌, ◌+◌, ◌-◌, arith, ℕ, Bool, false, List, [], ◌++◌}
-use Rattle.std.proofs.Common.{Option, Some, Ok, Err, map, refl, sym, ap, subst, inl, inr}
+use Rattle.std.proofs.Common.{◌≡◌, ◌∙◌, ◌+◌, arith, ℕ, Bool, false, List, [], ◌++◌}
+use Rattle.std.proofs.Common.{Option, Some, None, Ok, Err, map, refl, sym, ap, subst, inl, inr}
 use Rattle.std.specs.Prelude.{⊤}
 use Rattle.edi_told.specs.Told.{WhereTold}
 use Rattle.edi_host.specs.Blocks.{block_of}
@@ -8,7 +8,6 @@ use Rattle.edi_host.specs.Files.{Contents}
 use Rattle.edi_calls.specs.Choice.{Choices}
 use Rattle.edi_target.specs.Check.{CodeParts}
 use Rattle.edi_texts.specs.Run.{IsCodeFor}
-use Rattle.edi_unit.specs.Tree.{ProgramUnit}
 use Rattle.edi_utils.specs.Demo.{demo_text}
 use Rattle.edi_words.specs.Words as words
 use Rattle.edi_words.specs.Words.{Options}
@@ -16,18 +15,20 @@ use Rattle.edi_statuses.specs.declared.ended.Ended.{Ended}
 use Rattle.edi_statuses.specs.declared.status.Status.{Status}
 use Rattle.edi_statuses.specs.declared.status.Status.TheVariants as status
 use Rattle.edi_statuses.specs.Counts.{HasCause, counts_with}
+use Rattle.edi_statuses.specs.EachObject.{LeavesEach}
 use Rattle.edi_statuses.specs.Outside.{KernelLeft, Lent, Outside, idle, outside_with, seen, still_told}
 use Rattle.edi_statuses.specs.Showing.{ShowsBytes, due_after}
-use Rattle.edi_statuses.specs.Steps.{Accepts, ReadsChoices, goes}
+use Rattle.edi_statuses.specs.Steps.{ReadsChoices, goes}
 use Rattle.edi_statuses.specs.Executions.{text}
 use Rattle.edi_statuses.specs.Commands.{DemoSteps, IsNothing, Runs, size_line}
 use Rattle.edi_statuses.proofs.Closing as closing
 use Rattle.edi_statuses.proofs.Due.{due_then}
+use Rattle.edi_statuses.proofs.EachLeft.{each_same}
 use Rattle.edi_statuses.proofs.Terminal.{runs_later}
 use Rattle.edi_statuses.proofs.Told.{same_told, shows_nothing, still, still_same}
 use Rattle.edi_steps.specs.OnFiles.{ChoicesStep, files_only}
 use Rattle.edi_run_commands.specs.CodeRan.{CodeRan, RanCode}
-use Rattle.edi_run_commands.specs.Demonstrated.{CameAlone, DemoStep, HasCauseAlone, RanAlone, is_ok}
+use Rattle.edi_run_commands.specs.Demonstrated.{CameAlone, HasCauseAlone, RanAlone, is_ok}
 use Rattle.edi_run_commands.proofs.Demonstrated.{IsOfDemo, line_means, ran_means, uncoded_means, unread_means}
 use Rattle.edi_run_commands.proofs.Told.{on_files, reads_till_the_last}
 
@@ -80,16 +81,17 @@ module _ (n : ℕ) (o : Options) (old mid : Option Contents) (first : WhereTold 
         (idle kernel) (nothing blocks input) s h;
     shows = shows_nothing taken taken refl;
     due_is = refl;
+    each = each_same (Some (words.demo n o)) (start blocks input) (end blocks input) refl refl refl;
   }
 
-  pub uncoded : (choices : Choices) → ReadsChoices (files_only (still_told old mid)) o.choices (goes choices) → (s : Status) → DemoStep n (Err s)
-      → CameAlone (words.demo n o) s false old mid taken taken printed printed (idle kernel)
-  uncoded choices reads s h = λ blocks input. record {
+  pub uncoded : CameAlone (words.demo n o) status.NoMemory false old mid taken taken printed printed (idle kernel)
+  uncoded = λ blocks input. record {
     shown = [];
     means = uncoded_means n o (seen (start blocks input) (end blocks input)) (end blocks input) (same_told blocks blocks refl) (same_told input input refl)
-        (idle kernel) (nothing blocks input) choices (on_files (seen (start blocks input) (end blocks input)) o.choices (goes choices) reads) s h;
+        (idle kernel) (nothing blocks input);
     shows = shows_nothing taken taken refl;
     due_is = refl;
+    each = each_same (Some (words.demo n o)) (start blocks input) (end blocks input) refl refl refl;
   }
 
 -- another status that is the same
@@ -138,24 +140,28 @@ alone_wants parts bound choices name s due old taken printed kernel is silent = 
     }));
     shows = shows_nothing taken taken refl;
     due_is = silent;
+    each = each_same None start start refl refl refl;
   };
 } where
   start : Outside
   start = outside_with old (Some []) (Some []) taken printed
 
 module _ (n : ℕ) (o : Options) (old mid new : Option Contents) (choices : Choices) (c : ReadsChoices (files_only (still_told old mid)) o.choices (goes choices))
-    (first : WhereTold old mid (λ a b. b ≡ a)) (last : WhereTold mid new (λ a b. ⊤)) (unit : ProgramUnit) (accepts : Accepts (demo_text n) (goes unit))
-    (parts : CodeParts) (code : IsCodeFor (demo_text n) parts) (taken takes printed prints : Option (List ℕ)) (kernel : Lent) (s : Status) (due : Bool)
+    (first : WhereTold old mid (λ a b. b ≡ a)) (last : WhereTold mid new (λ a b. ⊤)) (parts : CodeParts)
+    (code : IsCodeFor (demo_text n) parts) (taken takes printed prints : Option (List ℕ)) (kernel : Lent) (s : Status) (due : Bool)
     (r : RanAlone parts o.turns choices o.record_file s due mid new taken takes printed prints kernel) where
   steps : (shown : Option (List ℕ)) (blocks : Option (List (List ℕ))) (input : Option (List ℕ))
-      → DemoSteps (seen (outside_with old blocks input taken printed) (outside_with new blocks input shown prints)) n o.choices (goes choices)
+      → DemoSteps (seen (outside_with old blocks input taken printed) (outside_with new blocks input shown prints)) o.choices (goes choices)
   steps shown blocks input =
-      inr (
-        choices,
-        on_files (seen (outside_with old blocks input taken printed) (outside_with new blocks input shown prints)) o.choices (goes choices)
-            (reads_till_the_last o.choices choices old mid new last c),
-        inr (unit, accepts, refl),
-      )
+      on_files (seen (outside_with old blocks input taken printed) (outside_with new blocks input shown prints)) o.choices (goes choices)
+      (reads_till_the_last o.choices choices old mid new last c)
+
+  -- the drive and the input that were lent are left alone
+  each_alone : (shown : Option (List ℕ)) (blocks : Option (List (List ℕ))) (input : Option (List ℕ))
+      → LeavesEach (Some (words.demo n o)) (outside_with old blocks input taken printed) (outside_with new blocks input shown prints)
+  each_alone shown blocks input =
+      let rest = each_same (Some (words.demo n o)) (outside_with old blocks input taken printed) (outside_with new blocks input shown printed) refl refl refl in
+      record { drive = rest.drive; input = rest.input; printer = r.ran.each.printer }
 
   -- so over the files from before the command
   ran : CodeRan (text (demo_text n)) o.turns choices o.record_file s
@@ -175,6 +181,7 @@ module _ (n : ℕ) (o : Options) (old mid new : Option Contents) (choices : Choi
         r.disk r.left r.ran.shown s of_ not_ok ran;
     shows = r.ran.shows;
     due_is = r.ran.due_is;
+    each = each_alone takes blocks input;
   }
 
   -- the line of its size was shown, or a first part of it
@@ -198,4 +205,5 @@ module _ (n : ℕ) (o : Options) (old mid new : Option Contents) (choices : Choi
           r.disk r.left r.ran.shown runs ended.status line.0 line.1;
       shows = closing.shown_line taken takes shows r.ran.shown line.0 r.ran.shows line.2;
       due_is = line.3 ∙ ap (λ d. due_after d line.0) r.ran.due_is ∙ sym (due_then r.ran.shown line.0);
+      each = each_alone shows blocks input;
     }

@@ -1,36 +1,33 @@
 -- The code of the demonstration and the line of its size.
-use Rattle.std.proofs.Common.{◌≡◌, ◌∙◌, ◌++◌, ℕ, Bool, true, false, true≢false, List, Ok, Err, refl, sym, ap, subst}
+use Rattle.std.proofs.Common.{◌≡◌, ◌≤◌, ◌∙◌, ◌++◌, ℕ, Bool, true, false, true≢false, List, Ok, Err, refl, sym, ap, subst}
+use Rattle.edi_demonstrated.proofs.Accepted.{demonstrations_are_accepted}
 use Rattle.edi_lex.specs.Symbols.{symbols_of}
 use Rattle.edi_target.specs.Check.{CodeParts}
 use Rattle.edi_texts.specs.Answers.{TextAnswers}
 use Rattle.edi_texts.specs.Run.{IsCodeFor}
 use Rattle.edi_texts.specs.declared.refusal.Refusal.{Refusal}
 use Rattle.edi_texts.specs.declared.refusal.Refusal.TheVariants.{At, NoMemory}
-use Rattle.edi_unit.specs.Tree.{ProgramUnit}
 use Rattle.edi_utils.specs.Demo.{demo_line, demo_text}
 use Rattle.edi_statuses.specs.declared.status.Status.{Status}
 use Rattle.edi_statuses.specs.declared.status.Status.TheVariants as status
 use Rattle.edi_statuses.specs.Commands.{count_in, size_line}
 use Rattle.edi_statuses.specs.Lines.{feed, is_due}
-use Rattle.edi_statuses.specs.Steps.{Accepts, goes}
-use Rattle.edi_steps.proofs.Units.{unit_there}
 use Rattle.edi_run_commands.specs.CodeRan.{refusal_status}
-use Rattle.edi_run_commands.specs.Demonstrated.{DemoStep, is_ok}
+use Rattle.edi_run_commands.specs.Demonstrated.{is_ok}
 
 pub demo_coded : (n : ℕ) (text bytes : List ℕ) (parts : CodeParts) (symbols : ℕ) → text ≡ demo_text n → symbols ≡ count_in (symbols_of text)
     → bytes ≡ demo_text n → TextAnswers (IsCodeFor bytes) bytes (Ok parts)
-    → (unit : ProgramUnit) × Accepts (demo_text n) (goes unit) × IsCodeFor (demo_text n) parts × (symbols ≡ count_in (symbols_of (demo_text n)))
+    → IsCodeFor (demo_text n) parts × (symbols ≡ count_in (symbols_of (demo_text n)))
 demo_coded n text bytes parts symbols is counted are answers =
-    let a = subst (λ t. TextAnswers (IsCodeFor t) t (Ok parts)) are answers in
-    let unit = unit_there (IsCodeFor (demo_text n)) (demo_text n) parts a in
-    (unit.0, unit.1, a.gives, counted ∙ ap (λ t. count_in (symbols_of t)) is)
+    let a = subst (λ t. TextAnswers (IsCodeFor t) t (Ok parts)) are answers in (a.gives, counted ∙ ap (λ t. count_in (symbols_of t)) is)
 
-pub demo_refused : (n : ℕ) (bytes : List ℕ) (refusal : Refusal) → bytes ≡ demo_text n → TextAnswers (IsCodeFor bytes) bytes (Err refusal)
-    → DemoStep n (Err (refusal_status refusal))
-demo_refused n bytes NoMemory are answers = tt
-demo_refused n bytes (At pass kind line) are answers =
+-- its text has no fault, so that memory was wanting where it is not compiled
+pub demo_wants : (n : ℕ) → 1 ≤ n → n ≤ 1000 → (bytes : List ℕ) (refusal : Refusal) → bytes ≡ demo_text n
+    → TextAnswers (IsCodeFor bytes) bytes (Err refusal) → refusal_status refusal ≡ status.NoMemory
+demo_wants n some many bytes NoMemory are answers = refl
+demo_wants n some many bytes (At pass kind line) are answers =
     let a = subst (λ t. TextAnswers (IsCodeFor t) t (Err (At pass kind line))) are answers in
-    (kind, line, refl, (pass, a.gives))
+    absurd ((demonstrations_are_accepted n some many).no_fault pass kind line a.gives)
 
 pub ok_is : (s : Status) → is_ok s ≡ true → s ≡ status.Ok
 ok_is status.Ok h = refl

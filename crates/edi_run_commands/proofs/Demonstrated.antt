@@ -20,14 +20,15 @@ use Rattle.edi_statuses.specs.Showing.{ShowsFar}
 use Rattle.edi_statuses.specs.Steps.{goes, stops, Mounts, ReadsChoices}
 use Rattle.edi_statuses.specs.Executions.{BrokeRun, record_of, text}
 use Rattle.edi_statuses.specs.Commands.{DemoSteps, IsNothing, OnItsOwn, Runs, size_line, with_own}
-use Rattle.edi_statuses.specs.Means.{HasNotBegun, MeansOf, RanUnkept, RanWhole, is_in_file, names_in}
+use Rattle.edi_statuses.specs.EachObject.{is_in_file}
+use Rattle.edi_statuses.specs.Means.{HasNotBegun, MeansOf, RanUnkept, RanWhole, names_in}
 use Rattle.edi_statuses.proofs.Told.{same_but, told_so}
 use Rattle.edi_steps.specs.OnFiles.{ChoicesStep, files_only}
 use Rattle.edi_run_commands.specs.CodeRan.{CodeRan}
-use Rattle.edi_run_commands.specs.Demonstrated.{DemoStep, is_ok}
+use Rattle.edi_run_commands.specs.Demonstrated.{is_ok}
 use Rattle.edi_run_commands.proofs.Exits.{IsRefusal, choices_refusal}
 use Rattle.edi_run_commands.proofs.Meaning.{at_record, never_words}
-use Rattle.edi_run_commands.proofs.Told.{on_files}
+use Rattle.edi_run_commands.proofs.Told.{in_file, on_files, there_on_files}
 
 -- ---- the file of the record
 
@@ -91,7 +92,7 @@ module _ (n : ℕ) (o : Options) (before after : Outside) (blocks : SameBlocks b
   }
 
   -- the program was run, and its line is not to be shown
-  module _ (choices : Choices) (steps : DemoSteps before n o.choices (goes choices)) (disk : List (List ℕ)) (left shown : List ℕ) where
+  module _ (choices : Choices) (steps : DemoSteps before o.choices (goes choices)) (disk : List (List ℕ)) (left shown : List ℕ) where
     abbrev RanHere : Status → Type 0
     RanHere s = CodeRan (text (demo_text n)) o.turns choices o.record_file s (with_own [] [] before) (with_own disk left after) shown kernel
 
@@ -100,7 +101,7 @@ module _ (n : ℕ) (o : Options) (before after : Outside) (blocks : SameBlocks b
     ran_means status.Words of_ not_ok h = never_words h.1.ending h.1.status_is
     ran_means status.NoMemory of_ not_ok (inl h) = inl (own_nothing disk left shown h)
     ran_means status.NoMemory of_ not_ok (inr h) =
-        inr (at_record o.record_file (DemoSteps before n o.choices)
+        inr (at_record o.record_file (DemoSteps before o.choices)
         (λ v. OnItsOwn (λ b a. RanUnkept (text (demo_text n)) o.turns v b a shown kernel) before after) choices h.0 steps
         (on_its_own (λ b a. RanUnkept (text (demo_text n)) o.turns choices b a shown kernel) disk left h.2))
     ran_means status.FileFault of_ not_ok h = record {
@@ -108,7 +109,7 @@ module _ (n : ℕ) (o : Options) (before after : Outside) (blocks : SameBlocks b
       far =
           inr (
             h.1,
-            at_record o.record_file (DemoSteps before n o.choices)
+            at_record o.record_file (DemoSteps before o.choices)
                 (λ v. OnItsOwn (λ b a. RanWhole (text (demo_text n)) o.turns v b a shown kernel) before after) choices h.0 steps
                 (on_its_own (λ b a. RanWhole (text (demo_text n)) o.turns choices b a shown kernel) disk left h.3),
           );
@@ -135,7 +136,7 @@ module _ (n : ℕ) (o : Options) (before after : Outside) (blocks : SameBlocks b
         )
 
   -- its line was shown, or a first part of it
-  pub line_means : (choices : Choices) → DemoSteps before n o.choices (goes choices) → (disk : List (List ℕ)) (left by_program : List ℕ)
+  pub line_means : (choices : Choices) → DemoSteps before o.choices (goes choices) → (disk : List (List ℕ)) (left by_program : List ℕ)
       → Runs (text (demo_text n)) o.turns choices o.record_file status.Ok (with_own [] [] before) (with_own disk left after) by_program kernel
       → (s : Status) (front : List ℕ) → ShowsFar s front (size_line n kernel.after.used by_program) → MeansHere s (by_program ++ front)
   line_means choices steps disk left by_program ran status.Ok front far =
@@ -169,7 +170,7 @@ module _ (n : ℕ) (o : Options) (before after : Outside) (blocks : SameBlocks b
 
   -- the command stopped before it ran anything
   module _ (nothing : IsNothing before after [] kernel) where
-    refused : (s : Status) → IsRefusal s → DemoSteps before n o.choices (stops s) → MeansHere s []
+    refused : (s : Status) → IsRefusal s → DemoSteps before o.choices (stops s) → MeansHere s []
     refused status.Absent refusal h = inl (h, nothing)
     refused (status.BadChoices line) refusal h = inl (h, nothing)
     refused (status.Refused kind line) refusal h = inl (h, nothing)
@@ -183,12 +184,12 @@ module _ (n : ℕ) (o : Options) (before after : Outside) (blocks : SameBlocks b
     pub unread_means : (s : Status) → ChoicesStep (files_only before.files) o.choices (Err s) → MeansHere s []
     unread_means status.NoMemory h = inl nothing
     unread_means status.FileFault h = record {
-      uses = or_first (is_in_file o.choices) _ h;
-      far = inl (nothing.same.files, not_begun);
+      uses = or_first (is_in_file o.choices) _ (in_file (files_only before.files) o.choices h);
+      far = inl (nothing.same.files, there_on_files before o.choices h, not_begun);
     }
-    unread_means s h = refused s (choices_refusal (files_only before.files) o.choices s h) (inl (on_files before o.choices (stops s) h))
+    unread_means s h =
+        refused s (choices_refusal (files_only before.files) o.choices s h) (on_files before o.choices (stops s) h)
 
-    -- its text was not compiled
-    pub uncoded_means : (choices : Choices) → ReadsChoices before o.choices (goes choices) → (s : Status) → DemoStep n (Err s) → MeansHere s []
-    uncoded_means choices reads status.NoMemory h = inl nothing
-    uncoded_means choices reads s h = refused s (subst IsRefusal (sym h.2) tt) (inr (choices, reads, inl h))
+    -- memory was wanting for its text
+    pub uncoded_means : MeansHere status.NoMemory []
+    uncoded_means = inl nothing

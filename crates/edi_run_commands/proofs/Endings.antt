@@ -1,5 +1,5 @@
 -- The exits of a run of a code: the drive is not mounted, an object has failed, the record is kept, or it is not.
-use Rattle.std.proofs.Common.{◌≡◌, ◌≤◌, ℕ, Bool, false, List, [], length, drop, Option, Some, None, Err, IfSome, unwrap_or, refl, sym, ap, subst, inl, inr}
+use Rattle.std.proofs.Common.{◌≡◌, ◌≤◌, ℕ, Bool, false, List, [], Option, Some, Err, unwrap_or, refl, sym, ap, subst, inr}
 use Rattle.edi_told.specs.Told.{WhereTold}
 use Rattle.edi_calls.specs.declared.ends.Outside as failing
 use Rattle.edi_calls.specs.declared.ends.Outside.TheVariants as object
@@ -7,106 +7,43 @@ use Rattle.edi_calls.specs.Choice.{Choices}
 use Rattle.edi_calls.specs.Outcome as outcome
 use Rattle.edi_execute.specs.Objects.{HasRun, StandsAtMoment}
 use Rattle.edi_image.specs.declared.faults.MountFault.{MountFault}
-use Rattle.edi_image.specs.declared.faults.MountFault.TheVariants as mount
-use Rattle.edi_image.specs.Finds.{IsFirst}
-use Rattle.edi_image.specs.Image.{mount_fault_of}
 use Rattle.edi_kernel.specs.declared.ends.Ending.{Ending}
 use Rattle.edi_kernel.specs.declared.ends.Ending.TheVariants as ending
-use Rattle.edi_system.specs.Parts.{IsValid, Grows, due_after}
 use Rattle.edi_target.specs.Check.{CodeParts}
 use Rattle.edi_trace.specs.Drawn.{Drawn}
 use Rattle.edi_statuses.specs.declared.status.Status.{Status}
-use Rattle.edi_statuses.specs.declared.status.Status.TheVariants as status
-use Rattle.edi_statuses.specs.Outside.{Outside, seen, still_told, system_on, with_kept, Keeps, SameBlocks, SameFiles, Shows, Lent}
+use Rattle.edi_statuses.specs.Outside.{Outside, seen, system_on, with_kept, Keeps, SameFiles, Shows, Lent}
 use Rattle.edi_statuses.specs.Lines.{is_due}
-use Rattle.edi_statuses.specs.Steps.{goes, stops, IsBrokenRule, Mounts}
+use Rattle.edi_statuses.specs.Steps.{goes, Mounts}
 use Rattle.edi_statuses.specs.Executions.{Program, HasCode, HasMoment, StandsAt, Ran, BrokeRun, record_of, status_of}
 use Rattle.edi_statuses.specs.Executions as statuses
-use Rattle.edi_statuses.specs.Commands.{IsNothing, Runs}
-use Rattle.edi_statuses.specs.Means.{HasNotBegun, RanWhole, RanUnkept, names_in}
+use Rattle.edi_statuses.specs.Commands.{Runs}
+use Rattle.edi_statuses.specs.Means.{RanWhole}
 use Rattle.edi_steps.specs.OnFiles.{RecordStep}
-use Rattle.edi_run_commands.specs.CodeRan.{CodeRan, RanCode, ending_status, mount_status, object_status}
-use Rattle.edi_run_commands.proofs.Left.{devices_told, devices, told_by, ending_of, has_run, stands, IsNoFault}
-use Rattle.edi_statuses.proofs.Told.{same_told, still, told_so, first_told, shows_nothing}
+use Rattle.edi_steps.specs.NotMounted.{mount_status}
+use Rattle.edi_run_commands.specs.CodeRan.{CodeRan, RanCode, ending_status, object_status}
+use Rattle.edi_run_commands.proofs.Mounting.{IsLeft, IsUnmounted, left_each, mounts, unkept, unmounted_by, unmounted_each}
+use Rattle.edi_run_commands.proofs.Left.{devices_told, told_by, ending_of, has_run, stands, IsNoFault}
+use Rattle.edi_statuses.proofs.Told.{same_told, still, shows_nothing}
 use Rattle.edi_run_commands.proofs.Shown.{shown_since, shows_so, due_so}
 
 -- ---- the drive is not mounted
-
-pub record IsUnmounted (before after : Outside) (kernel : Lent) (why : MountFault) : Type 0 where
-  pub files : after.files ≡ before.files
-  pub blocks : WhereTold before.blocks after.blocks (λ old new. (new ≡ old) × IsFirst why (mount_fault_of old))
-  pub input : after.input ≡ before.input
-  pub shown : after.shown ≡ before.shown
-  pub printed : after.printed ≡ before.printed
-  pub kernel_same : kernel.after ≡ kernel.before
-
-module _ (before after : Outside) (kernel : Lent) (why : MountFault) (h : IsUnmounted before after kernel why) where
-  same_blocks : SameBlocks (seen before after) after
-  same_blocks = still _ before.blocks after.blocks (told_so _ _ before.blocks after.blocks (λ old new both. both.0) h.blocks)
-
-  nothing : IsNothing (seen before after) after [] kernel
-  nothing = record {
-    shown_ = refl;
-    same = record {
-      files = same_told before.files after.files h.files;
-      blocks = same_blocks;
-      input = same_told before.input after.input h.input;
-      printed = same_told before.printed after.printed h.printed;
-    };
-    kernel_same = h.kernel_same;
-  }
-
-  not_begun : HasNotBegun (seen before after) after [] kernel
-  not_begun = record {
-    shown_ = refl;
-    blocks = same_blocks;
-    input = same_told before.input after.input h.input;
-    printed = same_told before.printed after.printed h.printed;
-    kernel_same = h.kernel_same;
-  }
-
-  first : IfSome (still_told before.blocks after.blocks) (λ old. IsFirst why (mount_fault_of old))
-  first = first_told _ _ before.blocks after.blocks (λ old new both. both.1) h.blocks
-
-unmounted_by : (before after : Outside) (kernel : Lent) (why : MountFault) → IsUnmounted before after kernel why → (program : Program) (bound : ℕ)
-    (choices : Choices) (name : Option (List ℕ)) → CodeRan program bound choices name (mount_status why) (seen before after) after [] kernel
-unmounted_by before after kernel mount.Fault h program bound choices name =
-    (same_told before.files after.files h.files, inl (not_begun before after kernel mount.Fault h))
-unmounted_by before after kernel mount.NoMemory h program bound choices name = inl (nothing before after kernel mount.NoMemory h)
-unmounted_by before after kernel mount.Short h program bound choices name =
-    ((mount.Short, refl, first before after kernel mount.Short h, tt), nothing before after kernel mount.Short h)
-unmounted_by before after kernel mount.Header h program bound choices name =
-    ((mount.Header, refl, first before after kernel mount.Header h, tt), nothing before after kernel mount.Header h)
-unmounted_by before after kernel (mount.Entry slot) h program bound choices name =
-    ((mount.Entry slot, refl, first before after kernel (mount.Entry slot) h, tt), nothing before after kernel (mount.Entry slot) h)
-unmounted_by before after kernel (mount.Page slot block) h program bound choices name =
-    ((mount.Page slot block, refl, first before after kernel (mount.Page slot block) h, tt), nothing before after kernel (mount.Page slot block) h)
-unmounted_by before after kernel (mount.Shared block) h program bound choices name =
-    ((mount.Shared block, refl, first before after kernel (mount.Shared block) h, tt), nothing before after kernel (mount.Shared block) h)
 
 pub unmounted : (parts : CodeParts) (bound : ℕ) (choices : Choices) (name : Option (List ℕ)) (s : Status) (due : Bool) (before after : Outside) (kernel : Lent)
     (why : MountFault) → s ≡ mount_status why → due ≡ false → IsUnmounted before after kernel why → RanCode parts bound choices name s due before after kernel
 unmounted parts bound choices name s due before after kernel why is silent h = record {
   shown = [];
   ran = λ program code. subst (λ x. CodeRan program bound choices name x (seen before after) after [] kernel) (sym is)
-      (unmounted_by before after kernel why h program bound choices name);
+      (unmounted_by before after kernel why h name (BrokeRun program bound choices (seen before after) after [])
+      (RanWhole program bound choices (seen before after) after [] kernel) (λ end. Runs program bound choices name end (seen before after) after [] kernel));
   shows = shows_nothing before.shown after.shown h.shown;
   due_is = silent;
+  each = unmounted_each before after kernel why h;
 }
 
 -- ---- the code was run
 
-pub record IsLeft (due : Bool) (before after : Outside) : Type 0 where
-  pub mounted : WhereTold before.blocks after.blocks (λ old new. mount_fault_of old ≡ None)
-  pub valid : IsValid after.blocks
-  pub grows : WhereTold before.shown after.shown Grows
-  pub due_is : WhereTold before.shown after.shown (λ taken now. due ≡ due_after false (drop (length taken) now))
-
-mounts : (due : Bool) (before after : Outside) → IsLeft due before after → Mounts (seen before after) (goes tt)
-mounts due before after left =
-    first_told (λ old new. mount_fault_of old ≡ None) (λ blocks. mount_fault_of blocks ≡ None) before.blocks after.blocks (λ x y h. h) left.mounted
-
-status_is : (e : Ending) (s : Status) → Some s ≡ ending_status e → s ≡ status_of (ending_of e)
+pub status_is : (e : Ending) (s : Status) → Some s ≡ ending_status e → s ≡ status_of (ending_of e)
 status_is ending.Done s h = ap (λ x. unwrap_or x s) h
 status_is (ending.Halted line) s h = ap (λ x. unwrap_or x s) h
 status_is (ending.Failed why line) s h = ap (λ x. unwrap_or x s) h
@@ -158,6 +95,7 @@ module _ (parts : CodeParts) (bound : ℕ) (old : Drawn) (none : old.drawn ≡ 0
         (broke_by failed name kernel (same_told before.files after.files files) program (broke_run moment program code));
     shows = shows_now;
     due_is = due_now;
+    each = left_each due before after left;
   }
 
   -- the run has come to its ending
@@ -196,24 +134,21 @@ module _ (parts : CodeParts) (bound : ℕ) (old : Drawn) (none : old.drawn ≡ 0
           (subst (λ from. WhereTold before.files after.files (λ a b. b ≡ with_kept (record_of name from new.drawn) a)) source step)) program code));
       shows = shows_now;
       due_is = due_now;
+      each = left_each due before after left;
     }
 
     -- it was not kept
-    unrecorded_by : (A : Type 0) (name : Option (List ℕ)) (s : Status) → RecordStep {A = A} name new (Err s) before.files after.files → (program : Program)
-        → HasCode program parts → CodeRan program bound old.source name s (seen before after) after shown_now kernel
-    unrecorded_by A name status.NoMemory step program is =
-        inr (step.0, mounts due before after left, (whole program is, still _ before.files after.files step.1))
-    unrecorded_by A name status.FileFault step program is =
-        (step.0, still _ before.files after.files step.1, mounts due before after left, whole program is)
-    unrecorded_by A name _ step program is = absurd step
-
     pub unrecorded : (A : Type 0) (name : Option (List ℕ)) (s : Status) → RecordStep {A = A} name new (Err s) before.files after.files
         → RanCode parts bound old.source name s due before after kernel
     unrecorded A name s step = record {
       shown = shown_now;
-      ran = unrecorded_by A name s step;
+      ran = λ program is.
+          unkept due before after left new A name s step (BrokeRun program bound old.source (seen before after) after shown_now)
+          (RanWhole program bound old.source (seen before after) after shown_now kernel)
+          (λ end. Runs program bound old.source name end (seen before after) after shown_now kernel) shown_now kernel (whole program is);
       shows = shows_now;
       due_is = due_now;
+      each = left_each due before after left;
     }
 
 -- another number that is the same

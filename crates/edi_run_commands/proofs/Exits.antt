@@ -1,5 +1,5 @@
 -- The exits of a command before its code is run: nothing was done, and the status says why. And the one behind the run.
-use Rattle.std.proofs.Common.{◌≡◌, ◌∙◌, ℕ, Bool, false, List, [], Option, Some, None, Result, Ok, Err, refl, sym, subst, inl, inr}
+use Rattle.std.proofs.Common.{◌≡◌, ℕ, Bool, false, List, [], Option, Some, None, Err, refl, sym, subst, inl, inr}
 use Rattle.std.specs.Prelude.{⊤}
 use Rattle.std.specs.FinMap as map
 use Rattle.edi_told.specs.Told.{WhereTold}
@@ -10,7 +10,7 @@ use Rattle.edi_trace.specs.Lines.{Reading, values, bad_line, read_of}
 use Rattle.edi_target.specs.Check.{CodeParts}
 use Rattle.edi_statuses.specs.declared.status.Status.{Status}
 use Rattle.edi_statuses.specs.declared.status.Status.TheVariants as status
-use Rattle.edi_statuses.specs.Outside.{Outside, seen, still_told, Lent}
+use Rattle.edi_statuses.specs.Outside.{Outside, IsSomeFile, seen, still_told, Lent}
 use Rattle.edi_statuses.specs.Steps.{Reached, goes, stops, ◌>>=◌, Ready, Fetches, GivesChoices, ReadsChoices, Mounts}
 use Rattle.edi_statuses.specs.Executions.{Program, HasCode}
 use Rattle.edi_statuses.specs.Commands.{IsNothing}
@@ -19,6 +19,8 @@ use Rattle.edi_steps.specs.OnFiles.{FetchStep, ChoicesStep, files_only}
 use Rattle.edi_run_commands.specs.CodeRan.{CodeRan, RanCode}
 use Rattle.edi_run_commands.specs.RunMeans.{RunCame, RunMeans}
 use Rattle.edi_run_commands.proofs.Meaning.{code_means}
+use Rattle.edi_steps.proofs.OnFilesLemmas.{fetched_there}
+use Rattle.edi_statuses.proofs.EachLeft.{each_same}
 use Rattle.edi_statuses.proofs.Told.{same_told, still, shows_nothing, just_told, still_same, till_the_last, in_turn}
 use Rattle.edi_run_commands.proofs.Told.{reads_till_the_last, on_files}
 
@@ -28,7 +30,7 @@ abbrev pub with_files : Outside → Option Contents → Outside
 with_files o files = record o { files = files }
 
 module _ (o : Outside) (new : Option Contents) (kernel : Lent) (kept : kernel.after ≡ kernel.before) where
-  nothing : WhereTold o.files new (λ a b. b ≡ a) → IsNothing (seen o (with_files o new)) (with_files o new) [] kernel
+  pub nothing : WhereTold o.files new (λ a b. b ≡ a) → IsNothing (seen o (with_files o new)) (with_files o new) [] kernel
   nothing same = record {
     shown_ = refl;
     same = record {
@@ -40,7 +42,7 @@ module _ (o : Outside) (new : Option Contents) (kernel : Lent) (kept : kernel.af
     kernel_same = kept;
   }
 
-  not_begun : HasNotBegun (seen o (with_files o new)) (with_files o new) [] kernel
+  pub not_begun : HasNotBegun (seen o (with_files o new)) (with_files o new) [] kernel
   not_begun = record {
     shown_ = refl;
     blocks = same_told o.blocks o.blocks refl;
@@ -59,14 +61,15 @@ IsRefusal (status.Refused kind line) = ⊤
 IsRefusal (status.BadCode broken) = ⊤
 IsRefusal _ = ⊥
 
-refused_means : {A : Type 0} (asks : Type 0) (steps : Reached A → Type 0) (program : A → Program) (choices : A → Choices) (bound : ℕ) (name : Option (List ℕ)) (s : Status)
+refused_means : {A : Type 0} (there asks : Type 0) (steps : Reached A → Type 0) (program : A → Program) (choices : A → Choices) (bound : ℕ)
+    (name : Option (List ℕ)) (s : Status)
     (before after : Outside) (kernel : Lent) → IsRefusal s → steps (stops s) → IsNothing before after [] kernel
-    → RunMeans asks steps program choices bound name s before after [] kernel
-refused_means asks steps program choices bound name status.Absent before after kernel refusal h n = inl (h, n)
-refused_means asks steps program choices bound name (status.BadChoices m) before after kernel refusal h n = inl (h, n)
-refused_means asks steps program choices bound name (status.Refused kind line) before after kernel refusal h n = inl (h, n)
-refused_means asks steps program choices bound name (status.BadCode broken) before after kernel refusal h n = inl (h, n)
-refused_means asks steps program choices bound name _ before after kernel refusal h n = absurd refusal
+    → RunMeans there asks steps program choices bound name s before after [] kernel
+refused_means there asks steps program choices bound name status.Absent before after kernel refusal h n = inl (h, n)
+refused_means there asks steps program choices bound name (status.BadChoices m) before after kernel refusal h n = inl (h, n)
+refused_means there asks steps program choices bound name (status.Refused kind line) before after kernel refusal h n = inl (h, n)
+refused_means there asks steps program choices bound name (status.BadCode broken) before after kernel refusal h n = inl (h, n)
+refused_means there asks steps program choices bound name _ before after kernel refusal h n = absurd refusal
 
 fetch_refusal : (o : Outside) (name : List ℕ) (s : Status) → Fetches o name (stops s) → IsRefusal s
 fetch_refusal o name s h = subst IsRefusal (sym h.0) tt
@@ -94,49 +97,61 @@ abbrev pub AsksBy : {U : Type 0} → (third : List ℕ → Reached U → Type 0)
 AsksBy third name from o = WentOn (Fetches o name >>= λ bytes. ReadsChoices o from >>= λ choices. third bytes)
 
 -- another status that is the same
-pub came : {A : Type 0} (asks : Outside → Type 0) (steps : Outside → Reached A → Type 0) (program : A → Program) (choices : A → Choices) (bound : ℕ) (name : Option (List ℕ))
+pub came : {A : Type 0} (there asks : Outside → Type 0) (steps : Outside → Reached A → Type 0) (program : A → Program) (choices : A → Choices)
+    (bound : ℕ) (name : Option (List ℕ))
     (s t : Status) (due : Bool) (before after : Outside) (kernel : Lent) → t ≡ s → due ≡ false
-    → RunCame asks steps program choices bound name s false before after kernel → RunCame asks steps program choices bound name t due before after kernel
-came asks steps program choices bound name s t due before after kernel same none h =
-    subst (λ d. RunCame asks steps program choices bound name t d before after kernel) (sym none)
-    (subst (λ x. RunCame asks steps program choices bound name x false before after kernel) (sym same) h)
+    → RunCame there asks steps program choices bound name s false before after kernel
+    → RunCame there asks steps program choices bound name t due before after kernel
+came there asks steps program choices bound name s t due before after kernel same none h =
+    subst (λ d. RunCame there asks steps program choices bound name t d before after kernel) (sym none)
+    (subst (λ x. RunCame there asks steps program choices bound name x false before after kernel) (sym same) h)
 
 module _ {U X : Type 0} (third : List ℕ → Reached U → Type 0) (make : List ℕ → U → X) (program : X → Program) (name : List ℕ) (from : ChoicesFrom)
     (bound : ℕ) (record_file : Option (List ℕ)) (before : Outside) (kernel : Lent) where
   abbrev steps : Outside → Reached (X × Choices) → Type 0
   steps o = StepsBy third make name from o
 
+  abbrev file_there : Outside → Type 0
+  file_there o = IsSomeFile o name
+
   abbrev asks : Outside → Type 0
   asks o = AsksBy third name from o
 
   abbrev CameTo : Status → Bool → Outside → Type 0
-  CameTo s due after = RunCame asks steps (λ a. program a.0) (λ a. a.1) bound record_file s due before after kernel
+  CameTo s due after = RunCame file_there asks steps (λ a. program a.0) (λ a. a.1) bound record_file s due before after kernel
 
   abbrev MeansAt : Status → Option Contents → Type 0
   MeansAt s new =
-      RunMeans (asks (seen before (with_files before new))) (steps (seen before (with_files before new))) (λ a. program a.0) (λ a. a.1) bound record_file s (seen before (with_files before new))
-      (with_files before new) [] kernel
+      let o : Outside = seen before (with_files before new) in
+      RunMeans (file_there o) (asks o) (steps o) (λ a. program a.0) (λ a. a.1) bound record_file s o (with_files before new) [] kernel
 
   stopped : (s : Status) (new : Option Contents) → MeansAt s new → CameTo s false (with_files before new)
-  stopped s new means = record { shown = []; means = means; shows = shows_nothing before.shown before.shown refl; due_is = refl }
+  stopped s new means = record {
+    shown = [];
+    means = means;
+    shows = shows_nothing before.shown before.shown refl;
+    due_is = refl;
+    each = each_same None before (with_files before new) refl refl refl;
+  }
 
   module _ (new : Option Contents) (kept : kernel.after ≡ kernel.before) (same : WhereTold before.files new (λ a b. b ≡ a)) where
     wants_at : MeansAt status.NoMemory new
     wants_at = inl (nothing before new kernel kept same)
 
-    fails_at : MeansAt status.FileFault new
-    fails_at = inl (still (λ a b. b ≡ a) before.files new same, not_begun before new kernel kept)
+    fails_at : file_there (seen before (with_files before new)) → MeansAt status.FileFault new
+    fails_at found = inl (still (λ a b. b ≡ a) before.files new same, found, not_begun before new kernel kept)
 
     refused_at : (s : Status) → IsRefusal s → steps (seen before (with_files before new)) (stops s) → MeansAt s new
     refused_at s refusal h =
-        refused_means (asks (seen before (with_files before new))) (steps (seen before (with_files before new))) (λ a. program a.0) (λ a. a.1) bound record_file s (seen before (with_files before new))
-        (with_files before new) kernel refusal h (nothing before new kernel kept same)
+        let o : Outside = seen before (with_files before new) in
+        refused_means (file_there o) (asks o) (steps o) (λ a. program a.0) (λ a. a.1) bound record_file s o (with_files before new) kernel refusal h
+        (nothing before new kernel kept same)
 
   -- the file was not fetched
   fetch_means : {V : Type 0} (items : V → List ℕ) (limit : ℕ) (new : Option Contents) (s : Status) → kernel.after ≡ kernel.before
       → FetchStep items (files_only (still_told before.files new)) name limit (Err s) → WhereTold before.files new (λ a b. b ≡ a) → MeansAt s new
   fetch_means items limit new status.NoMemory kept h same = wants_at new kept same
-  fetch_means items limit new status.FileFault kept h same = fails_at new kept same
+  fetch_means items limit new status.FileFault kept h same = fails_at new kept same h
   fetch_means items limit new s kept h same = refused_at new kept same s (fetch_refusal (files_only (still_told before.files new)) name s h) (inl h)
 
   pub fetch_stops : {V : Type 0} (items : V → List ℕ) (limit : ℕ) (new : Option Contents) (s : Status) → kernel.after ≡ kernel.before
@@ -160,7 +175,7 @@ module _ {U X : Type 0} (third : List ℕ → Reached U → Type 0) (make : List
     -- the choices were not read
     choices_means : (s : Status) → kernel.after ≡ kernel.before → ChoicesStep (files_only (still_told mid new)) from (Err s) → MeansAt s new
     choices_means status.NoMemory kept h = wants_at new kept same
-    choices_means status.FileFault kept h = fails_at new kept same
+    choices_means status.FileFault kept h = fails_at new kept same (fetched_there (seen before (with_files before new)) name all fetched)
     choices_means s kept h =
         refused_at new kept same s (choices_refusal (files_only (still_told mid new)) from s h) (inr (all, fetched, inl (read (stops s) h)))
 
@@ -201,7 +216,9 @@ module _ {U X : Type 0} (third : List ℕ → Reached U → Type 0) (make : List
         λ x m. inr (all, got, inr (choices, there, inr (u, t, inl m))) in
         record {
           shown = r.shown;
-          means = code_means (asks o) (steps o) (λ a. program a.0) (λ a. a.1) (make all u, choices) bound record_file o after r.shown kernel asked goes_on stops_there s ran;
+          means = code_means (file_there o) (asks o) (steps o) (λ a. program a.0) (λ a. a.1) (make all u, choices) bound record_file o after r.shown kernel
+              asked goes_on stops_there s ran;
           shows = r.shows;
           due_is = r.due_is;
+          each = record { drive = λ stays. r.each.drive refl; input = r.each.input; printer = r.each.printer };
         }

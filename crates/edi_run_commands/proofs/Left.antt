@@ -21,7 +21,7 @@ use Rattle.edi_target.specs.Moments.{ComesThrough}
 use Rattle.edi_texts.specs.Run.{IsMomentOfCode, IsRunOfCode}
 use Rattle.edi_texts.proofs.Executions.{runs_are_never_bad}
 use Rattle.edi_trace.specs.Drawn.{Drawn}
-use Rattle.edi_statuses.specs.Outside.{Outside, Devices, devices_of, devices_with, seen, still_told, system_on, Shows, KernelLeft, kernel_of}
+use Rattle.edi_statuses.specs.Outside.{Outside, Devices, devices_of, devices_with, seen, still_told, system_on, Shows, kernel_of}
 use Rattle.edi_run_commands.proofs.Blocks.{end_blocks, moment_blocks}
 use Rattle.edi_statuses.specs.Executions.{Program, text, code, HasCode, HasMoment, HasOutcome, HasRun, NeverBad, StandsAt, StoreIs}
 

@@ -1,11 +1,14 @@
 pub mod Alone
 pub mod Blocks
 pub mod Coded
+pub mod Counted
+pub mod Asked
 pub mod Demonstrated
 pub mod Endings
 pub mod Exits
 pub mod Left
 pub mod Meaning
+pub mod Mounting
 pub mod OfCodeFiles
 pub mod OfTexts
 pub mod Shown

@@ -8,7 +8,7 @@ use Rattle.edi_words.specs.Words as words
 use Rattle.edi_words.specs.Words.{Options}
 use Rattle.edi_statuses.specs.declared.status.Status.{Status}
 use Rattle.edi_statuses.specs.declared.status.Status.TheVariants as status
-use Rattle.edi_statuses.specs.Outside.{Outside, Lent}
+use Rattle.edi_statuses.specs.Outside.{Outside, IsSomeFile, Lent}
 use Rattle.edi_statuses.specs.Steps.{Reached, goes, stops, Mounts}
 use Rattle.edi_statuses.specs.Executions.{Program, text, code, status_of}
 use Rattle.edi_statuses.specs.Commands.{RunSteps, ExecSteps}
@@ -32,12 +32,12 @@ never_words (outcome.bad address) e = absurd (cc)
 -- ---- a command that has run a code
 
 -- its steps go on if the drive is mounted, and stop where it is not
-module _ {A : Type 0} (asks : Type 0) (steps : Reached A → Type 0) (program : A → Program) (choices : A → Choices) (a : A) (bound : ℕ) (name : Option (List ℕ))
+module _ {A : Type 0} (there asks : Type 0) (steps : Reached A → Type 0) (program : A → Program) (choices : A → Choices) (a : A) (bound : ℕ) (name : Option (List ℕ))
     (before after : Outside) (shown : List ℕ) (kernel : Lent) (asked : asks)
     (went : Mounts before (goes tt) → steps (goes a))
     (stopped : (s : Status) → Mounts before (stops s) → steps (stops s)) where
   pub code_means : (s : Status) → CodeRan (program a) bound (choices a) name s before after shown kernel
-      → RunMeans asks steps program choices bound name s before after shown kernel
+      → RunMeans there asks steps program choices bound name s before after shown kernel
   code_means status.Words h = never_words h.1.ending h.1.status_is
   code_means status.NoMemory (inl h) = inl h
   code_means status.NoMemory (inr h) = inr (at_record name steps _ a h.0 (went h.1) h.2)
@@ -57,7 +57,8 @@ module _ {A : Type 0} (asks : Type 0) (steps : Reached A → Type 0) (program : 
 -- ---- the commands
 
 run_means : (file : List ℕ) (o : Options) (s : Status) (before after : Outside) (shown : List ℕ) (kernel : Lent)
-    → RunMeans (RunAsks before file o.choices) (RunSteps before file o.choices) (λ a. text a.0) (λ a. a.1) o.turns o.record_file s before after shown kernel
+    → RunMeans (IsSomeFile before file) (RunAsks before file o.choices) (RunSteps before file o.choices) (λ a. text a.0) (λ a. a.1) o.turns o.record_file s
+    before after shown kernel
     → MeansOf s (words.run file o) before after shown kernel
 run_means file o status.Words before after shown kernel h = h
 run_means file o status.NoMemory before after shown kernel h = h
@@ -72,7 +73,8 @@ no_record (inl b) = b
 no_record (inr h) = absurd h
 
 replay_means : (file name : List ℕ) (turns : ℕ) (s : Status) (before after : Outside) (shown : List ℕ) (kernel : Lent)
-    → RunMeans (RunAsks before file (words.file name)) (RunSteps before file (words.file name)) (λ a. text a.0) (λ a. a.1) turns None s before after shown kernel
+    → RunMeans (IsSomeFile before file) (RunAsks before file (words.file name)) (RunSteps before file (words.file name)) (λ a. text a.0) (λ a. a.1) turns None s
+    before after shown kernel
     → MeansOf s (words.replay file name turns) before after shown kernel
 replay_means file name turns status.Words before after shown kernel h = h
 replay_means file name turns status.NoMemory before after shown kernel h = no_record h
@@ -83,7 +85,8 @@ replay_means file name turns status.OutputFault before after shown kernel h = re
 replay_means file name turns s before after shown kernel h = h
 
 exec_means : (file : List ℕ) (o : Options) (s : Status) (before after : Outside) (shown : List ℕ) (kernel : Lent)
-    → RunMeans (ExecAsks before file o.choices) (ExecSteps before file o.choices) (λ a. code a.0) (λ a. a.1) o.turns o.record_file s before after shown kernel
+    → RunMeans (IsSomeFile before file) (ExecAsks before file o.choices) (ExecSteps before file o.choices) (λ a. code a.0) (λ a. a.1) o.turns o.record_file s
+    before after shown kernel
     → MeansOf s (words.exec file o) before after shown kernel
 exec_means file o status.Words before after shown kernel h = h
 exec_means file o status.NoMemory before after shown kernel h = h
@@ -96,14 +99,32 @@ exec_means file o s before after shown kernel h = h
 pub run_came : (file : List ℕ) (o : Options) (s : Status) (due : Bool) (before after : Outside) (kernel : Lent)
     → TextCame file o.choices o.turns o.record_file s due before after kernel → Came s due (Some (words.run file o)) before after kernel
 run_came file o s due before after kernel h =
-    record { shown = h.shown; means = run_means file o s _ after h.shown kernel h.means; shows = h.shows; due_is = h.due_is }
+    record {
+      shown = h.shown;
+      means = run_means file o s _ after h.shown kernel h.means;
+      shows = h.shows;
+      due_is = h.due_is;
+      each = record { drive = λ stays. h.each.drive refl; input = h.each.input; printer = h.each.printer };
+    }
 
 pub replay_came : (file name : List ℕ) (turns : ℕ) (s : Status) (due : Bool) (before after : Outside) (kernel : Lent)
     → TextCame file (words.file name) turns None s due before after kernel → Came s due (Some (words.replay file name turns)) before after kernel
 replay_came file name turns s due before after kernel h =
-    record { shown = h.shown; means = replay_means file name turns s _ after h.shown kernel h.means; shows = h.shows; due_is = h.due_is }
+    record {
+      shown = h.shown;
+      means = replay_means file name turns s _ after h.shown kernel h.means;
+      shows = h.shows;
+      due_is = h.due_is;
+      each = record { drive = λ stays. h.each.drive refl; input = h.each.input; printer = h.each.printer };
+    }
 
 pub exec_came : (file : List ℕ) (o : Options) (s : Status) (due : Bool) (before after : Outside) (kernel : Lent)
     → CodeFileCame file o.choices o.turns o.record_file s due before after kernel → Came s due (Some (words.exec file o)) before after kernel
 exec_came file o s due before after kernel h =
-    record { shown = h.shown; means = exec_means file o s _ after h.shown kernel h.means; shows = h.shows; due_is = h.due_is }
+    record {
+      shown = h.shown;
+      means = exec_means file o s _ after h.shown kernel h.means;
+      shows = h.shows;
+      due_is = h.due_is;
+      each = record { drive = λ stays. h.each.drive refl; input = h.each.input; printer = h.each.printer };
+    }

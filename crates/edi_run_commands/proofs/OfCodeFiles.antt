@@ -10,7 +10,7 @@ use Rattle.edi_target.specs.Check.{CodeParts}
 use Rattle.edi_target.specs.Limit.{most_fetched}
 use Rattle.edi_statuses.specs.declared.status.Status.{Status}
 use Rattle.edi_statuses.specs.declared.status.Status.TheVariants as status
-use Rattle.edi_statuses.specs.Outside.{Outside, still_told, Lent}
+use Rattle.edi_statuses.specs.Outside.{Outside, IsSomeFile, still_told, Lent}
 use Rattle.edi_statuses.specs.Steps.{goes, stops, Fetches, ReadsChoices, Loads}
 use Rattle.edi_statuses.specs.Executions.{code}
 use Rattle.edi_statuses.specs.Commands.{ExecSteps}
@@ -31,7 +31,7 @@ pub code_came : (name : List ℕ) (o : Options) (s t : Status) (due : Bool) (bef
     → CodeFileCame name o.choices o.turns o.record_file s false before after kernel → Came t due (Some (words.exec name o)) before after kernel
 code_came name o s t due before after kernel same silent h =
     exec_came name o t due before after kernel
-    (came (λ x. ExecAsks x name o.choices) (λ x. ExecSteps x name o.choices) (λ a. code a.0) (λ a. a.1) o.turns o.record_file s t due before after kernel same silent h)
+    (came (λ x. IsSomeFile x name) (λ x. ExecAsks x name o.choices) (λ x. ExecSteps x name o.choices) (λ a. code a.0) (λ a. a.1) o.turns o.record_file s t due before after kernel same silent h)
 
 module _ (name : List ℕ) (from : ChoicesFrom) (bound : ℕ) (record_file : Option (List ℕ)) (before : Outside) (kernel : Lent) (all bytes : List ℕ)
     (first_bytes : bytes ≡ take most_fetched all) (mid new : Option Contents) (choices : Choices)

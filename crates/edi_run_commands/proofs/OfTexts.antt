@@ -15,7 +15,7 @@ use Rattle.edi_texts.specs.Run.{IsCodeFor}
 use Rattle.edi_texts.proofs.Same.{fetched_bytes_decide}
 use Rattle.edi_statuses.specs.declared.status.Status.{Status}
 use Rattle.edi_statuses.specs.declared.status.Status.TheVariants as status
-use Rattle.edi_statuses.specs.Outside.{Outside, still_told, Lent}
+use Rattle.edi_statuses.specs.Outside.{Outside, IsSomeFile, still_told, Lent}
 use Rattle.edi_statuses.specs.Steps.{goes, Fetches, ReadsChoices, Accepts}
 use Rattle.edi_statuses.specs.Executions.{text}
 use Rattle.edi_statuses.specs.Commands.{RunSteps}
@@ -31,7 +31,7 @@ pub text_came : (name : List ℕ) (from : ChoicesFrom) (bound : ℕ) (record_fil
     (kernel : Lent) → t ≡ s → due ≡ false → TextCame name from bound record_file s false before after kernel
     → TextCame name from bound record_file t due before after kernel
 text_came name from bound record_file s t due before after kernel same silent h =
-    came (λ o. RunAsks o name from) (λ o. RunSteps o name from) (λ a. text a.0) (λ a. a.1) bound record_file s t due before after kernel same silent h
+    came (λ o. IsSomeFile o name) (λ o. RunAsks o name from) (λ o. RunSteps o name from) (λ a. text a.0) (λ a. a.1) bound record_file s t due before after kernel same silent h
 
 module _ (name : List ℕ) (from : ChoicesFrom) (bound : ℕ) (record_file : Option (List ℕ)) (before : Outside) (kernel : Lent) (all bytes : List ℕ)
     (first_bytes : bytes ≡ take most_fetched all) (mid new : Option Contents) (choices : Choices)

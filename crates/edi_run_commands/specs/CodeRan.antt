@@ -1,12 +1,10 @@
 -- Words of contracts. What is left where a code is run on a drive that is mounted for it and the record of its choices is kept, by
 -- the status to which that comes.
-use Rattle.std.specs.Prelude.{◌≡◌, ◌⊎◌, ℕ, Bool, List, Option, Some, None, IsSome}
+use Rattle.std.specs.Prelude.{◌≡◌, ℕ, Bool, List, Option, Some, None}
 use Rattle.edi_calls.specs.declared.ends.Outside as failing
 use Rattle.edi_calls.specs.declared.ends.Outside.TheVariants as object
 use Rattle.edi_calls.specs.declared.kinds.Cause.TheVariants as cause
 use Rattle.edi_calls.specs.Choice.{Choices}
-use Rattle.edi_image.specs.declared.faults.MountFault.{MountFault}
-use Rattle.edi_image.specs.declared.faults.MountFault.TheVariants as mount
 use Rattle.edi_kernel.specs.declared.ends.Ending.{Ending}
 use Rattle.edi_kernel.specs.declared.ends.Ending.TheVariants as ending
 use Rattle.edi_target.specs.Check.{CodeParts}
@@ -14,12 +12,13 @@ use Rattle.edi_texts.specs.declared.refusal.Refusal.{Refusal}
 use Rattle.edi_texts.specs.declared.refusal.Refusal.TheVariants.{At, NoMemory}
 use Rattle.edi_statuses.specs.declared.status.Status.{Status}
 use Rattle.edi_statuses.specs.declared.status.Status.TheVariants as status
-use Rattle.edi_statuses.specs.Outside.{Outside, seen, Shows, SameBut, SameFiles, Lent}
+use Rattle.edi_statuses.specs.EachObject.{LeavesEach}
+use Rattle.edi_statuses.specs.Outside.{Outside, seen, Shows, Lent}
 use Rattle.edi_statuses.specs.Lines.{is_due}
-use Rattle.edi_statuses.specs.Steps.{goes, stops, Mounts}
 use Rattle.edi_statuses.specs.Executions.{Program, HasCode, BrokeRun}
-use Rattle.edi_statuses.specs.Commands.{IsNothing, Runs}
-use Rattle.edi_statuses.specs.Means.{RanWhole, RanUnkept, HasNotBegun, names_in}
+use Rattle.edi_statuses.specs.Commands.{Runs}
+use Rattle.edi_statuses.specs.Means.{RanWhole}
+use Rattle.edi_run_commands.specs.OnMounted.{OnMounted}
 
 -- ---- statuses
 
@@ -27,12 +26,6 @@ use Rattle.edi_statuses.specs.Means.{RanWhole, RanUnkept, HasNotBegun, names_in}
 abbrev pub refusal_status : Refusal → Status
 refusal_status (At pass kind line) = status.Refused kind line
 refusal_status NoMemory = status.NoMemory
-
--- of a drive that was not mounted
-abbrev pub mount_status : MountFault → Status
-mount_status mount.Fault = status.DriveFault
-mount_status mount.NoMemory = status.NoMemory
-mount_status broken = status.BadImage broken
 
 -- of an object that has failed in a run
 abbrev pub object_status : failing.Outside → Status
@@ -53,29 +46,19 @@ ending_status ending.Fault = None
 
 -- ---- what is left
 
--- The drive was not mounted; or the program was broken off at one moment of its execution; or it came to its ending, and then the
--- record was kept, or wanted memory, or the files failed.
+-- The program was broken off at one moment of its execution, or came to its ending.
 abbrev pub CodeRan : Program → (bound : ℕ) → Choices → (record_file : Option (List ℕ)) → Status → Outside → Outside → (shown : List ℕ)
     → Lent → Type 0
-CodeRan program bound choices name status.NoMemory before after shown kernel =
-    IsNothing before after shown kernel ⊎ (IsSome name × Mounts before (goes tt) × RanUnkept program bound choices before after shown kernel)
-CodeRan program bound choices name status.FileFault before after shown kernel =
-    IsSome name × SameBut (names_in name) before after × Mounts before (goes tt) × RanWhole program bound choices before after shown kernel
-CodeRan program bound choices name status.DriveFault before after shown kernel =
-    SameFiles before after × (HasNotBegun before after shown kernel ⊎ (Mounts before (goes tt) × BrokeRun program bound choices before after shown))
-CodeRan program bound choices name status.InputFault before after shown kernel =
-    SameFiles before after × Mounts before (goes tt) × BrokeRun program bound choices before after shown
-CodeRan program bound choices name status.OutputFault before after shown kernel =
-    SameFiles before after × Mounts before (goes tt) × BrokeRun program bound choices before after shown
-CodeRan program bound choices name (status.BadImage broken) before after shown kernel =
-    Mounts before (stops (status.BadImage broken)) × IsNothing before after shown kernel
 CodeRan program bound choices name s before after shown kernel =
-    Mounts before (goes tt) × Runs program bound choices name s before after shown kernel
+    OnMounted name (BrokeRun program bound choices before after shown) (RanWhole program bound choices before after shown kernel)
+    (λ end. Runs program bound choices name end before after shown kernel) s before after shown kernel
 
--- So it is of every program that this code was made of; a line feed is due before the line of the status, or not.
+-- So it is of every program that this code was made of; a line feed is due before the line of the status, or not. What
+-- is left of each object is told whatever the others tell.
 pub record RanCode (parts : CodeParts) (bound : ℕ) (choices : Choices) (name : Option (List ℕ)) (s : Status) (due : Bool)
     (before after : Outside) (kernel : Lent) : Type 0 where
   pub shown : List ℕ
   pub ran : (program : Program) → HasCode program parts → CodeRan program bound choices name s (seen before after) after shown kernel
   pub shows : Shows before after shown
   pub due_is : due ≡ is_due shown
+  pub each : LeavesEach None before after

@@ -1,10 +1,9 @@
 -- Words of contracts. What the demonstration answers, whatever the drive and the input are.
-use Rattle.std.specs.Prelude.{◌≡◌, ℕ, Bool, true, false, List, [], Option, Some, Result, Ok, Err, ⊤}
+use Rattle.std.specs.Prelude.{◌≡◌, ℕ, Bool, true, false, List, [], Option, Some, Result, Ok, Err}
 use Rattle.edi_host.specs.Files.{Contents}
 use Rattle.edi_calls.specs.Choice.{Choices}
 use Rattle.edi_lex.specs.Symbols.{symbols_of}
 use Rattle.edi_target.specs.Check.{CodeParts}
-use Rattle.edi_unit.specs.Tree.{ProgramUnit}
 use Rattle.edi_texts.specs.Run.{IsCodeFor}
 use Rattle.edi_utils.specs.Demo.{demo_text}
 use Rattle.edi_words.specs.Words.{Command}
@@ -12,7 +11,6 @@ use Rattle.edi_statuses.specs.declared.status.Status.{Status}
 use Rattle.edi_statuses.specs.declared.status.Status.TheVariants as status
 use Rattle.edi_statuses.specs.Counts.{HasCause, counts_with}
 use Rattle.edi_statuses.specs.Outside.{Lent, outside_with}
-use Rattle.edi_statuses.specs.Steps.{Accepts, goes, stops}
 use Rattle.edi_statuses.specs.Commands.{count_in}
 use Rattle.edi_statuses.specs.Means.{Came}
 use Rattle.edi_run_commands.specs.CodeRan.{RanCode}
@@ -37,12 +35,10 @@ abbrev pub is_ok : Status → Bool
 is_ok status.Ok = true
 is_ok s = false
 
--- the code of the demonstration and the number of its symbols, or its text is refused; memory may be wanting
+-- the code of the demonstration and the number of its symbols; its text is never refused, but memory may be wanting
 abbrev pub DemoStep : (n : ℕ) → Result Demo Status → Type 0
-DemoStep n (Ok demo) =
-    (unit : ProgramUnit) × Accepts (demo_text n) (goes unit) × IsCodeFor (demo_text n) demo.code × (demo.symbols ≡ count_in (symbols_of (demo_text n)))
-DemoStep n (Err status.NoMemory) = ⊤
-DemoStep n (Err s) = Accepts (demo_text n) (stops s)
+DemoStep n (Ok demo) = IsCodeFor (demo_text n) demo.code × (demo.symbols ≡ count_in (symbols_of (demo_text n)))
+DemoStep n (Err s) = s ≡ status.NoMemory
 
 -- The code was run without a disk and on an empty input of its own.
 pub record RanAlone (parts : CodeParts) (bound : ℕ) (choices : Choices) (name : Option (List ℕ)) (s : Status) (due : Bool) (old new : Option Contents)

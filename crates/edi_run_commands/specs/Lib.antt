@@ -1,3 +1,4 @@
 pub mod CodeRan
 pub mod Demonstrated
+pub mod OnMounted
 pub mod RunMeans

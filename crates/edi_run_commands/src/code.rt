@@ -1,40 +1,21 @@
 //! Running a code.
 
-ghost use Rattle.std.specs.Prelude.{◌≡◌, false, ⊤, None, Some, option_map};
+ghost use Rattle.std.specs.Prelude.{◌≡◌, ⊤, None, Some, option_map};
 ghost use Rattle.edi_told.specs.Told.{WhereTold};
 ghost use Rattle.edi_statuses.specs.Outside.{lent, outside_of};
 ghost use Rattle.edi_statuses.specs.Counts.{counts_of, HasCause, NoneFalls};
-ghost use Rattle.edi_run_commands.specs.CodeRan.{ending_status, mount_status, object_status, RanCode};
+ghost use Rattle.edi_run_commands.specs.CodeRan.{ending_status, object_status, RanCode};
+ghost use Rattle.edi_run_commands.specs.OnMounted.{DriveAsked};
 
 use edi_calls::{Cause, Outside};
 use edi_execute::run_on;
 use edi_host::{Drive, Files, Sink, Source};
-use edi_image::MountFault;
 use edi_kernel::{Ending, Kernel};
 use edi_statuses::{Ended, Status};
-use edi_steps::keep_record;
+use edi_steps::{keep_record, mount_status, stopped};
 use edi_target::Code;
 use edi_trace::Choices;
 use std::alloc::Global;
-
-/// A command has stopped before it ran anything.
-pub(crate) fn stopped(status: Status) -> Ended
-    ensures told { result.status ≡ status }
-    ensures due { result.due ≡ false }
-{
-    Ended { status, due: false }
-}
-
-/// The status of a command whose drive was not mounted.
-fn mount_status(why: MountFault) -> Status
-    ensures exact { result ≡ mount_status why }
-{
-    match why {
-        MountFault::Fault => Status::DriveFault,
-        MountFault::NoMemory => Status::NoMemory,
-        broken => Status::BadImage(broken),
-    }
-}
 
 /// The status of a command in whose run this object has failed.
 fn object_status(object: Outside) -> Status
@@ -92,6 +73,7 @@ pub(crate) fn run_code<F: Files, D: Drive, S: Source, T: Sink, P: Sink>(
         (counts_of F.faults D.faults S.faults T.faults P.faults files.new drive.new input.new terminal.new printer.new) }
     ensures untouched { record_file.entry ≡ None → files.new ≡ files.old }
     ensures size { D.count drive.new ≡ D.count drive.old }
+    ensures asked { DriveAsked result.status (D.count drive.old) }
 {
     let ran = match run_on(
         alloc,

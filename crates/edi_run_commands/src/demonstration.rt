@@ -1,6 +1,6 @@
 //! `demo N`: the program of the demonstration.
 
-ghost use Rattle.std.specs.Prelude.{◌≡◌, ◌≤◌, ◌++◌, IfOk, ⊤, None, false, option_map};
+ghost use Rattle.std.specs.Prelude.{◌≡◌, ◌≤◌, ◌++◌, IfOk, ⊤, None, false, true, option_map};
 ghost use Rattle.edi_told.specs.Faults.{CountRose};
 ghost use Rattle.edi_told.specs.Told.{WhereTold};
 ghost use Rattle.edi_lex.specs.Symbols.{symbols_of};
@@ -9,12 +9,12 @@ ghost use Rattle.edi_words.specs.Words.{demo as demo_words};
 ghost use Rattle.edi_words.specs.View.{options_of};
 ghost use Rattle.edi_statuses.specs.Commands.{count_in};
 ghost use Rattle.edi_statuses.specs.Lines.{feed};
-ghost use Rattle.edi_statuses.specs.Means.{names_file};
+ghost use Rattle.edi_statuses.specs.EachObject.{is_before_drive, names_file};
 ghost use Rattle.edi_statuses.specs.Outside.{lent};
 ghost use Rattle.edi_statuses.specs.Showing.{ShowsBytes};
 ghost use Rattle.edi_run_commands.specs.Demonstrated.{CameAlone, DemoStep, HasCauseAlone, RanAlone, is_ok};
 
-use crate::code::{run_code, stopped};
+use crate::code::run_code;
 use crate::texts::refusal_status;
 use arrayvec::ArrayString;
 use edi_compile::compile;
@@ -22,7 +22,7 @@ use edi_host::{Files, Sink, SteadyDrive, SteadySource};
 use edi_kernel::Kernel;
 use edi_lex::{LexFault, scan};
 use edi_statuses::{Ended, Status, show_bytes};
-use edi_steps::read_from;
+use edi_steps::{read_from, stopped};
 use edi_target::Code;
 use edi_trace::Choices;
 use edi_utils::demo;
@@ -92,6 +92,7 @@ fn run_alone<F: Files, T: Sink, P: Sink>(
     ensures later_terminal { T.faults terminal.old ≤ T.faults terminal.new }
     ensures later_printer { P.faults printer.old ≤ P.faults printer.new }
     ensures untouched { record_file.entry ≡ None → files.new ≡ files.old }
+    ensures asked { is_before_drive result.status ≡ false }
 {
     let Ok(mut disk) = SteadyDrive::new(alloc, &[]) else {
         return stopped(Status::NoMemory);
@@ -178,6 +179,9 @@ pub fn demonstrate<F: Files, T: Sink, P: Sink>(
     ensures later_printer { P.faults printer.old ≤ P.faults printer.new }
     // Where the options name no file, the files are left alone.
     ensures no_files { names_file (options_of options.entry) ≡ false → files.new ≡ files.old }
+    // Where the command stops before it runs anything, no object but the files is touched.
+    ensures early { is_before_drive result.status ≡ true
+        → (terminal.new ≡ terminal.old) × (printer.new ≡ printer.old) × (kernel.new ≡ kernel.old) }
 {
     let mut choices = match read_from(alloc, files, options.choices) {
         Ok(choices) => choices,

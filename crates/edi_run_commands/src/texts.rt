@@ -1,20 +1,21 @@
 //! `run` and `replay`: the program of a text.
 
-ghost use Rattle.std.specs.Prelude.{◌≡◌, Some, option_map};
+ghost use Rattle.std.specs.Prelude.{◌≡◌, true, Some, option_map};
 ghost use Rattle.edi_run_commands.specs.CodeRan.{refusal_status};
 ghost use Rattle.edi_run_commands.specs.RunMeans.{TextCame};
 ghost use Rattle.edi_words.specs.Words as words;
 ghost use Rattle.edi_words.specs.View.{choices_from, options_of};
+ghost use Rattle.edi_statuses.specs.EachObject.{DevicesStay, FitsCount, is_before_drive};
 ghost use Rattle.edi_statuses.specs.Outside.{lent, outside_of};
 ghost use Rattle.edi_statuses.specs.Counts.{counts_of, HasCause, NoneFalls};
 ghost use Rattle.edi_statuses.specs.Means.{Came};
 
-use crate::code::{run_code, stopped};
+use crate::code::run_code;
 use edi_compile::{Refusal, compile};
 use edi_host::{Drive, Files, Sink, Source};
 use edi_kernel::Kernel;
 use edi_statuses::{Ended, Status};
-use edi_steps::{fetch, read_from};
+use edi_steps::{fetch, read_from, stopped};
 use edi_words::{ChoicesFrom, Options};
 use std::alloc::Global;
 
@@ -56,6 +57,9 @@ fn run_text<F: Files, D: Drive, S: Source, T: Sink, P: Sink>(
         (counts_of F.faults D.faults S.faults T.faults P.faults files.old drive.old input.old terminal.old printer.old)
         (counts_of F.faults D.faults S.faults T.faults P.faults files.new drive.new input.new terminal.new printer.new) }
     ensures size { D.count drive.new ≡ D.count drive.old }
+    ensures fits { FitsCount result.status (D.count drive.old) }
+    ensures early { is_before_drive result.status ≡ true
+        → DevicesStay drive.old drive.new input.old input.new terminal.old terminal.new printer.old printer.new kernel.old kernel.new }
 {
     let text = match fetch(alloc, files, file, LIMIT) {
         Ok(text) => text,
@@ -110,7 +114,12 @@ pub fn run<F: Files, D: Drive, S: Source, T: Sink, P: Sink>(
     ensures later { NoneFalls
         (counts_of F.faults D.faults S.faults T.faults P.faults files.old drive.old input.old terminal.old printer.old)
         (counts_of F.faults D.faults S.faults T.faults P.faults files.new drive.new input.new terminal.new printer.new) }
+    // The status fits the number of blocks, which stays, whatever the drive tells; and where the drive is not asked, no object but the
+    // files is touched.
     ensures size { D.count drive.new ≡ D.count drive.old }
+    ensures fits { FitsCount result.status (D.count drive.old) }
+    ensures early { is_before_drive result.status ≡ true
+        → DevicesStay drive.old drive.new input.old input.new terminal.old terminal.new printer.old printer.new kernel.old kernel.new }
 {
     run_text(
         alloc,
@@ -150,7 +159,12 @@ pub fn replay<F: Files, D: Drive, S: Source, T: Sink, P: Sink>(
     ensures later { NoneFalls
         (counts_of F.faults D.faults S.faults T.faults P.faults files.old drive.old input.old terminal.old printer.old)
         (counts_of F.faults D.faults S.faults T.faults P.faults files.new drive.new input.new terminal.new printer.new) }
+    // The status fits the number of blocks, which stays, whatever the drive tells; and where the drive is not asked, no object but the
+    // files is touched.
     ensures size { D.count drive.new ≡ D.count drive.old }
+    ensures fits { FitsCount result.status (D.count drive.old) }
+    ensures early { is_before_drive result.status ≡ true
+        → DevicesStay drive.old drive.new input.old input.new terminal.old terminal.new printer.old printer.new kernel.old kernel.new }
 {
     run_text(
         alloc,

@@ -9,6 +9,7 @@ use Rattle.edi_statuses.specs.declared.status.Status.TheVariants as status
 use Rattle.edi_statuses.specs.Lines.{closing, closing_line, is_due, text_of}
 use Rattle.edi_statuses.specs.Showing.{ClosesWith, IsFront}
 use Rattle.edi_statuses.specs.Counts.{Counts, HasCause}
+use Rattle.edi_statuses.specs.EachObject.{LeavesEach}
 use Rattle.edi_statuses.specs.Outside.{Outside, Shows, Lent}
 use Rattle.edi_statuses.specs.Means.{EndsAll, EndsWith, IsCutShort, LinesEnd, Means, with_shown}
 use Rattle.edi_statuses.proofs.Terminal.{StillTold}
@@ -107,14 +108,16 @@ line_of meant due shown is = ap (λ d. closing_line d meant) is
 -- the line was shown, or a first part of it
 with_line : (meant answer : Status) (c : Option Command) (before mid : Outside) (had has : Counts) (y : Option (List ℕ)) (kernel : Lent)
     (shown : List ℕ) → HasCause meant had has → IsSome (text_of meant) → Means meant c before (with_shown y mid) shown kernel
-    → Shows before mid shown → ClosesWith meant answer (closing meant shown) mid.shown y → EndsAll answer c before (with_shown y mid) had has kernel
-with_line meant answer c before mid had has y kernel shown cause some means shows (inl h) = (
+    → Shows before mid shown → LeavesEach c before (with_shown y mid) → ClosesWith meant answer (closing meant shown) mid.shown y
+    → EndsAll answer c before (with_shown y mid) had has kernel
+with_line meant answer c before mid had has y kernel shown cause some means shows each (inl h) = (
   shown ++ closing meant shown,
   subst (λ s. EndsWith s c before (with_shown y mid) had has (shown ++ closing meant shown) kernel) (sym h.0)
       (ends_plain meant c before (with_shown y mid) had has shown kernel some means),
   shown_line before.shown mid.shown y shown (closing meant shown) shows h.1,
+  each,
 )
-with_line meant answer c before mid had has y kernel shown cause some means shows (inr h) =
+with_line meant answer c before mid had has y kernel shown cause some means shows each (inr h) =
     let front = shown_then before.shown mid.shown y shown (λ f. IsFront f (closing meant shown)) shows h.1 (closing meant shown, refl) in
     let cut : IsCutShort c before (with_shown y mid) had has (shown ++ front.0) kernel = record {
       meant = meant;
@@ -129,6 +132,7 @@ with_line meant answer c before mid had has y kernel shown cause some means show
       shown ++ front.0,
       subst (λ s. EndsWith s c before (with_shown y mid) had has (shown ++ front.0) kernel) (sym h.0) (inr cut),
       front.2,
+      each,
     )
 
 -- THE LAW
@@ -138,6 +142,9 @@ lines_end meant answer due c before mid had has y kernel cause came closed silen
   means =
       later before mid y (still_closed meant answer (closing_line due meant) mid.shown y closed) meant c came.shown kernel came.means
 
+  each : LeavesEach c before (with_shown y mid)
+  each = record { drive = came.each.drive; input = came.each.input; printer = came.each.printer }
+
   by_text : (text_of meant ≡ None) ⊎ IsSome (text_of meant) → EndsAll answer c before (with_shown y mid) had has kernel
   by_text (inl none) =
       let same = silent none in (
@@ -145,7 +152,8 @@ lines_end meant answer due c before mid had has y kernel cause came closed silen
         subst (λ s. EndsWith s c before (with_shown y mid) had has came.shown kernel) (sym same.0)
             (ends_silent meant c before (with_shown y mid) had has came.shown kernel none means),
         shown_same before.shown mid.shown y came.shown same.1 came.shows,
+        each,
       )
   by_text (inr some) =
-      with_line meant answer c before mid had has y kernel came.shown cause some means came.shows
+      with_line meant answer c before mid had has y kernel came.shown cause some means came.shows each
       (subst (λ (l : List ℕ). ClosesWith meant answer l mid.shown y) (line_of meant due came.shown came.due_is) closed)

@@ -17,7 +17,7 @@ use Rattle.edi_statuses.specs.Commands.{RunSteps, ExecSteps, TextSteps, OldSteps
 use Rattle.edi_statuses.specs.Commands.{Demonstrates, OnItsOwn, with_own}
 use Rattle.edi_statuses.specs.Means.{AtRecord, Begun, BrokeDemo, ComesToBreak, Means, MeansOf, MeansRefused, RanWhole, RanUnkept, Wants, IsOpen}
 use Rattle.edi_statuses.specs.Means.{ArePutInPart, with_shown}
-use Rattle.edi_statuses.proofs.Terminal.{StillTold, asks_later, run_later, exec_later, text_later, old_later, put_later, get_later, nothing_later, begun_later}
+use Rattle.edi_statuses.proofs.Terminal.{StillTold, asks_later, fetch_fails_later, run_later, exec_later, text_later, old_later, put_later, get_later, nothing_later, begun_later}
 use Rattle.edi_statuses.proofs.Terminal.{drive_later, keeps_later, blocks_later, code_later, runs_later, whole_later, unkept_later, broke_later}
 use Rattle.edi_statuses.proofs.Terminal.{record_later, does_later, list_later, shows_later, front_later, demo_later}
 use Rattle.edi_statuses.proofs.Terminal.{boot_later, holds_later, held_later, broke_session_later}
@@ -147,16 +147,16 @@ module _ (b m : Outside) (y : Option (List ℕ)) (still : StillTold m.shown y) w
 
   demo_is : (n : ℕ) (options : Options) (shown : List ℕ) (kernel : Lent) → Later (words.demo n options) shown kernel
   demo_is n options shown kernel =
-      let steps = demo_later b m y still n options.choices in
+      let steps = demo_later b m y still options.choices in
       record {
-        comes = λ s. does_later b m y still (DemoSteps before_ n options.choices) (DemoSteps seen_later n options.choices)
+        comes = λ s. does_later b m y still (DemoSteps before_ options.choices) (DemoSteps seen_later options.choices)
             (λ v. Demonstrates n options.turns v options.record_file) (λ v. Demonstrates n options.turns v options.record_file) s shown kernel steps
             (λ v. demonstrates_later n options.turns v options.record_file kernel s shown);
-        wants = wants_later options.record_file (DemoSteps before_ n options.choices) (DemoSteps seen_later n options.choices)
+        wants = wants_later options.record_file (DemoSteps before_ options.choices) (DemoSteps seen_later options.choices)
             (λ v. OnItsOwn (λ a c. RanUnkept (text (demo_text n)) options.turns v a c shown kernel) before_ m)
             (λ v. OnItsOwn (λ a c. RanUnkept (text (demo_text n)) options.turns v a c shown kernel) seen_later later_) shown kernel steps
             (λ v. own_unkept n options.turns v options.record_file kernel shown);
-        files = record_later b m y still options.record_file (DemoSteps before_ n options.choices) (DemoSteps seen_later n options.choices)
+        files = record_later b m y still options.record_file (DemoSteps before_ options.choices) (DemoSteps seen_later options.choices)
             (λ v. OnItsOwn (λ a c. RanWhole (text (demo_text n)) options.turns v a c shown kernel) before_ m)
             (λ v. OnItsOwn (λ a c. RanWhole (text (demo_text n)) options.turns v a c shown kernel) seen_later later_) steps
             (λ v. own_whole n options.turns v options.record_file kernel shown);
@@ -298,7 +298,7 @@ module _ (b m : Outside) (y : Option (List ℕ)) (still : StillTold m.shown y) w
     uses = h.uses;
     far =
         elim h.far [
-          | inl none ↦ inl (none.0, begun_later b m y still shown kernel none.1)
+          | inl none ↦ inl (none.0, fetch_fails_later b m y still c none.1, begun_later b m y still shown kernel none.2)
           | inr far ↦ inr (far.0, (each_is c shown kernel).files far.1)
         ];
   }

@@ -6,5 +6,6 @@ pub mod OneStatus
 pub mod Terminal
 pub mod Later
 pub mod Closing
+pub mod EachLeft
 pub mod Silent
 pub mod Causes

@@ -145,9 +145,8 @@ module _ (each : TextsAreOne) (before after behind : Outside) (is_told : IsTold 
   list_steps : (file : List ℕ) → IsOne (ListSteps before file)
   list_steps file = then_one _ _ (fetches_one before is_told.files file) (λ bytes. loads_one bytes)
 
-  demo_steps : (n : ℕ) (from : ChoicesFrom) → IsOne (DemoSteps before n from)
-  demo_steps n from =
-      then_one _ _ (choices_one before is_told.files from) (λ choices. then_one _ _ (accepts_one each (demo_text n)) (λ unit. ready_one _))
+  demo_steps : (from : ChoicesFrom) → IsOne (DemoSteps before from)
+  demo_steps from = choices_one before is_told.files from
 
   -- each command has one status and shows one thing
   comes_one : (c : Command) → is_session c ≡ false → IsOneEffect before after behind (Comes c)
@@ -169,8 +168,8 @@ module _ (each : TextsAreOne) (before after behind : Outside) (is_told : IsTold 
       (λ bytes. IsDone (OnlyKeeps ((file, bytes) ∷ []))) (get_steps title) (λ bytes. keeps_one ((file, bytes) ∷ []))
   comes_one (words.list file) no_session = does_one before after behind (ListSteps before file)
       (λ parts. IsDone (OnlyShows (listing_of parts.words))) (list_steps file) (λ parts. shows_one (listing_of parts.words))
-  comes_one (words.demo n o) no_session = does_one before after behind (DemoSteps before n o.choices)
-      (λ choices. Demonstrates n o.turns choices o.record_file) (demo_steps n o.choices) (λ choices. demo_one n o.turns choices o.record_file)
+  comes_one (words.demo n o) no_session = does_one before after behind (DemoSteps before o.choices)
+      (λ choices. Demonstrates n o.turns choices o.record_file) (demo_steps o.choices) (λ choices. demo_one n o.turns choices o.record_file)
   comes_one (words.boot o) no_session = absurd (true≢false no_session)
   comes_one _ no_session = λ s t shown bytes kernel other h k. absurd h
 

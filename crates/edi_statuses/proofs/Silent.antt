@@ -14,6 +14,7 @@ use Rattle.edi_statuses.specs.Counts.{Counts, HasCause}
 use Rattle.edi_statuses.specs.Commands.{IsNothing}
 use Rattle.edi_statuses.specs.Means.{Came, Means}
 use Rattle.edi_statuses.specs.OnFiles.{IsOfFiles, MeansOnFiles, RestIsSame}
+use Rattle.edi_statuses.proofs.EachLeft.{each_same}
 use Rattle.edi_statuses.proofs.Told.{itself, same_told, shows_nothing}
 
 pub nothing_shown : (shown : Option (List ℕ)) → WhereTold shown shown (λ old new. new ≡ old ++ [])
@@ -47,6 +48,7 @@ refused s due c o kernel is silent none = record {
   means = subst (λ x. Means s x o o [] (idle kernel)) (sym none) (subst (λ t. Means t None o o [] (idle kernel)) (sym is) (nothing o kernel));
   shows = nothing_shown o.shown;
   due_is = silent;
+  each = each_same c o o refl refl refl;
 }
 
 -- want of memory before a command has begun
@@ -73,6 +75,7 @@ wants s due c o kernel is silent = record {
   means = subst (λ t. Means t c o o [] (idle kernel)) (sym is) (wants_any c o kernel);
   shows = nothing_shown o.shown;
   due_is = silent;
+  each = each_same c o o refl refl refl;
 }
 
 -- ---- a command that touches the files alone
@@ -90,6 +93,7 @@ on_files c s due before new kernel silent means =
       means = means before (with_files new before) (idle kernel) refl refl rest;
       shows = nothing_shown before.shown;
       due_is = silent;
+      each = each_same (Some c) before (with_files new before) refl refl refl;
     }
 
 pub file_cause : (s : Status) (before after : Counts) → IsOfFiles s → (s ≡ status.FileFault → CountRose before.files after.files)

@@ -11,12 +11,11 @@ use Rattle.edi_migrate.specs.OldImage.{old_slots_of}
 use Rattle.edi_target.specs.Check.{CodeParts}
 use Rattle.edi_trace.specs.Lines.{read_of}
 use Rattle.edi_unit.specs.Tree.{ProgramUnit}
-use Rattle.edi_utils.specs.Demo.{demo_text}
 use Rattle.edi_words.specs.Words as words
 use Rattle.edi_words.specs.Words.{ChoicesFrom, Command}
 use Rattle.edi_statuses.specs.declared.status.Status.{Status}
 use Rattle.edi_statuses.specs.Outside.{Outside, seen, Lent, KernelLeft, Kept, Devices, devices_of, devices_with, system_on}
-use Rattle.edi_statuses.specs.Steps.{Reached, goes, stops, ◌>>=◌, Ready, Fetches, GivesChoices, ReadsChoices, Accepts, Mounts, Loads}
+use Rattle.edi_statuses.specs.Steps.{Reached, goes, stops, ◌>>=◌, Ready, Fetches, GivesChoices, ReadsChoices, ChoicesAreThere, Accepts, Mounts, Loads}
 use Rattle.edi_statuses.specs.Steps.{ChecksOld, Fits, HasRoom}
 use Rattle.edi_statuses.specs.Executions.{Program, HasMoment, HasRun, StandsAt, BrokeRun}
 use Rattle.edi_session.specs.declared.end.SessionEnd.{SessionEnd}
@@ -24,7 +23,7 @@ use Rattle.edi_session.specs.Session.{IsMomentOfSession}
 use Rattle.edi_statuses.specs.Sessions.{BootSteps, BrokeSession, HasHeld, HeldWhole, HoldsSession, shell_on}
 use Rattle.edi_statuses.specs.Commands.{Effect, Does, IsNothing, OnlyKeeps, OnlyBlocks, OnlyShows, KeepsCode, Runs, HasPlace, Reads}
 use Rattle.edi_statuses.specs.Commands.{RunSteps, ExecSteps, TextSteps, OldSteps, PutSteps, GetSteps, ListSteps, DemoSteps}
-use Rattle.edi_statuses.specs.Means.{AsksDrive, AtRecord, HasNotBegun, ChangesDrive, ShowsFront, RanWhole, RanUnkept, with_shown}
+use Rattle.edi_statuses.specs.Means.{AsksDrive, AtRecord, FetchFails, HasNotBegun, ChangesDrive, ShowsFront, RanWhole, RanUnkept, with_shown}
 
 -- what is told later was told before
 abbrev pub StillTold : {A : Type 0} → (x y : Option A) → Type 0
@@ -166,10 +165,8 @@ module _ (b m : Outside) (y : Option (List ℕ)) (still : StillTold m.shown y) w
   pub list_later : (file : List ℕ) (r : Reached CodeParts) → ListSteps seen_then file r → ListSteps seen_now file r
   list_later file r h = fetched_later file (λ bytes. Loads bytes) r h
 
-  pub demo_later : (n : ℕ) (from : ChoicesFrom) (r : Reached Choices) → DemoSteps seen_then n from r → DemoSteps seen_now n from r
-  demo_later n from r h =
-      step_later (ReadsChoices seen_then from) (ReadsChoices seen_now from) (λ choices. Accepts (demo_text n) >>= λ unit. Ready choices)
-      (λ choices. Accepts (demo_text n) >>= λ unit. Ready choices) (choices_later from) (λ v q k. k) r h
+  pub demo_later : (from : ChoicesFrom) (r : Reached Choices) → DemoSteps seen_then from r → DemoSteps seen_now from r
+  demo_later from r h = choices_later from r h
 
   pub boot_later : (from : ChoicesFrom) (r : Reached Choices) → BootSteps seen_then from r → BootSteps seen_now from r
   boot_later from r h =
@@ -195,6 +192,23 @@ module _ (b m : Outside) (y : Option (List ℕ)) (still : StillTold m.shown y) w
   asks_later (words.put file title) h = (h.0, fetched_later file (λ bytes. Fits bytes) (goes h.0) h.1)
   asks_later (words.get title file) h = tt
   asks_later c h = absurd h
+
+  there_later : (from : ChoicesFrom) → ChoicesAreThere seen_then from → ChoicesAreThere seen_now from
+  there_later words.nowhere h = h
+  there_later (words.file name) h = h
+  there_later (words.seed n) h = h
+
+  pub fetch_fails_later : (c : Command) → FetchFails c seen_then → FetchFails c seen_now
+  fetch_fails_later (words.run file o) h = h
+  fetch_fails_later (words.replay file choices turns) h = h
+  fetch_fails_later (words.exec file o) h = h
+  fetch_fails_later (words.boot o) h = there_later o.choices h
+  fetch_fails_later (words.compile file out) h = h
+  fetch_fails_later (words.newdisk blocks (Some file)) h = h
+  fetch_fails_later (words.put file title) h = h
+  fetch_fails_later (words.list file) h = h
+  fetch_fails_later (words.demo n o) h = there_later o.choices h
+  fetch_fails_later _ h = absurd h
 
   -- ---- the effects
 

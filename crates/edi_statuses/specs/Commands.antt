@@ -89,9 +89,9 @@ GetSteps o title = Mounts o >>= λ done. Reads o title
 abbrev pub ListSteps : Outside → (file : List ℕ) → Reached CodeParts → Type 0
 ListSteps o file = Fetches o file >>= λ bytes. Loads bytes
 
--- `demo N`: reads the choices, compiles the text of the demonstration
-abbrev pub DemoSteps : Outside → (n : ℕ) → ChoicesFrom → Reached Choices → Type 0
-DemoSteps o n from = ReadsChoices o from >>= λ choices. Accepts (demo_text n) >>= λ unit. Ready choices
+-- `demo N`: reads the choices; the text of a demonstration is never refused
+abbrev pub DemoSteps : Outside → ChoicesFrom → Reached Choices → Type 0
+DemoSteps o from = ReadsChoices o from
 
 -- ---- the effects
 
@@ -239,5 +239,5 @@ Comes (words.get title file) s before after shown kernel =
 Comes (words.list file) s before after shown kernel =
     Does (ListSteps before file) (λ parts. IsDone (OnlyShows (listing_of parts.words))) s before after shown kernel
 Comes (words.demo n o) s before after shown kernel =
-    Does (DemoSteps before n o.choices) (λ choices. Demonstrates n o.turns choices o.record_file) s before after shown kernel
+    Does (DemoSteps before o.choices) (λ choices. Demonstrates n o.turns choices o.record_file) s before after shown kernel
 Comes _ s before after shown kernel = ⊥

@@ -2,6 +2,7 @@ pub mod Counts
 pub mod Lines
 pub mod Showing
 pub mod Outside
+pub mod EachObject
 pub mod Steps
 pub mod Executions
 pub mod Sessions

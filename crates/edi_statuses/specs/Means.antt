@@ -2,23 +2,23 @@
 --
 -- A status that the words and contents decide means what `Comes` says. `NoMemory` may come at the places of `Wants`. The four
 -- faults come where the count of an object rose, and mean what `Breaks` says.
-use Rattle.std.specs.Prelude.{◌≡◌, ◌≤◌, ◌⊎◌, ℕ, Bool, true, false, not, ◌||◌, List, [], ◌∷◌, ◌++◌, length, Option, Some, None, IsSome, is_none, ⊤}
+use Rattle.std.specs.Prelude.{◌≡◌, ◌≤◌, ◌⊎◌, ℕ, Bool, true, false, List, [], ◌∷◌, ◌++◌, length, Option, Some, None, IsSome, ⊤}
 use Rattle.edi_told.specs.Told.{WhereTold}
-use Rattle.edi_told.specs.Faults.{CountRose}
 use Rattle.edi_calls.specs.Choice.{Choices}
 use Rattle.edi_calls.specs.Outcome.{Ending}
 use Rattle.edi_image.specs.Image.{Holds, slots_of}
 use Rattle.edi_utils.specs.Demo.{demo_text}
 use Rattle.edi_utils.specs.Listing.{listing_of}
 use Rattle.edi_words.specs.Words as words
-use Rattle.edi_words.specs.Words.{ChoicesFrom, Command, Options}
+use Rattle.edi_words.specs.Words.{ChoicesFrom, Command}
 use Rattle.edi_statuses.specs.declared.status.Status.{Status}
 use Rattle.edi_statuses.specs.declared.status.Status.TheVariants as status
 use Rattle.edi_statuses.specs.Lines.{closing, closing_line, is_due, text_of}
 use Rattle.edi_statuses.specs.Showing.{ClosesWith, IsFront}
 use Rattle.edi_statuses.specs.Counts.{Counts, HasCause}
-use Rattle.edi_statuses.specs.Outside.{Outside, seen, Shows, SameFiles, SameBut, SameBlocks, SameInput, SamePrinted, IsAsBefore, Lent}
-use Rattle.edi_statuses.specs.Steps.{Reached, goes, ◌>>=◌, Fetches, ReadsChoices, Accepts, Loads, Fits}
+use Rattle.edi_statuses.specs.Outside.{Outside, seen, Shows, SameFiles, SameBut, SameBlocks, SameInput, SamePrinted, IsAsBefore, IsSomeFile, Lent}
+use Rattle.edi_statuses.specs.EachObject.{LeavesEach, Uses}
+use Rattle.edi_statuses.specs.Steps.{Reached, goes, ◌>>=◌, Fetches, ReadsChoices, ChoicesAreThere, Accepts, Loads, Fits}
 use Rattle.edi_statuses.specs.Executions.{Program, text, code, Ran, BrokeRun}
 use Rattle.edi_statuses.specs.Sessions.{BootSteps, BrokeSession, HeldUnkept, HeldWhole}
 use Rattle.edi_statuses.specs.Commands.{Comes, IsNothing, Runs, OnItsOwn, RunSteps, ExecSteps, TextSteps, OldSteps, PutSteps, GetSteps, ListSteps, DemoSteps}
@@ -57,81 +57,9 @@ Wants (words.boot o) before after shown kernel =
     ⊎ AtRecord o.record_file (BootSteps before o.choices) (λ choices. HeldUnkept o.turns choices before after shown)
 Wants (words.demo n o) before after shown kernel =
     IsNothing before after shown kernel
-    ⊎ AtRecord o.record_file (DemoSteps before n o.choices)
+    ⊎ AtRecord o.record_file (DemoSteps before o.choices)
     (λ choices. OnItsOwn (λ b a. RanUnkept (text (demo_text n)) o.turns choices b a shown kernel) before after)
 Wants _ before after shown kernel = IsNothing before after shown kernel
-
--- ---- which objects a command uses
-
--- a run and a session see the terminal and the printer, and run on the lent kernel
-abbrev pub uses_devices : Command → Bool
-uses_devices (words.run file o) = true
-uses_devices (words.replay file choices turns) = true
-uses_devices (words.exec file o) = true
-uses_devices (words.boot o) = true
-uses_devices (words.demo n o) = true
-uses_devices _ = false
-
--- and the input, but for the demonstration, which has one of its own
-abbrev pub uses_input : Command → Bool
-uses_input (words.demo n o) = false
-uses_input c = uses_devices c
-
-abbrev pub uses_drive : Command → Bool
-uses_drive (words.newdisk blocks old) = true
-uses_drive (words.put file title) = true
-uses_drive (words.get title file) = true
-uses_drive c = uses_input c
-
--- of what these show there is only the line of their status
-abbrev pub is_silent : Command → Bool
-is_silent (words.compile file out) = true
-is_silent (words.newdisk blocks old) = true
-is_silent (words.put file title) = true
-is_silent (words.get title file) = true
-is_silent _ = false
-
--- the choices stand in a file
-abbrev pub is_in_file : ChoicesFrom → Bool
-is_in_file words.nowhere = false
-is_in_file (words.file name) = true
-is_in_file (words.seed n) = false
-
--- the options of a run name a file
-abbrev pub names_file : Options → Bool
-names_file o = is_in_file o.choices || not (is_none o.record_file)
-
-abbrev pub uses_files : Command → Bool
-uses_files (words.newdisk blocks None) = false
-uses_files (words.boot o) = names_file o
-uses_files (words.demo n o) = names_file o
-uses_files _ = true
-
--- so, where there is a command
-abbrev pub does : (Command → Bool) → Option Command → Bool
-does test None = false
-does test (Some c) = test c
-
--- a fault of the files or of the drive is one of an object that the command uses
-abbrev pub Uses : Status → Command → Type 0
-Uses status.FileFault c = uses_files c ≡ true
-Uses status.DriveFault c = uses_drive c ≡ true
-Uses s c = ⊤
-
--- ---- the number of blocks
-
--- The number of the drive's blocks behind `newdisk`: after a refusal it is as before, and of a format that the drive broke off nothing is
--- known. A fault of the output may stand for each of them, whose line was not shown. The counts are those of the drive's faults.
-abbrev pub CountsNew : Status → (wanted old new had has : ℕ) → Type 0
-CountsNew status.Ok wanted old new had has = new ≡ wanted
-CountsNew status.DriveFault wanted old new had has = ⊤
-CountsNew status.OutputFault wanted old new had has = (new ≡ old) ⊎ CountRose had has
-CountsNew s wanted old new had has = new ≡ old
-
--- every other command leaves it
-abbrev pub CountsBlocks : Option Command → Status → (old new had has : ℕ) → Type 0
-CountsBlocks (Some (words.newdisk blocks image)) s old new had has = CountsNew s blocks old new had has
-CountsBlocks c s old new had has = new ≡ old
 
 -- ---- faults
 
@@ -222,6 +150,20 @@ AsksDrive (words.put file title) before = WentOn (Fetches before file >>= λ byt
 AsksDrive (words.get title file) before = ⊤
 AsksDrive _ before = ⊥
 
+-- The files have failed where one was to be fetched, and it is there. Behind the fetch of a text or a code file that of the choices may
+-- fail, so the first file is there in either case.
+abbrev pub FetchFails : Command → Outside → Type 0
+FetchFails (words.run file o) before = IsSomeFile before file
+FetchFails (words.replay file choices turns) before = IsSomeFile before file
+FetchFails (words.exec file o) before = IsSomeFile before file
+FetchFails (words.boot o) before = ChoicesAreThere before o.choices
+FetchFails (words.compile file out) before = IsSomeFile before file
+FetchFails (words.newdisk blocks (Some file)) before = IsSomeFile before file
+FetchFails (words.put file title) before = IsSomeFile before file
+FetchFails (words.list file) before = IsSomeFile before file
+FetchFails (words.demo n o) before = ChoicesAreThere before o.choices
+FetchFails _ before = ⊥
+
 -- A run and a session are broken off by any device, `demo` by the terminal and the printer, `put` and `newdisk` by the drive alone, and `list` by
 -- the terminal. The files break off nothing: they may fail when a file is to be kept, a record, a code, or the bytes of a file of the
 -- drive.
@@ -233,7 +175,7 @@ ComesToBreak status.FileFault (words.exec file o) before after shown kernel =
 ComesToBreak status.FileFault (words.boot o) before after shown kernel =
     AtRecord o.record_file (BootSteps before o.choices) (λ choices. HeldWhole o.turns choices before after shown)
 ComesToBreak status.FileFault (words.demo n o) before after shown kernel =
-    AtRecord o.record_file (DemoSteps before n o.choices)
+    AtRecord o.record_file (DemoSteps before o.choices)
     (λ choices. OnItsOwn (λ b a. RanWhole (text (demo_text n)) o.turns choices b a shown kernel) before after)
 ComesToBreak status.FileFault (words.compile file out) before after shown kernel =
     Begun (TextSteps before file) (λ a. HasNotBegun before after shown kernel)
@@ -256,7 +198,7 @@ ComesToBreak status.DriveFault (words.newdisk blocks (Some file)) before after s
 ComesToBreak status.OutputFault (words.list file) before after shown kernel =
     Begun (ListSteps before file) (λ parts. ShowsFront (listing_of parts.words) before after shown kernel)
 ComesToBreak status.OutputFault (words.demo n o) before after shown kernel =
-    Begun (DemoSteps before n o.choices) (λ choices. BrokeDemo n o.turns choices o.record_file before after shown kernel)
+    Begun (DemoSteps before o.choices) (λ choices. BrokeDemo n o.turns choices o.record_file before after shown kernel)
 ComesToBreak s c before after shown kernel = ⊥
 
 -- The files of these names may be others than before: where the files have failed, what was to be kept; and where the line of a
@@ -270,7 +212,7 @@ names_open s c = []
 -- input and the output fail only where a command has begun.
 abbrev pub Far : Status → Command → Outside → Outside → (shown : List ℕ) → Lent → Type 0
 Far status.FileFault c before after shown kernel =
-    (SameFiles before after × HasNotBegun before after shown kernel)
+    (SameFiles before after × FetchFails c before × HasNotBegun before after shown kernel)
     ⊎ (SameBut (names_open status.FileFault c) before after × ComesToBreak status.FileFault c before after shown kernel)
 Far status.DriveFault c before after shown kernel =
     SameFiles before after
@@ -306,12 +248,13 @@ Means s None before after shown kernel = MeansRefused s before after shown kerne
 Means s (Some c) before after shown kernel = MeansOf s c (seen before after) after shown kernel
 
 -- A command, or words that are none, came to this status, and the line of the status is still to be shown. A line feed is due before
--- it, or not.
+-- it, or not. What is left of each object is told whatever the others tell.
 pub record Came (s : Status) (due : Bool) (c : Option Command) (before after : Outside) (kernel : Lent) : Type 0 where
   pub shown : List ℕ
   pub means : Means s c before after shown kernel
   pub shows : Shows before after shown
   pub due_is : due ≡ is_due shown
+  pub each : LeavesEach c before after
 
 -- ---- all that a call shows
 
@@ -339,9 +282,10 @@ EndsWith s c before after had has all kernel =
 abbrev pub with_shown : Option (List ℕ) → Outside → Outside
 with_shown shown o = record { files = o.files; blocks = o.blocks; input = o.input; shown = shown; printed = o.printed }
 
--- some bytes were shown in a call that ended so
+-- some bytes were shown in a call that ended so, and has left each object so
 abbrev pub EndsAll : Status → Option Command → Outside → Outside → (had has : Counts) → Lent → Type 0
-EndsAll answer c before after had has kernel = (all : List ℕ) × EndsWith answer c before after had has all kernel × Shows before after all
+EndsAll answer c before after had has kernel =
+    (all : List ℕ) × EndsWith answer c before after had has all kernel × Shows before after all × LeavesEach c before after
 
 -- A command came to a status, and then the line of the status was shown, or a first part of it: this is the end of a call.
 abbrev pub LinesEnd : Type 0

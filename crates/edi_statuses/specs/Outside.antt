@@ -1,6 +1,6 @@
 -- Words of contracts. What the five objects outside tell of their contents before a call and behind it, and the words for what a
 -- call leaves of them. Every word speaks of contents where they are told.
-use Rattle.std.specs.Prelude.{IfSome, ◌≡◌, ℕ, List, [], ◌∷◌, ◌++◌, length, Option, Some, None}
+use Rattle.std.specs.Prelude.{IfSome, ◌≡◌, ℕ, List, [], ◌∷◌, ◌++◌, length, Option, Some, None, IsSome}
 use Rattle.std.specs.FinMap as map
 use Rattle.std.specs.Option.{option_map, option_and_then}
 use Rattle.edi_told.specs.Told.{WhereTold}
@@ -57,6 +57,10 @@ IsFile o name bytes = IfSome o.files (λ files. map.get files name ≡ Some byte
 -- no file has this name
 abbrev pub IsNoFile : Outside → List ℕ → Type 0
 IsNoFile o name = IfSome o.files (λ files. map.get files name ≡ None)
+
+-- a file has this name
+abbrev pub IsSomeFile : Outside → List ℕ → Type 0
+IsSomeFile o name = IfSome o.files (λ files. IsSome (map.get files name))
 
 -- a name and the bytes that are kept under it
 abbrev pub Kept : Type 0

@@ -58,7 +58,7 @@ no_file_is_there files none store used = ([], inl (inl (refl, none), nothing_don
 pub a_demonstration_wants_its_choices : (files : Contents) → map.get files (codes "b") ≡ None
     → EndsSo status.Absent (codes "demo" ∷ codes "3" ∷ codes "--choices" ∷ codes "b" ∷ []) files [] (codes "absent\n")
 a_demonstration_wants_its_choices files none store used =
-    ([], inl (inl (inl (refl, none)), nothing_done files [] (codes "absent\n") store used), refl)
+    ([], inl (inl (refl, none), nothing_done files [] (codes "absent\n") store used), refl)
 
 pub the_line_of_a_status : closing status.Turns (codes "a") ≡ codes "\nturn limit\n"
 the_line_of_a_status = refl

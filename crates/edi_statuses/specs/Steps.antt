@@ -18,7 +18,7 @@ use Rattle.edi_statuses.specs.declared.status.Status.TheVariants as status
 use Rattle.edi_words.specs.Words.{ChoicesFrom, nowhere, file, seed}
 use Rattle.edi_texts.specs.declared.kind.RefusalKind.{RefusalKind}
 use Rattle.edi_texts.specs.Texts.{IsRefused, IsUnit}
-use Rattle.edi_statuses.specs.Outside.{Outside, IsFile, IsNoFile}
+use Rattle.edi_statuses.specs.Outside.{Outside, IsFile, IsNoFile, IsSomeFile}
 
 pub data Reached (A : Type 0) : Type 0 where
   goes : A → Reached A
@@ -57,6 +57,11 @@ abbrev pub ReadsChoices : Outside → ChoicesFrom → Reached Choices → Type 0
 ReadsChoices o nowhere = Ready (listed [])
 ReadsChoices o (file name) = Fetches o name >>= λ bytes. GivesChoices (read_of bytes)
 ReadsChoices o (seed n) = Ready (seeded n)
+
+-- they are in a file that is there
+abbrev pub ChoicesAreThere : Outside → ChoicesFrom → Type 0
+ChoicesAreThere o (file name) = IsSomeFile o name
+ChoicesAreThere o from = ⊥
 
 -- the unit of a text, or its first fault
 abbrev pub Accepts : (text : List ℕ) → Reached ProgramUnit → Type 0

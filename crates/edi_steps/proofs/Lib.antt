@@ -1,3 +1,4 @@
 pub mod LoadedFiles
 pub mod OnFilesLemmas
 pub mod Units
+pub mod Unmounted

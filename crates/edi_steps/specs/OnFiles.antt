@@ -1,5 +1,5 @@
 -- Words of contracts. What the steps on files of the host answer, by the steps of commands.
-use Rattle.std.specs.Prelude.{◌≡◌, ℕ, List, take, Option, None, Result, Ok, Err, IsSome, ⊤, true}
+use Rattle.std.specs.Prelude.{◌≡◌, ℕ, List, take, Option, None, Result, Ok, Err, IsSome, ⊤}
 use Rattle.edi_told.specs.Told.{WhereTold}
 use Rattle.edi_host.specs.Files.{Contents}
 use Rattle.edi_trace.specs.Drawn.{Drawn}
@@ -7,20 +7,20 @@ use Rattle.edi_trace.specs.Lines.{read_of}
 use Rattle.edi_words.specs.Words.{ChoicesFrom}
 use Rattle.edi_statuses.specs.declared.status.Status.{Status}
 use Rattle.edi_statuses.specs.declared.status.Status.TheVariants as status
-use Rattle.edi_statuses.specs.Outside.{Outside, with_kept, without_names}
-use Rattle.edi_statuses.specs.Steps.{goes, stops, Fetches, GivesChoices, ReadsChoices}
+use Rattle.edi_statuses.specs.Outside.{Outside, IsSomeFile, with_kept, without_names}
+use Rattle.edi_statuses.specs.Steps.{goes, stops, Fetches, GivesChoices, ReadsChoices, ChoicesAreThere}
 use Rattle.edi_statuses.specs.Executions.{record_of}
-use Rattle.edi_statuses.specs.Means.{is_in_file, names_in}
+use Rattle.edi_statuses.specs.Means.{names_in}
 
 -- the outside of which only the files are looked at
 abbrev pub files_only : Option Contents → Outside
 files_only files = record { files = files; blocks = None; input = None; shown = None; printed = None }
 
--- The first bytes of a file are fetched, or the step stops; want of memory and a fault may come at any file.
+-- The first bytes of a file are fetched, or the step stops; want of memory may come at any file, and a fault at one that is there.
 abbrev pub FetchStep : {V : Type 0} → (V → List ℕ) → Outside → (name : List ℕ) → (limit : ℕ) → Result V Status → Type 0
 FetchStep items o name limit (Ok v) = (all : List ℕ) × Fetches o name (goes all) × (items v ≡ take limit all)
 FetchStep items o name limit (Err status.NoMemory) = ⊤
-FetchStep items o name limit (Err status.FileFault) = ⊤
+FetchStep items o name limit (Err status.FileFault) = IsSomeFile o name
 FetchStep items o name limit (Err s) = Fetches o name (stops s)
 
 -- the bytes of a file of choices are read
@@ -29,11 +29,11 @@ FileChoices bytes (Ok choices) = (choices.drawn ≡ 0) × GivesChoices (read_of 
 FileChoices bytes (Err status.NoMemory) = ⊤
 FileChoices bytes (Err s) = GivesChoices (read_of bytes) (stops s)
 
--- the choices of a run are read, and none of them is drawn; only a file of choices may be a fault
+-- the choices of a run are read, and none of them is drawn; only a file of choices that is there may be a fault
 abbrev pub ChoicesStep : Outside → ChoicesFrom → Result Drawn Status → Type 0
 ChoicesStep o from (Ok choices) = (choices.drawn ≡ 0) × ReadsChoices o from (goes choices.source)
 ChoicesStep o from (Err status.NoMemory) = ⊤
-ChoicesStep o from (Err status.FileFault) = is_in_file from ≡ true
+ChoicesStep o from (Err status.FileFault) = ChoicesAreThere o from
 ChoicesStep o from (Err s) = ReadsChoices o from (stops s)
 
 -- The record is kept, if one is asked for; else all files are as before, but for that of the record after a fault.

@@ -4,7 +4,7 @@ ghost use Rattle.std.specs.Prelude.{◌≡◌, ◌≤◌, false, IfErr};
 ghost use Rattle.edi_told.specs.Faults.{CountRose};
 ghost use Rattle.edi_told.specs.Told.{WhereTold};
 ghost use Rattle.edi_words.specs.View.{choices_from};
-ghost use Rattle.edi_statuses.specs.Means.{is_in_file};
+ghost use Rattle.edi_statuses.specs.EachObject.{is_in_file};
 ghost use Rattle.edi_statuses.specs.Outside.{still_told};
 ghost use Rattle.edi_steps.specs.OnFiles.{ChoicesStep, FileChoices, files_only};
 

@@ -1,6 +1,6 @@
 -- From the steps of `compile` to what its status means.
 use Rattle.std.proofs.Common.{◌≡◌, inl, inr, ℕ, List, [], ◌∷◌, Option, Some, None, Ok, Err, refl, sym, subst, ap, ◌∙◌}
-use Rattle.std.specs.Prelude.{IfSome}
+use Rattle.std.specs.Prelude.{IfSome, IsSome}
 use Rattle.std.specs.FinMap as map
 use Rattle.edi_told.specs.Told.{WhereTold}
 use Rattle.edi_host.specs.Files.{Contents, KeepLeaves}
@@ -10,7 +10,7 @@ use Rattle.edi_unit.specs.Tree.{ProgramUnit}
 use Rattle.edi_words.specs.Words.{compile}
 use Rattle.edi_statuses.specs.declared.status.Status.{Status}
 use Rattle.edi_statuses.specs.declared.status.Status.TheVariants as status
-use Rattle.edi_statuses.specs.Outside.{Outside, still_told, seen, Lent, SameBlocks, SameInput, SamePrinted}
+use Rattle.edi_statuses.specs.Outside.{Outside, IsSomeFile, still_told, seen, Lent, SameBlocks, SameInput, SamePrinted}
 use Rattle.edi_statuses.specs.Steps.{goes, stops, Fetches}
 use Rattle.edi_statuses.specs.Commands.{IsNothing, TextSteps}
 use Rattle.edi_statuses.specs.Means.{Means, HasNotBegun}
@@ -65,8 +65,13 @@ module _ (file out : List ℕ) (old new : Option Contents) (before after : Outsi
   not_begun = record { shown_ = refl; blocks = blocks_same; input = input_same; printed = printed_same; kernel_same = rest.kernel_same }
 
   -- the file was not fetched
-  unfetched : WhereTold (still_told old new) new (λ old new. new ≡ old) → Means status.FileFault (Some (compile file out)) before after [] kernel
-  unfetched same = record { uses = refl; far = inl (on_files (λ old new. new ≡ old) same, not_begun) }
+  unfetched : IsSomeFile (files_only (still_told old new)) file → WhereTold (still_told old new) new (λ old new. new ≡ old)
+      → Means status.FileFault (Some (compile file out)) before after [] kernel
+  unfetched there same = record {
+    uses = refl;
+    far =
+        inl (on_files (λ old new. new ≡ old) same, subst (λ x. IfSome x (λ files. IsSome (map.get files file))) files_are there, not_begun);
+  }
 
   -- the code was not kept
   broken : (text : List ℕ) (unit : ProgramUnit) → TextSteps (seen before after) file (goes (text, unit))
@@ -99,8 +104,8 @@ module _ (file out : List ℕ) (old new : Option Contents) (before after : Outsi
   stops_so items s (inl none) same =
       subst (λ s. Means s (Some (compile file out)) before after [] kernel) (sym none) (wanting (still (λ old new. new ≡ old) old new same))
   stops_so items s (inr (inl failed)) same =
-      subst (λ s. Means s (Some (compile file out)) before after [] kernel) (sym failed)
-      (unfetched (still (λ old new. new ≡ old) old new same))
+      subst (λ s. Means s (Some (compile file out)) before after [] kernel) (sym failed.0)
+      (unfetched failed.1 (still (λ old new. new ≡ old) old new same))
   stops_so items s (inr (inr steps)) same = stopped s steps (still (λ old new. new ≡ old) old new same)
 
 -- the command has stopped

@@ -8,7 +8,7 @@ use Rattle.edi_texts.specs.Texts.{IsRefused, IsUnit}
 use Rattle.edi_texts.specs.Run.{IsCodeFor}
 use Rattle.edi_statuses.specs.declared.status.Status.{Status}
 use Rattle.edi_statuses.specs.declared.status.Status.TheVariants as status
-use Rattle.edi_statuses.specs.Outside.{Outside}
+use Rattle.edi_statuses.specs.Outside.{Outside, IsSomeFile}
 use Rattle.edi_statuses.specs.Steps.{goes, stops, Fetches}
 use Rattle.edi_statuses.specs.Commands.{TextSteps}
 
@@ -19,7 +19,7 @@ CodesText items text (Ok v) =
 CodesText items text (Err s) =
     (s ≡ status.NoMemory) ⊎ ((kind : RefusalKind) × (line : ℕ) × (s ≡ status.Refused kind line) × IsRefused text kind line)
 
--- so of the text in a file; want of memory and a fault may come at any file
+-- so of the text in a file; want of memory may come at any file, and a fault at one that is there
 abbrev pub CodesFile : {V : Type 0} → (V → List ℕ) → Outside → (name : List ℕ) → Result V Status → Type 0
 CodesFile items o name (Ok v) = (text : List ℕ) × Fetches o name (goes text) × CodesText items text (Ok v)
-CodesFile items o name (Err s) = (s ≡ status.NoMemory) ⊎ ((s ≡ status.FileFault) ⊎ TextSteps o name (stops s))
+CodesFile items o name (Err s) = (s ≡ status.NoMemory) ⊎ (((s ≡ status.FileFault) × IsSomeFile o name) ⊎ TextSteps o name (stops s))

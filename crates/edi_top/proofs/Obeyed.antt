@@ -1,5 +1,5 @@
 -- From what the words are to the command that is obeyed.
-use Rattle.std.proofs.Common.{◌≡◌, ◌∙◌, ◌⊎◌, inl, inr, ℕ, Bool, false, List, [], Option, Some, None, option_map, refl, sym, subst}
+use Rattle.std.proofs.Common.{◌≡◌, ◌∙◌, ◌⊎◌, ◌&&◌, not, inl, inr, ℕ, Bool, true, false, true≢false, List, [], Option, Some, None, option_map, refl, sym, subst}
 use Rattle.edi_told.specs.Faults.{CountRose}
 use Rattle.edi_host.specs.Files.{Contents}
 use Rattle.std.specs.Borrow.{Bor}
@@ -13,11 +13,15 @@ use Rattle.edi_statuses.specs.declared.status.Status.{Status}
 use Rattle.edi_statuses.specs.declared.status.Status.TheVariants as status
 use Rattle.edi_statuses.specs.Counts.{Counts, HasCause, NoneFalls}
 use Rattle.edi_statuses.specs.Outside.{Outside, KernelLeft, Lent}
+use Rattle.edi_told.specs.Told.{WhereTold}
+use Rattle.edi_statuses.proofs.EachLeft.{each_same}
 use Rattle.edi_statuses.proofs.Silent.{idle, nothing_shown}
 use Rattle.edi_disk_commands.specs.OnDisk.{MeansOnDisk, RestStays}
 use Rattle.edi_top.specs.Built.{built}
 use Rattle.edi_statuses.specs.Lines.{text_of}
-use Rattle.edi_statuses.specs.Means.{Came, CountsBlocks, CountsNew}
+use Rattle.edi_statuses.specs.EachObject.{CountsBlocks, CountsNew, FitsCount, FitsGet, KeepsImage, LeavesEach, Untouched, comes_to, formats, stops_first}
+use Rattle.edi_statuses.specs.EachObject.{uses_devices, uses_drive, uses_input}
+use Rattle.edi_statuses.specs.Means.{Came}
 
 pub no_words : (f : Option commands.Command) (x : Option Command) → option_map view f ≡ x → f ≡ None → built x ≡ None
 no_words f x exact none = subst (λ y. built y ≡ None) exact (subst (λ g. built (option_map view g) ≡ None) (sym none) refl)
@@ -72,14 +76,17 @@ abbrev pub with_disk : Option Contents → Option (List (List ℕ)) → Outside 
 with_disk files blocks o = record { files = files; blocks = blocks; input = o.input; shown = o.shown; printed = o.printed }
 
 pub on_disk : (c : Command) (s : Status) (before : Outside) (files : Option Contents) (blocks : Option (List (List ℕ))) (kernel : KernelLeft)
-    → MeansOnDisk c s before.files files before.blocks blocks → Came s false (Some c) before (with_disk files blocks before) (idle kernel)
-on_disk c s before files blocks kernel means =
+    → MeansOnDisk c s before.files files before.blocks blocks → (formats c ≡ false → WhereTold before.blocks blocks KeepsImage)
+    → Came s false (Some c) before (with_disk files blocks before) (idle kernel)
+on_disk c s before files blocks kernel means keeps =
+    let rest_stays : LeavesEach (Some c) before before = each_same (Some c) before before refl refl refl in
     let rest : RestStays before (with_disk files blocks before) (idle kernel) = record { input = refl; printed = refl; kernel_same = refl } in
     record {
       shown = [];
       means = means before (with_disk files blocks before) (idle kernel) refl refl refl refl rest;
       shows = nothing_shown before.shown;
       due_is = refl;
+      each = record { drive = keeps; input = rest_stays.input; printer = rest_stays.printer };
     }
 
 -- ---- the number of blocks
@@ -93,9 +100,22 @@ cut_short status.DriveFault t wanted old new had has fault silent cause h = inr 
 cut_short status.OutputFault t wanted old new had has fault silent cause h = h
 cut_short s t wanted old new had has fault silent cause h = inl h
 
+fits_closed : (s t : Status) (count : ℕ) → (t ≡ s) ⊎ (t ≡ status.OutputFault) → FitsCount s count → FitsCount t count
+fits_closed s t count (inl same) h = subst (λ x. FitsCount x count) (sym same) h
+fits_closed s t count (inr fault) h = subst (λ x. FitsCount x count) (sym fault) tt
+
 -- the status of a command is answered, or a fault of the output in its place
 pub counts_closed : (c : Option Command) (s t : Status) (old new had has : ℕ) → (t ≡ s) ⊎ (t ≡ status.OutputFault) → (text_of s ≡ None → t ≡ s)
     → (s ≡ status.DriveFault → CountRose had has) → CountsBlocks c s old new had has → CountsBlocks c t old new had has
+counts_closed (Some (words.run file o)) s t old new had has which silent cause h = (h.0, fits_closed s t old which h.1)
+counts_closed (Some (words.replay file choices turns)) s t old new had has which silent cause h = (h.0, fits_closed s t old which h.1)
+counts_closed (Some (words.exec file o)) s t old new had has which silent cause h = (h.0, fits_closed s t old which h.1)
+counts_closed (Some (words.boot o)) s t old new had has which silent cause h = (h.0, fits_closed s t old which h.1)
+counts_closed (Some (words.put file title)) s t old new had has which silent cause h = (h.0, fits_closed s t old which h.1)
+counts_closed (Some (words.get title file)) s t old new had has (inl same) silent cause h =
+    (h.0, subst (λ x. FitsGet x old) (sym same) h.1)
+counts_closed (Some (words.get title file)) s t old new had has (inr fault) silent cause h =
+    (h.0, subst (λ x. FitsGet x old) (sym fault) tt)
 counts_closed (Some (words.newdisk blocks image)) s t old new had has (inl same) silent cause h =
     subst (λ x. CountsNew x blocks old new had has) (sym same) h
 counts_closed (Some (words.newdisk blocks image)) s t old new had has (inr fault) silent cause h =
@@ -112,6 +132,12 @@ counts_of_none c s n had none = subst (λ x. CountsBlocks x s n n had had) (sym 
 
 -- where memory was wanting for the words, no command has begun
 pub counts_unread : (c : Option Command) (s : Status) (n had : ℕ) → s ≡ status.NoMemory → CountsBlocks c s n n had had
+counts_unread (Some (words.run file o)) s n had wants = (refl, subst (λ x. FitsCount x n) (sym wants) tt)
+counts_unread (Some (words.replay file choices turns)) s n had wants = (refl, subst (λ x. FitsCount x n) (sym wants) tt)
+counts_unread (Some (words.exec file o)) s n had wants = (refl, subst (λ x. FitsCount x n) (sym wants) tt)
+counts_unread (Some (words.boot o)) s n had wants = (refl, subst (λ x. FitsCount x n) (sym wants) tt)
+counts_unread (Some (words.put file title)) s n had wants = (refl, subst (λ x. FitsCount x n) (sym wants) tt)
+counts_unread (Some (words.get title file)) s n had wants = (refl, subst (λ x. FitsGet x n) (sym wants) tt)
 counts_unread (Some (words.newdisk blocks image)) s n had wants = subst (λ x. CountsNew x blocks n n had had) (sym wants) refl
 counts_unread c s n had wants = refl
 
@@ -121,3 +147,53 @@ pub counts_so : (c d : commands.Command) (meant s : Status) (old new had has : �
 counts_so c d meant s old new had has is same h =
     subst (λ x. CountsBlocks (built (Some (view x))) s old new had has) (sym is)
     (subst (λ t. CountsBlocks (built (Some (view d))) t old new had has) (sym same) h)
+
+-- ---- what is not touched
+
+-- a command as the code has it, and its status
+pub untouched_so : {F D S P K : Type 0} (c d : commands.Command) (meant s : Status) (f f' : F) (dr dr' : D) (i i' : S) (p p' : P) (k k' : K) → c ≡ d
+    → s ≡ meant → Untouched (built (Some (view d))) meant f f' dr dr' i i' p p' k k'
+    → Untouched (built (Some (view c))) s f f' dr dr' i i' p p' k k'
+untouched_so c d meant s f f' dr dr' i i' p p' k k' is same h =
+    subst (λ x. Untouched (built (Some (view x))) s f f' dr dr' i i' p p' k k') (sym is)
+    (subst (λ t. Untouched (built (Some (view d))) t f f' dr dr' i i' p p' k k') (sym same) h)
+
+-- a fault of the output is no status of a step
+never_first : (c : Command) → stops_first c status.OutputFault ≡ false
+never_first (words.run file o) = refl
+never_first (words.replay file choices turns) = refl
+never_first (words.exec file o) = refl
+never_first (words.boot o) = refl
+never_first (words.compile file out) = refl
+never_first (words.newdisk blocks old) = refl
+never_first (words.put file title) = refl
+never_first (words.get title file) = refl
+never_first (words.list file) = refl
+never_first (words.demo n o) = refl
+never_first (words.check file) = refl
+never_first (words.walk file choices turns) = refl
+never_first (words.watch file points out o) = refl
+
+none_comes : (uses stops never : Bool) → never ≡ false → (uses && not never) ≡ false → (uses && not stops) ≡ false
+none_comes false stops never no h = refl
+none_comes true stops true no h = absurd (true≢false no)
+none_comes true stops false no h = absurd (true≢false h)
+
+comes_less : (uses : Command → Bool) (c : Option Command) (s t : Status) → (t ≡ s) ⊎ (t ≡ status.OutputFault) → comes_to uses c t ≡ false
+    → comes_to uses c s ≡ false
+comes_less uses c s t (inl same) h = subst (λ x. comes_to uses c x ≡ false) same h
+comes_less uses None s t (inr fault) h = refl
+comes_less uses (Some c) s t (inr fault) h =
+    none_comes (uses c) (stops_first c s) (stops_first c status.OutputFault) (never_first c)
+    (subst (λ x. comes_to uses (Some c) x ≡ false) fault h)
+
+-- the status of a command is answered, or a fault of the output in its place
+pub untouched_closed : {F D S P K : Type 0} (c : Option Command) (s t : Status) (f f' : F) (d d' : D) (i i' : S) (p p' : P) (k k' : K)
+    → (t ≡ s) ⊎ (t ≡ status.OutputFault) → Untouched c s f f' d d' i i' p p' k k' → Untouched c t f f' d d' i i' p p' k k'
+untouched_closed c s t f f' d d' i i' p p' k k' which h = record {
+  files = h.files;
+  drive = λ none. h.drive (comes_less uses_drive c s t which none);
+  input = λ none. h.input (comes_less uses_input c s t which none);
+  printer = λ none. h.printer (comes_less uses_devices c s t which none);
+  kernel = λ none. h.kernel (comes_less uses_devices c s t which none);
+}

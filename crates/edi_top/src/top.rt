@@ -9,8 +9,9 @@ ghost use Rattle.edi_disk_commands.specs.OnDisk.{IsOfDisk, MeansOnDisk};
 ghost use Rattle.edi_top.specs.Built.{built};
 ghost use Rattle.edi_statuses.specs.Outside.{lent, outside_of, Shows};
 ghost use Rattle.edi_statuses.specs.Counts.{counts_of, HasCause, NoneFalls};
-ghost use Rattle.edi_statuses.specs.Means.{does, is_silent, uses_devices, uses_drive, uses_files, uses_input};
-ghost use Rattle.edi_statuses.specs.Means.{Came, CountsBlocks, CountsNew, EndsWith};
+ghost use Rattle.edi_statuses.specs.EachObject.{does, is_before_format, is_silent, uses_files};
+ghost use Rattle.edi_statuses.specs.EachObject.{CountsBlocks, CountsNew, LeavesEach, Untouched};
+ghost use Rattle.edi_statuses.specs.Means.{Came, EndsWith};
 
 use edi_boot::boot;
 use edi_code_commands::list;
@@ -45,6 +46,7 @@ fn new_by<F: Files, D: Drive>(
         (D.contents drive.old) (D.contents drive.new) }
     ensures size { CountsNew result blocks (D.count drive.old) (D.count drive.new)
         (D.faults drive.old) (D.faults drive.new) }
+    ensures early { is_before_format result ≡ true → drive.new ≡ drive.old }
     ensures kind { IsOfDisk result }
     ensures no_files { uses_files (newdisk blocks (option_map (λ name. name.now) old.entry)) ≡ false → files.new ≡ files.old }
     ensures later_files { F.faults files.old ≤ F.faults files.new }
@@ -82,12 +84,9 @@ fn perform<F: Files, D: Drive, S: Source, T: Sink, P: Sink>(
         (counts_of F.faults D.faults S.faults T.faults P.faults files.new drive.new input.new terminal.new printer.new) }
     ensures size { CountsBlocks (built (Some (view command.entry))) result.status (D.count drive.old) (D.count drive.new)
         (D.faults drive.old) (D.faults drive.new) }
-    ensures no_files { does uses_files (built (Some (view command.entry))) ≡ false → files.new ≡ files.old }
-    ensures no_drive { does uses_drive (built (Some (view command.entry))) ≡ false → drive.new ≡ drive.old }
-    ensures no_input { does uses_input (built (Some (view command.entry))) ≡ false → input.new ≡ input.old }
+    ensures untouched { Untouched (built (Some (view command.entry))) result.status files.old files.new drive.old drive.new input.old input.new
+        printer.old printer.new kernel.old kernel.new }
     ensures no_terminal { does is_silent (built (Some (view command.entry))) ≡ true → terminal.new ≡ terminal.old }
-    ensures no_printer { does uses_devices (built (Some (view command.entry))) ≡ false → printer.new ≡ printer.old }
-    ensures no_kernel { does uses_devices (built (Some (view command.entry))) ≡ false → kernel.new ≡ kernel.old }
 {
     match command {
         Command::Run { file, options } => run(
@@ -147,12 +146,9 @@ fn obey<F: Files, D: Drive, S: Source, T: Sink, P: Sink>(
         (counts_of F.faults D.faults S.faults T.faults P.faults files.new drive.new input.new terminal.new printer.new) }
     ensures size { CountsBlocks (built (command_of (map string_bytes words.now))) result.status (D.count drive.old) (D.count drive.new)
         (D.faults drive.old) (D.faults drive.new) }
-    ensures no_files { does uses_files (built (command_of (map string_bytes words.now))) ≡ false → files.new ≡ files.old }
-    ensures no_drive { does uses_drive (built (command_of (map string_bytes words.now))) ≡ false → drive.new ≡ drive.old }
-    ensures no_input { does uses_input (built (command_of (map string_bytes words.now))) ≡ false → input.new ≡ input.old }
+    ensures untouched { Untouched (built (command_of (map string_bytes words.now))) result.status files.old files.new drive.old drive.new
+        input.old input.new printer.old printer.new kernel.old kernel.new }
     ensures no_terminal { does is_silent (built (command_of (map string_bytes words.now))) ≡ true → terminal.new ≡ terminal.old }
-    ensures no_printer { does uses_devices (built (command_of (map string_bytes words.now))) ≡ false → printer.new ≡ printer.old }
-    ensures no_kernel { does uses_devices (built (command_of (map string_bytes words.now))) ≡ false → kernel.new ≡ kernel.old }
 {
     match command(alloc, words) {
         Ok(Some(command)) => perform(
@@ -178,7 +174,8 @@ pub fn edison<F: Files, D: Drive, S: Source, T: Sink, P: Sink>(
     kernel: &mut Kernel,
 ) -> Status
     // The status means what it says of the words, of all that is outside before and behind the call and of the lent kernel; and
-    // the terminal has taken what goes with it, and no more.
+    // the terminal has taken what goes with it, and no more. What is left of the drive, the input and the printer, each by itself, is told
+    // whatever the others tell.
     ensures ends { let before = outside_of F.contents D.contents S.left T.taken P.taken files.old drive.old input.old terminal.old printer.old in
         let after = outside_of F.contents D.contents S.left T.taken P.taken files.new drive.new input.new terminal.new printer.new in
         let had = counts_of F.faults D.faults S.faults T.faults P.faults files.old drive.old input.old terminal.old printer.old in
@@ -186,7 +183,8 @@ pub fn edison<F: Files, D: Drive, S: Source, T: Sink, P: Sink>(
         (all : List ℕ)
         × EndsWith result (built (command_of (map string_bytes words.now))) before after had has all
         (lent kernel.old.store kernel.old.used kernel.new.store kernel.new.used)
-        × Shows before after all }
+        × Shows before after all
+        × LeavesEach (built (command_of (map string_bytes words.now))) before after }
 
     // A fault comes only where the count of its object rose.
     ensures file_fault { result ≡ Status.FileFault → CountRose (F.faults files.old) (F.faults files.new) }
@@ -202,18 +200,17 @@ pub fn edison<F: Files, D: Drive, S: Source, T: Sink, P: Sink>(
     ensures later_terminal { T.faults terminal.old ≤ T.faults terminal.new }
     ensures later_printer { P.faults printer.old ≤ P.faults printer.new }
 
-    // Only `newdisk` gives the drive another number of blocks, whatever the drive tells.
+    // Only `newdisk` gives the drive another number of blocks, and the status of a command that mounts the drive fits it, whatever the
+    // drive tells.
     ensures size { CountsBlocks (built (command_of (map string_bytes words.now))) result (D.count drive.old) (D.count drive.new)
         (D.faults drive.old) (D.faults drive.new) }
 
-    // Objects that a command has no use for are not touched, whatever they tell; words that are refused touch none but the terminal.
-    ensures no_files { does uses_files (built (command_of (map string_bytes words.now))) ≡ false → files.new ≡ files.old }
-    ensures no_drive { does uses_drive (built (command_of (map string_bytes words.now))) ≡ false → drive.new ≡ drive.old }
-    ensures no_input { does uses_input (built (command_of (map string_bytes words.now))) ≡ false → input.new ≡ input.old }
+    // Objects that a command has no use for, and those that it has not come to, are not touched, whatever they tell; words that are
+    // refused touch none but the terminal.
+    ensures untouched { Untouched (built (command_of (map string_bytes words.now))) result files.old files.new drive.old drive.new
+        input.old input.new printer.old printer.new kernel.old kernel.new }
     ensures no_terminal { result ≡ Status.Ok → does is_silent (built (command_of (map string_bytes words.now))) ≡ true
         → terminal.new ≡ terminal.old }
-    ensures no_printer { does uses_devices (built (command_of (map string_bytes words.now))) ≡ false → printer.new ≡ printer.old }
-    ensures no_kernel { does uses_devices (built (command_of (map string_bytes words.now))) ≡ false → kernel.new ≡ kernel.old }
 {
     let ended = obey(alloc, words, files, drive, input, terminal, printer, kernel);
     show_status(terminal, ended.status, ended.due)

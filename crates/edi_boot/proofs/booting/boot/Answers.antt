@@ -1,7 +1,11 @@
 -- The exits of `boot`.
-use Rattle.std.proofs.Common.{refl}
-use Rattle.edi_words.specs.View.{options_of}
-use Rattle.edi_statuses.specs.Outside.{Outside, Lent, outside_of, lent}
+use Rattle.std.proofs.Common.{refl, sym, subst}
+use Rattle.edi_words.specs.View.{choices_from, options_of}
+use Rattle.edi_statuses.specs.Outside.{Outside, Lent, outside_of, lent, still_told}
+use Rattle.edi_steps.specs.OnFiles.{files_only}
+use Rattle.edi_statuses.specs.EachObject.{FitsCount}
+use Rattle.edi_steps.proofs.OnFilesLemmas.{choices_fit}
+use Rattle.edi_run_commands.proofs.Asked.{never_early}
 use Rattle.edi_boot.proofs.Exits.{held_came, unread}
 use Rattle.edi_boot.proofs.booting.boot.Goals as goal
 
@@ -22,3 +26,15 @@ returns-clause-came g c =
     let kernel : Lent = lent c.args.kernel.now.store c.args.kernel.now.used c.hold_session.new.kernel.store c.hold_session.new.kernel.used in
     held_came (options_of c.args.options) before (g.F.Files.contents c.read_from.new.files) kernel c.in-Ok.choices.source c.in-Ok.ensures.reads.1
     c.in-Ok.ensures.unchanged c.hold_session.result.status c.hold_session.result.due after c.hold_session.ensures.tells c.hold_session.ensures.held
+
+pub returns-in-Err-clause-fits : goal.returns-in-Err-clause-fits
+returns-in-Err-clause-fits g c =
+    let o : Outside = files_only (still_told (g.F.Files.contents c.args.files.now) (g.F.Files.contents c.read_from.new.files)) in
+    subst (λ s. FitsCount s (g.D.Drive.count c.args.drive.now)) (sym c.stopped.ensures.told)
+    (choices_fit o (choices_from c.args.options.choices) c.in-Err.status _ c.in-Err.ensures.reads)
+
+pub returns-clause-fits : goal.returns-clause-fits
+returns-clause-fits g c = c.hold_session.ensures.asked.fits
+
+pub returns-clause-early : goal.returns-clause-early
+returns-clause-early g c = λ early. absurd (never_early c.hold_session.result.status c.hold_session.ensures.asked.behind_steps early)

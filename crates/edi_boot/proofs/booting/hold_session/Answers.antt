@@ -1,9 +1,12 @@
 -- The exits of a session on the objects of a command.
-use Rattle.std.proofs.Common.{rules, ◌≡◌, ◌∙◌, ◌+◌, ◌*◌, ◌<◌, ◌≤◌, ◌^◌, true, false, option_map, arith, refl, ap}
-use Rattle.edi_calls.specs.declared.ends.Outside.TheVariants as object
+use Rattle.std.proofs.Common.{rules, ◌≡◌, ◌∙◌, ◌+◌, ◌*◌, ◌<◌, ◌^◌, true, false, option_map, arith, refl, ap}
 use Rattle.edi_shell_sessions.specs.Ends.{ends_by_fault}
 use Rattle.edi_statuses.specs.Outside.{kernel_of}
-use Rattle.edi_boot.proofs.Exits.{broke, recorded, unmounted, unrecorded, with_bound}
+use Rattle.edi_run_commands.proofs.Counted.{none_falls}
+use Rattle.edi_steps.specs.NotMounted.{mount_status}
+use Rattle.edi_statuses.specs.Sessions.{session_status}
+use Rattle.edi_run_commands.proofs.Asked.{asked_so, unkept_asked, unmounted_asked}
+use Rattle.edi_boot.proofs.Exits.{broke, ended_asked, recorded, unmounted, unrecorded, with_bound}
 use Rattle.edi_boot.proofs.booting.hold_session.Goals as goal
 
 pub returns-in-Err-clause-held : goal.returns-in-Err-clause-held
@@ -22,14 +25,8 @@ returns-in-Err-clause-held g c =
 
 pub returns-in-Err-clause-later : goal.returns-in-Err-clause-later
 returns-in-Err-clause-later g c =
-    let l = c.hold_on.ensures.later in
-    record {
-      files = omega arith;
-      drive = l.later object.Drive;
-      input = l.later object.Input;
-      terminal = l.later object.Terminal;
-      printer = l.later object.Printer;
-    }
+    none_falls g.F.Files.faults g.D.Drive.faults g.S.Source.faults g.T.Sink.faults g.P.Sink.faults c.args.files.now c.args.files.now _ _ (omega arith)
+    c.hold_on.ensures.later
 
 pub returns-then-ends_by_fault-clause-held : goal.returns-then-ends_by_fault-clause-held
 returns-then-ends_by_fault-clause-held g c =
@@ -38,19 +35,20 @@ returns-then-ends_by_fault-clause-held g c =
     let failed : ends_by_fault c.in-Ok.held.end ≡ true = search rules in
     with_bound c.from.result c.args.turns (search rules) _ _ _ _ _ _ _
     (broke c.from.result c.args.choices.now c.requires.none_drawn c.in-Ok.held.due c.in-Ok.held.end _ _
-    (record { mounted = c.in-Ok.ensures.mounted; valid = l.told.valid; grows = l.told.grows; due_is = l.due }) _ c.hold_on.new.choices (l.ends few)
+    (record {
+      mounted = c.in-Ok.ensures.mounted;
+      valid = l.told.valid;
+      shrinks = l.told.shrinks;
+      grows = l.told.grows;
+      prints = l.told.prints;
+      due_is = l.due;
+    }) _ c.hold_on.new.choices (l.ends few)
     (option_map (λ name. name.now) c.args.record_file) c.session_status-status.result c.session_status-status.ensures.exact failed refl)
 
 pub returns-then-ends_by_fault-clause-later : goal.returns-then-ends_by_fault-clause-later
 returns-then-ends_by_fault-clause-later g c =
-    let l = c.hold_on.ensures.later in
-    record {
-      files = omega arith;
-      drive = l.later object.Drive;
-      input = l.later object.Input;
-      terminal = l.later object.Terminal;
-      printer = l.later object.Printer;
-    }
+    none_falls g.F.Files.faults g.D.Drive.faults g.S.Source.faults g.T.Sink.faults g.P.Sink.faults c.args.files.now c.args.files.now _ _ (omega arith)
+    c.hold_on.ensures.later
 
 pub returns-in-Ok-keep_record-clause-held : goal.returns-in-Ok-keep_record-clause-held
 returns-in-Ok-keep_record-clause-held g c =
@@ -59,21 +57,21 @@ returns-in-Ok-keep_record-clause-held g c =
     let unfailed : ends_by_fault c.in-Ok.held.end ≡ false = search rules in
     with_bound c.from.result c.args.turns (search rules) _ _ _ _ _ _ _
     (recorded c.from.result c.args.choices.now c.requires.none_drawn c.in-Ok.held.due c.in-Ok.held.end _ _
-    (record { mounted = c.in-Ok.ensures.mounted; valid = l.told.valid; grows = l.told.grows; due_is = l.due }) _ c.hold_on.new.choices (l.ends few)
+    (record {
+      mounted = c.in-Ok.ensures.mounted;
+      valid = l.told.valid;
+      shrinks = l.told.shrinks;
+      grows = l.told.grows;
+      prints = l.told.prints;
+      due_is = l.due;
+    }) _ c.hold_on.new.choices (l.ends few)
     unfailed (omega (arith, c.hold_on.ensures.drawn, c.requires.none_drawn)) (option_map (λ name. name.now) c.args.record_file)
     c.session_status-status.result c.session_status-status.ensures.exact c.hold_on.ensures.source
     c.in-Ok-keep_record.ensures.keeps)
 
 pub returns-in-Ok-keep_record-clause-later : goal.returns-in-Ok-keep_record-clause-later
 returns-in-Ok-keep_record-clause-later g c =
-    let l = c.hold_on.ensures.later in
-    record {
-      files = c.keep_record.ensures.later;
-      drive = l.later object.Drive;
-      input = l.later object.Input;
-      terminal = l.later object.Terminal;
-      printer = l.later object.Printer;
-    }
+    none_falls g.F.Files.faults g.D.Drive.faults g.S.Source.faults g.T.Sink.faults g.P.Sink.faults _ _ _ _ c.keep_record.ensures.later c.hold_on.ensures.later
 
 pub returns-in-Err-keep_record-clause-held : goal.returns-in-Err-keep_record-clause-held
 returns-in-Err-keep_record-clause-held g c =
@@ -82,17 +80,37 @@ returns-in-Err-keep_record-clause-held g c =
     let unfailed : ends_by_fault c.in-Ok.held.end ≡ false = search rules in
     with_bound c.from.result c.args.turns (search rules) _ _ _ _ _ _ _
     (unrecorded c.from.result c.args.choices.now c.requires.none_drawn c.in-Ok.held.due c.in-Ok.held.end _ _
-    (record { mounted = c.in-Ok.ensures.mounted; valid = l.told.valid; grows = l.told.grows; due_is = l.due }) _ c.hold_on.new.choices (l.ends few)
+    (record {
+      mounted = c.in-Ok.ensures.mounted;
+      valid = l.told.valid;
+      shrinks = l.told.shrinks;
+      grows = l.told.grows;
+      prints = l.told.prints;
+      due_is = l.due;
+    }) _ c.hold_on.new.choices (l.ends few)
     unfailed (omega (arith, c.hold_on.ensures.drawn, c.requires.none_drawn)) (Unit {0}) (option_map (λ name. name.now) c.args.record_file)
     c.in-Err-keep_record.status c.in-Err-keep_record.ensures.keeps)
 
 pub returns-in-Err-keep_record-clause-later : goal.returns-in-Err-keep_record-clause-later
 returns-in-Err-keep_record-clause-later g c =
-    let l = c.hold_on.ensures.later in
-    record {
-      files = c.keep_record.ensures.later;
-      drive = l.later object.Drive;
-      input = l.later object.Input;
-      terminal = l.later object.Terminal;
-      printer = l.later object.Printer;
-    }
+    none_falls g.F.Files.faults g.D.Drive.faults g.S.Source.faults g.T.Sink.faults g.P.Sink.faults _ _ _ _ c.keep_record.ensures.later c.hold_on.ensures.later
+
+pub returns-in-Err-clause-asked : goal.returns-in-Err-clause-asked
+returns-in-Err-clause-asked g c =
+    asked_so (mount_status c.in-Err.why) c.stopped.result.status _ (c.stopped.ensures.told ∙ c.mount_status.ensures.exact)
+    (unmounted_asked c.in-Err.why _ c.in-Err.ensures.faults)
+
+pub returns-then-ends_by_fault-clause-asked : goal.returns-then-ends_by_fault-clause-asked
+returns-then-ends_by_fault-clause-asked g c =
+    asked_so (session_status c.in-Ok.held.end) c.session_status-status.result _ c.session_status-status.ensures.exact
+    (ended_asked _ c.in-Ok.ensures.image c.in-Ok.held.end)
+
+pub returns-in-Ok-keep_record-clause-asked : goal.returns-in-Ok-keep_record-clause-asked
+returns-in-Ok-keep_record-clause-asked g c =
+    asked_so (session_status c.in-Ok.held.end) c.session_status-status.result _ c.session_status-status.ensures.exact
+    (ended_asked _ c.in-Ok.ensures.image c.in-Ok.held.end)
+
+pub returns-in-Err-keep_record-clause-asked : goal.returns-in-Err-keep_record-clause-asked
+returns-in-Err-keep_record-clause-asked g c =
+    unkept_asked (Unit {0}) _ (option_map (λ name. name.now) c.args.record_file) c.hold_on.new.choices c.in-Err-keep_record.status _ _
+    c.in-Err-keep_record.ensures.keeps

@@ -3,10 +3,10 @@ use Rattle.edi_migrate.proofs.Limited.{first_bytes_decide}
 use Rattle.edi_migrate.specs.declared.migrating.MigrateEnd.TheVariants as end
 use Rattle.edi_statuses.specs.Outside.{still_told}
 use Rattle.edi_steps.specs.OnFiles.{files_only}
+use Rattle.edi_steps.proofs.OnFilesLemmas.{fetch_stopped}
 use Rattle.edi_statuses.proofs.Told.{itself}
 use Rattle.edi_disk_commands.proofs.NewMeans.{counts_kept}
 use Rattle.edi_disk_commands.proofs.OldMeans.{migrated_means, not_taken}
-use Rattle.edi_disk_commands.proofs.PutMeans.{fetch_stopped}
 use Rattle.edi_disk_commands.proofs.new_disks.new_disk_from.Goals as goal
 
 pub returns-in-Err-clause-means : goal.returns-in-Err-clause-means

@@ -1,10 +1,13 @@
-use Rattle.std.proofs.Common.{◌∙◌, subst, Vec, ℕ, Global, rules}
+use Rattle.std.proofs.Common.{◌∙◌, refl, subst, Vec, ℕ, Global, rules}
 use Rattle.edi_words.specs.Words.{put}
 use Rattle.edi_statuses.specs.Outside.{still_told}
 use Rattle.edi_steps.specs.OnFiles.{files_only}
+use Rattle.edi_steps.proofs.OnFilesLemmas.{fetch_fits, fetch_stopped}
 use Rattle.edi_disk_commands.specs.OnDisk.{MeansOnDisk}
-use Rattle.edi_statuses.proofs.Told.{itself}
-use Rattle.edi_disk_commands.proofs.PutMeans.{fetch_stopped, has_put, not_fit, not_put}
+use Rattle.edi_statuses.proofs.EachLeft.{keeps_same}
+use Rattle.edi_statuses.proofs.Told.{itself, told_so}
+use Rattle.edi_disk_commands.proofs.Counted.{asked, put_valid}
+use Rattle.edi_disk_commands.proofs.PutMeans.{has_put, not_fit, not_put}
 use Rattle.edi_disk_commands.proofs.puts.put.Goals as goal
 
 pub returns-in-Err-clause-means : goal.returns-in-Err-clause-means
@@ -42,3 +45,20 @@ returns-clause-means g c =
       short = search rules;
       blocks = c.put_on.ensures.puts;
     }))
+
+pub returns-in-Err-clause-fits : goal.returns-in-Err-clause-fits
+returns-in-Err-clause-fits g c =
+    fetch_fits (λ (v : Vec ℕ Global). v.items) (files_only (still_told (g.F.Files.contents c.args.files.now) (g.F.Files.contents c.fetch.new.files)))
+    c.args.file.now 261121 c.in-Err.status _ c.in-Err.ensures.fetched
+
+pub returns-in-Err-clause-valid : goal.returns-in-Err-clause-valid
+returns-in-Err-clause-valid g c = keeps_same (g.D.Drive.contents c.args.drive.now) _ refl
+
+pub returns-then-len-gt-MOST-clause-valid : goal.returns-then-len-gt-MOST-clause-valid
+returns-then-len-gt-MOST-clause-valid g c = keeps_same (g.D.Drive.contents c.args.drive.now) _ refl
+
+pub returns-clause-valid : goal.returns-clause-valid
+returns-clause-valid g c = told_so _ _ _ _ (put_valid c.put_on.result c.title_of.result c.deref.result.now) c.put_on.ensures.puts
+
+pub returns-clause-early : goal.returns-clause-early
+returns-clause-early g c = λ early. absurd (asked c.put_on.result c.put_on.ensures.kind early)

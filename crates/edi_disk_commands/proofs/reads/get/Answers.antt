@@ -1,9 +1,11 @@
-use Rattle.std.proofs.Common.{◌≡◌, ◌∙◌, ◌++◌, ap, drop, length, rules, subst, sym, take}
+use Rattle.std.proofs.Common.{◌≡◌, ◌∙◌, ◌++◌, Ok, Err, ap, drop, length, rules, subst, sym, take}
 use Rattle.std.proofs.Math.Seq.{take-append_seam}
 use Rattle.edi_words.specs.Words.{get}
 use Rattle.edi_disk_commands.specs.OnDisk.{IsOfDisk, MeansOnDisk}
-use Rattle.edi_disk_commands.specs.OnDrive.{status_kept}
-use Rattle.edi_statuses.proofs.Told.{itself}
+use Rattle.edi_disk_commands.specs.OnDrive.{ReadsOn, status_kept}
+use Rattle.edi_statuses.specs.EachObject.{FitsGet}
+use Rattle.edi_statuses.proofs.Told.{itself, told_so}
+use Rattle.edi_disk_commands.proofs.Counted.{kept_fits}
 use Rattle.edi_disk_commands.proofs.GetMeans.{has_read, kept_drive, kept_failed, kept_of_disk, not_read, read_of_disk}
 use Rattle.edi_disk_commands.proofs.reads.get.Goals as goal
 
@@ -46,3 +48,17 @@ returns-clause-cause_files g c = λ e. c.keep.ensures.cause (kept_failed c.keep.
 
 pub returns-clause-cause_drive : goal.returns-clause-cause_drive
 returns-clause-cause_drive g c = λ e. absurd (kept_drive c.keep.result (sym c.kept.ensures.exact ∙ e))
+
+pub returns-in-Err-clause-same : goal.returns-in-Err-clause-same
+returns-in-Err-clause-same g c =
+    told_so (λ old new. (new ≡ old) × ReadsOn (Err c.in-Err.status) c.title_of-title.result c.read_on.new.into old) (λ old new. new ≡ old) _ _
+    (λ old new both. both.0) c.in-Err.ensures.reads
+
+pub returns-clause-same : goal.returns-clause-same
+returns-clause-same g c =
+    told_so (λ old new. (new ≡ old) × ReadsOn (Ok c.in-Ok-read_on.count) c.title_of-title.result c.read_on.new.into old) (λ old new. new ≡ old) _ _
+    (λ old new both. both.0) c.in-Ok-read_on.ensures.reads
+
+pub returns-clause-fits : goal.returns-clause-fits
+returns-clause-fits g c =
+    subst (λ s. FitsGet s (g.D.Drive.count c.args.drive.now)) (sym c.kept.ensures.exact) (kept_fits c.keep.result _ c.in-Ok-read_on.ensures.mounted)

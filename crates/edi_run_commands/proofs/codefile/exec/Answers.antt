@@ -1,10 +1,14 @@
 -- The exits of `exec`.
-use Rattle.std.proofs.Common.{◌∙◌, ℕ, List, Option, Vec, Global, option_map, refl}
+use Rattle.std.proofs.Common.{◌∙◌, ℕ, List, Option, Vec, Global, option_map, refl, sym, subst}
 use Rattle.edi_words.specs.Words.{ChoicesFrom, Options}
 use Rattle.edi_words.specs.View.{choices_from, options_of}
-use Rattle.edi_statuses.specs.Outside.{Outside, Lent, outside_of, lent}
+use Rattle.edi_statuses.specs.EachObject.{FitsCount}
+use Rattle.edi_statuses.specs.Outside.{Outside, Lent, outside_of, lent, still_told}
 use Rattle.edi_statuses.specs.Steps.{Loads}
 use Rattle.edi_statuses.specs.Executions.{code}
+use Rattle.edi_steps.specs.OnFiles.{files_only}
+use Rattle.edi_steps.proofs.OnFilesLemmas.{choices_fit, fetch_fits}
+use Rattle.edi_run_commands.proofs.Asked.{load_fits, never_early}
 use Rattle.edi_run_commands.proofs.Exits.{fetch_stops, choices_stop}
 use Rattle.edi_run_commands.proofs.Meaning.{exec_came}
 use Rattle.edi_run_commands.proofs.OfCodeFiles.{code_came, code_stops, file_ran}
@@ -71,3 +75,26 @@ returns-clause-came g c =
     c.in-Ok-read_from.ensures.reads.1 c.in-Ok.ensures.unchanged c.in-Ok-read_from.ensures.unchanged
     c.in-Ok-load_code.code c.run_code.result.status c.run_code.result.due after c.in-Ok-load_code.ensures.loads c.run_code.ensures.tells
     c.run_code.ensures.ran)
+
+pub returns-in-Err-clause-fits : goal.returns-in-Err-clause-fits
+returns-in-Err-clause-fits g c =
+    let o : Outside = files_only (still_told (g.F.Files.contents c.args.files.now) (g.F.Files.contents c.fetch.new.files)) in
+    subst (λ s. FitsCount s (g.D.Drive.count c.args.drive.now)) (sym c.stopped.ensures.told)
+    (fetch_fits (λ (v : Vec ℕ Global). v.items) o c.args.file.now 8388641 c.in-Err.status _ c.in-Err.ensures.fetched)
+
+pub returns-in-Err-read_from-clause-fits : goal.returns-in-Err-read_from-clause-fits
+returns-in-Err-read_from-clause-fits g c =
+    let o : Outside = files_only (still_told (g.F.Files.contents c.fetch.new.files) (g.F.Files.contents c.read_from.new.files)) in
+    subst (λ s. FitsCount s (g.D.Drive.count c.args.drive.now)) (sym c.stopped-in-Err-read_from.ensures.told)
+    (choices_fit o (choices_from c.args.options.choices) c.in-Err-read_from.status _ c.in-Err-read_from.ensures.reads)
+
+pub returns-in-Err-load_code-clause-fits : goal.returns-in-Err-load_code-clause-fits
+returns-in-Err-load_code-clause-fits g c =
+    subst (λ s. FitsCount s (g.D.Drive.count c.args.drive.now)) (sym c.stopped-in-Err-load_code.ensures.told)
+    (load_fits _ c.in-Err-load_code.status _ c.in-Err-load_code.ensures.loads)
+
+pub returns-clause-fits : goal.returns-clause-fits
+returns-clause-fits g c = c.run_code.ensures.asked.fits
+
+pub returns-clause-early : goal.returns-clause-early
+returns-clause-early g c = λ early. absurd (never_early c.run_code.result.status c.run_code.ensures.asked.behind_steps early)

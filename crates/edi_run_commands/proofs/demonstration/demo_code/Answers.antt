@@ -1,6 +1,5 @@
-use Rattle.std.proofs.Common.{◌∙◌, Err, sym, subst}
-use Rattle.edi_run_commands.specs.Demonstrated.{DemoStep}
-use Rattle.edi_run_commands.proofs.Coded.{demo_coded, demo_refused}
+use Rattle.std.proofs.Common.{◌∙◌}
+use Rattle.edi_run_commands.proofs.Coded.{demo_coded, demo_wants}
 use Rattle.edi_run_commands.proofs.demonstration.demo_code.Goals as goal
 
 pub returns-in-Ok-compile : goal.returns-in-Ok-compile
@@ -12,6 +11,7 @@ returns-in-Ok-compile c = record {
 
 pub returns : goal.returns
 returns c = record {
-  made = subst (λ s. DemoStep c.args.n (Err s)) (sym c.refusal_status.ensures.exact)
-      (demo_refused c.args.n c.deref-2.result.now c.in-Err.refusal (c.deref-2.ensures.value ∙ c.in-Ok.ensures.exact) c.in-Err.ensures.exact);
+  made = c.refusal_status.ensures.exact
+      ∙ demo_wants c.args.n c.requires.some c.requires.many c.deref-2.result.now c.in-Err.refusal (c.deref-2.ensures.value ∙ c.in-Ok.ensures.exact)
+      c.in-Err.ensures.exact;
 }

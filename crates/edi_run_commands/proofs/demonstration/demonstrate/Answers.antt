@@ -1,11 +1,13 @@
 -- The exits of `demo`.
-use Rattle.std.proofs.Common.{rules, ◌≡◌, ℕ, true, false, List, Option, subst}
+use Rattle.std.proofs.Common.{rules, ◌≡◌, ◌∙◌, ℕ, true, false, List, Option, subst}
 use Rattle.edi_host.specs.Files.{Contents}
 use Rattle.edi_words.specs.Words.{Options}
 use Rattle.edi_words.specs.View.{options_of}
 use Rattle.edi_statuses.specs.Outside.{KernelLeft, idle, kernel_of, lent}
 use Rattle.edi_statuses.specs.Showing.{ShowsBytes}
+use Rattle.edi_statuses.specs.declared.status.Status.TheVariants as status
 use Rattle.edi_run_commands.specs.Demonstrated.{is_ok}
+use Rattle.edi_run_commands.proofs.Asked.{never_early, shown_behind}
 use Rattle.edi_run_commands.proofs.Alone.{came_so, lined, of_demo, ran_alone, uncoded, unread}
 use Rattle.edi_run_commands.proofs.Coded.{line_is, ok_is}
 use Rattle.edi_run_commands.proofs.demonstration.demonstrate.Goals as goal
@@ -29,10 +31,9 @@ returns-in-Err-demo_code-clause-came g c =
     let taken : Option (List ℕ) = g.T.Sink.taken c.args.terminal.now in
     let printed : Option (List ℕ) = g.P.Sink.taken c.args.printer.now in
     let kernel : KernelLeft = kernel_of c.args.kernel.now.store c.args.kernel.now.used in
-    came_so c.args.n o c.in-Err-demo_code.status c.stopped-in-Err-demo_code.result.status c.stopped-in-Err-demo_code.result.due old mid taken printed
-    (idle kernel) c.stopped-in-Err-demo_code.ensures.told c.stopped-in-Err-demo_code.ensures.due
-    (uncoded c.args.n o old mid c.in-Ok.ensures.unchanged taken printed kernel c.in-Ok.choices.source c.in-Ok.ensures.reads.1 c.in-Err-demo_code.status
-    c.in-Err-demo_code.ensures.made)
+    came_so c.args.n o status.NoMemory c.stopped-in-Err-demo_code.result.status c.stopped-in-Err-demo_code.result.due old mid taken printed
+    (idle kernel) (c.stopped-in-Err-demo_code.ensures.told ∙ c.in-Err-demo_code.ensures.made) c.stopped-in-Err-demo_code.ensures.due
+    (uncoded c.args.n o old mid c.in-Ok.ensures.unchanged taken printed kernel)
 
 pub returns-then-not-is_ok-clause-came : goal.returns-then-not-is_ok-clause-came
 returns-then-not-is_ok-clause-came g c =
@@ -40,7 +41,7 @@ returns-then-not-is_ok-clause-came g c =
     let not_ok : is_ok c.run_alone-ended.result.status ≡ false = search rules in
     ran_alone c.args.n (options_of c.args.options) (g.F.Files.contents c.args.files.now) (g.F.Files.contents c.read_from.new.files)
     (g.F.Files.contents c.run_alone-ended.new.files) c.in-Ok.choices.source c.in-Ok.ensures.reads.1 c.in-Ok.ensures.unchanged c.run_alone-ended.ensures.tells
-    m.0 m.1 c.in-Ok-demo_code.made.code m.2 (g.T.Sink.taken c.args.terminal.now) (g.T.Sink.taken c.run_alone-ended.new.terminal)
+    c.in-Ok-demo_code.made.code m.0 (g.T.Sink.taken c.args.terminal.now) (g.T.Sink.taken c.run_alone-ended.new.terminal)
     (g.P.Sink.taken c.args.printer.now) (g.P.Sink.taken c.run_alone-ended.new.printer)
     (lent c.args.kernel.now.store c.args.kernel.now.used c.run_alone-ended.new.kernel.store c.run_alone-ended.new.kernel.used) c.run_alone-ended.result.status
     c.run_alone-ended.result.due c.run_alone-ended.ensures.ran (of_demo c.run_alone-ended.result.status _ _ _ _ _ _ c.run_alone-ended.ensures.cause) not_ok
@@ -53,12 +54,20 @@ returns-clause-came g c =
     let turns : c.turns_used.result ≡ c.run_alone-ended.new.kernel.used = search rules in
     lined c.args.n (options_of c.args.options) (g.F.Files.contents c.args.files.now) (g.F.Files.contents c.read_from.new.files)
     (g.F.Files.contents c.run_alone-ended.new.files) c.in-Ok.choices.source c.in-Ok.ensures.reads.1 c.in-Ok.ensures.unchanged c.run_alone-ended.ensures.tells
-    m.0 m.1 c.in-Ok-demo_code.made.code m.2 (g.T.Sink.taken c.args.terminal.now) (g.T.Sink.taken c.run_alone-ended.new.terminal)
+    c.in-Ok-demo_code.made.code m.0 (g.T.Sink.taken c.args.terminal.now) (g.T.Sink.taken c.run_alone-ended.new.terminal)
     (g.P.Sink.taken c.args.printer.now) (g.P.Sink.taken c.run_alone-ended.new.printer)
     (lent c.args.kernel.now.store c.args.kernel.now.used c.run_alone-ended.new.kernel.store c.run_alone-ended.new.kernel.used) c.run_alone-ended.result.status
     c.run_alone-ended.result.due r (ok_is c.run_alone-ended.result.status ok) (g.T.Sink.taken c.show_size.new.terminal) c.show_size.result
     (subst (λ b. ShowsBytes b c.run_alone-ended.result.due c.show_size.result (g.T.Sink.taken c.run_alone-ended.new.terminal)
     (g.T.Sink.taken c.show_size.new.terminal))
     (line_is c.args.n c.in-Ok-demo_code.made.symbols c.turns_used.result c.run_alone-ended.new.kernel.used c.run_alone-ended.result.due r.ran.shown
-    r.ran.due_is m.3 turns)
+    r.ran.due_is m.1 turns)
     c.show_size.ensures.shows)
+
+pub returns-then-not-is_ok-clause-early : goal.returns-then-not-is_ok-clause-early
+returns-then-not-is_ok-clause-early g c = λ early. absurd (never_early c.run_alone-ended.result.status c.run_alone-ended.ensures.asked early)
+
+pub returns-clause-early : goal.returns-clause-early
+returns-clause-early g c = λ early.
+    let line = c.show_size.ensures.shows in
+    absurd (never_early c.show_size.result.status (shown_behind c.show_size.result.status line.0 _ line.1) early)

@@ -1,5 +1,6 @@
 -- The exits of a run without a disk.
-use Rattle.std.proofs.Common.{option_map}
+use Rattle.std.proofs.Common.{ap, option_map}
+use Rattle.edi_statuses.specs.EachObject.{is_before_drive}
 use Rattle.edi_statuses.specs.Outside.{kernel_of, lent}
 use Rattle.edi_run_commands.proofs.Alone.{alone_by, alone_wants}
 use Rattle.edi_run_commands.proofs.demonstration.run_alone.Goals as goal
@@ -24,3 +25,12 @@ returns-clause-ran g c =
     (g.T.Sink.taken c.run_code.new.terminal) (g.P.Sink.taken c.args.printer.now) (g.P.Sink.taken c.run_code.new.printer)
     (lent c.args.kernel.now.store c.args.kernel.now.used c.run_code.new.kernel.store c.run_code.new.kernel.used)
     c.in-Ok.disk c.run_code.new.drive c.in-Ok-new.input c.run_code.new.input c.in-Ok.ensures.made c.in-Ok-new.ensures.left c.run_code.ensures.ran
+
+pub returns-in_default-clause-asked : goal.returns-in_default-clause-asked
+returns-in_default-clause-asked g c = ap is_before_drive c.stopped.ensures.told
+
+pub returns-in_default-new-clause-asked : goal.returns-in_default-new-clause-asked
+returns-in_default-new-clause-asked g c = ap is_before_drive c.stopped-in_default-new.ensures.told
+
+pub returns-clause-asked : goal.returns-clause-asked
+returns-clause-asked g c = c.run_code.ensures.asked.behind_steps

@@ -1,11 +1,15 @@
 -- The exits of a command that runs a text.
-use Rattle.std.proofs.Common.{◌∙◌, ℕ, List, Option, Vec, Global, option_map, refl}
+use Rattle.std.proofs.Common.{◌∙◌, ℕ, List, Option, Vec, Global, option_map, refl, sym, subst}
 use Rattle.edi_words.specs.Words.{ChoicesFrom}
 use Rattle.edi_words.specs.View.{choices_from}
-use Rattle.edi_statuses.specs.Outside.{Outside, Lent, outside_of, lent}
+use Rattle.edi_statuses.specs.EachObject.{FitsCount}
+use Rattle.edi_statuses.specs.Outside.{Outside, Lent, outside_of, lent, still_told}
 use Rattle.edi_statuses.specs.Steps.{Accepts}
 use Rattle.edi_statuses.specs.Executions.{text}
+use Rattle.edi_steps.specs.OnFiles.{files_only}
+use Rattle.edi_steps.proofs.OnFilesLemmas.{choices_fit, fetch_fits}
 use Rattle.edi_run_commands.specs.CodeRan.{refusal_status}
+use Rattle.edi_run_commands.proofs.Asked.{never_early, refusal_fits}
 use Rattle.edi_run_commands.proofs.Exits.{fetch_stops, choices_stop}
 use Rattle.edi_run_commands.proofs.OfTexts.{text_came, text_stops, text_ran}
 use Rattle.edi_run_commands.proofs.texts.run_text.Goals as goal
@@ -67,3 +71,26 @@ returns-clause-came g c =
     (g.F.Files.contents c.fetch.new.files) (g.F.Files.contents c.read_from.new.files) c.in-Ok-read_from.choices.source f.1
     c.in-Ok-read_from.ensures.reads.1 c.in-Ok.ensures.unchanged c.in-Ok-read_from.ensures.unchanged
     c.in-Ok-compile.code c.run_code.result.status c.run_code.result.due after c.in-Ok-compile.ensures.exact c.run_code.ensures.tells c.run_code.ensures.ran
+
+pub returns-in-Err-clause-fits : goal.returns-in-Err-clause-fits
+returns-in-Err-clause-fits g c =
+    let o : Outside = files_only (still_told (g.F.Files.contents c.args.files.now) (g.F.Files.contents c.fetch.new.files)) in
+    subst (λ s. FitsCount s (g.D.Drive.count c.args.drive.now)) (sym c.stopped.ensures.told)
+    (fetch_fits (λ (v : Vec ℕ Global). v.items) o c.args.file.now 262145 c.in-Err.status _ c.in-Err.ensures.fetched)
+
+pub returns-in-Err-read_from-clause-fits : goal.returns-in-Err-read_from-clause-fits
+returns-in-Err-read_from-clause-fits g c =
+    let o : Outside = files_only (still_told (g.F.Files.contents c.fetch.new.files) (g.F.Files.contents c.read_from.new.files)) in
+    subst (λ s. FitsCount s (g.D.Drive.count c.args.drive.now)) (sym c.stopped-in-Err-read_from.ensures.told)
+    (choices_fit o (choices_from c.args.from) c.in-Err-read_from.status _ c.in-Err-read_from.ensures.reads)
+
+pub returns-in-Err-compile-clause-fits : goal.returns-in-Err-compile-clause-fits
+returns-in-Err-compile-clause-fits g c =
+    subst (λ s. FitsCount s (g.D.Drive.count c.args.drive.now))
+    (sym (c.stopped-in-Err-compile.ensures.told ∙ c.refusal_status.ensures.exact)) (refusal_fits c.in-Err-compile.refusal _)
+
+pub returns-clause-fits : goal.returns-clause-fits
+returns-clause-fits g c = c.run_code.ensures.asked.fits
+
+pub returns-clause-early : goal.returns-clause-early
+returns-clause-early g c = λ early. absurd (never_early c.run_code.result.status c.run_code.ensures.asked.behind_steps early)

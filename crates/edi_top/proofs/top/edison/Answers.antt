@@ -6,7 +6,7 @@ use Rattle.edi_statuses.specs.Lines.{text_of}
 use Rattle.edi_statuses.specs.declared.status.Status.TheVariants as status
 use Rattle.edi_statuses.proofs.Causes.{cause_later}
 use Rattle.edi_statuses.proofs.Closing.{lines_end}
-use Rattle.edi_top.proofs.Obeyed.{counts_closed, drive_rose}
+use Rattle.edi_top.proofs.Obeyed.{counts_closed, drive_rose, untouched_closed}
 use Rattle.edi_top.proofs.top.edison.Goals as goal
 
 pub returns-clause-ends : goal.returns-clause-ends
@@ -35,3 +35,12 @@ returns-clause-no_terminal g c = λ ok silent.
       | inr fault ↦ let never : status.Ok ≡ status.OutputFault = sym ok ∙ fault.0 in absurd (cc)
     ] in
     (c.show_status.ensures.silent (ap text_of came)).1 ∙ c.obey-ended.ensures.no_terminal silent
+
+pub returns-clause-untouched : goal.returns-clause-untouched
+returns-clause-untouched g c =
+    untouched_closed (built (command_of (map string_bytes c.args.words.now))) c.obey-ended.result.status c.show_status.result _ _ _ _ _ _ _ _ _ _
+    (elim c.show_status.ensures.exact [
+      | inl same ↦ inl same.0
+      | inr fault ↦ inr fault.0
+    ])
+    c.obey-ended.ensures.untouched

@@ -1,3 +1,4 @@
+use Rattle.edi_statuses.proofs.EachLeft.{none_touched}
 use Rattle.edi_statuses.proofs.Silent.{refused, wants}
 use Rattle.edi_top.proofs.Obeyed.{counts_of_none, counts_unread, no_words}
 use Rattle.edi_top.proofs.top.obey.Goals as goal
@@ -17,3 +18,9 @@ returns-in-Ok-None-clause-size g c =
 
 pub returns-in-Err-clause-size : goal.returns-in-Err-clause-size
 returns-in-Err-clause-size g c = counts_unread _ c.silent-in-Err.result.status _ _ c.silent-in-Err.ensures.status
+
+pub returns-in-Ok-None-clause-untouched : goal.returns-in-Ok-None-clause-untouched
+returns-in-Ok-None-clause-untouched g c = none_touched _ _ _ _ _ _ _
+
+pub returns-in-Err-clause-untouched : goal.returns-in-Err-clause-untouched
+returns-in-Err-clause-untouched g c = none_touched _ _ _ _ _ _ _

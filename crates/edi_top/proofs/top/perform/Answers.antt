@@ -1,9 +1,12 @@
-use Rattle.std.proofs.Common.{false, Some, option_map, refl, rules}
+use Rattle.std.proofs.Common.{false, Some, option_map, refl, rules, sym, true≢false}
 use Rattle.edi_words.specs.Words as words
+use Rattle.edi_words.specs.View.{options_of}
 use Rattle.edi_words.specs.declared.commands.Command.TheVariants as command
 use Rattle.edi_statuses.specs.Outside.{kernel_of}
+use Rattle.edi_statuses.proofs.EachLeft.{none_touched, same_valid, untouched, untouched_alone, untouched_drive}
 use Rattle.edi_statuses.proofs.Silent.{on_files, refused}
-use Rattle.edi_top.proofs.Obeyed.{counts_of_none, counts_so, not_built, obeyed, obeyed_demo, obeyed_so, on_disk}
+use Rattle.edi_statuses.proofs.Told.{told_so}
+use Rattle.edi_top.proofs.Obeyed.{counts_of_none, counts_so, not_built, obeyed, obeyed_demo, obeyed_so, on_disk, untouched_so}
 use Rattle.edi_top.proofs.top.perform.Goals as goal
 
 pub returns-in-Compile-clause-came : goal.returns-in-Compile-clause-came
@@ -16,7 +19,8 @@ pub returns-in-NewDisk-clause-came : goal.returns-in-NewDisk-clause-came
 returns-in-NewDisk-clause-came g c =
     obeyed c.args.command (command.NewDisk c.in-NewDisk.blocks c.in-NewDisk.old) c.new_by.result c.silent-in-NewDisk.result.status
     c.silent-in-NewDisk.result.due _ _ _ c.in-NewDisk.is c.silent-in-NewDisk.ensures.status c.silent-in-NewDisk.ensures.due
-    (on_disk (words.newdisk c.in-NewDisk.blocks (option_map (λ name. name.now) c.in-NewDisk.old)) c.new_by.result _ _ _ _ c.new_by.ensures.means)
+    (on_disk (words.newdisk c.in-NewDisk.blocks (option_map (λ name. name.now) c.in-NewDisk.old)) c.new_by.result _ _ _ _ c.new_by.ensures.means
+    (λ never. absurd (true≢false never)))
 
 pub returns-in-NewDisk-clause-size : goal.returns-in-NewDisk-clause-size
 returns-in-NewDisk-clause-size g c =
@@ -27,13 +31,14 @@ pub returns-in-Put-clause-came : goal.returns-in-Put-clause-came
 returns-in-Put-clause-came g c =
     obeyed c.args.command (command.Put c.in-Put.file c.in-Put.title) c.put.result c.silent-in-Put.result.status c.silent-in-Put.result.due _ _ _
     c.in-Put.is c.silent-in-Put.ensures.status c.silent-in-Put.ensures.due
-    (on_disk (words.put c.in-Put.file.now c.in-Put.title.now) c.put.result _ _ _ _ c.put.ensures.means)
+    (on_disk (words.put c.in-Put.file.now c.in-Put.title.now) c.put.result _ _ _ _ c.put.ensures.means (λ stays. c.put.ensures.valid))
 
 pub returns-in-Get-clause-came : goal.returns-in-Get-clause-came
 returns-in-Get-clause-came g c =
     obeyed c.args.command (command.Get c.in-Get.title c.in-Get.file) c.get.result c.silent-in-Get.result.status c.silent-in-Get.result.due _ _ _
     c.in-Get.is c.silent-in-Get.ensures.status c.silent-in-Get.ensures.due
-    (on_disk (words.get c.in-Get.title.now c.in-Get.file.now) c.get.result _ _ _ _ c.get.ensures.means)
+    (on_disk (words.get c.in-Get.title.now c.in-Get.file.now) c.get.result _ _ _ _ c.get.ensures.means
+    (λ stays. told_so _ _ _ _ same_valid c.get.ensures.same))
 
 pub returns-in-List-clause-came : goal.returns-in-List-clause-came
 returns-in-List-clause-came g c =
@@ -63,10 +68,111 @@ returns-in_default g c =
       cause = search rules;
       later = search rules;
       size = counts_of_none _ c.silent-in_default.result.status _ _ none;
-      no_files = λ e. refl;
-      no_drive = λ e. refl;
-      no_input = λ e. refl;
+      untouched = none_touched _ _ _ _ _ _ _;
       no_terminal = λ e. refl;
-      no_printer = λ e. refl;
-      no_kernel = λ e. refl;
     }
+
+pub returns-in-Run-clause-size : goal.returns-in-Run-clause-size
+returns-in-Run-clause-size g c =
+    counts_so c.args.command (command.Run c.in-Run.file c.in-Run.options) c.run.result.status c.run.result.status _ _ _ _ c.in-Run.is refl
+    (c.run.ensures.size, c.run.ensures.fits)
+
+pub returns-in-Run-clause-untouched : goal.returns-in-Run-clause-untouched
+returns-in-Run-clause-untouched g c =
+    untouched_so c.args.command (command.Run c.in-Run.file c.in-Run.options) c.run.result.status c.run.result.status
+    _ _ _ _ _ _ _ _ _ _ c.in-Run.is refl
+    (untouched (words.run c.in-Run.file.now (options_of c.in-Run.options)) c.run.result.status
+    _ _ _ _ _ _ _ _ _ _ _ _ refl refl refl (λ e. e) (λ none. absurd (true≢false none))
+    c.run.ensures.early)
+
+pub returns-in-Replay-clause-size : goal.returns-in-Replay-clause-size
+returns-in-Replay-clause-size g c =
+    counts_so c.args.command (command.Replay c.in-Replay.file c.in-Replay.choices c.in-Replay.turns) c.replay.result.status c.replay.result.status _ _ _ _
+    c.in-Replay.is refl
+    (c.replay.ensures.size, c.replay.ensures.fits)
+
+pub returns-in-Replay-clause-untouched : goal.returns-in-Replay-clause-untouched
+returns-in-Replay-clause-untouched g c =
+    untouched_so c.args.command (command.Replay c.in-Replay.file c.in-Replay.choices c.in-Replay.turns) c.replay.result.status c.replay.result.status
+    _ _ _ _ _ _ _ _ _ _ c.in-Replay.is refl
+    (untouched (words.replay c.in-Replay.file.now c.in-Replay.choices.now c.in-Replay.turns) c.replay.result.status
+    _ _ _ _ _ _ _ _ _ _ _ _ refl refl refl (λ e. e) (λ none. absurd (true≢false none))
+    c.replay.ensures.early)
+
+pub returns-in-Exec-clause-size : goal.returns-in-Exec-clause-size
+returns-in-Exec-clause-size g c =
+    counts_so c.args.command (command.Exec c.in-Exec.file c.in-Exec.options) c.exec.result.status c.exec.result.status _ _ _ _ c.in-Exec.is refl
+    (c.exec.ensures.size, c.exec.ensures.fits)
+
+pub returns-in-Exec-clause-untouched : goal.returns-in-Exec-clause-untouched
+returns-in-Exec-clause-untouched g c =
+    untouched_so c.args.command (command.Exec c.in-Exec.file c.in-Exec.options) c.exec.result.status c.exec.result.status
+    _ _ _ _ _ _ _ _ _ _ c.in-Exec.is refl
+    (untouched (words.exec c.in-Exec.file.now (options_of c.in-Exec.options)) c.exec.result.status
+    _ _ _ _ _ _ _ _ _ _ _ _ refl refl refl (λ e. e) (λ none. absurd (true≢false none))
+    c.exec.ensures.early)
+
+pub returns-in-Boot-clause-size : goal.returns-in-Boot-clause-size
+returns-in-Boot-clause-size g c =
+    counts_so c.args.command (command.Boot c.in-Boot.options) c.boot.result.status c.boot.result.status _ _ _ _ c.in-Boot.is refl
+    (c.boot.ensures.size, c.boot.ensures.fits)
+
+pub returns-in-Boot-clause-untouched : goal.returns-in-Boot-clause-untouched
+returns-in-Boot-clause-untouched g c =
+    untouched_so c.args.command (command.Boot c.in-Boot.options) c.boot.result.status c.boot.result.status
+    _ _ _ _ _ _ _ _ _ _ c.in-Boot.is refl
+    (untouched (words.boot (options_of c.in-Boot.options)) c.boot.result.status
+    _ _ _ _ _ _ _ _ _ _ _ _ refl refl refl (λ e. e) c.boot.ensures.no_files
+    c.boot.ensures.early)
+
+pub returns-in-Compile-clause-untouched : goal.returns-in-Compile-clause-untouched
+returns-in-Compile-clause-untouched g c =
+    untouched_so c.args.command (command.Compile c.in-Compile.file c.in-Compile.out) c.silent.result.status c.silent.result.status _ _ _ _ _ _ _ _ _ _
+    c.in-Compile.is refl
+    (record { files = λ none. absurd (true≢false none); drive = λ e. refl; input = λ e. refl; printer = λ e. refl; kernel = λ e. refl })
+
+pub returns-in-NewDisk-clause-untouched : goal.returns-in-NewDisk-clause-untouched
+returns-in-NewDisk-clause-untouched g c =
+    untouched_so c.args.command (command.NewDisk c.in-NewDisk.blocks c.in-NewDisk.old) c.new_by.result c.silent-in-NewDisk.result.status
+    _ _ _ _ _ _ _ _ _ _ c.in-NewDisk.is c.silent-in-NewDisk.ensures.status
+    (untouched_drive (words.newdisk c.in-NewDisk.blocks (option_map (λ name. name.now) c.in-NewDisk.old)) c.new_by.result _ _ _ _ _ _ _ refl
+    c.new_by.ensures.no_files c.new_by.ensures.early)
+
+pub returns-in-Put-clause-untouched : goal.returns-in-Put-clause-untouched
+returns-in-Put-clause-untouched g c =
+    untouched_so c.args.command (command.Put c.in-Put.file c.in-Put.title) c.put.result c.silent-in-Put.result.status _ _ _ _ _ _ _ _ _ _
+    c.in-Put.is c.silent-in-Put.ensures.status
+    (untouched_drive (words.put c.in-Put.file.now c.in-Put.title.now) c.put.result _ _ _ _ _ _ _ refl (λ none. absurd (true≢false none))
+    c.put.ensures.early)
+
+pub returns-in-Put-clause-size : goal.returns-in-Put-clause-size
+returns-in-Put-clause-size g c =
+    counts_so c.args.command (command.Put c.in-Put.file c.in-Put.title) c.put.result c.silent-in-Put.result.status _ _ _ _ c.in-Put.is
+    c.silent-in-Put.ensures.status (c.put.ensures.size, c.put.ensures.fits)
+
+pub returns-in-Get-clause-untouched : goal.returns-in-Get-clause-untouched
+returns-in-Get-clause-untouched g c =
+    untouched_so c.args.command (command.Get c.in-Get.title c.in-Get.file) c.get.result c.silent-in-Get.result.status _ _ _ _ _ _ _ _ _ _
+    c.in-Get.is c.silent-in-Get.ensures.status
+    (untouched_drive (words.get c.in-Get.title.now c.in-Get.file.now) c.get.result _ _ _ _ _ _ _ refl (λ none. absurd (true≢false none))
+    (λ never. absurd (true≢false (sym never))))
+
+pub returns-in-Get-clause-size : goal.returns-in-Get-clause-size
+returns-in-Get-clause-size g c =
+    counts_so c.args.command (command.Get c.in-Get.title c.in-Get.file) c.get.result c.silent-in-Get.result.status _ _ _ _ c.in-Get.is
+    c.silent-in-Get.ensures.status (c.get.ensures.size, c.get.ensures.fits)
+
+pub returns-in-List-clause-untouched : goal.returns-in-List-clause-untouched
+returns-in-List-clause-untouched g c =
+    untouched_so c.args.command (command.List c.in-List.file) c.list.result.status c.list.result.status _ _ _ _ _ _ _ _ _ _ c.in-List.is refl
+    (record { files = λ none. absurd (true≢false none); drive = λ e. refl; input = λ e. refl; printer = λ e. refl; kernel = λ e. refl })
+
+pub returns-in-Demo-clause-untouched : goal.returns-in-Demo-clause-untouched
+returns-in-Demo-clause-untouched g c =
+    untouched_so c.args.command (command.Demo c.in-Demo.n c.in-Demo.options) c.demonstrate.result.status c.demonstrate.result.status _ _ _ _ _ _ _ _ _ _
+    c.in-Demo.is refl
+    (untouched_alone (words.demo c.in-Demo.n (options_of c.in-Demo.options)) c.demonstrate.result.status _ _ _ _ _ _ _ _ _ _ refl (λ e. e)
+    c.demonstrate.ensures.no_files
+    (λ early.
+    let none = c.demonstrate.ensures.early early in
+    record { drive = refl; input = refl; terminal = none.0; printer = none.1; kernel = none.2 }))

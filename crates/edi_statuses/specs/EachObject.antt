@@ -1,0 +1,178 @@
+-- Words of contracts. What a call leaves of each object by itself, whatever it or the others tell: which objects a command uses, which
+-- it has not come to, how many blocks the drive has, and what each object holds that tells it.
+use Rattle.std.specs.Prelude.{◌≡◌, ◌≤◌, ◌<◌, ◌⊎◌, ℕ, Bool, true, false, not, ◌&&◌, ◌||◌, List, Option, Some, None, is_none, ⊤}
+use Rattle.edi_told.specs.Faults.{CountRose}
+use Rattle.edi_told.specs.Told.{WhereTold}
+use Rattle.edi_catalog.specs.Taken.{IsOfCount}
+use Rattle.edi_image.specs.Image.{mount_fault_of}
+use Rattle.edi_system.specs.Parts.{Grows, Shrinks}
+use Rattle.edi_words.specs.Words as words
+use Rattle.edi_words.specs.Words.{ChoicesFrom, Command, Options}
+use Rattle.edi_statuses.specs.declared.status.Status.{Status}
+use Rattle.edi_statuses.specs.declared.status.Status.TheVariants as status
+use Rattle.edi_statuses.specs.Outside.{Outside}
+
+-- ---- which objects a command uses
+
+-- a run and a session see the terminal and the printer, and run on the lent kernel
+abbrev pub uses_devices : Command → Bool
+uses_devices (words.run file o) = true
+uses_devices (words.replay file choices turns) = true
+uses_devices (words.exec file o) = true
+uses_devices (words.boot o) = true
+uses_devices (words.demo n o) = true
+uses_devices _ = false
+
+-- and the input, but for the demonstration, which has one of its own
+abbrev pub uses_input : Command → Bool
+uses_input (words.demo n o) = false
+uses_input c = uses_devices c
+
+abbrev pub uses_drive : Command → Bool
+uses_drive (words.newdisk blocks old) = true
+uses_drive (words.put file title) = true
+uses_drive (words.get title file) = true
+uses_drive c = uses_input c
+
+-- of what these show there is only the line of their status
+abbrev pub is_silent : Command → Bool
+is_silent (words.compile file out) = true
+is_silent (words.newdisk blocks old) = true
+is_silent (words.put file title) = true
+is_silent (words.get title file) = true
+is_silent _ = false
+
+-- the choices stand in a file
+abbrev pub is_in_file : ChoicesFrom → Bool
+is_in_file words.nowhere = false
+is_in_file (words.file name) = true
+is_in_file (words.seed n) = false
+
+-- the options of a run name a file
+abbrev pub names_file : Options → Bool
+names_file o = is_in_file o.choices || not (is_none o.record_file)
+
+abbrev pub uses_files : Command → Bool
+uses_files (words.newdisk blocks None) = false
+uses_files (words.boot o) = names_file o
+uses_files (words.demo n o) = names_file o
+uses_files _ = true
+
+-- so, where there is a command
+abbrev pub does : (Command → Bool) → Option Command → Bool
+does test None = false
+does test (Some c) = test c
+
+-- a fault of the files or of the drive is one of an object that the command uses
+abbrev pub Uses : Status → Command → Type 0
+Uses status.FileFault c = uses_files c ≡ true
+Uses status.DriveFault c = uses_drive c ≡ true
+Uses s c = ⊤
+
+-- ---- which it has not come to
+
+-- the statuses of steps before the drive is asked, where it is mounted
+abbrev pub is_before_drive : Status → Bool
+is_before_drive status.Absent = true
+is_before_drive (status.BadChoices line) = true
+is_before_drive (status.Refused kind line) = true
+is_before_drive (status.BadCode broken) = true
+is_before_drive status.FileLarge = true
+is_before_drive s = false
+
+-- those of steps before it is formatted
+abbrev pub is_before_format : Status → Bool
+is_before_format status.Absent = true
+is_before_format (status.BadImage broken) = true
+is_before_format status.DiskFull = true
+is_before_format s = false
+
+-- A command with this status has come to no object but the files. `get` asks the drive first.
+abbrev pub stops_first : Command → Status → Bool
+stops_first (words.newdisk blocks old) s = is_before_format s
+stops_first (words.get title file) s = false
+stops_first c s = is_before_drive s
+
+-- whether it may have come to an object that it uses
+abbrev pub comes_to : (Command → Bool) → Option Command → Status → Bool
+comes_to uses None s = false
+comes_to uses (Some c) s = uses c && not (stops_first c s)
+
+-- The objects that a command has no use for, and those that it has not come to, are not touched; words that are refused touch none.
+pub record Untouched {F D S P K : Type 0} (c : Option Command) (s : Status) (f f' : F) (d d' : D) (i i' : S) (p p' : P) (k k' : K) : Type 0 where
+  pub files : does uses_files c ≡ false → f' ≡ f
+  pub drive : comes_to uses_drive c s ≡ false → d' ≡ d
+  pub input : comes_to uses_input c s ≡ false → i' ≡ i
+  pub printer : comes_to uses_devices c s ≡ false → p' ≡ p
+  pub kernel : comes_to uses_devices c s ≡ false → k' ≡ k
+
+-- the devices and the kernel are not touched
+pub record DevicesStay {D S T P K : Type 0} (d d' : D) (i i' : S) (t t' : T) (p p' : P) (k k' : K) : Type 0 where
+  pub drive : d' ≡ d
+  pub input : i' ≡ i
+  pub terminal : t' ≡ t
+  pub printer : p' ≡ p
+  pub kernel : k' ≡ k
+
+-- ---- the number of blocks
+
+-- a drive of so many blocks is no disk, or may be an image, which has 64 to 4096
+pub record MayBeImage (count : ℕ) : Type 0 where
+  pub least : 0 < count → count < 64 → ⊥
+  pub most : count ≤ 4096
+
+-- The number of blocks of a drive that is mounted: a broken rule of the image fits it, and behind the mount it is one of an image. A
+-- fault of an object and want of memory may come before the mount, and a fault of the output stands for every status.
+abbrev pub FitsCount : Status → (count : ℕ) → Type 0
+FitsCount (status.BadImage broken) count = IsOfCount count broken
+FitsCount status.Ok count = MayBeImage count
+FitsCount (status.Stopped cause line) count = MayBeImage count
+FitsCount status.Turns count = MayBeImage count
+FitsCount status.Standstill count = MayBeImage count
+FitsCount (status.BadState address) count = MayBeImage count
+FitsCount status.SessionLimit count = MayBeImage count
+FitsCount status.DiskFull count = MayBeImage count
+FitsCount status.InputFault count = MayBeImage count
+FitsCount s count = ⊤
+
+-- so for `get`, which looks for the title and keeps the file on a mounted drive
+abbrev pub FitsGet : Status → (count : ℕ) → Type 0
+FitsGet status.Absent count = MayBeImage count
+FitsGet status.FileFault count = MayBeImage count
+FitsGet s count = FitsCount s count
+
+-- The number of the drive's blocks behind `newdisk`: after a refusal it is as before, and of a format that the drive broke off nothing is
+-- known. A fault of the output may stand for each of them, whose line was not shown. The counts are those of the drive's faults.
+abbrev pub CountsNew : Status → (wanted old new had has : ℕ) → Type 0
+CountsNew status.Ok wanted old new had has = new ≡ wanted
+CountsNew status.DriveFault wanted old new had has = ⊤
+CountsNew status.OutputFault wanted old new had has = (new ≡ old) ⊎ CountRose had has
+CountsNew s wanted old new had has = new ≡ old
+
+-- every other command leaves it, and the status of one that mounts the drive fits it
+abbrev pub CountsBlocks : Option Command → Status → (old new had has : ℕ) → Type 0
+CountsBlocks (Some (words.newdisk blocks image)) s old new had has = CountsNew s blocks old new had has
+CountsBlocks (Some (words.run file o)) s old new had has = (new ≡ old) × FitsCount s old
+CountsBlocks (Some (words.replay file choices turns)) s old new had has = (new ≡ old) × FitsCount s old
+CountsBlocks (Some (words.exec file o)) s old new had has = (new ≡ old) × FitsCount s old
+CountsBlocks (Some (words.boot o)) s old new had has = (new ≡ old) × FitsCount s old
+CountsBlocks (Some (words.put file title)) s old new had has = (new ≡ old) × FitsCount s old
+CountsBlocks (Some (words.get title file)) s old new had has = (new ≡ old) × FitsGet s old
+CountsBlocks c s old new had has = new ≡ old
+
+-- ---- what each object holds that tells it, whatever the others tell
+
+-- a valid image stays one
+abbrev pub KeepsImage : (old new : List (List ℕ)) → Type 0
+KeepsImage old new = mount_fault_of old ≡ None → mount_fault_of new ≡ None
+
+-- `newdisk` puts another image in its place
+abbrev pub formats : Command → Bool
+formats (words.newdisk blocks old) = true
+formats c = false
+
+-- A valid image stays one, the input only loses its first bytes, and what the printer has taken only grows.
+pub record LeavesEach (c : Option Command) (before after : Outside) : Type 0 where
+  pub drive : does formats c ≡ false → WhereTold before.blocks after.blocks KeepsImage
+  pub input : WhereTold before.input after.input Shrinks
+  pub printer : WhereTold before.printed after.printed Grows
