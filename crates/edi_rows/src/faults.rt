@@ -119,7 +119,7 @@ fn a_fault_of_an_object_is_told(rt: HostRuntime) -> Result<(), Fail> {
     play(&rt, rt.alloc(), SHOWN, 0)
 }
 
-/// An image without files, whose first 33 blocks are read before a program runs, and then all but the first once more.
+/// An image without files, whose first 33 blocks are read before a program runs.
 const RUNS: &str = "
 | proc main(proc display(value: char)) begin display('a') end
 file letter
@@ -152,7 +152,7 @@ file zeros
 same g zeros
 ";
 
-/// A file of two pages is put: 65 reads, and then four writes, of its pages, its map and its entry.
+/// A file of two pages is put: 33 reads, and then four writes, of its pages, its map and its entry.
 const PUTS: &str = "
 bytes 513 5
 file f
@@ -185,21 +185,21 @@ const WHOLE: &str = "
 file letter
 bytes 32768 0
 at 0 4544495300020040
-drive 66
+drive 34
 call 0 run letter
 shows a
 bytes 513 5
 file f
 bytes 32768 0
 at 0 4544495300020040
-drive 70
+drive 38
 call 0 put f t
 bytes 32768 0
 at 0 4544495300020040
 at 512 742020202020202020202020202020202020202020202020
 at 536 01000021000000000201
 at 16896 000200220023
-drive 69
+drive 37
 call 0 get t g
 ";
 
@@ -219,13 +219,13 @@ shows drive fault/
 #[test]
 fn each_call_of_a_drive_may_fail(rt: HostRuntime) -> Result<(), Fail> {
     let alloc = rt.alloc();
-    for n in 1..=65 {
+    for n in 1..=33 {
         play(&rt, alloc, RUNS, n)?;
     }
-    for n in 1..=68 {
+    for n in 1..=36 {
         play(&rt, alloc, GETS, n)?;
     }
-    for n in 1..=69 {
+    for n in 1..=37 {
         play(&rt, alloc, PUTS, n)?;
     }
     for n in 1..=2 {
