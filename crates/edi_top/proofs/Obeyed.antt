@@ -175,9 +175,9 @@ never_first (words.walk file choices turns) = refl
 never_first (words.watch file points out o) = refl
 
 none_comes : (uses stops never : Bool) → never ≡ false → (uses && not never) ≡ false → (uses && not stops) ≡ false
-none_comes false stops never no h = refl
-none_comes true stops true no h = absurd (true≢false no)
-none_comes true stops false no h = absurd (true≢false h)
+none_comes false stops never is h = refl
+none_comes true stops true is h = absurd (true≢false is)
+none_comes true stops false is h = absurd (true≢false h)
 
 comes_less : (uses : Command → Bool) (c : Option Command) (s t : Status) → (t ≡ s) ⊎ (t ≡ status.OutputFault) → comes_to uses c t ≡ false
     → comes_to uses c s ≡ false
