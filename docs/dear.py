@@ -4,9 +4,9 @@
 usage: docs/dear.py CRATE [WORD]    with a WORD only the functions whose names end so or lie below it, and those that they call
 
 The libraries below the crate are those in their out/ folders (`rt lib` makes them); nothing kept of the crate is used, and
-nothing is written. A line stands for what was checked since the line before: a function, with the lemma files that it is
-the first to cite; the first one carries the reading of the crate and of its libraries too. On a loaded machine all
-seconds are longer, by up to two times.
+nothing is written. A line stands for what was checked since the line before: a function, with all that it is the first
+to load or to cite, of the crate, its libraries and std; this is often most of the line. So two forms of a function are
+compared by the last lines of two runs with its name. On a loaded machine all seconds are longer, by up to two times.
 """
 import os
 import re
