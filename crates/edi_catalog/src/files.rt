@@ -7,7 +7,7 @@ ghost use Rattle.edi_catalog.specs.Files.{entry_of, file_titled, find_index};
 use crate::entry::Entry;
 use edi_image::{StoredFile, Title, is_titled};
 
-/// The place of the file with this title.
+/// The slot of the file with this title.
 pub(crate) fn index_of(files: &[Option<StoredFile>], title: &Title) -> Option<usize>
     ensures exact { result ≡ find_index title.now files.now }
     ensures within { IfSome result (λ index. index < length files.now) }

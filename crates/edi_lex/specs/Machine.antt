@@ -16,7 +16,7 @@ use Rattle.edi_lex.specs.declared.cutter.Cutter.{Cutter}
 abbrev pub with_symbol : Cutter → Symbol → ℕ → Cutter
 with_symbol c symbol line = record { marks = c.marks ++ record { symbol = symbol; line = line } ∷ []; unfinished = Nothing; kept = [] }
 
--- after a turn by this byte on this line
+-- after this effect of a byte on this line
 abbrev pub after_effect : Cutter → Effect → ℕ → ℕ → Result Cutter LexFault
 after_effect c (Passes piece) b line = Ok (record c { unfinished = piece })
 after_effect c (Keeps piece) b line = Ok (record c { unfinished = piece; kept = c.kept ++ b ∷ [] })

@@ -90,7 +90,7 @@ impl Cutter {
         self.add(alloc, Symbol::Chars(string), line)
     }
 
-    /// Does what a byte's turn says.
+    /// Does what the effect of a byte says.
     #[inline(always)]
     fn perform(
         &mut self,

@@ -102,7 +102,7 @@ impl Scanner {
         Ok(())
     }
 
-    /// The text so far is followed by this piece. After a refusal the scanner has failed: this call is refused from
+    /// The text so far is followed by this piece. After want of memory the scanner has failed: this call is refused from
     /// then on, and `finish` answers that memory ran out.
     pub fn feed(&mut self, alloc: Global, piece: &[u8]) -> Result<(), AllocError>
         ensures read { OnOk result ((text : List ℕ) → HasRead self.old text → HasRead self.new (text ++ piece.now)) }

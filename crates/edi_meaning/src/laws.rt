@@ -10,8 +10,9 @@ ghost use Rattle.edi_meaning.specs.Laws.{AttemptsAreWhole, CellsArePrivate, Ever
 ghost use Rattle.edi_meaning.specs.Laws.{SelectIsPermitted, SelectionsAreDetermined, StepsGoOn};
 
 /// Critical phases are executed strictly one at a time: an attempt at a `when` is one step, which leaves its process
-/// behind the whole body, or at the `when` again, and changes nothing else of any process. It evaluates the conditions one
-/// after another until one is true, and executes the body behind that one to its end; in every order of steps it is one.
+/// behind the whole body, or at the `when` again, and leaves the standing and the work of every other process as they were.
+/// It evaluates the conditions one after another until one is true, and executes the body behind that one to its end; in
+/// every order of steps it is one.
 pub fn attempts_are_whole()
     ensures law { AttemptsAreWhole }
     ensures executes { AttemptsExecute }

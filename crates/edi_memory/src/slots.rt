@@ -39,7 +39,7 @@ fn is_titled(slot: &Option<StoredFile>, title: &[u8]) -> bool
     }
 }
 
-/// The place of the file with this title.
+/// The slot of the file with this title.
 pub(crate) fn find_slot(slots: &[Option<StoredFile>], title: &[u8]) -> Option<usize>
     ensures exact { result ≡ find_slot slots.now title.now }
     ensures within { IfSome result (λ index. index < length slots.now) }
