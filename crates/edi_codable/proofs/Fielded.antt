@@ -26,7 +26,7 @@ use Rattle.edi_static.specs.Programs.{program_heading, global_decl, global_decls
 use Rattle.edi_static.proofs.Judging.{Gives, bind, behind, ruled}
 use Rattle.edi_scheme.specs.Laws.{HasPart, HaveParts}
 use Rattle.edi_codable.specs.Laws.{RecordsHaveFields}
-use Rattle.edi_codable.proofs.Declared.{const_list_kept, type_decl_kept, var_kept, heading_kept, round_kept, outside_round_kept}
+use Rattle.edi_nesting.proofs.Declared.{Keeping, const_list_kept, type_decl_kept, var_kept, heading_kept, round_kept, outside_round_kept}
 
 -- ---- types
 
@@ -48,6 +48,19 @@ typed types blocks shape part h t less = at_added types shape t (nat_lt t (lengt
 varied : (types : List Shape) (blocks : List Block) (n : ℕ) (block : Block) → block.body ≡ (block_at blocks n).body → Have types blocks
     → Have types (slice_set blocks n block)
 varied types blocks n block e h = h
+
+abbrev having : Keeping
+having = record {
+  Is = Have;
+  Becomes = Have;
+  Fine = HasPart;
+  enumerated = λ n. tt;
+  filled = λ parts some. some;
+  arrayed = λ of lower upper element. tt;
+  set = λ of. tt;
+  typed = typed;
+  varied = varied;
+}
 
 abbrev Good : Environment → Type 0
 Good env = HaveParts env.types
@@ -129,17 +142,17 @@ mutual
 
 begin_good : (m : Bool) (h : text.Heading) (env : Environment) → Good env → Gives Good (begin_procedure m h env)
 begin_good m h env s =
-    bind GoodHeaded Good _ _ (heading_kept Have Have typed varied _ h env s) (λ headed k.
-    round_kept Have Have typed varied m (own_name h) (entity.Procedure (length env.blocks))
+    bind GoodHeaded Good _ _ (heading_kept having _ h env s) (λ headed k.
+    round_kept having m (own_name h) (entity.Procedure (length env.blocks))
     (with_heading (kind_of (heading_result headed.asks)) headed) k)
 
 export_good : (m : Bool) (name : Name) (block : ℕ) (env : Environment) → Good env → Gives Good (post_export m name block env)
-export_good true name block env h = outside_round_kept Have Have typed varied name (entity.Procedure block) env h
+export_good true name block env h = outside_round_kept having name (entity.Procedure block) env h
 export_good false name block env h = h
 
 post_good : (m : Bool) (h : text.Heading) (env : Environment) → Good env → Gives Good (begin_post m h env)
 post_good m h env s =
-    bind GoodHeaded Good _ _ (heading_kept Have Have typed varied _ h env s) (λ headed k.
+    bind GoodHeaded Good _ _ (heading_kept having _ h env s) (λ headed k.
     behind Good (completes (begun_named env.begun (own_name h).text) (own_name h) headed) _ (λ _. export_good m (own_name h) _ headed.env k))
 
 pre_good : (m : Bool) (h : text.Heading) (env : Environment) → Good env → Gives Good (pre_decl m h env)
@@ -153,9 +166,9 @@ mutual
       bind GoodAfter Good _ _ (list_good s inner j) (λ done i. close_good block done.what end done.env i)))
 
   item_good : (m : Bool) (i : text.Item) (env : Environment) → Good env → Gives Good (item m i env)
-  item_good m (text.const_item cs) env h = const_list_kept Have Have typed varied m cs env h
-  item_good m (text.type_item t) env h = type_decl_kept Have Have typed varied m t env h
-  item_good m (text.var_item vs) env h = var_kept Have Have typed varied m vs env h
+  item_good m (text.const_item cs) env h = const_list_kept having m cs env h
+  item_good m (text.type_item t) env h = type_decl_kept having m t env h
+  item_good m (text.var_item vs) env h = var_kept having m vs env h
   item_good m (text.procedure_item p) env h =
       bind Good Good (begin_procedure m (heading_of p) env >>= procedure_rest (length env.blocks) p) _
       (bind Good Good (begin_procedure m (heading_of p) env) _ (begin_good m (heading_of p) env h) (λ e k. rest_good _ p e k))
@@ -193,8 +206,8 @@ mutual
 -- ---- programs
 
 global_good : (g : text.Global) (env : Environment) → Good env → Gives Good (global_decl g env)
-global_good (text.const_global cs) env h = const_list_kept Have Have typed varied false cs env h
-global_good (text.type_global t) env h = type_decl_kept Have Have typed varied false t env h
+global_good (text.const_global cs) env h = const_list_kept having false cs env h
+global_good (text.type_global t) env h = type_decl_kept having false t env h
 
 globals_good : (gs : text.Globals) (env : Environment) → Good env → Gives Good (global_decls gs env)
 globals_good text.no_global env h = h
@@ -205,9 +218,9 @@ GoodUnit u = HaveParts u.types
 
 program_good : (p : text.Procedure) (env : Environment) → Good env → Gives GoodUnit (program_procedure p env)
 program_good p env h =
-    bind GoodHeaded GoodUnit (heading_parts 0 (heading_of p) env) _ (heading_kept Have Have typed varied 0 (heading_of p) env h) (λ headed k.
+    bind GoodHeaded GoodUnit (heading_parts 0 (heading_of p) env) _ (heading_kept having 0 (heading_of p) env h) (λ headed k.
     bind Good GoodUnit (round (declare false (own_name (heading_of p)) (entity.Procedure 0)) (with_heading block_kind.Program headed)) _
-    (round_kept Have Have typed varied false (own_name (heading_of p)) (entity.Procedure 0) (with_heading block_kind.Program headed) k) (λ begun j.
+    (round_kept having false (own_name (heading_of p)) (entity.Procedure 0) (with_heading block_kind.Program headed) k) (λ begun j.
     behind GoodUnit (program_heading begun.types (heading_of p) headed.asks) _ (λ calls.
     bind Good GoodUnit (procedure_rest 0 p begun) _ (rest_good 0 p begun j) (λ after i. i))))
 

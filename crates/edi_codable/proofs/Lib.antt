@@ -1,4 +1,3 @@
-pub mod Declared
 pub mod Fielded
 pub mod Front
 pub mod Most

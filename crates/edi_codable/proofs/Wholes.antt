@@ -24,7 +24,7 @@ use Rattle.edi_static.specs.Declarations.{begin_procedure, begin_post, procedure
 use Rattle.edi_static.specs.Programs.{program_heading, global_decl, global_decls, program_procedure, resolve_tree, Resolved}
 use Rattle.edi_static.proofs.Judging.{Gives, bind, behind, weaker}
 use Rattle.edi_scheme.specs.Laws.{HasPart}
-use Rattle.edi_codable.proofs.Declared.{const_list_kept, type_decl_kept, var_kept, heading_kept, round_kept, outside_round_kept}
+use Rattle.edi_nesting.proofs.Declared.{Keeping, const_list_kept, type_decl_kept, var_kept, heading_kept, round_kept, outside_round_kept}
 use Rattle.edi_codable.proofs.Front.{weight, Lined, Front, tree_lined, const_list_front, type_decl_front, var_list_front, heading_front}
 use Rattle.edi_codable.proofs.Most.{total}
 use Rattle.edi_codable.proofs.Bodies.{BodyLines, Counted, typed, varied, push_total, Good, ActsDone, moved, close_good, add_good, list_good}
@@ -41,6 +41,27 @@ longer : (n : ℕ) (types : List Shape) (blocks : List Block) (shape : Shape) �
 longer n types blocks shape part h =
     let more = typed (n + 9) types blocks shape part h in
     record { bodies = more.bodies; standard = more.standard; within = omega (arith, more.within) }
+
+-- the words that are counted, where each type and each variable may take some
+abbrev counts : (n m : ℕ) → ((types : List Shape) (blocks : List Block) (shape : Shape) → HasPart shape → Counted n types blocks
+    → Counted m (types ++ shape ∷ []) blocks) → Keeping
+counts n m more = record {
+  Is = Counted n;
+  Becomes = Counted m;
+  Fine = HasPart;
+  enumerated = λ count. tt;
+  filled = λ parts some. some;
+  arrayed = λ of lower upper element. tt;
+  set = λ of. tt;
+  typed = more;
+  varied = varied n;
+}
+
+abbrev counting : ℕ → Keeping
+counting n = counts n (n + 8) (typed n)
+
+abbrev counting_on : ℕ → Keeping
+counting_on n = counts (n + 9) (n + 17) (longer n)
 
 module _ (budget : ℕ) where
   abbrev There : List Spelled → Environment → Type 0
@@ -85,12 +106,12 @@ module _ (budget : ℕ) where
       let n : ℕ = total env.blocks + 8 * length env.types in
       weaker (CountedAt (n + 9)) (There more) (begin_procedure m h env) (λ e k. began env e h more g k)
       (bind (CountedHeaded n) (CountedAt (n + 9)) (heading_parts (length env.blocks) h env) _
-      (heading_kept (Counted n) (Counted (n + 8)) (typed n) (varied n) (length env.blocks) h env (counted env _ g)) (λ headed k.
-      round_kept (Counted (n + 9)) (Counted (n + 17)) (longer n) (varied (n + 9)) m (own_name h) (entity.Procedure (length env.blocks))
+      (heading_kept (counting n) (length env.blocks) h env (counted env _ g)) (λ headed k.
+      round_kept (counting_on n) m (own_name h) (entity.Procedure (length env.blocks))
       (with_heading (kind_of (heading_result headed.asks)) headed) (with_heading_good n (kind_of (heading_result headed.asks)) headed k)))
 
   export_good : (n : ℕ) (m : Bool) (name : Name) (block : ℕ) (env : Environment) → CountedAt n env → Gives (CountedAt n) (post_export m name block env)
-  export_good n true name block env h = outside_round_kept (Counted n) (Counted (n + 8)) (typed n) (varied n) name (entity.Procedure block) env h
+  export_good n true name block env h = outside_round_kept (counting n) name (entity.Procedure block) env h
   export_good n false name block env h = h
 
   post_good : (m : Bool) (h : text.Heading) (more : List Spelled) (env : Environment) → There (heading_then h more) env
@@ -100,7 +121,7 @@ module _ (budget : ℕ) where
       let block : ℕ = block_of env (begun_named env.begun (own_name h).text) in
       weaker (CountedAt n) (There more) (begin_post m h env) (λ e k. began env e h more g (more_words n (n + 9) e (omega arith) k))
       (bind (CountedHeaded n) (CountedAt n) (heading_parts block h env) _
-      (heading_kept (Counted n) (Counted (n + 8)) (typed n) (varied n) block h env (counted env _ g)) (λ headed k.
+      (heading_kept (counting n) block h env (counted env _ g)) (λ headed k.
       behind (CountedAt n) (completes (begun_named env.begun (own_name h).text) (own_name h) headed) _ (λ _. export_good n m (own_name h) block headed.env k)))
 
   -- the same blocks, with other scopes
@@ -118,7 +139,7 @@ module _ (budget : ℕ) where
   const_good m cs more env g =
       let n : ℕ = total env.blocks + 8 * length env.types in
       weaker (CountedAt n) (There more) (const_list m cs env) (λ e k. kept 0 env e _ more g (const_list_front cs more) (more_words n (n + 0) e (omega arith) k))
-      (const_list_kept (Counted n) (Counted (n + 8)) (typed n) (varied n) m cs env (counted env _ g))
+      (const_list_kept (counting n) m cs env (counted env _ g))
 
   type_good : (m : Bool) (t : text.TypeDecl) (more : List Spelled) (env : Environment) → There (type_decl_then t more) env
       → Gives (There more) (type_decl m t env)
@@ -126,14 +147,14 @@ module _ (budget : ℕ) where
       let n : ℕ = total env.blocks + 8 * length env.types in
       weaker (CountedAt (n + 8)) (There more) (type_decl m t env)
       (λ e k. kept 1 env e _ more g (type_decl_front t more) (more_words (n + 8) (n + 8 * 1) e (omega arith) k))
-      (type_decl_kept (Counted n) (Counted (n + 8)) (typed n) (varied n) m t env (counted env _ g))
+      (type_decl_kept (counting n) m t env (counted env _ g))
 
   var_good : (m : Bool) (vs : text.VarList) (more : List Spelled) (env : Environment) → There (var_list_then vs more) env
       → Gives (There more) (var_list m vs env)
   var_good m vs more env g =
       let n : ℕ = total env.blocks + 8 * length env.types in
       weaker (CountedAt n) (There more) (var_list m vs env) (λ e k. kept 0 env e _ more g (var_list_front vs more) (more_words n (n + 0) e (omega arith) k))
-      (var_kept (Counted n) (Counted (n + 8)) (typed n) (varied n) m vs env (counted env _ g))
+      (var_kept (counting n) m vs env (counted env _ g))
 
   mutual
     rest_good : (block : ℕ) (p : text.Procedure) (more : List Spelled) (env : Environment) → There (rest_then p more) env
@@ -217,10 +238,10 @@ module _ (budget : ℕ) where
       let n : ℕ = total env.blocks + 8 * length env.types in
       let h : text.Heading = heading_of p in
       let first : There (heading_then h (rest_then p [])) env = subst (λ l. There l env) (headed_first p []) g in
-      bind (CountedHeaded n) GoodUnit (heading_parts 0 h env) _ (heading_kept (Counted n) (Counted (n + 8)) (typed n) (varied n) 0 h env (counted env _ g))
+      bind (CountedHeaded n) GoodUnit (heading_parts 0 h env) _ (heading_kept (counting n) 0 h env (counted env _ g))
       (λ headed k.
       bind (CountedAt (n + 9)) GoodUnit (round (declare false (own_name h) (entity.Procedure 0)) (with_heading block_kind.Program headed)) _
-      (round_kept (Counted (n + 9)) (Counted (n + 17)) (longer n) (varied (n + 9)) false (own_name h) (entity.Procedure 0)
+      (round_kept (counting_on n) false (own_name h) (entity.Procedure 0)
       (with_heading block_kind.Program headed)
       (with_heading_good n block_kind.Program headed k)) (λ begun j.
       behind GoodUnit (program_heading begun.types h headed.asks) _ (λ calls.
