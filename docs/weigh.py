@@ -1,13 +1,15 @@
 #!/usr/bin/env python3
 """Measures what the gate costs, crate by crate, and prints the table of docs/GATE.md.
 
-usage: docs/weigh.py                runs `rt ci` once, from nothing
-       docs/weigh.py --table FILE   the table of what an earlier run wrote to FILE
+usage: docs/weigh.py                runs `rt ci --anew` once, from nothing
+       docs/weigh.py NAME..         runs `rt ci NAME..`, which proves what it has not kept, and adds to what was measured
+       docs/weigh.py --table FILE   the table of what earlier runs wrote to FILE
 
 While the gate runs, the processor time (user and system) of each process of the prover is read off /proc four times a
 second. A crate's processes are told apart by what they check: the crate itself, its tests, or a copy of it under a
-wrong edit. Each that has ended is a line of out/weights.tsv: seconds, crate, part. What a process does in the last
-quarter of a second before its end is missed; linking and running the tests is not counted.
+wrong edit. Each that has ended is a line of out/weights.tsv: seconds, crate, part, run. Of a part that several runs did,
+the last one counts. What a process does in the last quarter of a second before its end is missed; linking and running
+the tests is not counted.
 """
 import collections
 import os
@@ -41,7 +43,7 @@ def read(path):
 
 def part_of(words, folder):
     """What a process of the prover checks."""
-    if not folder.startswith(TOP):
+    if "/rt-edit" in folder:
         return "edits"
     return "tests" if "--test" in words or any(it.endswith("_tests.o") for it in words) else "proof"
 
@@ -62,16 +64,17 @@ def provers(session):
             continue
 
 
-def weigh(table):
+def weigh(table, names):
     """Runs the gate and writes what each process of the prover has cost."""
-    gate = subprocess.Popen(["rt", "ci"], cwd=TOP, start_new_session=True)
+    gate = subprocess.Popen(["rt", "ci", *(names or ["--anew"])], cwd=TOP, start_new_session=True)
+    run = int(time.time())
     running = {}
     while True:
         is_over = gate.poll() is not None
         now = {key: (seconds, what) for key, seconds, what in provers(gate.pid)}
         for key in [it for it in running if it not in now]:
             seconds, (crate, part) = running.pop(key)
-            table.write(f"{seconds:.1f}\t{crate}\t{part}\n")
+            table.write(f"{seconds:.1f}\t{crate}\t{part}\t{run}\n")
             table.flush()
         if is_over:
             return gate.returncode
@@ -80,9 +83,11 @@ def weigh(table):
 
 
 def show(file):
-    spent = collections.Counter()
+    spent, last = collections.Counter(), {}
     for line in open(file, encoding="utf-8"):
-        seconds, crate, part = line.rstrip("\n").split("\t")
+        seconds, crate, part, run = line.rstrip("\n").split("\t")
+        if last.get((crate, part)) != run:
+            spent[crate, part], last[crate, part] = 0, run
         spent[crate, part] += float(seconds)
     print("| Crate | Proof | Tests | Edits |\n|---|---:|---:|---:|")
     for name, below in layers():
@@ -102,8 +107,9 @@ def main():
         return 0
     os.makedirs(os.path.join(TOP, "out"), exist_ok=True)
     file = os.path.join(TOP, "out", "weights.tsv")
-    with open(file, "w", encoding="utf-8") as table:
-        status = weigh(table)
+    names = sys.argv[1:]
+    with open(file, "a" if names else "w", encoding="utf-8") as table:
+        status = weigh(table, names)
     show(file)
     return status
 

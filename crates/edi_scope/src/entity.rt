@@ -1,5 +1,9 @@
 //! What a name can mean, and why a declaration is refused.
 
+ghost use Rattle.std.specs.Prelude.{◌≡◌};
+ghost use Rattle.edi_scope.specs.declared.entity.ScopeFault.TheVariants as fault;
+
+use std::alloc::AllocError;
 use thiserror::Error;
 
 /// What a name means.
@@ -43,4 +47,12 @@ pub enum ScopeFault {
     /// There was no memory for it.
     #[error("no memory")]
     NoMemory,
+}
+
+impl From<AllocError> for ScopeFault {
+    ghost from_gives = { λ _ e. e ≡ fault.NoMemory };
+
+    fn from(_error: AllocError) -> Self {
+        ScopeFault::NoMemory
+    }
 }

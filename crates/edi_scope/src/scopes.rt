@@ -142,10 +142,8 @@ impl Scopes {
         let Some(entity) = self.look(name) else {
             unreachable!()
         };
-        match self.give_outside(alloc, name, entity) {
-            Ok(()) => Ok(()),
-            Err(_) => Err(ScopeFault::NoMemory),
-        }
+        self.give_outside(alloc, name, entity)?;
+        Ok(())
     }
 
     /// Declares the name in the scope round the innermost, and, where it is exported, in the scope
@@ -175,10 +173,8 @@ impl Scopes {
         if exported {
             return self.declare_beyond(alloc, name, entity);
         }
-        match self.add_at(alloc, 1, name, entity) {
-            Ok(()) => Ok(()),
-            Err(_) => Err(ScopeFault::NoMemory),
-        }
+        self.add_at(alloc, 1, name, entity)?;
+        Ok(())
     }
 
     /// Declares the name, which the scope round the innermost has not, there and in the scope round it.
@@ -197,13 +193,9 @@ impl Scopes {
         if self.has_beyond(name) {
             return Err(ScopeFault::Ambiguous);
         }
-        match self.add_at(alloc, 1, name, entity) {
-            Ok(()) => match self.add_at(alloc, 2, name, entity) {
-                Ok(()) => Ok(()),
-                Err(_) => Err(ScopeFault::NoMemory),
-            },
-            Err(_) => Err(ScopeFault::NoMemory),
-        }
+        self.add_at(alloc, 1, name, entity)?;
+        self.add_at(alloc, 2, name, entity)?;
+        Ok(())
     }
 
     /// Declares the name in the scope round the one round the innermost, which is that of a module.
@@ -224,10 +216,8 @@ impl Scopes {
         if self.has_beyond(name) {
             return Err(ScopeFault::Ambiguous);
         }
-        match self.add_at(alloc, 2, name, entity) {
-            Ok(()) => Ok(()),
-            Err(_) => Err(ScopeFault::NoMemory),
-        }
+        self.add_at(alloc, 2, name, entity)?;
+        Ok(())
     }
 
     /// What the name means: its entity in the innermost scope that has it, and `None` exactly where

@@ -2,7 +2,7 @@ use Rattle.std.proofs.Common.{◌<◌, length, sym, subst, arith}
 use Rattle.edi_scope.proofs.Rounds.{length-with_name_at}
 use Rattle.edi_scope.proofs.scopes.Scopes.declare_beyond.Goals as goal
 
-pub add_at-requires-in-Ok-clause-inside : goal.add_at-requires-in-Ok-clause-inside
-add_at-requires-in-Ok-clause-inside c =
-    subst (λ s. 2 < length s) (sym c.in-Ok.ensures.ok)
+pub add_at-requires-2-clause-inside : goal.add_at-requires-2-clause-inside
+add_at-requires-2-clause-inside c =
+    subst (λ s. 2 < length s) (sym c.in_ok-add_at.ensures.ok)
     (omega (arith, c.has_beyond.ensures.beyond, length-with_name_at 1 c.args.name.now c.args.entity c.args.self.now))
