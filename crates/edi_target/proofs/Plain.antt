@@ -1,6 +1,6 @@
 -- Instructions whose operands may be any.
 use Rattle.std.proofs.Common.{◌≡◌, ℕ, ℤ, true, ◌&&◌, List, Bor, refl}
-use Rattle.edi_target.specs.Op.{is_allowed}
+use Rattle.edi_target.specs.Op.{is_allowed, has_integers}
 use Rattle.edi_target.specs.View.{instruction_of, is_whole}
 use Rattle.edi_target.specs.declared.op.Op.{Op}
 use Rattle.edi_target.specs.declared.op.Op.TheVariants as code
@@ -36,3 +36,12 @@ plain (code.Proc x y) _ _ _ _ _ _ _ _ _ _ _ n _ _ = absurd (n x y refl)
 plain (code.Return x y) _ _ _ _ _ _ _ _ _ _ _ _ n _ = absurd (n x y refl)
 plain (code.Cobegin x w) _ _ _ _ _ _ _ _ _ _ _ _ _ n = absurd (n x w refl)
 plain _ _ _ _ _ _ _ _ _ _ _ _ _ _ _ = refl
+
+-- only an INDEX and a CHECK have integers
+pub no_integers : (op : Op)
+    → ((x : ℤ) (y : ℤ) (z : ℕ) (w : ℕ) → op ≡ code.Index x y z w → ⊥)
+    → ((x : ℤ) (y : ℤ) (z : ℕ) → op ≡ code.Check x y z → ⊥)
+    → has_integers (instruction_of op) ≡ true
+no_integers (code.Index x y z w) n _ = absurd (n x y z w refl)
+no_integers (code.Check x y z) _ n = absurd (n x y z refl)
+no_integers _ _ _ = refl

@@ -2,7 +2,7 @@
 use Rattle.std.proofs.Common.{◌≡◌, ℕ, zero, suc, ◌+◌, ◌-◌, ◌*◌, ◌^◌, ◌<◌, ◌≤◌, ℤ, pos, negsuc, Bool, true, false, ◌&&◌, List, [], ◌∷◌, ◌++◌, Option, Some}
 use Rattle.std.proofs.Common.{None, length, take, drop, refl, ap, sym, ◌∙◌, subst, arith, length-append, length-drop, ◌⊎◌, get_or, Fits}
 use Rattle.std.proofs.Math.Seq.{take-append_seam, take-length}
-use Rattle.std.specs.Prelude.{FitsSigned, nat_lt, if◌then◌else◌, slice_get}
+use Rattle.std.specs.Prelude.{FitsSigned, IfSome, nat_lt, if◌then◌else◌, slice_get}
 use Rattle.std.specs.Int.{w16}
 use mir.Val.{sel}
 use Rattle.std.proofs.lemmas.Option.{slice_get_past}
@@ -17,6 +17,7 @@ use Rattle.edi_target.specs.Op.{not_, eq, ne, lt, le, gt, ge, union, minus, meet
 use Rattle.edi_target.specs.Op.{return, halt, when, retry, done, cobegin, exit, quiet}
 use Rattle.edi_target.specs.Decode.{Reads, Row, AreWords, rows, no_operands, one_word, two_words, three_words, four_words, five_words, one_target}
 use Rattle.edi_target.specs.Decode.{counted_text, counted_branches, branches_of, shaped, if_allowed, decode}
+use Rattle.edi_target.proofs.Stands.{shaped_long}
 
 -- ---- operands
 
@@ -445,6 +446,23 @@ shaped_spelled [] w = tt
 shaped_spelled (number ∷ words) w =
     let none : zero + number ≡ number = omega arith in
     subst (λ (j : ℕ). Spelled (j ∷ words) (shaped (number ∷ words))) none (picked 0 number rows words rows_sound (rest_words number words w))
+
+-- what was read has a word at least, and ends inside the words
+shaped_within : (words : List ℕ) (op : Instruction) (n : ℕ) → AreWords words → Some (op, n) ≡ shaped words → (0 < n) × (n ≤ length words)
+unfolding Spelled
+shaped_within words op n w e =
+    let s : Spelled words (Some (op, n)) = subst (Spelled words) (sym e) (shaped_spelled words w) in
+    let long : (0 < length words) × (0 < n) =
+    subst (λ (x : Option (Instruction × ℕ)). IfSome x (λ found. (0 < length words) × (0 < found.1))) (sym e) (shaped_long words) in
+    let all : length words ≡ length (words_of op) + length (drop n words) = ap length s.0 ∙ length-append (words_of op) (drop n words) in
+    (long.1, omega (arith, all, s.1))
+
+-- what was read at an address ends behind it, and inside the words
+pub ends_there : (words rest : List ℕ) (at : ℕ) (op : Instruction) (n : ℕ) → AreWords words → at ≤ length words → rest ≡ drop at words
+    → Some (op, n) ≡ shaped rest → (at < at + n) × (at + n ≤ length words)
+ends_there words rest at op n w l e s =
+    let h = shaped_within (drop at words) op n (All-drop (λ word. word < 2 ^ 16) at words w) (s ∙ ap shaped e) in
+    (omega (arith, h.0), omega (arith, h.1, length-drop at words))
 
 -- where an instruction was read, and its operands are allowed, it stands
 pub shaped_reads : (words : List ℕ) (at : ℕ) (op : Instruction) (n : ℕ) → AreWords words → shaped (drop at words) ≡ Some (op, n) → is_allowed op ≡ true

@@ -206,7 +206,7 @@ all_long = (
   ),
 )
 
-shaped_long : (words : List ℕ) → IfSome (shaped words) (λ found. (0 < length words) × (0 < found.1))
+pub shaped_long : (words : List ℕ) → IfSome (shaped words) (λ found. (0 < length words) × (0 < found.1))
 shaped_long [] = tt
 shaped_long (number ∷ ws) = of_row (slice_get rows number) (row_at rows all_long number)
   where

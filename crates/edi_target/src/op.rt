@@ -9,7 +9,7 @@ ghost use Rattle.edi_target.specs.Decode.{branches_of};
 ///
 /// A `level` is the number of static links to follow, at most 64. A `line` is the line of the program's text to which a
 /// failure belongs. A `target` is a code address.
-#[derive(Clone, Copy, Debug, PartialEq, Eq)]
+#[derive(Clone, Copy)]
 pub enum Op<'a> {
     /// Pushes a word.
     Const {

@@ -21,8 +21,6 @@ fn data_op<'a>(number: u16, operands: &'a [u16]) -> Option<(Op<'a>, u32)>
     requires { number ≤ 8 }
     ensures gives { Shows result (shaped (number ∷ operands.now)) }
     ensures whole { IfSome result (λ r. IsTrue (is_whole r.0)) }
-    ensures within { IfSome result (λ r. r.1 ≤ length operands.now + 1) }
-    ensures long { IfSome result (λ r. 0 < r.1) }
 {
     match number {
         0 => None,
@@ -81,8 +79,6 @@ fn arithmetic_op<'a>(number: u16, operands: &'a [u16]) -> Option<(Op<'a>, u32)>
     requires high { number ≤ 17 }
     ensures gives { Shows result (shaped (number ∷ operands.now)) }
     ensures whole { IfSome result (λ r. IsTrue (is_whole r.0)) }
-    ensures within { IfSome result (λ r. r.1 ≤ length operands.now + 1) }
-    ensures long { IfSome result (λ r. 0 < r.1) }
 {
     match number {
         9 => match *operands {
@@ -128,8 +124,6 @@ fn comparison_op<'a>(number: u16, operands: &'a [u16]) -> Option<(Op<'a>, u32)>
     requires high { number ≤ 25 }
     ensures gives { Shows result (shaped (number ∷ operands.now)) }
     ensures whole { IfSome result (λ r. IsTrue (is_whole r.0)) }
-    ensures within { IfSome result (λ r. r.1 ≤ length operands.now + 1) }
-    ensures long { IfSome result (λ r. 0 < r.1) }
 {
     match number {
         18 => Some((Op::Lt, 1)),
@@ -150,8 +144,6 @@ fn jump_op<'a>(number: u16, operands: &'a [u16]) -> Option<(Op<'a>, u32)>
     requires high { number ≤ 32 }
     ensures gives { Shows result (shaped (number ∷ operands.now)) }
     ensures whole { IfSome result (λ r. IsTrue (is_whole r.0)) }
-    ensures within { IfSome result (λ r. r.1 ≤ length operands.now + 1) }
-    ensures long { IfSome result (λ r. 0 < r.1) }
 {
     match number {
         26 => match *operands {
@@ -224,8 +216,6 @@ fn block_op<'a>(number: u16, operands: &'a [u16]) -> Option<(Op<'a>, u32)>
     requires high { number ≤ 38 }
     ensures gives { Shows result (shaped (number ∷ operands.now)) }
     ensures whole { IfSome result (λ r. IsTrue (is_whole r.0)) }
-    ensures within { IfSome result (λ r. r.1 ≤ length operands.now + 1) }
-    ensures long { IfSome result (λ r. 0 < r.1) }
 {
     match number {
         33 => match *operands {
@@ -290,8 +280,6 @@ fn process_op<'a>(number: u16, operands: &'a [u16]) -> Option<(Op<'a>, u32)>
     requires { 39 ≤ number }
     ensures gives { Shows result (shaped (number ∷ operands.now)) }
     ensures whole { IfSome result (λ r. IsTrue (is_whole r.0)) }
-    ensures within { IfSome result (λ r. r.1 ≤ length operands.now + 1) }
-    ensures long { IfSome result (λ r. 0 < r.1) }
 {
     match number {
         39 => match *operands {
@@ -337,8 +325,6 @@ fn process_op<'a>(number: u16, operands: &'a [u16]) -> Option<(Op<'a>, u32)>
 fn op_at(words: &[u16]) -> Option<(Op<'_>, u32)>
     ensures gives { Shows result (shaped words.now) }
     ensures whole { IfSome result (λ r. IsTrue (is_whole r.0)) }
-    ensures within { IfSome result (λ r. r.1 ≤ length words.now) }
-    ensures long { IfSome result (λ r. 0 < r.1) }
 {
     let [number, operands @ ..] = words else {
         return None;

@@ -1,7 +1,7 @@
 //! How instructions are written.
 
 ghost use Rattle.std.specs.Prelude.{◌≡◌, ◌&&◌, ℕ, ◌+◌, ◌<◌, ◌^◌, ◌/◌, ◌%◌, ◌++◌, List, true, length, vec_len, IsTrue, OnOk, OnErr};
-ghost use Rattle.edi_target.specs.Op.{cobegin, has_integers, high_word, is_allowed, low_word, words_of};
+ghost use Rattle.edi_target.specs.Op.{cobegin, has_integers, high_word, is_allowed, is_integer, low_word, words_of};
 ghost use Rattle.edi_target.specs.Decode.{Reads, branches_of};
 ghost use Rattle.edi_target.specs.View.{instruction_of, is_whole};
 
@@ -43,10 +43,33 @@ fn append_cobegin(words: &mut Vec<u16>, line: u16, branches: &[u16]) -> Result<(
     append(words, &[42, (branches.len() / 3) as u16, line], branches)
 }
 
+// A word can hold this integer. It does nothing, and neither does the next.
 #[tactic(auto, using(crate::proofs::Branches::integer_fits))]
+fn integer_fits(integer: i16)
+    ensures { is_integer integer ≡ true }
+{
+    let _ = integer;
+}
+
+// A word can hold each bound of an INDEX or a CHECK.
+fn integers_fit(op: &Op<'_>)
+    ensures { has_integers (instruction_of op.now) ≡ true }
+{
+    match *op {
+        Op::Index { low, high, .. } => {
+            integer_fits(low);
+            integer_fits(high);
+        }
+        Op::Check { low, high, .. } => {
+            integer_fits(low);
+            integer_fits(high);
+        }
+        _ => {}
+    }
+}
+
 fn append_op(words: &mut Vec<u16>, op: &Op<'_>) -> Result<(), AllocError>
     requires { IsTrue (is_whole op.now && is_allowed (instruction_of op.now)) }
-    ensures integers { has_integers (instruction_of op.now) ≡ true }
     ensures ok { OnOk result (words.new.items ≡ words.old.items ++ words_of (instruction_of op.now)) }
     ensures err { OnErr result (words.new.items ≡ words.old.items) }
 {
@@ -138,5 +161,6 @@ pub fn write_op(alloc: Global, words: &mut Vec<u16>, op: &Op<'_>) -> Result<(), 
     ensures again { OnOk result ((rest : List ℕ) → Reads (words.new.items ++ rest) (length words.old.items) (instruction_of op.now) (length words.new.items)) }
 {
     let _ = alloc;
+    integers_fit(op);
     append_op(words, op)
 }
