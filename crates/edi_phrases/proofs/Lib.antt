@@ -2,3 +2,4 @@ pub mod Symbols
 pub mod Moves
 pub mod Fronts
 pub mod Pushes
+pub mod Opened

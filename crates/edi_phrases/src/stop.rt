@@ -26,7 +26,6 @@ use std::alloc::{AllocError, AllocFailed};
 pub const LEVELS: u16 = 64;
 
 /// Where the parser stops before the end of a part.
-#[derive(Debug)]
 pub enum Stop<'a> {
     /// The first of these marks, or the end of the text, may not stand here.
     Fault(&'a [Mark]),

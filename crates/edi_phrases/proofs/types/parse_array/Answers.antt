@@ -1,188 +1,126 @@
-use Rattle.std.proofs.Common.{◌∷◌, [], ap, refl, arith}
+use Rattle.std.proofs.Common.{◌≡◌, ℕ, ◌+◌, ◌<◌, List, [], ◌∷◌, ap, refl, arith}
 use Rattle.std.proofs.lemmas.Result.{err_from_is_err_and}
 use Rattle.edi_lex.specs.declared.symbol.Symbol.TheVariants as is
+use Rattle.edi_lex.specs.declared.symbol.Mark.{Mark}
+use Rattle.edi_tree.specs.declared.names.Name.{Name}
 use Rattle.edi_tree.specs.Spelled.{on, just, name_mark}
+use Rattle.edi_tree.specs.Levels.{Element, word, kept, named, level_end}
 use Rattle.edi_grammar.specs.Grammar as item
-use Rattle.edi_grammar.specs.Grammar.{token, part}
+use Rattle.edi_grammar.specs.Grammar.{Part, token, part}
 use Rattle.edi_grammar.specs.Parser.{rule_at}
+use Rattle.edi_grammar.specs.Kind.{front}
 use Rattle.edi_grammar.specs.Kinds as kind
 use Rattle.edi_grammar.specs.Rules as g
+use Rattle.edi_grammar.specs.Rules.{Sort}
 use Rattle.edi_grammar.specs.Edison.{edison}
 use Rattle.edi_phrases.specs.Words.{at_line}
+use Rattle.edi_phrases.specs.Parses.{Goes, Passes}
 use Rattle.edi_phrases.proofs.Moves.{waits, over_mark, over_open, over_end, over_part, into, lacks, refused, halts}
+use Rattle.edi_phrases.proofs.Opened.{headed, opened}
 use Rattle.edi_phrases.proofs.types.parse_array.Goals as goal
 
+abbrev inner : List (Part Sort)
+inner = token kind.Open ∷ token kind.Name ∷ token kind.Close ∷ item.level_end ∷ []
+
+abbrev range : List (Part Sort)
+range = part g.Constant ∷ token kind.Colon ∷ part g.Constant ∷ token kind.CloseBracket ∷ item.level_end ∷ inner
+
+-- the rule is taken
+begun : (n : ℕ) (p : List Mark) → front p ≡ kind.Array → Goes g.TypeDecl n (λ es. es) (token kind.Array ∷ token kind.Name ∷ token kind.OpenBracket ∷ range) p p
+begun n p chosen = into (token kind.Array ∷ token kind.Name ∷ token kind.OpenBracket ∷ range) (waits g.TypeDecl n p)
+    (ap (λ a. rule_at edison g.TypeDecl a) chosen)
+
+-- behind the bracket
+within : {n i line : ℕ} {p q r t : List Mark} (name : Name) → front p ≡ kind.Array → p ≡ at_line is.Array i ∷ q
+    → q ≡ at_line (is.Name name.text) name.line ∷ r → r ≡ at_line is.OpenBracket line ∷ t → n < 64
+    → Goes g.TypeDecl n (λ es. word is.Array ∷ named name ∷ kept is.OpenBracket line ∷ es) range p t
+within {n = n} {line = line} {p = p} name chosen here behind bracket room = opened is.Array is.OpenBracket name (on is.OpenBracket line) (begun n p chosen)
+    refl here
+    behind bracket (omega (arith, room)) (refl, refl)
+
+-- before the upper bound
+above : {n i : ℕ} {f lower : List Element → List Element} {p q r t : List Mark} → Goes g.TypeDecl n f range p q → Passes g.Constant (n + 1) lower q r
+    → r ≡ at_line is.Colon i ∷ t → Goes g.TypeDecl n (λ es. f (lower (word is.Colon ∷ es)))
+    (part g.Constant ∷ token kind.CloseBracket ∷ item.level_end ∷ inner) p t
+above {i = i} go low colon = over_mark (just is.Colon) (at_line is.Colon i) (over_part go low (omega arith)) colon refl refl (refl, tt)
+
+-- behind the range
+ranged : {n i : ℕ} {f upper : List Element → List Element} {p q r t : List Mark}
+    → Goes g.TypeDecl n f (part g.Constant ∷ token kind.CloseBracket ∷ item.level_end ∷ inner) p q → Passes g.Constant (n + 1) upper q r
+    → r ≡ at_line is.CloseBracket i ∷ t → Goes g.TypeDecl n (λ es. f (upper (word is.CloseBracket ∷ level_end ∷ es))) inner p t
+ranged {i = i} go high close = over_end (over_mark (just is.CloseBracket) (at_line is.CloseBracket i) (over_part go high (omega arith)) close refl refl
+    (refl, tt))
+
+-- behind the name of the elements' type
+typed : {n i : ℕ} {f : List Element → List Element} {p q r t : List Mark} (name : Name) → Goes g.TypeDecl n f inner p q → q ≡ at_line is.Open i ∷ r → n < 64
+    → r ≡ at_line (is.Name name.text) name.line ∷ t → Goes g.TypeDecl n (λ es. f (word is.Open ∷ named name ∷ es)) (token kind.Close ∷ item.level_end ∷ []) p t
+typed {i = i} name go bracket room element = over_mark (name_mark name) (at_line (is.Name name.text) name.line)
+    (over_open (just is.Open) (at_line is.Open i) go bracket refl (omega (arith, room)) (refl, tt)) element refl refl (refl, refl)
+
 pub returns-in_err-behind_array-clause-halts : goal.returns-in_err-behind_array-clause-halts
-returns-in_err-behind_array-clause-halts c = let p = err_from_is_err_and c.from_residual.result
-    c.from_residual.ensures.1 in rw (p.1, p.2)
-    (lacks (into (token kind.Array ∷ token kind.Name ∷ token kind.OpenBracket ∷ part g.Constant ∷ token kind.Colon
-    ∷ part g.Constant ∷ token kind.CloseBracket ∷ item.level_end ∷ token kind.Open ∷ token kind.Name
-    ∷ token kind.Close ∷ item.level_end ∷ []) (waits g.TypeDecl _ _)
-    (ap (λ a. rule_at edison g.TypeDecl a) c.requires.chosen)) c.in_err-behind_array.ensures.none)
+returns-in_err-behind_array-clause-halts c = let p = err_from_is_err_and c.from_residual.result c.from_residual.ensures.1 in rw (p.1, p.2)
+    (lacks (begun c.args.level c.args.marks.now c.requires.chosen) c.in_err-behind_array.ensures.none)
 
 pub returns-in_err-name-clause-halts : goal.returns-in_err-name-clause-halts
-returns-in_err-name-clause-halts c = let p = err_from_is_err_and c.from_residual-in_err-name.result
-    c.from_residual-in_err-name.ensures.1 in rw (p.1, p.2)
-    (lacks (over_mark (just is.Array) (at_line is.Array c.in_ok-behind_array.field-0-0)
-    (into (token kind.Array ∷ token kind.Name ∷ token kind.OpenBracket ∷ part g.Constant ∷ token kind.Colon
-    ∷ part g.Constant ∷ token kind.CloseBracket ∷ item.level_end ∷ token kind.Open ∷ token kind.Name
-    ∷ token kind.Close ∷ item.level_end ∷ []) (waits g.TypeDecl _ _)
-    (ap (λ a. rule_at edison g.TypeDecl a) c.requires.chosen)) c.in_ok-behind_array.ensures.found refl refl
-    (refl, tt)) c.in_err-name.ensures.none)
+returns-in_err-name-clause-halts c = let p = err_from_is_err_and c.from_residual-in_err-name.result c.from_residual-in_err-name.ensures.1 in rw (p.1, p.2)
+    (lacks (over_mark (just is.Array) (at_line is.Array c.in_ok-behind_array.field-0-0) (begun c.args.level c.args.marks.now c.requires.chosen)
+    c.in_ok-behind_array.ensures.found refl refl (refl, tt)) c.in_err-name.ensures.none)
 
 pub returns-in_err-line-clause-halts : goal.returns-in_err-line-clause-halts
-returns-in_err-line-clause-halts c = let p = err_from_is_err_and c.from_residual-in_err-line.result
-    c.from_residual-in_err-line.ensures.1 in rw (p.1, p.2)
-    (refused (over_mark (name_mark c.in_ok-name.name) (at_line (is.Name c.in_ok-name.name.text) c.in_ok-name.name.line)
-    (over_mark (just is.Array) (at_line is.Array c.in_ok-behind_array.field-0-0)
-    (into (token kind.Array ∷ token kind.Name ∷ token kind.OpenBracket ∷ part g.Constant ∷ token kind.Colon
-    ∷ part g.Constant ∷ token kind.CloseBracket ∷ item.level_end ∷ token kind.Open ∷ token kind.Name
-    ∷ token kind.Close ∷ item.level_end ∷ []) (waits g.TypeDecl _ _)
-    (ap (λ a. rule_at edison g.TypeDecl a) c.requires.chosen)) c.in_ok-behind_array.ensures.found refl refl
-    (refl, tt)) c.in_ok-name.ensures.found refl refl (refl, refl)) refl (omega arith) c.in_err-line.ensures.none)
+returns-in_err-line-clause-halts c = let p = err_from_is_err_and c.from_residual-in_err-line.result c.from_residual-in_err-line.ensures.1 in rw (p.1, p.2)
+    (refused (headed is.Array c.in_ok-name.name (begun c.args.level c.args.marks.now c.requires.chosen) refl c.in_ok-behind_array.ensures.found
+    c.in_ok-name.ensures.found) refl (omega arith) c.in_err-line.ensures.none)
 
 pub returns-in_err-lower-clause-halts : goal.returns-in_err-lower-clause-halts
-returns-in_err-lower-clause-halts c = let p = err_from_is_err_and c.from_residual-in_err-lower.result
-    c.from_residual-in_err-lower.ensures.1
-    in rw (p.1, p.2) (halts (over_open (on is.OpenBracket c.in_ok-line.line) (at_line is.OpenBracket c.in_ok-line.line)
-    (over_mark (name_mark c.in_ok-name.name) (at_line (is.Name c.in_ok-name.name.text) c.in_ok-name.name.line)
-    (over_mark (just is.Array) (at_line is.Array c.in_ok-behind_array.field-0-0)
-    (into (token kind.Array ∷ token kind.Name ∷ token kind.OpenBracket ∷ part g.Constant ∷ token kind.Colon
-    ∷ part g.Constant ∷ token kind.CloseBracket ∷ item.level_end ∷ token kind.Open ∷ token kind.Name
-    ∷ token kind.Close ∷ item.level_end ∷ []) (waits g.TypeDecl _ _)
-    (ap (λ a. rule_at edison g.TypeDecl a) c.requires.chosen)) c.in_ok-behind_array.ensures.found refl refl
-    (refl, tt)) c.in_ok-name.ensures.found refl refl (refl, refl)) c.in_ok-line.ensures.found refl
-    (omega (arith, c.in_ok-line.ensures.room)) (refl, refl)) (omega arith) c.in_err-lower.ensures.halts)
+returns-in_err-lower-clause-halts c = let p = err_from_is_err_and c.from_residual-in_err-lower.result c.from_residual-in_err-lower.ensures.1 in rw (p.1, p.2)
+    (halts (within c.in_ok-name.name c.requires.chosen c.in_ok-behind_array.ensures.found c.in_ok-name.ensures.found c.in_ok-line.ensures.found
+    c.in_ok-line.ensures.room) (omega arith) c.in_err-lower.ensures.halts)
 
 pub returns-in_err-behind_colon-clause-halts : goal.returns-in_err-behind_colon-clause-halts
 returns-in_err-behind_colon-clause-halts c = let p = err_from_is_err_and c.from_residual-in_err-behind_colon.result
-    c.from_residual-in_err-behind_colon.ensures.1
-    in rw (p.1, p.2) (lacks (over_part (over_open (on is.OpenBracket c.in_ok-line.line)
-    (at_line is.OpenBracket c.in_ok-line.line)
-    (over_mark (name_mark c.in_ok-name.name) (at_line (is.Name c.in_ok-name.name.text) c.in_ok-name.name.line)
-    (over_mark (just is.Array) (at_line is.Array c.in_ok-behind_array.field-0-0)
-    (into (token kind.Array ∷ token kind.Name ∷ token kind.OpenBracket ∷ part g.Constant ∷ token kind.Colon
-    ∷ part g.Constant ∷ token kind.CloseBracket ∷ item.level_end ∷ token kind.Open ∷ token kind.Name
-    ∷ token kind.Close ∷ item.level_end ∷ []) (waits g.TypeDecl _ _)
-    (ap (λ a. rule_at edison g.TypeDecl a) c.requires.chosen)) c.in_ok-behind_array.ensures.found refl refl
-    (refl, tt)) c.in_ok-name.ensures.found refl refl (refl, refl)) c.in_ok-line.ensures.found refl
-    (omega (arith, c.in_ok-line.ensures.room)) (refl, refl)) c.in_ok-lower.ensures.passes (omega arith))
-    c.in_err-behind_colon.ensures.none)
+    c.from_residual-in_err-behind_colon.ensures.1 in rw (p.1, p.2)
+    (lacks (over_part (within c.in_ok-name.name c.requires.chosen c.in_ok-behind_array.ensures.found c.in_ok-name.ensures.found c.in_ok-line.ensures.found
+    c.in_ok-line.ensures.room) c.in_ok-lower.ensures.passes (omega arith)) c.in_err-behind_colon.ensures.none)
 
 pub returns-in_err-upper-clause-halts : goal.returns-in_err-upper-clause-halts
-returns-in_err-upper-clause-halts c = let p = err_from_is_err_and c.from_residual-in_err-upper.result
-    c.from_residual-in_err-upper.ensures.1
-    in rw (p.1, p.2) (halts (over_mark (just is.Colon) (at_line is.Colon c.in_ok-behind_colon.field-0-0)
-    (over_part (over_open (on is.OpenBracket c.in_ok-line.line) (at_line is.OpenBracket c.in_ok-line.line)
-    (over_mark (name_mark c.in_ok-name.name) (at_line (is.Name c.in_ok-name.name.text) c.in_ok-name.name.line)
-    (over_mark (just is.Array) (at_line is.Array c.in_ok-behind_array.field-0-0)
-    (into (token kind.Array ∷ token kind.Name ∷ token kind.OpenBracket ∷ part g.Constant ∷ token kind.Colon
-    ∷ part g.Constant ∷ token kind.CloseBracket ∷ item.level_end ∷ token kind.Open ∷ token kind.Name
-    ∷ token kind.Close ∷ item.level_end ∷ []) (waits g.TypeDecl _ _)
-    (ap (λ a. rule_at edison g.TypeDecl a) c.requires.chosen)) c.in_ok-behind_array.ensures.found refl refl
-    (refl, tt)) c.in_ok-name.ensures.found refl refl (refl, refl)) c.in_ok-line.ensures.found refl
-    (omega (arith, c.in_ok-line.ensures.room)) (refl, refl)) c.in_ok-lower.ensures.passes (omega arith))
-    c.in_ok-behind_colon.ensures.found refl refl (refl, tt)) (omega arith) c.in_err-upper.ensures.halts)
+returns-in_err-upper-clause-halts c = let p = err_from_is_err_and c.from_residual-in_err-upper.result c.from_residual-in_err-upper.ensures.1 in rw (p.1, p.2)
+    (halts (above (within c.in_ok-name.name c.requires.chosen c.in_ok-behind_array.ensures.found c.in_ok-name.ensures.found c.in_ok-line.ensures.found
+    c.in_ok-line.ensures.room) c.in_ok-lower.ensures.passes c.in_ok-behind_colon.ensures.found) (omega arith) c.in_err-upper.ensures.halts)
 
 pub returns-in_err-behind_range-clause-halts : goal.returns-in_err-behind_range-clause-halts
 returns-in_err-behind_range-clause-halts c = let p = err_from_is_err_and c.from_residual-in_err-behind_range.result
-    c.from_residual-in_err-behind_range.ensures.1
-    in rw (p.1, p.2) (lacks (over_part (over_mark (just is.Colon) (at_line is.Colon c.in_ok-behind_colon.field-0-0)
-    (over_part (over_open (on is.OpenBracket c.in_ok-line.line) (at_line is.OpenBracket c.in_ok-line.line)
-    (over_mark (name_mark c.in_ok-name.name)
-    (at_line (is.Name c.in_ok-name.name.text) c.in_ok-name.name.line)
-    (over_mark (just is.Array) (at_line is.Array c.in_ok-behind_array.field-0-0)
-    (into (token kind.Array ∷ token kind.Name ∷ token kind.OpenBracket ∷ part g.Constant ∷ token kind.Colon
-    ∷ part g.Constant ∷ token kind.CloseBracket ∷ item.level_end ∷ token kind.Open ∷ token kind.Name
-    ∷ token kind.Close ∷ item.level_end ∷ []) (waits g.TypeDecl _ _)
-    (ap (λ a. rule_at edison g.TypeDecl a) c.requires.chosen)) c.in_ok-behind_array.ensures.found refl refl
-    (refl, tt)) c.in_ok-name.ensures.found refl refl (refl, refl)) c.in_ok-line.ensures.found refl
-    (omega (arith, c.in_ok-line.ensures.room)) (refl, refl)) c.in_ok-lower.ensures.passes (omega arith))
-    c.in_ok-behind_colon.ensures.found refl refl (refl, tt)) c.in_ok-upper.ensures.passes (omega arith))
-    c.in_err-behind_range.ensures.none)
+    c.from_residual-in_err-behind_range.ensures.1 in rw (p.1, p.2)
+    (lacks (over_part (above (within c.in_ok-name.name c.requires.chosen c.in_ok-behind_array.ensures.found c.in_ok-name.ensures.found
+    c.in_ok-line.ensures.found c.in_ok-line.ensures.room) c.in_ok-lower.ensures.passes c.in_ok-behind_colon.ensures.found) c.in_ok-upper.ensures.passes
+    (omega arith)) c.in_err-behind_range.ensures.none)
 
 pub returns-in_err-behind_open-clause-halts : goal.returns-in_err-behind_open-clause-halts
 returns-in_err-behind_open-clause-halts c = let p = err_from_is_err_and c.from_residual-in_err-behind_open.result
-    c.from_residual-in_err-behind_open.ensures.1
-    in rw (p.1, p.2) (refused (over_end (over_mark (just is.CloseBracket)
-    (at_line is.CloseBracket c.in_ok-behind_range.field-0-0)
-    (over_part (over_mark (just is.Colon) (at_line is.Colon c.in_ok-behind_colon.field-0-0)
-    (over_part (over_open (on is.OpenBracket c.in_ok-line.line) (at_line is.OpenBracket c.in_ok-line.line)
-    (over_mark (name_mark c.in_ok-name.name)
-    (at_line (is.Name c.in_ok-name.name.text) c.in_ok-name.name.line)
-    (over_mark (just is.Array) (at_line is.Array c.in_ok-behind_array.field-0-0)
-    (into (token kind.Array ∷ token kind.Name ∷ token kind.OpenBracket ∷ part g.Constant ∷ token kind.Colon
-    ∷ part g.Constant ∷ token kind.CloseBracket ∷ item.level_end ∷ token kind.Open ∷ token kind.Name
-    ∷ token kind.Close ∷ item.level_end ∷ []) (waits g.TypeDecl _ _)
-    (ap (λ a. rule_at edison g.TypeDecl a) c.requires.chosen)) c.in_ok-behind_array.ensures.found refl refl
-    (refl, tt)) c.in_ok-name.ensures.found refl refl (refl, refl)) c.in_ok-line.ensures.found refl
-    (omega (arith, c.in_ok-line.ensures.room)) (refl, refl)) c.in_ok-lower.ensures.passes (omega arith))
-    c.in_ok-behind_colon.ensures.found refl refl (refl, tt)) c.in_ok-upper.ensures.passes (omega arith))
-    c.in_ok-behind_range.ensures.found refl refl (refl, tt))) refl (omega arith)
-    c.in_err-behind_open.ensures.none)
+    c.from_residual-in_err-behind_open.ensures.1 in rw (p.1, p.2)
+    (refused (ranged (above (within c.in_ok-name.name c.requires.chosen c.in_ok-behind_array.ensures.found c.in_ok-name.ensures.found
+    c.in_ok-line.ensures.found c.in_ok-line.ensures.room) c.in_ok-lower.ensures.passes c.in_ok-behind_colon.ensures.found) c.in_ok-upper.ensures.passes
+    c.in_ok-behind_range.ensures.found) refl (omega arith) c.in_err-behind_open.ensures.none)
 
 pub returns-in_err-element-clause-halts : goal.returns-in_err-element-clause-halts
-returns-in_err-element-clause-halts c = let p = err_from_is_err_and c.from_residual-in_err-element.result
-    c.from_residual-in_err-element.ensures.1
-    in rw (p.1, p.2) (lacks (over_open (just is.Open) (at_line is.Open c.in_ok-behind_open.field-0-0)
-    (over_end (over_mark (just is.CloseBracket) (at_line is.CloseBracket c.in_ok-behind_range.field-0-0)
-    (over_part (over_mark (just is.Colon) (at_line is.Colon c.in_ok-behind_colon.field-0-0)
-    (over_part (over_open (on is.OpenBracket c.in_ok-line.line) (at_line is.OpenBracket c.in_ok-line.line)
-    (over_mark (name_mark c.in_ok-name.name)
-    (at_line (is.Name c.in_ok-name.name.text) c.in_ok-name.name.line)
-    (over_mark (just is.Array) (at_line is.Array c.in_ok-behind_array.field-0-0)
-    (into (token kind.Array ∷ token kind.Name ∷ token kind.OpenBracket ∷ part g.Constant ∷ token kind.Colon
-    ∷ part g.Constant ∷ token kind.CloseBracket ∷ item.level_end ∷ token kind.Open ∷ token kind.Name
-    ∷ token kind.Close ∷ item.level_end ∷ []) (waits g.TypeDecl _ _)
-    (ap (λ a. rule_at edison g.TypeDecl a) c.requires.chosen)) c.in_ok-behind_array.ensures.found refl refl
-    (refl, tt)) c.in_ok-name.ensures.found refl refl (refl, refl)) c.in_ok-line.ensures.found refl
-    (omega (arith, c.in_ok-line.ensures.room)) (refl, refl)) c.in_ok-lower.ensures.passes (omega arith))
-    c.in_ok-behind_colon.ensures.found refl refl (refl, tt)) c.in_ok-upper.ensures.passes (omega arith))
-    c.in_ok-behind_range.ensures.found refl refl (refl, tt))) c.in_ok-behind_open.ensures.found refl
-    (omega (arith, c.in_ok-behind_open.ensures.room)) (refl, tt)) c.in_err-element.ensures.none)
+returns-in_err-element-clause-halts c = let p = err_from_is_err_and c.from_residual-in_err-element.result c.from_residual-in_err-element.ensures.1 in
+    rw (p.1, p.2)
+    (lacks (over_open (just is.Open) (at_line is.Open c.in_ok-behind_open.field-0-0)
+    (ranged (above (within c.in_ok-name.name c.requires.chosen c.in_ok-behind_array.ensures.found c.in_ok-name.ensures.found c.in_ok-line.ensures.found
+    c.in_ok-line.ensures.room) c.in_ok-lower.ensures.passes c.in_ok-behind_colon.ensures.found) c.in_ok-upper.ensures.passes
+    c.in_ok-behind_range.ensures.found) c.in_ok-behind_open.ensures.found refl (omega (arith, c.in_ok-behind_open.ensures.room)) (refl, tt))
+    c.in_err-element.ensures.none)
 
 pub returns-in_err-rest-clause-halts : goal.returns-in_err-rest-clause-halts
-returns-in_err-rest-clause-halts c = let p = err_from_is_err_and c.from_residual-in_err-rest.result
-    c.from_residual-in_err-rest.ensures.1 in rw (p.1, p.2)
-    (lacks (over_mark (name_mark c.in_ok-element.element)
-    (at_line (is.Name c.in_ok-element.element.text) c.in_ok-element.element.line)
-    (over_open (just is.Open) (at_line is.Open c.in_ok-behind_open.field-0-0)
-    (over_end (over_mark (just is.CloseBracket) (at_line is.CloseBracket c.in_ok-behind_range.field-0-0)
-    (over_part (over_mark (just is.Colon) (at_line is.Colon c.in_ok-behind_colon.field-0-0)
-    (over_part (over_open (on is.OpenBracket c.in_ok-line.line) (at_line is.OpenBracket c.in_ok-line.line)
-    (over_mark (name_mark c.in_ok-name.name)
-    (at_line (is.Name c.in_ok-name.name.text) c.in_ok-name.name.line)
-    (over_mark (just is.Array) (at_line is.Array c.in_ok-behind_array.field-0-0)
-    (into (token kind.Array ∷ token kind.Name ∷ token kind.OpenBracket ∷ part g.Constant ∷ token kind.Colon
-    ∷ part g.Constant ∷ token kind.CloseBracket ∷ item.level_end ∷ token kind.Open ∷ token kind.Name
-    ∷ token kind.Close ∷ item.level_end ∷ []) (waits g.TypeDecl _ _)
-    (ap (λ a. rule_at edison g.TypeDecl a) c.requires.chosen)) c.in_ok-behind_array.ensures.found refl refl
-    (refl, tt)) c.in_ok-name.ensures.found refl refl (refl, refl)) c.in_ok-line.ensures.found refl
-    (omega (arith, c.in_ok-line.ensures.room)) (refl, refl)) c.in_ok-lower.ensures.passes (omega arith))
-    c.in_ok-behind_colon.ensures.found refl refl (refl, tt)) c.in_ok-upper.ensures.passes (omega arith))
-    c.in_ok-behind_range.ensures.found refl refl (refl, tt))) c.in_ok-behind_open.ensures.found refl
-    (omega (arith, c.in_ok-behind_open.ensures.room)) (refl, tt)) c.in_ok-element.ensures.found refl refl
-    (refl, refl)) c.in_err-rest.ensures.none)
+returns-in_err-rest-clause-halts c = let p = err_from_is_err_and c.from_residual-in_err-rest.result c.from_residual-in_err-rest.ensures.1 in rw (p.1, p.2)
+    (lacks (typed c.in_ok-element.element (ranged
+    (above (within c.in_ok-name.name c.requires.chosen c.in_ok-behind_array.ensures.found c.in_ok-name.ensures.found c.in_ok-line.ensures.found
+    c.in_ok-line.ensures.room) c.in_ok-lower.ensures.passes c.in_ok-behind_colon.ensures.found) c.in_ok-upper.ensures.passes
+    c.in_ok-behind_range.ensures.found) c.in_ok-behind_open.ensures.found c.in_ok-behind_open.ensures.room c.in_ok-element.ensures.found)
+    c.in_err-rest.ensures.none)
 
 pub returns-clause-passes : goal.returns-clause-passes
-returns-clause-passes c = over_end
-    (over_mark (just is.Close) (at_line is.Close c.in_ok-rest.field-0-0)
-    (over_mark (name_mark c.in_ok-element.element)
-    (at_line (is.Name c.in_ok-element.element.text) c.in_ok-element.element.line)
-    (over_open (just is.Open) (at_line is.Open c.in_ok-behind_open.field-0-0)
-    (over_end (over_mark (just is.CloseBracket) (at_line is.CloseBracket c.in_ok-behind_range.field-0-0)
-    (over_part (over_mark (just is.Colon) (at_line is.Colon c.in_ok-behind_colon.field-0-0)
-    (over_part (over_open (on is.OpenBracket c.in_ok-line.line) (at_line is.OpenBracket c.in_ok-line.line)
-    (over_mark (name_mark c.in_ok-name.name)
-    (at_line (is.Name c.in_ok-name.name.text) c.in_ok-name.name.line)
-    (over_mark (just is.Array) (at_line is.Array c.in_ok-behind_array.field-0-0)
-    (into (token kind.Array ∷ token kind.Name ∷ token kind.OpenBracket ∷ part g.Constant ∷ token kind.Colon
-    ∷ part g.Constant ∷ token kind.CloseBracket ∷ item.level_end ∷ token kind.Open ∷ token kind.Name
-    ∷ token kind.Close ∷ item.level_end ∷ []) (waits g.TypeDecl _ _)
-    (ap (λ a. rule_at edison g.TypeDecl a) c.requires.chosen)) c.in_ok-behind_array.ensures.found refl refl
-    (refl, tt)) c.in_ok-name.ensures.found refl refl (refl, refl)) c.in_ok-line.ensures.found refl
-    (omega (arith, c.in_ok-line.ensures.room)) (refl, refl)) c.in_ok-lower.ensures.passes (omega arith))
-    c.in_ok-behind_colon.ensures.found refl refl (refl, tt)) c.in_ok-upper.ensures.passes (omega arith))
-    c.in_ok-behind_range.ensures.found refl refl (refl, tt))) c.in_ok-behind_open.ensures.found refl
-    (omega (arith, c.in_ok-behind_open.ensures.room)) (refl, tt)) c.in_ok-element.ensures.found refl refl
-    (refl, refl)) c.in_ok-rest.ensures.found refl refl (refl, tt))
+returns-clause-passes c = over_end (over_mark (just is.Close) (at_line is.Close c.in_ok-rest.field-0-0)
+    (typed c.in_ok-element.element (ranged (above
+    (within c.in_ok-name.name c.requires.chosen c.in_ok-behind_array.ensures.found c.in_ok-name.ensures.found c.in_ok-line.ensures.found
+    c.in_ok-line.ensures.room) c.in_ok-lower.ensures.passes c.in_ok-behind_colon.ensures.found) c.in_ok-upper.ensures.passes c.in_ok-behind_range.ensures.found)
+    c.in_ok-behind_open.ensures.found c.in_ok-behind_open.ensures.room c.in_ok-element.ensures.found) c.in_ok-rest.ensures.found refl refl (refl, tt))
