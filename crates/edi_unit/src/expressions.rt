@@ -3,7 +3,7 @@
 use crate::lists::List;
 
 /// The operators between two operands.
-#[derive(Clone, Copy, PartialEq, Eq, Debug)]
+#[derive(Clone, Copy)]
 pub enum Operator {
     /// `=`
     Equal,
@@ -36,7 +36,7 @@ pub enum Operator {
 }
 
 /// A procedure or function that is called or passed on. `levels` counts the steps from a block to the block round it.
-#[derive(Clone, Copy, PartialEq, Eq, Debug)]
+#[derive(Clone, Copy)]
 pub enum Callee {
     /// The block of this number, which is declared in the block that is `levels` steps out.
     Block { levels: u32, block: u32 },

@@ -5,7 +5,7 @@ use crate::statements::Acts;
 use crate::types::{Numbers, TypeTable};
 
 /// What a block belongs to.
-#[derive(Clone, Copy, PartialEq, Eq, Debug)]
+#[derive(Clone, Copy)]
 pub enum BlockKind {
     /// The program.
     Program,
@@ -18,7 +18,7 @@ pub enum BlockKind {
 }
 
 /// A parameter of a block.
-#[derive(Clone, Copy, PartialEq, Eq, Debug)]
+#[derive(Clone, Copy)]
 pub enum Parameter {
     /// A value parameter of this type.
     Value(u32),
