@@ -1,4 +1,4 @@
-use Rattle.std.proofs.Common.{rules, ◌∷◌, ◌∙◌, [], map, ap, refl, sym, arith}
+use Rattle.std.proofs.Common.{rules, ◌∷◌, ◌∙◌, [], map, ap, refl, sym, arith, ◌≡◌, Some}
 use Rattle.std.proofs.lemmas.Result.{err_from_is_err_and}
 use Rattle.std.proofs.lemmas.Bool.{ne_eqb, eqb-true}
 use Rattle.edi_lex.specs.declared.symbol.Symbol.TheVariants as is
@@ -13,13 +13,41 @@ use Rattle.edi_grammar.specs.Kind.{front}
 use Rattle.edi_grammar.specs.Rules as g
 use Rattle.edi_grammar.specs.Edison.{edison}
 use Rattle.edi_phrases.specs.Words.{at_line}
-use Rattle.edi_phrases.proofs.Moves.{waits, over_mark, over_open, over_end, over_part, into, written, lacks, refused, halts}
+use Rattle.edi_phrases.proofs.Moves.{waits, over_mark, over_end, over_part, into, written, lacks, refused, halts}
+use Rattle.edi_phrases.proofs.Opened.{over_front, open_front}
 use Rattle.std.proofs.lemmas.Int.{to_z-of_z}
 use mir.Syntax.{w16}
 use Rattle.edi_phrases.proofs.Fronts.{apart}
 use Rattle.edi_expressions.proofs.Pushes as push
 use Rattle.edi_expressions.proofs.Operators as ops
 use Rattle.edi_expressions.proofs.expressions.+expression.Goals as goal
+
+selector_openbracket : rule_at edison g.Selector kind.OpenBracket ≡ Some (token kind.OpenBracket ∷ part g.Expr ∷ token kind.CloseBracket ∷ item.level_end ∷ [])
+selector_openbracket = refl
+
+selector_period : rule_at edison g.Selector kind.Period ≡ Some (token kind.Period ∷ token kind.Name ∷ [])
+selector_period = refl
+
+exprs_comma : rule_at edison g.Exprs kind.Comma ≡ Some (token kind.Comma ∷ part g.Expr ∷ part g.Exprs ∷ [])
+exprs_comma = refl
+
+args_open : rule_at edison g.Args kind.Open ≡ Some (token kind.Open ∷ part g.Expr ∷ part g.Exprs ∷ token kind.Close ∷ item.level_end ∷ [])
+args_open = refl
+
+factor_not : rule_at edison g.Factor kind.Not ≡ Some (token kind.Not ∷ part g.Factor ∷ item.level_end ∷ [])
+factor_not = refl
+
+factor_open : rule_at edison g.Factor kind.Open ≡ Some (token kind.Open ∷ part g.Expr ∷ token kind.Close ∷ item.level_end ∷ [])
+factor_open = refl
+
+factor_name : rule_at edison g.Factor kind.Name ≡ Some (token kind.Name ∷ part g.Behind ∷ [])
+factor_name = refl
+
+factor_val : rule_at edison g.Factor kind.Val ≡ Some (token kind.Val ∷ token kind.Name ∷ part g.Selectors ∷ [])
+factor_val = refl
+
+factor_numeral : rule_at edison g.Factor kind.Numeral ≡ Some (token kind.Numeral ∷ [])
+factor_numeral = refl
 
 pub parse_index-returns-in_err-line-clause-halts : goal.parse_index-returns-in_err-line-clause-halts
 parse_index-returns-in_err-line-clause-halts t c = let p = err_from_is_err_and c.from_residual.result c.from_residual.ensures.1 in
@@ -28,40 +56,32 @@ parse_index-returns-in_err-line-clause-halts t c = let p = err_from_is_err_and c
 
 pub parse_index-returns-in_err-index-clause-halts : goal.parse_index-returns-in_err-index-clause-halts
 parse_index-returns-in_err-index-clause-halts t c = let p = err_from_is_err_and c.from_residual-in_err-index.result c.from_residual-in_err-index.ensures.1 in
-    rw (p.1, p.2) (halts (over_open (on is.OpenBracket c.in_ok-line.line) (at_line is.OpenBracket c.in_ok-line.line)
-    (into (token kind.OpenBracket ∷ part g.Expr ∷ token kind.CloseBracket ∷ item.level_end ∷ []) (waits g.Selector _ _)
-    (rw (ne_eqb (front _) kind.Period c.requires.chosen) refl)) c.in_ok-line.ensures.found refl (omega (arith, c.in_ok-line.ensures.room)) (refl, refl))
-    (omega arith) c.in_err-index.ensures.halts)
+    rw (p.1, p.2) (halts (open_front g.Selector is.OpenBracket (on is.OpenBracket c.in_ok-line.line) selector_openbracket
+    (omega (arith, c.in_ok-line.ensures.room)) (refl, refl) (waits g.Selector _ _) c.in_ok-line.ensures.found) (omega arith) c.in_err-index.ensures.halts)
 
 pub parse_index-returns-in_err-rest-clause-halts : goal.parse_index-returns-in_err-rest-clause-halts
 parse_index-returns-in_err-rest-clause-halts t c = let p = err_from_is_err_and c.from_residual-in_err-rest.result c.from_residual-in_err-rest.ensures.1 in
-    rw (p.1, p.2) (lacks (over_part (over_open (on is.OpenBracket c.in_ok-line.line) (at_line is.OpenBracket c.in_ok-line.line)
-    (into (token kind.OpenBracket ∷ part g.Expr ∷ token kind.CloseBracket ∷ item.level_end ∷ []) (waits g.Selector _ _)
-    (rw (ne_eqb (front _) kind.Period c.requires.chosen) refl)) c.in_ok-line.ensures.found refl (omega (arith, c.in_ok-line.ensures.room)) (refl, refl))
-    c.in_ok-index.ensures.passes (omega arith)) c.in_err-rest.ensures.none)
+    rw (p.1, p.2) (lacks (over_part (open_front g.Selector is.OpenBracket (on is.OpenBracket c.in_ok-line.line) selector_openbracket
+    (omega (arith, c.in_ok-line.ensures.room)) (refl, refl) (waits g.Selector _ _) c.in_ok-line.ensures.found) c.in_ok-index.ensures.passes (omega arith))
+    c.in_err-rest.ensures.none)
 
 pub parse_index-returns-clause-passes : goal.parse_index-returns-clause-passes
 parse_index-returns-clause-passes t c = written
     (over_end (over_mark (just is.CloseBracket) (at_line is.CloseBracket c.in_ok-rest.field-0-0)
-    (over_part (over_open (on is.OpenBracket c.in_ok-line.line) (at_line is.OpenBracket c.in_ok-line.line)
-    (into (token kind.OpenBracket ∷ part g.Expr ∷ token kind.CloseBracket ∷ item.level_end ∷ []) (waits g.Selector _ _)
-    (rw (ne_eqb (front _) kind.Period c.requires.chosen) refl)) c.in_ok-line.ensures.found refl (omega (arith, c.in_ok-line.ensures.room)) (refl, refl))
-    c.in_ok-index.ensures.passes (omega arith)) c.in_ok-rest.ensures.found refl refl (refl, tt)))
-    (λ es. ap (λ t. elements.selector_elements t es) (sym c.in_ok-selector.ensures.seen))
+    (over_part (open_front g.Selector is.OpenBracket (on is.OpenBracket c.in_ok-line.line) selector_openbracket (omega (arith, c.in_ok-line.ensures.room))
+    (refl, refl) (waits g.Selector _ _) c.in_ok-line.ensures.found) c.in_ok-index.ensures.passes (omega arith)) c.in_ok-rest.ensures.found refl refl
+    (refl, tt))) (λ es. ap (λ t. elements.selector_elements t es) (sym c.in_ok-selector.ensures.seen))
 
 pub parse_selector-returns-in_err-field-clause-halts : goal.parse_selector-returns-in_err-field-clause-halts
 parse_selector-returns-in_err-field-clause-halts t c = let p = err_from_is_err_and c.from_residual.result c.from_residual.ensures.1 in
-    rw (p.1, p.2) (lacks (over_mark (on is.Period c.in-Some.line) (at_line is.Period c.in-Some.line)
-    (into (token kind.Period ∷ token kind.Name ∷ []) (waits g.Selector _ _) (ap (λ q. rule_at edison g.Selector (front q)) c.in-Some.ensures.found))
-    c.in-Some.ensures.found refl refl (refl, refl)) c.in_err-field.ensures.none)
+    rw (p.1, p.2) (lacks (over_front g.Selector is.Period (on is.Period c.in-Some.line) selector_period refl (refl, refl) (waits g.Selector _ _)
+    c.in-Some.ensures.found) c.in_err-field.ensures.none)
 
 pub parse_selector-returns-in-Some-clause-passes : goal.parse_selector-returns-in-Some-clause-passes
 parse_selector-returns-in-Some-clause-passes t c = written
     (over_mark (name_mark c.in_ok-field.field) (at_line (is.Name c.in_ok-field.field.text) c.in_ok-field.field.line)
-    (over_mark (on is.Period c.in-Some.line) (at_line is.Period c.in-Some.line)
-    (into (token kind.Period ∷ token kind.Name ∷ []) (waits g.Selector _ _) (ap (λ q. rule_at edison g.Selector (front q)) c.in-Some.ensures.found))
-    c.in-Some.ensures.found refl refl (refl, refl)) c.in_ok-field.ensures.found refl refl (refl, refl))
-    (λ es. ap (λ t. elements.selector_elements t es) (sym c.make_field.ensures.seen))
+    (over_front g.Selector is.Period (on is.Period c.in-Some.line) selector_period refl (refl, refl) (waits g.Selector _ _) c.in-Some.ensures.found)
+    c.in_ok-field.ensures.found refl refl (refl, refl)) (λ es. ap (λ t. elements.selector_elements t es) (sym c.make_field.ensures.seen))
 
 pub parse_selectors-returns-in_err-selector-clause-halts : goal.parse_selectors-returns-in_err-selector-clause-halts
 parse_selectors-returns-in_err-selector-clause-halts t c = let p = err_from_is_err_and c.from_residual.result c.from_residual.ensures.1 in
@@ -84,17 +104,15 @@ parse_selectors-returns-clause-passes t c = written
 
 pub parse_exprs-returns-in_err-expr-clause-halts : goal.parse_exprs-returns-in_err-expr-clause-halts
 parse_exprs-returns-in_err-expr-clause-halts t c = let p = err_from_is_err_and c.from_residual.result c.from_residual.ensures.1 in
-    rw (p.1, p.2) (halts (over_mark (just is.Comma) (at_line is.Comma c.in-Some.field-0-0)
-    (into (token kind.Comma ∷ part g.Expr ∷ part g.Exprs ∷ []) (c.loop-behind_comma.invariant.goes)
-    (ap (λ q. rule_at edison g.Exprs (front q)) c.in-Some.ensures.found)) c.in-Some.ensures.found refl refl (refl, tt)) (omega arith) c.in_err-expr.ensures.halts)
+    rw (p.1, p.2) (halts (over_front g.Exprs is.Comma (just is.Comma) exprs_comma refl (refl, tt) (c.loop-behind_comma.invariant.goes) c.in-Some.ensures.found)
+    (omega arith) c.in_err-expr.ensures.halts)
 
 pub parse_exprs-loop-behind_comma-preserved : goal.parse_exprs-loop-behind_comma-preserved
 parse_exprs-loop-behind_comma-preserved t c =
     record {
-      goes = written (over_part (over_mark (just is.Comma) (at_line is.Comma c.in-Some.field-0-0)
-          (into (token kind.Comma ∷ part g.Expr ∷ part g.Exprs ∷ []) (c.loop-behind_comma.invariant.goes)
-          (ap (λ q. rule_at edison g.Exprs (front q)) c.in-Some.ensures.found)) c.in-Some.ensures.found refl refl (refl, tt)) c.in_ok-expr.ensures.passes
-          (omega arith)) (push.exprs_push view.expr_of c.loop-behind_comma.exprs.items c.push.new.self.items c.in_ok-expr.expr (search rules));
+      goes = written (over_part (over_front g.Exprs is.Comma (just is.Comma) exprs_comma refl (refl, tt) (c.loop-behind_comma.invariant.goes)
+          c.in-Some.ensures.found) c.in_ok-expr.ensures.passes (omega arith))
+          (push.exprs_push view.expr_of c.loop-behind_comma.exprs.items c.push.new.self.items c.in_ok-expr.expr (search rules));
       shorter = omega (arith, c.loop-behind_comma.invariant.shorter, c.in-Some.ensures.shorter, c.in_ok-expr.ensures.shorter);
     }
 
@@ -110,112 +128,98 @@ parse_args-returns-in_err-behind_open-clause-halts t c = let p = err_from_is_err
 
 pub parse_args-returns-in_err-first-clause-halts : goal.parse_args-returns-in_err-first-clause-halts
 parse_args-returns-in_err-first-clause-halts t c = let p = err_from_is_err_and c.from_residual-in_err-first.result c.from_residual-in_err-first.ensures.1 in
-    rw (p.1, p.2) (halts (over_open (just is.Open) (at_line is.Open c.in_ok-behind_open.field-0-0)
-    (into (token kind.Open ∷ part g.Expr ∷ part g.Exprs ∷ token kind.Close ∷ item.level_end ∷ []) (waits g.Args _ _) (refl)) c.in_ok-behind_open.ensures.found
-    refl (omega (arith, c.in_ok-behind_open.ensures.room)) (refl, tt)) (omega arith) c.in_err-first.ensures.halts)
+    rw (p.1, p.2) (halts (open_front g.Args is.Open (just is.Open) args_open (omega (arith, c.in_ok-behind_open.ensures.room)) (refl, tt) (waits g.Args _ _)
+    c.in_ok-behind_open.ensures.found) (omega arith) c.in_err-first.ensures.halts)
 
 pub parse_args-returns-in_err-more-clause-halts : goal.parse_args-returns-in_err-more-clause-halts
 parse_args-returns-in_err-more-clause-halts t c = let p = err_from_is_err_and c.from_residual-in_err-more.result c.from_residual-in_err-more.ensures.1 in
-    rw (p.1, p.2) (halts (over_part (over_open (just is.Open) (at_line is.Open c.in_ok-behind_open.field-0-0)
-    (into (token kind.Open ∷ part g.Expr ∷ part g.Exprs ∷ token kind.Close ∷ item.level_end ∷ []) (waits g.Args _ _) (refl)) c.in_ok-behind_open.ensures.found
-    refl (omega (arith, c.in_ok-behind_open.ensures.room)) (refl, tt)) c.in_ok-first.ensures.passes (omega arith)) (omega arith) c.in_err-more.ensures.halts)
+    rw (p.1, p.2) (halts (over_part (open_front g.Args is.Open (just is.Open) args_open (omega (arith, c.in_ok-behind_open.ensures.room)) (refl, tt)
+    (waits g.Args _ _) c.in_ok-behind_open.ensures.found) c.in_ok-first.ensures.passes (omega arith)) (omega arith) c.in_err-more.ensures.halts)
 
 pub parse_args-returns-in_err-rest-clause-halts : goal.parse_args-returns-in_err-rest-clause-halts
 parse_args-returns-in_err-rest-clause-halts t c = let p = err_from_is_err_and c.from_residual-in_err-rest.result c.from_residual-in_err-rest.ensures.1 in
     rw (p.1, p.2) (lacks (over_part (over_part
-    (over_open (just is.Open) (at_line is.Open c.in_ok-behind_open.field-0-0)
-    (into (token kind.Open ∷ part g.Expr ∷ part g.Exprs ∷ token kind.Close ∷ item.level_end ∷ []) (waits g.Args _ _) (refl)) c.in_ok-behind_open.ensures.found
-    refl (omega (arith, c.in_ok-behind_open.ensures.room)) (refl, tt)) c.in_ok-first.ensures.passes (omega arith)) c.in_ok-more.ensures.passes (omega arith))
-    c.in_err-rest.ensures.none)
+    (open_front g.Args is.Open (just is.Open) args_open (omega (arith, c.in_ok-behind_open.ensures.room)) (refl, tt) (waits g.Args _ _)
+    c.in_ok-behind_open.ensures.found) c.in_ok-first.ensures.passes (omega arith)) c.in_ok-more.ensures.passes (omega arith)) c.in_err-rest.ensures.none)
 
 pub parse_args-returns-clause-passes : goal.parse_args-returns-clause-passes
 parse_args-returns-clause-passes t c = written
     (over_end (over_mark (just is.Close) (at_line is.Close c.in_ok-rest.field-0-0)
-    (over_part (over_part (over_open (just is.Open) (at_line is.Open c.in_ok-behind_open.field-0-0)
-    (into (token kind.Open ∷ part g.Expr ∷ part g.Exprs ∷ token kind.Close ∷ item.level_end ∷ []) (waits g.Args _ _) (refl)) c.in_ok-behind_open.ensures.found
-    refl (omega (arith, c.in_ok-behind_open.ensures.room)) (refl, tt)) c.in_ok-first.ensures.passes (omega arith)) c.in_ok-more.ensures.passes (omega arith))
-    c.in_ok-rest.ensures.found refl refl (refl, tt))) (λ es. ap (λ t. elements.args_elements t es) (sym c.in_ok-args.ensures.seen))
+    (over_part (over_part (open_front g.Args is.Open (just is.Open) args_open (omega (arith, c.in_ok-behind_open.ensures.room)) (refl, tt) (waits g.Args _ _)
+    c.in_ok-behind_open.ensures.found) c.in_ok-first.ensures.passes (omega arith)) c.in_ok-more.ensures.passes (omega arith)) c.in_ok-rest.ensures.found refl
+    refl (refl, tt))) (λ es. ap (λ t. elements.args_elements t es) (sym c.in_ok-args.ensures.seen))
 
 pub parse_not-returns-in_err-line-clause-halts : goal.parse_not-returns-in_err-line-clause-halts
 parse_not-returns-in_err-line-clause-halts t c = let p = err_from_is_err_and c.from_residual.result c.from_residual.ensures.1 in
     rw (p.1, p.2) (refused (into (token kind.Not ∷ part g.Factor ∷ item.level_end ∷ []) (waits g.Factor _ _)
-    (ap (λ a. rule_at edison g.Factor a) c.requires.chosen)) refl (omega arith) c.in_err-line.ensures.none)
+    (ap (λ a. rule_at edison g.Factor a) c.requires.chosen ∙ factor_not)) refl (omega arith) c.in_err-line.ensures.none)
 
 pub parse_not-returns-in_err-factor-clause-halts : goal.parse_not-returns-in_err-factor-clause-halts
 parse_not-returns-in_err-factor-clause-halts t c = let p = err_from_is_err_and c.from_residual-in_err-factor.result c.from_residual-in_err-factor.ensures.1 in
-    rw (p.1, p.2) (halts (over_open (on is.Not c.in_ok-line.line) (at_line is.Not c.in_ok-line.line)
-    (into (token kind.Not ∷ part g.Factor ∷ item.level_end ∷ []) (waits g.Factor _ _) (ap (λ a. rule_at edison g.Factor a) c.requires.chosen))
-    c.in_ok-line.ensures.found refl (omega (arith, c.in_ok-line.ensures.room)) (refl, refl)) (omega arith) c.in_err-factor.ensures.halts)
+    rw (p.1, p.2) (halts (open_front g.Factor is.Not (on is.Not c.in_ok-line.line) factor_not (omega (arith, c.in_ok-line.ensures.room)) (refl, refl)
+    (waits g.Factor _ _) c.in_ok-line.ensures.found) (omega arith) c.in_err-factor.ensures.halts)
 
 pub parse_not-returns-clause-passes : goal.parse_not-returns-clause-passes
 parse_not-returns-clause-passes t c = written
-    (over_end (over_part (over_open (on is.Not c.in_ok-line.line) (at_line is.Not c.in_ok-line.line)
-    (into (token kind.Not ∷ part g.Factor ∷ item.level_end ∷ []) (waits g.Factor _ _) (ap (λ a. rule_at edison g.Factor a) c.requires.chosen))
-    c.in_ok-line.ensures.found refl (omega (arith, c.in_ok-line.ensures.room)) (refl, refl)) c.in_ok-factor.ensures.passes (omega arith)))
+    (over_end (over_part (open_front g.Factor is.Not (on is.Not c.in_ok-line.line) factor_not (omega (arith, c.in_ok-line.ensures.room)) (refl, refl)
+    (waits g.Factor _ _) c.in_ok-line.ensures.found) c.in_ok-factor.ensures.passes (omega arith)))
     (λ es. ap (λ t. elements.factor_elements t es) (sym c.in_ok-negation.ensures.seen))
 
 pub parse_parenthesized-returns-in_err-behind_open-clause-halts : goal.parse_parenthesized-returns-in_err-behind_open-clause-halts
 parse_parenthesized-returns-in_err-behind_open-clause-halts t c = let p = err_from_is_err_and c.from_residual.result c.from_residual.ensures.1 in
     rw (p.1, p.2) (refused (into (token kind.Open ∷ part g.Expr ∷ token kind.Close ∷ item.level_end ∷ []) (waits g.Factor _ _)
-    (ap (λ a. rule_at edison g.Factor a) c.requires.chosen)) refl (omega arith) c.in_err-behind_open.ensures.none)
+    (ap (λ a. rule_at edison g.Factor a) c.requires.chosen ∙ factor_open)) refl (omega arith) c.in_err-behind_open.ensures.none)
 
 pub parse_parenthesized-returns-in_err-expr-clause-halts : goal.parse_parenthesized-returns-in_err-expr-clause-halts
 parse_parenthesized-returns-in_err-expr-clause-halts t c = let p = err_from_is_err_and c.from_residual-in_err-expr.result
     c.from_residual-in_err-expr.ensures.1 in
-    rw (p.1, p.2) (halts (over_open (just is.Open) (at_line is.Open c.in_ok-behind_open.field-0-0)
-    (into (token kind.Open ∷ part g.Expr ∷ token kind.Close ∷ item.level_end ∷ []) (waits g.Factor _ _) (ap (λ a. rule_at edison g.Factor a) c.requires.chosen))
-    c.in_ok-behind_open.ensures.found refl (omega (arith, c.in_ok-behind_open.ensures.room)) (refl, tt)) (omega arith) c.in_err-expr.ensures.halts)
+    rw (p.1, p.2) (halts (open_front g.Factor is.Open (just is.Open) factor_open (omega (arith, c.in_ok-behind_open.ensures.room)) (refl, tt)
+    (waits g.Factor _ _) c.in_ok-behind_open.ensures.found) (omega arith) c.in_err-expr.ensures.halts)
 
 pub parse_parenthesized-returns-in_err-rest-clause-halts : goal.parse_parenthesized-returns-in_err-rest-clause-halts
 parse_parenthesized-returns-in_err-rest-clause-halts t c = let p = err_from_is_err_and c.from_residual-in_err-rest.result
     c.from_residual-in_err-rest.ensures.1 in
-    rw (p.1, p.2) (lacks (over_part (over_open (just is.Open) (at_line is.Open c.in_ok-behind_open.field-0-0)
-    (into (token kind.Open ∷ part g.Expr ∷ token kind.Close ∷ item.level_end ∷ []) (waits g.Factor _ _) (ap (λ a. rule_at edison g.Factor a) c.requires.chosen))
-    c.in_ok-behind_open.ensures.found refl (omega (arith, c.in_ok-behind_open.ensures.room)) (refl, tt)) c.in_ok-expr.ensures.passes (omega arith))
-    c.in_err-rest.ensures.none)
+    rw (p.1, p.2) (lacks (over_part (open_front g.Factor is.Open (just is.Open) factor_open (omega (arith, c.in_ok-behind_open.ensures.room)) (refl, tt)
+    (waits g.Factor _ _) c.in_ok-behind_open.ensures.found) c.in_ok-expr.ensures.passes (omega arith)) c.in_err-rest.ensures.none)
 
 pub parse_parenthesized-returns-clause-passes : goal.parse_parenthesized-returns-clause-passes
 parse_parenthesized-returns-clause-passes t c = written
     (over_end (over_mark (just is.Close) (at_line is.Close c.in_ok-rest.field-0-0)
-    (over_part (over_open (just is.Open) (at_line is.Open c.in_ok-behind_open.field-0-0)
-    (into (token kind.Open ∷ part g.Expr ∷ token kind.Close ∷ item.level_end ∷ []) (waits g.Factor _ _) (ap (λ a. rule_at edison g.Factor a) c.requires.chosen))
-    c.in_ok-behind_open.ensures.found refl (omega (arith, c.in_ok-behind_open.ensures.room)) (refl, tt)) c.in_ok-expr.ensures.passes (omega arith))
-    c.in_ok-rest.ensures.found refl refl (refl, tt))) (λ es. ap (λ t. elements.factor_elements t es) (sym c.in_ok-factor.ensures.seen))
+    (over_part (open_front g.Factor is.Open (just is.Open) factor_open (omega (arith, c.in_ok-behind_open.ensures.room)) (refl, tt) (waits g.Factor _ _)
+    c.in_ok-behind_open.ensures.found) c.in_ok-expr.ensures.passes (omega arith)) c.in_ok-rest.ensures.found refl refl (refl, tt)))
+    (λ es. ap (λ t. elements.factor_elements t es) (sym c.in_ok-factor.ensures.seen))
 
 pub parse_named-returns-in_err-name-clause-halts : goal.parse_named-returns-in_err-name-clause-halts
 parse_named-returns-in_err-name-clause-halts t c = let p = err_from_is_err_and c.from_residual.result c.from_residual.ensures.1 in
-    rw (p.1, p.2) (lacks (into (token kind.Name ∷ part g.Behind ∷ []) (waits g.Factor _ _) (ap (λ a. rule_at edison g.Factor a) c.requires.chosen))
-    c.in_err-name.ensures.none)
+    rw (p.1, p.2) (lacks (into (token kind.Name ∷ part g.Behind ∷ []) (waits g.Factor _ _)
+    (ap (λ a. rule_at edison g.Factor a) c.requires.chosen ∙ factor_name)) c.in_err-name.ensures.none)
 
 pub parse_named-returns-in_err-args-clause-halts : goal.parse_named-returns-in_err-args-clause-halts
 parse_named-returns-in_err-args-clause-halts t c = let p = err_from_is_err_and c.from_residual-in_err-args.result c.from_residual-in_err-args.ensures.1 in
     rw (p.1, p.2) (halts (into (part g.Args ∷ [])
-    (over_mark (name_mark c.in_ok-name.name) (at_line (is.Name c.in_ok-name.name.text) c.in_ok-name.name.line)
-    (into (token kind.Name ∷ part g.Behind ∷ []) (waits g.Factor _ _) (ap (λ a. rule_at edison g.Factor a) c.requires.chosen)) c.in_ok-name.ensures.found refl
-    refl (refl, refl)) (ap (λ a. rule_at edison g.Behind a) (eqb-true (front c.in_ok-name.behind_name.now) kind.Open (sym c.at.ensures.exact ∙ c.if-at.true))))
-    (omega arith) c.in_err-args.ensures.halts)
+    (over_front g.Factor (is.Name c.in_ok-name.name.text) (name_mark c.in_ok-name.name) factor_name refl (refl, refl) (waits g.Factor _ _)
+    c.in_ok-name.ensures.found) (ap (λ a. rule_at edison g.Behind a)
+    (eqb-true (front c.in_ok-name.behind_name.now) kind.Open (sym c.at.ensures.exact ∙ c.if-at.true)))) (omega arith) c.in_err-args.ensures.halts)
 
 pub parse_named-returns-then-at-clause-passes : goal.parse_named-returns-then-at-clause-passes
 parse_named-returns-then-at-clause-passes t c = written
-    (over_part (into (part g.Args ∷ []) (over_mark (name_mark c.in_ok-name.name) (at_line (is.Name c.in_ok-name.name.text) c.in_ok-name.name.line)
-    (into (token kind.Name ∷ part g.Behind ∷ []) (waits g.Factor _ _) (ap (λ a. rule_at edison g.Factor a) c.requires.chosen)) c.in_ok-name.ensures.found refl
-    refl (refl, refl)) (ap (λ a. rule_at edison g.Behind a) (eqb-true (front c.in_ok-name.behind_name.now) kind.Open (sym c.at.ensures.exact ∙ c.if-at.true))))
+    (over_part (into (part g.Args ∷ []) (over_front g.Factor (is.Name c.in_ok-name.name.text) (name_mark c.in_ok-name.name) factor_name refl (refl, refl)
+    (waits g.Factor _ _) c.in_ok-name.ensures.found)
+    (ap (λ a. rule_at edison g.Behind a) (eqb-true (front c.in_ok-name.behind_name.now) kind.Open (sym c.at.ensures.exact ∙ c.if-at.true))))
     c.in_ok-args.ensures.passes (omega arith)) (λ es. ap (λ t. elements.factor_elements t es) (sym c.make_call.ensures.seen))
 
 pub parse_named-returns-in_err-selectors-clause-halts : goal.parse_named-returns-in_err-selectors-clause-halts
 parse_named-returns-in_err-selectors-clause-halts t c = let p = err_from_is_err_and c.from_residual-in_err-selectors.result
     c.from_residual-in_err-selectors.ensures.1 in
     rw (p.1, p.2) (halts (into (part g.Selectors ∷ [])
-    (over_mark (name_mark c.in_ok-name.name) (at_line (is.Name c.in_ok-name.name.text) c.in_ok-name.name.line)
-    (into (token kind.Name ∷ part g.Behind ∷ []) (waits g.Factor _ _) (ap (λ a. rule_at edison g.Factor a) c.requires.chosen)) c.in_ok-name.ensures.found refl
-    refl (refl, refl)) (rw (sym c.at.ensures.exact ∙ c.if-at.false) refl)) (omega arith) c.in_err-selectors.ensures.halts)
+    (over_front g.Factor (is.Name c.in_ok-name.name.text) (name_mark c.in_ok-name.name) factor_name refl (refl, refl) (waits g.Factor _ _)
+    c.in_ok-name.ensures.found) (rw (sym c.at.ensures.exact ∙ c.if-at.false) refl)) (omega arith) c.in_err-selectors.ensures.halts)
 
 pub parse_named-returns-clause-passes : goal.parse_named-returns-clause-passes
 parse_named-returns-clause-passes t c = written
     (over_part (into (part g.Selectors ∷ [])
-    (over_mark (name_mark c.in_ok-name.name) (at_line (is.Name c.in_ok-name.name.text) c.in_ok-name.name.line)
-    (into (token kind.Name ∷ part g.Behind ∷ []) (waits g.Factor _ _) (ap (λ a. rule_at edison g.Factor a) c.requires.chosen)) c.in_ok-name.ensures.found refl
-    refl (refl, refl)) (rw (sym c.at.ensures.exact ∙ c.if-at.false) refl)) c.in_ok-selectors.ensures.passes (omega arith))
+    (over_front g.Factor (is.Name c.in_ok-name.name.text) (name_mark c.in_ok-name.name) factor_name refl (refl, refl) (waits g.Factor _ _)
+    c.in_ok-name.ensures.found) (rw (sym c.at.ensures.exact ∙ c.if-at.false) refl)) c.in_ok-selectors.ensures.passes (omega arith))
     (λ es. ap (λ t. elements.factor_elements t es) (sym c.make_variable.ensures.seen))
 
 pub parse_val-returns-in_err-behind_val-clause-halts : goal.parse_val-returns-in_err-behind_val-clause-halts
@@ -230,41 +234,21 @@ parse_val-returns-in_err-behind_val-clause-halts t c = let p = err_from_is_err_a
 
 pub parse_val-returns-in_err-name-clause-halts : goal.parse_val-returns-in_err-name-clause-halts
 parse_val-returns-in_err-name-clause-halts t c = let p = err_from_is_err_and c.from_residual-in_err-name.result c.from_residual-in_err-name.ensures.1 in
-    rw (p.1, p.2) (lacks (over_mark (just is.Val) (at_line is.Val c.in_ok-behind_val.field-0-0)
-    (into (token kind.Val ∷ token kind.Name ∷ part g.Selectors ∷ []) (waits g.Factor _ _)
-    (let h1 = apart (front c.args.marks.now) kind.Numeral (kind.Char ∷ kind.Text ∷ kind.Not ∷ kind.Open ∷ kind.Name ∷ []) c.requires.chosen in
-    let h2 = apart (front c.args.marks.now) kind.Char (kind.Text ∷ kind.Not ∷ kind.Open ∷ kind.Name ∷ []) h1.1 in
-    let h3 = apart (front c.args.marks.now) kind.Text (kind.Not ∷ kind.Open ∷ kind.Name ∷ []) h2.1 in
-    let h4 = apart (front c.args.marks.now) kind.Not (kind.Open ∷ kind.Name ∷ []) h3.1 in
-    let h5 = apart (front c.args.marks.now) kind.Open (kind.Name ∷ []) h4.1 in let h6 = apart (front c.args.marks.now) kind.Name ([]) h5.1 in
-    rw (h1.0, h2.0, h3.0, h4.0, h5.0, h6.0) refl)) c.in_ok-behind_val.ensures.found refl refl (refl, tt)) c.in_err-name.ensures.none)
+    rw (p.1, p.2) (lacks (over_front g.Factor is.Val (just is.Val) factor_val refl (refl, tt) (waits g.Factor _ _) c.in_ok-behind_val.ensures.found)
+    c.in_err-name.ensures.none)
 
 pub parse_val-returns-in_err-selectors-clause-halts : goal.parse_val-returns-in_err-selectors-clause-halts
 parse_val-returns-in_err-selectors-clause-halts t c = let p = err_from_is_err_and c.from_residual-in_err-selectors.result
     c.from_residual-in_err-selectors.ensures.1 in
     rw (p.1, p.2) (halts (over_mark (name_mark c.in_ok-name.name) (at_line (is.Name c.in_ok-name.name.text) c.in_ok-name.name.line)
-    (over_mark (just is.Val) (at_line is.Val c.in_ok-behind_val.field-0-0)
-    (into (token kind.Val ∷ token kind.Name ∷ part g.Selectors ∷ []) (waits g.Factor _ _)
-    (let h1 = apart (front c.args.marks.now) kind.Numeral (kind.Char ∷ kind.Text ∷ kind.Not ∷ kind.Open ∷ kind.Name ∷ []) c.requires.chosen in
-    let h2 = apart (front c.args.marks.now) kind.Char (kind.Text ∷ kind.Not ∷ kind.Open ∷ kind.Name ∷ []) h1.1 in
-    let h3 = apart (front c.args.marks.now) kind.Text (kind.Not ∷ kind.Open ∷ kind.Name ∷ []) h2.1 in
-    let h4 = apart (front c.args.marks.now) kind.Not (kind.Open ∷ kind.Name ∷ []) h3.1 in
-    let h5 = apart (front c.args.marks.now) kind.Open (kind.Name ∷ []) h4.1 in let h6 = apart (front c.args.marks.now) kind.Name ([]) h5.1 in
-    rw (h1.0, h2.0, h3.0, h4.0, h5.0, h6.0) refl)) c.in_ok-behind_val.ensures.found refl refl (refl, tt)) c.in_ok-name.ensures.found refl refl (refl, refl))
-    (omega arith) c.in_err-selectors.ensures.halts)
+    (over_front g.Factor is.Val (just is.Val) factor_val refl (refl, tt) (waits g.Factor _ _) c.in_ok-behind_val.ensures.found) c.in_ok-name.ensures.found refl
+    refl (refl, refl)) (omega arith) c.in_err-selectors.ensures.halts)
 
 pub parse_val-returns-clause-passes : goal.parse_val-returns-clause-passes
 parse_val-returns-clause-passes t c = written
     (over_part (over_mark (name_mark c.in_ok-name.name) (at_line (is.Name c.in_ok-name.name.text) c.in_ok-name.name.line)
-    (over_mark (just is.Val) (at_line is.Val c.in_ok-behind_val.field-0-0)
-    (into (token kind.Val ∷ token kind.Name ∷ part g.Selectors ∷ []) (waits g.Factor _ _)
-    (let h1 = apart (front c.args.marks.now) kind.Numeral (kind.Char ∷ kind.Text ∷ kind.Not ∷ kind.Open ∷ kind.Name ∷ []) c.requires.chosen in
-    let h2 = apart (front c.args.marks.now) kind.Char (kind.Text ∷ kind.Not ∷ kind.Open ∷ kind.Name ∷ []) h1.1 in
-    let h3 = apart (front c.args.marks.now) kind.Text (kind.Not ∷ kind.Open ∷ kind.Name ∷ []) h2.1 in
-    let h4 = apart (front c.args.marks.now) kind.Not (kind.Open ∷ kind.Name ∷ []) h3.1 in
-    let h5 = apart (front c.args.marks.now) kind.Open (kind.Name ∷ []) h4.1 in let h6 = apart (front c.args.marks.now) kind.Name ([]) h5.1 in
-    rw (h1.0, h2.0, h3.0, h4.0, h5.0, h6.0) refl)) c.in_ok-behind_val.ensures.found refl refl (refl, tt)) c.in_ok-name.ensures.found refl refl (refl, refl))
-    c.in_ok-selectors.ensures.passes (omega arith)) (λ es. ap (λ t. elements.factor_elements t es) (sym c.make_variable.ensures.seen))
+    (over_front g.Factor is.Val (just is.Val) factor_val refl (refl, tt) (waits g.Factor _ _) c.in_ok-behind_val.ensures.found) c.in_ok-name.ensures.found refl
+    refl (refl, refl)) c.in_ok-selectors.ensures.passes (omega arith)) (λ es. ap (λ t. elements.factor_elements t es) (sym c.make_variable.ensures.seen))
 
 pub parse_multipliers-returns-in_err-factor-clause-halts : goal.parse_multipliers-returns-in_err-factor-clause-halts
 parse_multipliers-returns-in_err-factor-clause-halts t c = let p = err_from_is_err_and c.from_residual.result c.from_residual.ensures.1 in
@@ -379,7 +363,6 @@ parse_expr-returns-clause-passes t c = written
 
 pub parse_factor-returns-in-Some-clause-passes : goal.parse_factor-returns-in-Some-clause-passes
 parse_factor-returns-in-Some-clause-passes t c = written
-    (over_mark (just (is.Numeral c.in-Some.value)) (at_line (is.Numeral c.in-Some.value) c.in-Some.ensures.found.0)
-    (into (token kind.Numeral ∷ []) (waits g.Factor _ _) (ap (λ q. rule_at edison g.Factor (front q)) c.in-Some.ensures.found.1)) c.in-Some.ensures.found.1 refl
-    refl (refl, tt)) (λ es. ap (λ v. elements.word (is.Numeral v) ∷ es) (sym (to_z-of_z w16 c.in-Some.value (search rules)))
+    (over_front g.Factor (is.Numeral c.in-Some.value) (just (is.Numeral c.in-Some.value)) factor_numeral refl (refl, tt) (waits g.Factor _ _)
+    c.in-Some.ensures.found.1) (λ es. ap (λ v. elements.word (is.Numeral v) ∷ es) (sym (to_z-of_z w16 c.in-Some.value (search rules)))
     ∙ ap (λ t. elements.factor_elements t es) (sym c.make_numeral.ensures.seen))

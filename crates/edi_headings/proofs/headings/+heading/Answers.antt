@@ -1,4 +1,4 @@
-use Rattle.std.proofs.Common.{rules, ◌∷◌, ◌∙◌, [], map, ap, refl, sym, arith}
+use Rattle.std.proofs.Common.{rules, ◌∷◌, ◌∙◌, [], map, ap, refl, sym, arith, ◌≡◌, Some}
 use Rattle.std.proofs.lemmas.Result.{err_from_is_err_and}
 use Rattle.std.proofs.lemmas.Bool.{ne_eqb, eqb-true}
 use Rattle.edi_lex.specs.declared.symbol.Symbol.TheVariants as is
@@ -13,22 +13,36 @@ use Rattle.edi_grammar.specs.Kind.{front}
 use Rattle.edi_grammar.specs.Rules as g
 use Rattle.edi_grammar.specs.Edison.{edison}
 use Rattle.edi_phrases.specs.Words.{at_line}
-use Rattle.edi_phrases.proofs.Moves.{waits, over_mark, over_open, over_end, over_part, into, written, lacks, refused, halts}
+use Rattle.edi_phrases.proofs.Moves.{waits, over_mark, over_end, over_part, into, written, lacks, refused, halts}
+use Rattle.edi_phrases.proofs.Opened.{over_front, open_front}
 use Rattle.edi_headings.proofs.Pushes as push
 use Rattle.edi_headings.proofs.Seen as seen
 use Rattle.edi_headings.proofs.headings.+heading.Goals as goal
 
+param_var : rule_at edison g.Param kind.Var ≡ Some (token kind.Var ∷ part g.Group ∷ [])
+param_var = refl
+
+param_proc : rule_at edison g.Param kind.Proc ≡ Some (token kind.Proc ∷ part g.Head ∷ item.level_end ∷ [])
+param_proc = refl
+
+params_open : rule_at edison g.Params kind.Open ≡ Some (token kind.Open ∷ part g.Param ∷ part g.MoreParams ∷ token kind.Close ∷ item.level_end ∷ [])
+params_open = refl
+
+moreparams_semicolon : rule_at edison g.MoreParams kind.Semicolon ≡ Some (token kind.Semicolon ∷ part g.Param ∷ part g.MoreParams ∷ [])
+moreparams_semicolon = refl
+
+head_name : rule_at edison g.Head kind.Name ≡ Some (token kind.Name ∷ part g.Params ∷ part g.Result ∷ [])
+head_name = refl
+
 pub parse_param-returns-in_err-group-clause-halts : goal.parse_param-returns-in_err-group-clause-halts
 parse_param-returns-in_err-group-clause-halts t c = let p = err_from_is_err_and c.from_residual.result c.from_residual.ensures.1 in
-    rw (p.1, p.2) (halts (over_mark (just is.Var) (at_line is.Var c.in-Some.field-0-0)
-    (into (token kind.Var ∷ part g.Group ∷ []) (waits g.Param _ _) (ap (λ q. rule_at edison g.Param (front q)) c.in-Some.ensures.found)) c.in-Some.ensures.found
-    refl refl (refl, tt)) (omega arith) c.in_err-group.ensures.halts)
+    rw (p.1, p.2) (halts (over_front g.Param is.Var (just is.Var) param_var refl (refl, tt) (waits g.Param _ _) c.in-Some.ensures.found) (omega arith)
+    c.in_err-group.ensures.halts)
 
 pub parse_param-returns-in-Some-clause-passes : goal.parse_param-returns-in-Some-clause-passes
 parse_param-returns-in-Some-clause-passes t c = written
-    (over_part (over_mark (just is.Var) (at_line is.Var c.in-Some.field-0-0)
-    (into (token kind.Var ∷ part g.Group ∷ []) (waits g.Param _ _) (ap (λ q. rule_at edison g.Param (front q)) c.in-Some.ensures.found)) c.in-Some.ensures.found
-    refl refl (refl, tt)) c.in_ok-group.ensures.passes (omega arith)) (seen.var_seen c.in_ok-group.group)
+    (over_part (over_front g.Param is.Var (just is.Var) param_var refl (refl, tt) (waits g.Param _ _) c.in-Some.ensures.found) c.in_ok-group.ensures.passes
+    (omega arith)) (seen.var_seen c.in_ok-group.group)
 
 pub parse_param-returns-in_err-behind_proc-clause-halts : goal.parse_param-returns-in_err-behind_proc-clause-halts
 parse_param-returns-in_err-behind_proc-clause-halts t c = let p = err_from_is_err_and c.from_residual-in_err-behind_proc.result
@@ -40,18 +54,13 @@ parse_param-returns-in_err-behind_proc-clause-halts t c = let p = err_from_is_er
 pub parse_param-returns-in_err-heading-clause-halts : goal.parse_param-returns-in_err-heading-clause-halts
 parse_param-returns-in_err-heading-clause-halts t c = let p = err_from_is_err_and c.from_residual-in_err-heading.result
     c.from_residual-in_err-heading.ensures.1 in
-    rw (p.1, p.2) (halts (over_open (just is.Proc) (at_line is.Proc c.in_ok-behind_proc.field-0-0)
-    (into (token kind.Proc ∷ part g.Head ∷ item.level_end ∷ []) (waits g.Param _ _)
-    (ap (λ a. rule_at edison g.Param a) (eqb-true (front c.args.marks.now) kind.Proc (sym c.at.ensures.exact ∙ c.if-at.true))))
-    c.in_ok-behind_proc.ensures.found refl (omega (arith, c.in_ok-behind_proc.ensures.room)) (refl, tt)) (omega arith) c.in_err-heading.ensures.halts)
+    rw (p.1, p.2) (halts (open_front g.Param is.Proc (just is.Proc) param_proc (omega (arith, c.in_ok-behind_proc.ensures.room)) (refl, tt) (waits g.Param _ _)
+    c.in_ok-behind_proc.ensures.found) (omega arith) c.in_err-heading.ensures.halts)
 
 pub parse_param-returns-then-at-clause-passes : goal.parse_param-returns-then-at-clause-passes
 parse_param-returns-then-at-clause-passes t c = written
-    (over_end (over_part (over_open (just is.Proc) (at_line is.Proc c.in_ok-behind_proc.field-0-0)
-    (into (token kind.Proc ∷ part g.Head ∷ item.level_end ∷ []) (waits g.Param _ _)
-    (ap (λ a. rule_at edison g.Param a) (eqb-true (front c.args.marks.now) kind.Proc (sym c.at.ensures.exact ∙ c.if-at.true))))
-    c.in_ok-behind_proc.ensures.found refl (omega (arith, c.in_ok-behind_proc.ensures.room)) (refl, tt)) c.in_ok-heading.ensures.passes (omega arith)))
-    (seen.procedure_seen c.in_ok-heading.heading)
+    (over_end (over_part (open_front g.Param is.Proc (just is.Proc) param_proc (omega (arith, c.in_ok-behind_proc.ensures.room)) (refl, tt) (waits g.Param _ _)
+    c.in_ok-behind_proc.ensures.found) c.in_ok-heading.ensures.passes (omega arith))) (seen.procedure_seen c.in_ok-heading.heading)
 
 pub parse_param-returns-in_err-value-clause-halts : goal.parse_param-returns-in_err-value-clause-halts
 parse_param-returns-in_err-value-clause-halts t c = let p = err_from_is_err_and c.from_residual-in_err-value.result c.from_residual-in_err-value.ensures.1 in
@@ -67,45 +76,39 @@ parse_param-returns-clause-passes t c = written
 pub parse_some_params-returns-in_err-behind_open-clause-halts : goal.parse_some_params-returns-in_err-behind_open-clause-halts
 parse_some_params-returns-in_err-behind_open-clause-halts t c = let p = err_from_is_err_and c.from_residual.result c.from_residual.ensures.1 in
     rw (p.1, p.2) (refused (into (token kind.Open ∷ part g.Param ∷ part g.MoreParams ∷ token kind.Close ∷ item.level_end ∷ []) (waits g.Params _ _)
-    (ap (λ a. rule_at edison g.Params a) c.requires.chosen)) refl (omega arith) c.in_err-behind_open.ensures.none)
+    (ap (λ a. rule_at edison g.Params a) c.requires.chosen ∙ params_open)) refl (omega arith) c.in_err-behind_open.ensures.none)
 
 pub parse_some_params-returns-in_err-first-clause-halts : goal.parse_some_params-returns-in_err-first-clause-halts
 parse_some_params-returns-in_err-first-clause-halts t c = let p = err_from_is_err_and c.from_residual-in_err-first.result
     c.from_residual-in_err-first.ensures.1 in
-    rw (p.1, p.2) (halts (over_open (just is.Open) (at_line is.Open c.in_ok-behind_open.field-0-0)
-    (into (token kind.Open ∷ part g.Param ∷ part g.MoreParams ∷ token kind.Close ∷ item.level_end ∷ []) (waits g.Params _ _)
-    (ap (λ a. rule_at edison g.Params a) c.requires.chosen)) c.in_ok-behind_open.ensures.found refl (omega (arith, c.in_ok-behind_open.ensures.room))
-    (refl, tt)) (omega arith) c.in_err-first.ensures.halts)
+    rw (p.1, p.2) (halts (open_front g.Params is.Open (just is.Open) params_open (omega (arith, c.in_ok-behind_open.ensures.room)) (refl, tt)
+    (waits g.Params _ _) c.in_ok-behind_open.ensures.found) (omega arith) c.in_err-first.ensures.halts)
 
 pub parse_some_params-loop-behind_semicolon-init : goal.parse_some_params-loop-behind_semicolon-init
 parse_some_params-loop-behind_semicolon-init t c =
     record {
       some = search rules;
       goes = written
-          (over_part (over_open (just is.Open) (at_line is.Open c.in_ok-behind_open.field-0-0)
-          (into (token kind.Open ∷ part g.Param ∷ part g.MoreParams ∷ token kind.Close ∷ item.level_end ∷ []) (waits g.Params _ _)
-          (ap (λ a. rule_at edison g.Params a) c.requires.chosen)) c.in_ok-behind_open.ensures.found refl (omega (arith, c.in_ok-behind_open.ensures.room))
-          (refl, tt)) c.in_ok-first.ensures.passes (omega arith)) (push.open_params_first view.param_of c.push.new.self.items c.in_ok-first.first (search rules));
+          (over_part (open_front g.Params is.Open (just is.Open) params_open (omega (arith, c.in_ok-behind_open.ensures.room)) (refl, tt) (waits g.Params _ _)
+          c.in_ok-behind_open.ensures.found) c.in_ok-first.ensures.passes (omega arith))
+          (push.open_params_first view.param_of c.push.new.self.items c.in_ok-first.first (search rules));
       shorter = search rules;
     }
 
 pub parse_some_params-returns-in_err-param-clause-halts : goal.parse_some_params-returns-in_err-param-clause-halts
 parse_some_params-returns-in_err-param-clause-halts t c = let p = err_from_is_err_and c.from_residual-in_err-param.result
     c.from_residual-in_err-param.ensures.1 in
-    rw (p.1, p.2) (halts (over_mark (just is.Semicolon) (at_line is.Semicolon c.in-Some.field-0-0)
-    (into (token kind.Semicolon ∷ part g.Param ∷ part g.MoreParams ∷ []) (c.loop-behind_semicolon.invariant.goes)
-    (ap (λ q. rule_at edison g.MoreParams (front q)) c.in-Some.ensures.found)) c.in-Some.ensures.found refl refl (refl, tt)) (omega arith)
-    c.in_err-param.ensures.halts)
+    rw (p.1, p.2) (halts (over_front g.MoreParams is.Semicolon (just is.Semicolon) moreparams_semicolon refl (refl, tt) (c.loop-behind_semicolon.invariant.goes)
+    c.in-Some.ensures.found) (omega arith) c.in_err-param.ensures.halts)
 
 pub parse_some_params-loop-behind_semicolon-preserved : goal.parse_some_params-loop-behind_semicolon-preserved
 parse_some_params-loop-behind_semicolon-preserved t c =
     record {
       some = search rules;
       goes = written
-          (over_part (over_mark (just is.Semicolon) (at_line is.Semicolon c.in-Some.field-0-0)
-          (into (token kind.Semicolon ∷ part g.Param ∷ part g.MoreParams ∷ []) (c.loop-behind_semicolon.invariant.goes)
-          (ap (λ q. rule_at edison g.MoreParams (front q)) c.in-Some.ensures.found)) c.in-Some.ensures.found refl refl (refl, tt)) c.in_ok-param.ensures.passes
-          (omega arith)) (push.open_params_push view.param_of c.loop-behind_semicolon.params.items c.push-in-Some.new.self.items c.in_ok-param.param
+          (over_part (over_front g.MoreParams is.Semicolon (just is.Semicolon) moreparams_semicolon refl (refl, tt) (c.loop-behind_semicolon.invariant.goes)
+          c.in-Some.ensures.found) c.in_ok-param.ensures.passes (omega arith))
+          (push.open_params_push view.param_of c.loop-behind_semicolon.params.items c.push-in-Some.new.self.items c.in_ok-param.param
           c.loop-behind_semicolon.invariant.some (search rules));
       shorter = omega (arith, c.loop-behind_semicolon.invariant.shorter, c.in-Some.ensures.shorter, c.in_ok-param.ensures.shorter);
     }
@@ -133,20 +136,17 @@ parse_head-returns-in_err-name-clause-halts t c = let p = err_from_is_err_and c.
 pub parse_head-returns-in_err-params-clause-halts : goal.parse_head-returns-in_err-params-clause-halts
 parse_head-returns-in_err-params-clause-halts t c = let p = err_from_is_err_and c.from_residual-in_err-params.result
     c.from_residual-in_err-params.ensures.1 in
-    rw (p.1, p.2) (halts (over_mark (name_mark c.in_ok-name.name) (at_line (is.Name c.in_ok-name.name.text) c.in_ok-name.name.line)
-    (into (token kind.Name ∷ part g.Params ∷ part g.Result ∷ []) (waits g.Head _ _) (refl)) c.in_ok-name.ensures.found refl refl (refl, refl)) (omega arith)
-    c.in_err-params.ensures.halts)
+    rw (p.1, p.2) (halts (over_front g.Head (is.Name c.in_ok-name.name.text) (name_mark c.in_ok-name.name) head_name refl (refl, refl) (waits g.Head _ _)
+    c.in_ok-name.ensures.found) (omega arith) c.in_err-params.ensures.halts)
 
 pub parse_head-returns-in_err-result_name-clause-halts : goal.parse_head-returns-in_err-result_name-clause-halts
 parse_head-returns-in_err-result_name-clause-halts t c = let p = err_from_is_err_and c.from_residual-in_err-result_name.result
     c.from_residual-in_err-result_name.ensures.1 in
-    rw (p.1, p.2) (halts (over_part (over_mark (name_mark c.in_ok-name.name) (at_line (is.Name c.in_ok-name.name.text) c.in_ok-name.name.line)
-    (into (token kind.Name ∷ part g.Params ∷ part g.Result ∷ []) (waits g.Head _ _) (refl)) c.in_ok-name.ensures.found refl refl (refl, refl))
-    c.in_ok-params.ensures.passes (omega arith)) (omega arith) c.in_err-result_name.ensures.halts)
+    rw (p.1, p.2) (halts (over_part (over_front g.Head (is.Name c.in_ok-name.name.text) (name_mark c.in_ok-name.name) head_name refl (refl, refl)
+    (waits g.Head _ _) c.in_ok-name.ensures.found) c.in_ok-params.ensures.passes (omega arith)) (omega arith) c.in_err-result_name.ensures.halts)
 
 pub parse_head-returns-clause-passes : goal.parse_head-returns-clause-passes
 parse_head-returns-clause-passes t c = written
-    (over_part (over_part (over_mark (name_mark c.in_ok-name.name) (at_line (is.Name c.in_ok-name.name.text) c.in_ok-name.name.line)
-    (into (token kind.Name ∷ part g.Params ∷ part g.Result ∷ []) (waits g.Head _ _) (refl)) c.in_ok-name.ensures.found refl refl (refl, refl))
-    c.in_ok-params.ensures.passes (omega arith)) c.in_ok-result_name.ensures.passes (omega arith))
+    (over_part (over_part (over_front g.Head (is.Name c.in_ok-name.name.text) (name_mark c.in_ok-name.name) head_name refl (refl, refl) (waits g.Head _ _)
+    c.in_ok-name.ensures.found) c.in_ok-params.ensures.passes (omega arith)) c.in_ok-result_name.ensures.passes (omega arith))
     (seen.head_seen c.in_ok-name.name c.in_ok-params.params c.in_ok-result_name.result_name)
