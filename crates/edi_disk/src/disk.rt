@@ -126,7 +126,7 @@ impl<'a, D: Drive> Disk<'a, D> {
         ensures gives { WhereTold (shown D.contents self.old) (shown D.contents self.new) (PageGives result n into.new) }
         // Whatever the drive tells: one that is cached is given as it is cached, and on Ok `into` has it as it is cached from
         // then on. So are the others, but for the one that is driven out.
-        ensures held { IfSome (cached n self.old) (λ bytes. into.new ≡ bytes) }
+        ensures cached { IfSome (cached n self.old) (λ bytes. into.new ≡ bytes) }
         ensures caches { result ≡ DiskEnd.Ok → Caches n into.new self.old self.new }
         ensures clean { result ≡ DiskEnd.Ok → IsClean self.old → IsClean self.new }
         // Whatever the answer: each block that the drive has is as it was at the last flush that was Ok (or at

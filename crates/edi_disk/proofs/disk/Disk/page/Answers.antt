@@ -3,7 +3,7 @@ use Rattle.edi_disk.specs.Use.{cached_slot, driven_out, with_room}
 use Rattle.edi_disk.specs.Shown.{numbers_of}
 use Rattle.edi_disk.proofs.Calls as calls
 use Rattle.edi_disk.proofs.Writing as writing
-use Rattle.edi_disk.proofs.Cached.{held_given, none_held, caches_hit, caches_taken}
+use Rattle.edi_disk.proofs.Cached.{cached_given, none_cached, caches_hit, caches_taken}
 use Rattle.edi_disk.proofs.Clean.{clean_hit, clean_taken}
 use Rattle.edi_disk.proofs.Lookup.{slot_of_number}
 use Rattle.edi_disk.proofs.disk.Disk.page.Goals as goal
@@ -144,17 +144,17 @@ returns-in-Fault-clause-drives_out g c =
     calls.taken_only g.D.Drive.contents g.D.Drive.count g.D.Drive.faults g.met.D.Drive.counted c.args.self.now.drive.now c.make_room.new.drive
     c.make_room.new.drive c.args.self.now.cache c.recall.new.self c.args.n f.1 f.0 c.make_room.ensures.only (λ _ e. e)
 
-pub returns-then-recall-clause-held : goal.returns-then-recall-clause-held
-returns-then-recall-clause-held g c = let f = c.recall.ensures.found c.if-recall.true in held_given c.args.n c.args.self.now.cache f.0 c.recall.new.into f.1 f.2
+pub returns-then-recall-clause-cached : goal.returns-then-recall-clause-cached
+returns-then-recall-clause-cached g c = let f = c.recall.ensures.found c.if-recall.true in cached_given c.args.n c.args.self.now.cache f.0 c.recall.new.into f.1 f.2
 
-pub returns-in-Ok-read-clause-held : goal.returns-in-Ok-read-clause-held
-returns-in-Ok-read-clause-held g c = none_held c.args.n c.args.self.now.cache _ (c.recall.ensures.absent c.if-recall.false).0
+pub returns-in-Ok-read-clause-cached : goal.returns-in-Ok-read-clause-cached
+returns-in-Ok-read-clause-cached g c = none_cached c.args.n c.args.self.now.cache _ (c.recall.ensures.absent c.if-recall.false).0
 
-pub returns-in-Failed-clause-held : goal.returns-in-Failed-clause-held
-returns-in-Failed-clause-held g c = none_held c.args.n c.args.self.now.cache _ (c.recall.ensures.absent c.if-recall.false).0
+pub returns-in-Failed-clause-cached : goal.returns-in-Failed-clause-cached
+returns-in-Failed-clause-cached g c = none_cached c.args.n c.args.self.now.cache _ (c.recall.ensures.absent c.if-recall.false).0
 
-pub returns-in-Fault-clause-held : goal.returns-in-Fault-clause-held
-returns-in-Fault-clause-held g c = none_held c.args.n c.args.self.now.cache _ (c.recall.ensures.absent c.if-recall.false).0
+pub returns-in-Fault-clause-cached : goal.returns-in-Fault-clause-cached
+returns-in-Fault-clause-cached g c = none_cached c.args.n c.args.self.now.cache _ (c.recall.ensures.absent c.if-recall.false).0
 
 pub returns-then-recall-clause-caches : goal.returns-then-recall-clause-caches
 returns-then-recall-clause-caches g c = λ _. let f = c.recall.ensures.found c.if-recall.true in
