@@ -19,7 +19,7 @@ use Rattle.edi_disk.proofs.Numbers.{numbers_after, numbers_room, order_cached, o
 use Rattle.edi_disk.proofs.Over.{AreBelow, length-over, get-over_cached, get-over_absent, below_after, below_room, over_after, over_room, over_all}
 use Rattle.edi_disk.proofs.Over.{over_settled}
 use Rattle.edi_disk.proofs.Since.{between_set, kept_by_settled}
-use Rattle.edi_disk.proofs.Writing.{told, where_told, shown_some, shown_from, many, below_told}
+use Rattle.edi_disk.proofs.Writing.{told, where_told, shown_some, shown_from, many, below_told, writes_then}
 
 -- a block that is cached after the first is driven out was cached before
 room_slot : (ps : List Slot) (n : ℕ) (p : Slot) → AreDifferent (numbers_of ps) → slot_of n (with_room ps) ≡ Some p → slot_of n ps ≡ Some p
@@ -297,6 +297,33 @@ module _ {D : Type 0} (contents : D → Option (List (List ℕ))) (count faults 
         let t = told (ReadLeaves end n into) (contents b) (contents c) blocks leaves e in
         let both = subst (λ (v : DriveEnd). ReadLeaves v n into t.0 blocks) ok t.2 in
         rw both.0 both.1
+
+  -- a block is read where there is room for it
+  module _ (a b c : D) (mid : List Slot) (n : ℕ) (into : List ℕ) (end : DriveEnd) (written : Writes contents count faults mid a b)
+      (leaves : WhereTold (contents b) (contents c) (ReadLeaves end n into)) (stays : count c ≡ count b) (later : faults b ≤ faults c) where
+    pub read_wrote : Writes contents count faults mid a c
+    read_wrote = writes_then contents count faults counted mid a b c written (reads b c mid n into end leaves stays later written.backed)
+
+    -- and is taken in
+    module _ (ps new : List Slot) (same : mid ≡ ps) (lt : n < count a) (none : slot_of n ps ≡ None)
+        (first : 16 ≤ length mid → AllOn contents b (take 1 mid)) (ok : end ≡ drive.Ok) (is : new ≡ with_room mid ++ cached_slot n into false ∷ []) where
+      first_now : 16 ≤ length mid → AllOn contents c (take 1 mid)
+      first_now full = still_on b c mid n into end leaves stays later (take 1 mid) (first full)
+
+      on_now : (blocks : List (List ℕ)) → contents c ≡ Some blocks → slice_get blocks n ≡ Some into
+      on_now = read_on b c mid n into end leaves stays later ok
+
+      pub read_works : IsBacked contents count c new
+      read_works = page_works a c ps mid new n (cached_slot n into false) same lt none read_wrote first_now refl is into refl on_now
+
+      pub read_gives : WhereTold (shown_by contents a ps) (shown_by contents c new) (PageGives disk.Ok n into)
+      read_gives = page_gives a c ps mid new n (cached_slot n into false) same lt none read_wrote first_now refl is into refl on_now
+
+      pub read_since : (base : List (List ℕ)) (was_put : ℕ → List ℕ → Bool) → KeptBy contents base was_put a ps → KeptBy contents base was_put c new
+      read_since = page_since a c ps mid new n (cached_slot n into false) same lt none read_wrote first_now refl is into refl on_now
+
+      pub read_order : numbers_of new ≡ after_use n (numbers_of ps)
+      read_order = taken_order a c ps mid new n (cached_slot n into false) same lt none read_wrote first_now refl is
 
   -- all are written
   module _ (a b : D) (ps new : List Slot) (written : Writes contents count faults ps a b) (all : AllOn contents b ps) (is : new ≡ map settled_slot ps) where

@@ -1,4 +1,4 @@
-use Rattle.std.proofs.Common.{◌≤◌, length, take, refl, false, sym, ap, ◌∙◌, ◌++◌, ◌∷◌, []}
+use Rattle.std.proofs.Common.{refl, false, sym, ap, ◌∙◌, ◌++◌, ◌∷◌, []}
 use Rattle.edi_disk.specs.Use.{cached_slot, driven_out, with_room}
 use Rattle.edi_disk.specs.Shown.{numbers_of}
 use Rattle.edi_disk.proofs.Calls as calls
@@ -31,64 +31,30 @@ returns-then-recall-clause-order g c = λ _. let f = c.recall.ensures.found c.if
 pub returns-in-Ok-read-clause-works : goal.returns-in-Ok-read-clause-works
 returns-in-Ok-read-clause-works g c = λ _.
     let f = c.recall.ensures.absent c.if-recall.false in
-    let read = calls.reads g.D.Drive.contents g.D.Drive.count g.D.Drive.faults g.met.D.Drive.counted c.make_room.new.drive c.read.new.self c.recall.new.self
-    c.args.n c.read.new.into _ c.read.ensures.leaves c.read.ensures.count c.read.ensures.later c.make_room.ensures.writes.backed in
-    let wrote = writing.writes_then g.D.Drive.contents g.D.Drive.count g.D.Drive.faults g.met.D.Drive.counted c.recall.new.self c.args.self.now.drive.now
-    c.make_room.new.drive c.read.new.self c.make_room.ensures.writes read in
-    let first = λ (full : 16 ≤ length c.recall.new.self). calls.still_on g.D.Drive.contents g.D.Drive.count g.D.Drive.faults g.met.D.Drive.counted
-    c.make_room.new.drive c.read.new.self c.recall.new.self c.args.n c.read.new.into _ c.read.ensures.leaves c.read.ensures.count c.read.ensures.later
-    (take 1 c.recall.new.self) (c.make_room.ensures.first c.in-Ok.is full) in
-    let on = calls.read_on g.D.Drive.contents g.D.Drive.count g.D.Drive.faults g.met.D.Drive.counted c.make_room.new.drive c.read.new.self c.recall.new.self
-    c.args.n c.read.new.into _ c.read.ensures.leaves c.read.ensures.count c.read.ensures.later c.in-Ok-read.is in
-    calls.page_works g.D.Drive.contents g.D.Drive.count g.D.Drive.faults g.met.D.Drive.counted c.args.self.now.drive.now c.read.new.self c.args.self.now.cache
-    c.recall.new.self c.hold.new.self c.args.n (cached_slot c.args.n c.read.new.into false) f.1 c.requires.in_range f.0 wrote first refl c.hold.ensures
-    c.read.new.into refl on
+    calls.read_works g.D.Drive.contents g.D.Drive.count g.D.Drive.faults g.met.D.Drive.counted c.args.self.now.drive.now c.make_room.new.drive c.read.new.self
+    c.recall.new.self c.args.n c.read.new.into _ c.make_room.ensures.writes c.read.ensures.leaves c.read.ensures.count c.read.ensures.later
+    c.args.self.now.cache c.hold.new.self f.1 c.requires.in_range f.0 (c.make_room.ensures.first c.in-Ok.is) c.in-Ok-read.is c.hold.ensures
 
 pub returns-in-Ok-read-clause-gives : goal.returns-in-Ok-read-clause-gives
 returns-in-Ok-read-clause-gives g c =
     let f = c.recall.ensures.absent c.if-recall.false in
-    let read = calls.reads g.D.Drive.contents g.D.Drive.count g.D.Drive.faults g.met.D.Drive.counted c.make_room.new.drive c.read.new.self c.recall.new.self
-    c.args.n c.read.new.into _ c.read.ensures.leaves c.read.ensures.count c.read.ensures.later c.make_room.ensures.writes.backed in
-    let wrote = writing.writes_then g.D.Drive.contents g.D.Drive.count g.D.Drive.faults g.met.D.Drive.counted c.recall.new.self c.args.self.now.drive.now
-    c.make_room.new.drive c.read.new.self c.make_room.ensures.writes read in
-    let first = λ (full : 16 ≤ length c.recall.new.self). calls.still_on g.D.Drive.contents g.D.Drive.count g.D.Drive.faults g.met.D.Drive.counted
-    c.make_room.new.drive c.read.new.self c.recall.new.self c.args.n c.read.new.into _ c.read.ensures.leaves c.read.ensures.count c.read.ensures.later
-    (take 1 c.recall.new.self) (c.make_room.ensures.first c.in-Ok.is full) in
-    let on = calls.read_on g.D.Drive.contents g.D.Drive.count g.D.Drive.faults g.met.D.Drive.counted c.make_room.new.drive c.read.new.self c.recall.new.self
-    c.args.n c.read.new.into _ c.read.ensures.leaves c.read.ensures.count c.read.ensures.later c.in-Ok-read.is in
-    calls.page_gives g.D.Drive.contents g.D.Drive.count g.D.Drive.faults g.met.D.Drive.counted c.args.self.now.drive.now c.read.new.self c.args.self.now.cache
-    c.recall.new.self c.hold.new.self c.args.n (cached_slot c.args.n c.read.new.into false) f.1 c.requires.in_range f.0 wrote first refl c.hold.ensures
-    c.read.new.into refl on
+    calls.read_gives g.D.Drive.contents g.D.Drive.count g.D.Drive.faults g.met.D.Drive.counted c.args.self.now.drive.now c.make_room.new.drive c.read.new.self
+    c.recall.new.self c.args.n c.read.new.into _ c.make_room.ensures.writes c.read.ensures.leaves c.read.ensures.count c.read.ensures.later
+    c.args.self.now.cache c.hold.new.self f.1 c.requires.in_range f.0 (c.make_room.ensures.first c.in-Ok.is) c.in-Ok-read.is c.hold.ensures
 
 pub returns-in-Ok-read-clause-since : goal.returns-in-Ok-read-clause-since
 returns-in-Ok-read-clause-since g c =
     let f = c.recall.ensures.absent c.if-recall.false in
-    let read = calls.reads g.D.Drive.contents g.D.Drive.count g.D.Drive.faults g.met.D.Drive.counted c.make_room.new.drive c.read.new.self c.recall.new.self
-    c.args.n c.read.new.into _ c.read.ensures.leaves c.read.ensures.count c.read.ensures.later c.make_room.ensures.writes.backed in
-    let wrote = writing.writes_then g.D.Drive.contents g.D.Drive.count g.D.Drive.faults g.met.D.Drive.counted c.recall.new.self c.args.self.now.drive.now
-    c.make_room.new.drive c.read.new.self c.make_room.ensures.writes read in
-    let first = λ (full : 16 ≤ length c.recall.new.self). calls.still_on g.D.Drive.contents g.D.Drive.count g.D.Drive.faults g.met.D.Drive.counted
-    c.make_room.new.drive c.read.new.self c.recall.new.self c.args.n c.read.new.into _ c.read.ensures.leaves c.read.ensures.count c.read.ensures.later
-    (take 1 c.recall.new.self) (c.make_room.ensures.first c.in-Ok.is full) in
-    let on = calls.read_on g.D.Drive.contents g.D.Drive.count g.D.Drive.faults g.met.D.Drive.counted c.make_room.new.drive c.read.new.self c.recall.new.self
-    c.args.n c.read.new.into _ c.read.ensures.leaves c.read.ensures.count c.read.ensures.later c.in-Ok-read.is in
-    calls.page_since g.D.Drive.contents g.D.Drive.count g.D.Drive.faults g.met.D.Drive.counted c.args.self.now.drive.now c.read.new.self c.args.self.now.cache
-    c.recall.new.self c.hold.new.self c.args.n (cached_slot c.args.n c.read.new.into false) f.1 c.requires.in_range f.0 wrote first refl c.hold.ensures
-    c.read.new.into refl on
+    calls.read_since g.D.Drive.contents g.D.Drive.count g.D.Drive.faults g.met.D.Drive.counted c.args.self.now.drive.now c.make_room.new.drive c.read.new.self
+    c.recall.new.self c.args.n c.read.new.into _ c.make_room.ensures.writes c.read.ensures.leaves c.read.ensures.count c.read.ensures.later
+    c.args.self.now.cache c.hold.new.self f.1 c.requires.in_range f.0 (c.make_room.ensures.first c.in-Ok.is) c.in-Ok-read.is c.hold.ensures
 
 pub returns-in-Ok-read-clause-order : goal.returns-in-Ok-read-clause-order
 returns-in-Ok-read-clause-order g c = λ _.
     let f = c.recall.ensures.absent c.if-recall.false in
-    let read = calls.reads g.D.Drive.contents g.D.Drive.count g.D.Drive.faults g.met.D.Drive.counted c.make_room.new.drive c.read.new.self c.recall.new.self
-    c.args.n c.read.new.into _ c.read.ensures.leaves c.read.ensures.count c.read.ensures.later c.make_room.ensures.writes.backed in
-    let wrote = writing.writes_then g.D.Drive.contents g.D.Drive.count g.D.Drive.faults g.met.D.Drive.counted c.recall.new.self c.args.self.now.drive.now
-    c.make_room.new.drive c.read.new.self c.make_room.ensures.writes read in
-    let first = λ (full : 16 ≤ length c.recall.new.self). calls.still_on g.D.Drive.contents g.D.Drive.count g.D.Drive.faults g.met.D.Drive.counted
-    c.make_room.new.drive c.read.new.self c.recall.new.self c.args.n c.read.new.into _ c.read.ensures.leaves c.read.ensures.count c.read.ensures.later
-    (take 1 c.recall.new.self) (c.make_room.ensures.first c.in-Ok.is full) in
-    calls.taken_order g.D.Drive.contents g.D.Drive.count g.D.Drive.faults g.met.D.Drive.counted c.args.self.now.drive.now c.read.new.self
-    c.args.self.now.cache c.recall.new.self c.hold.new.self c.args.n (cached_slot c.args.n c.read.new.into false) f.1 c.requires.in_range f.0 wrote first
-    refl c.hold.ensures
+    calls.read_order g.D.Drive.contents g.D.Drive.count g.D.Drive.faults g.met.D.Drive.counted c.args.self.now.drive.now c.make_room.new.drive c.read.new.self
+    c.recall.new.self c.args.n c.read.new.into _ c.make_room.ensures.writes c.read.ensures.leaves c.read.ensures.count c.read.ensures.later
+    c.args.self.now.cache c.hold.new.self f.1 c.requires.in_range f.0 (c.make_room.ensures.first c.in-Ok.is) c.in-Ok-read.is c.hold.ensures
 
 pub returns-in-Ok-read-clause-without_drive : goal.returns-in-Ok-read-clause-without_drive
 returns-in-Ok-read-clause-without_drive g c = λ listed. calls.not_listed g.D.Drive.contents g.D.Drive.count g.D.Drive.faults g.met.D.Drive.counted
@@ -97,12 +63,10 @@ returns-in-Ok-read-clause-without_drive g c = λ listed. calls.not_listed g.D.Dr
 pub returns-in-Failed-clause-since : goal.returns-in-Failed-clause-since
 returns-in-Failed-clause-since g c =
     let f = c.recall.ensures.absent c.if-recall.false in
-    let read = calls.reads g.D.Drive.contents g.D.Drive.count g.D.Drive.faults g.met.D.Drive.counted c.make_room.new.drive c.read.new.self c.recall.new.self
-    c.args.n c.read.new.into _ c.read.ensures.leaves c.read.ensures.count c.read.ensures.later c.make_room.ensures.writes.backed in
-    let wrote = writing.writes_then g.D.Drive.contents g.D.Drive.count g.D.Drive.faults g.met.D.Drive.counted c.recall.new.self c.args.self.now.drive.now
-    c.make_room.new.drive c.read.new.self c.make_room.ensures.writes read in
     calls.still_kept g.D.Drive.contents g.D.Drive.count g.D.Drive.faults g.met.D.Drive.counted c.args.self.now.drive.now c.read.new.self c.args.self.now.cache
-    c.recall.new.self f.1 wrote
+    c.recall.new.self f.1
+    (calls.read_wrote g.D.Drive.contents g.D.Drive.count g.D.Drive.faults g.met.D.Drive.counted c.args.self.now.drive.now c.make_room.new.drive c.read.new.self
+    c.recall.new.self c.args.n c.read.new.into _ c.make_room.ensures.writes c.read.ensures.leaves c.read.ensures.count c.read.ensures.later)
 
 pub returns-in-Failed-clause-without_drive : goal.returns-in-Failed-clause-without_drive
 returns-in-Failed-clause-without_drive g c = λ listed. calls.not_listed g.D.Drive.contents g.D.Drive.count g.D.Drive.faults g.met.D.Drive.counted
