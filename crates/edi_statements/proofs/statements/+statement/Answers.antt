@@ -1,4 +1,4 @@
-use Rattle.std.proofs.Common.{rules, ◌∷◌, ◌∙◌, [], map, ap, refl, sym, arith}
+use Rattle.std.proofs.Common.{rules, ◌∷◌, ◌∙◌, [], map, ap, refl, sym, arith, ◌≡◌, Some}
 use Rattle.std.proofs.lemmas.Result.{err_from_is_err_and}
 use Rattle.std.proofs.lemmas.Bool.{ne_eqb}
 use Rattle.edi_lex.specs.declared.symbol.Symbol.TheVariants as is
@@ -13,12 +13,40 @@ use Rattle.edi_grammar.specs.Kind.{front}
 use Rattle.edi_grammar.specs.Rules as g
 use Rattle.edi_grammar.specs.Edison.{edison}
 use Rattle.edi_phrases.specs.Words.{at_line}
-use Rattle.edi_phrases.proofs.Moves.{waits, over_mark, over_open, over_end, over_part, into, written, lacks, refused, halts}
+use Rattle.edi_phrases.proofs.Moves.{waits, over_mark, over_end, over_part, into, written, lacks, refused, halts}
+use Rattle.edi_phrases.proofs.Opened.{over_front, open_front}
 use Rattle.edi_phrases.proofs.Fronts.{apart}
 use Rattle.edi_statements.specs.Lines as lines
 use Rattle.edi_statements.proofs.Branches.{also_branches, last_end, also_push, last_push, ended}
 use Rattle.edi_statements.proofs.Pushes as push
 use Rattle.edi_statements.proofs.statements.+statement.Goals as goal
+
+else_else : rule_at edison g.Else kind.Else ≡ Some (token kind.Else ∷ part g.Condition ∷ part g.Else ∷ [])
+else_else = refl
+
+statement_if : rule_at edison g.Statement kind.If ≡ Some (token kind.If ∷ part g.Conditions ∷ token kind.End ∷ item.level_end ∷ [])
+statement_if = refl
+
+statement_while : rule_at edison g.Statement kind.While ≡ Some (token kind.While ∷ part g.Conditions ∷ token kind.End ∷ item.level_end ∷ [])
+statement_while = refl
+
+statement_when : rule_at edison g.Statement kind.When ≡ Some (token kind.When ∷ part g.Conditions ∷ token kind.End ∷ item.level_end ∷ [])
+statement_when = refl
+
+statement_cobegin : rule_at edison g.Statement kind.Cobegin ≡ Some (token kind.Cobegin ∷ part g.Branch ∷ part g.Branches ∷ item.level_end ∷ [])
+statement_cobegin = refl
+
+branches_also : rule_at edison g.Branches kind.Also ≡ Some (token kind.Also ∷ part g.Branch ∷ part g.Branches ∷ [])
+branches_also = refl
+
+branches_end : rule_at edison g.Branches kind.End ≡ Some (token kind.End ∷ [])
+branches_end = refl
+
+statement_skip : rule_at edison g.Statement kind.Skip ≡ Some (token kind.Skip ∷ [])
+statement_skip = refl
+
+statements_semicolon : rule_at edison g.Statements kind.Semicolon ≡ Some (token kind.Semicolon ∷ part g.Statement ∷ part g.Statements ∷ [])
+statements_semicolon = refl
 
 pub parse_condition-returns-in_err-expr-clause-halts : goal.parse_condition-returns-in_err-expr-clause-halts
 parse_condition-returns-in_err-expr-clause-halts t c = let p = err_from_is_err_and c.from_residual.result c.from_residual.ensures.1 in
@@ -45,18 +73,15 @@ parse_condition-returns-clause-passes t c = written
 
 pub parse_else-returns-in_err-condition-clause-halts : goal.parse_else-returns-in_err-condition-clause-halts
 parse_else-returns-in_err-condition-clause-halts t c = let p = err_from_is_err_and c.from_residual.result c.from_residual.ensures.1 in
-    rw (p.1, p.2) (halts (over_mark (just is.Else) (at_line is.Else c.in-Some.field-0-0)
-    (into (token kind.Else ∷ part g.Condition ∷ part g.Else ∷ []) (c.loop-behind_else.invariant.goes)
-    (ap (λ q. rule_at edison g.Else (front q)) c.in-Some.ensures.found)) c.in-Some.ensures.found refl refl (refl, tt)) (omega arith)
-    c.in_err-condition.ensures.halts)
+    rw (p.1, p.2) (halts (over_front g.Else is.Else (just is.Else) else_else refl (refl, tt) (c.loop-behind_else.invariant.goes) c.in-Some.ensures.found)
+    (omega arith) c.in_err-condition.ensures.halts)
 
 pub parse_else-loop-behind_else-preserved : goal.parse_else-loop-behind_else-preserved
 parse_else-loop-behind_else-preserved t c =
     record {
-      goes = written (over_part (over_mark (just is.Else) (at_line is.Else c.in-Some.field-0-0)
-          (into (token kind.Else ∷ part g.Condition ∷ part g.Else ∷ []) (c.loop-behind_else.invariant.goes)
-          (ap (λ q. rule_at edison g.Else (front q)) c.in-Some.ensures.found)) c.in-Some.ensures.found refl refl (refl, tt)) c.in_ok-condition.ensures.passes
-          (omega arith)) (push.else_push view.condition_of c.loop-behind_else.conditions.items c.push.new.self.items c.in_ok-condition.condition (search rules));
+      goes = written (over_part (over_front g.Else is.Else (just is.Else) else_else refl (refl, tt) (c.loop-behind_else.invariant.goes)
+          c.in-Some.ensures.found) c.in_ok-condition.ensures.passes (omega arith))
+          (push.else_push view.condition_of c.loop-behind_else.conditions.items c.push.new.self.items c.in_ok-condition.condition (search rules));
       shorter = omega (arith, c.loop-behind_else.invariant.shorter, c.in-Some.ensures.shorter, c.in_ok-condition.ensures.shorter);
     }
 
@@ -83,88 +108,70 @@ parse_conditions-returns-clause-passes t c = written
 pub parse_if-returns-in_err-behind_if-clause-halts : goal.parse_if-returns-in_err-behind_if-clause-halts
 parse_if-returns-in_err-behind_if-clause-halts t c = let p = err_from_is_err_and c.from_residual.result c.from_residual.ensures.1 in
     rw (p.1, p.2) (refused (into (token kind.If ∷ part g.Conditions ∷ token kind.End ∷ item.level_end ∷ []) (waits g.Statement _ _)
-    (ap (λ a. rule_at edison g.Statement a) c.requires.chosen)) refl (omega arith) c.in_err-behind_if.ensures.none)
+    (ap (λ a. rule_at edison g.Statement a) c.requires.chosen ∙ statement_if)) refl (omega arith) c.in_err-behind_if.ensures.none)
 
 pub parse_if-returns-in_err-conditions-clause-halts : goal.parse_if-returns-in_err-conditions-clause-halts
 parse_if-returns-in_err-conditions-clause-halts t c = let p = err_from_is_err_and c.from_residual-in_err-conditions.result
     c.from_residual-in_err-conditions.ensures.1 in
-    rw (p.1, p.2) (halts (over_open (just is.If) (at_line is.If c.in_ok-behind_if.field-0-0)
-    (into (token kind.If ∷ part g.Conditions ∷ token kind.End ∷ item.level_end ∷ []) (waits g.Statement _ _)
-    (ap (λ a. rule_at edison g.Statement a) c.requires.chosen)) c.in_ok-behind_if.ensures.found refl (omega (arith, c.in_ok-behind_if.ensures.room)) (refl, tt))
-    (omega arith) c.in_err-conditions.ensures.halts)
+    rw (p.1, p.2) (halts (open_front g.Statement is.If (just is.If) statement_if (omega (arith, c.in_ok-behind_if.ensures.room)) (refl, tt)
+    (waits g.Statement _ _) c.in_ok-behind_if.ensures.found) (omega arith) c.in_err-conditions.ensures.halts)
 
 pub parse_if-returns-in_err-rest-clause-halts : goal.parse_if-returns-in_err-rest-clause-halts
 parse_if-returns-in_err-rest-clause-halts t c = let p = err_from_is_err_and c.from_residual-in_err-rest.result c.from_residual-in_err-rest.ensures.1 in
-    rw (p.1, p.2) (lacks (over_part (over_open (just is.If) (at_line is.If c.in_ok-behind_if.field-0-0)
-    (into (token kind.If ∷ part g.Conditions ∷ token kind.End ∷ item.level_end ∷ []) (waits g.Statement _ _)
-    (ap (λ a. rule_at edison g.Statement a) c.requires.chosen)) c.in_ok-behind_if.ensures.found refl (omega (arith, c.in_ok-behind_if.ensures.room)) (refl, tt))
-    c.in_ok-conditions.ensures.passes (omega arith)) c.in_err-rest.ensures.none)
+    rw (p.1, p.2) (lacks (over_part (open_front g.Statement is.If (just is.If) statement_if (omega (arith, c.in_ok-behind_if.ensures.room)) (refl, tt)
+    (waits g.Statement _ _) c.in_ok-behind_if.ensures.found) c.in_ok-conditions.ensures.passes (omega arith)) c.in_err-rest.ensures.none)
 
 pub parse_if-returns-clause-passes : goal.parse_if-returns-clause-passes
 parse_if-returns-clause-passes t c = written
     (over_end (over_mark (just is.End) (at_line is.End c.in_ok-rest.field-0-0)
-    (over_part (over_open (just is.If) (at_line is.If c.in_ok-behind_if.field-0-0)
-    (into (token kind.If ∷ part g.Conditions ∷ token kind.End ∷ item.level_end ∷ []) (waits g.Statement _ _)
-    (ap (λ a. rule_at edison g.Statement a) c.requires.chosen)) c.in_ok-behind_if.ensures.found refl (omega (arith, c.in_ok-behind_if.ensures.room)) (refl, tt))
-    c.in_ok-conditions.ensures.passes (omega arith)) c.in_ok-rest.ensures.found refl refl (refl, tt)))
+    (over_part (open_front g.Statement is.If (just is.If) statement_if (omega (arith, c.in_ok-behind_if.ensures.room)) (refl, tt) (waits g.Statement _ _)
+    c.in_ok-behind_if.ensures.found) c.in_ok-conditions.ensures.passes (omega arith)) c.in_ok-rest.ensures.found refl refl (refl, tt)))
     (λ es. ap (λ t. elements.statement_elements t es) (sym c.make_if.ensures.seen))
 
 pub parse_while-returns-in_err-behind_while-clause-halts : goal.parse_while-returns-in_err-behind_while-clause-halts
 parse_while-returns-in_err-behind_while-clause-halts t c = let p = err_from_is_err_and c.from_residual.result c.from_residual.ensures.1 in
     rw (p.1, p.2) (refused (into (token kind.While ∷ part g.Conditions ∷ token kind.End ∷ item.level_end ∷ []) (waits g.Statement _ _)
-    (ap (λ a. rule_at edison g.Statement a) c.requires.chosen)) refl (omega arith) c.in_err-behind_while.ensures.none)
+    (ap (λ a. rule_at edison g.Statement a) c.requires.chosen ∙ statement_while)) refl (omega arith) c.in_err-behind_while.ensures.none)
 
 pub parse_while-returns-in_err-conditions-clause-halts : goal.parse_while-returns-in_err-conditions-clause-halts
 parse_while-returns-in_err-conditions-clause-halts t c = let p = err_from_is_err_and c.from_residual-in_err-conditions.result
     c.from_residual-in_err-conditions.ensures.1 in
-    rw (p.1, p.2) (halts (over_open (just is.While) (at_line is.While c.in_ok-behind_while.field-0-0)
-    (into (token kind.While ∷ part g.Conditions ∷ token kind.End ∷ item.level_end ∷ []) (waits g.Statement _ _)
-    (ap (λ a. rule_at edison g.Statement a) c.requires.chosen)) c.in_ok-behind_while.ensures.found refl (omega (arith, c.in_ok-behind_while.ensures.room))
-    (refl, tt)) (omega arith) c.in_err-conditions.ensures.halts)
+    rw (p.1, p.2) (halts (open_front g.Statement is.While (just is.While) statement_while (omega (arith, c.in_ok-behind_while.ensures.room)) (refl, tt)
+    (waits g.Statement _ _) c.in_ok-behind_while.ensures.found) (omega arith) c.in_err-conditions.ensures.halts)
 
 pub parse_while-returns-in_err-rest-clause-halts : goal.parse_while-returns-in_err-rest-clause-halts
 parse_while-returns-in_err-rest-clause-halts t c = let p = err_from_is_err_and c.from_residual-in_err-rest.result c.from_residual-in_err-rest.ensures.1 in
-    rw (p.1, p.2) (lacks (over_part (over_open (just is.While) (at_line is.While c.in_ok-behind_while.field-0-0)
-    (into (token kind.While ∷ part g.Conditions ∷ token kind.End ∷ item.level_end ∷ []) (waits g.Statement _ _)
-    (ap (λ a. rule_at edison g.Statement a) c.requires.chosen)) c.in_ok-behind_while.ensures.found refl (omega (arith, c.in_ok-behind_while.ensures.room))
-    (refl, tt)) c.in_ok-conditions.ensures.passes (omega arith)) c.in_err-rest.ensures.none)
+    rw (p.1, p.2) (lacks (over_part (open_front g.Statement is.While (just is.While) statement_while (omega (arith, c.in_ok-behind_while.ensures.room))
+    (refl, tt) (waits g.Statement _ _) c.in_ok-behind_while.ensures.found) c.in_ok-conditions.ensures.passes (omega arith)) c.in_err-rest.ensures.none)
 
 pub parse_while-returns-clause-passes : goal.parse_while-returns-clause-passes
 parse_while-returns-clause-passes t c = written
     (over_end (over_mark (just is.End) (at_line is.End c.in_ok-rest.field-0-0)
-    (over_part (over_open (just is.While) (at_line is.While c.in_ok-behind_while.field-0-0)
-    (into (token kind.While ∷ part g.Conditions ∷ token kind.End ∷ item.level_end ∷ []) (waits g.Statement _ _)
-    (ap (λ a. rule_at edison g.Statement a) c.requires.chosen)) c.in_ok-behind_while.ensures.found refl (omega (arith, c.in_ok-behind_while.ensures.room))
-    (refl, tt)) c.in_ok-conditions.ensures.passes (omega arith)) c.in_ok-rest.ensures.found refl refl (refl, tt)))
-    (λ es. ap (λ t. elements.statement_elements t es) (sym c.make_while.ensures.seen))
+    (over_part (open_front g.Statement is.While (just is.While) statement_while (omega (arith, c.in_ok-behind_while.ensures.room)) (refl, tt)
+    (waits g.Statement _ _) c.in_ok-behind_while.ensures.found) c.in_ok-conditions.ensures.passes (omega arith)) c.in_ok-rest.ensures.found refl refl
+    (refl, tt))) (λ es. ap (λ t. elements.statement_elements t es) (sym c.make_while.ensures.seen))
 
 pub parse_when-returns-in_err-line-clause-halts : goal.parse_when-returns-in_err-line-clause-halts
 parse_when-returns-in_err-line-clause-halts t c = let p = err_from_is_err_and c.from_residual.result c.from_residual.ensures.1 in
     rw (p.1, p.2) (refused (into (token kind.When ∷ part g.Conditions ∷ token kind.End ∷ item.level_end ∷ []) (waits g.Statement _ _)
-    (ap (λ a. rule_at edison g.Statement a) c.requires.chosen)) refl (omega arith) c.in_err-line.ensures.none)
+    (ap (λ a. rule_at edison g.Statement a) c.requires.chosen ∙ statement_when)) refl (omega arith) c.in_err-line.ensures.none)
 
 pub parse_when-returns-in_err-conditions-clause-halts : goal.parse_when-returns-in_err-conditions-clause-halts
 parse_when-returns-in_err-conditions-clause-halts t c = let p = err_from_is_err_and c.from_residual-in_err-conditions.result
     c.from_residual-in_err-conditions.ensures.1 in
-    rw (p.1, p.2) (halts (over_open (on is.When c.in_ok-line.line) (at_line is.When c.in_ok-line.line)
-    (into (token kind.When ∷ part g.Conditions ∷ token kind.End ∷ item.level_end ∷ []) (waits g.Statement _ _)
-    (ap (λ a. rule_at edison g.Statement a) c.requires.chosen)) c.in_ok-line.ensures.found refl (omega (arith, c.in_ok-line.ensures.room)) (refl, refl))
-    (omega arith) c.in_err-conditions.ensures.halts)
+    rw (p.1, p.2) (halts (open_front g.Statement is.When (on is.When c.in_ok-line.line) statement_when (omega (arith, c.in_ok-line.ensures.room)) (refl, refl)
+    (waits g.Statement _ _) c.in_ok-line.ensures.found) (omega arith) c.in_err-conditions.ensures.halts)
 
 pub parse_when-returns-in_err-rest-clause-halts : goal.parse_when-returns-in_err-rest-clause-halts
 parse_when-returns-in_err-rest-clause-halts t c = let p = err_from_is_err_and c.from_residual-in_err-rest.result c.from_residual-in_err-rest.ensures.1 in
-    rw (p.1, p.2) (lacks (over_part (over_open (on is.When c.in_ok-line.line) (at_line is.When c.in_ok-line.line)
-    (into (token kind.When ∷ part g.Conditions ∷ token kind.End ∷ item.level_end ∷ []) (waits g.Statement _ _)
-    (ap (λ a. rule_at edison g.Statement a) c.requires.chosen)) c.in_ok-line.ensures.found refl (omega (arith, c.in_ok-line.ensures.room)) (refl, refl))
-    c.in_ok-conditions.ensures.passes (omega arith)) c.in_err-rest.ensures.none)
+    rw (p.1, p.2) (lacks (over_part (open_front g.Statement is.When (on is.When c.in_ok-line.line) statement_when (omega (arith, c.in_ok-line.ensures.room))
+    (refl, refl) (waits g.Statement _ _) c.in_ok-line.ensures.found) c.in_ok-conditions.ensures.passes (omega arith)) c.in_err-rest.ensures.none)
 
 pub parse_when-returns-clause-passes : goal.parse_when-returns-clause-passes
 parse_when-returns-clause-passes t c = written
     (over_end (over_mark (just is.End) (at_line is.End c.in_ok-rest.field-0-0)
-    (over_part (over_open (on is.When c.in_ok-line.line) (at_line is.When c.in_ok-line.line)
-    (into (token kind.When ∷ part g.Conditions ∷ token kind.End ∷ item.level_end ∷ []) (waits g.Statement _ _)
-    (ap (λ a. rule_at edison g.Statement a) c.requires.chosen)) c.in_ok-line.ensures.found refl (omega (arith, c.in_ok-line.ensures.room)) (refl, refl))
-    c.in_ok-conditions.ensures.passes (omega arith)) c.in_ok-rest.ensures.found refl refl (refl, tt)))
+    (over_part (open_front g.Statement is.When (on is.When c.in_ok-line.line) statement_when (omega (arith, c.in_ok-line.ensures.room)) (refl, refl)
+    (waits g.Statement _ _) c.in_ok-line.ensures.found) c.in_ok-conditions.ensures.passes (omega arith)) c.in_ok-rest.ensures.found refl refl (refl, tt)))
     (λ es. ap (λ t. elements.statement_elements t es) (sym c.make_when.ensures.seen))
 
 pub parse_branch-returns-in_err-constant-clause-halts : goal.parse_branch-returns-in_err-constant-clause-halts
@@ -206,28 +213,15 @@ parse_cobegin-returns-in_err-line-clause-halts t c = let p = err_from_is_err_and
 pub parse_cobegin-returns-in_err-first-clause-halts : goal.parse_cobegin-returns-in_err-first-clause-halts
 parse_cobegin-returns-in_err-first-clause-halts t c = let p = err_from_is_err_and c.from_residual-in_err-first.result
     c.from_residual-in_err-first.ensures.1 in
-    rw (p.1, p.2) (halts (over_open (on is.Cobegin c.in_ok-line.line) (at_line is.Cobegin c.in_ok-line.line)
-    (into (token kind.Cobegin ∷ part g.Branch ∷ part g.Branches ∷ item.level_end ∷ []) (waits g.Statement _ _)
-    (let h1 = apart (front c.args.marks.now) kind.Skip (kind.Name ∷ kind.Val ∷ kind.If ∷ kind.While ∷ kind.When ∷ []) c.requires.chosen in
-    let h2 = apart (front c.args.marks.now) kind.Name (kind.Val ∷ kind.If ∷ kind.While ∷ kind.When ∷ []) h1.1 in
-    let h3 = apart (front c.args.marks.now) kind.Val (kind.If ∷ kind.While ∷ kind.When ∷ []) h2.1 in
-    let h4 = apart (front c.args.marks.now) kind.If (kind.While ∷ kind.When ∷ []) h3.1 in
-    let h5 = apart (front c.args.marks.now) kind.While (kind.When ∷ []) h4.1 in let h6 = apart (front c.args.marks.now) kind.When ([]) h5.1 in
-    rw (h1.0, h2.0, h3.0, h4.0, h5.0, h6.0) refl)) c.in_ok-line.ensures.found refl (omega (arith, c.in_ok-line.ensures.room)) (refl, refl)) (omega arith)
-    c.in_err-first.ensures.halts)
+    rw (p.1, p.2) (halts (open_front g.Statement is.Cobegin (on is.Cobegin c.in_ok-line.line) statement_cobegin (omega (arith, c.in_ok-line.ensures.room))
+    (refl, refl) (waits g.Statement _ _) c.in_ok-line.ensures.found) (omega arith) c.in_err-first.ensures.halts)
 
 pub parse_cobegin-loop-behind_also-init : goal.parse_cobegin-loop-behind_also-init
 parse_cobegin-loop-behind_also-init t c =
     record {
-      goes = written (over_part (over_open (on is.Cobegin c.in_ok-line.line) (at_line is.Cobegin c.in_ok-line.line)
-          (into (token kind.Cobegin ∷ part g.Branch ∷ part g.Branches ∷ item.level_end ∷ []) (waits g.Statement _ _)
-          (let h1 = apart (front c.args.marks.now) kind.Skip (kind.Name ∷ kind.Val ∷ kind.If ∷ kind.While ∷ kind.When ∷ []) c.requires.chosen in
-          let h2 = apart (front c.args.marks.now) kind.Name (kind.Val ∷ kind.If ∷ kind.While ∷ kind.When ∷ []) h1.1 in
-          let h3 = apart (front c.args.marks.now) kind.Val (kind.If ∷ kind.While ∷ kind.When ∷ []) h2.1 in
-          let h4 = apart (front c.args.marks.now) kind.If (kind.While ∷ kind.When ∷ []) h3.1 in
-          let h5 = apart (front c.args.marks.now) kind.While (kind.When ∷ []) h4.1 in let h6 = apart (front c.args.marks.now) kind.When ([]) h5.1 in
-          rw (h1.0, h2.0, h3.0, h4.0, h5.0, h6.0) refl)) c.in_ok-line.ensures.found refl (omega (arith, c.in_ok-line.ensures.room)) (refl, refl))
-          c.in_ok-first.ensures.passes (omega arith))
+      goes = written (over_part (open_front g.Statement is.Cobegin (on is.Cobegin c.in_ok-line.line) statement_cobegin
+          (omega (arith, c.in_ok-line.ensures.room)) (refl, refl) (waits g.Statement _ _) c.in_ok-line.ensures.found) c.in_ok-first.ensures.passes
+          (omega arith))
           (λ es. ap (λ l. elements.kept is.Cobegin c.in_ok-line.line ∷ elements.branch_elements (view.branch_of c.in_ok-first.first).opened
           (also_branches (view.branch_of c.in_ok-first.first).end (map view.branch_of l) es)) (sym c.new-branches.ensures.items));
       closed = ap (λ l. last_end (view.branch_of c.in_ok-first.first).end (map view.branch_of l)) c.new-branches.ensures.items ∙ c.in_ok-first.ensures.closed;
@@ -237,18 +231,15 @@ parse_cobegin-loop-behind_also-init t c =
 pub parse_cobegin-returns-in_err-branch-clause-halts : goal.parse_cobegin-returns-in_err-branch-clause-halts
 parse_cobegin-returns-in_err-branch-clause-halts t c = let p = err_from_is_err_and c.from_residual-in_err-branch.result
     c.from_residual-in_err-branch.ensures.1 in
-    rw (p.1, p.2) (halts (over_mark (on is.Also c.in-Some.field-0-0) (at_line is.Also c.in-Some.field-0-0)
-    (into (token kind.Also ∷ part g.Branch ∷ part g.Branches ∷ []) (c.loop-behind_also.invariant.goes)
-    (ap (λ q. rule_at edison g.Branches (front q)) c.in-Some.ensures.found)) c.in-Some.ensures.found refl refl (refl, refl)) (omega arith)
-    c.in_err-branch.ensures.halts)
+    rw (p.1, p.2) (halts (over_front g.Branches is.Also (on is.Also c.in-Some.field-0-0) branches_also refl (refl, refl) (c.loop-behind_also.invariant.goes)
+    c.in-Some.ensures.found) (omega arith) c.in_err-branch.ensures.halts)
 
 pub parse_cobegin-loop-behind_also-preserved : goal.parse_cobegin-loop-behind_also-preserved
 parse_cobegin-loop-behind_also-preserved t c =
     record {
-      goes = written (over_part (over_mark (on is.Also c.in-Some.field-0-0) (at_line is.Also c.in-Some.field-0-0)
-          (into (token kind.Also ∷ part g.Branch ∷ part g.Branches ∷ []) (c.loop-behind_also.invariant.goes)
-          (ap (λ q. rule_at edison g.Branches (front q)) c.in-Some.ensures.found)) c.in-Some.ensures.found refl refl (refl, refl)) c.in_ok-branch.ensures.passes
-          (omega arith)) (λ es. ap (λ l. elements.kept is.Cobegin c.in_ok-line.line ∷ elements.branch_elements (view.branch_of c.in_ok-first.first).opened l)
+      goes = written (over_part (over_front g.Branches is.Also (on is.Also c.in-Some.field-0-0) branches_also refl (refl, refl)
+          (c.loop-behind_also.invariant.goes) c.in-Some.ensures.found) c.in_ok-branch.ensures.passes (omega arith))
+          (λ es. ap (λ l. elements.kept is.Cobegin c.in_ok-line.line ∷ elements.branch_elements (view.branch_of c.in_ok-first.first).opened l)
           (also_push view.branch_of (view.branch_of c.in_ok-first.first).end c.in-Some.field-0-0 c.loop-behind_also.branches.items c.push.new.self.items
           c.in_ok-branch.branch (c.loop-behind_also.invariant.closed ∙ ap lines.front_line c.in-Some.ensures.found) (search rules) es));
       closed = last_push view.branch_of (view.branch_of c.in_ok-first.first).end c.loop-behind_also.branches.items c.push.new.self.items c.in_ok-branch.branch
@@ -264,10 +255,9 @@ parse_cobegin-returns-in_err-behind_end-clause-halts t c = let p = err_from_is_e
 
 pub parse_cobegin-returns-clause-passes : goal.parse_cobegin-returns-clause-passes
 parse_cobegin-returns-clause-passes t c = written
-    (over_end (over_mark (on is.End c.in_ok-behind_end.field-0-0) (at_line is.End c.in_ok-behind_end.field-0-0)
-    (into (token kind.End ∷ []) (c.loop-behind_also.invariant.goes) (ap (λ q. rule_at edison g.Branches (front q)) c.in_ok-behind_end.ensures.found))
-    c.in_ok-behind_end.ensures.found refl refl (refl, refl)))
-    (λ es. ap (λ l. elements.kept is.Cobegin c.in_ok-line.line ∷ elements.branch_elements (view.branch_of c.in_ok-first.first).opened l)
+    (over_end (over_front g.Branches is.End (on is.End c.in_ok-behind_end.field-0-0) branches_end refl (refl, refl) (c.loop-behind_also.invariant.goes)
+    c.in_ok-behind_end.ensures.found)) (λ es.
+    ap (λ l. elements.kept is.Cobegin c.in_ok-line.line ∷ elements.branch_elements (view.branch_of c.in_ok-first.first).opened l)
     (ended (view.branch_of c.in_ok-first.first).end c.in_ok-behind_end.field-0-0 (map view.branch_of c.loop-behind_also.branches.items)
     (c.loop-behind_also.invariant.closed ∙ ap lines.front_line c.in_ok-behind_end.ensures.found) es
     ∙ ap (λ l. elements.branches_elements (view.branches (view.branch_of c.in_ok-first.first).end (map view.branch_of l)) es)
@@ -275,25 +265,20 @@ parse_cobegin-returns-clause-passes t c = written
 
 pub parse_statement-returns-in-Some-clause-passes : goal.parse_statement-returns-in-Some-clause-passes
 parse_statement-returns-in-Some-clause-passes t c = written
-    (over_mark (just is.Skip) (at_line is.Skip c.in-Some.field-0-0)
-    (into (token kind.Skip ∷ []) (waits g.Statement _ _) (ap (λ q. rule_at edison g.Statement (front q)) c.in-Some.ensures.found)) c.in-Some.ensures.found refl
-    refl (refl, tt)) (λ es. ap (λ t. elements.statement_elements t es) (sym c.make_skip.ensures.seen))
+    (over_front g.Statement is.Skip (just is.Skip) statement_skip refl (refl, tt) (waits g.Statement _ _) c.in-Some.ensures.found)
+    (λ es. ap (λ t. elements.statement_elements t es) (sym c.make_skip.ensures.seen))
 
 pub parse_statements-returns-in_err-statement-clause-halts : goal.parse_statements-returns-in_err-statement-clause-halts
 parse_statements-returns-in_err-statement-clause-halts t c = let p = err_from_is_err_and c.from_residual.result c.from_residual.ensures.1 in
-    rw (p.1, p.2) (halts (over_mark (just is.Semicolon) (at_line is.Semicolon c.in-Some.field-0-0)
-    (into (token kind.Semicolon ∷ part g.Statement ∷ part g.Statements ∷ []) (c.loop-behind_semicolon.invariant.goes)
-    (ap (λ q. rule_at edison g.Statements (front q)) c.in-Some.ensures.found)) c.in-Some.ensures.found refl refl (refl, tt)) (omega arith)
-    c.in_err-statement.ensures.halts)
+    rw (p.1, p.2) (halts (over_front g.Statements is.Semicolon (just is.Semicolon) statements_semicolon refl (refl, tt) (c.loop-behind_semicolon.invariant.goes)
+    c.in-Some.ensures.found) (omega arith) c.in_err-statement.ensures.halts)
 
 pub parse_statements-loop-behind_semicolon-preserved : goal.parse_statements-loop-behind_semicolon-preserved
 parse_statements-loop-behind_semicolon-preserved t c =
     record {
-      goes = written (over_part (over_mark (just is.Semicolon) (at_line is.Semicolon c.in-Some.field-0-0)
-          (into (token kind.Semicolon ∷ part g.Statement ∷ part g.Statements ∷ []) (c.loop-behind_semicolon.invariant.goes)
-          (ap (λ q. rule_at edison g.Statements (front q)) c.in-Some.ensures.found)) c.in-Some.ensures.found refl refl (refl, tt)) c.in_ok-statement.ensures.passes
-          (omega arith)) (push.statements_push view.statement_of c.loop-behind_semicolon.statements.items c.push.new.self.items c.in_ok-statement.statement
-          (search rules));
+      goes = written (over_part (over_front g.Statements is.Semicolon (just is.Semicolon) statements_semicolon refl (refl, tt)
+          (c.loop-behind_semicolon.invariant.goes) c.in-Some.ensures.found) c.in_ok-statement.ensures.passes (omega arith))
+          (push.statements_push view.statement_of c.loop-behind_semicolon.statements.items c.push.new.self.items c.in_ok-statement.statement (search rules));
       shorter = omega (arith, c.loop-behind_semicolon.invariant.shorter, c.in-Some.ensures.shorter, c.in_ok-statement.ensures.shorter);
     }
 
