@@ -122,7 +122,7 @@ module _ (g : Coded) (long : ValuesAreLong) (zeros : ZeroIsZeros) (s : Scene) (d
                 arith,
                 entering.room g long zeros s F w m h n parent cells c t to line pc held low few stood does free,
                 enough g long zeros s F w m h n parent cells c,
-                words_sum g.unit.types g.fits.table g.parts B,
+                words_sum g.unit.types B,
                 h.layout.segments.within p s.lives,
               )
 

@@ -22,7 +22,7 @@ use Rattle.edi_target.specs.Effect.{Local, Effect, entering, due, fails, bad, ne
 use Rattle.edi_target.specs.Mach.{effect_at, is_first, turn_from}
 use Rattle.edi_scheme.proofs.Known.{words_sum}
 use Rattle.edi_scheme.specs.Pieces as pieces
-use Rattle.edi_scheme.specs.Pieces.{is_branch, entry_of, function_flag}
+use Rattle.edi_scheme.specs.Pieces.{is_branch, function_flag}
 use Rattle.edi_scheme.specs.Stands as code
 use Rattle.edi_worded.specs.Words.{ValuesAreLong, ZeroIsZeros}
 use Rattle.edi_spots.specs.Coded.{Coded, block, entry, kept}
@@ -92,7 +92,7 @@ module _ (g : Coded) (long : ValuesAreLong) (zeros : ZeroIsZeros) (s : Scene) (F
   args_length = aligned_length g s.first F B.parameters cells (arguments_aligned g long zeros s F (now F p) n c.known cells c.cells_fit)
 
   sum : variable_words ts B ≡ rw' + pw + vw
-  sum = words_sum ts g.fits.table g.parts B
+  sum = words_sum ts B
 
   abbrev pub ws : List ℕ
   ws = frame_words (address s.first F parent) (address s.first F (now F p)) to t rw' args ++ replicate (B.need - (5 + rw' + pw)) 0

@@ -1,4 +1,4 @@
--- Definition. What a fork is held to: how many processes may live at once, and the room that each branch gets. The meaning of
+-- Definition. What bounds a fork: how many processes may live at once, and the room that each branch gets. The meaning of
 -- programs and the machine share these.
 use Rattle.std.specs.Prelude.{ℕ, ◌/◌}
 

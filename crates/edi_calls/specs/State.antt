@@ -26,7 +26,7 @@ pub record State : Type 0 where
   -- the bytes that the terminal and the printer took
   pub shown : List ℕ
   pub printed : List ℕ
-  -- 256 places for files
+  -- 256 slots for files
   pub slots : List (Option File)
   -- the number of blocks of the disk, 0 where there is no disk
   pub blocks : ℕ

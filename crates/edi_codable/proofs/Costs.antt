@@ -22,7 +22,7 @@ use Rattle.edi_static.specs.Judged.{Judged}
 use Rattle.edi_static.specs.Environment.{Environment, look_up, same_heading}
 use Rattle.edi_static.specs.Operators.{Typed, signed, Linked, Chained, operated, takes, chain_of}
 use Rattle.edi_static.specs.Fitting.{Use, constructs, calls, halts, neither, use_of, variable_argument, passed, name_alone, is_variable_alone, string_alone}
-use Rattle.edi_static.specs.Fitting.{character, single, function_called, expressions_of, made, takes_parts, constructed, is_record, place_of_name}
+use Rattle.edi_static.specs.Fitting.{character, single, function_called, expressions_of, made, takes_parts, constructed, is_record, index_of_name}
 use Rattle.edi_static.specs.Expressions.{Parted, field_at, field_of, used_alone, alone, taken, element, procedure_argument, argument}
 use Rattle.edi_static.proofs.Judging.{Gives, bind, behind, ruled}
 use Rattle.edi_scheme.specs.Lines.{IsLine, ExpressionLines, ExpressionsLines, LinksLines, PartLines, ArgumentLines}
@@ -253,7 +253,7 @@ pub field_fine : (env : Environment) (line of : ℕ) (name : Name) (more : List 
     → Gives (PartFine (on is.Period line ∷ name_mark name ∷ more) more) (field_of env line of name)
 field_fine env line of name more h =
     ruled (PartFine (on is.Period line ∷ name_mark name ∷ more) more) (is_record (shape_at env.types of)) kind.Types line _
-    (λ e. go (place_of_name (slice_index_or env.fields of []) name.text)) where
+    (λ e. go (index_of_name (slice_index_or env.fields of []) name.text)) where
       go : (o : Option ℕ) → Gives (PartFine (on is.Period line ∷ name_mark name ∷ more) more) (field_at env of name o)
       go None = tt
       go (Some n) = record { lined = h.1.1; lines = tt; fewer = omega arith }

@@ -45,7 +45,7 @@ abbrev pub Lined : List Spelled → Type 0
 Lined [] = Unit {0}
 Lined (s ∷ ss) = KeptLine s.line × Lined ss
 
--- ---- a tree that is held
+-- ---- a tree that symbols may hold
 
 lowest : (line : ℕ) (marks : List Mark) (last : ℕ) → is_orderly line marks last ≡ true → line ≤ last
 lowest line [] last e = grind (arith, nat_tests, e)

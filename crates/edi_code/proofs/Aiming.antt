@@ -16,19 +16,19 @@ use Rattle.edi_code.proofs.Emitting.{words_append, emits_then}
 
 -- ---- one jump
 
-pub long_as_before : (target place : ℕ) (words : List ℕ) → length (aimed_at target place words) ≡ length words
-long_as_before target place words =
-    length-set (slice_set words (place + 1) (high_word target)) (place + 2) (low_word target) ∙ length-set words (place + 1) (high_word target)
+pub long_as_before : (target start : ℕ) (words : List ℕ) → length (aimed_at target start words) ≡ length words
+long_as_before target start words =
+    length-set (slice_set words (start + 1) (high_word target)) (start + 2) (low_word target) ∙ length-set words (start + 1) (high_word target)
 
 -- what stands behind is as it was
-pub aimed_before : (target place : ℕ) (words more : List ℕ) → place + 3 ≤ length words → aimed_at target place (words ++ more) ≡ aimed_at target place words
+pub aimed_before : (target start : ℕ) (words more : List ℕ) → start + 3 ≤ length words → aimed_at target start (words ++ more) ≡ aimed_at target start words
     ++ more
-aimed_before target place words more there =
-    let first : slice_set (words ++ more) (place + 1) (high_word target) ≡ slice_set words (place + 1) (high_word target) ++ more =
-    set-append_left words more (place + 1) (high_word target) (omega (arith, there)) in
-    ap (λ (l : List ℕ). slice_set l (place + 2) (low_word target)) first
-    ∙ set-append_left (slice_set words (place + 1) (high_word target)) more (place + 2) (low_word target)
-    (omega (arith, there, length-set words (place + 1) (high_word target)))
+aimed_before target start words more there =
+    let first : slice_set (words ++ more) (start + 1) (high_word target) ≡ slice_set words (start + 1) (high_word target) ++ more =
+    set-append_left words more (start + 1) (high_word target) (omega (arith, there)) in
+    ap (λ (l : List ℕ). slice_set l (start + 2) (low_word target)) first
+    ∙ set-append_left (slice_set words (start + 1) (high_word target)) more (start + 2) (low_word target)
+    (omega (arith, there, length-set words (start + 1) (high_word target)))
 
 -- a jump between two lists of words
 pub aimed_between : (target : ℕ) (before rest : List ℕ) (number high low : ℕ) → aimed_at target (length before) (before ++ (number ∷ high ∷ low ∷ rest))
@@ -81,69 +81,69 @@ decides op.Times one two three four behind rest p q e = subst (λ l. Emits one l
 decides op.Div one two three four behind rest p q e = subst (λ l. Emits one l rest) (sym e) (emits_then one two three [] rest p q)
 decides op.Mod one two three four behind rest p q e = subst (λ l. Emits one l rest) (sym e) (emits_then one two three [] rest p q)
 
--- ---- jumps at places
+-- ---- jumps that start at indices
 
-pub all_long_as_before : (target : ℕ) (places words : List ℕ) → length (aimed target places words) ≡ length words
+pub all_long_as_before : (target : ℕ) (starts words : List ℕ) → length (aimed target starts words) ≡ length words
 all_long_as_before target [] words = refl
 all_long_as_before target (p ∷ ps) words = all_long_as_before target ps (aimed_at target p words) ∙ long_as_before target p words
 
-pub all_aimed_before : (target : ℕ) (places words more : List ℕ) → AreThere places (length words) → aimed target places (words ++ more)
-    ≡ aimed target places words ++ more
+pub all_aimed_before : (target : ℕ) (starts words more : List ℕ) → AreThere starts (length words) → aimed target starts (words ++ more)
+    ≡ aimed target starts words ++ more
 all_aimed_before target [] words more there = refl
 all_aimed_before target (p ∷ ps) words more there =
     ap (aimed target ps) (aimed_before target p words more there.0)
     ∙ all_aimed_before target ps (aimed_at target p words) more (subst (AreThere ps) (sym (long_as_before target p words)) there.1)
 
-pub one_place_more : (target : ℕ) (places : List ℕ) (place : ℕ) (words : List ℕ) → aimed target (places ++ place ∷ []) words
-    ≡ aimed_at target place (aimed target places words)
-one_place_more target [] place words = refl
-one_place_more target (p ∷ ps) place words = one_place_more target ps place (aimed_at target p words)
+pub one_start_more : (target : ℕ) (starts : List ℕ) (start : ℕ) (words : List ℕ) → aimed target (starts ++ start ∷ []) words
+    ≡ aimed_at target start (aimed target starts words)
+one_start_more target [] start words = refl
+one_start_more target (p ∷ ps) start words = one_start_more target ps start (aimed_at target p words)
 
-pub there_among_more : (places : List ℕ) (long more : ℕ) → long ≤ more → AreThere places long → AreThere places more
+pub there_among_more : (starts : List ℕ) (long more : ℕ) → long ≤ more → AreThere starts long → AreThere starts more
 there_among_more [] long more l there = tt
 there_among_more (p ∷ ps) long more l there = (omega (arith, there.0, l), there_among_more ps long more l there.1)
 
-pub one_more_there : (places : List ℕ) (place long : ℕ) → place + 3 ≤ long → AreThere places long → AreThere (places ++ place ∷ []) long
-one_more_there [] place long l there = (l, tt)
-one_more_there (p ∷ ps) place long l there = (there.0, one_more_there ps place long l there.1)
+pub one_more_there : (starts : List ℕ) (start long : ℕ) → start + 3 ≤ long → AreThere starts long → AreThere (starts ++ start ∷ []) long
+one_more_there [] start long l there = (l, tt)
+one_more_there (p ∷ ps) start long l there = (there.0, one_more_there ps start long l there.1)
 
 -- ---- codes with open jumps
 
 -- nothing
-pub opens_nothing : (kind : ClauseKind) (top : ℕ) (places words : List ℕ) (code : ℕ → Code) → ((t : ℕ) → IsTarget kind top t → code t ≡ [])
-    → Opens kind top places places words words code
-opens_nothing kind top places words code none = record {
+pub opens_nothing : (kind : ClauseKind) (top : ℕ) (starts words : List ℕ) (code : ℕ → Code) → ((t : ℕ) → IsTarget kind top t → code t ≡ [])
+    → Opens kind top starts starts words words code
+opens_nothing kind top starts words code none = record {
   there = λ h. h;
   with_target =
-      λ t is h. sym (append-nil (aimed t places words)) ∙ ap (λ (c : Code). aimed t places words ++ words_of_code c) (sym (none t is));
+      λ t is h. sym (append-nil (aimed t starts words)) ∙ ap (λ (c : Code). aimed t starts words ++ words_of_code c) (sym (none t is));
 }
 
 -- a code with no jump to the target
-pub opens_closed : (kind : ClauseKind) (top : ℕ) (places old new : List ℕ) (code : Code) (later : ℕ → Code) → Emits old new code
-    → ((t : ℕ) → IsTarget kind top t → later t ≡ code) → Opens kind top places places old new later
-opens_closed kind top places old new code later p same = record {
-  there = λ h. there_among_more places (length old) (length new) (omega (arith, grown old new code p)) h;
+pub opens_closed : (kind : ClauseKind) (top : ℕ) (starts old new : List ℕ) (code : Code) (later : ℕ → Code) → Emits old new code
+    → ((t : ℕ) → IsTarget kind top t → later t ≡ code) → Opens kind top starts starts old new later
+opens_closed kind top starts old new code later p same = record {
+  there = λ h. there_among_more starts (length old) (length new) (omega (arith, grown old new code p)) h;
   with_target =
-      λ t is h. ap (aimed t places) p.appended
-      ∙ all_aimed_before t places old (words_of_code code) h
-      ∙ ap (λ (c : Code). aimed t places old ++ words_of_code c) (sym (same t is));
+      λ t is h. ap (aimed t starts) p.appended
+      ∙ all_aimed_before t starts old (words_of_code code) h
+      ∙ ap (λ (c : Code). aimed t starts old ++ words_of_code c) (sym (same t is));
 }
 
 -- a jump
-pub opens_jump : (kind : ClauseKind) (top : ℕ) (places later old new : List ℕ) → Emits old new (instruction.jump 0 ∷ []) → later ≡ places
-    ++ length old ∷ [] → Opens kind top places later old new (λ t. instruction.jump t ∷ [])
-opens_jump kind top places later old new p e =
+pub opens_jump : (kind : ClauseKind) (top : ℕ) (starts later old new : List ℕ) → Emits old new (instruction.jump 0 ∷ []) → later ≡ starts
+    ++ length old ∷ [] → Opens kind top starts later old new (λ t. instruction.jump t ∷ [])
+opens_jump kind top starts later old new p e =
     let long : length new ≡ length old + 3 = grown old new (instruction.jump 0 ∷ []) p in
     record {
       there = λ h. subst (λ l. AreThere l (length new)) (sym e)
-          (one_more_there places (length old) (length new) (omega (arith, long)) (there_among_more places (length old) (length new) (omega (arith, long)) h));
+          (one_more_there starts (length old) (length new) (omega (arith, long)) (there_among_more starts (length old) (length new) (omega (arith, long)) h));
       with_target =
           λ t is h. ap (λ (l : List ℕ). aimed t l new) e
-          ∙ one_place_more t places (length old) new
-          ∙ ap (λ (l : List ℕ). aimed_at t (length old) (aimed t places l)) p.appended
-          ∙ ap (aimed_at t (length old)) (all_aimed_before t places old (28 ∷ high_word 0 ∷ low_word 0 ∷ []) h)
-          ∙ ap (λ (k : ℕ). aimed_at t k (aimed t places old ++ (28 ∷ high_word 0 ∷ low_word 0 ∷ []))) (sym (all_long_as_before t places old))
-          ∙ aimed_between t (aimed t places old) [] 28 (high_word 0) (low_word 0);
+          ∙ one_start_more t starts (length old) new
+          ∙ ap (λ (l : List ℕ). aimed_at t (length old) (aimed t starts l)) p.appended
+          ∙ ap (aimed_at t (length old)) (all_aimed_before t starts old (28 ∷ high_word 0 ∷ low_word 0 ∷ []) h)
+          ∙ ap (λ (k : ℕ). aimed_at t k (aimed t starts old ++ (28 ∷ high_word 0 ∷ low_word 0 ∷ []))) (sym (all_long_as_before t starts old))
+          ∙ aimed_between t (aimed t starts old) [] 28 (high_word 0) (low_word 0);
     }
 
 -- one behind another
@@ -167,40 +167,40 @@ opens_stated kind top first second old new a b same p = record {
 }
 
 -- all jumps get their target
-pub opens_all : (kind : ClauseKind) (top target : ℕ) (places old unaimed new : List ℕ) (code : ℕ → Code) → IsTarget kind top target
-    → Opens kind top [] places old unaimed code → new ≡ aimed target places unaimed → Emits old new (code target)
-opens_all kind top target places old unaimed new code is p e = record { appended = e ∙ p.with_target target is tt }
+pub opens_all : (kind : ClauseKind) (top target : ℕ) (starts old unaimed new : List ℕ) (code : ℕ → Code) → IsTarget kind top target
+    → Opens kind top [] starts old unaimed code → new ≡ aimed target starts unaimed → Emits old new (code target)
+opens_all kind top target starts old unaimed new code is p e = record { appended = e ∙ p.with_target target is tt }
 
 -- ---- what closes a list
 
-pub closes_last : (top : ℕ) (places words : List ℕ) (clauses : Clauses) → is_end clauses ≡ true
-    → Opens once top places places words words (λ t. close_code once t clauses)
-closes_last top places words no_clause e = opens_nothing once top places words (λ t. []) (λ t is. refl)
-closes_last top places words (clause_then c cs) e = absurd (cc)
+pub closes_last : (top : ℕ) (starts words : List ℕ) (clauses : Clauses) → is_end clauses ≡ true
+    → Opens once top starts starts words words (λ t. close_code once t clauses)
+closes_last top starts words no_clause e = opens_nothing once top starts words (λ t. []) (λ t is. refl)
+closes_last top starts words (clause_then c cs) e = absurd (cc)
 
-pub closes_not_last : (top : ℕ) (places later old new : List ℕ) (clauses : Clauses) → is_end clauses ≡ false → Emits old new (instruction.jump 0 ∷ [])
-    → later ≡ places ++ length old ∷ [] → Opens once top places later old new (λ t. close_code once t clauses)
-closes_not_last top places later old new no_clause e p is = absurd (cc)
-closes_not_last top places later old new (clause_then c cs) e p is = opens_jump once top places later old new p is
+pub closes_not_last : (top : ℕ) (starts later old new : List ℕ) (clauses : Clauses) → is_end clauses ≡ false → Emits old new (instruction.jump 0 ∷ [])
+    → later ≡ starts ++ length old ∷ [] → Opens once top starts later old new (λ t. close_code once t clauses)
+closes_not_last top starts later old new no_clause e p is = absurd (cc)
+closes_not_last top starts later old new (clause_then c cs) e p is = opens_jump once top starts later old new p is
 
-pub closes_loop : (top : ℕ) (places old new : List ℕ) (clauses : Clauses) → Emits old new (instruction.loop top ∷ [])
-    → Opens repeated top places places old new (λ t. close_code repeated t clauses)
-closes_loop top places old new clauses p =
-    opens_closed repeated top places old new (instruction.loop top ∷ []) (λ t. instruction.loop t ∷ []) p (λ t is. ap (λ (k : ℕ). instruction.loop k ∷ []) is)
+pub closes_loop : (top : ℕ) (starts old new : List ℕ) (clauses : Clauses) → Emits old new (instruction.loop top ∷ [])
+    → Opens repeated top starts starts old new (λ t. close_code repeated t clauses)
+closes_loop top starts old new clauses p =
+    opens_closed repeated top starts old new (instruction.loop top ∷ []) (λ t. instruction.loop t ∷ []) p (λ t is. ap (λ (k : ℕ). instruction.loop k ∷ []) is)
 
-pub closes_phase : (top : ℕ) (places later old middle new : List ℕ) (clauses : Clauses) → Emits old middle (instruction.done ∷ [])
-    → Emits middle new (instruction.jump 0 ∷ []) → later ≡ places ++ length middle ∷ []
-    → Opens released top places later old new (λ t. close_code released t clauses)
-closes_phase top places later old middle new clauses p q is =
-    opens_then released top places places later old middle new (λ t. instruction.done ∷ []) (λ t. instruction.jump t ∷ [])
-    (opens_closed released top places old middle (instruction.done ∷ []) (λ t. instruction.done ∷ []) p (λ t i. refl))
-    (opens_jump released top places later middle new q is)
+pub closes_phase : (top : ℕ) (starts later old middle new : List ℕ) (clauses : Clauses) → Emits old middle (instruction.done ∷ [])
+    → Emits middle new (instruction.jump 0 ∷ []) → later ≡ starts ++ length middle ∷ []
+    → Opens released top starts later old new (λ t. close_code released t clauses)
+closes_phase top starts later old middle new clauses p q is =
+    opens_then released top starts starts later old middle new (λ t. instruction.done ∷ []) (λ t. instruction.jump t ∷ [])
+    (opens_closed released top starts old middle (instruction.done ∷ []) (λ t. instruction.done ∷ []) p (λ t i. refl))
+    (opens_jump released top starts later middle new q is)
 
 -- what closes a list of this kind, told of the kind that it is
-pub of_kind : (kind known : ClauseKind) (top : ℕ) (places later old new : List ℕ) (clauses : Clauses) → kind ≡ known
-    → Opens known top places later old new (λ t. close_code known t clauses) → Opens kind top places later old new (λ t. close_code kind t clauses)
-of_kind kind known top places later old new clauses e p =
-    subst (λ (k : ClauseKind). Opens k top places later old new (λ t. close_code k t clauses)) (sym e) p
+pub of_kind : (kind known : ClauseKind) (top : ℕ) (starts later old new : List ℕ) (clauses : Clauses) → kind ≡ known
+    → Opens known top starts later old new (λ t. close_code known t clauses) → Opens kind top starts later old new (λ t. close_code kind t clauses)
+of_kind kind known top starts later old new clauses e p =
+    subst (λ (k : ClauseKind). Opens k top starts later old new (λ t. close_code k t clauses)) (sym e) p
 
 -- ---- a loop over clauses
 
@@ -210,8 +210,8 @@ pub record IsOpen (kind : ClauseKind) (top : ℕ) (first second old new : List �
   pub left : (target : ℕ) → IsTarget kind top target → AreThere first (length old)
       → aimed target second new ++ words_of_code (rest target) ≡ aimed target first old ++ words_of_code (code target)
 
-pub open_at_first : (kind : ClauseKind) (top : ℕ) (places words : List ℕ) (code : ℕ → Code) → IsOpen kind top places places words words code code
-open_at_first kind top places words code = record { there = λ h. h; left = λ t is h. refl }
+pub open_at_first : (kind : ClauseKind) (top : ℕ) (starts words : List ℕ) (code : ℕ → Code) → IsOpen kind top starts starts words words code code
+open_at_first kind top starts words code = record { there = λ h. h; left = λ t is h. refl }
 
 pub open_later : (kind : ClauseKind) (top : ℕ) (first second third old middle new : List ℕ) (part rest later code : ℕ → Code)
     → IsOpen kind top first second old middle rest code → Opens kind top second third middle new part → ((t : ℕ) → rest t ≡ part t ++ later t)
@@ -233,22 +233,22 @@ open_at_last kind top first second old new code p = record {
   with_target = λ t i h. sym (append-nil (aimed t second new)) ∙ p.left t i h;
 }
 
--- ---- the loop over places
+-- ---- the loop over the starts of jumps
 
-pub aim_step : (target : ℕ) (places : List ℕ) (i : ℕ) (old new whole : List ℕ) → i < length places → new ≡ aimed_at target (slice_index_or places i 0) old
-    → AreThere (drop i places) (length old) → aimed target (drop i places) old ≡ whole
-    → AreThere (drop (i + 1) places) (length new) × (aimed target (drop (i + 1) places) new ≡ whole)
-aim_step target places i old new whole within e there left =
+pub aim_step : (target : ℕ) (starts : List ℕ) (i : ℕ) (old new whole : List ℕ) → i < length starts → new ≡ aimed_at target (slice_index_or starts i 0) old
+    → AreThere (drop i starts) (length old) → aimed target (drop i starts) old ≡ whole
+    → AreThere (drop (i + 1) starts) (length new) × (aimed target (drop (i + 1) starts) new ≡ whole)
+aim_step target starts i old new whole within e there left =
     let next : suc i ≡ i + 1 = omega arith in
-    let cut : drop i places ≡ slice_index_or places i 0 ∷ drop (i + 1) places = drop-cons places i 0 within
-    ∙ ap (λ (n : ℕ). slice_index_or places i 0 ∷ drop n places) next in
-    let known : AreThere (slice_index_or places i 0 ∷ drop (i + 1) places) (length old) = subst (λ l. AreThere l (length old)) cut there in (
-      subst (AreThere (drop (i + 1) places)) (sym (ap length e ∙ long_as_before target (slice_index_or places i 0) old)) known.1,
-      ap (aimed target (drop (i + 1) places)) e ∙ sym (ap (λ (l : List ℕ). aimed target l old) cut) ∙ left,
+    let cut : drop i starts ≡ slice_index_or starts i 0 ∷ drop (i + 1) starts = drop-cons starts i 0 within
+    ∙ ap (λ (n : ℕ). slice_index_or starts i 0 ∷ drop n starts) next in
+    let known : AreThere (slice_index_or starts i 0 ∷ drop (i + 1) starts) (length old) = subst (λ l. AreThere l (length old)) cut there in (
+      subst (AreThere (drop (i + 1) starts)) (sym (ap length e ∙ long_as_before target (slice_index_or starts i 0) old)) known.1,
+      ap (aimed target (drop (i + 1) starts)) e ∙ sym (ap (λ (l : List ℕ). aimed target l old) cut) ∙ left,
     )
 
-pub aim_ends : (target : ℕ) (places : List ℕ) (i : ℕ) (words whole : List ℕ) → length places ≤ i → aimed target (drop i places) words ≡ whole → words ≡ whole
-aim_ends target places i words whole past left = sym (ap (λ (l : List ℕ). aimed target l words) (drop_all i places past)) ∙ left
+pub aim_ends : (target : ℕ) (starts : List ℕ) (i : ℕ) (words whole : List ℕ) → length starts ≤ i → aimed target (drop i starts) words ≡ whole → words ≡ whole
+aim_ends target starts i words whole past left = sym (ap (λ (l : List ℕ). aimed target l words) (drop_all i starts past)) ∙ left
 
 -- ---- what is so where a call succeeds
 

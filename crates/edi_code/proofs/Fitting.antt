@@ -1,6 +1,5 @@
 -- The code of a unit that fits, and whose records have fields, can be written.
 use Rattle.std.proofs.Common.{◌≡◌, ℕ, suc, ◌<◌, ◌≤◌, ◌^◌, List, ◌∷◌, length, All, Option, Some, None, IfSome, refl, arith}
-use Rattle.std.specs.Option.{option_map}
 use Rattle.edi_unit.specs.declared.expressions.Operator.{Operator}
 use Rattle.edi_unit.specs.declared.expressions.Operator.TheVariants as op
 use Rattle.edi_unit.specs.declared.expressions.Callee.{Callee}
@@ -49,20 +48,8 @@ module _ (types : List Shape) (table : IsTypeTable types) (parts : HaveParts typ
   abbrev count : Expressions → ℕ
   count = known.count_of types table parts blocks headings each b inside
 
-  one_more : (w n : ℕ) (ws : Option (List ℕ)) → IfSome ws (λ ws. length ws ≡ n) → IfSome (option_map (λ ws. w ∷ ws) ws) (λ ws. length ws ≡ suc n)
-  one_more w n None h = tt
-  one_more w n (Some ws) h = omega (arith, h)
-
   constants_count : (es : Expressions) → IfSome (constant_words es) (λ ws. length ws ≡ count es)
-  constants_count no_expression = refl
-  constants_count (expression_then (constant t n) es) = one_more _ (count es) (constant_words es) (constants_count es)
-  constants_count (expression_then (load p) es) = tt
-  constants_count (expression_then (not_of e) es) = tt
-  constants_count (expression_then (sign_of e line) es) = tt
-  constants_count (expression_then (chain e ls) es) = tt
-  constants_count (expression_then (make t fs line) es) = tt
-  constants_count (expression_then (convert t e line) es) = tt
-  constants_count (expression_then (apply_of c xs line) es) = tt
+  constants_count = known.constants_count types table parts blocks headings each b inside
 
   row_writable : (ws : Option (List ℕ)) (n : ℕ) → 1 ≤ n → n ≤ greatest_size → IfSome ws (λ ws. length ws ≡ n) → RowIsWritable ws
   row_writable None n some few h = tt

@@ -4,8 +4,8 @@ use Rattle.std.proofs.Common.{◌⊎◌, inl, inr}
 use Rattle.std.proofs.Math.ListN.{get_or-eq_default}
 use Rattle.std.proofs.Math.Seq.{take-nil}
 use Rattle.std.proofs.lemmas.Bool.{cases_lt}
-use Rattle.std.proofs.lemmas.List.Sums.{sum_by-append, sum_by-cons, sum_by-take-le}
-use Rattle.std.specs.Prelude.{sum_by, map, slice_get, Option, Some, None, option_to_list, ◌++◌}
+use Rattle.std.proofs.lemmas.List.Sums.{sum_by-cons, sum_by-take-le}
+use Rattle.std.specs.Prelude.{sum_by, map, slice_get}
 use Rattle.std.specs.Option.{option_map_or}
 use Rattle.edi_unit.specs.declared.units.Parameter.TheVariants as slot
 use Rattle.edi_unit.specs.Types.{Shape, int, char, bool, enumeration, record_of, array_of, set_of, shape_at, fields_of, size, shape_size, greatest_size}
@@ -13,7 +13,7 @@ use Rattle.edi_unit.specs.Types.{IsTypeTable}
 use Rattle.edi_unit.specs.Tree.{Block}
 use Rattle.edi_unit.specs.Need.{block_at, no_block, slots, slot_words, link_words, variable_words}
 use Rattle.edi_unit.proofs.Tables.{size-is, size-small}
-use Rattle.edi_scheme.specs.Pieces.{result_words}
+use Rattle.edi_scheme.proofs.Known.{words_sum}
 use Rattle.edi_code.specs.Writable.{FrameFits, IsRoomy}
 
 -- ---- sums over the first items
@@ -27,27 +27,6 @@ sum_next f (x ∷ xs) (suc i) =
 -- ---- variables
 
 module _ (types : List Shape) where
-  sum_values : (ts : List ℕ) → sum_by (slot_words types) (map slot.Value ts) ≡ sum_by (size types) ts
-  sum_values [] = refl
-  sum_values (t ∷ ts) = sum_by-cons (slot_words types) (slot.Value t) (map slot.Value ts) ∙ ap (λ n. size types t + n) (sum_values ts)
-      ∙ sym (sum_by-cons (size types) t ts)
-
-  sum_result : (r : Option ℕ) → sum_by (slot_words types) (map slot.Value (option_to_list r)) ≡ result_words types r
-  sum_result None = refl
-  sum_result (Some t) = omega (arith, sum_by-cons (slot_words types) (slot.Value t) [])
-
-  -- the words of the variables are those of the result, of the parameters and of the declared ones
-  pub words_sum : (block : Block) → variable_words types block ≡ result_words types block.result + sum_by (slot_words types) block.parameters + sum_by
-      (size types) block.variables
-  words_sum block =
-      omega (
-        arith,
-        sum_by-append (slot_words types) (map slot.Value (option_to_list block.result)) (block.parameters ++ map slot.Value block.variables),
-        sum_by-append (slot_words types) block.parameters (map slot.Value block.variables),
-        sum_values block.variables,
-        sum_result block.result,
-      )
-
   -- the fields of a type take no more words than a type may have
   pub fields_small : (t : ℕ) → IsTypeTable types → t < length types → sum_by (size types) (fields_of (shape_at types t)) ≤ greatest_size
   fields_small t table known = by_shape (shape_at types t) (size-is types t table known) (size-small types t table known)

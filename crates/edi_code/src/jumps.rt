@@ -14,46 +14,46 @@ use edi_target::Op;
 use edi_unit::Operator;
 use std::alloc::{AllocError, Global};
 
-// Sets the target of the jump that begins at this place of the words.
-pub(crate) fn aim(out: &mut Vec<u16>, place: usize, target: u32)
-    requires there { place + 3 ≤ length out.old.items }
-    ensures exact { out.new.items ≡ aimed_at target place out.old.items }
+// Sets the target of the jump that begins at this index of the words.
+pub(crate) fn aim(out: &mut Vec<u16>, start: usize, target: u32)
+    requires there { start + 3 ≤ length out.old.items }
+    ensures exact { out.new.items ≡ aimed_at target start out.old.items }
 {
-    out[place + 1] = (target / 65_536) as u16;
-    out[place + 2] = (target % 65_536) as u16;
+    out[start + 1] = (target / 65_536) as u16;
+    out[start + 2] = (target % 65_536) as u16;
 }
 
-// Sets the target of each jump that begins at one of these places.
-pub(crate) fn aim_all(out: &mut Vec<u16>, places: &[usize], target: u32)
-    requires there { AreThere places.now (length out.old.items) }
-    ensures exact { out.new.items ≡ aimed.aimed target places.now out.old.items }
+// Sets the target of each jump that begins at one of these indices.
+pub(crate) fn aim_all(out: &mut Vec<u16>, starts: &[usize], target: u32)
+    requires there { AreThere starts.now (length out.old.items) }
+    ensures exact { out.new.items ≡ aimed.aimed target starts.now out.old.items }
 {
-    for place in places {
-        aim(out, *place, target);
+    for start in starts {
+        aim(out, *start, target);
     }
 }
 
-// Sets the target of what decides before a right operand, where the operator is one that decides; its code begins at this place.
-pub(crate) fn decide(out: &mut Vec<u16>, operator: Operator, place: usize, behind: u32)
-    requires there { place + code_length (decision operator 0) ≤ length out.old.items }
-    ensures exact { out.new.items ≡ decided operator behind place out.old.items }
+// Sets the target of what decides before a right operand, where the operator is one that decides; its code begins at this index.
+pub(crate) fn decide(out: &mut Vec<u16>, operator: Operator, start: usize, behind: u32)
+    requires there { start + code_length (decision operator 0) ≤ length out.old.items }
+    ensures exact { out.new.items ≡ decided operator behind start out.old.items }
 {
     match operator {
-        Operator::And | Operator::Or => aim(out, place, behind),
+        Operator::And | Operator::Or => aim(out, start, behind),
         _ => {}
     }
 }
 
-// Appends a jump without its target, and puts its place behind the others.
+// Appends a jump without its target, and puts its index behind the others.
 pub(crate) fn open_jump(
     alloc: Global,
-    places: &mut Vec<usize>,
+    starts: &mut Vec<usize>,
     out: &mut Vec<u16>,
 ) -> Result<(), AllocError>
     ensures emits { OnOk result (Emits out.old.items out.new.items (jump 0 ∷ [])) }
-    ensures opens { OnOk result (places.new.items ≡ places.old.items ++ length out.old.items ∷ []) }
+    ensures opens { OnOk result (starts.new.items ≡ starts.old.items ++ length out.old.items ∷ []) }
 {
-    places.push(out.len())?;
+    starts.push(out.len())?;
     put(alloc, &Op::Jump { target: 0 }, out)
 }
 

@@ -216,34 +216,34 @@ fn emit_guarded(
 }
 
 // What closes the list of a clause of a statement whose clauses begin at `top`; `last` tells whether no clause follows. The target of
-// a jump behind the statement is left open, and its place put behind the others.
+// a jump behind the statement is left open, and its start put behind the others.
 fn emit_close(
     alloc: Global,
     closing: Closing,
     top: u32,
     last: bool,
-    places: &mut Vec<usize>,
+    starts: &mut Vec<usize>,
     out: &mut Vec<u16>,
 ) -> Result<(), AllocError>
     ensures closes { OnOk result ((clauses : Clauses) → last ≡ is_end clauses →
-        Opens (clause_kind_of closing) top places.old.items places.new.items out.old.items out.new.items (λ target. close_code (clause_kind_of closing) target clauses)) }
+        Opens (clause_kind_of closing) top starts.old.items starts.new.items out.old.items out.new.items (λ target. close_code (clause_kind_of closing) target clauses)) }
 {
     match closing {
         Closing::Once => {
             if last {
                 return Ok(());
             }
-            open_jump(alloc, places, out)
+            open_jump(alloc, starts, out)
         }
         Closing::Repeated => put(alloc, &Op::Loop { target: top }, out),
         Closing::Released => {
             put(alloc, &Op::Done, out)?;
-            open_jump(alloc, places, out)
+            open_jump(alloc, starts, out)
         }
     }
 }
 
-// The code of clauses, from `at` on; the targets of jumps behind the statement are left open, at these places.
+// The code of clauses, from `at` on; the targets of jumps behind the statement are left open; they start at `starts`.
 #[cycle(statements)]
 fn emit_open_clauses(
     alloc: Global,
@@ -251,13 +251,13 @@ fn emit_open_clauses(
     scope: &Scope<'_>,
     at: u32,
     closing: Closing,
-    places: &mut Vec<usize>,
+    starts: &mut Vec<usize>,
     out: &mut Vec<u16>,
 ) -> Result<u32, AllocError>
     requires scope { IsScope scope.now }
     requires writable { ClausesAreWritable scope.now (clauses_of clauses.now) }
     requires room { at + in_scope.clauses_length scope.now (clause_kind_of closing) (clauses_of clauses.now) < 2 ^ 32 }
-    ensures opens { OnOk result (Opens (clause_kind_of closing) at places.old.items places.new.items out.old.items out.new.items
+    ensures opens { OnOk result (Opens (clause_kind_of closing) at starts.old.items starts.new.items out.old.items out.new.items
         (λ target. in_scope.clauses_code scope.now (clause_kind_of closing) target at (clauses_of clauses.now))) }
     ensures behind { IfOk result (λ behind. behind ≡ at + in_scope.clauses_length scope.now (clause_kind_of closing) (clauses_of clauses.now)) }
 {
@@ -267,7 +267,7 @@ fn emit_open_clauses(
         behind -= 1;
         let more = close_length(closing, behind == 0);
         let ends = emit_clause(alloc, clause, scope, here, more, out)?;
-        emit_close(alloc, closing, at, behind == 0, places, out)?;
+        emit_close(alloc, closing, at, behind == 0, starts, out)?;
         here = ends + more;
     }
     Ok(here)
@@ -292,8 +292,8 @@ fn emit_clauses(
         at (clauses_of clauses.now))) }
     ensures behind { IfOk result (λ behind. behind ≡ at + in_scope.clauses_length scope.now (clause_kind_of closing) (clauses_of clauses.now)) }
 {
-    let mut places: Vec<usize> = Vec::new(alloc);
-    let behind = emit_open_clauses(alloc, clauses, scope, at, closing, &mut places, out)?;
-    aim_all(out, &places, target_of(closing, at, behind));
+    let mut starts: Vec<usize> = Vec::new(alloc);
+    let behind = emit_open_clauses(alloc, clauses, scope, at, closing, &mut starts, out)?;
+    aim_all(out, &starts, target_of(closing, at, behind));
     Ok(behind)
 }

@@ -60,7 +60,7 @@ count_calls bytes l e =
     length-take-le (slice_index bytes 12) (drop 13 bytes) (let most : slice_index bytes 12 ≤ 10 = f.number in omega (arith, length-drop 13 bytes))
 
 -- the check of the code begins where that of the header ends
-pub checked : (bytes words calls : List ℕ) → 32 ≤ length bytes → header_fault bytes ≡ None → size_fault bytes ≡ None → words ≡ words_of_bytes (drop 32 bytes)
+checked : (bytes words calls : List ℕ) → 32 ≤ length bytes → header_fault bytes ≡ None → size_fault bytes ≡ None → words ≡ words_of_bytes (drop 32 bytes)
     → calls ≡ take (slice_index bytes 12) (drop 13 bytes) → parts_fault words (number_at bytes 8) calls ≡ words_fault true (words_of_bytes (drop 32 bytes))
     (number_at bytes 8) (slice_index bytes 12)
 unfolding parts_fault
@@ -76,6 +76,19 @@ checked bytes words calls l h s w k =
     ∙ ap (λ (x : List ℕ). parts_fault all start x) k
     ∙ ap (λ (x : Option CodeFault). or_else x (words_fault true all start (length numbers))) fields
     ∙ ap (λ (n : ℕ). words_fault true all start n) (count_calls bytes l h)
+
+-- so of the words that were read, if the version has no fault of its own
+pub read_fault : (bytes words read calls : List ℕ) (start : ℕ) → 32 ≤ length bytes → header_fault bytes ≡ None → size_fault bytes ≡ None
+    → words ≡ words_of_bytes (drop 32 bytes) → read ≡ words → calls ≡ take (slice_index bytes 12) (drop 13 bytes) → start ≡ number_at bytes 8
+    → ((first count : ℕ) → words_fault (short_at bytes 2 == 2) read first count ≡ words_fault true read first count)
+    → parts_fault words start calls ≡ words_fault (short_at bytes 2 == 2) (words_of_bytes (drop 32 bytes)) (number_at bytes 8) (slice_index bytes 12)
+read_fault bytes words read calls start room header size are same numbers first none =
+    let all : words_of_bytes (drop 32 bytes) ≡ read = sym are ∙ sym same in
+    ap (λ (n : ℕ). parts_fault words n calls) first
+    ∙ checked bytes words calls room header size are numbers
+    ∙ ap (λ (x : List ℕ). words_fault true x (number_at bytes 8) (slice_index bytes 12)) all
+    ∙ sym (none (number_at bytes 8) (slice_index bytes 12))
+    ∙ ap (λ (x : List ℕ). words_fault (short_at bytes 2 == 2) x (number_at bytes 8) (slice_index bytes 12)) (sym all)
 
 -- ---- the versions
 

@@ -336,7 +336,7 @@ module _ (g : Coded) (long : ValuesAreLong) (zeros : ZeroIsZeros) (system : Stat
       )
 
   variables_sum : variable_words ts B ≡ ps_words + vs_words
-  variables_sum = omega (arith, words_sum ts g.fits.table g.parts B, ap (pieces.result_words ts) no_result)
+  variables_sum = omega (arith, words_sum ts B, ap (pieces.result_words ts) no_result)
 
   placed : (p : Name) (q : Process) → find state.live p ≡ Some q → IsPlaced g first F m machine.activities p q
   placed (y ∷ p) q e = let c : ◌≡◌ {A = Option Process} None (Some q) = e in absurd (cc)

@@ -29,7 +29,7 @@ pub record CanBeCoded (unit : ProgramUnit) : Type 0 where
   pub short : length (code_of unit) ≤ 4194304
 
 -- the run of the code comes to the end of the selection: the same ending and line, the whole system, with the states behind each
--- call in turn, the turns that are left and the choices drawn
+-- call one after another, the turns that are left and the choices drawn
 abbrev pub CodeEndsAsMeant : Type 0
 CodeEndsAsMeant =
     (unit : ProgramUnit) → CanBeCoded unit → (system : State) (bound : ℕ) (choices : Choices) (ending : Ending) (end : Traced) (turns drawn : ℕ)

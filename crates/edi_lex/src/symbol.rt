@@ -150,7 +150,7 @@ impl Marks {
         self.items.is_empty()
     }
 
-    /// The mark at place `i`, counted from 0.
+    /// The mark at index `i`, counted from 0.
     pub fn get(&self, i: usize) -> Option<&Mark>
         ensures at { option_copied result ≡ slice_get self.now i }
     {

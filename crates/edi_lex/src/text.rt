@@ -97,7 +97,7 @@ impl Text {
         self.bytes.is_empty()
     }
 
-    /// The byte at place `i`, counted from 0.
+    /// The byte at index `i`, counted from 0.
     pub fn get(&self, i: usize) -> Option<&u8>
         ensures at { option_copied result ≡ slice_get self.now i }
     {

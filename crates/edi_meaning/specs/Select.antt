@@ -10,7 +10,7 @@ use Rattle.edi_calls.specs.Ready.{all_marked, Next, stays, joins, Taking, nobody
 use Rattle.edi_unit.specs.Tree.{ProgramUnit}
 use Rattle.edi_meaning.specs.Step.{Processes, Stepped, went, ended, step, start}
 
--- the end of a selection: how, with which system, with how many turns left and choices drawn, and who stepped in turn
+-- the end of a selection: how, with which system, with how many turns left and choices drawn, and who stepped, one after another
 pub data Selected : Type 0 where
   unfinished : Selected
   finished : Ending → Traced → (turns drawn : ℕ) → (order : List Name) → Selected

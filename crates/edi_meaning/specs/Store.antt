@@ -1,6 +1,6 @@
 -- Definition. The variables of all processes. Each live process has a list of instances, one for each block that it has entered
 -- and not left, the oldest first. What an instance is (its block, and the instance that its block's surroundings mean)
--- is told apart from what its variables hold.
+-- is one thing, what its variables hold another.
 use Rattle.std.specs.Prelude.{◌≡◌, ℕ, zero, suc, ◌+◌, ◌-◌, ◌<◌, ◌≤◌, false, List, [], ◌∷◌, ◌++◌, length, take, slice_get, slice_set, slice_index_or}
 use Rattle.std.specs.Prelude.{unwrap_or, pos}
 use Rattle.edi_calls.specs.Names.{Name, Table, same, find, with_at}

@@ -1,4 +1,4 @@
--- How a call reaches its result, once its title and its place are known.
+-- How a call reaches its result, once its title and its slot are known.
 use Rattle.std.proofs.Common.{◌≡◌, ℕ, List, length, Option, Some, None, Ok, set, [], ◌∷◌, Bool, true, false, refl, sym, ap, arith, ◌∙◌, subst}
 use mir.Val.{bool_byte}
 use Rattle.std.specs.Prelude.{IfSome}
@@ -11,7 +11,7 @@ use Rattle.edi_calls.specs.declared.ends.CallEnd.TheVariants as end
 use Rattle.edi_calls.proofs.Lasting.{Leaves}
 
 module _ {V : Type 0} (items : V → List ℕ) where
-  -- no place for a file, and nothing happens
+  -- no slot for a file, and nothing happens
   pub unstored : (buffer : Option V) (title : List ℕ) (state : State) (size : ℕ) (index : Option ℕ)
       → IfSome buffer (λ bytes. size ≡ length (items bytes)) → index ≡ room_for state title size → index ≡ None
       → IfSome buffer (λ bytes. Reaches (close_as (items bytes) title state) (Ok (Some 0)) state state)
@@ -22,7 +22,7 @@ module _ {V : Type 0} (items : V → List ℕ) where
       (λ p. Reaches (option_map_or (λ n. gives 1 (stored title (items bytes) n state)) p (gives 0 state)) (Ok (Some 0)) state state)
       (sym full) (refl, refl)
 
-  -- the file is stored at the place that there is for it
+  -- the file is stored in the slot that there is for it
   pub stored_so : (buffer : Option V) (title : List ℕ) (state after : State) (size : ℕ) (index : Option ℕ) (n : ℕ)
       → IfSome buffer (λ bytes. size ≡ length (items bytes)) → index ≡ room_for state title size → index ≡ Some n
       → IfSome buffer (λ bytes. after ≡ stored title (items bytes) n state)

@@ -40,7 +40,7 @@ new_index state title size =
     if is_title title && nat_le size most_bytes && is_none (find_slot state.slots title)
     then room_for state title size else None
 
--- the file was added at the place that there is for it, or there is none and nothing changed
+-- the file was added in the slot that there is for it, or there is none and nothing changed
 abbrev pub AddsAt : Option ℕ → Bool → State → State → File → Type 0
 AddsAt (Some index) true before after file = after ≡ record before { slots = put_slot before.slots index (Some file) }
 AddsAt None false before after file = after ≡ before

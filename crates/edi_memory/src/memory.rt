@@ -112,7 +112,7 @@ impl MemoryCalls {
         self.system.file(title)
     }
 
-    /// The file in the slot at this place; none where the slot is free, or the place is not below 256.
+    /// The file in the slot of this index; none where the slot is free, or the index is not below 256.
     pub fn slot(&self, index: usize) -> Option<&StoredFile>
         ensures { option_copied result ≡ slot_at (system_of self.now).slots index }
     {

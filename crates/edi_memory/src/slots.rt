@@ -52,7 +52,7 @@ pub(crate) fn find_slot(slots: &[Option<StoredFile>], title: &[u8]) -> Option<us
     None
 }
 
-/// The place of the first free slot.
+/// The first free slot.
 pub(crate) fn first_free(slots: &[Option<StoredFile>]) -> Option<usize>
     ensures exact { result ≡ first_free slots.now }
     ensures within { IfSome result (λ index. index < length slots.now) }

@@ -208,7 +208,7 @@ impl MemoryState {
         }
     }
 
-    /// Stores the file that is being written in the slot at this place.
+    /// Stores the file that is being written in the slot of this index.
     fn store_at(&mut self, title: Vec<u8>, index: usize)
         requires { index < length self.old.slots.items }
         ensures { IfSome self.old.buffer (λ bytes.

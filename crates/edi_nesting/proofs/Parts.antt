@@ -16,7 +16,7 @@ use Rattle.edi_static.specs.Judged.{Judged}
 use Rattle.edi_static.specs.Environment.{Environment, look_up, same_heading}
 use Rattle.edi_static.specs.Operators.{Typed, signed, Linked, Chained, operated, takes, chain_of}
 use Rattle.edi_static.specs.Fitting.{Use, constructs, calls, halts, neither, use_of, variable_argument, passed, name_alone, is_variable_alone, string_alone}
-use Rattle.edi_static.specs.Fitting.{character, single, function_called, expressions_of, made, takes_parts, constructed, is_record, place_of_name}
+use Rattle.edi_static.specs.Fitting.{character, single, function_called, expressions_of, made, takes_parts, constructed, is_record, index_of_name}
 use Rattle.edi_static.specs.Expressions.{Parted, field_at, field_of, used_alone, alone, taken, element, procedure_argument, argument}
 use Rattle.edi_static.proofs.Judging.{Gives, bind, behind, ruled}
 use Rattle.edi_nesting.specs.Nesting.{expression_nesting, expressions_nesting, link_nesting, links_nesting, part_nesting, argument_nesting}
@@ -151,4 +151,4 @@ field_at_within env of name (Some n) = omega arith
 
 pub field_within : (env : Environment) (line of : ℕ) (name : Name) → Gives (PartWithin 0) (field_of env line of name)
 field_within env line of name = ruled (PartWithin 0) (is_record (shape_at env.types of)) kind.Types line _
-    (λ e. field_at_within env of name (place_of_name (slice_index_or env.fields of []) name.text))
+    (λ e. field_at_within env of name (index_of_name (slice_index_or env.fields of []) name.text))

@@ -10,7 +10,7 @@ use Rattle.edi_target.specs.Op as op
 use Rattle.edi_spots.specs.Coded.{Coded, entry}
 use Rattle.edi_spots.specs.Scene.{Scene, here}
 use Rattle.edi_spots.specs.Claims.{Ran, AssignAt}
-use Rattle.edi_spots.specs.Constructs.{A, As, Statements}
+use Rattle.edi_spots.specs.Constructs.{A, As, Actions}
 use Rattle.edi_spots.specs.Instructions.{Instructed}
 use Rattle.edi_spots.proofs.Doing.{give, bind}
 use Rattle.edi_instructed.proofs.Instructed.{instructed}
@@ -59,7 +59,7 @@ module _ (g : Coded) (s : Scene) (deeper : Acts → World → Evaluation (Unit {
       (i.able_then F w v m m' t _ t (acts_height g.unit.types g.unit.blocks (here g s F) as') t held c able after (omega arith) (omega arith))))
 
   -- all of them
-  pub statements : Statements g s deeper bound
+  pub statements : Actions g s deeper bound
   statements = record {
     apply_of = apply_does g s deeper bound;
     skip = skip_does;

@@ -2,7 +2,6 @@
 use Rattle.std.proofs.Common.{◌≡◌, ℕ, zero, suc, ◌+◌, ◌-◌, ◌^◌, ◌<◌, ◌≤◌, pos, Bool, true, false, ◌&&◌, nat_le, nat_lt, if◌then◌else◌, List, [], ◌∷◌, length}
 use Rattle.std.proofs.Common.{map, All, Option, Some, None, IfSome, refl, arith}
 use Rattle.std.specs.List.{list_all}
-use Rattle.std.specs.Option.{option_map}
 use Rattle.std.proofs.lemmas.Bool.{false≢true, le-leb, lt-ltb}
 use Rattle.std.proofs.lemmas.List.{length-map}
 use Rattle.edi_unit.specs.declared.expressions.Operator.{Operator}
@@ -145,20 +144,8 @@ module _ (types : List Shape) (table : IsTypeTable types) (parts : HaveParts typ
     abbrev count : Expressions → ℕ
     count = known.count_of types table parts blocks headings each b inside
 
-    one_more : (w n : ℕ) (ws : Option (List ℕ)) → IfSome ws (λ ws. length ws ≡ n) → IfSome (option_map (λ ws. w ∷ ws) ws) (λ ws. length ws ≡ suc n)
-    one_more w n None h = tt
-    one_more w n (Some ws) h = omega (arith, h)
-
     constants_count : (es : Expressions) → IfSome (constant_words es) (λ ws. length ws ≡ count es)
-    constants_count no_expression = refl
-    constants_count (expression_then (constant t n) es) = one_more _ (count es) (constant_words es) (constants_count es)
-    constants_count (expression_then (load p) es) = tt
-    constants_count (expression_then (not_of e) es) = tt
-    constants_count (expression_then (sign_of e line) es) = tt
-    constants_count (expression_then (chain e ls) es) = tt
-    constants_count (expression_then (make t fs line) es) = tt
-    constants_count (expression_then (convert t e line) es) = tt
-    constants_count (expression_then (apply_of c xs line) es) = tt
+    constants_count = known.constants_count types table parts blocks headings each b inside
 
     positive : (t : ℕ) → t < length types → 1 ≤ size types t
     positive = known.size_positive types table parts
@@ -303,7 +290,7 @@ module _ (types : List Shape) (table : IsTypeTable types) (parts : HaveParts typ
   entry_allowed : (n : ℕ) → n < length blocks → Allowed (entry_of types (block_at blocks n))
   entry_allowed n h =
       let is = (each n h).needs in
-      let sum = known.words_sum types table parts (block_at blocks n) in
+      let sum = known.words_sum types (block_at blocks n) in
       record { operands = both _ _ (le-leb _ _ (omega (arith, is, sum))) (flag_allowed (block_at blocks n).result); integers = refl }
 
   block_allowed : (at n : ℕ) → n < length blocks → AreAllowed (block_code types blocks at n)

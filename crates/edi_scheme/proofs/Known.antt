@@ -1,6 +1,6 @@
 -- What a unit that fits names: types of at least one word and at most 65,535, and blocks that need at least five.
 use Rattle.std.proofs.Common.{◌≡◌, ℕ, zero, suc, ◌+◌, ◌<◌, ◌≤◌, ℤ, pos, negsuc, ◌+ℤ◌, ◌-ℤ◌, ◌≤ℤ◌, true, false, List, [], ◌∷◌, ◌++◌, length, map, All, Option}
-use Rattle.std.proofs.Common.{Some, None, IsTrue, IfSome, refl, sym, ap, ◌∙◌, arith, replicate, sum_by, slice_get, option_to_list}
+use Rattle.std.proofs.Common.{Some, None, IsTrue, IfSome, refl, sym, ap, ◌∙◌, arith, replicate, sum_by, slice_get, option_map, option_to_list}
 use Rattle.std.specs.Prelude.{unwrap_or}
 use Rattle.std.proofs.lemmas.Bool.{false≢true}
 use Rattle.std.proofs.lemmas.List.{length-replicate}
@@ -21,7 +21,7 @@ use Rattle.edi_unit.specs.Need.{links_type, callee_result, place_type, expressio
 use Rattle.edi_unit.specs.Fits.{ShapeFits, Heading, is_variable, CalleeFits, HaveTypes, MakesValue, ExpressionFits, PlaceFits, SlotIsKnown, BlockFits}
 use Rattle.edi_unit.proofs.Tables.{size-is, size-small, length-before}
 use Rattle.edi_target.specs.Op.{is_integer}
-use Rattle.edi_scheme.specs.Pieces.{result_words}
+use Rattle.edi_scheme.specs.Pieces.{constant_words, result_words}
 use Rattle.edi_scheme.specs.Laws.{HasPart, HaveParts}
 
 -- ---- lists
@@ -60,6 +60,30 @@ ordinal_integer types (enumeration k) (negsuc n) f h = grind (arith, h)
 ordinal_integer types (record_of fs) n f h = absurd (false≢true h)
 ordinal_integer types (array_of i lo hi e) n f h = absurd (false≢true h)
 ordinal_integer types (set_of t) n f h = absurd (false≢true h)
+
+-- ---- blocks
+
+module _ (types : List Shape) where
+  sum_values : (ts : List ℕ) → sum_by (slot_words types) (map slot.Value ts) ≡ sum_by (size types) ts
+  sum_values [] = refl
+  sum_values (t ∷ ts) = sum_by-cons (slot_words types) (slot.Value t) (map slot.Value ts) ∙ ap (λ n. size types t + n) (sum_values ts)
+      ∙ sym (sum_by-cons (size types) t ts)
+
+  sum_result : (r : Option ℕ) → sum_by (slot_words types) (map slot.Value (option_to_list r)) ≡ result_words types r
+  sum_result None = refl
+  sum_result (Some t) = omega (arith, sum_by-cons (slot_words types) (slot.Value t) [])
+
+  -- the words of the variables are those of the result, of the parameters and of the declared ones
+  pub words_sum : (block : Block) → variable_words types block ≡ result_words types block.result + sum_by (slot_words types) block.parameters + sum_by
+      (size types) block.variables
+  words_sum block =
+      omega (
+        arith,
+        sum_by-append (slot_words types) (map slot.Value (option_to_list block.result)) (block.parameters ++ map slot.Value block.variables),
+        sum_by-append (slot_words types) block.parameters (map slot.Value block.variables),
+        sum_values block.variables,
+        sum_result block.result,
+      )
 
 -- ---- types
 
@@ -245,25 +269,17 @@ module _ (types : List Shape) (table : IsTypeTable types) (parts : HaveParts typ
         let small = size-small types t table h in
         (n.0, omega (arith, n.1, same, small))
 
-  -- ---- blocks
+    one_more : (w n : ℕ) (ws : Option (List ℕ)) → IfSome ws (λ ws. length ws ≡ n) → IfSome (option_map (λ ws. w ∷ ws) ws) (λ ws. length ws ≡ suc n)
+    one_more w n None h = tt
+    one_more w n (Some ws) h = omega (arith, h)
 
-  sum_values : (ts : List ℕ) → sum_by (slot_words types) (map slot.Value ts) ≡ sum_by (size types) ts
-  sum_values [] = refl
-  sum_values (t ∷ ts) = sum_by-cons (slot_words types) (slot.Value t) (map slot.Value ts) ∙ ap (λ n. size types t + n) (sum_values ts)
-      ∙ sym (sum_by-cons (size types) t ts)
-
-  sum_result : (r : Option ℕ) → sum_by (slot_words types) (map slot.Value (option_to_list r)) ≡ result_words types r
-  sum_result None = refl
-  sum_result (Some t) = omega (arith, sum_by-cons (slot_words types) (slot.Value t) [])
-
-  -- the words of the variables are those of the result, of the parameters and of the declared ones
-  pub words_sum : (block : Block) → variable_words types block ≡ result_words types block.result + sum_by (slot_words types) block.parameters + sum_by
-      (size types) block.variables
-  words_sum block =
-      omega (
-        arith,
-        sum_by-append (slot_words types) (map slot.Value (option_to_list block.result)) (block.parameters ++ map slot.Value block.variables),
-        sum_by-append (slot_words types) block.parameters (map slot.Value block.variables),
-        sum_values block.variables,
-        sum_result block.result,
-      )
+    pub constants_count : (es : Expressions) → IfSome (constant_words es) (λ ws. length ws ≡ count_of es)
+    constants_count no_expression = refl
+    constants_count (expression_then (constant t n) es) = one_more _ (count_of es) (constant_words es) (constants_count es)
+    constants_count (expression_then (load p) es) = tt
+    constants_count (expression_then (not_of e) es) = tt
+    constants_count (expression_then (sign_of e line) es) = tt
+    constants_count (expression_then (chain e ls) es) = tt
+    constants_count (expression_then (make t fs line) es) = tt
+    constants_count (expression_then (convert t e line) es) = tt
+    constants_count (expression_then (apply_of c xs line) es) = tt

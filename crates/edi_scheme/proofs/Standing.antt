@@ -44,6 +44,12 @@ module _ (fetched : ℕ → Option (Instruction × ℕ)) where
   row (Some ws) parts n at to g e h = one (instruction.text ws) at to (omega (arith, e)) h.0
   row None parts n at to g e h = g e h
 
+  -- a code of n words, and what stands behind it
+  followed : {front : Code} {n : ℕ} {P Q : ℕ → Type 0} (last : Code) (k at to : ℕ) → Long front n → (Laid fetched front at → P (at + n))
+      → (at + n + k ≡ to → Laid fetched last (at + n) → Q (at + n)) → at + (n + k) ≡ to → Laid fetched (front ++ last) at → (a : ℕ) × P a × Q a
+  followed {front = front} {n = n} last k at to long first behind e h =
+      (at + n, first (laid_front fetched front last at h), behind (omega (arith, e)) (laid_back fetched front last at _ long h))
+
   module _ (types : List Shape) (blocks : List Block) (entry : ℕ → ℕ) where
     module _ (b : ℕ) where
       mutual
@@ -51,38 +57,17 @@ module _ (fetched : ℕ → Option (Instruction × ℕ)) where
             at → IsExpression fetched types blocks entry b e at to
         is_expression (constant t n) at to q h = one (instruction.const (word_of_integer n)) at to q h.0
         is_expression (load p) at to q h =
-            let front = place_code types blocks entry b at p in
-            let last = instruction.load (size types (place_type types blocks b p)) in
-            let a = at + place_length types blocks b p in (
-              a,
-              is_place p at a refl (laid_front fetched front (last ∷ []) at h),
-              one last a to (omega (arith, q)) (laid_back fetched front (last ∷ []) at _ (place_is_long types blocks entry b p at) h).0,
-            )
+            followed (instruction.load (size types (place_type types blocks b p)) ∷ []) 2 at to (place_is_long types blocks entry b p at)
+            (is_place p at _ refl) (λ e g. one _ _ to e g.0) q h
         is_expression (not_of e) at to q h =
-            let front = expression_code types blocks entry b at e in
-            let a = at + expression_length types blocks b e in (
-              a,
-              is_expression e at a refl (laid_front fetched front (instruction.not_ ∷ []) at h),
-              one instruction.not_ a to (omega (arith, q))
-                  (laid_back fetched front (instruction.not_ ∷ []) at _ (expression_is_long types blocks entry b e at) h).0,
-            )
+            followed (instruction.not_ ∷ []) 1 at to (expression_is_long types blocks entry b e at) (is_expression e at _ refl) (λ e g. one _ _ to e g.0) q h
         is_expression (sign_of e line) at to q h =
-            let front = expression_code types blocks entry b at e in
-            let last = instruction.neg line in
-            let a = at + expression_length types blocks b e in (
-              a,
-              is_expression e at a refl (laid_front fetched front (last ∷ []) at h),
-              one last a to (omega (arith, q)) (laid_back fetched front (last ∷ []) at _ (expression_is_long types blocks entry b e at) h).0,
-            )
+            followed (instruction.neg line ∷ []) 2 at to (expression_is_long types blocks entry b e at) (is_expression e at _ refl)
+            (λ e g. one _ _ to e g.0) q h
         is_expression (chain e ls) at to q h =
-            let front = expression_code types blocks entry b at e in
             let t = expression_type types blocks b e in
-            let a = at + expression_length types blocks b e in
-            let last = links_code types blocks entry b a t ls in (
-              a,
-              is_expression e at a refl (laid_front fetched front last at h),
-              are_links t ls a to (omega (arith, q)) (laid_back fetched front last at _ (expression_is_long types blocks entry b e at) h),
-            )
+            followed (links_code types blocks entry b (at + expression_length types blocks b e) t ls) (links_length types blocks b t ls) at to
+            (expression_is_long types blocks entry b e at) (is_expression e at _ refl) (are_links t ls _ to) q h
         is_expression (make t es line) at to q h =
             either (is_set_shape (shape_at types t)) (instruction.zeros 8 ∷ members_code types blocks entry b (at + 2) line es)
             (row_code (constant_words es) (expressions_code types blocks entry b at es)) (2 + members_length types blocks b es)
@@ -91,34 +76,19 @@ module _ (fetched : ℕ → Option (Instruction × ℕ)) where
             (row (constant_words es) (expressions_code types blocks entry b at es) (expressions_length types blocks b es) at to (are_expressions es at to))
             q h
         is_expression (convert t e line) at to q h =
-            let front = expression_code types blocks entry b at e in
             let last = check_code (shape_at types t) line in
-            let a = at + expression_length types blocks b e in (
-              a,
-              is_expression e at a refl (laid_front fetched front last at h),
-              some a to (long_of last) (omega (arith, q)) (laid_back fetched front last at _ (expression_is_long types blocks entry b e at) h),
-            )
+            followed last (code_length last) at to (expression_is_long types blocks entry b e at) (is_expression e at _ refl) (some _ to (long_of last))
+            (omega (arith, q)) h
         is_expression (apply_of c xs line) at to q h =
-            let front = arguments_code types blocks entry b at xs in
-            let last = call_code types blocks entry b c line in
-            let a = at + arguments_length types blocks b xs in (
-              a,
-              are_arguments xs at a refl (laid_front fetched front last at h),
-              some a to (call_is_long types blocks entry b c line) (omega (arith, q))
-                  (laid_back fetched front last at _ (arguments_are_long types blocks entry b xs at) h),
-            )
+            followed (call_code types blocks entry b c line) _ at to (arguments_are_long types blocks entry b xs at) (are_arguments xs at _ refl)
+            (some _ to (call_is_long types blocks entry b c line)) q h
 
         are_expressions : (es : Expressions) (at to : ℕ) → at + expressions_length types blocks b es ≡ to
             → Laid fetched (expressions_code types blocks entry b at es) at → AreExpressions fetched types blocks entry b es at to
         are_expressions no_expression at to q h = omega (arith, q)
         are_expressions (expression_then e es) at to q h =
-            let front = expression_code types blocks entry b at e in
-            let a = at + expression_length types blocks b e in
-            let last = expressions_code types blocks entry b a es in (
-              a,
-              is_expression e at a refl (laid_front fetched front last at h),
-              are_expressions es a to (omega (arith, q)) (laid_back fetched front last at _ (expression_is_long types blocks entry b e at) h),
-            )
+            followed (expressions_code types blocks entry b (at + expression_length types blocks b e) es) (expressions_length types blocks b es) at to
+            (expression_is_long types blocks entry b e at) (is_expression e at _ refl) (are_expressions es _ to) q h
 
         are_members : (line : ℕ) (es : Expressions) (at to : ℕ) → at + members_length types blocks b es ≡ to
             → Laid fetched (members_code types blocks entry b at line es) at → AreMembers fetched types blocks entry b line es at to
@@ -163,38 +133,24 @@ module _ (fetched : ℕ → Option (Instruction × ℕ)) where
         is_place (place levels v ps) at to q h =
             let s = slot_at blocks b levels v in
             let front = variable_code levels (slot_offset types blocks entry b levels v) s in
-            let a = at + code_length front in
-            let last = parts_code types blocks entry b a (slot_type s) ps in (
-              a,
-              some at a (long_of front) refl (laid_front fetched front last at h),
-              are_parts (slot_type s) ps a to (omega (arith, q))
-                  (laid_back fetched front last at _ (long_of front) h),
-            )
+            followed (parts_code types blocks entry b (at + code_length front) (slot_type s) ps) (parts_length types blocks b (slot_type s) ps) at to
+            (long_of front) (some at _ (long_of front) refl) (are_parts (slot_type s) ps _ to) (omega (arith, q)) h
 
         are_parts : (t : ℕ) (ps : Parts) (at to : ℕ) → at + parts_length types blocks b t ps ≡ to → Laid fetched (parts_code types blocks entry b at t ps) at
             → AreParts fetched types blocks entry b t ps at to
         are_parts t no_part at to q h = omega (arith, q)
         are_parts t (part_then p ps) at to q h =
-            let front = part_code types blocks entry b at t p in
-            let a = at + part_length types blocks b t p in
-            let last = parts_code types blocks entry b a (part_type types t p) ps in (
-              a,
-              is_part t p at a refl (laid_front fetched front last at h),
-              are_parts (part_type types t p) ps a to (omega (arith, q))
-                  (laid_back fetched front last at _ (part_is_long types blocks entry b t p at) h),
-            )
+            let u = part_type types t p in
+            followed (parts_code types blocks entry b (at + part_length types blocks b t p) u ps) (parts_length types blocks b u ps) at to
+            (part_is_long types blocks entry b t p at) (is_part t p at _ refl) (are_parts u ps _ to) q h
 
         is_part : (t : ℕ) (p : Part) (at to : ℕ) → at + part_length types blocks b t p ≡ to → Laid fetched (part_code types blocks entry b at t p) at
             → IsPart fetched types blocks entry b t p at to
         is_part t (field n) at to q h = one (instruction.field (field_offset types t n)) at to q h.0
         is_part t (index e line) at to q h =
-            let front = expression_code types blocks entry b at e in
             let last = element_code types (shape_at types t) line in
-            let a = at + expression_length types blocks b e in (
-              a,
-              is_expression e at a refl (laid_front fetched front last at h),
-              some a to (long_of last) (omega (arith, q)) (laid_back fetched front last at _ (expression_is_long types blocks entry b e at) h),
-            )
+            followed last (code_length last) at to (expression_is_long types blocks entry b e at) (is_expression e at _ refl) (some _ to (long_of last))
+            (omega (arith, q)) h
 
         is_argument : (x : Argument) (at to : ℕ) → at + argument_length types blocks b x ≡ to → Laid fetched (argument_code types blocks entry b at x) at
             → IsArgument fetched types blocks entry b x at to
@@ -206,13 +162,8 @@ module _ (fetched : ℕ → Option (Instruction × ℕ)) where
             at → AreArguments fetched types blocks entry b xs at to
         are_arguments no_argument at to q h = omega (arith, q)
         are_arguments (argument_then x xs) at to q h =
-            let front = argument_code types blocks entry b at x in
-            let a = at + argument_length types blocks b x in
-            let last = arguments_code types blocks entry b a xs in (
-              a,
-              is_argument x at a refl (laid_front fetched front last at h),
-              are_arguments xs a to (omega (arith, q)) (laid_back fetched front last at _ (argument_is_long types blocks entry b x at) h),
-            )
+            followed (arguments_code types blocks entry b (at + argument_length types blocks b x) xs) (arguments_length types blocks b xs) at to
+            (argument_is_long types blocks entry b x at) (is_argument x at _ refl) (are_arguments xs _ to) q h
 
       mutual
         is_act : (s : Act) (at to : ℕ) → at + act_length types blocks b s ≡ to → Laid fetched (act_code types blocks entry b at s) at
@@ -231,15 +182,7 @@ module _ (fetched : ℕ → Option (Instruction × ℕ)) where
               is_expression e a c refl (laid_front fetched c2 (last ∷ []) a h2),
               one last c to (omega (arith, q)) (laid_back fetched c2 (last ∷ []) a _ (expression_is_long types blocks entry b e a) h2).0,
             )
-        is_act (call c xs line) at to q h =
-            let front = arguments_code types blocks entry b at xs in
-            let last = call_code types blocks entry b c line in
-            let a = at + arguments_length types blocks b xs in (
-              a,
-              are_arguments xs at a refl (laid_front fetched front last at h),
-              some a to (call_is_long types blocks entry b c line) (omega (arith, q))
-                  (laid_back fetched front last at _ (arguments_are_long types blocks entry b xs at) h),
-            )
+        is_act (call c xs line) at to q h = is_expression (apply_of c xs line) at to q h
         is_act (halt line) at to q h = one (instruction.halt line) at to q h.0
         is_act (if_act cs) at to q h =
             subst (λ n. AreClauses fetched types blocks entry b once n cs at to) q (are_clauses once cs (at + clauses_length types blocks b once cs) at to q h)
@@ -268,13 +211,8 @@ module _ (fetched : ℕ → Option (Instruction × ℕ)) where
             → AreActs fetched types blocks entry b s at to
         are_acts no_act at to q h = omega (arith, q)
         are_acts (act_then s ss) at to q h =
-            let front = act_code types blocks entry b at s in
-            let a = at + act_length types blocks b s in
-            let last = acts_code types blocks entry b a ss in (
-              a,
-              is_act s at a refl (laid_front fetched front last at h),
-              are_acts ss a to (omega (arith, q)) (laid_back fetched front last at _ (act_is_long types blocks entry b s at) h),
-            )
+            followed (acts_code types blocks entry b (at + act_length types blocks b s) ss) (acts_length types blocks b ss) at to
+            (act_is_long types blocks entry b s at) (is_act s at _ refl) (are_acts ss _ to) q h
 
         is_clause : (c : Clause) (next at end : ℕ) → at + clause_length types blocks b c ≡ end → Laid fetched (clause_code types blocks entry b at next c) at
             → IsClause fetched types blocks entry b c next at end

@@ -60,7 +60,7 @@ module _ (unit : ProgramUnit) (fits : Fits unit) (parts : HaveParts unit.types) 
       let block = block_at blocks n in
       let low = (fits.fits_blocks n h).small in
       let is = (fits.fits_blocks n h).needs in
-      let sum = known.words_sum types fits.table parts block in
+      let sum = known.words_sum types block in
       let result : result_words types block.result < 2 ^ 16 = omega (arith, low, is, sum) in
       let passed : sum_by (slot_words types) block.parameters < 2 ^ 16 = omega (arith, low, is, sum) in
       let flag = flag_small block.result in (

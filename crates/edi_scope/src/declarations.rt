@@ -72,7 +72,7 @@ impl Declarations {
         Ok(())
     }
 
-    /// Puts a declaration of the name at place `at` of its list.
+    /// Puts a declaration of the name at index `at` of its list.
     pub(crate) fn insert(
         &mut self,
         alloc: Global,
@@ -93,7 +93,7 @@ impl Declarations {
         Ok(())
     }
 
-    /// Takes the declaration at place `at` out of the name's list.
+    /// Takes the declaration at index `at` out of the name's list.
     pub(crate) fn remove(&mut self, name: &[u8], at: usize)
         requires { at < length (listed self.old name.now) }
         ensures exact { (q : List ℕ) → listed self.new q ≡ (if bytes_eq name.now q then remove (listed self.old q) at else listed self.old q) }

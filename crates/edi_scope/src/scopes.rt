@@ -326,10 +326,10 @@ impl Scopes {
         ensures err { OnErr result (self.new ≡ self.old) }
     {
         let depth = self.scopes.len() - 1 - steps;
-        let place = self.declarations.further_out(name, depth);
+        let index = self.declarations.further_out(name, depth);
         put_name(&mut self.scopes, alloc, depth, name, entity)?;
         let declaration = Declaration { depth, entity };
-        if let Err(e) = self.declarations.insert(alloc, name, place, declaration) {
+        if let Err(e) = self.declarations.insert(alloc, name, index, declaration) {
             let _dropped = take_name(&mut self.scopes, depth);
             return Err(e);
         }
@@ -359,7 +359,7 @@ fn truth(ordinal: i16) -> Entity
     Entity::Constant { of: BOOL, ordinal }
 }
 
-/// Puts the name with its entity behind the names of the scope at place `at`.
+/// Puts the name with its entity behind the names of the scope at index `at`.
 fn put_name(
     scopes: &mut Vec<OpenScope>,
     alloc: Global,
@@ -377,7 +377,7 @@ fn put_name(
     Ok(())
 }
 
-/// Takes the newest name of the scope at place `at` from there, if it has one.
+/// Takes the newest name of the scope at index `at` from there, if it has one.
 fn take_name(scopes: &mut Vec<OpenScope>, at: usize) -> Option<Named>
     requires { at < vec_len scopes.old }
     ensures exact { kept scopes.new ≡ slice_set (kept scopes.old) at (without_one (slice_index_or (kept scopes.old) at standard)) }

@@ -1,4 +1,4 @@
--- Each numeral and character of a tree that is held is in range: constants, types, headings and expressions.
+-- Each numeral and character of a tree that symbols may hold is in range: constants, types, headings and expressions.
 use Rattle.std.proofs.Common.{List, [], ◌∷◌, Option, None, Some}
 use Rattle.edi_lex.specs.declared.symbol.Symbol.TheVariants as is
 use Rattle.edi_tree.specs.declared.names.Name.{Name}

@@ -18,7 +18,7 @@ abbrev pub completes_block : Option ℕ → Name → Environment → Heading →
 completes_block None name env asks = faults kind.Split name.line
 completes_block (Some b) name env asks = must (same_heading (heading_at env.headings b) asks) kind.Split name.line
 
--- a `post` is held to its `pre`, and then an export on it gives its name outside
+-- a `post` is compared with its `pre`, and then an export on it gives its name outside
 abbrev pub posted : (export : Bool) → Name → Option ℕ → (block : ℕ) → Heading → Environment → Judged Environment
 posted export name found block asks env = completes_block found name env asks >>= λ _. post_export export name block env
 

@@ -75,10 +75,8 @@ pub(crate) fn close_block(
 pub fn enter_around(known: &mut Known, block: u32) -> Result<(), StaticFault>
     ensures exact { JudgedAnswers (λ _. environment known.new) result (gives (inside_block block (environment known.old))) }
 {
-    match known.around.insert(0, block) {
-        Ok(()) => Ok(()),
-        Err(_) => Err(StaticFault::NoMemory),
-    }
+    known.around.insert(0, block)?;
+    Ok(())
 }
 
 /// Leaves the innermost block.

@@ -166,7 +166,7 @@ fn block_of(known: &Known, found: Option<u32>) -> Result<u32, StaticFault>
     }
 }
 
-/// A `post` is held to its `pre` after its heading's parts.
+/// A `post` is compared with its `pre` after its heading's parts.
 pub fn begin_post(
     known: &mut Known,
     alloc: Global,
@@ -190,13 +190,10 @@ fn copy_name(alloc: Global, name: &Name) -> Result<Name, StaticFault>
     ensures ok { IfOk result (λ copy. copy ≡ name.now) }
     ensures err { OnErr result (result ≡ Err StaticFault.NoMemory) }
 {
-    match Text::from_slice(alloc, name.text.as_slice()) {
-        Ok(text) => Ok(Name {
-            text,
-            line: name.line,
-        }),
-        Err(_) => Err(StaticFault::NoMemory),
-    }
+    Ok(Name {
+        text: Text::from_slice(alloc, name.text.as_slice())?,
+        line: name.line,
+    })
 }
 
 /// A procedure is begun.

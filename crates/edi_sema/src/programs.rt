@@ -56,13 +56,10 @@ fn copy_of(alloc: Global, asked: &Asked) -> Result<Asked, StaticFault>
     ensures ok { IfOk result (λ copy. asked_of copy ≡ asked_of asked.now) }
     ensures err { OnErr result (result ≡ Err StaticFault.NoMemory) }
 {
-    match copy_asked(alloc, asked) {
-        Ok(copy) => Ok(copy),
-        Err(_) => Err(StaticFault::NoMemory),
-    }
+    Ok(copy_asked(alloc, asked)?)
 }
 
-/// The program's own name is declared before its heading is held to the rules on programs.
+/// The program's own name is declared before its heading is judged by the rules on programs.
 pub fn begin_program(
     known: &mut Known,
     alloc: Global,
@@ -87,7 +84,7 @@ pub fn begin_program(
     program_heading(known, alloc, heading, &asks)
 }
 
-/// The program's procedure, whose heading is held to the rules on programs before its declarations are judged.
+/// The program's procedure, whose heading is judged by the rules on programs before its declarations are judged.
 fn program_procedure(
     known: &mut Known,
     alloc: Global,
@@ -108,13 +105,9 @@ pub fn before_program(alloc: Global) -> Result<Known, StaticFault>
     ensures exact { JudgedAnswers environment result (gives first_environment) }
     ensures stands { IfOk result (λ known. EnvironmentStands (environment known)) }
 {
-    match Known::at_first(alloc) {
-        Ok(mut known) => {
-            known.enter(alloc, false)?;
-            Ok(known)
-        }
-        Err(_) => Err(StaticFault::NoMemory),
-    }
+    let mut known = Known::at_first(alloc)?;
+    known.enter(alloc, false)?;
+    Ok(known)
 }
 
 /// A tree judged construct by construct: its unit, or its first fault.

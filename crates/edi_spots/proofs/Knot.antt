@@ -7,7 +7,7 @@ use Rattle.edi_meaning.specs.Whole.{levels_of}
 use Rattle.edi_spots.specs.Coded.{Coded}
 use Rattle.edi_spots.specs.Scene.{Scene}
 use Rattle.edi_spots.specs.Claims.{FunctionClaim, ProcedureClaim, AssignClaim, DeeperClaim, RunClaim}
-use Rattle.edi_spots.specs.Constructs.{E, Es, Ms, Ls, P, Ps, Xs, A, As, Cs, Operands, Places, Statements, Constructs}
+use Rattle.edi_spots.specs.Constructs.{E, Es, Ms, Ls, P, Ps, Xs, A, As, Cs, Operands, Places, Actions, Constructs}
 
 module _ (g : Coded) (s : Scene) (all : Constructs g s) (deeper : Acts → World → Evaluation (Unit {0})) (bound : ℕ) (deep : DeeperClaim g s deeper bound) where
   abbrev o : Operands g s deeper bound
@@ -16,7 +16,7 @@ module _ (g : Coded) (s : Scene) (all : Constructs g s) (deeper : Acts → World
   abbrev p : Places g s deeper bound
   p = all.places deeper bound
 
-  abbrev st : Statements g s deeper bound
+  abbrev st : Actions g s deeper bound
   st = all.statements deeper bound
 
   function : FunctionClaim g s deeper bound

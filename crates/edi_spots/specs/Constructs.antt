@@ -79,7 +79,7 @@ module _ (g : Coded) (s : Scene) (deeper : Acts → World → Evaluation (Unit {
     pub procedure : DeeperClaim g s deeper bound → ProcedureClaim g s deeper bound
 
   -- the statements of functions and critical phases
-  pub record Statements : Type 0 where
+  pub record Actions : Type 0 where
     pub apply_of : (c : Callee) (xs : Arguments) (line : ℕ) → Xs xs → FunctionClaim g s deeper bound → E (tree.apply_of c xs line)
     pub skip : A tree.skip
     pub assigned : (v : Place) (e : Expression) → AssignAt g s deeper bound v e → A (tree.assign v e)
@@ -99,4 +99,4 @@ pub record Constructs (g : Coded) (s : Scene) : Type 0 where
   pub operands : (deeper : Acts → World → Evaluation (Unit {0})) (bound : ℕ) → Operands g s deeper bound
   pub places : (deeper : Acts → World → Evaluation (Unit {0})) (bound : ℕ) → Places g s deeper bound
   pub calls : (deeper : Acts → World → Evaluation (Unit {0})) (bound : ℕ) → Calls g s deeper bound
-  pub statements : (deeper : Acts → World → Evaluation (Unit {0})) (bound : ℕ) → Statements g s deeper bound
+  pub statements : (deeper : Acts → World → Evaluation (Unit {0})) (bound : ℕ) → Actions g s deeper bound

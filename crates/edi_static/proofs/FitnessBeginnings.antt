@@ -43,41 +43,41 @@ use Rattle.edi_static.proofs.FitnessStatements.{stands_here}
 
 -- ---- parameters as variables of their block
 
-parameter_slot : (r : Option ℕ) (ps more : List Parameter) (place : ℕ) → IsSome (slice_get ps place)
-    → slice_get (map slot.Value (option_to_list r) ++ (ps ++ more)) (first_parameter r + place) ≡ slice_get ps place
-parameter_slot None ps more place h = let e : 0 + place ≡ place = omega arith in ap (slice_get (ps ++ more)) e ∙ get_more ps more place h
-parameter_slot (Some t) ps more place h = let e : 1 + place ≡ suc place = omega arith in
-    ap (slice_get (slot.Value t ∷ (ps ++ more))) e ∙ get_more ps more place h
+parameter_slot : (r : Option ℕ) (ps more : List Parameter) (index : ℕ) → IsSome (slice_get ps index)
+    → slice_get (map slot.Value (option_to_list r) ++ (ps ++ more)) (first_parameter r + index) ≡ slice_get ps index
+parameter_slot None ps more index h = let e : 0 + index ≡ index = omega arith in ap (slice_get (ps ++ more)) e ∙ get_more ps more index h
+parameter_slot (Some t) ps more index h = let e : 1 + index ≡ suc index = omega arith in
+    ap (slice_get (slot.Value t ∷ (ps ++ more))) e ∙ get_more ps more index h
 
-parameter_heading : (asks : Heading) (place : ℕ) → variable_heading asks (first_parameter (heading_result asks) + place) ≡ asked_at (heading_formals asks) place
-parameter_heading (heading fs None) place = let e : 0 + place ≡ place = omega arith in ap (asked_at fs) e
-parameter_heading (heading fs (Some t)) place = let e : 1 + place ≡ suc place = omega arith in ap (variable_heading (heading fs (Some t))) e
+parameter_heading : (asks : Heading) (index : ℕ) → variable_heading asks (first_parameter (heading_result asks) + index) ≡ asked_at (heading_formals asks) index
+parameter_heading (heading fs None) index = let e : 0 + index ≡ index = omega arith in ap (asked_at fs) e
+parameter_heading (heading fs (Some t)) index = let e : 1 + index ≡ suc index = omega arith in ap (variable_heading (heading fs (Some t))) e
 
 module _ (types : List Shape) (blocks : List Block) (headings shapes : List Heading) (n : ℕ) (asks : Heading) (around : List ℕ)
     (round : IsTrue (is_round n around)) (same : heading_at headings n ≡ asks)
     (parameters : (block_at blocks n).parameters ≡ parameters_of (heading_formals asks)) (result : (block_at blocks n).result ≡ heading_result asks) where
-  slot_given : (b v place : ℕ) → b ≡ n → v ≡ first_parameter (heading_result asks) + place → IsSome (slice_get (parameters_of (heading_formals asks)) place) →
-      slot_of blocks b v ≡ slice_get (parameters_of (heading_formals asks)) place
-  slot_given b v place e at is =
+  slot_given : (b v index : ℕ) → b ≡ n → v ≡ first_parameter (heading_result asks) + index → IsSome (slice_get (parameters_of (heading_formals asks)) index) →
+      slot_of blocks b v ≡ slice_get (parameters_of (heading_formals asks)) index
+  slot_given b v index e at is =
       let block : Block = block_at blocks n in
       ap (λ k. slot_of blocks k v) e
       ∙ ap (λ r. slice_get (map slot.Value (option_to_list r) ++ (block.parameters ++ map slot.Value block.variables)) v) result
       ∙ ap (λ ps. slice_get (map slot.Value (option_to_list (heading_result asks)) ++ (ps ++ map slot.Value block.variables)) v) parameters
       ∙ ap (slice_get (map slot.Value (option_to_list (heading_result asks)) ++ (parameters_of (heading_formals asks) ++ map slot.Value block.variables))) at
-      ∙ parameter_slot (heading_result asks) (parameters_of (heading_formals asks)) (map slot.Value block.variables) place is
+      ∙ parameter_slot (heading_result asks) (parameters_of (heading_formals asks)) (map slot.Value block.variables) index is
 
   given_names : (e : Entity) → Given n (first_parameter (heading_result asks)) (heading_formals asks) shapes e → Names types blocks headings shapes around e
   given_names (entity.Variable b v of) h =
-      let at = slot_given b v h.place h.same h.at (some_variable _ h.variable) in
+      let at = slot_given b v h.index h.same h.at (some_variable _ h.variable) in
       (subst (λ k. IsTrue (is_round k around)) (sym h.same) round, ap is_variable at ∙ h.variable, ap slot_type at ∙ h.type)
   given_names (entity.Formal b v shape) h =
-      let at = slot_given b v h.place h.same h.at (some_procedure _ h.procedure) in (
+      let at = slot_given b v h.index h.same h.at (some_procedure _ h.procedure) in (
         subst (λ k. IsTrue (is_round k around)) (sym h.same) round,
         ap is_procedure at ∙ h.procedure,
         ap slot_result at ∙ h.result,
         h.there,
         ap (λ k. variable_heading (heading_at headings k) v) h.same ∙ ap (λ x. variable_heading x v) same ∙ ap (variable_heading asks) h.at
-            ∙ parameter_heading asks h.place ∙ h.asks,
+            ∙ parameter_heading asks h.index ∙ h.asks,
       )
   given_names (entity.Constant of k) h = absurd h
   given_names (entity.Types t) h = absurd h

@@ -65,19 +65,19 @@ asked_end (procedure_then h fs) one = asked_end fs one
 -- a name of a heading with these formals so far means one of them, which have the numbers from `before` on
 pub record IsValue (block before : ℕ) (fs : Formals) (b v of : ℕ) : Type 0 where
   pub same : b ≡ block
-  pub place : ℕ
-  pub at : v ≡ before + place
-  pub variable : IsTrue (is_variable (slice_get (parameters_of fs) place))
-  pub type : slot_type (slice_get (parameters_of fs) place) ≡ of
+  pub index : ℕ
+  pub at : v ≡ before + index
+  pub variable : IsTrue (is_variable (slice_get (parameters_of fs) index))
+  pub type : slot_type (slice_get (parameters_of fs) index) ≡ of
 
 pub record IsAsked (block before : ℕ) (fs : Formals) (shapes : List Heading) (b v shape : ℕ) : Type 0 where
   pub same : b ≡ block
-  pub place : ℕ
-  pub at : v ≡ before + place
-  pub procedure : IsTrue (is_procedure (slice_get (parameters_of fs) place))
-  pub result : slot_result (slice_get (parameters_of fs) place) ≡ heading_result (heading_at shapes shape)
+  pub index : ℕ
+  pub at : v ≡ before + index
+  pub procedure : IsTrue (is_procedure (slice_get (parameters_of fs) index))
+  pub result : slot_result (slice_get (parameters_of fs) index) ≡ heading_result (heading_at shapes shape)
   pub there : shape < length shapes
-  pub asks : asked_at fs place ≡ heading_at shapes shape
+  pub asks : asked_at fs index ≡ heading_at shapes shape
 
 abbrev pub Given : (block before : ℕ) → Formals → List Heading → Entity → Type 0
 Given block before fs shapes (entity.Variable b v of) = IsValue block before fs b v of
@@ -90,20 +90,20 @@ Given block before fs shapes entity.Halt = ⊥
 given_formals : (block before : ℕ) (fs gs : Formals) (shapes : List Heading) (e : Entity) → Given block before fs shapes e
     → Given block before (formals_append fs gs) shapes e
 given_formals block before fs gs shapes (entity.Variable b v of) h =
-    let same : slice_get (parameters_of (formals_append fs gs)) h.place ≡ slice_get (parameters_of fs) h.place =
-    ap (λ ps. slice_get ps h.place) (parameters_append fs gs) ∙ get_more (parameters_of fs) (parameters_of gs) h.place (some_variable _ h.variable) in
-    record { same = h.same; place = h.place; at = h.at; variable = ap is_variable same ∙ h.variable; type = ap slot_type same ∙ h.type }
+    let same : slice_get (parameters_of (formals_append fs gs)) h.index ≡ slice_get (parameters_of fs) h.index =
+    ap (λ ps. slice_get ps h.index) (parameters_append fs gs) ∙ get_more (parameters_of fs) (parameters_of gs) h.index (some_variable _ h.variable) in
+    record { same = h.same; index = h.index; at = h.at; variable = ap is_variable same ∙ h.variable; type = ap slot_type same ∙ h.type }
 given_formals block before fs gs shapes (entity.Formal b v shape) h =
-    let same : slice_get (parameters_of (formals_append fs gs)) h.place ≡ slice_get (parameters_of fs) h.place =
-    ap (λ ps. slice_get ps h.place) (parameters_append fs gs) ∙ get_more (parameters_of fs) (parameters_of gs) h.place (some_procedure _ h.procedure) in
+    let same : slice_get (parameters_of (formals_append fs gs)) h.index ≡ slice_get (parameters_of fs) h.index =
+    ap (λ ps. slice_get ps h.index) (parameters_append fs gs) ∙ get_more (parameters_of fs) (parameters_of gs) h.index (some_procedure _ h.procedure) in
     record {
       same = h.same;
-      place = h.place;
+      index = h.index;
       at = h.at;
       procedure = ap is_procedure same ∙ h.procedure;
       result = ap slot_result same ∙ h.result;
       there = h.there;
-      asks = asked_append fs gs h.place h.procedure ∙ h.asks;
+      asks = asked_append fs gs h.index h.procedure ∙ h.asks;
     }
 given_formals block before fs gs shapes (entity.Constant of n) h = h
 given_formals block before fs gs shapes (entity.Types t) h = h
@@ -118,7 +118,7 @@ given_shapes block before fs shapes more (entity.Formal b v shape) h =
     let there = h.there in
     record {
       same = h.same;
-      place = h.place;
+      index = h.index;
       at = h.at;
       procedure = h.procedure;
       result = h.result ∙ ap heading_result (sym same);
@@ -226,7 +226,7 @@ param_lists env block before of one name scope more fs names known is_one =
     let end : slice_get (parameters_of (formals_append fs one)) (formals_count fs) ≡ slice_get (parameters_of one) 0 = at_end fs one in
     let new : IsValue block before (formals_append fs one) block (before + formals_count fs) of = record {
       same = refl;
-      place = formals_count fs;
+      index = formals_count fs;
       at = refl;
       variable = ap is_variable end ∙ is_one.0;
       type = ap slot_type end ∙ is_one.1;
@@ -309,7 +309,7 @@ named_lists env block before name scope inner more next fs asks names known inne
     let end : slice_get (parameters_of (formals_append fs one)) (formals_count fs) ≡ Some (slot.Formal (heading_result asks)) = at_end fs one in
     let new : IsAsked block before (formals_append fs one) (shapes ++ asks ∷ []) block (before + formals_count fs) (length shapes) = record {
       same = refl;
-      place = formals_count fs;
+      index = formals_count fs;
       at = refl;
       procedure = ap is_procedure end;
       result = ap slot_result end ∙ ap heading_result (sym kept);

@@ -20,7 +20,7 @@ use Rattle.edi_unit.specs.Fits.{is_variable, greatest_levels, IsIndexedBy, PartF
 use Rattle.edi_static.specs.declared.faults.StaticKind.TheVariants as kind
 use Rattle.edi_static.specs.Environment.{Environment, here, steps_to, look_up}
 use Rattle.edi_static.specs.Operators.{Typed}
-use Rattle.edi_static.specs.Fitting.{Rooted, as_variable, function_variable, as_function, rooted_value, is_record, place_of_name, is_indexed_by}
+use Rattle.edi_static.specs.Fitting.{Rooted, as_variable, function_variable, as_function, rooted_value, is_record, index_of_name, is_indexed_by}
 use Rattle.edi_static.specs.Expressions.{Parted, Reached, Located, located, loaded, field_at, field_of, element_of, rooted}
 use Rattle.edi_static.proofs.Judging.{Gives, bind, ruled}
 use Rattle.edi_static.proofs.Fitness.{headings_of, is_round, slot_of, EntitySits, Sits, TypedFits, LocatedFits}
@@ -100,15 +100,15 @@ pub record ReachedFits (env : Environment) (t : ℕ) (r : Reached) : Type 0 wher
   pub has_type : parts_type env.types t r.parts ≡ r.of
   pub fits : PartsFit env.types env.blocks (headings_of env.headings) (here env) t r.parts
 
--- the place of a field is one of the record's
+-- the index of a field is one of the record's
 later : (b : Bool) (o : Option ℕ) (k : ℕ) → IfSome o (λ n. n < k) → IfSome (if b then Some 0 else option_map (λ n. suc n) o) (λ n. n < suc k)
 later true o k h = omega arith
 later false (Some n) k h = omega (arith, h)
 later false None k h = tt
 
-place_within : (fields : List (List ℕ)) (name : List ℕ) → IfSome (place_of_name fields name) (λ n. n < length fields)
-place_within [] name = tt
-place_within (field ∷ fields) name = later (bytes_eq field name) (place_of_name fields name) (length fields) (place_within fields name)
+index_within : (fields : List (List ℕ)) (name : List ℕ) → IfSome (index_of_name fields name) (λ n. n < length fields)
+index_within [] name = tt
+index_within (field ∷ fields) name = later (bytes_eq field name) (index_of_name fields name) (length fields) (index_within fields name)
 
 field_known : (fields : List ℕ) (n : ℕ) → n < length fields → IsSome (slice_get fields n)
 field_known fields n lt = ap is_some (slice_get-get_or fields n 0 lt)
@@ -124,7 +124,7 @@ field_at_fits env s of name (Some n) h = record {
 pub field_fits : (env : Environment) → Sits env → (line of : ℕ) (name : Name) → Gives (PartedFits env of) (field_of env line of name)
 field_fits env s line of name =
     ruled (PartedFits env of) (is_record (shape_at env.types of)) kind.Types line _
-    (λ _. field_at_fits env s of name (place_of_name (slice_index_or env.fields of []) name.text) (place_within (slice_index_or env.fields of []) name.text))
+    (λ _. field_at_fits env s of name (index_of_name (slice_index_or env.fields of []) name.text) (index_within (slice_index_or env.fields of []) name.text))
 
 indexed : (shape : Shape) (t : ℕ) → is_indexed_by shape t ≡ true → IsIndexedBy shape t
 indexed (array_of i lo hi x) t e = eqb-true t i e

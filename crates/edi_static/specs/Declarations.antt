@@ -90,7 +90,7 @@ begin_procedure export h env =
 abbrev pub block_of : Environment → Option Begun → ℕ
 block_of env found = option_map_or (λ b. b.block) found (length env.blocks)
 
--- a `post` is held to its `pre` after its heading's parts
+-- a `post` is compared with its `pre` after its heading's parts
 abbrev pub begin_post : Bool → text.Heading → Environment → Judged Environment
 begin_post export h env =
     let found : Option Begun = begun_named env.begun (own_name h).text in

@@ -17,7 +17,7 @@ use Rattle.edi_static.specs.Environment.{Environment, look_up}
 use Rattle.edi_static.specs.Operators.{Typed, relation_operator, addition_operator, multiplication_operator, signed, Linked, Chained, operated, with_links}
 use Rattle.edi_static.specs.Fitting.{Use, constructs, calls, halts, neither, use_of, rest_of, variable_argument, passed, name_alone, is_variable_alone}
 use Rattle.edi_static.specs.Fitting.{string_alone, character, single, empty_set, function_called, invoked, Rooted, as_variable, as_function, rooted_value}
-use Rattle.edi_static.specs.Fitting.{is_record, place_of_name, is_indexed_by, takes_strings, constructed}
+use Rattle.edi_static.specs.Fitting.{is_record, index_of_name, is_indexed_by, takes_strings, constructed}
 
 -- a part of a variable, with its type
 pub record Parted : Type 0 where
@@ -49,7 +49,7 @@ args_count (text.args e es) = suc (exprs_count es)
 
 -- in an environment
 module _ (env : Environment) where
-  -- the field of a record by its place, if the record has it
+  -- the field of a record by its index, if the record has it
   abbrev pub field_at : (of : ℕ) → Name → Option ℕ → Judged Parted
   field_at of name None = faults kind.Undeclared name.line
   field_at of name (Some n) = gives (record { what = unit.field n; of = unwrap_or (field_type env.types of n) int_type })
@@ -57,7 +57,7 @@ module _ (env : Environment) where
   abbrev pub field_of : (line : ℕ) → (of : ℕ) → Name → Judged Parted
   field_of line of name =
       must (is_record (shape_at env.types of)) kind.Types line >>= λ _.
-      field_at of name (place_of_name (slice_index_or env.fields of []) name.text)
+      field_at of name (index_of_name (slice_index_or env.fields of []) name.text)
 
   -- the element of an array
   abbrev pub element_of : (line : ℕ) → (of : ℕ) → Typed → Judged Parted

@@ -159,11 +159,11 @@ abbrev pub is_record : Shape → Bool
 is_record (record_of fs) = true
 is_record _ = false
 
--- the place of a name among these
-abbrev pub place_of_name : List (List ℕ) → List ℕ → Option ℕ
-place_of_name [] name = None
-place_of_name (field ∷ fields) name =
-    if bytes_eq field name then Some 0 else option_map (λ n. suc n) (place_of_name fields name)
+-- the index of a name among these
+abbrev pub index_of_name : List (List ℕ) → List ℕ → Option ℕ
+index_of_name [] name = None
+index_of_name (field ∷ fields) name =
+    if bytes_eq field name then Some 0 else option_map (λ n. suc n) (index_of_name fields name)
 
 abbrev pub is_indexed_by : Shape → ℕ → Bool
 is_indexed_by (array_of i lo hi e) t = t == i

@@ -108,7 +108,7 @@ abbrev pub global_decls : text.Globals → Environment → Judged Environment
 global_decls text.no_global env = gives env
 global_decls (text.next_global g gs) env = global_decl g env >>= global_decls gs
 
--- the program's own name is declared before its heading is held to the rules on programs, and that is done before its
+-- the program's own name is declared before its heading is judged by the rules on programs, and that is done before its
 -- declarations
 abbrev pub program_procedure : text.Procedure → Environment → Judged ProgramUnit
 program_procedure p env =

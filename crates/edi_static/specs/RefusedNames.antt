@@ -216,7 +216,7 @@ pub row_parameter_as_local : resolve_tree
     ≡ faults kind.Ambiguous 2
 row_parameter_as_local = refl
 
--- the program is declared before its heading is held to the rules on programs:
+-- the program is declared before its heading is judged by the rules on programs:
 -- const main = 1 proc / main: int begin skip end
 pub row_program_declares_itself : resolve_tree
     (program (next_global (const_global (const_list (record { name = (id "main" 1); constant = (constant.Numeral (pos 1)) })

@@ -186,12 +186,12 @@ fn are_fields(parts: &[Typed], fields: &[u32]) -> bool
     if parts.len() != fields.len() {
         return false;
     }
-    let mut place = 0;
+    let mut position = 0;
     for part in parts {
-        if part.of != fields[place] {
+        if part.of != fields[position] {
             return false;
         }
-        place += 1;
+        position += 1;
     }
     true
 }

@@ -80,10 +80,8 @@ pub fn push_formal(
         (view.formals (map formal_of (list_items formals.old))) (view.formals (formal_of formal ∷ []))) }
     ensures err { OnErr result (result ≡ Err StaticFault.NoMemory) }
 {
-    match formals.push(alloc, formal) {
-        Ok(()) => Ok(()),
-        Err(_) => Err(StaticFault::NoMemory),
-    }
+    formals.push(alloc, formal)?;
+    Ok(())
 }
 
 /// What is asked for each parameter.
@@ -117,12 +115,12 @@ fn same_formals(one: &List<Formal>, other: &List<Formal>) -> bool
     if one.len() != others.len() {
         return false;
     }
-    let mut place = 0;
+    let mut position = 0;
     for formal in one.items() {
-        if !same_formal(formal, &others[place]) {
+        if !same_formal(formal, &others[position]) {
             return false;
         }
-        place += 1;
+        position += 1;
     }
     true
 }

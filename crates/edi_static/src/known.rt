@@ -14,13 +14,14 @@ ghost use Rattle.edi_static.specs.Proper.{Proper, EntityFits};
 ghost use Rattle.edi_static.specs.Answers.{JudgedAnswers};
 ghost use Rattle.edi_static.specs.Answers as answers;
 ghost use Rattle.edi_static.specs.Views.{environment};
+ghost use Rattle.edi_static.specs.declared.faults.StaticFault.TheVariants as why;
 
 use crate::faults::{StaticFault, StaticKind};
 use crate::headings::Asked;
 use edi_scope::{Entity, ScopeFault, Scopes};
 use edi_tree::Name;
 use edi_unit::{Block, List, Shape, TypeTable, Value};
-use std::alloc::{AllocError, Global};
+use std::alloc::{AllocError, AllocFailed, Global};
 
 /// A procedure whose `pre` has stood and whose `post` is still to come.
 #[derive(Drop)]
@@ -62,7 +63,17 @@ pub fn must(holds: bool, kind: StaticKind, line: u16) -> Result<(), StaticFault>
 }
 
 impl From<AllocError> for StaticFault {
-    fn from(_error: AllocError) -> StaticFault {
+    ghost from_gives = { λ _ e. e ≡ why.NoMemory };
+
+    fn from(_error: AllocError) -> Self {
+        StaticFault::NoMemory
+    }
+}
+
+impl<T: Drop> From<AllocFailed<T>> for StaticFault {
+    ghost from_gives = { λ _ e. e ≡ why.NoMemory };
+
+    fn from(_error: AllocFailed<T>) -> Self {
         StaticFault::NoMemory
     }
 }
@@ -73,10 +84,8 @@ pub fn put<T: Drop>(list: &mut Vec<T>, item: T) -> Result<(), StaticFault>
     ensures err { OnErr result (result ≡ Err StaticFault.NoMemory) }
     ensures same { OnErr result (list.new.items ≡ list.old.items) }
 {
-    match list.push(item) {
-        Ok(()) => Ok(()),
-        Err(_) => Err(StaticFault::NoMemory),
-    }
+    list.push(item)?;
+    Ok(())
 }
 
 /// Puts an item at the end of a list. Where memory is wanting the list stays as it was, and the item is given up.
@@ -85,10 +94,8 @@ pub fn add<T: Drop>(list: &mut List<T>, alloc: Global, item: T) -> Result<(), St
     ensures err { OnErr result (result ≡ Err StaticFault.NoMemory) }
     ensures same { OnErr result (list_items list.new ≡ list_items list.old) }
 {
-    match list.push(alloc, item) {
-        Ok(()) => Ok(()),
-        Err(_) => Err(StaticFault::NoMemory),
-    }
+    list.push(alloc, item)?;
+    Ok(())
 }
 
 /// A value in a box.
@@ -96,18 +103,15 @@ pub fn boxed(alloc: Global, value: Value) -> Result<Box<Value>, StaticFault>
     ensures ok { IfOk result (λ boxed. boxed.value ≡ value) }
     ensures err { OnErr result (result ≡ Err StaticFault.NoMemory) }
 {
-    match Box::new(alloc, value) {
-        Ok(boxed) => Ok(boxed),
-        Err(_) => Err(StaticFault::NoMemory),
-    }
+    Ok(Box::new(alloc, value)?)
 }
 
-/// A place in a list as a number, if there is room for more numbers.
-pub fn number(place: usize) -> Result<u32, StaticFault>
-    ensures exact { JudgedAnswers (λ n. n) result (gives place) }
+/// An index as a number, if there is room for more numbers.
+pub fn number(index: usize) -> Result<u32, StaticFault>
+    ensures exact { JudgedAnswers (λ n. n) result (gives index) }
 {
-    if place < 0xFFFF_FFFF {
-        Ok(place as u32)
+    if index < 0xFFFF_FFFF {
+        Ok(index as u32)
     } else {
         Err(StaticFault::NoMemory)
     }
@@ -135,10 +139,8 @@ impl Known {
         ensures exact { JudgedAnswers (λ _. environment self.new) result (gives (spec.enter is_module (environment self.old))) }
         ensures proper { OnOk result (Proper (environment self.new)) }
     {
-        match self.scopes.enter(alloc, is_module) {
-            Ok(()) => Ok(()),
-            Err(_) => Err(StaticFault::NoMemory),
-        }
+        self.scopes.enter(alloc, is_module)?;
+        Ok(())
     }
 
     /// Closes the innermost scope, which is not the standard one.

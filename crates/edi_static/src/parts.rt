@@ -23,38 +23,38 @@ pub struct Parted {
     pub of: u32,
 }
 
-/// The place of a name among these.
-fn place_of_name(fields: &[Vec<u8>], name: &[u8]) -> Option<usize>
-    ensures exact { result ≡ spec.place_of_name (map (λ f. f.items) fields.now) name.now }
+/// The index of a name among these.
+fn index_of_name(fields: &[Vec<u8>], name: &[u8]) -> Option<usize>
+    ensures exact { result ≡ spec.index_of_name (map (λ f. f.items) fields.now) name.now }
 {
-    let mut place = 0;
+    let mut index = 0;
     for field in fields {
         if field.as_slice() == name {
-            return Some(place);
+            return Some(index);
         }
-        place += 1;
+        index += 1;
     }
     None
 }
 
-/// The place of a name among the fields of a type.
+/// The index of a name among the fields of a type.
 fn field_index(known: &Known, of: u32, name: &[u8]) -> Option<usize>
-    ensures exact { result ≡ spec.place_of_name (slice_index_or (environment known.now).fields of []) name.now }
+    ensures exact { result ≡ spec.index_of_name (slice_index_or (environment known.now).fields of []) name.now }
 {
     match known.fields.get(of as usize) {
-        Some(fields) => place_of_name(fields.as_slice(), name),
+        Some(fields) => index_of_name(fields.as_slice(), name),
         None => None,
     }
 }
 
 /// The type of a field; one that is not there counts as an `int`.
-fn field_type(known: &Known, of: u32, place: usize) -> u32
-    ensures exact { result ≡ unwrap_or (types.field_type known.now.types of place) INT }
+fn field_type(known: &Known, of: u32, index: usize) -> u32
+    ensures exact { result ≡ unwrap_or (types.field_type known.now.types of index) INT }
 {
     if of >= known.types.len() {
         return INT;
     }
-    match known.types.field(of, place) {
+    match known.types.field(of, index) {
         Some(field) => field,
         None => INT,
     }
@@ -70,19 +70,19 @@ fn is_record(shape: &Shape) -> bool
     }
 }
 
-/// The field of a record by its place, if the record has it.
+/// The field of a record by its index, if the record has it.
 fn field_at(
     known: &Known,
     of: u32,
     name: &Name,
-    place: Option<usize>,
+    index: Option<usize>,
 ) -> Result<Parted, StaticFault>
-    ensures exact { JudgedAnswers parted_of result (rule.field_at (environment known.now) of name.now place) }
+    ensures exact { JudgedAnswers parted_of result (rule.field_at (environment known.now) of name.now index) }
 {
-    match place {
-        Some(place) => Ok(Parted {
-            part: Part::Field(number(place)?),
-            of: field_type(known, of, place),
+    match index {
+        Some(index) => Ok(Parted {
+            part: Part::Field(number(index)?),
+            of: field_type(known, of, index),
         }),
         None => fault(StaticKind::Undeclared, name.line),
     }

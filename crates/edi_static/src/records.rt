@@ -32,10 +32,7 @@ fn spelling(alloc: Global, name: &[u8]) -> Result<Vec<u8>, StaticFault>
     ensures exact { IfOk result (λ copy. copy.items ≡ name.now) }
     ensures err { OnErr result (result ≡ Err StaticFault.NoMemory) }
 {
-    match name.to_vec(alloc) {
-        Ok(copy) => Ok(copy),
-        Err(_) => Err(StaticFault::NoMemory),
-    }
+    Ok(name.to_vec(alloc)?)
 }
 
 /// Puts a name's spelling into a set, and says whether it is new there.

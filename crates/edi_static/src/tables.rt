@@ -97,10 +97,8 @@ impl Known {
         if self.types.len() == u32::MAX {
             return Err(StaticFault::NoMemory);
         }
-        match self.types.declare(alloc, shape) {
-            Ok(_) => put(&mut self.fields, names),
-            Err(_) => Err(StaticFault::NoMemory),
-        }
+        let _number = self.types.declare(alloc, shape)?;
+        put(&mut self.fields, names)
     }
 
     /// The number of the next variable of the block in which this place stands.
@@ -168,10 +166,8 @@ impl Known {
         ensures scopes { self.new.scopes ≡ self.old.scopes }
         ensures shapes { OnOk result (length self.new.shapes.items ≡ length self.old.shapes.items + 1) }
     {
-        match copy_asked(alloc, asked) {
-            Ok(copy) => put(&mut self.shapes, copy),
-            Err(_) => Err(StaticFault::NoMemory),
-        }
+        let copy = copy_asked(alloc, asked)?;
+        put(&mut self.shapes, copy)
     }
 
     /// The block of a heading whose scope is the innermost.
@@ -186,9 +182,7 @@ impl Known {
             (gives (with_heading kind (record { env = environment self.old; asks = asked_of asked }))) }
         ensures proper { OnOk result (Proper (environment self.new)) }
     {
-        match kept_parameters(alloc, &asked) {
-            Ok(parameters) => self.push_block(alloc, kind, parameters, asked),
-            Err(_) => Err(StaticFault::NoMemory),
-        }
+        let parameters = kept_parameters(alloc, &asked)?;
+        self.push_block(alloc, kind, parameters, asked)
     }
 }

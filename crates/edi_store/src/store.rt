@@ -69,7 +69,7 @@ impl Store {
         self.words[usize::from(at)] = word;
     }
 
-    /// Writes the `n` words from `from` on to the `n` places from `to` on, as if all of them were read before the first
+    /// Writes the `n` words from `from` on to the `n` words from `to` on, as if all of them were read before the first
     /// is written.
     pub fn copy(&mut self, from: u32, to: u32, n: u32)
         requires from_within { from + n ≤ MEMORY_WORDS }
@@ -82,7 +82,7 @@ impl Store {
             .copy_within(from as usize..(from + n) as usize, to as usize);
     }
 
-    /// Writes zeros to the `n` places from `at` on.
+    /// Writes zeros to the `n` words from `at` on.
     pub fn clear(&mut self, at: u32, n: u32)
         requires within { at + n ≤ MEMORY_WORDS }
         ensures exact { self.new ≡ cleared self.old at n }

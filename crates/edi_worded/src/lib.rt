@@ -20,7 +20,7 @@ pub fn words_tell_values()
     ensures long { ValuesAreLong }
     ensures some { TypesTakeWords }
     ensures small { ValuesAreWords }
-    ensures told { WordsTellValues }
+    ensures apart { WordsTellValues }
 {}
 
 /// The value with which a variable starts has zeros as its words. The words of each part of a value stand where the sizes of

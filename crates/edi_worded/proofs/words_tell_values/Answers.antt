@@ -5,4 +5,4 @@ use Rattle.edi_worded.proofs.Alike.{words_tell_values}
 use Rattle.edi_worded.proofs.words_tell_values.Goals as goal
 
 pub returns : goal.returns
-returns c = record { long = values_are_long; some = types_take_words; small = values_are_words; told = words_tell_values }
+returns c = record { long = values_are_long; some = types_take_words; small = values_are_words; apart = words_tell_values }

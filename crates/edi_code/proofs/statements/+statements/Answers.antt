@@ -80,7 +80,7 @@ emit_open_clauses-loop-clause-preserved t c =
     let room : here + clauses_length s kind (clause_then x rest) ≡ c.args.at + clauses_length s kind (clauses (map clause_of items)) = subst
     (λ l. here + clauses_length s kind (clauses (map clause_of l)) ≡ c.args.at + clauses_length s kind (clauses (map clause_of items))) part
     c.loop-clause.invariant.room in
-    let opens = subst (λ l. IsOpen kind c.args.at c.args.places.now.items c.loop-clause.places.items c.args.out.now.items c.loop-clause.out.items
+    let opens = subst (λ l. IsOpen kind c.args.at c.args.starts.now.items c.loop-clause.starts.items c.args.out.now.items c.loop-clause.out.items
     (λ k. clauses_code s kind k here (clauses (map clause_of l))) (λ k. clauses_code s kind k c.args.at (clauses (map clause_of items)))) part
     c.loop-clause.invariant.opens in
     let behind : c.loop-clause.behind - 1 + (i + 1) ≡ length items = omega (arith, c.loop-clause.invariant.behind, c.loop-clause-test.true) in
@@ -110,8 +110,8 @@ pub emit_guarded-aim-requires : goal.emit_guarded-aim-requires
 emit_guarded-aim-requires t c =
     let put = grown _ _ _ c.in_ok-put.ensures.emits in
     let acts = grown _ _ _ c.in_ok-behind.ensures.emits in
-    let place = c.len-jump.ensures ∙ c.emit_value.new.out.ok.0 in
-    record { there = omega (arith, put, acts, place) }
+    let start = c.len-jump.ensures ∙ c.emit_value.new.out.ok.0 in
+    record { there = omega (arith, put, acts, start) }
 
 pub emit_guarded-returns-clause-emits : goal.emit_guarded-returns-clause-emits
 emit_guarded-returns-clause-emits t c =
@@ -121,7 +121,7 @@ emit_guarded-returns-clause-emits t c =
     λ fits.
     let target : c.saturating_add.result ≡ c.args.at + clause_length s (plain_clause e body) + c.args.more = omega
     (arith, c.in_ok-list.ensures.behind, c.in_ok-behind.ensures.behind, c.saturating_add.ensures, fits) in
-    let place = c.len-jump.ensures ∙ c.emit_value.new.out.ok.0 in
+    let start = c.len-jump.ensures ∙ c.emit_value.new.out.ok.0 in
     let set = c.aim.ensures.exact ∙ ap (λ k. aimed_at c.saturating_add.result k c.emit_acts.new.out.items) place in
     let list = aims _ _ _ _ instruction.false_ 29 _ _ (λ k. refl) c.in_ok-put.ensures.emits c.in_ok-behind.ensures.emits set in
     both _ _ _ _ _ _ _ c.in_ok-list.ensures.emits list
@@ -142,20 +142,20 @@ emit_open_clauses-returns-clause-opens t c =
     let kind = clause_kind_of c.args.closing in
     let items = c.items-clause-items.result.now in
     let none = drop_all c.loop-clause.clause-index items (omega (arith, c.loop-clause-test.false)) in
-    let opens = open_at_last kind c.args.at c.args.places.now.items c.loop-clause.places.items c.args.out.now.items c.loop-clause.out.items
+    let opens = open_at_last kind c.args.at c.args.starts.now.items c.loop-clause.starts.items c.args.out.now.items c.loop-clause.out.items
     (λ k. clauses_code s kind k c.args.at (clauses (map clause_of items)))
-    (subst (λ l. IsOpen kind c.args.at c.args.places.now.items c.loop-clause.places.items c.args.out.now.items c.loop-clause.out.items
+    (subst (λ l. IsOpen kind c.args.at c.args.starts.now.items c.loop-clause.starts.items c.args.out.now.items c.loop-clause.out.items
     (λ k. clauses_code s kind k c.loop-clause.here (clauses (map clause_of l))) (λ k. clauses_code s kind k c.args.at (clauses (map clause_of items)))) none
     c.loop-clause.invariant.opens) in
-    subst (λ l. Opens kind c.args.at c.args.places.now.items c.loop-clause.places.items c.args.out.now.items c.loop-clause.out.items
+    subst (λ l. Opens kind c.args.at c.args.starts.now.items c.loop-clause.starts.items c.args.out.now.items c.loop-clause.out.items
     (λ k. clauses_code s kind k c.args.at (clauses (map clause_of l)))) c.items-clause-items.ensures.exact opens
 
 pub emit_clauses-aim_all-requires : goal.emit_clauses-aim_all-requires
 emit_clauses-aim_all-requires t c =
     let s = c.args.scope.now in
     let kind = clause_kind_of c.args.closing in
-    let opens = subst (λ l. Opens kind c.args.at l c.emit_open_clauses.new.places.items c.args.out.now.items c.emit_open_clauses.new.out.items
-    (λ k. clauses_code s kind k c.args.at (clauses_of c.args.clauses.now))) c.new-places.ensures.items c.in_ok-behind.ensures.opens in
+    let opens = subst (λ l. Opens kind c.args.at l c.emit_open_clauses.new.starts.items c.args.out.now.items c.emit_open_clauses.new.out.items
+    (λ k. clauses_code s kind k c.args.at (clauses_of c.args.clauses.now))) c.new-starts.ensures.items c.in_ok-behind.ensures.opens in
     record { there = subst (λ l. AreThere l (length c.emit_open_clauses.new.out.items)) (sym c.deref.ensures.value) (opens.there tt) }
 
 pub emit_clauses-target_of-requires : goal.emit_clauses-target_of-requires
@@ -176,10 +176,10 @@ emit_clauses-returns-clause-emits t c =
     let long : c.in_ok-behind.behind - c.args.at ≡ clauses_length s kind all = omega (arith, c.in_ok-behind.ensures.behind) in
     let target : c.target_of.result ≡ target_of kind c.args.at (clauses_length s kind all) = c.target_of.ensures.exact
     ∙ ap (target_of kind c.args.at) long in
-    let opens = subst (λ l. Opens kind c.args.at l c.emit_open_clauses.new.places.items c.args.out.now.items c.emit_open_clauses.new.out.items
-    (λ k. clauses_code s kind k c.args.at all)) c.new-places.ensures.items c.in_ok-behind.ensures.opens in
+    let opens = subst (λ l. Opens kind c.args.at l c.emit_open_clauses.new.starts.items c.args.out.now.items c.emit_open_clauses.new.out.items
+    (λ k. clauses_code s kind k c.args.at all)) c.new-starts.ensures.items c.in_ok-behind.ensures.opens in
     subst (λ k. Emits c.args.out.now.items c.aim_all.new.out.items (clauses_code s kind k c.args.at all)) target
-    (opens_all kind c.args.at c.target_of.result c.emit_open_clauses.new.places.items c.args.out.now.items c.emit_open_clauses.new.out.items
+    (opens_all kind c.args.at c.target_of.result c.emit_open_clauses.new.starts.items c.args.out.now.items c.emit_open_clauses.new.out.items
     c.aim_all.new.out.items (λ k. clauses_code s kind k c.args.at all)
     (subst (IsTarget kind c.args.at) (sym target) (target_is kind c.args.at (clauses_length s kind all))) opens
     (c.aim_all.ensures.exact ∙ ap (λ l. aimed c.target_of.result l c.emit_open_clauses.new.out.items) c.deref.ensures.value))

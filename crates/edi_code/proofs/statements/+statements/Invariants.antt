@@ -21,7 +21,7 @@ invariant-emit_open_clauses-loop-clause l = record {
   writable : ClausesAreWritable l.scope (clauses (map clause_of (drop l.clause-index l.clause-items)));
   room : l.here + clauses_length l.scope (clause_kind_of l.closing) (clauses (map clause_of (drop l.clause-index l.clause-items))) ≡ l.at + clauses_length
       l.scope (clause_kind_of l.closing) (clauses (map clause_of l.clause-items));
-  opens : IsOpen (clause_kind_of l.closing) l.at l.fn.places.items l.places.items l.fn.out.items l.out.items
+  opens : IsOpen (clause_kind_of l.closing) l.at l.fn.starts.items l.starts.items l.fn.out.items l.out.items
       (λ t. clauses_code l.scope (clause_kind_of l.closing) t l.here (clauses (map clause_of (drop l.clause-index l.clause-items))))
       (λ t. clauses_code l.scope (clause_kind_of l.closing) t l.at (clauses (map clause_of l.clause-items)));
 }

@@ -4,6 +4,6 @@ use Rattle.edi_static.specs.Views.{formals, formal_of}
 use Rattle.edi_static.proofs.Askings.{more_formals}
 use Rattle.edi_static.proofs.headings.push_formal.Goals as goal
 
-pub returns-in-Ok-clause-ok : goal.returns-in-Ok-clause-ok
-returns-in-Ok-clause-ok c =
-    ap (λ fs. formals (map formal_of fs)) c.in-Ok.ensures.exact ∙ more_formals (list_items c.args.formals.now) c.args.formal
+pub returns-clause-ok : goal.returns-clause-ok
+returns-clause-ok c =
+    ap (λ fs. formals (map formal_of fs)) c.in_ok-push.ensures.exact ∙ more_formals (list_items c.args.formals.now) c.args.formal

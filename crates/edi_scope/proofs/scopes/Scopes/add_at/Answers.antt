@@ -8,8 +8,8 @@ use Rattle.edi_scope.proofs.scopes.Scopes.add_at.Goals as goal
 
 pub insert-requires : goal.insert-requires
 insert-requires c =
-    place_within c.self.inside.declarations (scopes_of c.self.inside.scopes) c.args.name.now (c.len.result - 1 - c.args.steps) c.further_out-place.result
-    c.self.invariant c.further_out-place.ensures.exact
+    place_within c.self.inside.declarations (scopes_of c.self.inside.scopes) c.args.name.now (c.len.result - 1 - c.args.steps) c.further_out-index.result
+    c.self.invariant c.further_out-index.ensures.exact
 
 pub invariant_of-self-in-Err : goal.invariant_of-self-in-Err
 invariant_of-self-in-Err c =
@@ -44,7 +44,7 @@ invariant_of-self-in_default c =
     c.args.steps (kept c.self.inside.scopes) (kept c.put_name.new.scopes) (c.len.result - 1 - c.args.steps) c.in_ok-put_name.ensures.ok deep_kept in
     subst (ScopesAreKept c.insert.new.self) (sym view)
     (kept-at c.self.inside.declarations c.insert.new.self old c.args.name.now c.args.entity c.args.steps (c.len.result - 1 - c.args.steps)
-    c.further_out-place.result c.self.invariant c.in_default.ensures.ok free deep c.further_out-place.ensures.exact)
+    c.further_out-index.result c.self.invariant c.in_default.ensures.ok free deep c.further_out-index.ensures.exact)
 
 pub returns-clause-ok : goal.returns-clause-ok
 returns-clause-ok c =
