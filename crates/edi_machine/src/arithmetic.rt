@@ -76,6 +76,7 @@ pub fn sum(store: &mut Store, activity: &mut Activity, line: u16, next: u32) -> 
 }
 
 /// SUB.
+#[inline(always)]
 pub fn difference(store: &mut Store, activity: &mut Activity, line: u16, next: u32) -> StepEnd
     requires ordered { IsOrdered activity.old }
     ensures exact { let l = local_of store.old activity.old in

@@ -13,7 +13,7 @@ use crate::constants::{check, constant, element_address, field_address, frame_ad
 use crate::ends::StepEnd;
 use crate::instruction::code_address;
 use crate::procedures::{call, leave_block};
-use crate::rare::execute_rare;
+use crate::rare::execute_seldom;
 use crate::variables::{keep, load};
 use crate::{jumps, processes};
 use edi_calls::Calls;
@@ -207,7 +207,7 @@ fn execute_by<C: Calls>(
             _ => StepEnd::Bad(at)
         },
         2 | 3 | 22 | 23 | 24 | 25 | 26 | 35 | 36 | 38 | 40 | 42 | 43 => {
-            execute_rare(store, activity, words, live, first, number, operands, calls)
+            execute_seldom(store, activity, words, live, first, number, operands, calls)
         }
         0 | 33 => StepEnd::Bad(at),
         _ => StepEnd::Bad(at),

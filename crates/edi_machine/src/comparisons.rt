@@ -92,9 +92,9 @@ pub fn is_at_least(store: &mut Store, activity: &mut Activity, next: u32) -> Ste
 
 // Whether the two values of `count` words on top are equal, where the frame has them above its first five.
 #[inline(never)]
-fn top_two_are_equal(store: &Store, activity: &Activity, count: u16) -> Option<bool>
-    requires ordered { IsOrdered activity.now }
-    ensures top { let a = activity.now in
+fn top_two_are_equal(store: &Store, activity: Activity, count: u16) -> Option<bool>
+    requires ordered { IsOrdered activity }
+    ensures top { let a = activity in
         MatchOption result (a.top < a.base + 5 + count + count)
         (λ r. (a.base + 5 + count + count ≤ a.top)
         × (r ≡ bytes_eq (words_at store.now (a.top - count - count) count) (words_at store.now (a.top - count) count))) }
@@ -115,7 +115,7 @@ pub fn are_equal(store: &mut Store, activity: &mut Activity, count: u16, next: u
     ensures ordered { IsOrdered activity.new }
 {
     let size = u32::from(count);
-    match top_two_are_equal(store, activity, count) {
+    match top_two_are_equal(store, *activity, count) {
         Some(same) => push_at(
             store,
             activity,
@@ -135,7 +135,7 @@ pub fn are_not_equal(store: &mut Store, activity: &mut Activity, count: u16, nex
     ensures ordered { IsOrdered activity.new }
 {
     let size = u32::from(count);
-    match top_two_are_equal(store, activity, count) {
+    match top_two_are_equal(store, *activity, count) {
         Some(same) => push_at(
             store,
             activity,

@@ -94,6 +94,7 @@ fn enter_block(
 }
 
 /// Enters the block of the ENTRY at `target` with this static link.
+#[inline(always)]
 pub fn enter(
     store: &mut Store,
     activity: &mut Activity,
@@ -130,7 +131,10 @@ pub fn enter(
                 function,
                 body,
             };
-            enter_block(store, activity, block, link, line, next)
+            let mut here = *activity;
+            let end = enter_block(store, &mut here, block, link, line, next);
+            *activity = here;
+            end
         }
         _ => StepEnd::Bad(activity.pc),
     }
@@ -209,7 +213,10 @@ pub fn leave_block(
     ensures ordered { IsOrdered activity.new }
 {
     if activity.base != activity.segment.first {
-        return leave_frame(store, activity, u32::from(results), function);
+        let mut here = *activity;
+        let end = leave_frame(store, &mut here, u32::from(results), function);
+        *activity = here;
+        return end;
     }
     if first {
         StepEnd::Turn(TurnKind::ProgramEnd)
