@@ -2,9 +2,11 @@
 //! accepted and has a resolved unit.
 #![tactic(auto)]
 
+mod cause;
 mod kind;
 pub mod laws;
 mod refusal;
 
+pub use cause::cause_text;
 pub use kind::RefusalKind;
 pub use refusal::{Pass, Refusal};
