@@ -1,6 +1,6 @@
 -- What the calls that change one file leave.
 use Rattle.std.proofs.Common.{◌≡◌, ℕ, suc, ◌<◌, ◌≤◌, inl, inr, Bool, true, false, List, [], ◌∷◌, length, set, get_or, refl, ap, sym, subst, ◌∙◌, arith, ◌*◌}
-use Rattle.std.proofs.Common.{◌/◌, ◌%◌}
+use Rattle.std.proofs.Common.{◌/◌, ◌%◌, ◌+◌}
 use Rattle.std.specs.Prelude.{◌&&◌, ◌==◌, nat_le, is_some, if◌then◌else◌, map, Option, Some, None, IfSome, Result, Ok, Err}
 use Rattle.std.specs.List.{list_all}
 use Rattle.std.specs.Option.{option_map, option_and_then}
@@ -32,6 +32,9 @@ use Rattle.edi_catalog.specs.Plan.{are_different, blocks_used}
 use Rattle.edi_catalog.proofs.Apart.{put_apart}
 use Rattle.edi_catalog.proofs.EntryBlocks.{entries_over}
 use Rattle.edi_catalog.proofs.KeptEntries.{record_said, said_over, whole_over}
+use Rattle.edi_catalog.proofs.StillCached.{cached_over, changed_cached, entry_used}
+use Rattle.edi_catalog.specs.Putting.{EntryCached}
+use Rattle.edi_catalog.specs.Reads.{UsesBlock}
 use Rattle.edi_catalog.proofs.Changed.{IsChangedTo, written_changes, put_stored, record_room}
 
 -- ---- a slot that is written
@@ -67,8 +70,9 @@ pub slot_done : {D X : Type 0} (contents : D → Option (List (List ℕ))) (coun
     → slot ≡ index → PutsEntry contents count faults disk.Ok slot entry (disk_of a) (disk_of b) → room_reference b ≡ room_reference a
     → files_of b ≡ put_kept (files_of a) index r
     → entry_blocks_of b ≡ set (entry_blocks_of a) (index / 8) (patched (64 * (index % 8)) entry (get_or (entry_blocks_of a) (index / 8) []))
+    → UsesBlock (1 + index / 8) (get_or (entry_blocks_of b) (index / 8) []) (disk_of a) (disk_of b)
     → Changes contents count faults (Ok x) None (put_kept (files_of a) index r) (put_file index r) a b
-slot_done {X = X} contents count faults x index slot entry r a b mounted h at long is same puts lent files blocks = record {
+slot_done {X = X} contents count faults x index slot entry r a b mounted h at long is same puts lent files blocks uses = record {
   answers = (refl, files);
   untouched = tt;
   mounted = inr (record {
@@ -91,12 +95,16 @@ slot_done {X = X} contents count faults x index slot entry r a b mounted h at lo
         (said_over (count (drive_of (disk_of a))) index entry (entry_blocks_of a) (files_of a) (kept_as r (get_or (files_of a) index None)) h long whole
         mounted.many (ap (entry_says (count (drive_of (disk_of a)))) is ∙ record_said (count (drive_of (disk_of a))) (files_of a) index r mounted.stored at)
         (mounted.said was)))));
+    entries_cached = λ some.
+        cached_over index (entry_blocks_of a) (entry_blocks_of b) _ (disk_of a) (disk_of b) blocks used
+        (mounted.entries_cached (subst (λ n. 0 < n) puts.count_stays some));
     entries = λ new e.
         (let was = told (EntryLeaves disk.Ok slot entry) (contents (drive_of (disk_of a))) (contents (drive_of (disk_of b))) new puts.leaves e in
         subst (λ es. AreEntries es new) (sym blocks)
         (entries_over index entry (entry_blocks_of a) was.0 new h whole.many (mounted.entries was.0 was.1) (subst (λ n. IsWritten n entry was.0 new) same was.2)));
     image = λ new e. (let was = written new e in subst (IsKeptOf new) (sym files) was.2.kept);
   });
+  entries_cached = inr (changed_cached index (entry_blocks_of a) (entry_blocks_of b) _ (disk_of a) (disk_of b) blocks used);
   leaves =
       where_told (λ old new. Leaves {X = X} (Ok x) (slots_of old) (put_file index r (slots_of old)) old new) (contents (drive_of (disk_of a)))
       (contents (drive_of (disk_of b)))
@@ -107,6 +115,9 @@ slot_done {X = X} contents count faults x index slot entry r a b mounted h at lo
   later = puts.later;
   cause = λ e. absurd (let not_err : Ok x ≡ Err cat.Fault = e in cc);
 } where
+  used : EntryCached (1 + index / 8) (get_or (entry_blocks_of b) (index / 8) []) (disk_of a) (disk_of b)
+  used = entry_used (1 + index / 8) (get_or (entry_blocks_of b) (index / 8) []) (disk_of a) (disk_of b) uses
+
   whole : AreWhole (entry_blocks_of a)
   whole = slot_room contents count a index r mounted at
 
@@ -131,6 +142,7 @@ slot_failed {X = X} contents count faults index slot entry r a b mounted h at lo
   answers = refl;
   untouched = tt;
   mounted = inl refl;
+  entries_cached = inl refl;
   leaves =
       where_told (λ old new. Leaves {X = X} (Err cat.Fault) (slots_of old) (put_file index r (slots_of old)) old new) (contents (drive_of (disk_of a)))
       (contents (drive_of (disk_of b)))
@@ -175,6 +187,7 @@ not_changed contents count faults result refusal kept wanted a mounted answers l
   answers = answers;
   untouched = untouched_same result a;
   mounted = inr mounted;
+  entries_cached = inr (λ k h. inl refl);
   leaves =
       told_same (contents (drive_of (disk_of a))) (λ old new. Leaves result (slots_of old) (wanted (slots_of old)) old new) leaves;
   same_reference = refl;
@@ -186,7 +199,7 @@ not_changed contents count faults result refusal kept wanted a mounted answers l
 
 -- ---- the file of a title
 
--- the file of a title, in its place
+-- the file of a title, in its slot
 pub record HasFile (title : List ℕ) (files : List (Option StoredFile)) (index : ℕ) : Type 0 where
   pub file : StoredFile
   pub there : get_or files index None ≡ Some file
@@ -239,7 +252,7 @@ kept_title count files index file all there =
     let data_ = both (is_title r.title && nat_le r.length most_bytes) (are_data count r.maps) maps.0 in
     (both (is_title r.title) (nat_le r.length most_bytes) data_.0).0
 
--- ---- what is written in the place of a file
+-- ---- what is written in the slot of a file
 
 slot_there : (files : List (Option StoredFile)) (index : ℕ) (there : Option StoredFile) (file : StoredFile) → length files ≡ 256 → index < 256
     → there ≡ get_or files index there → get_or files index None ≡ Some file → there ≡ Some file
@@ -266,7 +279,7 @@ record_at files index file q entry there fits is =
 pub inside : (files : List (Option StoredFile)) (index : ℕ) → length files ≡ 256 → index < length files → index < 256
 inside files index many h = omega (arith, many, h)
 
--- no file has a title where none has its place
+-- no file has a title where no slot has one
 pub untitled_none : (title : List ℕ) (files : List (Option StoredFile)) → find_index title files ≡ None → file_titled title files ≡ None
 untitled_none title files h = ap (option_and_then (λ k. get_or files k None)) h
 
@@ -311,6 +324,7 @@ changes_as contents count faults result refusal title index r change change_file
       (subst (λ k. CatalogAnswers result None (files_of a) k (files_of b)) same_kept changes.answers);
   untouched = changes.untouched;
   mounted = changes.mounted;
+  entries_cached = changes.entries_cached;
   leaves =
       where_told (λ old new. Leaves result (slots_of old) (slots_changed change_file title (slots_of old)) old new) (contents (drive_of (disk_of a)))
       (contents (drive_of (disk_of b)))

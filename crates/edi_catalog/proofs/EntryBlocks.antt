@@ -4,7 +4,7 @@ use Rattle.std.proofs.Common.{sym, subst, ◌∙◌, arith}
 use Rattle.std.proofs.Math.ListN.{get_or-append}
 use Rattle.std.proofs.Math.Seq.{get_or-append_seam}
 use Rattle.std.proofs.lemmas.Bool.{cases_eq}
-use Rattle.std.proofs.lemmas.List.{get_or-set_other, get_or_default}
+use Rattle.std.proofs.lemmas.List.{get_or-set_other, get_or-set_same, get_or_default}
 use Rattle.std.proofs.lemmas.Grind.{get_or-set_at}
 use Rattle.std.specs.Prelude.{Option}
 use Rattle.edi_image.specs.declared.faults.MountFault.{MountFault}
@@ -107,3 +107,6 @@ pub kept_now : (slot : ℕ) (kept : List (List ℕ)) (entry there now : List ℕ
     → set kept (slot / 8) now ≡ set kept (slot / 8) (patched (64 * (slot % 8)) entry (get_or kept (slot / 8) []))
 kept_now slot kept entry there now h many is made =
     ap (set kept (slot / 8)) (made ∙ ap (patched (64 * (slot % 8)) entry) (same_there slot kept there h many is))
+
+pub block_now : (slot : ℕ) (kept : List (List ℕ)) (now : List ℕ) → slot < 256 → length kept ≡ 32 → now ≡ get_or (set kept (slot / 8) now) (slot / 8) []
+block_now slot kept now h many = sym (get_or-set_same kept (slot / 8) now [] (kept_inside slot kept h many))

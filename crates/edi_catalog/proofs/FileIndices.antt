@@ -1,17 +1,17 @@
 -- Places of files in their slots, and the blocks that they take.
-use Rattle.std.proofs.Common.{◌≡◌, ℕ, zero, suc, ◌<◌, true, false, List, [], ◌∷◌, length, Option, Some, None, refl, sym, ap, subst, ◌∙◌, arith}
+use Rattle.std.proofs.Common.{◌≡◌, ℕ, zero, suc, ◌≤◌, ◌<◌, true, false, List, [], ◌∷◌, length, Option, Some, None, refl, sym, ap, subst, ◌∙◌, arith}
 use Rattle.std.specs.Prelude.{◌&&◌, ◌==◌, nat_le, nat_lt, if◌then◌else◌, slice_index, slice_index_or, IfSome, Ok}
 use Rattle.std.specs.List.{list_all}
 use Rattle.std.specs.Option.{option_map, option_and_then}
 use borrow.Author.Tests.{ltb-true}
-use Rattle.std.proofs.lemmas.Bool.{eqb-true}
+use Rattle.std.proofs.lemmas.Bool.{eqb-true, leb-true}
 use Rattle.edi_calls.specs.State.{is_title, most_bytes, pages_of}
 use Rattle.edi_image.specs.Stored.{StoredFile, is_titled, is_record, is_stored, are_data, is_sized}
 use Rattle.edi_catalog.specs.Files.{find_index, file_titled, PageIs}
 use Rattle.edi_image.specs.Entries.{block_at, is_data}
 use Rattle.edi_image.proofs.Spelled.{both}
 
--- the place of a slot that passes, where none before it does
+-- the index of a slot that passes, where none before it does
 pub index_at : (title : List ℕ) (files : List (Option StoredFile)) (index : ℕ) (file : Option StoredFile)
     → ((k : ℕ) → k < index → is_titled title (slice_index_or files k None) ≡ false) → index < length files
     → file ≡ slice_index_or files index file → is_titled title file ≡ true → find_index title files ≡ Some index
@@ -24,7 +24,7 @@ index_at title (first ∷ files) (suc index) file before within is here =
     index_at title files index file (λ k h. before (suc k) (omega arith)) (omega arith) is here in
     ap (λ b. if b then Some 0 else option_map suc (find_index title files)) fails ∙ ap (option_map suc) later
 
--- no place, where no slot passes
+-- no index, where no slot passes
 pub index_none : (title : List ℕ) (files : List (Option StoredFile))
     → ((k : ℕ) → k < length files → is_titled title (slice_index_or files k None) ≡ false) → find_index title files ≡ None
 index_none title [] all = refl
@@ -57,34 +57,45 @@ kept_at count [] index h = refl
 kept_at count (file ∷ files) zero h = (both (is_stored count file) (list_all (is_stored count) files) h).0
 kept_at count (file ∷ files) (suc index) h = kept_at count files index (both (is_stored count file) (list_all (is_stored count) files) h).1
 
-file_kept : (count : ℕ) (title : List ℕ) (files : List (Option StoredFile)) → list_all (is_stored count) files ≡ true
+pub file_kept : (count : ℕ) (title : List ℕ) (files : List (Option StoredFile)) → list_all (is_stored count) files ≡ true
     → is_stored count (file_titled title files) ≡ true
 file_kept count title files h = go (find_index title files) where
   go : (index : Option ℕ) → is_stored count (option_and_then (λ k. slice_index_or files k None) index) ≡ true
   go None = refl
   go (Some k) = kept_at count files k h
 
-data_at : (count : ℕ) (pages : List ℕ) (i : ℕ) → i < length pages → are_data count pages ≡ true → slice_index pages i < count
+data_at : (count : ℕ) (pages : List ℕ) (i : ℕ) → i < length pages → are_data count pages ≡ true
+    → (33 ≤ slice_index pages i) × (slice_index pages i < count)
 data_at count [] i h d = absurd (omega arith)
 data_at count (page ∷ pages) zero h d =
     let fits = both (is_data 33 count page) (are_data count pages) d in
     let below = both (nat_le 33 page) (nat_lt page count) fits.0 in
-    ltb-true page count below.1
+    (leb-true 33 page below.0, ltb-true page count below.1)
 data_at count (page ∷ pages) (suc i) h d = data_at count pages i (omega arith) (both (is_data 33 count page) (are_data count pages) d).1
 
-pub page_on_drive : (count : ℕ) (title : List ℕ) (files : List (Option StoredFile)) (i page : ℕ) → list_all (is_stored count) files ≡ true
+page_is_data : (count : ℕ) (title : List ℕ) (files : List (Option StoredFile)) (i page : ℕ) → list_all (is_stored count) files ≡ true
     → Some page ≡ option_map (λ (file : StoredFile). slice_index file.pages i) (file_titled title files)
-    → IfSome (file_titled title files) (λ file. i < length file.pages) → page < count
-page_on_drive count title files i page all is inside = go (file_titled title files) (file_kept count title files all) is inside where
+    → IfSome (file_titled title files) (λ file. i < length file.pages) → (33 ≤ page) × (page < count)
+page_is_data count title files i page all is inside = go (file_titled title files) (file_kept count title files all) is inside where
   go : (o : Option StoredFile) → is_stored count o ≡ true → Some page ≡ option_map (λ (file : StoredFile). slice_index file.pages i) o
-      → IfSome o (λ file. i < length file.pages) → page < count
+      → IfSome o (λ file. i < length file.pages) → (33 ≤ page) × (page < count)
   go None kept is inside = absurd (let no_page : Some page ≡ None = is in cc)
   go (Some file) kept is inside =
       let parts = both (is_record count file.record_ && are_data count file.pages) (length file.pages == pages_of file.record_.length) kept in
       let here : Some page ≡ Some (slice_index file.pages i) = is in
       let same : slice_index file.pages i ≡ page = cc in
-      subst (λ n. n < count) same
+      subst (λ n. (33 ≤ n) × (n < count)) same
       (data_at count file.pages i inside (both (is_record count file.record_) (are_data count file.pages) parts.0).1)
+
+pub page_on_drive : (count : ℕ) (title : List ℕ) (files : List (Option StoredFile)) (i page : ℕ) → list_all (is_stored count) files ≡ true
+    → Some page ≡ option_map (λ (file : StoredFile). slice_index file.pages i) (file_titled title files)
+    → IfSome (file_titled title files) (λ file. i < length file.pages) → page < count
+page_on_drive count title files i page all is inside = (page_is_data count title files i page all is inside).1
+
+pub page_behind : (count : ℕ) (title : List ℕ) (files : List (Option StoredFile)) (i page : ℕ) → list_all (is_stored count) files ≡ true
+    → Some page ≡ option_map (λ (file : StoredFile). slice_index file.pages i) (file_titled title files)
+    → IfSome (file_titled title files) (λ file. i < length file.pages) → 33 ≤ page
+page_behind count title files i page all is inside = (page_is_data count title files i page all is inside).0
 
 pub page_is : {X : Type 0} (E : Type 0) (x : X) (o : Option StoredFile) (i page : ℕ) (bytes : List ℕ) (blocks : List (List ℕ))
     → Some page ≡ option_map (λ (file : StoredFile). slice_index file.pages i) o → block_at blocks page ≡ bytes

@@ -1,6 +1,6 @@
 -- The numbers of maps and pages of a file that is kept.
 use Rattle.std.proofs.Common.{◌≡◌, inl, inr, ℕ, ◌+◌, ◌-◌, ◌*◌, ◌/◌, ◌≤◌, ◌<◌, true, length, get_or, Some, ap, sym, subst, ◌∙◌, arith}
-use Rattle.std.specs.Prelude.{◌&&◌, ◌==◌, nat_le, if◌then◌else◌, slice_index}
+use Rattle.std.specs.Prelude.{◌&&◌, ◌==◌, nat_le, nat_lt, if◌then◌else◌, slice_index}
 use Rattle.std.proofs.lemmas.Bool.{eqb-true, leb-true, leb-false, ltb-true, and_parts, and_from, cases_Bool}
 use Rattle.std.proofs.lemmas.List.Folds.{list_all-append}
 use Rattle.edi_calls.specs.State.{is_title, most_bytes, pages_of, blocks_of}
@@ -69,13 +69,21 @@ used_data count file shape =
     list_all-append (is_data 33 count) file.record_.maps file.pages
     ∙ and_from (are_data count file.record_.maps) (are_data count file.pages) shape.maps_data shape.pages_data
 
-pub used_below : (count : ℕ) (file : StoredFile) (i : ℕ) → is_stored count (Some file) ≡ true → i < length (used_in (Some file))
-    → get_or (used_in (Some file)) i 0 < count
-used_below count file i h less =
+used_parts : (count : ℕ) (file : StoredFile) (i : ℕ) → is_stored count (Some file) ≡ true → i < length (used_in (Some file))
+    → (nat_le 33 (get_or (used_in (Some file)) i 0) ≡ true) × (nat_lt (get_or (used_in (Some file)) i 0) count ≡ true)
+used_parts count file i h less =
     let data_ : is_data 33 count (get_or (used_in (Some file)) i 0) ≡ true =
     all_in (is_data 33 count) (used_in (Some file)) (get_or (used_in (Some file)) i 0) (used_data count file (shape_of count file h))
     (in_at (used_in (Some file)) i less) in
-    ltb-true _ count (and_parts (nat_le 33 (get_or (used_in (Some file)) i 0)) _ data_).1
+    and_parts (nat_le 33 (get_or (used_in (Some file)) i 0)) _ data_
+
+pub used_below : (count : ℕ) (file : StoredFile) (i : ℕ) → is_stored count (Some file) ≡ true → i < length (used_in (Some file))
+    → get_or (used_in (Some file)) i 0 < count
+used_below count file i h less = ltb-true _ count (used_parts count file i h less).1
+
+pub used_behind : (count : ℕ) (file : StoredFile) (i : ℕ) → is_stored count (Some file) ≡ true → i < length (used_in (Some file))
+    → 33 ≤ get_or (used_in (Some file)) i 0
+used_behind count file i h less = leb-true 33 _ (used_parts count file i h less).0
 
 -- a block's place in a file of so many bytes
 pub index_within : (count : ℕ) (file : StoredFile) (size many i : ℕ) → is_stored count (Some file) ≡ true → size ≡ file.record_.length

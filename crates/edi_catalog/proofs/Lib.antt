@@ -27,3 +27,4 @@ pub mod Taken
 pub mod Apart
 pub mod Marking
 pub mod KeptEntries
+pub mod StillCached

@@ -11,12 +11,13 @@ use Rattle.edi_image.specs.declared.faults.MountFault.{MountFault}
 use Rattle.edi_image.specs.declared.faults.MountFault.TheVariants as fault
 use Rattle.edi_image.specs.Image.{mount_fault_of}
 use Rattle.edi_image.specs.Stored.{IsKeptOf, is_stored}
-use Rattle.edi_catalog.specs.Mounted.{AreEntries, AreWhole, HaveEntries, IsMounted, disk_of, entry_blocks_of, files_of}
+use Rattle.edi_catalog.specs.Mounted.{AreCached, AreEntries, AreWhole, HaveEntries, IsMounted, disk_of, entry_blocks_of, files_of}
 use Rattle.edi_catalog.specs.Plan.{are_different, blocks_used}
 use Rattle.edi_catalog.specs.declared.catalog.Catalog.{Catalog}
 use Rattle.std.specs.List.{list_all}
-use Rattle.edi_catalog.specs.Reads.{Checks}
+use Rattle.edi_catalog.specs.Reads.{Checks, EntriesStay}
 use Rattle.edi_image.specs.Finds.{IsFirst, is_drive_fault}
+use Rattle.edi_catalog.proofs.StillCached.{still_cached}
 
 -- ---- what is told in the end
 
@@ -103,9 +104,9 @@ first_found contents count faults fault.NoMemory a b settled checks blocks told 
 -- a catalogue whose disk was only read
 pub still_mounted : {D : Type 0} (contents : D → Option (List (List ℕ))) (count faults : D → ℕ) (one other : Catalog D) (P : List (List ℕ) → Type 0)
     → files_of other ≡ files_of one → entry_blocks_of other ≡ entry_blocks_of one → IsMounted contents count one → Checks contents count faults false
-    (disk_of one) (disk_of other) P
+    (disk_of one) (disk_of other) P → EntriesStay (disk_of one) (disk_of other)
     → IsMounted contents count other
-still_mounted contents count faults one other P same entries_same mounted checks = record {
+still_mounted contents count faults one other P same entries_same mounted checks stay = record {
   works = checks.works refl;
   settled = still_settled contents count faults (disk_of one) (disk_of other) P mounted.settled checks;
   clean = checks.clean refl mounted.clean;
@@ -121,6 +122,9 @@ still_mounted contents count faults one other P same entries_same mounted checks
       (subst (HaveEntries (count (drive_of (disk_of one))) (entry_blocks_of other)) (sym same)
       (subst (λ es. HaveEntries (count (drive_of (disk_of one))) es (files_of one)) (sym entries_same)
       (mounted.said (subst (λ n. 0 < n) checks.count_stays some))));
+  entries_cached = λ some.
+      subst (λ es. AreCached es (disk_of other)) (sym entries_same)
+      (still_cached (entry_blocks_of one) (disk_of one) (disk_of other) stay (mounted.entries_cached (subst (λ n. 0 < n) checks.count_stays some)));
   entries = λ blocks told.
       subst (λ es. AreEntries es blocks) (sym entries_same)
       (mounted.entries blocks (found_of contents count faults (disk_of one) (disk_of other) P mounted.settled checks blocks told).0);

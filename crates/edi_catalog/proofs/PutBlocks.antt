@@ -8,11 +8,12 @@ use Rattle.edi_told.specs.Told.{WhereTold}
 use Rattle.edi_disk.specs.declared.disk.Disk.{Disk}
 use Rattle.edi_disk.specs.declared.disk.DiskEnd.{DiskEnd}
 use Rattle.edi_disk.specs.declared.disk.DiskEnd.TheVariants as disk
-use Rattle.edi_disk.specs.Shown.{shown, drive_of, reference_of, IsWorking}
+use Rattle.edi_disk.specs.Shown.{cached, shown, drive_of, reference_of, IsWorking}
 use Rattle.edi_disk.specs.Since.{Kept, PutLeaves}
 use Rattle.edi_image.specs.Rules.{is_in}
 use Rattle.edi_catalog.specs.Plan.{are_different, ArePut}
 use Rattle.edi_catalog.specs.Putting.{PutsBlocks}
+use Rattle.edi_catalog.specs.Reads.{UsesBlock}
 use Rattle.edi_image.proofs.Told.{told_then, told_same}
 use Rattle.edi_catalog.proofs.Unchanged.{in_first, in_later}
 
@@ -78,6 +79,8 @@ puts_none contents count faults numbers content a works = record {
   cause = λ e. absurd (cc);
   works = λ e. works;
   shows = λ e. told_same (shown contents a) (ArePut numbers content 0) (λ blocks. put_none numbers content blocks);
+  put_cached = λ e i bytes h there. absurd (omega arith);
+  others_cached = λ e m out bytes there. there;
 }
 
 -- what is known of a put
@@ -91,6 +94,7 @@ pub record PutOne {D : Type 0} (contents : D → Option (List (List ℕ))) (coun
   pub count_stays : count (drive_of after) ≡ count (drive_of before)
   pub later : faults (drive_of before) ≤ faults (drive_of after)
   pub cause : end ≡ disk.Fault → min (faults (drive_of before) + 1) (2 ^ 64 - 1) ≤ faults (drive_of after)
+  pub uses : end ≡ disk.Ok → UsesBlock n from before after
 
 with_size : (a b : Option (List (List ℕ))) (count : ℕ) (P Q : List (List ℕ) → List (List ℕ) → Type 0) → IfSome a (λ blocks. length blocks ≡ count)
     → ((old new : List (List ℕ)) → length old ≡ count → P old new → Q old new) → WhereTold a b P → WhereTold a b Q
@@ -127,6 +131,21 @@ puts_more contents count faults end numbers content i n from a b c size d h is s
       (so_far.shows refl)
       (with_size (shown contents b) (shown contents c) (count (drive_of b)) (PutLeaves disk.Ok n from) _ size (λ old new s p. (s, p))
       (subst (λ f. WhereTold (shown contents b) (shown contents c) (PutLeaves f n from)) e one.shows)));
+  put_cached = λ e j bytes less there.
+      elim (cases_eq j i) [
+        | inl here ↦
+            let both : Some from ≡ Some bytes =
+            sym (one.uses e).there ∙ ap (λ m. cached m c) (is ∙ ap (slice_index numbers) (sym here)) ∙ there in
+            let it : from ≡ bytes = cc in
+            ap content here ∙ sym same ∙ it
+        | inr other ↦
+            let early : j < i = omega (arith, less, last e, other) in
+            so_far.put_cached refl j bytes early
+            ((one.uses e).others (slice_index numbers j) (λ at. other_at numbers i j d h early (at ∙ is)) bytes there)
+      ];
+  others_cached = λ e m out bytes there.
+      so_far.others_cached refl m out bytes
+      ((one.uses e).others m (λ at. true≢false (sym (in_at numbers i h) ∙ ap (λ k. is_in k numbers) (sym (at ∙ is)) ∙ out)) bytes there);
 }
 
 -- ---- the flush behind them
@@ -139,6 +158,7 @@ pub record Flushed {D : Type 0} (contents : D → Option (List (List ℕ))) (cou
   pub count_stays : count (drive_of after) ≡ count (drive_of before)
   pub later : faults (drive_of before) ≤ faults (drive_of after)
   pub cause : end ≡ disk.Fault → min (faults (drive_of before) + 1) (2 ^ 64 - 1) ≤ faults (drive_of after)
+  pub caches : (n : ℕ) → cached n after ≡ cached n before
 
 pub puts_flushed : {D : Type 0} (contents : D → Option (List (List ℕ))) (count faults : D → ℕ) (end : DiskEnd) (numbers : List ℕ) (content : ℕ → List ℕ)
     (many : ℕ) (a b c : Disk D) → PutsBlocks contents count faults disk.Ok numbers content many a b → Flushed contents count faults end b c
@@ -159,4 +179,6 @@ puts_flushed contents count faults end numbers content many a b c put flush = re
       told_then (shown contents a) (shown contents b) (shown contents c) (ArePut numbers content many) (λ old new. end ≡ disk.Ok → new ≡ old)
       (ArePut numbers content many) (λ old between new p q. subst (ArePut numbers content many old) (sym (q e)) p)
       (put.shows refl) flush.shows;
+  put_cached = λ e i bytes h there. put.put_cached refl i bytes h (sym (flush.caches (slice_index numbers i)) ∙ there);
+  others_cached = λ e m out bytes there. put.others_cached refl m out bytes (sym (flush.caches m) ∙ there);
 }

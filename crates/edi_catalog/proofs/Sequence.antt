@@ -35,10 +35,11 @@ pub checks_both : {D : Type 0} (contents : D → Option (List (List ℕ))) (coun
 checks_both contents count faults a b c P Q one other =
     checks_then contents count faults false a b c P Q (λ blocks. P blocks × Q blocks) (λ blocks p q. (p, q)) one other
 
-pub checks_map : {D : Type 0} (contents : D → Option (List (List ℕ))) (count faults : D → ℕ) (broke : Bool) (a b : Disk D)
-    (P Q : List (List ℕ) → Type 0) → ((blocks : List (List ℕ)) → P blocks → Q blocks)
+-- the same calls, with something else known of what is shown
+shown_as : {D : Type 0} (contents : D → Option (List (List ℕ))) (count faults : D → ℕ) (broke : Bool) (a b : Disk D) (P Q : List (List ℕ) → Type 0)
+    → (broke ≡ false → WhereTold (shown contents a) (shown contents b) (λ old new. (new ≡ old) × Q old))
     → Checks contents count faults broke a b P → Checks contents count faults broke a b Q
-checks_map contents count faults broke a b P Q so one = record {
+shown_as contents count faults broke a b P Q shows one = record {
   same_reference = one.same_reference;
   since = one.since;
   count_stays = one.count_stays;
@@ -47,10 +48,18 @@ checks_map contents count faults broke a b P Q so one = record {
   cause = one.cause;
   works = one.works;
   clean = one.clean;
-  shows = λ e.
-      told_map (shown contents a) (shown contents b) (λ old new. (new ≡ old) × P old) (λ old new. (new ≡ old) × Q old)
-      (λ old new p. (p.0, so old p.1)) (one.shows e);
+  shows = shows;
 }
+
+pub checks_map : {D : Type 0} (contents : D → Option (List (List ℕ))) (count faults : D → ℕ) (broke : Bool) (a b : Disk D)
+    (P Q : List (List ℕ) → Type 0) → ((blocks : List (List ℕ)) → P blocks → Q blocks)
+    → Checks contents count faults broke a b P → Checks contents count faults broke a b Q
+checks_map contents count faults broke a b P Q so one =
+    shown_as contents count faults broke a b P Q
+    (λ e.
+    told_map (shown contents a) (shown contents b) (λ old new. (new ≡ old) × P old) (λ old new. (new ≡ old) × Q old)
+    (λ old new p. (p.0, so old p.1)) (one.shows e))
+    one
 
 -- no call of the disk
 pub checks_none : {D : Type 0} (contents : D → Option (List (List ℕ))) (count faults : D → ℕ) (a : Disk D) (P : List (List ℕ) → Type 0)
@@ -77,20 +86,13 @@ told_with (Some x) (Some y) L P l p = (p, l)
 pub checks_with : {D : Type 0} (contents : D → Option (List (List ℕ))) (count faults : D → ℕ) (broke : Bool) (a b : Disk D)
     (P L : List (List ℕ) → Type 0) → IfSome (shown contents a) L → Checks contents count faults broke a b P
     → Checks contents count faults broke a b (λ blocks. P blocks × L blocks)
-checks_with contents count faults broke a b P L l one = record {
-  same_reference = one.same_reference;
-  since = one.since;
-  count_stays = one.count_stays;
-  later = one.later;
-  told = one.told;
-  cause = one.cause;
-  works = one.works;
-  clean = one.clean;
-  shows = λ e.
-      told_map (shown contents a) (shown contents b) (λ old new. ((new ≡ old) × P old) × L old) (λ old new. (new ≡ old) × (P old × L old))
-      (λ old new p. (p.0.0, (p.0.1, p.1)))
-      (told_with (shown contents a) (shown contents b) L (λ old new. (new ≡ old) × P old) l (one.shows e));
-}
+checks_with contents count faults broke a b P L l one =
+    shown_as contents count faults broke a b P (λ blocks. P blocks × L blocks)
+    (λ e.
+    told_map (shown contents a) (shown contents b) (λ old new. ((new ≡ old) × P old) × L old) (λ old new. (new ≡ old) × (P old × L old))
+    (λ old new p. (p.0.0, (p.0.1, p.1)))
+    (told_with (shown contents a) (shown contents b) L (λ old new. (new ≡ old) × P old) l (one.shows e)))
+    one
 
 pub checks_as : {D : Type 0} (contents : D → Option (List (List ℕ))) (count faults : D → ℕ) (broke : Bool) (a b : Disk D)
     (P : List (List ℕ) → Type 0) → broke ≡ false → Checks contents count faults false a b P → Checks contents count faults broke a b P

@@ -24,7 +24,7 @@ use Rattle.edi_image.specs.Titles.{with_blanks}
 use Rattle.edi_image.specs.Build.{two}
 use Rattle.edi_image.specs.Records.{FileRecord}
 use Rattle.edi_catalog.specs.Plan.{are_different, blocks_used, used_in, AreFree}
-use Rattle.edi_catalog.specs.Putting.{OnlyIn, IsNew, NewLeaves, WritesNew}
+use Rattle.edi_catalog.specs.Putting.{EntryCached, FileCached, OnlyIn, IsNew, NewLeaves, WritesNew}
 use Rattle.edi_catalog.specs.Storing.{StoreChanges, index_for, put_at, stored_entry, stored_file, slots_stored}
 use Rattle.edi_catalog.proofs.Unchanged.{IsSameImage, free_same, same_kept, same_slots}
 use Rattle.edi_catalog.proofs.StoredIndex.{slot_for_same}
@@ -35,6 +35,7 @@ use Rattle.edi_catalog.proofs.StoredImage.{IsStoredIn, stored_holds}
 use Rattle.edi_catalog.proofs.Changed.{all_set}
 use Rattle.edi_catalog.proofs.EntryBlocks.{entries_over, entries_laid}
 use Rattle.edi_catalog.proofs.KeptEntries.{said_over, stored_said, whole_over}
+use Rattle.edi_catalog.proofs.StillCached.{cached_over, changed_cached}
 use Rattle.edi_catalog.proofs.Apart.{free_apart}
 use Rattle.std.proofs.lemmas.List.{get_or-set_same}
 
@@ -141,8 +142,9 @@ module _ {D : Type 0} (contents : D → Option (List (List ℕ))) (count faults 
       → files_of other ≡ set (files_of one) slot (Some file) → AreWhole (entry_blocks_of one)
       → entry_blocks_of other ≡ set (entry_blocks_of one) (slot / 8)
       (patched (64 * (slot % 8)) (bytes_of_record file.record_) (get_or (entry_blocks_of one) (slot / 8) []))
+      → EntryCached (1 + slot / 8) (get_or (entry_blocks_of other) (slot / 8) []) (disk_of one) (disk_of other)
       → IsMounted contents count other
-  store_mounted one other title kind bytes slot file mounted stores writes now whole blocks_now = record {
+  store_mounted one other title kind bytes slot file mounted stores writes now whole blocks_now used = record {
     works = writes.works refl;
     settled = writes.settled refl;
     clean = writes.clean refl;
@@ -164,6 +166,9 @@ module _ {D : Type 0} (contents : D → Option (List (List ℕ))) (count faults 
         (subst (λ es. HaveEntries (count (drive_of (disk_of one))) es (set (files_of one) slot (Some file))) (sym blocks_now)
         (said_over (count (drive_of (disk_of one))) slot (bytes_of_record file.record_) (entry_blocks_of one) (files_of one) (Some file) stores.within
         stores.whole whole mounted.many (stored_said (count (drive_of (disk_of one))) file stores.laid.kept) (mounted.said was)))));
+    entries_cached = λ some.
+        cached_over slot (entry_blocks_of one) (entry_blocks_of other) _ (disk_of one) (disk_of other) blocks_now used
+        (mounted.entries_cached (subst (λ n. 0 < n) writes.count_stays some));
     entries = λ blocks told.
         (let old = writing.told (NewLeaves disk.Ok slot file bytes) (contents (drive_of (disk_of one))) (contents (drive_of (disk_of other))) blocks
         writes.leaves told in
@@ -185,26 +190,32 @@ module _ {D : Type 0} (contents : D → Option (List (List ℕ))) (count faults 
       → files_of other ≡ set (files_of one) slot (Some file) → AreWhole (entry_blocks_of one)
       → entry_blocks_of other ≡ set (entry_blocks_of one) (slot / 8)
       (patched (64 * (slot % 8)) (bytes_of_record file.record_) (get_or (entry_blocks_of one) (slot / 8) []))
+      → EntryCached (1 + slot / 8) (get_or (entry_blocks_of other) (slot / 8) []) (disk_of one) (disk_of other)
+      → FileCached file bytes (disk_of other)
       → StoreChanges {X = Unit {0}} contents count faults (Ok tt) None title kind bytes one other
-  changes_done one other title kind bytes slot file mounted stores writes lent now whole blocks_now = record {
+  changes_done one other title kind bytes slot file mounted stores writes lent now whole blocks_now used file_used = record {
     answers = (refl, record { file = file; entry_ = stores.entry; at = slot; index_ = stores.index; others = now });
     free = λ at e.
-        (let both : Some slot ≡ Some at = sym stores.index ∙ e in
-        let here : slot ≡ at = cc in
-        let many : slot < length (files_of one) = omega (arith, mounted.many, stores.within) in
-        let there : get_or (files_of other) at None ≡ Some file =
-        ap (λ k. get_or (files_of other) k None) (sym here) ∙ ap (λ fs. get_or fs slot None) now
-        ∙ get_or-set_same (files_of one) slot (Some file) None many in
-        subst (λ f. AreFree (count (drive_of (disk_of one))) (files_of one) (used_in f)) (sym there) stores.laid.free);
+        subst (λ f. AreFree (count (drive_of (disk_of one))) (files_of one) (used_in f)) (sym (there at e)) stores.laid.free;
     untouched = tt;
-    mounted = inr (store_mounted one other title kind bytes slot file mounted stores writes now whole blocks_now);
+    mounted = inr (store_mounted one other title kind bytes slot file mounted stores writes now whole blocks_now used);
+    entries_cached = inr (changed_cached slot (entry_blocks_of one) (entry_blocks_of other) _ (disk_of one) (disk_of other) blocks_now used);
+    file_cached = λ at e. subst (λ f. IfSome f (λ it. FileCached it bytes (disk_of other))) (sym (there at e)) file_used;
     leaves = store_done one other title kind bytes slot file mounted stores writes;
     same_reference = writes.same_reference;
     same_room = lent;
     count_stays = writes.count_stays;
     later = writes.later;
     cause = λ e. absurd (cc);
-  }
+  } where
+    -- the file has the slot now
+    there : (at : ℕ) → index_for title (files_of one) ≡ Some at → get_or (files_of other) at None ≡ Some file
+    there at e =
+        let both : Some slot ≡ Some at = sym stores.index ∙ e in
+        let here : slot ≡ at = cc in
+        let many : slot < length (files_of one) = omega (arith, mounted.many, stores.within) in
+        ap (λ k. get_or (files_of other) k None) (sym here) ∙ ap (λ fs. get_or fs slot None) now
+        ∙ get_or-set_same (files_of one) slot (Some file) None many
 
   pub changes_failed : (one other : Catalog D) (title : List ℕ) (kind : FileKind) (bytes : List ℕ) (slot : ℕ) (file : StoredFile)
       → IsMounted contents count one → Stores (count (drive_of (disk_of one))) (files_of one) title kind bytes slot file
@@ -215,6 +226,8 @@ module _ {D : Type 0} (contents : D → Option (List (List ℕ))) (count faults 
     free = tt;
     untouched = tt;
     mounted = inl refl;
+    entries_cached = inl refl;
+    file_cached = tt;
     leaves = store_fails one other title kind bytes slot file mounted stores writes;
     same_reference = writes.same_reference;
     same_room = lent;

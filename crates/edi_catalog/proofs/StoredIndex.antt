@@ -14,7 +14,7 @@ use Rattle.edi_catalog.specs.Storing.{free_index, index_for}
 use Rattle.edi_image.proofs.KeptFiles.{file_of, slots_are}
 use Rattle.edi_catalog.proofs.WholeFiles.{index_same}
 
--- ---- the place of the first free slot
+-- ---- the first free slot
 
 pub free_at : (files : List (Option StoredFile)) (index : ℕ) (file : Option StoredFile)
     → ((k : ℕ) → k < index → is_none (slice_index_or files k None) ≡ false) → index < length files

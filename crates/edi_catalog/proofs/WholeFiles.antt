@@ -72,7 +72,7 @@ found_kept blocks title files file n bytes kept is starts =
     ap (λ s. find_file s title) slots ∙ file_same blocks title files ∙ ap (option_map (file_of blocks)) is in
     subst (λ o. FoundIs n o bytes) (sym found) starts
 
--- the file at the place of a title
+-- the file in the slot of a title
 pub titled_at : (title : List ℕ) (files : List (Option StoredFile)) (index : ℕ) (there : Option StoredFile) (file : StoredFile)
     → find_index title files ≡ Some index → index < length files → there ≡ slice_index_or files index there → there ≡ Some file
     → file_titled title files ≡ Some file

@@ -1,14 +1,14 @@
 -- Words of contracts. The calls that change the files of a catalogue: why they are refused, what they are to leave, and what they leave.
-use Rattle.std.specs.Prelude.{◌≡◌, ◌⊎◌, ◌≤◌, ℕ, Bool, List, slice_set, slice_index_or, Option, Some, None, is_some, if◌then◌else◌, Result, Ok, Err, ⊤}
+use Rattle.std.specs.Prelude.{◌≡◌, ◌⊎◌, ◌≤◌, ◌<◌, ◌+◌, [], ℕ, Bool, List, slice_set, slice_index_or, Option, Some, None, is_some, if◌then◌else◌, Result, Ok, Err, ⊤}
 use Rattle.std.specs.Option.{option_and_then}
 use Rattle.edi_told.specs.Faults.{CountRose}
 use Rattle.edi_told.specs.Told.{WhereTold}
-use Rattle.edi_disk.specs.Shown.{drive_of, reference_of}
+use Rattle.edi_disk.specs.Shown.{cached, drive_of, reference_of}
 use Rattle.edi_calls.specs.State.{File, find_slot}
 use Rattle.edi_image.specs.Image.{Holds, slots_of}
 use Rattle.edi_image.specs.Stored.{StoredFile}
 use Rattle.edi_catalog.specs.Files.{find_index}
-use Rattle.edi_catalog.specs.Mounted.{IsMounted, disk_of, files_of, room_reference}
+use Rattle.edi_catalog.specs.Mounted.{IsMounted, disk_of, entry_blocks_of, files_of, room_reference}
 use Rattle.edi_catalog.specs.declared.catalog.Catalog.{Catalog}
 use Rattle.edi_catalog.specs.declared.ends.CatEnd.{CatEnd}
 use Rattle.edi_catalog.specs.declared.ends.CatEnd.TheVariants as cat
@@ -33,7 +33,7 @@ not_renamed (Some file) there =
 
 -- ---- what is changed
 
--- slots with what a change makes of the file at a place; a change to None frees the slot
+-- slots with what a change makes of the file in one; a change to None frees the slot
 abbrev pub changed_at : {A : Type 0} → (A → Option A) → Option ℕ → List (Option A) → List (Option A)
 changed_at change None slots = slots
 changed_at change (Some index) slots =
@@ -77,7 +77,7 @@ CatalogAnswers (Err why) refusal old wanted new = (refusal ≡ Some why) × (new
 pub record BeforeOrAfter (before after : List (Option File)) (blocks : List (List ℕ)) : Type 0 where
   pub one : Holds blocks before ⊎ Holds blocks after
 
--- The drive's blocks after a call, where `before` are the files that they held and `after` those that they are to hold: on Ok they
+-- The drive's blocks after a call, where `before` are the files that they had and `after` those that they are to hold: on Ok they
 -- hold these; after a fault of the drive the ones or the others, whatever call of the drive failed; after a refusal the blocks
 -- are as they were.
 abbrev pub Leaves : {X : Type 0} → Result X CatEnd → (before after : List (Option File)) → (old new : List (List ℕ)) → Type 0
@@ -91,6 +91,12 @@ Untouched (Ok done) before after = ⊤
 Untouched (Err cat.Fault) before after = ⊤
 Untouched (Err why) before after = after ≡ before
 
+-- Whatever the drive tells: each block with entries that is kept otherwise than before is cached as it is kept.
+abbrev pub ChangedAreCached : {D : Type 0} → (before after : Catalog D) → Type 0
+ChangedAreCached before after = (k : ℕ) → k < 32
+    → (slice_index_or (entry_blocks_of after) k [] ≡ slice_index_or (entry_blocks_of before) k [])
+    ⊎ (cached (1 + k) (disk_of after) ≡ Some (slice_index_or (entry_blocks_of after) k []))
+
 -- A call on a mounted catalogue, by its answer: `refusal` is the first reason against it, `kept` are the slots that are to be
 -- kept in memory, `wanted` gives the files that the image is to have.
 pub record Changes {D X : Type 0} (contents : D → Option (List (List ℕ))) (count faults : D → ℕ) (result : Result X CatEnd) (refusal : Option CatEnd)
@@ -98,6 +104,7 @@ pub record Changes {D X : Type 0} (contents : D → Option (List (List ℕ))) (c
   pub answers : CatalogAnswers result refusal (files_of before) kept (files_of after)
   pub untouched : Untouched result before after
   pub mounted : (result ≡ Err cat.Fault) ⊎ IsMounted contents count after
+  pub entries_cached : (result ≡ Err cat.Fault) ⊎ ChangedAreCached before after
   pub leaves : WhereTold (contents (drive_of (disk_of before))) (contents (drive_of (disk_of after)))
       (λ old new. Leaves result (slots_of old) (wanted (slots_of old)) old new)
   pub same_reference : reference_of (disk_of after) ≡ reference_of (disk_of before)

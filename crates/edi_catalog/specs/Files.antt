@@ -17,7 +17,7 @@ entry_of file = record {
   length = file.record_.length;
 }
 
--- the place of the first file with this title
+-- the slot of the first file with this title
 abbrev pub find_index : List ℕ → List (Option StoredFile) → Option ℕ
 find_index title [] = None
 find_index title (file ∷ files) = if is_titled title file then Some 0 else option_map suc (find_index title files)

@@ -3,7 +3,7 @@ use Rattle.std.specs.Prelude.{◌≡◌, ◌≤◌, ◌<◌, ◌+◌, ◌*◌, �
 use Rattle.std.specs.List.{list_all}
 use Rattle.std.specs.Option.{ForSome}
 use Rattle.edi_disk.specs.declared.disk.Disk.{Disk}
-use Rattle.edi_disk.specs.Shown.{shown, drive_of, IsClean, IsWorking}
+use Rattle.edi_disk.specs.Shown.{cached, shown, drive_of, IsClean, IsWorking}
 use Rattle.edi_image.specs.Entries.{block_at, entry_says}
 use Rattle.edi_image.specs.declared.entries.Said.{Said}
 use Rattle.edi_image.specs.declared.entries.Said.TheVariants as said
@@ -52,9 +52,13 @@ pub record AreWhole (kept : List (List ℕ)) : Type 0 where
 abbrev pub HaveEntries : (count : ℕ) → (kept : List (List ℕ)) → List (Option StoredFile) → Type 0
 HaveEntries count kept files = (slot : ℕ) → slot < 256 → entry_says count (entry_kept kept slot) ≡ said_kept (slice_index_or files slot None)
 
+-- those of the blocks with the entries that are cached are cached as they are kept
+abbrev pub AreCached : {D : Type 0} → (kept : List (List ℕ)) → Disk D → Type 0
+AreCached kept disk = (k : ℕ) (bytes : List ℕ) → k < 32 → cached (1 + k) disk ≡ Some bytes → slice_index_or kept k [] ≡ bytes
+
 -- What is known of the disk and the room of a catalogue, whatever the drive tells: the disk may be called, has nothing that is not
 -- written and has at most 4096 blocks; the room has 256 slots, whose files use no block twice, and the 32 blocks with the entries of
--- these files. Where the drive tells its blocks, they are those of the image.
+-- these files, as the disk has them where it caches them. Where the drive tells its blocks, they are those of the image.
 pub record IsMountedOn {D : Type 0} (contents : D → Option (List (List ℕ))) (count : D → ℕ) (disk : Disk D) (room_ : Checked) : Type 0 where
   pub works : IsWorking contents count disk
   pub settled : contents (drive_of disk) ≡ shown contents disk
@@ -65,6 +69,7 @@ pub record IsMountedOn {D : Type 0} (contents : D → Option (List (List ℕ))) 
   pub apart : are_different (blocks_used room_.files.items) ≡ true
   pub room : 0 < count (drive_of disk) → AreWhole room_.entries.items
   pub said : 0 < count (drive_of disk) → HaveEntries (count (drive_of disk)) room_.entries.items room_.files.items
+  pub entries_cached : 0 < count (drive_of disk) → AreCached room_.entries.items disk
   pub entries : ForSome (contents (drive_of disk)) (AreEntries room_.entries.items)
   pub image : ForSome (contents (drive_of disk)) (λ blocks. IsKeptOf blocks room_.files.items)
 

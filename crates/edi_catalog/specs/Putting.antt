@@ -5,11 +5,12 @@ use Rattle.edi_told.specs.Told.{WhereTold}
 use Rattle.edi_disk.specs.declared.disk.Disk.{Disk}
 use Rattle.edi_disk.specs.declared.disk.DiskEnd.{DiskEnd}
 use Rattle.edi_disk.specs.declared.disk.DiskEnd.TheVariants as disk
-use Rattle.edi_disk.specs.Shown.{shown, drive_of, reference_of, IsClean, IsWorking}
+use Rattle.edi_disk.specs.Shown.{cached, shown, drive_of, reference_of, IsClean, IsWorking}
 use Rattle.edi_disk.specs.Since.{Kept}
 use Rattle.edi_image.specs.Rules.{is_in}
 use Rattle.edi_image.specs.Entries.{block_at}
 use Rattle.edi_image.specs.Stored.{StoredFile}
+use Rattle.edi_catalog.specs.Reads.{WasCached}
 use Rattle.edi_catalog.specs.Writing.{IsWritten}
 use Rattle.edi_image.specs.Bytes.{bytes_of_record}
 use Rattle.edi_catalog.specs.Plan.{ArePut, content_of, used_in}
@@ -19,7 +20,7 @@ abbrev pub HasAll : (ℕ → List ℕ → Bool) → (numbers : List ℕ) → (�
 HasAll was_put numbers content = (i : ℕ) → i < length numbers → was_put (slice_index numbers i) (content i) ≡ true
 
 -- From before to after the contents were put, each in its block: all of them on Ok, and after a fault of the drive some of them.
--- No other block was put.
+-- No other block was put: of the others each that is cached was cached so before.
 pub record PutsBlocks {D : Type 0} (contents : D → Option (List (List ℕ))) (count faults : D → ℕ) (end : DiskEnd) (numbers : List ℕ) (content : ℕ → List ℕ)
     (many : ℕ) (before after : Disk D) : Type 0 where
   pub same_reference : reference_of after ≡ reference_of before
@@ -31,6 +32,8 @@ pub record PutsBlocks {D : Type 0} (contents : D → Option (List (List ℕ))) (
   pub cause : end ≡ disk.Fault → CountRose (faults (drive_of before)) (faults (drive_of after))
   pub works : end ≡ disk.Ok → IsWorking contents count after
   pub shows : end ≡ disk.Ok → WhereTold (shown contents before) (shown contents after) (ArePut numbers content many)
+  pub put_cached : end ≡ disk.Ok → (i : ℕ) (bytes : List ℕ) → i < many → cached (slice_index numbers i) after ≡ Some bytes → content i ≡ bytes
+  pub others_cached : end ≡ disk.Ok → (m : ℕ) → is_in m numbers ≡ false → WasCached m before after
 
 -- ---- a new file
 
@@ -61,3 +64,15 @@ pub record WritesNew {D : Type 0} (contents : D → Option (List (List ℕ))) (c
   pub settled : end ≡ disk.Ok → contents (drive_of after) ≡ shown contents after
   pub clean : end ≡ disk.Ok → IsClean after
   pub leaves : WhereTold (contents (drive_of before)) (contents (drive_of after)) (NewLeaves end slot file bytes)
+
+-- ---- what is cached behind it, whatever the drive tells
+
+-- a block with entries is cached with these bytes, and of the others of the catalogue each that is cached was cached so before
+pub record EntryCached {D : Type 0} (n : ℕ) (bytes : List ℕ) (before after : Disk D) : Type 0 where
+  pub there : cached n after ≡ Some bytes
+  pub others : (m : ℕ) → m < 33 → (m ≡ n → ⊥) → WasCached m before after
+
+-- the blocks of a file that are cached have its contents
+abbrev pub FileCached : {D : Type 0} → StoredFile → (bytes : List ℕ) → Disk D → Type 0
+FileCached file bytes disk = (i : ℕ) (block : List ℕ) → i < length (used_in (Some file)) → cached (slice_index (used_in (Some file)) i) disk ≡ Some block
+    → content_of file bytes i ≡ block

@@ -1,5 +1,5 @@
 -- Words of contracts. Storing a file: why it is refused, and what it leaves.
-use Rattle.std.specs.Prelude.{◌≡◌, ◌⊎◌, ◌≤◌, ℕ, suc, ◌+◌, ◌-◌, false, nat_lt, if◌then◌else◌, List, [], ◌∷◌, length, slice_set, slice_index_or, Option, Some, None, is_none, ⊤}
+use Rattle.std.specs.Prelude.{◌≡◌, ◌⊎◌, ◌≤◌, ℕ, suc, ◌+◌, ◌-◌, false, nat_lt, if◌then◌else◌, List, [], ◌∷◌, length, slice_set, slice_index_or, Option, Some, None, IfSome, is_none, ⊤}
 use Rattle.std.specs.Prelude.{Result, Ok, Err}
 use Rattle.std.specs.Option.{option_map}
 use Rattle.edi_told.specs.Faults.{CountRose}
@@ -16,18 +16,19 @@ use Rattle.edi_catalog.specs.Files.{entry_of, file_titled, find_index}
 use Rattle.edi_image.specs.Image.{slots_of}
 use Rattle.edi_catalog.specs.Mounted.{IsMounted, disk_of, files_of, room_reference}
 use Rattle.edi_catalog.specs.declared.catalog.Catalog.{Catalog}
-use Rattle.edi_catalog.specs.Changes.{Leaves, Untouched}
+use Rattle.edi_catalog.specs.Changes.{ChangedAreCached, Leaves, Untouched}
 use Rattle.edi_catalog.specs.Plan.{AreFree, used_in}
+use Rattle.edi_catalog.specs.Putting.{FileCached}
 use Rattle.edi_catalog.specs.Writing.{is_protected}
 
 -- ---- where it is stored
 
--- the place of the first free slot
+-- the first free slot
 abbrev pub free_index : List (Option StoredFile) → Option ℕ
 free_index [] = None
 free_index (file ∷ files) = if is_none file then Some 0 else option_map suc (free_index files)
 
--- the place where a file of this title is stored: its own, and for a new title the first free one
+-- the slot where a file of this title is stored: its own, and for a new title the first free one
 abbrev pub index_for : List ℕ → List (Option StoredFile) → Option ℕ
 index_for title files = if is_none (find_index title files) then free_index files else find_index title files
 
@@ -76,6 +77,12 @@ abbrev pub WereFree : {X : Type 0} → Result X CatEnd → (count : ℕ) → (in
 WereFree (Ok done) count index old new = (at : ℕ) → index ≡ Some at → AreFree count old (used_in (slice_index_or new at None))
 WereFree (Err why) count index old new = ⊤
 
+-- on Ok the blocks of the file that has the slot now have its contents, where they are cached
+abbrev pub IsCachedAt : {D X : Type 0} → Result X CatEnd → (index : Option ℕ) → (bytes : List ℕ) → Catalog D → Type 0
+IsCachedAt (Ok done) index bytes after = (at : ℕ) → index ≡ Some at
+    → IfSome (slice_index_or (files_of after) at None) (λ file. FileCached file bytes (disk_of after))
+IsCachedAt (Err why) index bytes after = ⊤
+
 -- the slots of an image with a file in one of them
 abbrev pub put_at : Option ℕ → File → List (Option File) → List (Option File)
 put_at None file slots = slots
@@ -92,6 +99,8 @@ pub record StoreChanges {D X : Type 0} (contents : D → Option (List (List ℕ)
   pub free : WereFree result (count (drive_of (disk_of before))) (index_for title (files_of before)) (files_of before) (files_of after)
   pub untouched : Untouched result before after
   pub mounted : (result ≡ Err cat.Fault) ⊎ IsMounted contents count after
+  pub entries_cached : (result ≡ Err cat.Fault) ⊎ ChangedAreCached before after
+  pub file_cached : IsCachedAt result (index_for title (files_of before)) bytes after
   pub leaves : WhereTold (contents (drive_of (disk_of before))) (contents (drive_of (disk_of after)))
       (λ old new. Leaves result (slots_of old) (slots_stored title kind bytes (slots_of old)) old new)
   pub same_reference : reference_of (disk_of after) ≡ reference_of (disk_of before)

@@ -98,7 +98,7 @@ pub record IsRecordFor (files : List (Option StoredFile)) (file : StoredFile) (r
   pub length_ : r.length ≡ file.record_.length
   pub free : (r.title ≡ file.record_.title) ⊎ (find_index r.title files ≡ None)
 
--- there is a file at this place, and the record, if there is one, may stand for its own
+-- there is a file in this slot, and the record, if there is one, may stand for its own
 pub record IsRecordAt (files : List (Option StoredFile)) (index : ℕ) (r : Option FileRecord) : Type 0 where
   pub file : StoredFile
   pub there : slice_index_or files index None ≡ Some file

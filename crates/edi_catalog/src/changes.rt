@@ -154,23 +154,23 @@ impl<'d, 'c, D: Drive> Catalog<'d, 'c, D> {
     }
 
     // Gives a file another title.
-    fn rename_kept(&mut self, old: &Title, new: &Title) -> Result<(), CatEnd>
+    fn rename_kept(&mut self, from: &Title, to: &Title) -> Result<(), CatEnd>
         requires mounted { IsMounted D.contents D.count self.old }
         ensures changes { Changes D.contents D.count D.faults result
-            (not_renamed (file_titled old.now (files_of self.old)) (file_titled new.now (files_of self.old)))
-            (kept_changed (kept_renamed new.now) old.now (files_of self.old)) (slots_changed (file_renamed new.now) old.now) self.old self.new }
+            (not_renamed (file_titled from.now (files_of self.old)) (file_titled to.now (files_of self.old)))
+            (kept_changed (kept_renamed to.now) from.now (files_of self.old)) (slots_changed (file_renamed to.now) from.now) self.old self.new }
     {
-        let Some(from) = index_of(&self.room.files, old) else {
+        let Some(index) = index_of(&self.room.files, from) else {
             return Err(CatEnd::NoSuch);
         };
-        if is_protected(&self.room.files[from]) {
+        if is_protected(&self.room.files[index]) {
             return Err(CatEnd::Protected);
         }
-        if index_of(&self.room.files, new).is_some() {
+        if index_of(&self.room.files, to).is_some() {
             return Err(CatEnd::Taken);
         }
-        let entry = record_renamed(&self.room.files[from], new);
-        self.put_slot(from, entry)
+        let entry = record_renamed(&self.room.files[index], to);
+        self.put_slot(index, entry)
     }
 
     /// Deletes the file with this title. Refusals in their order: `NoSuch`, `Protected`.
@@ -179,23 +179,23 @@ impl<'d, 'c, D: Drive> Catalog<'d, 'c, D> {
         ensures changes { Changes D.contents D.count D.faults result (not_deleted (file_titled title.now (files_of self.old)))
             (kept_changed deleted title.now (files_of self.old)) (slots_changed deleted title.now) self.old self.new }
         ensures exact { WhereTold (D.contents (drive_of (disk_of self.old))) (D.contents (drive_of (disk_of self.new)))
-            (λ old new. SlotsAnswer result (no_deletion (find_file (slots_of old) title.now)) (slots_of old) (slots_changed deleted title.now (slots_of old))
-            (slots_of new)) }
+            (λ blocks after. SlotsAnswer result (no_deletion (find_file (slots_of blocks) title.now)) (slots_of blocks)
+            (slots_changed deleted title.now (slots_of blocks)) (slots_of after)) }
     {
         self.delete_kept(title)
     }
 
-    /// Gives the file with the title `old` the title `new`. Refusals in their order: `NoSuch`, `Protected`, `Taken`, also
+    /// Gives the file with the title `from` the title `to`. Refusals in their order: `NoSuch`, `Protected`, `Taken`, also
     /// where both titles are the same.
-    pub fn rename(&mut self, old: &Title, new: &Title) -> Result<(), CatEnd>
+    pub fn rename(&mut self, from: &Title, to: &Title) -> Result<(), CatEnd>
         requires mounted { IsMounted D.contents D.count self.old }
         ensures changes { Changes D.contents D.count D.faults result
-            (not_renamed (file_titled old.now (files_of self.old)) (file_titled new.now (files_of self.old)))
-            (kept_changed (kept_renamed new.now) old.now (files_of self.old)) (slots_changed (file_renamed new.now) old.now) self.old self.new }
+            (not_renamed (file_titled from.now (files_of self.old)) (file_titled to.now (files_of self.old)))
+            (kept_changed (kept_renamed to.now) from.now (files_of self.old)) (slots_changed (file_renamed to.now) from.now) self.old self.new }
         ensures exact { WhereTold (D.contents (drive_of (disk_of self.old))) (D.contents (drive_of (disk_of self.new)))
-            (λ blocks after. SlotsAnswer result (no_renaming (find_file (slots_of blocks) old.now) (find_file (slots_of blocks) new.now)) (slots_of blocks)
-            (slots_changed (file_renamed new.now) old.now (slots_of blocks)) (slots_of after)) }
+            (λ blocks after. SlotsAnswer result (no_renaming (find_file (slots_of blocks) from.now) (find_file (slots_of blocks) to.now)) (slots_of blocks)
+            (slots_changed (file_renamed to.now) from.now (slots_of blocks)) (slots_of after)) }
     {
-        self.rename_kept(old, new)
+        self.rename_kept(from, to)
     }
 }

@@ -4,7 +4,7 @@ ghost use Rattle.std.specs.Prelude.{◌≡◌, ◌≤◌, ◌⊎◌, IfErr, IfOk
 ghost use Rattle.edi_disk.specs.Shown.{drive_of, IsWorking};
 ghost use Rattle.edi_image.specs.Finds.{failed};
 ghost use Rattle.edi_catalog.specs.Reads.{Checks};
-ghost use Rattle.edi_catalog.specs.Mounted.{AreEntries, AreWhole};
+ghost use Rattle.edi_catalog.specs.Mounted.{AreCached, AreEntries, AreWhole};
 
 use crate::reading::block;
 use edi_disk::Disk;
@@ -21,6 +21,7 @@ pub(crate) fn entry_blocks<D: Drive>(
     requires catalogue { FIRST ≤ D.count (drive_of disk.old) }
     ensures checks { Checks D.contents D.count D.faults (failed result) disk.old disk.new (λ blocks. IfOk result (λ kept. AreEntries kept.items blocks)) }
     ensures whole { IfOk result (λ kept. AreWhole kept.items) }
+    ensures cached { IfOk result (λ kept. AreCached kept.items disk.new) }
     ensures fault { IfErr result (λ why. (why ≡ MountFault.Fault) ⊎ (why ≡ MountFault.NoMemory)) }
 {
     let mut entries = Vec::new(alloc);

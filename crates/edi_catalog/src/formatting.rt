@@ -23,7 +23,7 @@ pub enum FormatEnd {
 /// The number of blocks of the catalogue.
 const CATALOGUE: u32 = 33;
 
-/// Makes the drive an image of `blocks` blocks, 64 to 4096, with no files. What it held is lost, but for the bytes of the
+/// Makes the drive an image of `blocks` blocks, 64 to 4096, with no files. What it had is lost, but for the bytes of the
 /// blocks behind the catalogue.
 pub fn format<D: Drive>(alloc: Global, drive: &mut D, blocks: u32) -> FormatEnd
     requires least { 64 ≤ blocks }

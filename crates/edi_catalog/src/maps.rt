@@ -8,7 +8,7 @@ ghost use Rattle.edi_image.specs.Rules.{first_broken};
 ghost use Rattle.edi_image.specs.Entries.{block_at, is_data};
 ghost use Rattle.edi_image.specs.Image.{map_rules, maps_rules, numbers_in, numbers_of};
 ghost use Rattle.edi_image.specs.Stored.{are_data, is_record};
-ghost use Rattle.edi_catalog.specs.Reads.{Checks};
+ghost use Rattle.edi_catalog.specs.Reads.{Checks, EntriesStay};
 ghost use Rattle.edi_catalog.specs.Taken.{AreTaken, IsInRange, TakesMap};
 ghost use Rattle.edi_image.specs.Finds.{Finds, failed, Takes};
 
@@ -37,6 +37,7 @@ fn check_map<D: Drive>(
         (λ blocks. Finds result (first_broken used.old.items (map_rules FIRST blocks slot count map))
         (λ _. Takes used.old.items used.new.items (map_rules FIRST blocks slot count map) into.old.items into.new.items
         (numbers_in (block_at blocks map) count))) }
+    ensures entries { OnOk result (EntriesStay disk.old disk.new) }
     ensures taken { OnOk result (TakesMap map used.old.items used.new.items into.old.items into.new.items) }
     ensures faults { IfErr result (IsInRange (D.count (drive_of disk.old))) }
     ensures pages { OnOk result (length into.new.items ≡ length into.old.items + count) }
@@ -75,6 +76,7 @@ pub(crate) fn read_maps<D: Drive>(
         (λ blocks. Finds result (first_broken used.old.items (maps_rules FIRST blocks slot (pages_of file.now.length) file.now.maps))
         (λ pages. Takes used.old.items used.new.items (maps_rules FIRST blocks slot (pages_of file.now.length) file.now.maps)
         [] pages.items (numbers_of blocks (pages_of file.now.length) file.now.maps))) }
+    ensures entries { OnOk result (EntriesStay disk.old disk.new) }
     ensures taken { IfOk result (λ pages. AreTaken used.old.items used.new.items (file.now.maps ++ pages.items)) }
     ensures faults { IfErr result (IsInRange (D.count (drive_of disk.old))) }
     ensures pages { IfOk result (λ pages. length pages.items ≡ pages_of file.now.length) }

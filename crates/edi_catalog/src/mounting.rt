@@ -12,7 +12,7 @@ ghost use Rattle.edi_image.specs.Finds.{Finds, failed};
 ghost use Rattle.edi_catalog.specs.Plan.{are_different, blocks_used};
 ghost use Rattle.edi_catalog.specs.Reads.{Checks};
 ghost use Rattle.edi_catalog.specs.Taken.{IsOfCount, IsOtherHeader};
-ghost use Rattle.edi_catalog.specs.Mounted.{AreEntries, AreWhole, HaveEntries, IsMountedOn, disk_of, room_of, room_reference};
+ghost use Rattle.edi_catalog.specs.Mounted.{AreCached, AreEntries, AreWhole, HaveEntries, IsMountedOn, disk_of, room_of, room_reference};
 
 use crate::catalog::Catalog;
 use crate::entry_blocks::entry_blocks;
@@ -92,6 +92,7 @@ fn read_image<D: Drive>(alloc: Global, disk: &mut Disk<'_, D>) -> Result<Checked
         (λ checked. (checked.files.items ≡ map (stored_of blocks) (entries_of blocks)) × AreEntries checked.entries.items blocks)) }
     ensures many { IfOk result (λ checked. length checked.files.items ≡ SLOTS) }
     ensures whole { IfOk result (λ checked. AreWhole checked.entries.items) }
+    ensures cached { IfOk result (λ checked. AreCached checked.entries.items disk.new) }
     ensures said { IfOk result (λ checked. HaveEntries (D.count (drive_of disk.old)) checked.entries.items checked.files.items) }
     ensures most { OnOk result (D.count (drive_of disk.old) ≤ MOST) }
     ensures apart { IfOk result (λ checked. are_different (blocks_used checked.files.items) ≡ true) }
@@ -123,6 +124,7 @@ fn read_disk<D: Drive>(alloc: Global, disk: &mut Disk<'_, D>) -> Result<Checked,
         (λ checked. (checked.files.items ≡ map (stored_of blocks) (entries_of blocks)) × AreEntries checked.entries.items blocks)) }
     ensures many { IfOk result (λ checked. length checked.files.items ≡ SLOTS) }
     ensures whole { IfOk result (λ checked. 0 < D.count (drive_of disk.old) → AreWhole checked.entries.items) }
+    ensures cached { IfOk result (λ checked. 0 < D.count (drive_of disk.old) → AreCached checked.entries.items disk.new) }
     ensures said { IfOk result (λ checked. 0 < D.count (drive_of disk.old)
         → HaveEntries (D.count (drive_of disk.old)) checked.entries.items checked.files.items) }
     ensures most { OnOk result (D.count (drive_of disk.old) ≤ MOST) }

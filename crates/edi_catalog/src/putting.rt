@@ -1,6 +1,6 @@
 //! Putting the blocks of a file.
 
-ghost use Rattle.std.specs.Prelude.{◌≡◌, ◌≤◌, ◌<◌, ◌+◌, ◌-◌, ◌*◌, ◌/◌, ◌%◌, true, length, Some};
+ghost use Rattle.std.specs.Prelude.{◌≡◌, ◌≤◌, ◌<◌, ◌+◌, ◌-◌, ◌*◌, ◌/◌, ◌%◌, [], true, length, slice_index_or, Some};
 ghost use Rattle.std.specs.Option.{ForSome};
 ghost use Rattle.edi_disk.specs.Shown.{drive_of, shown, IsWorking};
 ghost use Rattle.edi_image.specs.Bytes.{bytes_of_record};
@@ -9,7 +9,7 @@ ghost use Rattle.edi_image.specs.Stored.{is_stored};
 ghost use Rattle.edi_catalog.specs.Plan.{are_different, content_of, used_in};
 ghost use Rattle.edi_catalog.specs.Mounted.{AreEntries};
 ghost use Rattle.edi_catalog.specs.Writing.{entries_with, patched};
-ghost use Rattle.edi_catalog.specs.Putting.{PutsBlocks, WritesNew};
+ghost use Rattle.edi_catalog.specs.Putting.{EntryCached, FileCached, PutsBlocks, WritesNew};
 
 use crate::contents::{block_of, content_of};
 use crate::mounting::Checked;
@@ -76,6 +76,8 @@ pub(crate) fn write_new<D: Drive>(
     requires kept { ForSome (D.contents (drive_of disk.old)) (λ blocks. block_at blocks (1 + slot / 8) ≡ kept.old) }
     ensures kept { result ≡ DiskEnd.Ok → kept.new ≡ patched (64 * (slot % 8)) (bytes_of_record file.now.record_) kept.old }
     ensures writes { WritesNew D.contents D.count D.faults result slot file.now bytes.now disk.old disk.new }
+    ensures entry_cached { result ≡ DiskEnd.Ok → EntryCached (1 + slot / 8) kept.new disk.old disk.new }
+    ensures file_cached { result ≡ DiskEnd.Ok → FileCached file.now bytes.now disk.new }
 {
     match write_file(disk, file, bytes) {
         DiskEnd::Ok => put_entry(disk, kept, slot, &entry_bytes(&file.record)),
@@ -101,6 +103,9 @@ pub(crate) fn write_kept<D: Drive>(
     requires many { length room.old.entries.items ≡ 32 }
     requires kept { ForSome (D.contents (drive_of disk.old)) (AreEntries room.old.entries.items) }
     ensures writes { WritesNew D.contents D.count D.faults result index file.now bytes.now disk.old disk.new }
+    ensures entry_cached { result ≡ DiskEnd.Ok
+        → EntryCached (1 + index / 8) (slice_index_or room.new.entries.items (index / 8) []) disk.old disk.new }
+    ensures file_cached { result ≡ DiskEnd.Ok → FileCached file.now bytes.now disk.new }
     ensures files { room.new.files.items ≡ room.old.files.items }
     ensures kept { result ≡ DiskEnd.Ok → room.new.entries.items ≡ entries_with index (bytes_of_record file.now.record_) room.old.entries.items }
 {

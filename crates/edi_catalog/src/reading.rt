@@ -1,23 +1,24 @@
 //! Reading the blocks of a disk.
 
-ghost use Rattle.std.specs.Prelude.{◌≡◌, ◌≤◌, ◌<◌, ◌+◌, ◌*◌, OnErr, IfOk, Some, true, length};
+ghost use Rattle.std.specs.Prelude.{◌≡◌, ◌≤◌, ◌<◌, ◌+◌, ◌*◌, OnErr, OnOk, IfOk, Some, true, length};
 ghost use Rattle.edi_disk.specs.Shown.{cached, drive_of, IsWorking};
 ghost use Rattle.edi_image.specs.Entries.{block_at};
 ghost use Rattle.edi_image.specs.Stored.{are_data, is_stored};
 ghost use Rattle.edi_catalog.specs.Files.{PageAt, PagesAre, StoredIs};
-ghost use Rattle.edi_catalog.specs.Reads.{Checks, BlockIs};
+ghost use Rattle.edi_catalog.specs.Reads.{BlockIs, Checks, EntriesStay, OthersStay};
 ghost use Rattle.edi_image.specs.Finds.{failed};
 
 use edi_disk::{Disk, DiskEnd};
 use edi_host::Drive;
-use edi_image::{BLOCK, MOST_BYTES, MountFault, StoredFile};
+use edi_image::{BLOCK, FIRST, MOST_BYTES, MountFault, StoredFile};
 
 /// Block `n` of the disk. No fault but that of the drive comes.
 pub(crate) fn block<D: Drive>(disk: &mut Disk<'_, D>, n: u32) -> Result<[u8; BLOCK], MountFault>
     requires in_range { n < D.count (drive_of disk.old) }
     requires works { IsWorking D.contents D.count disk.old }
     ensures checks { Checks D.contents D.count D.faults (failed result) disk.old disk.new (BlockIs result n) }
-    ensures held { IfOk result (λ bytes. cached n disk.new ≡ Some bytes) }
+    ensures cached { IfOk result (λ bytes. cached n disk.new ≡ Some bytes) }
+    ensures others { OnOk result (OthersStay n disk.old disk.new) }
     ensures fault { OnErr result (failed result ≡ true) }
 {
     let mut bytes = [0; BLOCK];
@@ -34,10 +35,12 @@ fn read_page_at<D: Drive>(
     at: usize,
     into: &mut [u8],
 ) -> Result<(), MountFault>
+    requires behind { FIRST ≤ page }
     requires in_range { page < D.count (drive_of disk.old) }
     requires works { IsWorking D.contents D.count disk.old }
     requires room { at + BLOCK ≤ length into.old }
     ensures checks { Checks D.contents D.count D.faults (failed result) disk.old disk.new (PageAt result page at into.old into.new) }
+    ensures entries { OnOk result (EntriesStay disk.old disk.new) }
     ensures many { length into.new ≡ length into.old }
     ensures fault { OnErr result (failed result ≡ true) }
 {
@@ -62,6 +65,7 @@ pub(crate) fn read_pages<D: Drive>(
     requires data { are_data (D.count (drive_of disk.old)) pages.now ≡ true }
     requires room { BLOCK * length pages.now ≤ length into.old }
     ensures checks { Checks D.contents D.count D.faults (failed result) disk.old disk.new (PagesAre result pages.now into.new) }
+    ensures entries { OnOk result (EntriesStay disk.old disk.new) }
     ensures many { length into.new ≡ length into.old }
     ensures fault { OnErr result (failed result ≡ true) }
 {
@@ -84,6 +88,7 @@ pub(crate) fn read_stored<D: Drive>(
     requires stored { is_stored (D.count (drive_of disk.old)) (Some file.now) ≡ true }
     requires room { MOST_BYTES ≤ length into.old }
     ensures checks { Checks D.contents D.count D.faults (failed result) disk.old disk.new (StoredIs result file.now into.new) }
+    ensures entries { OnOk result (EntriesStay disk.old disk.new) }
     ensures length { IfOk result (λ n. n ≡ file.now.record_.length) }
     ensures fault { OnErr result (failed result ≡ true) }
 {

@@ -9,7 +9,7 @@ ghost use Rattle.edi_image.specs.Entries.{entry_says};
 ghost use Rattle.edi_image.specs.Image.{file_rules, entry_rules, entries_of, slot_rules, numbers_of, said_at};
 ghost use Rattle.edi_image.specs.Stored.{StoredFile, is_fit, is_record, is_stored, stored_of, titles_of};
 ghost use Rattle.edi_catalog.specs.Mounted.{AreEntries, AreWhole, HaveEntries, entry_kept, said_kept};
-ghost use Rattle.edi_catalog.specs.Reads.{Checks};
+ghost use Rattle.edi_catalog.specs.Reads.{Checks, EntriesStay};
 ghost use Rattle.edi_catalog.specs.Plan.{are_different, blocks_used, used_in};
 ghost use Rattle.edi_catalog.specs.Taken.{AreTaken, IsInRange, IsUseOf};
 ghost use Rattle.edi_image.specs.Finds.{Finds, TakesSlot, failed};
@@ -40,6 +40,7 @@ fn read_file<D: Drive>(
         (λ stored. (stored ≡ record { record_ = file; pages = numbers_of blocks (pages_of file.length) file.maps })
         × (used.new.items ≡ used.old.items ++ used_by (file_rules FIRST blocks slot (titles_of files.now) file)))) }
     ensures same { IfOk result (λ stored. stored.record_ ≡ file) }
+    ensures entries { OnOk result (EntriesStay disk.old disk.new) }
     ensures taken { IfOk result (λ stored. AreTaken used.old.items used.new.items (used_in (Some stored))) }
     ensures faults { IfErr result (IsInRange (D.count (drive_of disk.old))) }
     ensures stored { IfOk result (λ stored. is_stored (D.count (drive_of disk.old)) (Some stored) ≡ true) }
@@ -81,6 +82,7 @@ fn read_slot<D: Drive>(
         (λ blocks. said_at blocks slot ≡ said → Finds result (first_broken used.old.items (entry_rules FIRST blocks slot (titles_of files.old.items) (said_at blocks slot)))
         (λ _. TakesSlot used.old.items used.new.items (entry_rules FIRST blocks slot (titles_of files.old.items) (said_at blocks slot))
         files.old.items files.new.items (stored_of blocks (said_at blocks slot)))) }
+    ensures entries { OnOk result (EntriesStay disk.old disk.new) }
     ensures taken { OnOk result (IsUseOf used.old.items files.old.items → IsUseOf used.new.items files.new.items) }
     ensures faults { IfErr result (IsInRange (D.count (drive_of disk.old))) }
     ensures says { OnOk result ((file : Option StoredFile) × (files.new.items ≡ files.old.items ++ file ∷ []) × (said ≡ said_kept file)) }
@@ -110,6 +112,7 @@ pub(crate) fn read_slots<D: Drive>(
     ensures checks { Checks D.contents D.count D.faults (failed result) disk.old disk.new
         (λ blocks. AreEntries entries.now blocks → Finds result (first_broken [] (slot_rules FIRST blocks 0 [] (entries_of blocks)))
         (λ files. files.items ≡ map (stored_of blocks) (entries_of blocks))) }
+    ensures entries { OnOk result (EntriesStay disk.old disk.new) }
     ensures apart { IfOk result (λ files. are_different (blocks_used files.items) ≡ true) }
     ensures faults { IfErr result (IsInRange (D.count (drive_of disk.old))) }
     ensures says { IfOk result (λ files. HaveEntries (D.count (drive_of disk.old)) entries.now files.items) }

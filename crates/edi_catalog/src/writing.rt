@@ -1,10 +1,11 @@
 //! Writing the entry of a slot.
 
-ghost use Rattle.std.specs.Prelude.{◌≡◌, ◌≤◌, ◌<◌, ◌+◌, ◌*◌, ◌/◌, ◌%◌, length};
+ghost use Rattle.std.specs.Prelude.{◌≡◌, ◌≤◌, ◌<◌, ◌+◌, ◌*◌, ◌/◌, ◌%◌, [], length, slice_index_or};
 ghost use Rattle.std.specs.Option.{ForSome};
 ghost use Rattle.edi_disk.specs.Shown.{drive_of, shown, IsWorking};
 ghost use Rattle.edi_image.specs.Entries.{block_at};
 ghost use Rattle.edi_catalog.specs.Mounted.{AreEntries};
+ghost use Rattle.edi_catalog.specs.Reads.{UsesBlock};
 ghost use Rattle.edi_catalog.specs.Writing.{PutsEntry, entries_with, patched};
 
 use crate::mounting::Checked;
@@ -35,6 +36,7 @@ pub(crate) fn put_entry<D: Drive>(
     requires kept { ForSome (D.contents (drive_of disk.old)) (λ blocks. block_at blocks (1 + slot / 8) ≡ kept.old) }
     ensures puts { PutsEntry D.contents D.count D.faults result slot entry.now disk.old disk.new }
     ensures kept { kept.new ≡ patched (ENTRY * (slot % 8)) entry.now kept.old }
+    ensures cached { result ≡ DiskEnd.Ok → UsesBlock (1 + slot / 8) kept.new disk.old disk.new }
 {
     put_over(kept, ENTRY * (usize::from(slot) % 8), entry);
     match disk.put_page(1 + u32::from(slot) / 8, kept) {
@@ -59,6 +61,7 @@ pub(crate) fn put_kept_entry<D: Drive>(
     ensures puts { PutsEntry D.contents D.count D.faults result index entry.now disk.old disk.new }
     ensures files { room.new.files.items ≡ room.old.files.items }
     ensures kept { room.new.entries.items ≡ entries_with index entry.now room.old.entries.items }
+    ensures cached { result ≡ DiskEnd.Ok → UsesBlock (1 + index / 8) (slice_index_or room.new.entries.items (index / 8) []) disk.old disk.new }
 {
     put_entry(disk, &mut room.entries[index / 8], index as u8, entry)
 }

@@ -2,6 +2,7 @@ use Rattle.std.proofs.Common.{◌≡◌, ◌+◌, ◌++◌, ◌∷◌, [], ◌�
 use Rattle.edi_catalog.proofs.Sequence.{checks_none, checks_then, checks_map}
 use Rattle.edi_catalog.proofs.EntryBlocks.{kept_more, drive_is}
 use Rattle.edi_catalog.proofs.KeptEntries.{whole_more}
+use Rattle.edi_catalog.proofs.StillCached.{cached_more}
 use Rattle.edi_catalog.proofs.entry_blocks.entry_blocks.Goals as goal
 
 pub loop-i-init : goal.loop-i-init
@@ -9,6 +10,7 @@ loop-i-init g c = record {
   checks = checks_none _ _ _ _ _ c.requires.works (λ blocks. λ k h. absurd (omega arith));
   many = ap length c.new-entries.ensures.items;
   each = λ k h. absurd (omega arith);
+  kept = λ k block h. absurd (omega arith);
 }
 
 pub loop-i-preserved : goal.loop-i-preserved
@@ -23,6 +25,9 @@ loop-i-preserved g c =
           ap length more ∙ length-append c.loop-i.entries.items (c.in-Ok.bytes ∷ []) ∙ ap (λ n. n + 1) c.loop-i.invariant.many;
       each =
           whole_more c.loop-i.entries.items c.push.new.self.items c.in-Ok.bytes c.loop-i.i more c.loop-i.invariant.many (search rules) c.loop-i.invariant.each;
+      kept =
+          cached_more c.loop-i.entries.items c.push.new.self.items c.in-Ok.bytes c.loop-i.i c.loop-i.disk c.block.new.disk more c.loop-i.invariant.many
+          c.in-Ok.ensures.cached c.in-Ok.ensures.others c.loop-i.invariant.kept;
     }
 
 pub returns-in-Err-clause-checks : goal.returns-in-Err-clause-checks
@@ -45,3 +50,6 @@ returns-clause-whole g c = record {
   many = omega (arith, c.loop-i.invariant.many, c.loop-i-test.false);
   each = λ k h. c.loop-i.invariant.each k (omega (arith, h, c.loop-i-test.false));
 }
+
+pub returns-clause-cached : goal.returns-clause-cached
+returns-clause-cached g c = λ k block h e. c.loop-i.invariant.kept k block (omega (arith, h, c.loop-i-test.false)) e

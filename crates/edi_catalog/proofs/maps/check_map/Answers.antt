@@ -3,9 +3,11 @@ use Rattle.edi_image.specs.Rules.{is_in}
 use Rattle.edi_image.specs.Entries.{block_at}
 use Rattle.edi_catalog.proofs.Sequence.{checks_none, checks_map, checks_with, checks_as}
 use Rattle.edi_image.proofs.MapRules.{map_again, map_wrong, map_found, numbers_behind, length-numbers_in, length_behind, on_ok}
-use Rattle.std.specs.Prelude.{IfErr}
+use Rattle.std.specs.Prelude.{IfErr, nat_le}
 use Rattle.edi_catalog.specs.Taken.{IsInRange}
 use Rattle.edi_catalog.proofs.Taken.{drive_in_range, map_takes, pages_in_range}
+use Rattle.edi_catalog.proofs.StillCached.{entries_stay}
+use Rattle.std.proofs.lemmas.Bool.{and_parts, leb-true}
 use Rattle.edi_catalog.proofs.maps.check_map.Goals as goal
 
 pub returns-then-contains-clause-checks : goal.returns-then-contains-clause-checks
@@ -64,3 +66,8 @@ returns-clause-faults g c =
 
 pub returns-in-Err-clause-faults : goal.returns-in-Err-clause-faults
 returns-in-Err-clause-faults g c = drive_in_range _ c.in-Err.fault c.in-Err.ensures.fault
+
+pub returns-clause-entries : goal.returns-clause-entries
+returns-clause-entries g c = on_ok c.check_pages.result _
+    (entries_stay c.from.result c.args.map c.args.disk.now c.block.new.disk c.from.ensures
+    (leb-true 33 c.args.map (and_parts (nat_le 33 c.args.map) _ c.requires.on_drive).0) c.in-Ok.ensures.others)

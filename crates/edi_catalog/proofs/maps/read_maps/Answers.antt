@@ -4,6 +4,7 @@ use Rattle.edi_catalog.proofs.Taken.{one_taken, two_taken}
 use Rattle.edi_calls.specs.State.{pages_of}
 use Rattle.edi_image.specs.Records.{FileRecord}
 use Rattle.edi_catalog.proofs.Sequence.{checks_map, checks_then}
+use Rattle.edi_catalog.proofs.StillCached.{entries_then}
 use Rattle.edi_image.proofs.FileRules.{first_map_fails, second_map_fails, both_maps}
 use Rattle.edi_catalog.proofs.maps.read_maps.Goals as goal
 
@@ -50,3 +51,7 @@ returns-in-Ok-check_map-clause-taken g c =
 
 pub returns-in-Err-check_map-clause-faults : goal.returns-in-Err-check_map-clause-faults
 returns-in-Err-check_map-clause-faults g c = subst (λ n. IsInRange n c.in-Err-check_map.fault) c.in-Ok.ensures.checks.count_stays c.in-Err-check_map.ensures.faults
+
+pub returns-in-Ok-check_map-clause-entries : goal.returns-in-Ok-check_map-clause-entries
+returns-in-Ok-check_map-clause-entries g c =
+    entries_then c.args.disk.now c.check_map.new.disk c.check_map-in-Some.new.disk c.in-Ok.ensures.entries c.in-Ok-check_map.ensures.entries

@@ -25,6 +25,7 @@ returns-in-Ok-clause-checked g c = record {
   said = λ some.
       subst (λ n. HaveEntries n c.in-Ok.checked.entries.items c.in-Ok.checked.files.items) (sym c.in-Ok.ensures.checks.count_stays)
       (c.in-Ok.ensures.said (subst (λ n. 0 < n) c.in-Ok.ensures.checks.count_stays some));
+  entries_cached = λ some. c.in-Ok.ensures.cached (subst (λ n. 0 < n) c.in-Ok.ensures.checks.count_stays some);
   entries = λ blocks told. (found_of _ _ _ _ _ _ c.requires.settled c.in-Ok.ensures.checks blocks told).1.1.1;
 }
 

@@ -6,6 +6,7 @@ use Rattle.edi_image.specs.Image.{mount_fault_of}
 use Rattle.edi_image.proofs.ImageRules.{image_goes_on, image_fails}
 use Rattle.edi_catalog.specs.Mounted.{AreEntries}
 use Rattle.edi_catalog.proofs.EntryBlocks.{no_image_fault}
+use Rattle.edi_catalog.proofs.StillCached.{still_cached}
 use Rattle.edi_catalog.proofs.Sequence.{checks_both, checks_map, checks_with, checks_then}
 use Rattle.edi_catalog.proofs.mounting.read_image.Goals as goal
 
@@ -50,3 +51,8 @@ returns-in-Err-read_slots-clause-checks g c =
     c.in-Ok.ensures.checks)
     c.in-Ok-entry_blocks.ensures.checks)
     c.in-Err-read_slots.ensures.checks
+
+pub returns-in-Ok-read_slots-clause-cached : goal.returns-in-Ok-read_slots-clause-cached
+returns-in-Ok-read_slots-clause-cached g c =
+    still_cached c.in-Ok-entry_blocks.entries.items c.entry_blocks.new.disk c.read_slots.new.disk c.in-Ok-read_slots.ensures.entries
+    c.in-Ok-entry_blocks.ensures.cached

@@ -5,6 +5,7 @@ use Rattle.edi_disk.proofs.Calls as calls
 use Rattle.edi_catalog.specs.Plan.{content_of, used_in}
 use Rattle.edi_catalog.specs.Putting.{PutsBlocks}
 use Rattle.edi_catalog.proofs.PutBlocks.{puts_none, puts_more}
+use Rattle.edi_catalog.proofs.StillCached.{others_stay}
 use Rattle.edi_catalog.proofs.FileShape.{shape_of, number_below, maps_enough, pages_enough, index_within, all_within}
 use Rattle.edi_catalog.proofs.putting.put_blocks.Goals as goal
 
@@ -55,6 +56,7 @@ returns-in-Fault g c = record {
         count_stays = c.in-Fault.ensures.count;
         later = c.in-Fault.ensures.later;
         cause = c.in-Fault.ensures.cause;
+        uses = λ e. absurd (cc);
       })
       _ (λ e. absurd (cc));
 }
@@ -80,6 +82,12 @@ loop-i-preserved g c =
       count_stays = c.in-Ok.ensures.count;
       later = c.in-Ok.ensures.later;
       cause = c.in-Ok.ensures.cause;
+      uses = λ e. record {
+        there = (c.in-Ok.ensures.caches refl).there;
+        others =
+            others_stay g.D.Drive.contents g.D.Drive.count c.from-number.result _ c.loop-i.disk c.put_page.new.self (c.loop-i.invariant.works refl)
+            (c.in-Ok.ensures.caches refl) (c.in-Ok.ensures.order refl);
+      };
     })
     (c.loop-i.i + 1) (λ e. refl)
 

@@ -19,4 +19,5 @@ returns-in-Ok-clause-puts g c =
       count_stays = c.flush.ensures.count;
       later = c.flush.ensures.later;
       cause = c.flush.ensures.cause;
+      caches = c.flush.ensures.caches;
     })

@@ -1,12 +1,14 @@
-use Rattle.std.proofs.Common.{◌+◌, ◌/◌, ◌*◌, ◌%◌, Some, ap, subst, refl, length, ◌∙◌, arith}
+use Rattle.std.specs.Prelude.{slice_index}
+use Rattle.std.proofs.Common.{◌≤◌, ◌+◌, ◌/◌, ◌*◌, ◌%◌, Some, ap, subst, refl, length, ◌∙◌, arith}
 use Rattle.edi_disk.specs.Shown.{drive_of}
 use Rattle.edi_disk.proofs.Writing as writing
 use Rattle.edi_image.specs.Stored.{StoredFile}
 use Rattle.edi_image.specs.Bytes.{bytes_of_record}
 use Rattle.edi_catalog.specs.Plan.{ArePut, content_of, used_in}
 use Rattle.edi_catalog.specs.Writing.{PutsEntry, patched}
-use Rattle.edi_catalog.proofs.FileShape.{shape_of, used_data}
+use Rattle.edi_catalog.proofs.FileShape.{shape_of, used_behind, used_data}
 use Rattle.edi_catalog.proofs.NewFile.{new_fails, new_entry, puts_there}
+use Rattle.edi_catalog.proofs.StillCached.{entry_then}
 use Rattle.edi_catalog.proofs.Unchanged.{not_early}
 use Rattle.edi_catalog.proofs.putting.write_new.Goals as goal
 
@@ -39,3 +41,22 @@ pub returns-in-Fault-clause-writes : goal.returns-in-Fault-clause-writes
 returns-in-Fault-clause-writes g c =
     new_fails g.D.Drive.contents g.D.Drive.count g.D.Drive.faults c.args.slot c.args.file.now c.args.bytes.now c.args.disk.now c.write_file.new.disk
     c.requires.settled c.in-Fault.ensures.puts
+
+pub returns-in-Ok-clause-entry_cached : goal.returns-in-Ok-clause-entry_cached
+returns-in-Ok-clause-entry_cached g c = λ done.
+    entry_then _ _ c.args.disk.now c.write_file.new.disk c.put_entry.new.disk
+    (λ m h. c.in-Ok.ensures.puts.others_cached refl m
+    (not_early (g.D.Drive.count (drive_of c.args.disk.now)) (used_in (Some c.args.file.now)) m
+    (used_data (g.D.Drive.count (drive_of c.args.disk.now)) c.args.file.now
+    (shape_of (g.D.Drive.count (drive_of c.args.disk.now)) c.args.file.now c.requires.stored)) h))
+    (c.put_entry.ensures.cached done)
+
+pub returns-in-Ok-clause-file_cached : goal.returns-in-Ok-clause-file_cached
+returns-in-Ok-clause-file_cached g c = λ done i block h e.
+    c.in-Ok.ensures.puts.put_cached refl i block h
+    ((c.put_entry.ensures.cached done).others (slice_index (used_in (Some c.args.file.now)) i)
+    (λ same.
+    let low : 33 ≤ slice_index (used_in (Some c.args.file.now)) i =
+    used_behind (g.D.Drive.count (drive_of c.args.disk.now)) c.args.file.now i c.requires.stored h in
+    omega (arith, low, same))
+    block e)

@@ -1,6 +1,7 @@
 use Rattle.std.proofs.Common.{◌∙◌, ap, sym, arith}
 use Rattle.edi_image.specs.Entries.{block_at}
 use Rattle.edi_catalog.proofs.Sequence.{checks_map}
+use Rattle.edi_catalog.proofs.StillCached.{entries_stay}
 use Rattle.edi_catalog.proofs.WholeFiles.{page_put}
 use Rattle.edi_catalog.proofs.reading.read_page_at.Goals as goal
 
@@ -11,3 +12,7 @@ returns-in-Ok-clause-checks g c =
     (c.copy_from_slice.ensures.after ∙ sym is ∙ ap (block_at blocks) c.from.ensures)
     (omega (arith, c.copy_from_slice.ensures.len, c.split_at_mut-index.ensures.front_len)))
     c.in-Ok.ensures.checks
+
+pub returns-in-Ok-clause-entries : goal.returns-in-Ok-clause-entries
+returns-in-Ok-clause-entries g c =
+    entries_stay c.from.result c.args.page c.args.disk.now c.block.new.disk c.from.ensures c.requires.behind c.in-Ok.ensures.others

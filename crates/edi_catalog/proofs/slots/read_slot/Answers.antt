@@ -3,6 +3,7 @@ use Rattle.edi_image.specs.Finds.{IsFirst}
 use Rattle.edi_image.specs.Image.{entry_rules}
 use Rattle.edi_image.specs.Rules.{first_broken}
 use Rattle.edi_image.specs.Stored.{titles_of}
+use Rattle.edi_image.proofs.MapRules.{on_ok}
 use Rattle.edi_image.proofs.SlotRules.{put_fine, put_finds, file_taken, file_broken}
 use Rattle.edi_catalog.proofs.Taken.{memory_in_range, use_goes_on, use_stays}
 use Rattle.edi_catalog.proofs.Sequence.{checks_as, checks_map, checks_none}
@@ -52,3 +53,9 @@ returns-in-Err-clause-checks g c =
     c.in-File.file c.deref.ensures.value says c.in-File.is)
     q)
     c.in-Err.ensures.checks
+
+pub returns-in-Free-clause-entries : goal.returns-in-Free-clause-entries
+returns-in-Free-clause-entries g c = on_ok c.put_file.result _ (λ m h bytes e. e)
+
+pub returns-in-Ok-clause-entries : goal.returns-in-Ok-clause-entries
+returns-in-Ok-clause-entries g c = on_ok c.put_file-in-Ok.result _ c.in-Ok.ensures.entries

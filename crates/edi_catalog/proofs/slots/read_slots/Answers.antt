@@ -7,12 +7,14 @@ use Rattle.edi_catalog.specs.Mounted.{entry_kept}
 use Rattle.edi_catalog.specs.Taken.{IsInRange}
 use Rattle.edi_catalog.proofs.KeptEntries.{said_is, says_more}
 use Rattle.edi_catalog.proofs.Sequence.{checks_none, checks_then, checks_map, checks_with}
+use Rattle.edi_catalog.proofs.StillCached.{entries_then}
 use Rattle.edi_catalog.proofs.Taken.{use_begins}
 use Rattle.edi_catalog.proofs.slots.read_slots.Goals as goal
 
 pub loop-slot-init : goal.loop-slot-init
 loop-slot-init g c = record {
   checks = checks_none _ _ _ _ _ c.requires.works (λ blocks size are. progress_from blocks _ _ c.new-used.ensures.items c.new-files.ensures.items);
+  entries = λ m h bytes e. e;
   many = omega (arith, ap length c.new-files.ensures.items);
   says = λ slot h. absurd (omega arith);
   taken = use_begins _ _ c.new-used.ensures.items c.new-files.ensures.items;
@@ -32,6 +34,7 @@ loop-slot-preserved g c = record {
       c.loop-slot.files.items c.read_slot.new.files.items c.loop-slot-test.true refl (p size are)
       (q (said_is c.args.entries.now blocks c.blocks-count.result c.loop-slot.slot c.loop-slot-test.true size are ∙ sym c.read_entry-said.ensures)))
       c.loop-slot.invariant.checks c.in-Ok.ensures.checks;
+  entries = entries_then c.args.disk.now c.loop-slot.disk c.read_slot.new.disk c.loop-slot.invariant.entries c.in-Ok.ensures.entries;
   many = omega (arith, c.loop-slot.invariant.many, c.in-Ok.ensures.many);
   says =
       (let file = c.in-Ok.ensures.says in

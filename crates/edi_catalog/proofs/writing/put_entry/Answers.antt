@@ -2,6 +2,7 @@ use Rattle.std.proofs.Common.{◌+◌, ◌/◌, ◌*◌, ◌%◌, ◌∙◌, ap,
 use Rattle.edi_image.specs.Entries.{block_at}
 use Rattle.edi_catalog.specs.Writing.{patched}
 use Rattle.edi_image.proofs.Told.{told_map}
+use Rattle.edi_catalog.proofs.StillCached.{others_stay, use_flushed}
 use Rattle.edi_catalog.proofs.PutEntry.{puts_made, put_failed, put_flushed}
 use Rattle.edi_catalog.proofs.writing.put_entry.Goals as goal
 
@@ -30,3 +31,10 @@ returns-in-Ok-clause-puts g c =
     c.in-Ok.ensures.since c.in-Ok.ensures.shows
     c.flush.ensures.same_reference c.flush.ensures.count c.flush.ensures.later c.flush.ensures.cause c.flush.ensures.works c.flush.ensures.settles c.flush.ensures.clean
     c.flush.ensures.since c.flush.ensures.shows)
+
+pub returns-in-Ok-clause-cached : goal.returns-in-Ok-clause-cached
+returns-in-Ok-clause-cached g c = λ done.
+    use_flushed _ _ _ c.args.disk.now c.put_page.new.self c.flush.new.self (ap (λ n. 1 + n / 8) c.from-2.ensures) (c.in-Ok.ensures.caches refl).there
+    (others_stay g.D.Drive.contents g.D.Drive.count _ _ c.args.disk.now c.put_page.new.self c.requires.works (c.in-Ok.ensures.caches refl)
+    (c.in-Ok.ensures.order refl))
+    c.flush.ensures.caches

@@ -20,7 +20,7 @@ returns-in-Ok g c = record {
       (slot_kept c.put_kept_entry.new.room.files.items c.args.index c.take-file.new.self c.kept_as.result c.take-file.result c.index_mut.result.now c.args.entry
       (ap length c.in-Ok.ensures.files ∙ c.requires.mounted.many) c.requires.within c.kept_as.ensures c.take-file.ensures.value c.index_mut.ensures.value
       ∙ ap (λ files. put_kept files c.args.index c.args.entry) c.in-Ok.ensures.files)
-      c.in-Ok.ensures.kept;
+      c.in-Ok.ensures.kept (c.in-Ok.ensures.cached refl);
 }
 
 pub returns-in-Fault : goal.returns-in-Fault

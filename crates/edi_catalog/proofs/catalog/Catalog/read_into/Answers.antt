@@ -1,13 +1,17 @@
 use Rattle.std.proofs.Common.{◌≡◌, ◌∙◌, ap, sym, rules, refl, inr, Some}
 use Rattle.edi_catalog.specs.Files.{file_titled, find_index}
-use Rattle.edi_catalog.specs.Mounted.{files_of}
+use Rattle.edi_catalog.specs.Mounted.{disk_of, files_of}
+use Rattle.edi_disk.specs.Shown.{drive_of}
+use Rattle.edi_image.specs.Stored.{is_stored}
+use Rattle.edi_catalog.proofs.FileIndices.{file_kept}
 use Rattle.edi_catalog.proofs.Mounts.{found_of, same_blocks, still_mounted, told_same_blocks}
 use Rattle.edi_catalog.proofs.WholeFiles.{found_kept, titled_at}
 use Rattle.edi_catalog.proofs.catalog.Catalog.read_into.Goals as goal
 
 pub returns-in-Ok-clause-mounted : goal.returns-in-Ok-clause-mounted
 returns-in-Ok-clause-mounted g c =
-    inr (still_mounted _ _ _ c.args.self.now (record c.args.self.now { disk = c.read_stored.new.disk }) _ refl refl c.requires.mounted c.in-Ok.ensures.checks)
+    inr (still_mounted _ _ _ c.args.self.now (record c.args.self.now { disk = c.read_stored.new.disk }) _ refl refl c.requires.mounted c.in-Ok.ensures.checks
+    c.in-Ok.ensures.entries)
 
 pub returns-in-Ok-clause-reads : goal.returns-in-Ok-clause-reads
 returns-in-Ok-clause-reads g c =
@@ -25,3 +29,17 @@ returns-in-Ok-clause-reads g c =
 pub returns-in-Err-clause-reads : goal.returns-in-Err-clause-reads
 returns-in-Err-clause-reads g c =
     told_same_blocks _ _ _ (λ blocks told. (same_blocks _ _ _ _ _ _ _ c.requires.mounted.settled c.read_stored.ensures.checks blocks told, tt))
+
+pub read_stored-requires-clause-stored : goal.read_stored-requires-clause-stored
+read_stored-requires-clause-stored g c =
+    let titled : file_titled c.args.title.now (files_of c.args.self.now) ≡ Some c.in-Some-index.file =
+    titled_at c.args.title.now (files_of c.args.self.now) c.in-Some.index c.index.result.now c.in-Some-index.file
+    (sym (c.in-Some.ensures.exact ∙ ap (find_index c.args.title.now) c.deref.ensures.value)) (search rules) c.index.ensures c.in-Some-index.is in
+    ap (is_stored (g.D.Drive.count (drive_of (disk_of c.args.self.now)))) (sym titled)
+    ∙ file_kept (g.D.Drive.count (drive_of (disk_of c.args.self.now))) c.args.title.now (files_of c.args.self.now) c.requires.mounted.stored
+
+pub returns-in_default-clause-mounted : goal.returns-in_default-clause-mounted
+returns-in_default-clause-mounted g c = inr c.requires.mounted
+
+pub returns-in-None-clause-mounted : goal.returns-in-None-clause-mounted
+returns-in-None-clause-mounted g c = inr c.requires.mounted

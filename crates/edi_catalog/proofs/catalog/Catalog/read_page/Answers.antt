@@ -10,7 +10,8 @@ use Rattle.edi_catalog.specs.Mounted.{disk_of, files_of}
 use Rattle.edi_image.proofs.Told.{told_map}
 use Rattle.edi_catalog.proofs.InSlots.{page_in_slots}
 use Rattle.edi_catalog.proofs.Mounts.{found_of, same_blocks, still_mounted, told_same_blocks}
-use Rattle.edi_catalog.proofs.FileIndices.{page_on_drive, page_inside, page_is}
+use Rattle.edi_catalog.proofs.StillCached.{entries_stay}
+use Rattle.edi_catalog.proofs.FileIndices.{page_behind, page_on_drive, page_inside, page_is}
 use Rattle.edi_catalog.proofs.catalog.Catalog.read_page.Goals as goal
 
 pub block-requires-clause-in_range : goal.block-requires-clause-in_range
@@ -25,7 +26,15 @@ block-requires-clause-in_range g c =
 
 pub returns-in-Ok-clause-mounted : goal.returns-in-Ok-clause-mounted
 returns-in-Ok-clause-mounted g c =
-    inr (still_mounted _ _ _ c.args.self.now (record c.args.self.now { disk = c.block.new.disk }) _ refl refl c.requires.mounted c.in-Ok.ensures.checks)
+    inr (still_mounted _ _ _ c.args.self.now (record c.args.self.now { disk = c.block.new.disk }) _ refl refl c.requires.mounted c.in-Ok.ensures.checks
+    (entries_stay c.from.result c.in-Some.page (disk_of c.args.self.now) c.block.new.disk c.from.ensures
+    (page_behind (g.D.Drive.count (drive_of (disk_of c.args.self.now))) c.args.title.now (files_of c.args.self.now) c.args.i c.in-Some.page
+    c.requires.mounted.stored
+    (c.in-Some.ensures
+    ∙ ap (λ fs. option_map (λ (file : StoredFile). slice_index file.pages c.args.i) (file_titled c.args.title.now fs)) c.deref.ensures.value)
+    (page_inside (g.D.Drive.count (drive_of (disk_of c.args.self.now))) c.args.title.now (files_of c.args.self.now) c.args.i
+    c.requires.mounted.stored c.requires.page))
+    c.in-Ok.ensures.others))
 
 pub returns-in-Ok-clause-reads : goal.returns-in-Ok-clause-reads
 returns-in-Ok-clause-reads g c =

@@ -13,19 +13,19 @@ use Rattle.edi_catalog.proofs.catalog.Catalog.rename_kept.Goals as goal
 pub returns-then-is_some : goal.returns-then-is_some
 returns-then-is_some g c =
     let files = files_of c.args.self.now in
-    let finds : find_index c.args.old.now files ≡ Some c.in-Some.from =
-    sym (c.in-Some.ensures.exact ∙ ap (find_index c.args.old.now) c.deref.ensures.value) in
-    let within : c.in-Some.from < 256 = inside files c.in-Some.from c.requires.mounted.many (search rules) in
-    let found = has_file c.args.old.now files c.in-Some.from finds in
-    let free = protection_is files c.in-Some.from _ found.file _ _ c.requires.mounted.many within c.index.ensures found.there c.is_protected.ensures
+    let finds : find_index c.args.from.now files ≡ Some c.in-Some.index =
+    sym (c.in-Some.ensures.exact ∙ ap (find_index c.args.from.now) c.deref.ensures.value) in
+    let within : c.in-Some.index < 256 = inside files c.in-Some.index c.requires.mounted.many (search rules) in
+    let found = has_file c.args.from.now files c.in-Some.index finds in
+    let free = protection_is files c.in-Some.index _ found.file _ _ c.requires.mounted.many within c.index.ensures found.there c.is_protected.ensures
     c.if-is_protected.false in
-    let other : find_index c.args.new.now files ≡ c.index_of-2.result =
-    sym (c.index_of-2.ensures.exact ∙ ap (find_index c.args.new.now) c.deref-2.ensures.value) in
+    let other : find_index c.args.to.now files ≡ c.index_of-2.result =
+    sym (c.index_of-2.ensures.exact ∙ ap (find_index c.args.to.now) c.deref-2.ensures.value) in
     record {
       changes =
           not_changed _ _ _ _ _ _ _ c.args.self.now c.requires.mounted (
-            rename_refusal c.args.old.now c.args.new.now files c.in-Some.from found _ free
-                (titled_some c.args.new.now files c.index_of-2.result other (sym c.is_some.ensures ∙ c.if-is_some.true)),
+            rename_refusal c.args.from.now c.args.to.now files c.in-Some.index found _ free
+                (titled_some c.args.to.now files c.index_of-2.result other (sym c.is_some.ensures ∙ c.if-is_some.true)),
             refl,
           )
           (λ blocks. refl) (λ e. absurd (let never : Err cat.Taken ≡ Err cat.Fault = e in cc));
@@ -34,15 +34,15 @@ returns-then-is_some g c =
 pub put_slot-requires-clause-fits : goal.put_slot-requires-clause-fits
 put_slot-requires-clause-fits g c =
     let files = files_of c.args.self.now in
-    let finds : find_index c.args.old.now files ≡ Some c.in-Some.from =
-    sym (c.in-Some.ensures.exact ∙ ap (find_index c.args.old.now) c.deref.ensures.value) in
-    let within : c.in-Some.from < 256 = inside files c.in-Some.from c.requires.mounted.many (search rules) in
-    let found = has_file c.args.old.now files c.in-Some.from finds in
-    let other : find_index c.args.new.now files ≡ c.index_of-2.result =
-    sym (c.index_of-2.ensures.exact ∙ ap (find_index c.args.new.now) c.deref-2.ensures.value) in
-    let is = entry_is files c.in-Some.from _ found.file c.record_renamed-entry.result (record_renamed c.args.new.now) c.requires.mounted.many within
+    let finds : find_index c.args.from.now files ≡ Some c.in-Some.index =
+    sym (c.in-Some.ensures.exact ∙ ap (find_index c.args.from.now) c.deref.ensures.value) in
+    let within : c.in-Some.index < 256 = inside files c.in-Some.index c.requires.mounted.many (search rules) in
+    let found = has_file c.args.from.now files c.in-Some.index finds in
+    let other : find_index c.args.to.now files ≡ c.index_of-2.result =
+    sym (c.index_of-2.ensures.exact ∙ ap (find_index c.args.to.now) c.deref-2.ensures.value) in
+    let is = entry_is files c.in-Some.index _ found.file c.record_renamed-entry.result (record_renamed c.args.to.now) c.requires.mounted.many within
     c.index-2.ensures found.there c.record_renamed-entry.ensures.exact in
-    record_at files c.in-Some.from found.file _ c.record_renamed-entry.result found.there
+    record_at files c.in-Some.index found.file _ c.record_renamed-entry.result found.there
     (record {
       title = some_title c.record_renamed-entry.result _ is c.record_renamed-entry.ensures.title;
       maps = refl;
@@ -54,22 +54,22 @@ put_slot-requires-clause-fits g c =
 pub returns : goal.returns
 returns g c =
     let files = files_of c.args.self.now in
-    let finds : find_index c.args.old.now files ≡ Some c.in-Some.from =
-    sym (c.in-Some.ensures.exact ∙ ap (find_index c.args.old.now) c.deref.ensures.value) in
-    let within : c.in-Some.from < 256 = inside files c.in-Some.from c.requires.mounted.many (search rules) in
-    let found = has_file c.args.old.now files c.in-Some.from finds in
-    let free = protection_is files c.in-Some.from _ found.file _ _ c.requires.mounted.many within c.index.ensures found.there c.is_protected.ensures
+    let finds : find_index c.args.from.now files ≡ Some c.in-Some.index =
+    sym (c.in-Some.ensures.exact ∙ ap (find_index c.args.from.now) c.deref.ensures.value) in
+    let within : c.in-Some.index < 256 = inside files c.in-Some.index c.requires.mounted.many (search rules) in
+    let found = has_file c.args.from.now files c.in-Some.index finds in
+    let free = protection_is files c.in-Some.index _ found.file _ _ c.requires.mounted.many within c.index.ensures found.there c.is_protected.ensures
     c.if-is_protected.false in
-    let other : find_index c.args.new.now files ≡ c.index_of-2.result =
-    sym (c.index_of-2.ensures.exact ∙ ap (find_index c.args.new.now) c.deref-2.ensures.value) in
+    let other : find_index c.args.to.now files ≡ c.index_of-2.result =
+    sym (c.index_of-2.ensures.exact ∙ ap (find_index c.args.to.now) c.deref-2.ensures.value) in
     let none = other ∙ none_there c.index_of-2.result (sym c.is_some.ensures ∙ c.if-is_some.false) in
-    let is = entry_is files c.in-Some.from _ found.file c.record_renamed-entry.result (record_renamed c.args.new.now) c.requires.mounted.many within
+    let is = entry_is files c.in-Some.index _ found.file c.record_renamed-entry.result (record_renamed c.args.to.now) c.requires.mounted.many within
     c.index-2.ensures found.there c.record_renamed-entry.ensures.exact in
     record {
       changes =
-          changes_as _ _ _ c.put_slot.result _ c.args.old.now c.in-Some.from c.record_renamed-entry.result (kept_renamed c.args.new.now)
-          (file_renamed c.args.new.now) found.file c.args.self.now _ c.requires.mounted finds found.there
-          (rename_refusal c.args.old.now c.args.new.now files c.in-Some.from found _ free (ap is_some (untitled_none c.args.new.now files none)))
+          changes_as _ _ _ c.put_slot.result _ c.args.from.now c.in-Some.index c.record_renamed-entry.result (kept_renamed c.args.to.now)
+          (file_renamed c.args.to.now) found.file c.args.self.now _ c.requires.mounted finds found.there
+          (rename_refusal c.args.from.now c.args.to.now files c.in-Some.index found _ free (ap is_some (untitled_none c.args.to.now files none)))
           (ap (λ e. kept_as e (Some found.file)) is) (λ blocks. ap (λ e. file_as e (Some (file_of blocks found.file))) is)
           c.put_slot.ensures.changes;
     }

@@ -31,7 +31,7 @@ returns-in-Ok g c = record {
       c.lay_file-file.ensures.entry c.requires.index c.requires.open)
       c.in-Ok.ensures.writes refl (ap (λ files. set files c.args.index (Some c.lay_file-file.result)) c.in-Ok.ensures.files)
       (c.requires.mounted.room (omega (arith, c.requires.room)))
-      (c.in-Ok.ensures.kept refl);
+      (c.in-Ok.ensures.kept refl) (c.in-Ok.ensures.entry_cached refl) (c.in-Ok.ensures.file_cached refl);
 }
 
 pub returns-in-Fault : goal.returns-in-Fault
