@@ -1,12 +1,12 @@
 -- Calls of the catalogue, on a system.
-use Rattle.std.proofs.Common.{◌≡◌, ◌⊎◌, inl, inr, true, false, Option, None, refl, sym, ap, ◌∙◌}
+use Rattle.std.proofs.Common.{◌≡◌, ◌⊎◌, inl, inr, ℕ, Bool, true, false, List, Option, None, refl, sym, ap, subst, ◌∙◌}
 use Rattle.std.specs.Prelude.{Result, Ok, Err}
 use Rattle.edi_calls.specs.declared.ends.Outside.{Outside}
 use Rattle.edi_catalog.specs.declared.catalog.Catalog.{Catalog}
 use Rattle.edi_catalog.specs.declared.ends.CatEnd.{CatEnd}
 use Rattle.edi_catalog.specs.declared.ends.CatEnd.TheVariants as cat
 use Rattle.edi_catalog.specs.Changes.{Untouched}
-use Rattle.edi_system.specs.State.{catalog_in, failed_in}
+use Rattle.edi_system.specs.State.{catalog_in, failed_in, IsReady}
 use Rattle.edi_system.specs.Catalogue.{failed_at, is_drive_fault, is_refused}
 use Rattle.edi_system.specs.declared.system.System.{System}
 
@@ -65,3 +65,20 @@ pub refused_system : {D S T P X : Type 0} (before : System D S T P) (catalog : C
 refused_system before catalog failed r e u is none =
     ap (λ x. record before { catalog = x; failed = failed }) (refused_untouched r (catalog_in before) catalog e u)
     ∙ ap (λ x. record before { failed = x }) (is ∙ none_failed r (not_fault r e) ∙ sym none)
+
+-- the same, where the answer was tested: the system is as it was, and the next call may be made
+pub refused_stays : {D S T P X : Type 0} (contents : D → Option (List (List ℕ))) (count : D → ℕ) (before : System D S T P) (catalog : Catalog D)
+    (failed : Option Outside) (r : Result X CatEnd) (refused : Bool) → refused ≡ is_refused r → refused ≡ true → Untouched r (catalog_in before) catalog
+    → failed ≡ failed_at r → IsReady contents count before
+    → Untouched r before (record before { catalog = catalog; failed = failed })
+    × IsReady contents count (record before { catalog = catalog; failed = failed })
+refused_stays contents count before catalog failed r refused asked answered u is ready =
+    let same : record before { catalog = catalog; failed = failed } ≡ before =
+    refused_system before catalog failed r (sym asked ∙ answered) u is ready.nothing_failed in
+    (untouched_if r before (record before { catalog = catalog; failed = failed }) (λ e. same), subst (IsReady contents count) (sym same) ready)
+
+-- and where it was not refused
+pub untouched_else : {X C : Type 0} (r : Result X CatEnd) (refused : Bool) (before after : C) → refused ≡ is_refused r → refused ≡ false
+    → Untouched r before after
+untouched_else r refused before after asked answered =
+    untouched_if r before after (λ e. absurd (let no : true ≡ false = sym e ∙ (sym asked ∙ answered) in cc))

@@ -51,7 +51,7 @@ none_titled : (title : List ℕ) (slot : Option StoredFile) → is_none slot ≡
 none_titled title None here = refl
 none_titled title (Some file) here = absurd (let no : false ≡ true = here in cc)
 
--- what is in the place of a title, and in that of the first free slot
+-- what is in the slot of a title, and in the first free one
 pub find_titled : (title : List ℕ) (files : List (Option StoredFile)) (at : ℕ) → find_index title files ≡ Some at
     → is_titled title (slice_index_or files at None) ≡ true
 find_titled title [] at h = absurd (let no : None ≡ Some at = h in cc)

@@ -82,7 +82,7 @@ closed blocks title files e =
 
 -- ---- storing
 
--- a place where bytes are stored
+-- a slot where bytes are stored
 pub record HasRoom (blocks : List (List ℕ)) (title : List ℕ) (size : ℕ) : Type 0 where
   pub index : ℕ
   pub room : room_in blocks title size ≡ Some index
@@ -147,7 +147,7 @@ module _ (count : ℕ) (files : List (Option StoredFile)) (blocks : List (List �
 
 -- ---- removing
 
--- a place whose file may be removed
+-- a slot whose file may be removed
 pub record MayLeave (blocks : List (List ℕ)) (title : List ℕ) : Type 0 where
   pub index : ℕ
   pub open_ : open_slot (slots_of blocks) title ≡ Some index

@@ -258,17 +258,17 @@ impl<D: Drive, S: Source, T: Sink, P: Sink> System<'_, '_, '_, '_, '_, '_, D, S,
         answer
     }
 
-    /// Gives the file with the title `old` the title `new`, and drops the found file and the buffer. A named refusal leaves
+    /// Gives the file with the title `from` the title `to`, and drops the found file and the buffer. A named refusal leaves
     /// them: in their order `NoSuch`, `Protected`, `Taken`, also where both titles are the same.
-    pub fn rename(&mut self, old: &Title, new: &Title) -> Result<(), CatEnd>
+    pub fn rename(&mut self, from: &Title, to: &Title) -> Result<(), CatEnd>
         requires ready { IsReady D.contents D.count self.old }
         ensures changes { Changes D.contents D.count D.faults result
-            (not_renamed (file_titled old.now (files_of (catalog_in self.old))) (file_titled new.now (files_of (catalog_in self.old))))
-            (kept_changed (kept_renamed new.now) old.now (files_of (catalog_in self.old))) (slots_changed (file_renamed new.now) old.now)
+            (not_renamed (file_titled from.now (files_of (catalog_in self.old))) (file_titled to.now (files_of (catalog_in self.old))))
+            (kept_changed (kept_renamed to.now) from.now (files_of (catalog_in self.old))) (slots_changed (file_renamed to.now) from.now)
             (catalog_in self.old) (catalog_in self.new) }
         ensures exact { WhereTold (state_of D.contents S.left T.taken P.taken self.old) (state_of D.contents S.left T.taken P.taken self.new)
-            (λ before after. StateAnswer result (no_renaming (find_file before.slots old.now) (find_file before.slots new.now))
-            (slots_changed (file_renamed new.now) old.now before.slots) fresh before after) }
+            (λ before after. StateAnswer result (no_renaming (find_file before.slots from.now) (find_file before.slots to.now))
+            (slots_changed (file_renamed to.now) from.now before.slots) fresh before after) }
         ensures untouched { Untouched result self.old self.new }
         ensures stays { is_refused result ≡ true → OpenStays self.old self.new }
         ensures closes { is_refused result ≡ false → IsClosed self.new }
@@ -279,7 +279,7 @@ impl<D: Drive, S: Source, T: Sink, P: Sink> System<'_, '_, '_, '_, '_, '_, D, S,
         ensures told { KeepsTold D.contents S.left T.taken P.taken self.old self.new }
         ensures keeps { Keeps D.faults S.faults T.faults P.faults (is_drive_fault result) self.old self.new }
     {
-        let answer = self.catalog.rename(old, new);
+        let answer = self.catalog.rename(from, to);
         self.failed = failed_at(&answer);
         if is_refused(&answer) {
             return answer;

@@ -1,39 +1,32 @@
-use Rattle.std.proofs.Common.{◌≡◌, ◌∙◌, sym, subst, true, false}
-use Rattle.edi_system.specs.Catalogue.{is_refused}
-use Rattle.edi_system.specs.State.{IsReady}
-use Rattle.edi_system.proofs.Catalogue.{refused_system, untouched_if}
-use Rattle.std.proofs.Common.{inl, inr, refl}
+use Rattle.edi_system.proofs.Catalogue.{refused_stays, untouched_else}
+use Rattle.std.proofs.Common.{◌∙◌, inl, inr, refl, sym, None}
 use borrow.Rule.Reborrow.{re_v}
 use Rattle.edi_calls.specs.State.{find_file}
 use Rattle.edi_catalog.specs.InSlots.{no_renaming}
 use Rattle.edi_catalog.specs.Changes.{file_renamed, slots_changed}
 use Rattle.edi_system.proofs.InState.{closes_files}
-use Rattle.std.proofs.Common.{None}
 use Rattle.edi_system.proofs.Lasting.{told_changes}
 use Rattle.edi_system.proofs.system.System.rename.Goals as goal
 
 pub returns-then-is_refused-clause-untouched : goal.returns-then-is_refused-clause-untouched
 returns-then-is_refused-clause-untouched g c =
-    untouched_if _ c.args.self.now (record c.args.self.now { catalog = c.rename-answer.new.self; failed = c.failed_at-self.result })
-    (λ refused. refused_system c.args.self.now c.rename-answer.new.self _ _ refused c.rename-answer.ensures.changes.untouched c.failed_at-self.ensures
-    c.requires.ready.nothing_failed)
+    (refused_stays g.D.Drive.contents g.D.Drive.count c.args.self.now c.rename-answer.new.self _ _ _ c.is_refused.ensures c.if-is_refused.true
+    c.rename-answer.ensures.changes.untouched c.failed_at-self.ensures c.requires.ready).0
 
 pub returns-then-is_refused-clause-ready : goal.returns-then-is_refused-clause-ready
 returns-then-is_refused-clause-ready g c = λ _.
-    let refused : is_refused c.rename-answer.result ≡ true = sym c.is_refused.ensures ∙ c.if-is_refused.true in
-    subst (IsReady g.D.Drive.contents g.D.Drive.count)
-    (sym (refused_system c.args.self.now c.rename-answer.new.self _ _ refused c.rename-answer.ensures.changes.untouched c.failed_at-self.ensures
-    c.requires.ready.nothing_failed)) c.requires.ready
+    (refused_stays g.D.Drive.contents g.D.Drive.count c.args.self.now c.rename-answer.new.self _ _ _ c.is_refused.ensures c.if-is_refused.true
+    c.rename-answer.ensures.changes.untouched c.failed_at-self.ensures c.requires.ready).1
 
 pub returns-clause-untouched : goal.returns-clause-untouched
 returns-clause-untouched g c =
-    untouched_if _ c.args.self.now _ (λ refused. absurd (let no : true ≡ false = sym refused ∙ (sym c.is_refused.ensures ∙ c.if-is_refused.false) in cc))
+    untouched_else _ _ c.args.self.now _ c.is_refused.ensures c.if-is_refused.false
 
 pub returns-then-is_refused-clause-exact : goal.returns-then-is_refused-clause-exact
 returns-then-is_refused-clause-exact g c =
     closes_files g.D.Drive.contents g.S.Source.left g.T.Sink.taken g.P.Sink.taken g.D.Drive.count g.D.Drive.faults g.met.D.Drive.counted g.met.D.Drive.sized
     c.args.self.now (record c.args.self.now { catalog = c.rename-answer.new.self; failed = c.failed_at-self.result }) c.rename-answer.result
-    (λ n slots. no_renaming (find_file slots c.args.old.now) (find_file slots c.args.new.now)) (slots_changed (file_renamed c.args.new.now) c.args.old.now)
+    (λ n slots. no_renaming (find_file slots c.args.from.now) (find_file slots c.args.to.now)) (slots_changed (file_renamed c.args.to.now) c.args.from.now)
     refl refl refl c.rename-answer.ensures.changes.count_stays
     (inl (sym c.is_refused.ensures ∙ c.if-is_refused.true, (refl, refl))) c.rename-answer.ensures.exact
 
@@ -46,7 +39,7 @@ returns-clause-exact g c =
       found = None;
       buffer = re_v c.leave.new.self c.args.self.now.buffer;
     }) c.rename-answer.result
-    (λ n slots. no_renaming (find_file slots c.args.old.now) (find_file slots c.args.new.now)) (slots_changed (file_renamed c.args.new.now) c.args.old.now)
+    (λ n slots. no_renaming (find_file slots c.args.from.now) (find_file slots c.args.to.now)) (slots_changed (file_renamed c.args.to.now) c.args.from.now)
     refl refl refl c.rename-answer.ensures.changes.count_stays
     (inr (sym c.is_refused.ensures ∙ c.if-is_refused.false, (refl, c.leave.ensures))) c.rename-answer.ensures.exact
 

@@ -1,32 +1,25 @@
-use Rattle.std.proofs.Common.{◌≡◌, ◌∙◌, sym, subst, true, false}
-use Rattle.edi_system.specs.Catalogue.{is_refused}
-use Rattle.edi_system.specs.State.{IsReady}
-use Rattle.edi_system.proofs.Catalogue.{refused_system, untouched_if}
-use Rattle.std.proofs.Common.{inl, inr, refl, length}
+use Rattle.edi_system.proofs.Catalogue.{refused_stays, untouched_else}
+use Rattle.std.proofs.Common.{◌∙◌, inl, inr, refl, sym, None, length}
 use borrow.Rule.Reborrow.{re_v}
 use Rattle.edi_catalog.specs.InSlots.{no_room}
 use Rattle.edi_catalog.specs.Storing.{slots_stored}
 use Rattle.edi_system.proofs.InState.{closes_files}
-use Rattle.std.proofs.Common.{None}
 use Rattle.edi_system.proofs.Lasting.{told_stores}
 use Rattle.edi_system.proofs.system.System.store.Goals as goal
 
 pub returns-then-is_refused-clause-untouched : goal.returns-then-is_refused-clause-untouched
 returns-then-is_refused-clause-untouched g c =
-    untouched_if _ c.args.self.now (record c.args.self.now { catalog = c.store-answer.new.self; failed = c.failed_at-self.result })
-    (λ refused. refused_system c.args.self.now c.store-answer.new.self _ _ refused c.store-answer.ensures.changes.untouched c.failed_at-self.ensures
-    c.requires.ready.nothing_failed)
+    (refused_stays g.D.Drive.contents g.D.Drive.count c.args.self.now c.store-answer.new.self _ _ _ c.is_refused.ensures c.if-is_refused.true
+    c.store-answer.ensures.changes.untouched c.failed_at-self.ensures c.requires.ready).0
 
 pub returns-then-is_refused-clause-ready : goal.returns-then-is_refused-clause-ready
 returns-then-is_refused-clause-ready g c = λ _.
-    let refused : is_refused c.store-answer.result ≡ true = sym c.is_refused.ensures ∙ c.if-is_refused.true in
-    subst (IsReady g.D.Drive.contents g.D.Drive.count)
-    (sym (refused_system c.args.self.now c.store-answer.new.self _ _ refused c.store-answer.ensures.changes.untouched c.failed_at-self.ensures
-    c.requires.ready.nothing_failed)) c.requires.ready
+    (refused_stays g.D.Drive.contents g.D.Drive.count c.args.self.now c.store-answer.new.self _ _ _ c.is_refused.ensures c.if-is_refused.true
+    c.store-answer.ensures.changes.untouched c.failed_at-self.ensures c.requires.ready).1
 
 pub returns-clause-untouched : goal.returns-clause-untouched
 returns-clause-untouched g c =
-    untouched_if _ c.args.self.now _ (λ refused. absurd (let no : true ≡ false = sym refused ∙ (sym c.is_refused.ensures ∙ c.if-is_refused.false) in cc))
+    untouched_else _ _ c.args.self.now _ c.is_refused.ensures c.if-is_refused.false
 
 pub returns-then-is_refused-clause-exact : goal.returns-then-is_refused-clause-exact
 returns-then-is_refused-clause-exact g c =
