@@ -1,4 +1,4 @@
-use Rattle.std.proofs.Common.{◌∙◌, ap, refl, true, false}
+use Rattle.std.proofs.Common.{◌∙◌, ap, refl, true}
 use Rattle.std.specs.Option.{option_map}
 use Rattle.edi_system.specs.State.{found_of}
 use Rattle.edi_system.proofs.Catalogue.{refused_stays, untouched_else}
