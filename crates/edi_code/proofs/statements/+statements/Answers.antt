@@ -122,7 +122,7 @@ emit_guarded-returns-clause-emits t c =
     let target : c.saturating_add.result ≡ c.args.at + clause_length s (plain_clause e body) + c.args.more = omega
     (arith, c.in_ok-list.ensures.behind, c.in_ok-behind.ensures.behind, c.saturating_add.ensures, fits) in
     let start = c.len-jump.ensures ∙ c.emit_value.new.out.ok.0 in
-    let set = c.aim.ensures.exact ∙ ap (λ k. aimed_at c.saturating_add.result k c.emit_acts.new.out.items) place in
+    let set = c.aim.ensures.exact ∙ ap (λ k. aimed_at c.saturating_add.result k c.emit_acts.new.out.items) start in
     let list = aims _ _ _ _ instruction.false_ 29 _ _ (λ k. refl) c.in_ok-put.ensures.emits c.in_ok-behind.ensures.emits set in
     both _ _ _ _ _ _ _ c.in_ok-list.ensures.emits list
     (ap (λ k. instruction.false_ k ∷ acts_code s (c.in_ok-list.list + 3) body) target
