@@ -11,7 +11,7 @@ use Rattle.edi_edit.specs.declared.list.Step.TheVariants.{Remove, Put, Insert}
 use Rattle.circular_buffer.specs.Buffer.{keep_last, last_item}
 use Rattle.edi_edit.specs.declared.list.Step.{Step}
 use Rattle.edi_edit.specs.declared.TheConstants.{ROOM, UNDOS}
-use Rattle.edi_edit.specs.Lines.{size_of, has_feed, HaveNoFeed}
+use Rattle.edi_edit.specs.Lines.{size_of_lines, has_feed, HaveNoFeed}
 use Rattle.edi_edit.proofs.Feeds.{no_feed-insert, no_feed-set, no_feed-remove}
 use Rattle.edi_edit.specs.Editing.{kept, changed, undone, refusal, missing, is_index}
 use Rattle.edi_edit.specs.Steps.{step_back, CanStep, back, earlier, CanGoBack, StepsAreKept}
@@ -37,12 +37,12 @@ length-earlier [] lines = refl
 length-earlier (x ∷ steps) lines = ap (λ n. suc n) (length-earlier steps lines)
 
 can-append : (steps : List Step) (step : Step) (lines : List (List ℕ)) → CanGoBack steps (step_back step lines) → CanStep step lines
-    → size_of (step_back step lines) ≤ ROOM + 1 → HaveNoFeed (step_back step lines) → CanGoBack (steps ++ step ∷ []) lines
+    → size_of_lines (step_back step lines) ≤ ROOM + 1 → HaveNoFeed (step_back step lines) → CanGoBack (steps ++ step ∷ []) lines
 can-append [] step lines can one small whole = (one, small, whole, tt)
 can-append (x ∷ steps) step lines can one small whole =
     let same = sym (back-append steps step lines) in (
       subst (λ (ls : List (List ℕ)). CanStep x ls) same can.0,
-      subst (λ (ls : List (List ℕ)). size_of (step_back x ls) ≤ ROOM + 1) same can.1,
+      subst (λ (ls : List (List ℕ)). size_of_lines (step_back x ls) ≤ ROOM + 1) same can.1,
       subst (λ (ls : List (List ℕ)). HaveNoFeed (step_back x ls)) same can.2,
       can-append steps step lines can.3 one small whole,
     )
@@ -56,7 +56,7 @@ can-drop (suc n) (x ∷ steps) lines can = can-drop n steps lines can.3
 record Last (steps : List Step) (step : Step) (lines : List (List ℕ)) : Type 0 where
   rest : CanGoBack steps (step_back step lines)
   one : CanStep step lines
-  small : size_of (step_back step lines) ≤ ROOM + 1
+  small : size_of_lines (step_back step lines) ≤ ROOM + 1
   whole : HaveNoFeed (step_back step lines)
 
 can_last : (steps : List Step) (step : Step) (lines : List (List ℕ)) → CanGoBack (steps ++ step ∷ []) lines → Last steps step lines
@@ -67,7 +67,7 @@ can_last (x ∷ steps) step lines can =
     record {
       rest = (
         subst (λ (ls : List (List ℕ)). CanStep x ls) same can.0,
-        subst (λ (ls : List (List ℕ)). size_of (step_back x ls) ≤ ROOM + 1) same can.1,
+        subst (λ (ls : List (List ℕ)). size_of_lines (step_back x ls) ≤ ROOM + 1) same can.1,
         subst (λ (ls : List (List ℕ)). HaveNoFeed (step_back x ls)) same can.2,
         last.rest,
       );
@@ -84,7 +84,7 @@ pub record Pushed (steps : List Step) (capacity : ℕ) (old new : List (List ℕ
   pub few : length (earlier (keep_last capacity (steps ++ step ∷ [])) new) ≤ UNDOS
 
 pushed : (steps : List Step) (capacity : ℕ) (old new : List (List ℕ)) (step : Step) → StepsAreKept steps capacity old → step_back step new ≡ old
-    → CanStep step new → size_of new ≤ ROOM + 1 → HaveNoFeed new → Pushed steps capacity old new step
+    → CanStep step new → size_of_lines new ≤ ROOM + 1 → HaveNoFeed new → Pushed steps capacity old new step
 pushed steps capacity old new step h leads one small whole =
     let surplus = length (steps ++ step ∷ []) - capacity in
     let room = h.room in

@@ -3,7 +3,7 @@ use Rattle.std.proofs.Common.{◌≡◌, ℕ, zero, suc, inl, inr, List, [], ◌
 use Rattle.std.proofs.Common.{IfOk}
 use Rattle.std.specs.Prelude.{insert, remove}
 use Rattle.std.proofs.lemmas.Bool.{ne_eqb, cases_eq}
-use Rattle.edi_edit.specs.Lines.{lines_of, bytes_of, with_byte, has_feed, HaveNoFeed}
+use Rattle.edi_edit.specs.Lines.{lines_of, bytes_of_lines, with_byte, has_feed, HaveNoFeed}
 
 pub no_feed-insert : (lines : List (List ℕ)) (i : ℕ) (line : List ℕ) → has_feed line ≡ false → HaveNoFeed lines → HaveNoFeed (insert lines i line)
 no_feed-insert [] zero line one whole = (one, tt)
@@ -44,11 +44,11 @@ first_line (b ∷ line) rest one =
           rw (ne_eqb b 10 other) (ap (with_byte b) (first_line line rest (rw (ne_eqb b 10 other) at one)))
     ]
 
-pub lines_of-bytes_of : (lines : List (List ℕ)) → HaveNoFeed lines → lines_of (bytes_of lines) ≡ lines
+pub lines_of-bytes_of : (lines : List (List ℕ)) → HaveNoFeed lines → lines_of (bytes_of_lines lines) ≡ lines
 lines_of-bytes_of [] whole = refl
-lines_of-bytes_of (line ∷ lines) whole = first_line line (bytes_of lines) whole.0 ∙ ap (λ ls. line ∷ ls) (lines_of-bytes_of lines whole.1)
+lines_of-bytes_of (line ∷ lines) whole = first_line line (bytes_of_lines lines) whole.0 ∙ ap (λ ls. line ∷ ls) (lines_of-bytes_of lines whole.1)
 
-pub read_again : {E : Type 0} → (r : Result (Vec ℕ Global) E) (lines : List (List ℕ)) → HaveNoFeed lines → IfOk r (λ bytes. bytes.items ≡ bytes_of lines)
+pub read_again : {E : Type 0} → (r : Result (Vec ℕ Global) E) (lines : List (List ℕ)) → HaveNoFeed lines → IfOk r (λ bytes. bytes.items ≡ bytes_of_lines lines)
     → IfOk r (λ bytes. lines_of bytes.items ≡ lines)
 read_again (Ok bytes) lines whole is = ap lines_of is ∙ lines_of-bytes_of lines whole
 read_again (Err e) lines whole is = tt

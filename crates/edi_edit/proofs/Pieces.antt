@@ -5,7 +5,7 @@ use Rattle.std.specs.List.{prefix_len}
 use Rattle.std.proofs.lemmas.Bool.{ne_eqb, cases_eq}
 use Rattle.std.proofs.lemmas.List.{map-append}
 use Rattle.std.proofs.lemmas.List.Sums.{sum_by-cons}
-use Rattle.edi_edit.specs.Lines.{lines_of, with_byte, size_of}
+use Rattle.edi_edit.specs.Lines.{lines_of, with_byte, size_of_lines}
 use Rattle.edi_edit.specs.Steps.{plain}
 
 -- the first piece, and the pieces of what follows its line feed
@@ -41,14 +41,14 @@ lines_of_more lines line rest bytes n so_far here some is =
     ∙ so_far
 
 -- the lines have at most one byte more than the text: the line feed of a last piece
-size-cons : (line : List ℕ) (lines : List (List ℕ)) → size_of (line ∷ lines) ≡ length line + 1 + size_of lines
+size-cons : (line : List ℕ) (lines : List (List ℕ)) → size_of_lines (line ∷ lines) ≡ length line + 1 + size_of_lines lines
 size-cons line lines = sum_by-cons (λ l. length l + 1) line lines
 
-grown : (b : ℕ) (lines : List (List ℕ)) (n : ℕ) → size_of lines ≤ n + 1 → size_of (with_byte b lines) ≤ suc n + 1
+grown : (b : ℕ) (lines : List (List ℕ)) (n : ℕ) → size_of_lines lines ≤ n + 1 → size_of_lines (with_byte b lines) ≤ suc n + 1
 grown b [] n small = omega (arith, size-cons (b ∷ []) [])
 grown b (line ∷ lines) n small = omega (arith, size-cons (b ∷ line) lines, size-cons line lines)
 
-pub size-lines_of : (bytes : List ℕ) → size_of (lines_of bytes) ≤ length bytes + 1
+pub size-lines_of : (bytes : List ℕ) → size_of_lines (lines_of bytes) ≤ length bytes + 1
 size-lines_of [] = omega arith
 size-lines_of (b ∷ bytes) =
     elim (cases_eq b 10) [

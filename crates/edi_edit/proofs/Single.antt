@@ -7,7 +7,7 @@ use Rattle.std.proofs.lemmas.Bool.Decides.{leb_tells}
 use Rattle.std.proofs.lemmas.List.Sums.{sum_by-insert, sum_by-set, sum_by-remove, get_or-le-sum_by}
 use Rattle.edi_edit.specs.declared.EditEnd.TheVariants.{NoLine, Full}
 use Rattle.edi_edit.specs.declared.TheConstants.{ROOM}
-use Rattle.edi_edit.specs.Lines.{size_of, line_at}
+use Rattle.edi_edit.specs.Lines.{size_of_lines, line_numbered}
 use Rattle.edi_edit.specs.Editing.{refusal, missing, is_index}
 use Rattle.std.proofs.lemmas.List.{map-set, set-set, set-get_or, length-map, get_or-map}
 use Rattle.edi_edit.specs.Steps.{plain}
@@ -56,24 +56,24 @@ get_line (x ∷ lines) zero line lt is = ap (λ v. Some v.items) is
 get_line (x ∷ lines) (suc i) line lt is = get_line lines i line (omega arith) is
 
 pub line_at_is : {A : Type 0} → (lines : List (Vec ℕ A)) (at i : ℕ) (line : Vec ℕ A) → at ≡ suc i → i < length lines → line ≡ get_or lines i line
-    → Some line.items ≡ line_at (plain lines) at
+    → Some line.items ≡ line_numbered (plain lines) at
 line_at_is lines at i line from lt is = rw from (get_line lines i line lt is)
 
 -- a change that is not refused
-pub accepted : (there : Bool) (lines : List (List ℕ)) → there ≡ true → size_of lines ≤ ROOM → refusal there lines ≡ None
-accepted there lines here small = rw (here, le-leb (size_of lines) ROOM small) refl
+pub accepted : (there : Bool) (lines : List (List ℕ)) → there ≡ true → size_of_lines lines ≤ ROOM → refusal there lines ≡ None
+accepted there lines here small = rw (here, le-leb (size_of_lines lines) ROOM small) refl
 
-pub from_accepted : (there : Bool) (lines : List (List ℕ)) → refusal there lines ≡ None → (there ≡ true) × (size_of lines ≤ ROOM)
+pub from_accepted : (there : Bool) (lines : List (List ℕ)) → refusal there lines ≡ None → (there ≡ true) × (size_of_lines lines ≤ ROOM)
 from_accepted false lines h = let end : Some NoLine ≡ None = h in absurd (cc)
 from_accepted true lines h =
-    elim (leb_tells (size_of lines) ROOM) [
+    elim (leb_tells (size_of_lines lines) ROOM) [
       | inl tells ↦ (refl, tells.1)
-      | inr tells ↦ let end : Some (Full (size_of lines)) ≡ None = rw tells.0 at h in absurd (cc)
+      | inr tells ↦ let end : Some (Full (size_of_lines lines)) ≡ None = rw tells.0 at h in absurd (cc)
     ]
 
-pub too_large : (there : Bool) (lines : List (List ℕ)) (size : ℕ) → there ≡ true → size ≡ size_of lines → ROOM < size → refusal there lines ≡ Some (Full size)
+pub too_large : (there : Bool) (lines : List (List ℕ)) (size : ℕ) → there ≡ true → size ≡ size_of_lines lines → ROOM < size → refusal there lines ≡ Some (Full size)
 too_large there lines size here same large =
-    elim (leb_tells (size_of lines) ROOM) [ inl tells ↦ absurd (omega arith) | inr tells ↦ rw (here, tells.0, same) refl ]
+    elim (leb_tells (size_of_lines lines) ROOM) [ inl tells ↦ absurd (omega arith) | inr tells ↦ rw (here, tells.0, same) refl ]
 
 pub is_index-from : (at most : ℕ) → is_index at most ≡ true → (1 ≤ at) × (at ≤ most)
 is_index-from at most h =
@@ -90,24 +90,24 @@ there-from_missing true h = refl
 there-from_missing false h = let end : Some NoLine ≡ None = h in absurd (cc)
 
 -- the sizes of changed lists
-pub size-insert : (lines : List (List ℕ)) (i : ℕ) (line : List ℕ) → size_of (insert lines i line) ≡ size_of lines + (length line + 1)
+pub size-insert : (lines : List (List ℕ)) (i : ℕ) (line : List ℕ) → size_of_lines (insert lines i line) ≡ size_of_lines lines + (length line + 1)
 size-insert lines i line = sum_by-insert (λ l. length l + 1) lines i line
 
 pub size-set : (lines : List (List ℕ)) (i : ℕ) (line : List ℕ) → i < length lines
-    → size_of (set lines i line) + (length (get_or lines i []) + 1) ≡ size_of lines + (length line + 1)
+    → size_of_lines (set lines i line) + (length (get_or lines i []) + 1) ≡ size_of_lines lines + (length line + 1)
 size-set lines i line lt = sum_by-set (λ l. length l + 1) lines i line [] lt
 
-pub size-remove : (lines : List (List ℕ)) (i : ℕ) → i < length lines → size_of (remove lines i) + (length (get_or lines i []) + 1) ≡ size_of lines
+pub size-remove : (lines : List (List ℕ)) (i : ℕ) → i < length lines → size_of_lines (remove lines i) + (length (get_or lines i []) + 1) ≡ size_of_lines lines
 size-remove lines i lt = sum_by-remove (λ l. length l + 1) lines i [] lt
 
-pub line-le-size : (lines : List (List ℕ)) (i : ℕ) → i < length lines → length (get_or lines i []) + 1 ≤ size_of lines
+pub line-le-size : (lines : List (List ℕ)) (i : ℕ) → i < length lines → length (get_or lines i []) + 1 ≤ size_of_lines lines
 line-le-size lines i lt = get_or-le-sum_by (λ l. length l + 1) lines i [] lt
 
 -- a line put in place of another: it is there, and the size changes by the two lengths
 pub record Replaces (lines after : List (List ℕ)) (at was now : ℕ) : Type 0 where
   pub there : is_index at (length lines) ≡ true
-  pub size : size_of after + was ≡ size_of lines + now
-  pub within : was + 1 ≤ size_of lines
+  pub size : size_of_lines after + was ≡ size_of_lines lines + now
+  pub within : was + 1 ≤ size_of_lines lines
 
 pub replaces : {A B : Type 0} → (lines : Vec (Vec ℕ A) B) (at line_index count : ℕ) (was : Vec ℕ A) (line : List ℕ) → count ≡ lines.len
     → (is_index at count ≡ true) × (line_index + 1 ≡ at) → was ≡ get_or lines.items line_index was
@@ -126,11 +126,11 @@ replaces lines at line_index count was line counts there is =
       within = omega (arith, line-le-size (plain lines.items) (at - 1) lt);
     }
 
-pub replaced : (lines after : List (List ℕ)) (at was now : ℕ) → Replaces lines after at was now → size_of lines - was + now ≤ ROOM
+pub replaced : (lines after : List (List ℕ)) (at was now : ℕ) → Replaces lines after at was now → size_of_lines lines - was + now ≤ ROOM
     → refusal (is_index at (length lines)) after ≡ None
 replaced lines after at was now r small = accepted (is_index at (length lines)) after r.there (omega (arith, r.size, r.within))
 
-pub not_replaced : (lines after : List (List ℕ)) (at was now size : ℕ) → Replaces lines after at was now → size ≡ size_of lines - was + now → ROOM < size
+pub not_replaced : (lines after : List (List ℕ)) (at was now size : ℕ) → Replaces lines after at was now → size ≡ size_of_lines lines - was + now → ROOM < size
     → refusal (is_index at (length lines)) after ≡ Some (Full size)
 not_replaced lines after at was now size r same large =
     too_large (is_index at (length lines)) after size r.there (omega (arith, r.size, r.within)) large

@@ -4,7 +4,7 @@ use Rattle.std.specs.Prelude.{[], ◌∷◌, ◌++◌, length, drop, take, slice
 use Rattle.edi_edit.specs.declared.EditEnd.{EditEnd}
 use Rattle.edi_edit.specs.declared.EditEnd.TheVariants.{NoLine, Full, NoMemory}
 use Rattle.edi_edit.specs.declared.TheConstants.{ROOM, UNDOS}
-use Rattle.edi_edit.specs.Lines.{size_of}
+use Rattle.edi_edit.specs.Lines.{size_of_lines}
 
 -- the text, and the texts before its last changes, the oldest first
 pub record Editing : Type 0 where
@@ -36,7 +36,7 @@ Undoes false old new = (old.earlier ≡ []) × (new ≡ old)
 
 -- why a change is refused, if it is: no such line, or a text that is too large
 abbrev pub refusal : Bool → List (List ℕ) → Option EditEnd
-refusal there lines = if there then (if nat_le (size_of lines) ROOM then None else Some (Full (size_of lines))) else Some NoLine
+refusal there lines = if there then (if nat_le (size_of_lines lines) ROOM then None else Some (Full (size_of_lines lines))) else Some NoLine
 
 -- why a line is not there, if it is not
 abbrev pub missing : Bool → Option EditEnd

@@ -22,15 +22,15 @@ HaveNoFeed [] = Unit {0}
 HaveNoFeed (line ∷ lines) = (has_feed line ≡ false) × HaveNoFeed lines
 
 -- the lines as bytes, each with its line feed
-abbrev pub bytes_of : List (List ℕ) → List ℕ
-bytes_of [] = []
-bytes_of (line ∷ lines) = line ++ 10 ∷ bytes_of lines
+abbrev pub bytes_of_lines : List (List ℕ) → List ℕ
+bytes_of_lines [] = []
+bytes_of_lines (line ∷ lines) = line ++ 10 ∷ bytes_of_lines lines
 
 -- how many bytes these are
-abbrev pub size_of : List (List ℕ) → ℕ
-size_of lines = sum_by (λ line. length line + 1) lines
+abbrev pub size_of_lines : List (List ℕ) → ℕ
+size_of_lines lines = sum_by (λ line. length line + 1) lines
 
 -- the line of that number, counted from 1
-abbrev pub line_at : List (List ℕ) → ℕ → Option (List ℕ)
-line_at lines zero = None
-line_at lines (suc i) = slice_get lines i
+abbrev pub line_numbered : List (List ℕ) → ℕ → Option (List ℕ)
+line_numbered lines zero = None
+line_numbered lines (suc i) = slice_get lines i

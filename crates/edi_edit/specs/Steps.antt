@@ -2,7 +2,7 @@
 use Rattle.std.specs.Prelude.{◌≡◌, ℕ, ◌<◌, ◌≤◌, List, [], ◌∷◌, length, map, insert, remove, slice_set}
 use Rattle.std.specs.Prelude.{Vec, ◌+◌}
 use Rattle.edi_edit.specs.declared.TheConstants.{ROOM, UNDOS}
-use Rattle.edi_edit.specs.Lines.{size_of, HaveNoFeed}
+use Rattle.edi_edit.specs.Lines.{size_of_lines, HaveNoFeed}
 use Rattle.edi_edit.specs.declared.list.Step.{Step}
 use Rattle.edi_edit.specs.declared.list.Step.TheVariants.{Remove, Put, Insert}
 
@@ -36,12 +36,12 @@ earlier (step ∷ steps) lines = back (step ∷ steps) lines ∷ earlier steps l
 abbrev pub CanGoBack : List Step → List (List ℕ) → Type 0
 CanGoBack [] lines = Unit {0}
 CanGoBack (step ∷ steps) lines =
-    CanStep step (back steps lines) × (size_of (back (step ∷ steps) lines) ≤ ROOM + 1) × HaveNoFeed (back (step ∷ steps) lines) × CanGoBack steps lines
+    CanStep step (back steps lines) × (size_of_lines (back (step ∷ steps) lines) ≤ ROOM + 1) × HaveNoFeed (back (step ∷ steps) lines) × CanGoBack steps lines
 
 -- what is kept beside the lines: the steps back, and room for no more than can be undone
 pub record StepsAreKept (steps : List Step) (capacity : ℕ) (lines : List (List ℕ)) : Type 0 where
   pub room : capacity ≡ UNDOS
   pub few : length steps ≤ UNDOS
   pub can : CanGoBack steps lines
-  pub small : size_of lines ≤ ROOM + 1
+  pub small : size_of_lines lines ≤ ROOM + 1
   pub whole : HaveNoFeed lines

@@ -2,7 +2,7 @@
 #![tactic(auto)]
 
 ghost use Rattle.std.specs.Prelude.{◌≡◌, ℕ, ◌+◌, ◌-◌, ◌<◌, ◌≤◌, [], length, insert, remove, slice_set, option_copied, option_map, IfOk, OnErr, false};
-ghost use Rattle.edi_edit.specs.Lines.{lines_of, bytes_of, line_at, has_feed};
+ghost use Rattle.edi_edit.specs.Lines.{lines_of, bytes_of_lines, line_numbered, has_feed};
 ghost use Rattle.edi_edit.specs.Editing.{EndsBy, refusal, missing, is_index, changed, Undoes, UndosGiveTheTextBack};
 
 mod list;
@@ -135,7 +135,7 @@ impl Text {
 
     /// Line `at`, counted from 1; `None` exactly where there is no such line.
     pub fn line(&self, at: u32) -> Option<&[u8]>
-        ensures exact { option_map (λ line. line.now) result ≡ line_at self.now.lines at }
+        ensures exact { option_map (λ line. line.now) result ≡ line_numbered self.now.lines at }
     {
         let index = (at as usize).checked_sub(1)?;
         let line = self.lines.get(index)?;
@@ -144,7 +144,7 @@ impl Text {
 
     /// The whole text, each line with its line feed.
     pub fn bytes(&self, alloc: Global) -> Result<Vec<u8>, AllocError>
-        ensures exact { IfOk result (λ bytes. bytes.items ≡ bytes_of self.now.lines) }
+        ensures exact { IfOk result (λ bytes. bytes.items ≡ bytes_of_lines self.now.lines) }
         // Read again they are the same lines.
         ensures again { IfOk result (λ bytes. lines_of bytes.items ≡ self.now.lines) }
     {

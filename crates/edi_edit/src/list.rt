@@ -3,7 +3,7 @@ ghost use Rattle.std.specs.Prelude.{◌≡◌, ℕ, ◌+◌, ◌-◌, ◌^◌, �
 ghost use Rattle.std.specs.Prelude.{IfOk, OnOk, IfErr, ◌==◌, not};
 ghost use Rattle.std.specs.List.{prefix_len};
 ghost use Rattle.circular_buffer.specs.Buffer.{buffer, keep_last};
-ghost use Rattle.edi_edit.specs.Lines.{lines_of, bytes_of, size_of};
+ghost use Rattle.edi_edit.specs.Lines.{lines_of, bytes_of_lines, size_of_lines};
 ghost use Rattle.edi_edit.specs.Editing.{EndsBy, refusal, missing, is_index};
 ghost use Rattle.edi_edit.specs.Steps.{plain, step_back, CanStep};
 
@@ -54,7 +54,7 @@ fn after_first(bytes: &[u8]) -> &[u8]
 
 /// The lines, each with its line feed.
 pub(crate) fn join_lines(alloc: Global, lines: &[Vec<u8>]) -> Result<Vec<u8>, AllocError>
-    ensures exact { IfOk result (λ bytes. bytes.items ≡ bytes_of (plain lines.now)) }
+    ensures exact { IfOk result (λ bytes. bytes.items ≡ bytes_of_lines (plain lines.now)) }
 {
     let mut bytes = Vec::new(alloc);
     for line in lines {
@@ -66,8 +66,8 @@ pub(crate) fn join_lines(alloc: Global, lines: &[Vec<u8>]) -> Result<Vec<u8>, Al
 
 // How many bytes the lines are, each with its line feed.
 fn size(lines: &[Vec<u8>]) -> u32
-    requires { size_of (plain lines.now) < 2 ^ 32 }
-    ensures exact { result ≡ size_of (plain lines.now) }
+    requires { size_of_lines (plain lines.now) < 2 ^ 32 }
+    ensures exact { result ≡ size_of_lines (plain lines.now) }
 {
     let mut size = 0;
     for line in lines {
@@ -95,7 +95,7 @@ pub(crate) fn insert_line(
     at: u32,
     line: &[u8],
 ) -> Result<(), EditEnd>
-    requires small { size_of (plain lines.old.items) ≤ ROOM + 1 }
+    requires small { size_of_lines (plain lines.old.items) ≤ ROOM + 1 }
     requires short { length line.now ≤ ROOM + 1 }
     ensures exact { let after = insert (plain lines.old.items) (at - 1) line.now in
         EndsBy result (refusal (is_index at (length (plain lines.old.items) + 1)) after)
@@ -122,7 +122,7 @@ pub(crate) fn replace_line(
     at: u32,
     line: &[u8],
 ) -> Result<Vec<u8>, EditEnd>
-    requires small { size_of (plain lines.old.items) ≤ ROOM + 1 }
+    requires small { size_of_lines (plain lines.old.items) ≤ ROOM + 1 }
     requires short { length line.now ≤ ROOM + 1 }
     ensures exact { let after = slice_set (plain lines.old.items) (at - 1) line.now in
         EndsBy result (refusal (is_index at (length (plain lines.old.items))) after)

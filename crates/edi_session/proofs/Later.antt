@@ -9,7 +9,7 @@ use Rattle.edi_session.specs.Files.{why_line, answered, with_file}
 use Rattle.edi_session.specs.Texts.{about, line_end}
 use Rattle.edi_session.specs.Session.{behind, ends_with}
 use Rattle.edi_session.specs.Shell.{Shell, Taken, took, ended, limited, shell_of, limit, shown_by, shown_in, printed_by, on_fresh_line, says, took_byte}
-use Rattle.edi_session.specs.Shell.{echoed, last_line, take_line, take_text, is_end, text_with, line_with}
+use Rattle.edi_session.specs.Shell.{echoed, last_line, take_line, take_text, ends_text, text_with, line_with}
 
 -- one shell comes behind another
 abbrev pub Later : Shell → Shell → Type 0
@@ -94,9 +94,9 @@ take_line_on echo (b ∷ input) line s =
 
 pub take_text_on : (input text line : List ℕ) (s : Shell) → Later s (shell_of (take_text input text line s))
 take_text_on [] text line s =
-    one_on (nat_le limit s.taken) s (limited s) _ (λ m h. h) (one_on (is_end line) s (took text s) (ended s) (λ m h. h) (λ m h. h))
+    one_on (nat_le limit s.taken) s (limited s) _ (λ m h. h) (one_on (ends_text line) s (took text s) (ended s) (λ m h. h) (λ m h. h))
 take_text_on (b ∷ input) text line s =
     one_on (nat_le limit s.taken) s (limited s) _ (λ m h. h)
-    (one_on (b == 10 && is_end line) s (took text (took_byte input s)) (take_text input (text_with b text line) (line_with b line) (took_byte input s))
+    (one_on (b == 10 && ends_text line) s (took text (took_byte input s)) (take_text input (text_with b text line) (line_with b line) (took_byte input s))
     (λ m h. took_on input s m h)
     (λ m h. take_text_on input (text_with b text line) (line_with b line) (took_byte input s) m (took_on input s m h)))

@@ -19,8 +19,8 @@ use Rattle.edi_session.specs.declared.line.EditLine.{EditLine}
 use Rattle.edi_session.specs.declared.line.EditLine.TheVariants as edit
 use Rattle.edi_session.specs.declared.end.SessionEnd.TheVariants.{Halted, InputEnd, Limit}
 use Rattle.edi_session.specs.Files.{file_in, with_text, copies_to}
-use Rattle.edi_session.specs.Session.{Next, goes, closes, leaves, says_no_memory, edit_refusal, shell_in, Taking, Acts, ActsOn, CompilesFile, ExecutesFile}
-use Rattle.edi_session.specs.Session.{EditsFile, EditsBy, EditsLine, ChangesLine, Inserts, Replaces, Undoes, StoresText, Goes, GoesIn, prompted, looked_at}
+use Rattle.edi_session.specs.Session.{AfterLine, goes, closes, leaves, says_no_memory, edit_refusal, shell_in, BehindTaken, ActsBy, ActsOn, CompilesFile, ExecutesFile}
+use Rattle.edi_session.specs.Session.{EditsFile, EditsBy, EditsLine, ChangesLine, Inserts, Replaces, TakesBack, StoresText, Goes, GoesIn, prompted, looked_at}
 use Rattle.edi_session.specs.Session.{edits_on}
 use Rattle.edi_session.specs.Shell.{Shell, Mode, commanding, editing, state_in, Taken, took, ended, limited, shell_of, shown_by, printed_by, on_fresh_line}
 use Rattle.edi_session.specs.Shell.{says, next_line, next_text}
@@ -29,8 +29,8 @@ use Rattle.edi_session.specs.Texts.{about, catalogue_text}
 use Rattle.edi_session.proofs.Later.{Later, shown_on, says_on, fresh_on, printed_on, answered_on, with_file_on, if_on, take_line_on, take_text_on}
 
 -- a line comes to something behind this shell
-abbrev pub Comes : (Shell → Next → Type 0) → Shell → Type 0
-Comes Row s = (next : Next) × Row s next × Later s (shell_in next)
+abbrev pub Comes : (Shell → AfterLine → Type 0) → Shell → Type 0
+Comes Row s = (next : AfterLine) × Row s next × Later s (shell_in next)
 
 no_memory_on : (s : Shell) → Later s (says (codes "no memory") s)
 no_memory_on s = says_on (codes "no memory") s
@@ -64,8 +64,8 @@ edits f None s = (goes (says_no_memory s), inr refl, no_memory_on s)
 edits f (Some file) s = edits_kind file.kind f file.bytes s
 
 -- what comes behind lines that were asked for
-taking : (taken : Taken) (P : List ℕ → Shell → Next → Type 0) (s : Shell) → Later s (shell_of taken) → ((bytes : List ℕ) (t : Shell) → Comes (P bytes) t)
-    → (next : Next) × Taking taken P next × Later s (shell_in next)
+taking : (taken : Taken) (P : List ℕ → Shell → AfterLine → Type 0) (s : Shell) → Later s (shell_of taken) → ((bytes : List ℕ) (t : Shell) → Comes (P bytes) t)
+    → (next : AfterLine) × BehindTaken taken P next × Later s (shell_in next)
 taking (took bytes t) P s later on = let n = on bytes t in (n.0, n.1, λ m h. n.2 m (later m h))
 taking (ended t) P s later on = (closes InputEnd t, refl, λ m h. fresh_on t m (later m h))
 taking (limited t) P s later on = (closes Limit t, refl, λ m h. fresh_on t m (later m h))
@@ -85,7 +85,7 @@ looked_on : (n : ℕ) (text : Option (List ℕ)) (s : Shell) → Later s (looked
 looked_on n None s = says_on (edit_refusal n edit_end.NoLine) s
 looked_on n (Some text) s = says_on text s
 
-undoes : (title : List ℕ) (earlier : List (List (List ℕ))) (e : Editing) (s : Shell) → Comes (Undoes title earlier e) s
+undoes : (title : List ℕ) (earlier : List (List (List ℕ))) (e : Editing) (s : Shell) → Comes (TakesBack title earlier e) s
 undoes title [] e s = (_, refl, says_on (codes "no undo") s)
 undoes title (text ∷ texts) e s = (edits_on title e (says_no_memory s), inr refl, no_memory_on s)
 
@@ -99,7 +99,7 @@ edits_by (edit.Replace n) title e s =
     (λ text t. let after = slice_set e.lines (n - 1) (kept_line text) in
     changes_line (refusal (is_index n (length e.lines)) after) n title e (changed e after) t)
 edits_by (edit.Delete n) title e s = changes_line (missing (is_index n (length e.lines))) n title e (changed e (remove e.lines (n - 1))) s
-edits_by (edit.Look n) title e s = (edits_on title e (looked_at n (lines.line_at e.lines n) s), refl, looked_on n (lines.line_at e.lines n) s)
+edits_by (edit.Look n) title e s = (edits_on title e (looked_at n (lines.line_numbered e.lines n) s), refl, looked_on n (lines.line_numbered e.lines n) s)
 edits_by edit.Undo title e s = undoes title e.earlier e s
 edits_by edit.Write title e s = (edits_on title e (says_no_memory s), inr refl, no_memory_on s)
 edits_by edit.Quit title e s = (leaves s, refl, λ m h. h)
@@ -111,7 +111,7 @@ edits_line title e text s = edits_by (edit_line (kept_line text)) title e s
 -- ---- the commands
 
 module _ (bound : ℕ) (choices : Choices) where
-  pub acts : (l : Line) (s : Shell) → Comes (Acts bound choices l) s
+  pub acts : (l : Line) (s : Shell) → Comes (ActsBy bound choices l) s
   acts line.Blank s = (goes s, refl, λ m h. h)
   acts line.Bad s = (_, refl, says_on (codes "bad command") s)
   acts line.Catalogue s = (_, refl, shown_on (catalogue_text (state_in s)) s)

@@ -40,23 +40,23 @@ use Rattle.edi_session.specs.Texts.{on_line, about, with_number, catalogue_text,
 use Rattle.edi_session.specs.Words.{command_line, edit_line, kept_line}
 
 -- what a line comes to: the session goes on, or stops at one of the first three ends
-pub data Next : Type 0 where
-  goes : Shell → Next
-  stops : SessionEnd → Shell → Next
+pub data AfterLine : Type 0 where
+  goes : Shell → AfterLine
+  stops : SessionEnd → Shell → AfterLine
 
 -- at the session's end the fresh-line rule is applied
-abbrev pub closes : SessionEnd → Shell → Next
+abbrev pub closes : SessionEnd → Shell → AfterLine
 closes end s = stops end (on_fresh_line s)
 
-abbrev pub shell_in : Next → Shell
+abbrev pub shell_in : AfterLine → Shell
 shell_in (goes s) = s
 shell_in (stops end s) = s
 
 -- what comes behind lines that were asked for
-abbrev pub Taking : Taken → (List ℕ → Shell → Next → Type 0) → Next → Type 0
-Taking (took bytes s) P next = P bytes s next
-Taking (ended s) P next = next ≡ closes InputEnd s
-Taking (limited s) P next = next ≡ closes Limit s
+abbrev pub BehindTaken : Taken → (List ℕ → Shell → AfterLine → Type 0) → AfterLine → Type 0
+BehindTaken (took bytes s) P next = P bytes s next
+BehindTaken (ended s) P next = next ≡ closes InputEnd s
+BehindTaken (limited s) P next = next ≡ closes Limit s
 
 abbrev pub says_no_memory : Shell → Shell
 says_no_memory s = says (codes "no memory") s
@@ -69,17 +69,17 @@ stores_code g bytes s =
     if nat_lt most_bytes (length bytes) then says (with_number (codes "code too large") (length bytes)) s
     else stores g file_kind.Code bytes s
 
-abbrev pub CompilesText : (text g : List ℕ) → Shell → Next → Type 0
+abbrev pub CompilesText : (text g : List ℕ) → Shell → AfterLine → Type 0
 CompilesText text g s next =
     ((kind : RefusalKind) × (n : ℕ) × IsRefused text kind n × (next ≡ goes (says (on_line n (kind_text kind)) s)))
     ⊎ (((code : CodeParts) × IsCodeFor text code × (next ≡ goes (stores_code g (code_bytes code) s)))
     ⊎ (next ≡ goes (says_no_memory s)))
 
-abbrev pub CompilesKind : FileKind → (f g bytes : List ℕ) → Shell → Next → Type 0
+abbrev pub CompilesKind : FileKind → (f g bytes : List ℕ) → Shell → AfterLine → Type 0
 CompilesKind file_kind.Text f g bytes s next = CompilesText bytes g s next
 CompilesKind file_kind.Code f g bytes s next = next ≡ goes (says (about (codes "not text") f) s)
 
-abbrev pub CompilesFile : (f g : List ℕ) → Option File → Shell → Next → Type 0
+abbrev pub CompilesFile : (f g : List ℕ) → Option File → Shell → AfterLine → Type 0
 CompilesFile f g None s next = next ≡ goes (says (about (codes "no file") f) s)
 CompilesFile f g (Some file) s next = CompilesKind file.kind f g file.bytes s next
 
@@ -96,7 +96,7 @@ behind after past drawn s = record s { system = executed after past s.system; dr
 
 module _ (bound : ℕ) (choices : Choices) where
   -- The machine runs the code from the state with no file open, with the bound anew. The choices go on behind those drawn so far.
-  pub record ExecutesCode (f : List ℕ) (code : CodeParts) (s : Shell) (next : Next) : Type 0 where
+  pub record ExecutesCode (f : List ℕ) (code : CodeParts) (s : Shell) (next : AfterLine) : Type 0 where
     pub ending : Ending
     pub machine : Machine
     pub drawn : ℕ
@@ -105,36 +105,36 @@ module _ (bound : ℕ) (choices : Choices) where
     pub next_is : next ≡ goes (ends_with (ending_line f ending) (behind machine.system past drawn s))
 
   -- what stands in a code file: a fault, or a code
-  abbrev pub ExecutesBytes : (f bytes : List ℕ) → Option CodeFault → Shell → Next → Type 0
+  abbrev pub ExecutesBytes : (f bytes : List ℕ) → Option CodeFault → Shell → AfterLine → Type 0
   ExecutesBytes f bytes (Some fault) s next = next ≡ goes (says (about (codes "bad code") f) s)
   ExecutesBytes f bytes None s next = ExecutesCode f (code_of bytes) s next
 
-  abbrev pub ExecutesKind : FileKind → (f bytes : List ℕ) → Shell → Next → Type 0
+  abbrev pub ExecutesKind : FileKind → (f bytes : List ℕ) → Shell → AfterLine → Type 0
   ExecutesKind file_kind.Text f bytes s next = next ≡ goes (says (about (codes "not code") f) s)
   ExecutesKind file_kind.Code f bytes s next = ExecutesBytes f bytes (code_fault_of bytes) s next ⊎ (next ≡ goes (says_no_memory s))
 
-  abbrev pub ExecutesFile : (f : List ℕ) → Option File → Shell → Next → Type 0
+  abbrev pub ExecutesFile : (f : List ℕ) → Option File → Shell → AfterLine → Type 0
   ExecutesFile f None s next = next ≡ goes (says (about (codes "no file") f) s)
   ExecutesFile f (Some file) s next = ExecutesKind file.kind f file.bytes s next
 
 -- ---- `edit f`
 
 -- the editing goes on, or is left
-abbrev pub edits_on : (title : List ℕ) → Editing → Shell → Next
+abbrev pub edits_on : (title : List ℕ) → Editing → Shell → AfterLine
 edits_on title e s = goes (record s { mode = editing title e })
 
-abbrev pub leaves : Shell → Next
+abbrev pub leaves : Shell → AfterLine
 leaves s = goes (record s { mode = commanding })
 
 -- it begins with these lines, and nothing to undo
-abbrev pub BeginsEditing : (f : List ℕ) → List (List ℕ) → Shell → Next → Type 0
+abbrev pub BeginsEditing : (f : List ℕ) → List (List ℕ) → Shell → AfterLine → Type 0
 BeginsEditing f text s next = (next ≡ edits_on f (record { lines = text; earlier = [] }) s) ⊎ (next ≡ goes (says_no_memory s))
 
-abbrev pub EditsKind : FileKind → (f bytes : List ℕ) → Shell → Next → Type 0
+abbrev pub EditsKind : FileKind → (f bytes : List ℕ) → Shell → AfterLine → Type 0
 EditsKind file_kind.Text f bytes s next = BeginsEditing f (lines.lines_of bytes) s next
 EditsKind file_kind.Code f bytes s next = next ≡ goes (says (about (codes "not text") f) s)
 
-abbrev pub EditsFile : (f : List ℕ) → Option File → Shell → Next → Type 0
+abbrev pub EditsFile : (f : List ℕ) → Option File → Shell → AfterLine → Type 0
 EditsFile f None s next = BeginsEditing f [] s next
 EditsFile f (Some file) s next = EditsKind file.kind f file.bytes s next
 
@@ -145,92 +145,92 @@ edit_refusal n (edit_end.Full size) = with_number (codes "text full") size
 edit_refusal n edit_end.NoMemory = codes "no memory"
 
 -- a change of line n, which is refused, or made, or wants memory
-abbrev pub ChangesLine : Option EditEnd → (n : ℕ) → (title : List ℕ) → (before after : Editing) → Shell → Next → Type 0
+abbrev pub ChangesLine : Option EditEnd → (n : ℕ) → (title : List ℕ) → (before after : Editing) → Shell → AfterLine → Type 0
 ChangesLine (Some why) n title before after s next = next ≡ edits_on title before (says (edit_refusal n why) s)
 ChangesLine None n title before after s next = (next ≡ edits_on title after s) ⊎ (next ≡ edits_on title before (says_no_memory s))
 
-abbrev pub Inserts : (n : ℕ) → (title : List ℕ) → Editing → List ℕ → Shell → Next → Type 0
+abbrev pub Inserts : (n : ℕ) → (title : List ℕ) → Editing → List ℕ → Shell → AfterLine → Type 0
 Inserts n title e text s next =
     let after = insert e.lines (n - 1) (kept_line text) in
     ChangesLine (refusal (is_index n (length e.lines + 1)) after) n title e (changed e after) s next
 
-abbrev pub Replaces : (n : ℕ) → (title : List ℕ) → Editing → List ℕ → Shell → Next → Type 0
+abbrev pub Replaces : (n : ℕ) → (title : List ℕ) → Editing → List ℕ → Shell → AfterLine → Type 0
 Replaces n title e text s next =
     let after = slice_set e.lines (n - 1) (kept_line text) in
     ChangesLine (refusal (is_index n (length e.lines)) after) n title e (changed e after) s next
 
-abbrev pub Deletes : (n : ℕ) → (title : List ℕ) → Editing → Shell → Next → Type 0
+abbrev pub Deletes : (n : ℕ) → (title : List ℕ) → Editing → Shell → AfterLine → Type 0
 Deletes n title e s next = ChangesLine (missing (is_index n (length e.lines))) n title e (changed e (remove e.lines (n - 1))) s next
 
-abbrev pub Undoes : (title : List ℕ) → (earlier : List (List (List ℕ))) → Editing → Shell → Next → Type 0
-Undoes title [] e s next = next ≡ edits_on title e (says (codes "no undo") s)
-Undoes title (text ∷ texts) e s next = (next ≡ edits_on title (undone e) s) ⊎ (next ≡ edits_on title e (says_no_memory s))
+abbrev pub TakesBack : (title : List ℕ) → (earlier : List (List (List ℕ))) → Editing → Shell → AfterLine → Type 0
+TakesBack title [] e s next = next ≡ edits_on title e (says (codes "no undo") s)
+TakesBack title (text ∷ texts) e s next = (next ≡ edits_on title (undone e) s) ⊎ (next ≡ edits_on title e (says_no_memory s))
 
 abbrev pub looked_at : (n : ℕ) → Option (List ℕ) → Shell → Shell
 looked_at n None s = says (edit_refusal n edit_end.NoLine) s
 looked_at n (Some text) s = says text s
 
 -- the text is stored and the editing left, unless the store is refused
-abbrev pub written : Option CatEnd → (title : List ℕ) → Editing → Shell → Next
-written (Some why) title e s = edits_on title e (says (why_line title title why) s)
-written None title e s = leaves (stores title file_kind.Text (lines.bytes_of e.lines) s)
+abbrev pub written_back : Option CatEnd → (title : List ℕ) → Editing → Shell → AfterLine
+written_back (Some why) title e s = edits_on title e (says (why_line title title why) s)
+written_back None title e s = leaves (stores title file_kind.Text (lines.bytes_of_lines e.lines) s)
 
-abbrev pub Writes : (title : List ℕ) → Editing → Shell → Next → Type 0
+abbrev pub Writes : (title : List ℕ) → Editing → Shell → AfterLine → Type 0
 Writes title e s next =
-    (next ≡ written (no_room title (lines.size_of e.lines) (free (state_in s)) (state_in s).slots) title e s)
+    (next ≡ written_back (no_room title (lines.size_of_lines e.lines) (free (state_in s)) (state_in s).slots) title e s)
     ⊎ (next ≡ edits_on title e (says_no_memory s))
 
 -- THE LINES OF AN EDITING
-abbrev pub EditsBy : EditLine → (title : List ℕ) → Editing → Shell → Next → Type 0
-EditsBy (edit.Insert n) title e s next = Taking (next_line false s) (Inserts n title e) next
-EditsBy (edit.Replace n) title e s next = Taking (next_line false s) (Replaces n title e) next
+abbrev pub EditsBy : EditLine → (title : List ℕ) → Editing → Shell → AfterLine → Type 0
+EditsBy (edit.Insert n) title e s next = BehindTaken (next_line false s) (Inserts n title e) next
+EditsBy (edit.Replace n) title e s next = BehindTaken (next_line false s) (Replaces n title e) next
 EditsBy (edit.Delete n) title e s next = Deletes n title e s next
-EditsBy (edit.Look n) title e s next = next ≡ edits_on title e (looked_at n (lines.line_at e.lines n) s)
-EditsBy edit.Undo title e s next = Undoes title e.earlier e s next
+EditsBy (edit.Look n) title e s next = next ≡ edits_on title e (looked_at n (lines.line_numbered e.lines n) s)
+EditsBy edit.Undo title e s next = TakesBack title e.earlier e s next
 EditsBy edit.Write title e s next = Writes title e s next
 EditsBy edit.Quit title e s next = next ≡ leaves s
 EditsBy edit.Bad title e s next = next ≡ edits_on title e (says (codes "bad edit") s)
 
-abbrev pub EditsLine : (title : List ℕ) → Editing → List ℕ → Shell → Next → Type 0
+abbrev pub EditsLine : (title : List ℕ) → Editing → List ℕ → Shell → AfterLine → Type 0
 EditsLine title e text s next = EditsBy (edit_line (kept_line text)) title e s next
 
 -- ---- the commands
 
-abbrev pub StoresText : (f text : List ℕ) → Shell → Next → Type 0
+abbrev pub StoresText : (f text : List ℕ) → Shell → AfterLine → Type 0
 StoresText f text s next = next ≡ goes (stores f file_kind.Text text s)
 
 module _ (bound : ℕ) (choices : Choices) where
   -- THE TABLE OF COMMANDS
-  abbrev pub Acts : Line → Shell → Next → Type 0
-  Acts line.Blank s next = next ≡ goes s
-  Acts line.Bad s next = next ≡ goes (says (codes "bad command") s)
-  Acts line.Catalogue s next = next ≡ goes (shown_by (catalogue_text (state_in s)) s)
-  Acts (line.Show f) s next = next ≡ goes (with_file (file_in s f) f (with_text f (λ bytes s. on_fresh_line (shown_by bytes s))) s)
-  Acts (line.Print f) s next = next ≡ goes (with_file (file_in s f) f (with_text f printed_by) s)
-  Acts (line.Enter f) s next = Taking (next_text s) (StoresText f) next
-  Acts (line.Copy f g) s next = next ≡ goes (with_file (file_in s f) f (copies_to g) s)
-  Acts (line.Rename f g) s next = next ≡ goes (renames f g s)
-  Acts (line.Delete f) s next = next ≡ goes (deletes f s)
-  Acts (line.Protect f) s next = next ≡ goes (protects true f s)
-  Acts (line.Release f) s next = next ≡ goes (protects false f s)
-  Acts (line.Compile f g) s next = CompilesFile f g (file_in s f) s next
-  Acts (line.Edit f) s next = EditsFile f (file_in s f) s next
-  Acts line.Halt s next = next ≡ closes Halted s
-  Acts (line.Execute f) s next = ExecutesFile bound choices f (file_in s f) s next
+  abbrev pub ActsBy : Line → Shell → AfterLine → Type 0
+  ActsBy line.Blank s next = next ≡ goes s
+  ActsBy line.Bad s next = next ≡ goes (says (codes "bad command") s)
+  ActsBy line.Catalogue s next = next ≡ goes (shown_by (catalogue_text (state_in s)) s)
+  ActsBy (line.Show f) s next = next ≡ goes (with_file (file_in s f) f (with_text f (λ bytes s. on_fresh_line (shown_by bytes s))) s)
+  ActsBy (line.Print f) s next = next ≡ goes (with_file (file_in s f) f (with_text f printed_by) s)
+  ActsBy (line.Enter f) s next = BehindTaken (next_text s) (StoresText f) next
+  ActsBy (line.Copy f g) s next = next ≡ goes (with_file (file_in s f) f (copies_to g) s)
+  ActsBy (line.Rename f g) s next = next ≡ goes (renames f g s)
+  ActsBy (line.Delete f) s next = next ≡ goes (deletes f s)
+  ActsBy (line.Protect f) s next = next ≡ goes (protects true f s)
+  ActsBy (line.Release f) s next = next ≡ goes (protects false f s)
+  ActsBy (line.Compile f g) s next = CompilesFile f g (file_in s f) s next
+  ActsBy (line.Edit f) s next = EditsFile f (file_in s f) s next
+  ActsBy line.Halt s next = next ≡ closes Halted s
+  ActsBy (line.Execute f) s next = ExecutesFile bound choices f (file_in s f) s next
 
-  abbrev pub ActsOn : List ℕ → Shell → Next → Type 0
-  ActsOn bytes s next = Acts (command_line bytes) s next
+  abbrev pub ActsOn : List ℕ → Shell → AfterLine → Type 0
+  ActsOn bytes s next = ActsBy (command_line bytes) s next
 
   -- before a command line the fresh-line rule is applied and `> ` is shown
   abbrev pub prompted : Shell → Shell
   prompted s = shown_by (codes "> ") (on_fresh_line s)
 
   -- what is done with the next line
-  abbrev pub GoesIn : Mode → Shell → Next → Type 0
-  GoesIn commanding s next = Taking (next_line true (prompted s)) ActsOn next
-  GoesIn (editing title e) s next = Taking (next_line false s) (EditsLine title e) next
+  abbrev pub GoesIn : Mode → Shell → AfterLine → Type 0
+  GoesIn commanding s next = BehindTaken (next_line true (prompted s)) ActsOn next
+  GoesIn (editing title e) s next = BehindTaken (next_line false s) (EditsLine title e) next
 
-  abbrev pub Goes : Shell → Next → Type 0
+  abbrev pub Goes : Shell → AfterLine → Type 0
   Goes s next = GoesIn s.mode s next
 
   -- so many lines on
@@ -250,6 +250,6 @@ module _ (bound : ℕ) (choices : Choices) where
     pub lines_ : ℕ
     pub last : Shell
     pub comes : ComesTo lines_ s last
-    pub next : Next
+    pub next : AfterLine
     pub goes_ : Goes last next
     pub there : Contains (states_of (shell_in next).system) moment

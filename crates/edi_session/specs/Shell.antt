@@ -93,8 +93,8 @@ abbrev pub next_line : Bool → Shell → Taken
 next_line echo s = take_line echo (state_in s).input [] s
 
 -- the line that ends a text which is entered: `.`
-abbrev pub is_end : List ℕ → Bool
-is_end line = bytes_eq line (46 ∷ [])
+abbrev pub ends_text : List ℕ → Bool
+ends_text line = bytes_eq line (46 ∷ [])
 
 -- the text and the line with one more byte: a line feed ends the line, which then stands in the text
 abbrev pub text_with : ℕ → (text line : List ℕ) → List ℕ
@@ -106,10 +106,10 @@ line_with b line = if b == 10 then [] else line ++ b ∷ []
 -- lines up to the one that ends the text, each but that one with its line feed
 abbrev pub take_text : (input text line : List ℕ) → Shell → Taken
 take_text [] text line s =
-    if nat_le limit s.taken then limited s else (if is_end line then took text s else ended s)
+    if nat_le limit s.taken then limited s else (if ends_text line then took text s else ended s)
 take_text (b ∷ input) text line s =
     if nat_le limit s.taken then limited s
-    else (if b == 10 && is_end line then took text (took_byte input s)
+    else (if b == 10 && ends_text line then took text (took_byte input s)
     else take_text input (text_with b text line) (line_with b line) (took_byte input s))
 
 abbrev pub next_text : Shell → Taken

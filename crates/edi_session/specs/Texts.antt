@@ -1,54 +1,19 @@
--- Definition. Texts that the shell shows: what a cause and an ending are called, where a line begins, and the lines of the shell.
-use Rattle.std.specs.Prelude.{ℕ, ◌-◌, ◌==◌, Bool, true, false, if◌then◌else◌, List, [], ◌∷◌, ◌++◌, length, replicate, Option, Some, None, codes}
+-- Definition. Texts that the shell shows: the line of an ending, and the other lines of the shell.
+use Rattle.std.specs.Prelude.{ℕ, ◌-◌, Bool, true, false, List, [], ◌∷◌, ◌++◌, length, replicate, Option, Some, None, codes}
 use Rattle.std.specs.Fmt.{decimal}
-use Rattle.edi_calls.specs.declared.kinds.Cause.{Cause}
 use Rattle.edi_calls.specs.declared.kinds.Cause.TheVariants as cause
 use Rattle.edi_calls.specs.declared.kinds.FileKind.{FileKind}
 use Rattle.edi_calls.specs.declared.kinds.FileKind.TheVariants as file_kind
 use Rattle.edi_calls.specs.Outcome as outcome
 use Rattle.edi_calls.specs.Outcome.{Ending}
 use Rattle.edi_calls.specs.State.{File, State, free}
-
--- ---- causes
-
-abbrev pub cause_text : Cause → List ℕ
-cause_text cause.Range = codes "range"
-cause_text cause.VariableLimit = codes "variable limit"
-cause_text cause.ProcessLimit = codes "process limit"
-cause_text cause.Held = codes "held"
-cause_text cause.NoFile = codes "no file"
-cause_text cause.FileLimit = codes "file limit"
-cause_text cause.Halt = codes "halt"
-
--- ---- where a line begins
-
--- the last of the bytes, if there is one
-abbrev pub last_of : List ℕ → Option ℕ
-last_of [] = None
-last_of (b ∷ []) = Some b
-last_of (b ∷ c ∷ more) = last_of (c ∷ more)
-
-abbrev pub feed_behind : Option ℕ → List ℕ
-feed_behind None = []
-feed_behind (Some b) = if b == 10 then [] else 10 ∷ []
-
--- THE FRESH-LINE RULE: behind shown bytes that do not end with a line feed one is shown
-abbrev pub line_end : List ℕ → List ℕ
-line_end shown = feed_behind (last_of shown)
+pub use Rattle.edi_texts.specs.Lines.{cause_text, on_line, with_number, last_of, is_due_behind, feed, line_end}
 
 -- ---- lines, without their line feeds
 
 -- `TEXT TITLE`, as `no file f`
 abbrev pub about : List ℕ → (title : List ℕ) → List ℕ
 about text title = text ++ (codes " " ++ title)
-
--- `TEXT N`, as `file too large N`
-abbrev pub with_number : List ℕ → ℕ → List ℕ
-with_number text n = text ++ (codes " " ++ decimal n)
-
--- `line N TEXT`
-abbrev pub on_line : ℕ → List ℕ → List ℕ
-on_line n text = codes "line " ++ (decimal n ++ (codes " " ++ text))
 
 -- `disk full W F`
 abbrev pub disk_full : (wanted free : ℕ) → List ℕ

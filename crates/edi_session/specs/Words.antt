@@ -12,18 +12,18 @@ use Rattle.edi_session.specs.declared.line.EditLine.TheVariants as edit
 -- ---- command lines
 
 -- a blank, a tab or a carriage return
-abbrev pub is_separator : ℕ → Bool
-is_separator b = b == 32 || b == 9 || b == 13
+abbrev pub is_gap : ℕ → Bool
+is_gap b = b == 32 || b == 9 || b == 13
 
 abbrev pub is_line_byte : ℕ → Bool
-is_line_byte b = is_separator b || (nat_le 33 b && nat_le b 126)
+is_line_byte b = is_gap b || (nat_le 33 b && nat_le b 126)
 
 abbrev pub is_word : List ℕ → Bool
 is_word [] = false
 is_word (b ∷ bytes) = true
 
-abbrev pub words_of : List ℕ → List (List ℕ)
-words_of line = filter is_word (slice_split is_separator line)
+abbrev pub words_in : List ℕ → List (List ℕ)
+words_in line = filter is_word (slice_split is_gap line)
 
 -- operands are titles, as many as the command has
 abbrev pub none_of : List (List ℕ) → Line → Line
@@ -50,8 +50,8 @@ line_of_more word operands =
     else (if is_title word then none_of operands (line.Execute word) else line.Bad))))))
 
 -- the command of a first word with these operands
-abbrev pub line_of : List ℕ → List (List ℕ) → Line
-line_of word operands =
+abbrev pub line_of_word : List ℕ → List (List ℕ) → Line
+line_of_word word operands =
     if bytes_eq word (codes "list") then none_of operands line.Catalogue
     else (if bytes_eq word (codes "type") then one_of operands line.Show
     else (if bytes_eq word (codes "print") then one_of operands line.Print
@@ -62,11 +62,11 @@ line_of word operands =
 
 abbrev pub line_of_words : List (List ℕ) → Line
 line_of_words [] = line.Blank
-line_of_words (word ∷ operands) = line_of word operands
+line_of_words (word ∷ operands) = line_of_word word operands
 
 -- the command of a line of bytes: at most 80, each a separator or 33 to 126
 abbrev pub command_line : List ℕ → Line
-command_line bytes = if nat_le (length bytes) 80 && list_all is_line_byte bytes then line_of_words (words_of bytes) else line.Bad
+command_line bytes = if nat_le (length bytes) 80 && list_all is_line_byte bytes then line_of_words (words_in bytes) else line.Bad
 
 -- ---- lines of an editing
 
@@ -75,8 +75,8 @@ abbrev pub is_number : List ℕ → Bool
 is_number digits = nat_le 1 (length digits) && nat_le (length digits) 6 && list_all is_digit digits
 
 -- `i`, `r`, `d` and `l` with a number
-abbrev pub numbered : ℕ → ℕ → EditLine
-numbered c n =
+abbrev pub numbered_line : ℕ → ℕ → EditLine
+numbered_line c n =
     if c == 105 then edit.Insert n
     else (if c == 114 then edit.Replace n
     else (if c == 100 then edit.Delete n
@@ -90,7 +90,7 @@ lettered c = if c == 117 then edit.Undo else (if c == 119 then edit.Write else (
 abbrev pub edit_line : List ℕ → EditLine
 edit_line [] = edit.Bad
 edit_line (c ∷ []) = lettered c
-edit_line (c ∷ blank ∷ digits) = if blank == 32 && is_number digits then numbered c (number_of digits) else edit.Bad
+edit_line (c ∷ blank ∷ digits) = if blank == 32 && is_number digits then numbered_line c (number_of digits) else edit.Bad
 
 -- of a longer line so many bytes are kept
 abbrev pub kept_line : List ℕ → List ℕ

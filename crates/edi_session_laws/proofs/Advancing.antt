@@ -5,7 +5,7 @@ use Rattle.std.proofs.lemmas.Bool.{leb-false}
 use Rattle.edi_calls.specs.Choice.{Choices}
 use Rattle.edi_session.specs.declared.end.SessionEnd.{SessionEnd}
 use Rattle.edi_session.specs.declared.end.SessionEnd.TheVariants.{InputEnd, Limit}
-use Rattle.edi_session.specs.Session.{ActsOn, closes, ComesTo, EditsLine, Goes, GoesIn, Next, Session, Taking, goes, prompted, shell_in, stops}
+use Rattle.edi_session.specs.Session.{ActsOn, closes, ComesTo, EditsLine, Goes, GoesIn, AfterLine, Session, BehindTaken, goes, prompted, shell_in, stops}
 use Rattle.edi_session.specs.Shell.{Mode, Shell, Taken, commanding, echoed, editing, ended, limit, limited, next_line, state_in, take_line, took, took_byte}
 use Rattle.edi_session.specs.Words.{command_line, edit_line, kept_line}
 use Rattle.edi_session.proofs.Total.{goes_on}
@@ -72,12 +72,12 @@ line_takes n echo (b ∷ input) line s h =
 
 -- ---- what comes next
 
-abbrev GoesMore : ℕ → Next → Type 0
+abbrev GoesMore : ℕ → AfterLine → Type 0
 GoesMore n (goes t) = (n < limit) × (n < t.taken)
 GoesMore n (stops end t) = ⊤
 
-taking_more : (n : ℕ) (taken : Taken) (P : List ℕ → Shell → Next → Type 0) (next : Next)
-    → ((bytes : List ℕ) (t : Shell) → P bytes t next → t.taken ≤ (shell_in next).taken) → IsMore n taken → Taking taken P next → GoesMore n next
+taking_more : (n : ℕ) (taken : Taken) (P : List ℕ → Shell → AfterLine → Type 0) (next : AfterLine)
+    → ((bytes : List ℕ) (t : Shell) → P bytes t next → t.taken ≤ (shell_in next).taken) → IsMore n taken → BehindTaken taken P next → GoesMore n next
 taking_more n (took bytes t) P (goes u) on h row = let more : t.taken ≤ u.taken = on bytes t row in let first : n < t.taken = h.1 in
     (h.0, omega (arith, first, more))
 taking_more n (ended t) P (goes u) on h row = absurd (let never : goes u ≡ closes InputEnd t = row in cc)
@@ -85,7 +85,7 @@ taking_more n (limited t) P (goes u) on h row = absurd (let never : goes u ≡ c
 taking_more n taken P (stops end u) on h row = tt
 
 module _ (bound : ℕ) (choices : Choices) where
-  goes_in_more : (mode : Mode) (s : Shell) (next : Next) → GoesIn bound choices mode s next → GoesMore s.taken next
+  goes_in_more : (mode : Mode) (s : Shell) (next : AfterLine) → GoesIn bound choices mode s next → GoesMore s.taken next
   goes_in_more commanding s next row =
       taking_more s.taken (next_line true (prompted bound choices s)) (ActsOn bound choices) next
       (λ bytes t r. acts_keeps bound choices (HasTaken t.taken) (none_back bound choices t.taken) (command_line bytes) t next (omega arith) r)
@@ -95,7 +95,7 @@ module _ (bound : ℕ) (choices : Choices) where
       (λ bytes t r. edits_keeps bound choices (HasTaken t.taken) (none_back bound choices t.taken) (edit_line (kept_line bytes)) title e t next (omega arith) r)
       (line_takes s.taken false (state_in s).input [] s (omega arith)) row
 
-  goes_more : (s : Shell) (next : Next) → Goes bound choices s next → GoesMore s.taken next
+  goes_more : (s : Shell) (next : AfterLine) → Goes bound choices s next → GoesMore s.taken next
   goes_more s next row = goes_in_more s.mode s next row
 
   -- ---- the laws
@@ -113,7 +113,7 @@ module _ (bound : ℕ) (choices : Choices) where
   lines_are_few (suc n) s after is = let room : s.taken + suc n ≤ limit = room_for n s after is in omega (arith, room)
 
   -- an end, if so many bytes may still be taken
-  ends_from : (bytes : ℕ) (s : Shell) → limit ≤ s.taken + bytes → (next : Next) → Goes bound choices s next
+  ends_from : (bytes : ℕ) (s : Shell) → limit ≤ s.taken + bytes → (next : AfterLine) → Goes bound choices s next
       → (end : SessionEnd) × (after : Shell) × Session bound choices s end after
   ends_from bytes s most (stops end after) row = (end, after, record { lines_ = 0; last = s; comes = refl; stops_ = row })
   ends_from zero s most (goes t) row = absurd (let below : s.taken < limit = (goes_more s (goes t) row).0 in omega (arith, most, below))

@@ -25,8 +25,8 @@ use Rattle.edi_session.specs.declared.line.EditLine.{EditLine}
 use Rattle.edi_session.specs.declared.line.EditLine.TheVariants as edit
 use Rattle.edi_session.specs.Course.{Course, becomes, shows}
 use Rattle.edi_session.specs.Files.{file_in}
-use Rattle.edi_session.specs.Session.{Acts, ActsOn, BeginsEditing, ChangesLine, CompilesFile, CompilesText, EditsBy, EditsFile, EditsLine, ExecutesBytes}
-use Rattle.edi_session.specs.Session.{ExecutesCode, ExecutesFile, Goes, GoesIn, Inserts, Next, Replaces, StoresText, Taking, Undoes, behind, ends_with, goes}
+use Rattle.edi_session.specs.Session.{ActsBy, ActsOn, BeginsEditing, ChangesLine, CompilesFile, CompilesText, EditsBy, EditsFile, EditsLine, ExecutesBytes}
+use Rattle.edi_session.specs.Session.{ExecutesCode, ExecutesFile, Goes, GoesIn, Inserts, AfterLine, Replaces, StoresText, BehindTaken, TakesBack, behind, ends_with, goes}
 use Rattle.edi_session.specs.Session.{prompted, says_no_memory}
 use Rattle.edi_session.specs.Shell.{Mode, Shell, Taken, commanding, editing, ended, limited, next_line, next_text, on_fresh_line, says, shell_of, shown_in}
 use Rattle.edi_session.specs.Shell.{state_in, took}
@@ -37,14 +37,14 @@ use Rattle.edi_session_laws.proofs.Throughout.{TakingKeeps, line_keeps}
 
 -- ---- one effect
 
-taking_alike : (taken : Taken) (P : List ℕ → Shell → Next → Type 0) (next other : Next)
-    → ((bytes : List ℕ) (t : Shell) → P bytes t next → P bytes t other → next ≡ other) → Taking taken P next → Taking taken P other → next ≡ other
+taking_alike : (taken : Taken) (P : List ℕ → Shell → AfterLine → Type 0) (next other : AfterLine)
+    → ((bytes : List ℕ) (t : Shell) → P bytes t next → P bytes t other → next ≡ other) → BehindTaken taken P next → BehindTaken taken P other → next ≡ other
 taking_alike (took bytes t) P next other on p q = on bytes t p q
 taking_alike (ended t) P next other on p q = p ∙ sym q
 taking_alike (limited t) P next other on p q = p ∙ sym q
 
-pub one_effect : (bound : ℕ) (choices : Choices) (l : Line) (s : Shell) (next other : Next) → may_want l ≡ false → Acts bound choices l s next
-    → Acts bound choices l s other → next ≡ other
+pub one_effect : (bound : ℕ) (choices : Choices) (l : Line) (s : Shell) (next other : AfterLine) → may_want l ≡ false → ActsBy bound choices l s next
+    → ActsBy bound choices l s other → next ≡ other
 one_effect bound choices line.Blank s next other e p q = p ∙ sym q
 one_effect bound choices line.Bad s next other e p q = p ∙ sym q
 one_effect bound choices line.Catalogue s next other e p q = p ∙ sym q
@@ -86,7 +86,7 @@ files_kept s = record { shows_ = λ bytes t h. shows_files bytes t.system ∙ h;
 
 -- ---- two ways on
 
-module _ (bound : ℕ) (choices : Choices) (s : Shell) (next other : Next) where
+module _ (bound : ℕ) (choices : Choices) (s : Shell) (next other : AfterLine) where
   abbrev Differ : Type 0
   Differ = (next ≡ other) ⊎ ((WantsMemory s next ⊎ WantsMemory s other) ⊎ HaveTwoCodes next other)
 
@@ -96,15 +96,15 @@ module _ (bound : ℕ) (choices : Choices) (s : Shell) (next other : Next) where
   second : (t : Shell) → HasFiles s t → other ≡ goes (says_no_memory t) → Differ
   second t files w = inr (inl (inr (record { at = t; shows = w; files = files })))
 
-  taking_differ : (taken : Taken) (P : List ℕ → Shell → Next → Type 0)
-      → ((bytes : List ℕ) (t : Shell) → HasFiles s t → P bytes t next → P bytes t other → Differ) → HasFiles s (shell_of taken) → Taking taken P next
-      → Taking taken P other → Differ
+  taking_differ : (taken : Taken) (P : List ℕ → Shell → AfterLine → Type 0)
+      → ((bytes : List ℕ) (t : Shell) → HasFiles s t → P bytes t next → P bytes t other → Differ) → HasFiles s (shell_of taken) → BehindTaken taken P next
+      → BehindTaken taken P other → Differ
   taking_differ (took bytes t) P on files p q = on bytes t files p q
   taking_differ (ended t) P on files p q = inl (p ∙ sym q)
   taking_differ (limited t) P on files p q = inl (p ∙ sym q)
 
   -- either may say `no memory` in place of an effect
-  one_of_two : (t : Shell) (there : Next) → HasFiles s t → (next ≡ there) ⊎ (next ≡ goes (says_no_memory t)) → (other ≡ there) ⊎ (other ≡ goes (says_no_memory t))
+  one_of_two : (t : Shell) (there : AfterLine) → HasFiles s t → (next ≡ there) ⊎ (next ≡ goes (says_no_memory t)) → (other ≡ there) ⊎ (other ≡ goes (says_no_memory t))
       → Differ
   one_of_two t there files (inl p) (inl q) = inl (p ∙ sym q)
   one_of_two t there files (inr w) q = first t files w
@@ -176,7 +176,7 @@ module _ (bound : ℕ) (choices : Choices) (s : Shell) (next other : Next) where
     go file_kind.Text p q = begins f (lines.lines_of file.bytes) t files p q
     go file_kind.Code p q = inl (p ∙ sym q)
 
-  acts_differ : (l : Line) (t : Shell) → HasFiles s t → Acts bound choices l t next → Acts bound choices l t other → Differ
+  acts_differ : (l : Line) (t : Shell) → HasFiles s t → ActsBy bound choices l t next → ActsBy bound choices l t other → Differ
   acts_differ line.Blank t files p q = inl (p ∙ sym q)
   acts_differ line.Bad t files p q = inl (p ∙ sym q)
   acts_differ line.Catalogue t files p q = inl (p ∙ sym q)
@@ -200,8 +200,8 @@ module _ (bound : ℕ) (choices : Choices) (s : Shell) (next other : Next) where
   changes (Some why) n title before after t files p q = inl (p ∙ sym q)
   changes None n title before after t files p q = one_of_two (record t { mode = editing title before }) _ files p q
 
-  undoes : (title : List ℕ) (earlier : List (List (List ℕ))) (e : Editing) (t : Shell) → HasFiles s t → Undoes title earlier e t next
-      → Undoes title earlier e t other → Differ
+  undoes : (title : List ℕ) (earlier : List (List (List ℕ))) (e : Editing) (t : Shell) → HasFiles s t → TakesBack title earlier e t next
+      → TakesBack title earlier e t other → Differ
   undoes title [] e t files p q = inl (p ∙ sym q)
   undoes title (text ∷ texts) e t files p q = one_of_two (record t { mode = editing title e }) _ files p q
 

@@ -30,10 +30,10 @@ use Rattle.edi_session.specs.declared.line.EditLine.{EditLine}
 use Rattle.edi_session.specs.declared.line.EditLine.TheVariants as edit
 use Rattle.edi_session.specs.Course.{has_slots}
 use Rattle.edi_session.specs.Files.{answered, copies_to, file_in, stores, why_line, with_file, with_text}
-use Rattle.edi_session.specs.Session.{Acts, ActsOn, BeginsEditing, ChangesLine, closes, ComesTo, CompilesFile, CompilesText, EditsBy, EditsFile, EditsLine}
-use Rattle.edi_session.specs.Session.{ExecutesBytes, ExecutesCode, ExecutesFile, Goes, GoesIn, Inserts, Next, Replaces, StoresText, Taking, Undoes, behind}
-use Rattle.edi_session.specs.Session.{edit_refusal, ends_with, goes, looked_at, prompted, says_no_memory, shell_in, written}
-use Rattle.edi_session.specs.Shell.{Mode, Shell, Taken, commanding, echoed, editing, ended, is_end, last_line, limit, limited, line_with, next_line, next_text}
+use Rattle.edi_session.specs.Session.{ActsBy, ActsOn, BeginsEditing, ChangesLine, closes, ComesTo, CompilesFile, CompilesText, EditsBy, EditsFile, EditsLine}
+use Rattle.edi_session.specs.Session.{ExecutesBytes, ExecutesCode, ExecutesFile, Goes, GoesIn, Inserts, AfterLine, Replaces, StoresText, BehindTaken, TakesBack, behind}
+use Rattle.edi_session.specs.Session.{edit_refusal, ends_with, goes, looked_at, prompted, says_no_memory, shell_in, written_back}
+use Rattle.edi_session.specs.Shell.{Mode, Shell, Taken, commanding, echoed, editing, ended, ends_text, last_line, limit, limited, line_with, next_line, next_text}
 use Rattle.edi_session.specs.Shell.{on_fresh_line, printed_by, says, shell_of, shown_by, shown_in, state_in, take_line, take_text, text_with, took}
 use Rattle.edi_session.specs.Shell.{took_byte}
 use Rattle.edi_session.specs.Texts.{about, catalogue_text, ending_line, line_end, on_line, with_number}
@@ -78,10 +78,10 @@ module _ (H : Shell → Type 0) (keeps : TakingKeeps H) where
       (line_keeps echo input (line ++ b ∷ []) (echoed echo (b ∷ []) (took_byte input s)) (echoed_keeps echo (b ∷ []) (took_byte input s) (keeps.takes input s h))))
 
   pub text_keeps : (input text line : List ℕ) (s : Shell) → H s → H (shell_of (take_text input text line s))
-  text_keeps [] text line s h = taken_keeps (nat_le limit s.taken) (limited s) _ h (taken_keeps (is_end line) (took text s) (ended s) h h)
+  text_keeps [] text line s h = taken_keeps (nat_le limit s.taken) (limited s) _ h (taken_keeps (ends_text line) (took text s) (ended s) h h)
   text_keeps (b ∷ input) text line s h =
       taken_keeps (nat_le limit s.taken) (limited s) _ h
-      (taken_keeps (b == 10 && is_end line) (took text (took_byte input s))
+      (taken_keeps (b == 10 && ends_text line) (took text (took_byte input s))
       (take_text input (text_with b text line) (line_with b line) (took_byte input s)) (keeps.takes input s h)
       (text_keeps input (text_with b text line) (line_with b line) (took_byte input s) (keeps.takes input s h)))
 
@@ -116,14 +116,14 @@ module _ (bound : ℕ) (choices : Choices) (H : Shell → Type 0) (keeps : EachP
       (says_keeps (about (codes "not text") f) s h)
 
   -- so is what comes next
-  abbrev KeptIn : Next → Type 0
+  abbrev KeptIn : AfterLine → Type 0
   KeptIn next = H (shell_in next)
 
-  same : (next there : Next) → next ≡ there → KeptIn there → KeptIn next
+  same : (next there : AfterLine) → next ≡ there → KeptIn there → KeptIn next
   same next there e h = subst KeptIn (sym e) h
 
-  taking_keeps : (taken : Taken) (P : List ℕ → Shell → Next → Type 0) (next : Next) → ((bytes : List ℕ) (t : Shell) → H t → P bytes t next → KeptIn next)
-      → H (shell_of taken) → Taking taken P next → KeptIn next
+  taking_keeps : (taken : Taken) (P : List ℕ → Shell → AfterLine → Type 0) (next : AfterLine) → ((bytes : List ℕ) (t : Shell) → H t → P bytes t next → KeptIn next)
+      → H (shell_of taken) → BehindTaken taken P next → KeptIn next
   taking_keeps (took bytes t) P next on h row = on bytes t h row
   taking_keeps (ended t) P next on h row = same next (closes InputEnd t) row (fresh_keeps t h)
   taking_keeps (limited t) P next on h row = same next (closes Limit t) row (fresh_keeps t h)
@@ -131,7 +131,7 @@ module _ (bound : ℕ) (choices : Choices) (H : Shell → Type 0) (keeps : EachP
   no_memory_keeps : (s : Shell) → H s → H (says_no_memory s)
   no_memory_keeps s h = says_keeps (codes "no memory") s h
 
-  compiles_keeps : (text g : List ℕ) (s : Shell) (next : Next) → H s → CompilesText text g s next → KeptIn next
+  compiles_keeps : (text g : List ℕ) (s : Shell) (next : AfterLine) → H s → CompilesText text g s next → KeptIn next
   compiles_keeps text g s next h (inl row) = same next _ row.3 (says_keeps (on_line row.1 (kind_text row.0)) s h)
   compiles_keeps text g s next h (inr (inl row)) =
       same next _ row.2
@@ -140,7 +140,7 @@ module _ (bound : ℕ) (choices : Choices) (H : Shell → Type 0) (keeps : EachP
       (stores_keeps g file_kind.Code (code_bytes row.0) s h))
   compiles_keeps text g s next h (inr (inr row)) = same next (goes (says_no_memory s)) row (no_memory_keeps s h)
 
-  compiles_file_keeps : (f g : List ℕ) (file : Option File) (s : Shell) (next : Next) → H s → CompilesFile f g file s next → KeptIn next
+  compiles_file_keeps : (f g : List ℕ) (file : Option File) (s : Shell) (next : AfterLine) → H s → CompilesFile f g file s next → KeptIn next
   compiles_file_keeps f g None s next h row = same next _ row (says_keeps (about (codes "no file") f) s h)
   compiles_file_keeps f g (Some file) s next h row = go file.kind row where
     go : (kind : FileKind) → CompilesFile f g (Some (record file { kind = kind })) s next → KeptIn next
@@ -151,16 +151,16 @@ module _ (bound : ℕ) (choices : Choices) (H : Shell → Type 0) (keeps : EachP
   ends_keeps None s h = h
   ends_keeps (Some text) s h = says_keeps text (on_fresh_line s) (fresh_keeps s h)
 
-  code_keeps : (f bytes : List ℕ) (s : Shell) (next : Next) → H s → ExecutesCode bound choices f (code_of bytes) s next → KeptIn next
+  code_keeps : (f bytes : List ℕ) (s : Shell) (next : AfterLine) → H s → ExecutesCode bound choices f (code_of bytes) s next → KeptIn next
   code_keeps f bytes s next h row = same next _ row.next_is
       (ends_keeps (ending_line f row.ending) (behind row.machine.system row.past row.drawn s)
       (keeps.runs_ (code_of bytes) row.ending row.machine row.drawn row.past s row.ends h))
 
-  bytes_keeps : (f bytes : List ℕ) (fault : Option CodeFault) (s : Shell) (next : Next) → H s → ExecutesBytes bound choices f bytes fault s next → KeptIn next
+  bytes_keeps : (f bytes : List ℕ) (fault : Option CodeFault) (s : Shell) (next : AfterLine) → H s → ExecutesBytes bound choices f bytes fault s next → KeptIn next
   bytes_keeps f bytes (Some fault) s next h row = same next _ row (says_keeps (about (codes "bad code") f) s h)
   bytes_keeps f bytes None s next h row = code_keeps f bytes s next h row
 
-  executes_keeps : (f : List ℕ) (file : Option File) (s : Shell) (next : Next) → H s → ExecutesFile bound choices f file s next → KeptIn next
+  executes_keeps : (f : List ℕ) (file : Option File) (s : Shell) (next : AfterLine) → H s → ExecutesFile bound choices f file s next → KeptIn next
   executes_keeps f None s next h row = same next _ row (says_keeps (about (codes "no file") f) s h)
   executes_keeps f (Some file) s next h row = go file.kind row where
     go : (kind : FileKind) → ExecutesFile bound choices f (Some (record file { kind = kind })) s next → KeptIn next
@@ -170,24 +170,24 @@ module _ (bound : ℕ) (choices : Choices) (H : Shell → Type 0) (keeps : EachP
 
   -- ---- the lines of an editing
 
-  begins_keeps : (f : List ℕ) (text : List (List ℕ)) (s : Shell) (next : Next) → H s → BeginsEditing f text s next → KeptIn next
+  begins_keeps : (f : List ℕ) (text : List (List ℕ)) (s : Shell) (next : AfterLine) → H s → BeginsEditing f text s next → KeptIn next
   begins_keeps f text s next h (inl row) = same next _ row (keeps.turns_to (editing f (record { lines = text; earlier = [] })) s h)
   begins_keeps f text s next h (inr row) = same next (goes (says_no_memory s)) row (no_memory_keeps s h)
 
-  edits_file_keeps : (f : List ℕ) (file : Option File) (s : Shell) (next : Next) → H s → EditsFile f file s next → KeptIn next
+  edits_file_keeps : (f : List ℕ) (file : Option File) (s : Shell) (next : AfterLine) → H s → EditsFile f file s next → KeptIn next
   edits_file_keeps f None s next h row = begins_keeps f [] s next h row
   edits_file_keeps f (Some file) s next h row = go file.kind row where
     go : (kind : FileKind) → EditsFile f (Some (record file { kind = kind })) s next → KeptIn next
     go file_kind.Text row = begins_keeps f (lines.lines_of file.bytes) s next h row
     go file_kind.Code row = same next _ row (says_keeps (about (codes "not text") f) s h)
 
-  changes_keeps : (why : Option EditEnd) (n : ℕ) (title : List ℕ) (before after : Editing) (s : Shell) (next : Next) → H s
+  changes_keeps : (why : Option EditEnd) (n : ℕ) (title : List ℕ) (before after : Editing) (s : Shell) (next : AfterLine) → H s
       → ChangesLine why n title before after s next → KeptIn next
   changes_keeps (Some why) n title before after s next h row = same next _ row (keeps.turns_to (editing title before) _ (says_keeps (edit_refusal n why) s h))
   changes_keeps None n title before after s next h (inl row) = same next _ row (keeps.turns_to (editing title after) s h)
   changes_keeps None n title before after s next h (inr row) = same next _ row (keeps.turns_to (editing title before) _ (no_memory_keeps s h))
 
-  undoes_keeps : (title : List ℕ) (earlier : List (List (List ℕ))) (e : Editing) (s : Shell) (next : Next) → H s → Undoes title earlier e s next
+  undoes_keeps : (title : List ℕ) (earlier : List (List (List ℕ))) (e : Editing) (s : Shell) (next : AfterLine) → H s → TakesBack title earlier e s next
       → KeptIn next
   undoes_keeps title [] e s next h row = same next _ row (keeps.turns_to (editing title e) _ (says_keeps (codes "no undo") s h))
   undoes_keeps title (text ∷ texts) e s next h (inl row) = same next _ row (keeps.turns_to (editing title (undone e)) s h)
@@ -197,11 +197,11 @@ module _ (bound : ℕ) (choices : Choices) (H : Shell → Type 0) (keeps : EachP
   looked_keeps n None s h = says_keeps (edit_refusal n edit_end.NoLine) s h
   looked_keeps n (Some text) s h = says_keeps text s h
 
-  written_keeps : (why : Option CatEnd) (title : List ℕ) (e : Editing) (s : Shell) → H s → KeptIn (written why title e s)
+  written_keeps : (why : Option CatEnd) (title : List ℕ) (e : Editing) (s : Shell) → H s → KeptIn (written_back why title e s)
   written_keeps (Some why) title e s h = keeps.turns_to (editing title e) _ (says_keeps (why_line title title why) s h)
-  written_keeps None title e s h = keeps.turns_to commanding _ (stores_keeps title file_kind.Text (lines.bytes_of e.lines) s h)
+  written_keeps None title e s h = keeps.turns_to commanding _ (stores_keeps title file_kind.Text (lines.bytes_of_lines e.lines) s h)
 
-  pub edits_keeps : (l : EditLine) (title : List ℕ) (e : Editing) (s : Shell) (next : Next) → H s → EditsBy l title e s next → KeptIn next
+  pub edits_keeps : (l : EditLine) (title : List ℕ) (e : Editing) (s : Shell) (next : AfterLine) → H s → EditsBy l title e s next → KeptIn next
   edits_keeps (edit.Insert n) title e s next h row =
       taking_keeps (next_line false s) (Inserts n title e) next
       (λ text t k r. let after = insert e.lines (n - 1) (kept_line text) in
@@ -212,17 +212,17 @@ module _ (bound : ℕ) (choices : Choices) (H : Shell → Type 0) (keeps : EachP
       changes_keeps (refusal (is_index n (length e.lines)) after) n title e (changed e after) t next k r) (line_keeps H keeps.taking_ false (state_in s).input [] s h) row
   edits_keeps (edit.Delete n) title e s next h row =
       changes_keeps (missing (is_index n (length e.lines))) n title e (changed e (remove e.lines (n - 1))) s next h row
-  edits_keeps (edit.Look n) title e s next h row = same next _ row (keeps.turns_to (editing title e) _ (looked_keeps n (lines.line_at e.lines n) s h))
+  edits_keeps (edit.Look n) title e s next h row = same next _ row (keeps.turns_to (editing title e) _ (looked_keeps n (lines.line_numbered e.lines n) s h))
   edits_keeps edit.Undo title e s next h row = undoes_keeps title e.earlier e s next h row
   edits_keeps edit.Write title e s next h (inl row) =
-      same next _ row (written_keeps (no_room title (lines.size_of e.lines) (free (state_in s)) (state_in s).slots) title e s h)
+      same next _ row (written_keeps (no_room title (lines.size_of_lines e.lines) (free (state_in s)) (state_in s).slots) title e s h)
   edits_keeps edit.Write title e s next h (inr row) = same next _ row (keeps.turns_to (editing title e) _ (no_memory_keeps s h))
   edits_keeps edit.Quit title e s next h row = same next _ row (keeps.turns_to commanding s h)
   edits_keeps edit.Bad title e s next h row = same next _ row (keeps.turns_to (editing title e) _ (says_keeps (codes "bad edit") s h))
 
   -- ---- the commands
 
-  pub acts_keeps : (l : Line) (s : Shell) (next : Next) → H s → Acts bound choices l s next → KeptIn next
+  pub acts_keeps : (l : Line) (s : Shell) (next : AfterLine) → H s → ActsBy bound choices l s next → KeptIn next
   acts_keeps line.Blank s next h row = same next (goes s) row h
   acts_keeps line.Bad s next h row = same next _ row (says_keeps (codes "bad command") s h)
   acts_keeps line.Catalogue s next h row = same next _ row (keeps.taking_.shows_ (catalogue_text (state_in s)) s h)
@@ -252,7 +252,7 @@ module _ (bound : ℕ) (choices : Choices) (H : Shell → Type 0) (keeps : EachP
   acts_keeps line.Halt s next h row = same next (closes Halted s) row (fresh_keeps s h)
   acts_keeps (line.Execute f) s next h row = executes_keeps f (file_in s f) s next h row
 
-  goes_in_keeps : (mode : Mode) (s : Shell) (next : Next) → H s → GoesIn bound choices mode s next → KeptIn next
+  goes_in_keeps : (mode : Mode) (s : Shell) (next : AfterLine) → H s → GoesIn bound choices mode s next → KeptIn next
   goes_in_keeps commanding s next h row =
       taking_keeps (next_line true (prompted bound choices s)) (ActsOn bound choices) next (λ bytes t k r. acts_keeps (command_line bytes) t next k r)
       (line_keeps H keeps.taking_ true (state_in (prompted bound choices s)).input [] (prompted bound choices s) (keeps.taking_.shows_ (codes "> ") (on_fresh_line s) (fresh_keeps s h)))
@@ -261,7 +261,7 @@ module _ (bound : ℕ) (choices : Choices) (H : Shell → Type 0) (keeps : EachP
       taking_keeps (next_line false s) (EditsLine title e) next (λ text t k r. edits_keeps (edit_line (kept_line text)) title e t next k r)
       (line_keeps H keeps.taking_ false (state_in s).input [] s h) row
 
-  pub goes_keeps : (s : Shell) (next : Next) → H s → Goes bound choices s next → KeptIn next
+  pub goes_keeps : (s : Shell) (next : AfterLine) → H s → Goes bound choices s next → KeptIn next
   goes_keeps s next h row = goes_in_keeps s.mode s next h row
 
   pub comes_keeps : (n : ℕ) (s after : Shell) → H s → ComesTo bound choices n s after → H after

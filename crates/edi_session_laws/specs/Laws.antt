@@ -7,7 +7,7 @@ use Rattle.edi_texts.specs.Run.{IsCodeFor}
 use Rattle.edi_session.specs.declared.end.SessionEnd.{SessionEnd}
 use Rattle.edi_session.specs.declared.line.Line.{Line}
 use Rattle.edi_session.specs.declared.line.Line.TheVariants as line
-use Rattle.edi_session.specs.Session.{Acts, ComesTo, Goes, Next, Session, goes, says_no_memory, stores_code}
+use Rattle.edi_session.specs.Session.{ActsBy, ComesTo, Goes, AfterLine, Session, goes, says_no_memory, stores_code}
 use Rattle.edi_session.specs.Shell.{Shell, limit, state_in}
 
 -- ---- every session comes to an end
@@ -32,17 +32,17 @@ may_want _ = false
 -- every other command has one effect
 abbrev pub OneEffect : Type 0
 OneEffect =
-    (bound : ℕ) (choices : Choices) (l : Line) (s : Shell) (next other : Next) → may_want l ≡ false → Acts bound choices l s next → Acts bound choices l s other
+    (bound : ℕ) (choices : Choices) (l : Line) (s : Shell) (next other : AfterLine) → may_want l ≡ false → ActsBy bound choices l s next → ActsBy bound choices l s other
     → next ≡ other
 
 -- the line `no memory` is shown, and the files are as before
-pub record WantsMemory (s : Shell) (next : Next) : Type 0 where
+pub record WantsMemory (s : Shell) (next : AfterLine) : Type 0 where
   pub at : Shell
   pub shows : next ≡ goes (says_no_memory at)
   pub files : (state_in at).slots ≡ (state_in s).slots
 
 -- both are what `compile` leaves of one text, with two codes that may be made of it
-pub record HaveTwoCodes (next other : Next) : Type 0 where
+pub record HaveTwoCodes (next other : AfterLine) : Type 0 where
   pub text : List ℕ
   pub title : List ℕ
   pub at : Shell
@@ -56,5 +56,5 @@ pub record HaveTwoCodes (next other : Next) : Type 0 where
 -- two ways on from one shell differ in nothing else
 abbrev pub SessionsDifferInThese : Type 0
 SessionsDifferInThese =
-    (bound : ℕ) (choices : Choices) (s : Shell) (next other : Next) → Goes bound choices s next → Goes bound choices s other
+    (bound : ℕ) (choices : Choices) (s : Shell) (next other : AfterLine) → Goes bound choices s next → Goes bound choices s other
     → (next ≡ other) ⊎ ((WantsMemory s next ⊎ WantsMemory s other) ⊎ HaveTwoCodes next other)

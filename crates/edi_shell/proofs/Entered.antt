@@ -11,12 +11,13 @@ use Rattle.edi_catalog.specs.Storing.{slots_stored}
 use Rattle.edi_session.specs.declared.end.SessionEnd.{SessionEnd}
 use Rattle.edi_session.specs.declared.end.SessionEnd.TheVariants as end
 use Rattle.edi_session.specs.Files.{stores}
-use Rattle.edi_session.specs.Session.{Next, goes, closes, shell_in, StoresText, Taking}
-use Rattle.edi_session.specs.Shell.{Shell, Taken, took, ended, limited, shell_of, limit, state_in, took_byte, is_end, text_with, line_with, take_text, next_text}
-use Rattle.edi_session.proofs.Later.{Later, answered_on, fresh_on, take_text_on}
+use Rattle.edi_session.specs.Session.{AfterLine, goes, closes, shell_in, StoresText, BehindTaken}
+use Rattle.edi_session.specs.Shell.{Shell, Taken, took, ended, limited, shell_of, limit, state_in, took_byte, ends_text, text_with, line_with, take_text, next_text}
+use Rattle.edi_session.proofs.Later.{Later, answered_on, take_text_on}
 use Rattle.edi_shell_calls.specs.Standing.{At, StandsIn, IsFault, IsLeft, Leads}
 use Rattle.edi_shell.specs.Rows.{LineBreaks, LineCloses, LineDoesOrEnds, LineEnds, EntersFile}
 use Rattle.edi_shell.specs.Taking.{GivesNone, GivesText, IsSoFar, Stops}
+use Rattle.edi_shell.proofs.Keeping.{TakingKeeps, itself, one_keeps, taking_behind, took_keeps}
 use Rattle.edi_shell.proofs.Rows.{drawn_answered, like_answered}
 use Rattle.edi_shell.proofs.Standing.{nothing_stops, stands_later}
 
@@ -39,30 +40,30 @@ limited_text [] text line s full = rw full refl
 limited_text (b ∷ input) text line s full = rw full refl
 
 ended_text : (input text line : List ℕ) (s : Shell) → nat_le limit s.taken ≡ false → input ≡ []
-    → take_text input text line s ≡ (if is_end line then took text s else ended s)
+    → take_text input text line s ≡ (if ends_text line then took text s else ended s)
 ended_text input text line s open_ none = ap (λ i. take_text i text line s) none ∙ rw open_ refl
 
 next_in_text : (input text line left : List ℕ) (b : ℕ) (s : Shell) → nat_le limit s.taken ≡ false → input ≡ b ∷ left
-    → take_text input text line s ≡ (if b == 10 && is_end line then took text (took_byte left s) else take_text left (text_with b text line) (line_with b line)
+    → take_text input text line s ≡ (if b == 10 && ends_text line then took text (took_byte left s) else take_text left (text_with b text line) (line_with b line)
     (took_byte left s))
 next_in_text input text line left b s open_ some = ap (λ i. take_text i text line s) some ∙ rw open_ refl
 
 -- the input has ended behind the line that ends the text, or behind another
 pub dot_is : (text line : List ℕ) (s : Shell) (result : Taken) → take_text (state_in s).input text line s ≡ result → nat_le limit s.taken ≡ false
-    → (state_in s).input ≡ [] → is_end line ≡ true → result ≡ took text s
+    → (state_in s).input ≡ [] → ends_text line ≡ true → result ≡ took text s
 dot_is text line s result is open_ none dot = sym is ∙ ended_text (state_in s).input text line s open_ none ∙ rw dot refl
 
 pub ended_is : (text line : List ℕ) (s : Shell) (result : Taken) → take_text (state_in s).input text line s ≡ result → nat_le limit s.taken ≡ false
-    → (state_in s).input ≡ [] → is_end line ≡ false → result ≡ ended s
+    → (state_in s).input ≡ [] → ends_text line ≡ false → result ≡ ended s
 ended_is text line s result is open_ none other = sym is ∙ ended_text (state_in s).input text line s open_ none ∙ rw other refl
 
 -- a line feed ends the text, or the text goes on
 pub whole_is : (text line left : List ℕ) (b : ℕ) (s : Shell) (result : Taken) → take_text (state_in s).input text line s ≡ result
-    → nat_le limit s.taken ≡ false → (state_in s).input ≡ b ∷ left → (b == 10 && is_end line) ≡ true → result ≡ took text (took_byte left s)
+    → nat_le limit s.taken ≡ false → (state_in s).input ≡ b ∷ left → (b == 10 && ends_text line) ≡ true → result ≡ took text (took_byte left s)
 whole_is text line left b s result is open_ some both = sym is ∙ next_in_text (state_in s).input text line left b s open_ some ∙ rw both refl
 
 pub more_is : (text line left : List ℕ) (b : ℕ) (s : Shell) (result : Taken) → take_text (state_in s).input text line s ≡ result
-    → nat_le limit s.taken ≡ false → (state_in s).input ≡ b ∷ left → (b == 10 && is_end line) ≡ false
+    → nat_le limit s.taken ≡ false → (state_in s).input ≡ b ∷ left → (b == 10 && ends_text line) ≡ false
     → take_text left (text_with b text line) (line_with b line) (took_byte left s) ≡ result
 more_is text line left b s result is open_ some other =
     sym (rw other refl) ∙ sym (next_in_text (state_in s).input text line left b s open_ some) ∙ is
@@ -127,40 +128,25 @@ all_kept n text room long wide kept = kept ∙ take_all (length room) text (subs
 
 -- ---- the row of `enter f`
 
--- what lines that are asked for leave as it was
-pub record TakesOnly (s t : Shell) : Type 0 where
-  pub mode : t.mode ≡ s.mode
-  pub shown_before : t.shown_before ≡ s.shown_before
-  pub draws : t.drawn ≡ s.drawn
-
-keeps_same : (s : Shell) → TakesOnly s s
-keeps_same s = record { mode = refl; shown_before = refl; draws = refl }
-
-one_keeps : (b : Bool) (s : Shell) (x y : Taken) → TakesOnly s (shell_of x) → TakesOnly s (shell_of y) → TakesOnly s (shell_of (if b then x else y))
-one_keeps true s x y p q = p
-one_keeps false s x y p q = q
-
-text_keeps : (input text line : List ℕ) (s : Shell) → TakesOnly s (shell_of (take_text input text line s))
+text_keeps : (input text line : List ℕ) (s : Shell) → TakingKeeps s (shell_of (take_text input text line s))
 text_keeps [] text line s =
-    one_keeps (nat_le limit s.taken) s (limited s) _ (keeps_same s) (one_keeps (is_end line) s (took text s) (ended s) (keeps_same s) (keeps_same s))
+    one_keeps (nat_le limit s.taken) s (limited s) _ (itself s) (one_keeps (ends_text line) s (took text s) (ended s) (itself s) (itself s))
 text_keeps (b ∷ input) text line s =
-    one_keeps (nat_le limit s.taken) s (limited s) _ (keeps_same s)
-    (one_keeps (b == 10 && is_end line) s (took text (took_byte input s)) (take_text input (text_with b text line) (line_with b line) (took_byte input s))
-    (record { mode = refl; shown_before = refl; draws = refl })
+    one_keeps (nat_le limit s.taken) s (limited s) _ (itself s)
+    (one_keeps (b == 10 && ends_text line) s (took text (took_byte input s)) (take_text input (text_with b text line) (line_with b line) (took_byte input s))
+    (took_keeps input s s (itself s))
     (let k = text_keeps input (text_with b text line) (line_with b line) (took_byte input s) in
-    record { mode = k.mode; shown_before = k.shown_before; draws = k.draws }))
+    record { drawn_is = k.drawn_is; mode_is = k.mode_is; before_is = k.before_is }))
 
-pub next_keeps : (s : Shell) (taken : Taken) → next_text s ≡ taken → TakesOnly s (shell_of taken)
-next_keeps s taken is = subst (λ w. TakesOnly s (shell_of w)) is (text_keeps (state_in s).input [] [] s)
+pub next_keeps : (s : Shell) (taken : Taken) → next_text s ≡ taken → TakingKeeps s (shell_of taken)
+next_keeps s taken is = subst (λ w. TakingKeeps s (shell_of w)) is (text_keeps (state_in s).input [] [] s)
 
 stored_on : (f text : List ℕ) (s : Shell) → Later s (stores f file_kind.Text text s)
 stored_on f text s = answered_on (no_room f (length text) (free (state_in s)) (state_in s).slots) f f (slots_stored f file_kind.Text text (state_in s).slots) s
 
 -- what lies behind the lines that were asked for
-entered : (f : List ℕ) (taken : Taken) → (next : Next) × Taking taken (StoresText f) next × Later (shell_of taken) (shell_in next)
-entered f (took text t) = (goes (stores f file_kind.Text text t), refl, stored_on f text t)
-entered f (ended t) = (closes end.InputEnd t, refl, fresh_on t)
-entered f (limited t) = (closes end.Limit t, refl, fresh_on t)
+entered : (f : List ℕ) (taken : Taken) → (next : AfterLine) × BehindTaken taken (StoresText f) next × Later (shell_of taken) (shell_in next)
+entered f taken = taking_behind taken (StoresText f) (λ text t. (goes (stores f file_kind.Text text t), refl, stored_on f text t))
 
 module _ {C : Type 0} (at : C → State → ℕ → Type 0) (stands : C → State → Type 0) (f : List ℕ) where
   -- an object failed while the text was taken
@@ -169,21 +155,21 @@ module _ {C : Type 0} (at : C → State → ℕ → Type 0) (stands : C → Stat
       let n = entered f taken in
       record {
         next = n.0;
-        row = subst (λ w. Taking w (StoresText f) n.0) (sym is) n.1;
+        row = subst (λ w. BehindTaken w (StoresText f) n.0) (sym is) n.1;
         in_ = stands_later stands (shell_of taken) (shell_in n.0) c n.2 st;
       }
 
-  text_closes : (e : SessionEnd) (s t : Shell) (c : C) → TakesOnly s t → Taking (next_text s) (StoresText f) (closes e t) → At at c t
+  text_closes : (e : SessionEnd) (s t : Shell) (c : C) → TakingKeeps s t → BehindTaken (next_text s) (StoresText f) (closes e t) → At at c t
       → LineCloses at stands (EntersFile f) e s s.drawn c
-  text_closes e s t c k row a = record { last = t; row = row; shown_before = k.shown_before; draws = k.draws; at_ = a }
+  text_closes e s t c k row a = record { last = t; row = row; shown_before = k.before_is; draws = k.drawn_is; at_ = a }
 
   -- the text was not taken
   pub enter_stops : (s : Shell) (taken : Taken) (e : SessionEnd) (c : C) → next_text s ≡ taken → Stops at stands e taken c
       → LineEnds at stands (EntersFile f) e s.drawn s c
   enter_stops s (ended t) end.InputEnd c is a =
-      text_closes end.InputEnd s t c (next_keeps s (ended t) is) (subst (λ w. Taking w (StoresText f) (closes end.InputEnd t)) (sym is) refl) a
+      text_closes end.InputEnd s t c (next_keeps s (ended t) is) (subst (λ w. BehindTaken w (StoresText f) (closes end.InputEnd t)) (sym is) refl) a
   enter_stops s (limited t) end.Limit c is a =
-      text_closes end.Limit s t c (next_keeps s (limited t) is) (subst (λ w. Taking w (StoresText f) (closes end.Limit t)) (sym is) refl) a
+      text_closes end.Limit s t c (next_keeps s (limited t) is) (subst (λ w. BehindTaken w (StoresText f) (closes end.Limit t)) (sym is) refl) a
   enter_stops s (took text t) end.InputEnd c is a = absurd a
   enter_stops s (limited t) end.InputEnd c is a = absurd a
   enter_stops s (took text t) end.Limit c is a = absurd a
@@ -197,7 +183,7 @@ module _ {C : Type 0} (at : C → State → ℕ → Type 0) (stands : C → Stat
   enter_stops s taken end.PrinterFault c is a = text_breaks s taken c is a
 
   -- a fault ends the session
-  fault_ends : (Row : Shell → Next → Type 0) (e : SessionEnd) (drawn : ℕ) (s : Shell) (c : C) → IsFault e → LineBreaks at stands Row s c
+  fault_ends : (Row : Shell → AfterLine → Type 0) (e : SessionEnd) (drawn : ℕ) (s : Shell) (c : C) → IsFault e → LineBreaks at stands Row s c
       → LineEnds at stands Row e drawn s c
   fault_ends Row end.Halted drawn s c fault b = absurd fault
   fault_ends Row end.InputEnd drawn s c fault b = absurd fault
@@ -216,16 +202,16 @@ module _ {C : Type 0} (at : C → State → ℕ → Type 0) (stands : C → Stat
       let like = like_answered (no_room f (length text) (free (state_in t)) (state_in t).slots) f f (slots_stored f file_kind.Text text (state_in t).slots) t in
       record {
         after = stores f file_kind.Text text t;
-        row = subst (λ w. Taking w (StoresText f) (goes (stores f file_kind.Text text t))) (sym is) refl;
+        row = subst (λ w. BehindTaken w (StoresText f) (goes (stores f file_kind.Text text t))) (sym is) refl;
         takes = like.taken ∙ counted;
-        mode = like.mode ∙ k.mode;
-        shown_before = like.shown_before ∙ k.shown_before;
+        mode = like.mode ∙ k.mode_is;
+        shown_before = like.shown_before ∙ k.before_is;
         draws = drawn_answered (no_room f (length text) (free (state_in t)) (state_in t).slots) f f (slots_stored f file_kind.Text text (state_in t).slots) t
-            ∙ k.draws;
+            ∙ k.drawn_is;
         at_ = l;
       }
   enter_stores ready failed s t text count (Err e) c is counted left l = fault_ends (EntersFile f) e s.drawn s c left.0 (record {
     next = goes (stores f file_kind.Text text t);
-    row = subst (λ w. Taking w (StoresText f) (goes (stores f file_kind.Text text t))) (sym is) refl;
+    row = subst (λ w. BehindTaken w (StoresText f) (goes (stores f file_kind.Text text t))) (sym is) refl;
     in_ = l;
   })

@@ -4,4 +4,5 @@ pub mod Opening
 pub mod Rows
 pub mod Running
 pub mod SlotLines
+pub mod Keeping
 pub mod Entered

@@ -6,6 +6,7 @@ use Rattle.edi_session.specs.declared.end.SessionEnd.{SessionEnd}
 use Rattle.edi_session.specs.declared.end.SessionEnd.TheVariants as end
 use Rattle.edi_session.specs.Shell.{Shell, Taken, took, limited, shell_of, limit, state_in, took_byte, echoed, last_line, take_line}
 use Rattle.std.proofs.lemmas.Bool.{eqb-true}
+use Rattle.std.proofs.lemmas.List.{length-append, take_all}
 use Rattle.std.specs.Prelude.{Result, Ok, Err}
 use Rattle.edi_calls.specs.declared.ends.Outside.{Outside}
 use Rattle.edi_session.proofs.Later.{Later, take_line_on}
@@ -82,25 +83,28 @@ module _ {C : Type 0} (at : C → State → ℕ → Type 0) (stands : C → Stat
 
 -- ---- what is kept of a line
 
-take_none : (most : ℕ) → take {A = ℕ} most [] ≡ []
-take_none zero = refl
-take_none (suc m) = refl
-
-more_taken : (most : ℕ) (line : List ℕ) (b : ℕ) → length (take most line) < most → take most line ++ b ∷ [] ≡ take most (line ++ b ∷ [])
-more_taken zero line b lt = absurd (omega (arith, lt))
-more_taken (suc m) [] b lt = ap (λ xs. b ∷ xs) (sym (take_none m))
-more_taken (suc m) (x ∷ line) b lt = ap (λ xs. x ∷ xs) (more_taken m line b (omega (arith, lt)))
-
 all_taken : (most : ℕ) (line : List ℕ) (b : ℕ) → most ≤ length (take most line) → take most line ≡ take most (line ++ b ∷ [])
 all_taken zero line b le = refl
 all_taken (suc m) [] b le = absurd (omega (arith, le))
 all_taken (suc m) (x ∷ line) b le = ap (λ xs. x ∷ xs) (all_taken m line b (omega (arith, le)))
 
-pub keeps_more : (most : ℕ) (kept line : List ℕ) (b : ℕ) → kept ≡ take most line → length kept < most → kept ++ b ∷ [] ≡ take most (line ++ b ∷ [])
-keeps_more most kept line b is lt = ap (λ k. k ++ b ∷ []) is ∙ more_taken most line b (subst (λ k. length k < most) is lt)
+-- one more byte is kept where there is room for it, and none where there is not
+pub keeps_more : (most : ℕ) (kept : List ℕ) (b : ℕ) → length kept < most → kept ++ b ∷ [] ≡ take most (kept ++ b ∷ [])
+keeps_more most kept b less = sym (take_all most (kept ++ b ∷ []) (omega (arith, less, length-append kept (b ∷ []))))
 
-pub keeps_all : (most : ℕ) (kept line : List ℕ) (b : ℕ) → kept ≡ take most line → most ≤ length kept → kept ≡ take most (line ++ b ∷ [])
-keeps_all most kept line b is le = is ∙ all_taken most line b (subst (λ k. most ≤ length k) is le)
+pub keeps_all : (most : ℕ) (kept : List ℕ) (b : ℕ) → length kept ≤ most → most ≤ length kept → kept ≡ take most (kept ++ b ∷ [])
+keeps_all most kept b short long =
+    let whole = sym (take_all most kept short) in
+    whole ∙ all_taken most kept b (subst (λ k. most ≤ length k) whole long)
+
+first_of_first : (most : ℕ) (line : List ℕ) (b : ℕ) → take most (take most line ++ b ∷ []) ≡ take most (line ++ b ∷ [])
+first_of_first zero line b = refl
+first_of_first (suc m) [] b = refl
+first_of_first (suc m) (x ∷ line) b = ap (λ xs. x ∷ xs) (first_of_first m line b)
+
+-- what is kept of the kept bytes and one more is what is kept of the line
+pub keeps_still : (most : ℕ) (kept line : List ℕ) (b : ℕ) → kept ≡ take most line → take most (kept ++ b ∷ []) ≡ take most (line ++ b ∷ [])
+keeps_still most kept line b is = ap (λ k. take most (k ++ b ∷ [])) is ∙ first_of_first most line b
 
 -- ---- what is shown of it
 

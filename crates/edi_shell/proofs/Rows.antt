@@ -9,7 +9,7 @@ use Rattle.edi_catalog.specs.declared.ends.CatEnd.{CatEnd}
 use Rattle.edi_target.specs.File.{code_fault_of}
 use Rattle.edi_session.specs.declared.end.SessionEnd.{SessionEnd}
 use Rattle.edi_session.specs.Files.{answered}
-use Rattle.edi_session.specs.Session.{Next, goes, ExecutesFile, ExecutesBytes, says_no_memory}
+use Rattle.edi_session.specs.Session.{AfterLine, goes, ExecutesFile, ExecutesBytes, says_no_memory}
 use Rattle.edi_session.specs.Shell.{Shell, says}
 use Rattle.edi_shell_calls.specs.Standing.{Leads}
 use Rattle.edi_shell.specs.Files.{wrong, refused, refused_kind, IsOpened}
@@ -32,7 +32,7 @@ drawn_answered (Some why) f g slots s = refl
 -- ---- rows
 
 module _ {C : Type 0} (at : C → State → ℕ → Type 0) (stands : C → State → Type 0) where
-  pub leads_does : (Row : Shell → Next → Type 0) (s t : Shell) (result : Result (Unit {0}) SessionEnd) (c : C)
+  pub leads_does : (Row : Shell → AfterLine → Type 0) (s t : Shell) (result : Result (Unit {0}) SessionEnd) (c : C)
       → Row s (goes t) → IsLike s t → t.drawn ≡ s.drawn → Leads at stands result t c → LineDoes at stands Row result s.drawn s c
   leads_does Row s t (Ok x) c row like draws l = record { after = t; row = row; like = like; draws = draws; at_ = l }
   leads_does Row s t (Err e) c row like draws l = record { next = goes t; row = row; in_ = l }
@@ -50,13 +50,13 @@ pub execute_refused : (bound : ℕ) (choices : Choices) (f : List ℕ) (file : O
 execute_refused bound choices f None s t e = ap goes (sym (some_same e))
 execute_refused bound choices f (Some file) s t e = execute_kind bound choices f file s t file.kind e
 
-opened_code : (bound : ℕ) (choices : Choices) (f : List ℕ) (file : File) (s : Shell) (next : Next) (kind : FileKind) → wrong (Some file_kind.Code) kind ≡ None
+opened_code : (bound : ℕ) (choices : Choices) (f : List ℕ) (file : File) (s : Shell) (next : AfterLine) (kind : FileKind) → wrong (Some file_kind.Code) kind ≡ None
     → ExecutesBytes bound choices f file.bytes (code_fault_of file.bytes) s next ⊎ (next ≡ goes (says_no_memory s)) → ExecutesFile bound choices f
     (Some (record file { kind = kind })) s next
 opened_code bound choices f file s next file_kind.Code e row = row
 opened_code bound choices f file s next file_kind.Text e row = absurd cc
 
-pub execute_opened : (bound : ℕ) (choices : Choices) (f : List ℕ) (file : Option File) (opened : File) (s : Shell) (next : Next)
+pub execute_opened : (bound : ℕ) (choices : Choices) (f : List ℕ) (file : Option File) (opened : File) (s : Shell) (next : AfterLine)
     → IsOpened (Some file_kind.Code) file opened
     → ExecutesBytes bound choices f opened.bytes (code_fault_of opened.bytes) s next ⊎ (next ≡ goes (says_no_memory s)) → ExecutesFile bound choices f file s
     next

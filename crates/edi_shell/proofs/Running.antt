@@ -15,7 +15,7 @@ use Rattle.edi_target.specs.File.{code_fault_of, code_of}
 use Rattle.edi_target.specs.declared.code_fault.CodeFault.{CodeFault}
 use Rattle.edi_target.specs.declared.code_fault.CodeFault.TheVariants as fault
 use Rattle.edi_session.specs.declared.end.SessionEnd.{SessionEnd}
-use Rattle.edi_session.specs.Session.{Next, goes, ExecutesBytes, ExecutesCode, ExecutesFile, ends_with, says_no_memory}
+use Rattle.edi_session.specs.Session.{AfterLine, goes, ExecutesBytes, ExecutesCode, ExecutesFile, ends_with, says_no_memory}
 use Rattle.edi_session.specs.Shell.{Shell, says, shown_by, on_fresh_line}
 use Rattle.edi_session.specs.Texts.{ending_line}
 use Rattle.edi_session.proofs.Later.{ends_on, says_on}
@@ -196,7 +196,7 @@ module _ {C : Type 0} (at : C → State → ℕ → Type 0) (stands : C → Stat
       → Reads at stands (Ok (Some (kind, n))) (Some file_kind.Code) file f into s c → code_fault_of front ≡ None → code ≡ code_of front
       → LineDoes at stands (ExecutesCode bound choices f code) result drawn s d → LineDoes at stands (ExecutesFile bound choices f file) result drawn s d
   execute_loaded into front file kind n drawn s c d code result part r sound is does = go result does where
-    row : (next : Next) → ExecutesCode bound choices f code s next → ExecutesFile bound choices f file s next
+    row : (next : AfterLine) → ExecutesCode bound choices f code s next → ExecutesFile bound choices f file s next
     row next ran =
         execute_opened bound choices f file r.0 s next r.1
         (inl (subst (λ k. ExecutesBytes bound choices f r.0.bytes k s next) (sym sound ∙ ap code_fault_of (part ∙ r.3))

@@ -4,7 +4,7 @@ use Rattle.edi_calls.specs.declared.ends.Outside.{Outside}
 use Rattle.edi_calls.specs.State.{State}
 use Rattle.edi_session.specs.declared.end.SessionEnd.{SessionEnd}
 use Rattle.edi_session.specs.declared.end.SessionEnd.TheVariants as end
-use Rattle.edi_session.specs.Shell.{Shell, Taken, took, ended, limited, shell_of, limit, state_in, took_byte, is_end}
+use Rattle.edi_session.specs.Shell.{Shell, Taken, took, ended, limited, shell_of, limit, state_in, took_byte, ends_text}
 use Rattle.edi_shell_calls.specs.Standing.{At, StandsIn, failed_by}
 
 -- So many bytes of a text have been taken, so many of them are its whole lines, and this tells whether the line behind them is the
@@ -12,7 +12,7 @@ use Rattle.edi_shell_calls.specs.Standing.{At, StandsIn, failed_by}
 pub record IsSoFar (count whole : ℕ) (dot : Bool) (text line : List ℕ) : Type 0 where
   pub all : count ≡ length text + length line
   pub lines_ : whole ≡ length text
-  pub ends : dot ≡ is_end line
+  pub ends : dot ≡ ends_text line
 
 module _ {C : Type 0} (ready : C → Type 0) (failed : C → Option Outside) where
   -- a further call may be made, unless an object has failed

@@ -1,6 +1,6 @@
 //! Taking lines of the input.
 
-ghost use Rattle.std.specs.Prelude.{◌≡◌, ◌≤◌, ◌<◌, ◌+◌, IfOk, IfSome, IfNone, [], true};
+ghost use Rattle.std.specs.Prelude.{◌≡◌, ◌≤◌, ◌<◌, ◌+◌, ◌++◌, ◌∷◌, IfOk, IfSome, IfNone, [], take, true};
 ghost use Rattle.edi_session.specs.Shell.{Shell, next_line};
 ghost use Rattle.edi_shell_calls.specs.Standing.{At};
 ghost use Rattle.edi_shell.specs.Taking.{GivesByte, GivesLine, IsLeftSo};
@@ -39,6 +39,15 @@ pub fn next_byte<C: ShellCalls>(calls: &mut C, taken: &mut u32) -> Result<Option
     Ok(byte)
 }
 
+// Keeps a byte of a line, of a line that is too long the first 81 alone.
+fn keep_byte(line: &mut LineBytes, byte: u8)
+    ensures keeps { line.new.items ≡ take 81 (line.old.items ++ byte ∷ []) }
+{
+    if !line.is_full() {
+        line.push(byte);
+    }
+}
+
 /// Takes a command line into `line`, of a line that is too long the first 81 bytes, and shows each byte as it comes.
 pub fn take_command<C: ShellCalls>(
     calls: &mut C,
@@ -66,8 +75,6 @@ pub fn take_command<C: ShellCalls>(
         if byte == LINE_FEED {
             return Ok(());
         }
-        if !line.is_full() {
-            line.push(byte);
-        }
+        keep_byte(line, byte);
     }
 }

@@ -67,11 +67,14 @@ last_get : (b : ℕ) (bs : List ℕ) → slice_get (b ∷ bs) (length bs) ≡ te
 last_get b [] = refl
 last_get b (c ∷ bs) = last_get c bs
 
-end_by : (o : Option ℕ) (b : ℕ) (t : Bool) → (b == 10) ≡ t → o ≡ Some b → line_end (option_map_or (λ c. not (c == 10)) o false) ≡ texts.feed_behind o
-end_by o b true e is = ap (λ p. line_end (option_map_or (λ c. not (c == 10)) p false)) is ∙ ap (λ t. line_end (not t)) e
-    ∙ sym (ap texts.feed_behind is ∙ ap (λ t. if t then [] else 10 ∷ []) e)
-end_by o b false e is = ap (λ p. line_end (option_map_or (λ c. not (c == 10)) p false)) is ∙ ap (λ t. line_end (not t)) e
-    ∙ sym (ap texts.feed_behind is ∙ ap (λ t. if t then [] else 10 ∷ []) e)
+same_feed : (ends : Bool) → line_end (not ends) ≡ texts.feed (if ends then false else true)
+same_feed true = refl
+same_feed false = refl
+
+end_by : (o : Option ℕ) (b : ℕ) → o ≡ Some b → line_end (option_map_or (λ c. not (c == 10)) o false) ≡ texts.feed (texts.is_due_behind o)
+end_by o b is =
+    ap (λ p. line_end (option_map_or (λ c. not (c == 10)) p false)) is ∙ same_feed (b == 10)
+    ∙ sym (ap (λ p. texts.feed (texts.is_due_behind p)) is)
 
 some_last : (b : ℕ) (bs : List ℕ) → (c : ℕ) × (texts.last_of (b ∷ bs) ≡ Some c)
 some_last b [] = (b, refl)
@@ -85,7 +88,7 @@ same_end (b ∷ bs) =
     let at : length (b ∷ bs) - 1 ≡ length bs = omega arith in
     ap (λ k. line_end (option_map_or (λ c. not (c == 10)) (slice_get (b ∷ bs) k) false)) at
     ∙ ap (λ o. line_end (option_map_or (λ c. not (c == 10)) o false)) (last_get b bs)
-    ∙ end_by (texts.last_of (b ∷ bs)) last.0 (last.0 == 10) refl last.1
+    ∙ end_by (texts.last_of (b ∷ bs)) last.0 last.1
 
 -- ---- slots
 

@@ -20,7 +20,7 @@ use Rattle.edi_texts.specs.Run.{IsCodeFor}
 use Rattle.edi_texts.specs.Texts.{IsRefused}
 use Rattle.edi_texts.specs.declared.kind.RefusalKind.{RefusalKind}
 use Rattle.edi_session.specs.declared.end.SessionEnd.{SessionEnd}
-use Rattle.edi_session.specs.Session.{Next, goes, CompilesFile, CompilesText, stores_code, says_no_memory}
+use Rattle.edi_session.specs.Session.{AfterLine, goes, CompilesFile, CompilesText, stores_code, says_no_memory}
 use Rattle.edi_session.specs.Files.{stores}
 use Rattle.edi_session.specs.Shell.{Shell, says, shown_by, state_in}
 use Rattle.edi_session.specs.Texts.{about, on_line, with_number}
@@ -99,12 +99,12 @@ pub compile_refused : (f g : List ℕ) (file : Option File) (s t : Shell) → re
 compile_refused f g None s t e = ap goes (sym (some_same e))
 compile_refused f g (Some file) s t e = compile_kind f g file s t file.kind e
 
-opened_kind : (f g : List ℕ) (file : File) (s : Shell) (next : Next) (kind : FileKind) → wrong (Some file_kind.Text) kind ≡ None
+opened_kind : (f g : List ℕ) (file : File) (s : Shell) (next : AfterLine) (kind : FileKind) → wrong (Some file_kind.Text) kind ≡ None
     → CompilesText file.bytes g s next → CompilesFile f g (Some (record file { kind = kind })) s next
 opened_kind f g file s next file_kind.Text e row = row
 opened_kind f g file s next file_kind.Code e row = absurd cc
 
-pub compile_opened : (f g : List ℕ) (file : Option File) (opened : File) (s : Shell) (next : Next) → IsOpened (Some file_kind.Text) file opened
+pub compile_opened : (f g : List ℕ) (file : Option File) (opened : File) (s : Shell) (next : AfterLine) → IsOpened (Some file_kind.Text) file opened
     → CompilesText opened.bytes g s next → CompilesFile f g file s next
 compile_opened f g file opened s next o row = subst (λ x. CompilesFile f g x s next) (sym o.is) (opened_kind f g opened s next opened.kind o.right row)
 

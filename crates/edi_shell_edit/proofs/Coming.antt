@@ -13,7 +13,7 @@ use Rattle.edi_edit.specs.Editing.{Editing}
 use Rattle.edi_edit.specs.Lines.{lines_of}
 use Rattle.edi_session.specs.declared.end.SessionEnd.{SessionEnd}
 use Rattle.edi_session.specs.declared.end.SessionEnd.TheVariants as end
-use Rattle.edi_session.specs.Session.{Next, BeginsEditing, EditsFile, EditsKind, Goes, edits_on, goes, leaves}
+use Rattle.edi_session.specs.Session.{AfterLine, BeginsEditing, EditsFile, EditsKind, Goes, edits_on, goes, leaves}
 use Rattle.edi_session.specs.Shell.{Shell, commanding, editing, says, shown_by}
 use Rattle.edi_session.specs.Texts.{about}
 use Rattle.edi_shell.proofs.Opening.{some_same}
@@ -28,7 +28,7 @@ pub record Underway (bound : ℕ) (choices : Choices) {C : Type 0} (at : C → S
     (c : C) : Type 0 where
   pub now : Shell
   pub lines_ : ℕ
-  pub comes : (next : Next) → Goes bound choices now next → Chain bound choices (Goes bound choices s) lines_ next
+  pub comes : (next : AfterLine) → Goes bound choices now next → Chain bound choices (Goes bound choices s) lines_ next
   pub mode_is : now.mode ≡ editing title text
   pub behind : IsBehindLine s taken now
   pub at_ : At at c now
@@ -41,8 +41,8 @@ module _ (bound : ℕ) (choices : Choices) {C : Type 0} (at : C → State → �
   -- ---- what lines come to
 
   -- the last line stops the session
-  stops_come : (Row : Next → Type 0) (e : SessionEnd) (Other : Next → Type 0) (now s : Shell) (taken drawn : ℕ) (n : ℕ) (c : C)
-      → ((next : Next) → Row next → Chain bound choices Other n next) → now.drawn ≡ drawn → EditingStops at stands e Row now c
+  stops_come : (Row : AfterLine → Type 0) (e : SessionEnd) (Other : AfterLine → Type 0) (now s : Shell) (taken drawn : ℕ) (n : ℕ) (c : C)
+      → ((next : AfterLine) → Row next → Chain bound choices Other n next) → now.drawn ≡ drawn → EditingStops at stands e Row now c
       → LinesCome bound choices at stands Other (Err e) s taken drawn c
   stops_come Row end.Halted Other now s taken drawn n c chain d h = absurd h
   stops_come Row end.InputEnd Other now s taken drawn n c chain d h =
@@ -55,8 +55,8 @@ module _ (bound : ℕ) (choices : Choices) {C : Type 0} (at : C → State → �
   stops_come Row end.PrinterFault Other now s taken drawn n c chain d h = record { next = h.next; lines_ = n; comes = chain h.next h.row; in_ = h.in_ }
 
   -- another row leads to the same lines
-  pub comes_by : (Row Other : Next → Type 0) (result : Result (Unit {0}) SessionEnd) (s s' : Shell) (taken drawn : ℕ) (c : C)
-      → ((n : ℕ) (next : Next) → Chain bound choices Row n next → (m : ℕ) × Chain bound choices Other m next) → s.shown_before ≡ s'.shown_before
+  pub comes_by : (Row Other : AfterLine → Type 0) (result : Result (Unit {0}) SessionEnd) (s s' : Shell) (taken drawn : ℕ) (c : C)
+      → ((n : ℕ) (next : AfterLine) → Chain bound choices Row n next → (m : ℕ) × Chain bound choices Other m next) → s.shown_before ≡ s'.shown_before
       → LinesCome bound choices at stands Row result s taken drawn c → LinesCome bound choices at stands Other result s' taken drawn c
   comes_by Row Other (Ok x) s s' taken drawn c chain before h =
       let on = chain h.lines_ (goes h.after) h.comes in
@@ -86,7 +86,7 @@ module _ (bound : ℕ) (choices : Choices) {C : Type 0} (at : C → State → �
       let on = chain h.lines_ h.next h.comes in record { next = h.next; lines_ = on.0; comes = on.1; in_ = h.in_ }
 
   -- an object failed at the first line
-  pub broke_comes : (Row : Next → Type 0) (e : SessionEnd) (s : Shell) (taken : ℕ) (c : C) → IsFault e → EditingBreaks at stands Row c
+  pub broke_comes : (Row : AfterLine → Type 0) (e : SessionEnd) (s : Shell) (taken : ℕ) (c : C) → IsFault e → EditingBreaks at stands Row c
       → LinesCome bound choices at stands Row (Err e) s taken s.drawn c
   broke_comes Row e s taken c fault b = stops_come Row e Row s s taken s.drawn zero c (λ next row. row) refl (broke at stands Row e s c fault b)
 
@@ -151,7 +151,7 @@ module _ (bound : ℕ) (choices : Choices) {C : Type 0} (at : C → State → �
       (λ n next chain. (suc n, (begun_at f lines s, inl refl, tt, chain))) refl h
 
   -- a line is shown in its place
-  pub leads_comes : (ready : C → Type 0) (failed : C → Option Outside) (Row : Next → Type 0) (s t : Shell) (taken : ℕ)
+  pub leads_comes : (ready : C → Type 0) (failed : C → Option Outside) (Row : AfterLine → Type 0) (s t : Shell) (taken : ℕ)
       (result : Result (Unit {0}) SessionEnd) (c : C)
       → Row (goes t) → t.mode ≡ commanding → t.shown_before ≡ s.shown_before → t.taken ≡ taken → t.drawn ≡ s.drawn → IsLeft ready failed result c
       → Leads at stands result t c → LinesCome bound choices at stands Row result s taken s.drawn c
@@ -170,7 +170,7 @@ module _ (bound : ℕ) (choices : Choices) {C : Type 0} (at : C → State → �
 
   -- the file is there
   pub opened : (f : List ℕ) (file : Option File) (lines : List (List ℕ)) (s : Shell) (taken : ℕ) (result : Result (Unit {0}) SessionEnd) (c : C)
-      → ((next : Next) → BeginsEditing f lines s next → EditsFile f file s next)
+      → ((next : AfterLine) → BeginsEditing f lines s next → EditsFile f file s next)
       → LinesCome bound choices at stands (BeginsEditing f lines s) result s taken s.drawn c
       → LinesCome bound choices at stands (EditsFile f file s) result s taken s.drawn c
   opened f file lines s taken result c row h =
@@ -200,7 +200,7 @@ module _ {C : Type 0} (at : C → State → ℕ → Type 0) (stands : C → Stat
   opens_none f None into s c e a = (λ next row. row, a)
   opens_none f (Some file) into s c e a = absurd cc
 
-  text_row : (f : List ℕ) (file : File) (s : Shell) (next : Next) (kind : FileKind) → kind ≡ file_kind.Text
+  text_row : (f : List ℕ) (file : File) (s : Shell) (next : AfterLine) (kind : FileKind) → kind ≡ file_kind.Text
       → BeginsEditing f (lines_of file.bytes) s next → EditsKind kind f file.bytes s next
   text_row f file s next file_kind.Text e row = row
   text_row f file s next file_kind.Code e row = absurd cc

@@ -9,14 +9,15 @@ use Rattle.edi_session.proofs.Later.{says_on}
 use Rattle.edi_session.proofs.Total as total
 use Rattle.edi_session.specs.declared.end.SessionEnd.{SessionEnd}
 use Rattle.edi_session.specs.declared.end.SessionEnd.TheVariants as end
-use Rattle.edi_session.specs.Session.{Next, ChangesLine, EditsBy, EditsLine, Goes, GoesIn, Inserts, Replaces, Taking, edit_refusal, edits_on, says_no_memory}
+use Rattle.edi_session.specs.Session.{AfterLine, ChangesLine, EditsBy, EditsLine, Goes, GoesIn, Inserts, Replaces, BehindTaken, edit_refusal, edits_on, says_no_memory}
 use Rattle.edi_session.specs.Session.{shell_in}
 use Rattle.edi_session.specs.Shell.{Shell, Taken, took, ended, limited, shell_of, editing, next_line, says, state_in}
 use Rattle.edi_session.specs.Words.{edit_line, kept_line}
 use Rattle.edi_shell.proofs.Standing.{stands_later}
 use Rattle.edi_shell.specs.Taking.{GivesLine, Stops}
 use Rattle.edi_shell_calls.specs.Standing.{At, StandsIn}
-use Rattle.edi_shell_edit.proofs.Chains.{TakingKeeps, line_keeps, taking_behind}
+use Rattle.edi_shell.proofs.Keeping.{TakingKeeps, taking_behind}
+use Rattle.edi_shell_edit.proofs.Chains.{line_keeps}
 use Rattle.edi_shell_edit.specs.Rows.{EditingBreaks, Edits, IsBehindLine, EditingStops, puts}
 
 -- a change comes to something
@@ -25,16 +26,16 @@ change_comes (Some why) n title before after t = (edits_on title before (says (e
 change_comes None n title before after t = (edits_on title before (says_no_memory t), inr refl, says_on (codes "no memory") t)
 
 module _ {C : Type 0} (at : C → State → ℕ → Type 0) (stands : C → State → Type 0) where
-  breaks_taking : (taken : Taken) (P : List ℕ → Shell → Next → Type 0) (c : C) → ((bytes : List ℕ) (t : Shell) → total.Comes (P bytes) t)
-      → StandsIn stands (shell_of taken) c → EditingBreaks at stands (Taking taken P) c
+  breaks_taking : (taken : Taken) (P : List ℕ → Shell → AfterLine → Type 0) (c : C) → ((bytes : List ℕ) (t : Shell) → total.Comes (P bytes) t)
+      → StandsIn stands (shell_of taken) c → EditingBreaks at stands (BehindTaken taken P) c
   breaks_taking taken P c on there =
       let next = taking_behind taken P on in
       record { next = next.0; row = next.1; in_ = stands_later stands (shell_of taken) (shell_in next.0) c next.2 there }
 
   -- no line is taken
-  taking_stops : (taken : Taken) (P : List ℕ → Shell → Next → Type 0) (e : SessionEnd) (s : Shell) (c : C)
+  taking_stops : (taken : Taken) (P : List ℕ → Shell → AfterLine → Type 0) (e : SessionEnd) (s : Shell) (c : C)
       → ((bytes : List ℕ) (t : Shell) → total.Comes (P bytes) t) → (shell_of taken).drawn ≡ s.drawn → Stops at stands e taken c
-      → EditingStops at stands e (Taking taken P) s c
+      → EditingStops at stands e (BehindTaken taken P) s c
   taking_stops (took bytes t) P end.Halted s c on drawn h = h
   taking_stops (ended t) P end.Halted s c on drawn h = h
   taking_stops (limited t) P end.Halted s c on drawn h = h
@@ -50,7 +51,7 @@ module _ {C : Type 0} (at : C → State → ℕ → Type 0) (stands : C → Stat
   taking_stops taken P end.PrinterFault s c on drawn h = breaks_taking taken P c on h
 
   -- the same line by another row, from another shell
-  stops_by : (Row Other : Next → Type 0) (e : SessionEnd) (t s : Shell) (c : C) → ((next : Next) → Row next → Other next) → t.drawn ≡ s.drawn
+  stops_by : (Row Other : AfterLine → Type 0) (e : SessionEnd) (t s : Shell) (c : C) → ((next : AfterLine) → Row next → Other next) → t.drawn ≡ s.drawn
       → EditingStops at stands e Row t c → EditingStops at stands e Other s c
   stops_by Row Other end.Halted t s c to_row drawn h = h
   stops_by Row Other end.InputEnd t s c to_row drawn h = record { last = h.last; row = to_row _ h.row; drawn_is = h.drawn_is ∙ drawn; at_ = h.at_ }
@@ -64,20 +65,20 @@ module _ {C : Type 0} (at : C → State → ℕ → Type 0) (stands : C → Stat
   follows_by t s after count k f =
       record { taken_is = f.taken_is; drawn_is = f.drawn_is ∙ k.drawn_is; before_is = f.before_is ∙ k.before_is }
 
-  edits_by : (Row Other : Next → Type 0) (result : Result Bool SessionEnd) (t s : Shell) (count : ℕ) (title : List ℕ) (e : Editing) (c : C)
-      → ((next : Next) → Row next → Other next) → TakingKeeps s t → Edits at stands result Row t count title e c → Edits at stands result Other s count title e c
+  edits_by : (Row Other : AfterLine → Type 0) (result : Result Bool SessionEnd) (t s : Shell) (count : ℕ) (title : List ℕ) (e : Editing) (c : C)
+      → ((next : AfterLine) → Row next → Other next) → TakingKeeps s t → Edits at stands result Row t count title e c → Edits at stands result Other s count title e c
   edits_by Row Other (Ok true) t s count title e c to_row k h = (h.0, to_row _ h.1, follows_by t s h.0 count k h.2, h.3)
   edits_by Row Other (Ok false) t s count title e c to_row k h = (h.0, to_row _ h.1, follows_by t s h.0 count k h.2, h.3)
   edits_by Row Other (Err why) t s count title e c to_row k h = stops_by Row Other why t s c to_row k.drawn_is h
 
   -- A line was taken, and what is done with it is done.
-  pub taking_edits : (P : List ℕ → Shell → Next → Type 0) (taken : Taken) (kept : List ℕ) (count later : ℕ) (result : Result Bool SessionEnd) (s : Shell)
+  pub taking_edits : (P : List ℕ → Shell → AfterLine → Type 0) (taken : Taken) (kept : List ℕ) (count later : ℕ) (result : Result Bool SessionEnd) (s : Shell)
       (title : List ℕ) (e : Editing) (before c : C)
       → TakingKeeps s (shell_of taken) → GivesLine at stands 261121 (Ok tt) taken kept count before
       → ((bytes : List ℕ) (t : Shell) → kept ≡ kept_line bytes → t.taken ≡ count → At at before t → Edits at stands result (P bytes t) t later title e c)
-      → Edits at stands result (Taking taken P) s later title e c
+      → Edits at stands result (BehindTaken taken P) s later title e c
   taking_edits P (took bytes t) kept count later result s title e before c k g done =
-      edits_by (P bytes t) (Taking (took bytes t) P) result t s later title e c (λ next row. row) k (done bytes t g.0 g.1 g.2)
+      edits_by (P bytes t) (BehindTaken (took bytes t) P) result t s later title e c (λ next row. row) k (done bytes t g.0 g.1 g.2)
   taking_edits P (ended t) kept count later result s title e before c k g done = absurd g
   taking_edits P (limited t) kept count later result s title e before c k g done = absurd g
 
@@ -131,7 +132,7 @@ module _ {C : Type 0} (at : C → State → ℕ → Type 0) (stands : C → Stat
   pub next_stops : (bound : ℕ) (choices : Choices) (title : List ℕ) (e : Editing) (why : SessionEnd) (s : Shell) (c : C) → s.mode ≡ editing title e
       → Stops at stands why (next_line false s) c → EditingStops at stands why (Goes bound choices s) s c
   next_stops bound choices title e why s c mode h =
-      stops_by (Taking (next_line false s) (EditsLine title e)) (Goes bound choices s) why s s c
+      stops_by (BehindTaken (next_line false s) (EditsLine title e)) (Goes bound choices s) why s s c
       (λ next row. subst (λ m. GoesIn bound choices m s next) (sym mode) row) refl
       (taking_stops (next_line false s) (EditsLine title e) why s c (total.edits_line title e) (line_keeps false (state_in s).input [] s).drawn_is h)
 
@@ -140,7 +141,7 @@ module _ {C : Type 0} (at : C → State → ℕ → Type 0) (stands : C → Stat
       → ((t : Shell) → t.taken ≡ count → At at before t → Edits at stands result (EditsBy (edit_line kept) title e t) t later title now c)
       → Edits at stands result (Goes bound choices s) s later title now c
   next_edits bound choices title e now kept count later result s before c mode g done =
-      edits_by (Taking (next_line false s) (EditsLine title e)) (Goes bound choices s) result s s later title now c
+      edits_by (BehindTaken (next_line false s) (EditsLine title e)) (Goes bound choices s) result s s later title now c
       (λ next row. subst (λ m. GoesIn bound choices m s next) (sym mode) row) (record { drawn_is = refl; mode_is = refl; before_is = refl })
       (taking_edits (EditsLine title e) (next_line false s) kept count later result s title now before c (line_keeps false (state_in s).input [] s) g
       (λ bytes t is taken a. subst (λ k. Edits at stands result (EditsBy (edit_line k) title e t) t later title now c) is (done t taken a)))

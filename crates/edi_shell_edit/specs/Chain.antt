@@ -4,7 +4,7 @@ use Rattle.edi_calls.specs.Choice.{Choices}
 use Rattle.edi_calls.specs.State.{State}
 use Rattle.edi_session.specs.declared.end.SessionEnd.{SessionEnd}
 use Rattle.edi_session.specs.declared.end.SessionEnd.TheVariants as end
-use Rattle.edi_session.specs.Session.{Next, goes, closes, shell_in, Goes}
+use Rattle.edi_session.specs.Session.{AfterLine, goes, closes, shell_in, Goes}
 use Rattle.edi_session.specs.Shell.{Shell, Mode, commanding, editing}
 use Rattle.edi_shell_calls.specs.Standing.{At, StandsIn}
 
@@ -14,13 +14,13 @@ IsEditing (editing title e) = ⊤
 
 module _ (bound : ℕ) (choices : Choices) where
   -- CHAIN: a line with this row, and so many lines of an editing that follow it
-  abbrev pub Chain : (Row : Next → Type 0) → ℕ → Next → Type 0
+  abbrev pub Chain : (Row : AfterLine → Type 0) → ℕ → AfterLine → Type 0
   Chain Row zero next = Row next
   Chain Row (suc n) next = (between : Shell) × Row (goes between) × IsEditing between.mode × Chain (Goes bound choices between) n next
 
 module _ (bound : ℕ) (choices : Choices) {C : Type 0} (at : C → State → ℕ → Type 0) (stands : C → State → Type 0) where
   -- the session goes on behind them, at a command line; so many bytes have been taken, and so many choices drawn
-  pub record LinesReturn (Row : Next → Type 0) (s : Shell) (taken drawn : ℕ) (c : C) : Type 0 where
+  pub record LinesReturn (Row : AfterLine → Type 0) (s : Shell) (taken drawn : ℕ) (c : C) : Type 0 where
     pub after : Shell
     pub lines_ : ℕ
     pub comes : Chain bound choices Row lines_ (goes after)
@@ -31,7 +31,7 @@ module _ (bound : ℕ) (choices : Choices) {C : Type 0} (at : C → State → �
     pub at_ : At at c after
 
   -- the session ends so at the last of them, and the fresh-line rule is still to be applied
-  pub record LinesClose (Row : Next → Type 0) (e : SessionEnd) (drawn : ℕ) (c : C) : Type 0 where
+  pub record LinesClose (Row : AfterLine → Type 0) (e : SessionEnd) (drawn : ℕ) (c : C) : Type 0 where
     pub last : Shell
     pub lines_ : ℕ
     pub comes : Chain bound choices Row lines_ (closes e last)
@@ -39,13 +39,13 @@ module _ (bound : ℕ) (choices : Choices) {C : Type 0} (at : C → State → �
     pub at_ : At at c last
 
   -- an object failed on the way to what they lead to
-  pub record LinesBreakOff (Row : Next → Type 0) (c : C) : Type 0 where
-    pub next : Next
+  pub record LinesBreakOff (Row : AfterLine → Type 0) (c : C) : Type 0 where
+    pub next : AfterLine
     pub lines_ : ℕ
     pub comes : Chain bound choices Row lines_ next
     pub in_ : StandsIn stands (shell_in next) c
 
-  abbrev pub LinesCome : (Row : Next → Type 0) → Result (Unit {0}) SessionEnd → Shell → (taken drawn : ℕ) → C → Type 0
+  abbrev pub LinesCome : (Row : AfterLine → Type 0) → Result (Unit {0}) SessionEnd → Shell → (taken drawn : ℕ) → C → Type 0
   LinesCome Row (Ok x) s taken drawn c = LinesReturn Row s taken drawn c
   LinesCome Row (Err end.Halted) s taken drawn c = LinesClose Row end.Halted drawn c
   LinesCome Row (Err end.InputEnd) s taken drawn c = LinesClose Row end.InputEnd drawn c

@@ -7,7 +7,7 @@ use Rattle.edi_session.specs.declared.end.SessionEnd.{SessionEnd}
 use Rattle.edi_session.specs.declared.end.SessionEnd.TheVariants as end
 use Rattle.edi_session.specs.declared.line.EditLine.{EditLine}
 use Rattle.edi_session.specs.declared.line.EditLine.TheVariants as edit
-use Rattle.edi_session.specs.Session.{Next, BeginsEditing, EditsFile, closes, edits_on, goes, leaves, shell_in}
+use Rattle.edi_session.specs.Session.{AfterLine, BeginsEditing, EditsFile, closes, edits_on, goes, leaves, shell_in}
 use Rattle.edi_session.specs.Shell.{Shell, shown_by}
 use Rattle.edi_shell_calls.specs.Standing.{At, StandsIn}
 use Rattle.edi_shell.specs.Rows.{IsLike}
@@ -25,19 +25,19 @@ pub record IsBehindLine (s : Shell) (taken : ℕ) (after : Shell) : Type 0 where
 
 module _ {C : Type 0} (at : C → State → ℕ → Type 0) (stands : C → State → Type 0) where
   -- an object failed on the way to what the row has
-  pub record EditingBreaks (Row : Next → Type 0) (c : C) : Type 0 where
-    pub next : Next
+  pub record EditingBreaks (Row : AfterLine → Type 0) (c : C) : Type 0 where
+    pub next : AfterLine
     pub row : Row next
     pub in_ : StandsIn stands (shell_in next) c
 
   -- the session ends so, as the row has it
-  pub record EditingEnds (Row : Next → Type 0) (e : SessionEnd) (s : Shell) (c : C) : Type 0 where
+  pub record EditingEnds (Row : AfterLine → Type 0) (e : SessionEnd) (s : Shell) (c : C) : Type 0 where
     pub last : Shell
     pub row : Row (closes e last)
     pub drawn_is : last.drawn ≡ s.drawn
     pub at_ : At at c last
 
-  abbrev pub EditingStops : SessionEnd → (Row : Next → Type 0) → Shell → C → Type 0
+  abbrev pub EditingStops : SessionEnd → (Row : AfterLine → Type 0) → Shell → C → Type 0
   EditingStops end.Halted Row s c = ⊥
   EditingStops end.InputEnd Row s c = EditingEnds Row end.InputEnd s c
   EditingStops end.Limit Row s c = EditingEnds Row end.Limit s c
@@ -47,7 +47,7 @@ module _ {C : Type 0} (at : C → State → ℕ → Type 0) (stands : C → Stat
   EditingStops end.PrinterFault Row s c = EditingBreaks Row c
 
   -- As the row has it, the editing is left, or goes on with this text, and the object stands there; or the session stops.
-  abbrev pub Edits : Result Bool SessionEnd → (Row : Next → Type 0) → Shell → (taken : ℕ) → (title : List ℕ) → Editing → C → Type 0
+  abbrev pub Edits : Result Bool SessionEnd → (Row : AfterLine → Type 0) → Shell → (taken : ℕ) → (title : List ℕ) → Editing → C → Type 0
   Edits (Ok true) Row s taken title e c = (after : Shell) × Row (leaves after) × IsBehindLine s taken after × At at c after
   Edits (Ok false) Row s taken title e c = (after : Shell) × Row (edits_on title e after) × IsBehindLine s taken after × At at c after
   Edits (Err why) Row s taken title e c = EditingStops why Row s c
@@ -61,6 +61,6 @@ module _ {C : Type 0} (at : C → State → ℕ → Type 0) (stands : C → Stat
   -- The text of the file stands in front in `into`, and the editing of it may begin; or why it does not begin was shown.
   abbrev pub OpensText : Result (Option ℕ) SessionEnd → (f : List ℕ) → Option File → (into : List ℕ) → Shell → C → Type 0
   OpensText (Ok (Some n)) f file into s c =
-      ((next : Next) → BeginsEditing f (lines_of (take n into)) s next → EditsFile f file s next) × At at c s
+      ((next : AfterLine) → BeginsEditing f (lines_of (take n into)) s next → EditsFile f file s next) × At at c s
   OpensText (Ok None) f file into s c = (after : Shell) × EditsFile f file s (goes after) × IsLike s after × (after.drawn ≡ s.drawn) × At at c after
   OpensText (Err fault) f file into s c = EditingBreaks (EditsFile f file s) c

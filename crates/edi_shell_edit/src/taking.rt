@@ -1,6 +1,6 @@
 //! Taking the lines of an editing.
 
-ghost use Rattle.std.specs.Prelude.{◌≡◌, ◌≤◌, ◌<◌, IfOk, false, length, vec_capacity};
+ghost use Rattle.std.specs.Prelude.{◌≡◌, ◌≤◌, ◌<◌, ◌++◌, ◌∷◌, [], IfOk, false, length, take, vec_capacity};
 ghost use Rattle.edi_edit.specs.Lines.{has_feed};
 ghost use Rattle.edi_session.specs.Shell.{Shell, next_line};
 ghost use Rattle.edi_shell.specs.Taking.{GivesLine, IsLeftSo};
@@ -14,6 +14,19 @@ use edi_shell_calls::ShellCalls;
 pub(crate) const MOST_KEPT: usize = 261_121;
 
 const LINE_FEED: u8 = 10;
+
+// Keeps a byte of a line, of a longer line the first 261,121 alone.
+fn keep_byte(line: &mut Vec<u8>, byte: u8)
+    requires room { MOST_KEPT ≤ vec_capacity line.old }
+    requires short { length line.old.items ≤ MOST_KEPT }
+    ensures keeps { line.new.items ≡ take MOST_KEPT (line.old.items ++ byte ∷ []) }
+    ensures short { length line.new.items ≤ MOST_KEPT }
+    ensures room { MOST_KEPT ≤ vec_capacity line.new }
+{
+    if line.len() < MOST_KEPT {
+        line.push_reserved(byte);
+    }
+}
 
 /// Takes a line of an editing into `line`, of a longer one the first 261,121 bytes. It is not shown.
 pub(crate) fn take_line<C: ShellCalls>(
@@ -46,8 +59,6 @@ pub(crate) fn take_line<C: ShellCalls>(
         if byte == LINE_FEED {
             return Ok(());
         }
-        if line.len() < MOST_KEPT {
-            line.push_reserved(byte);
-        }
+        keep_byte(line, byte);
     }
 }

@@ -8,11 +8,10 @@ ghost use Rattle.edi_session.specs.Texts as texts;
 ghost use Rattle.edi_shell_lines.specs.Endings.{line_for};
 
 use arrayvec::ArrayVec;
-use edi_calls::Cause;
 use edi_catalog::CatEnd;
 use edi_image::Title;
 use edi_kernel::Ending;
-use edi_texts::RefusalKind;
+use edi_texts::{RefusalKind, cause_text};
 use itoa::Buffer;
 
 /// Room for the longest line.
@@ -131,21 +130,6 @@ pub fn fault_line(kind: RefusalKind, line: u16) -> Shown
     ensures exact { result.items ≡ texts.on_line line (kind_text kind) ++ 10 ∷ [] }
 {
     on_line(line, kind.text())
-}
-
-fn cause_text(cause: Cause) -> &'static str
-    ensures exact { result.now ≡ texts.cause_text cause }
-    ensures short { length result.now ≤ 32 }
-{
-    match cause {
-        Cause::Range => "range",
-        Cause::VariableLimit => "variable limit",
-        Cause::ProcessLimit => "process limit",
-        Cause::Held => "held",
-        Cause::NoFile => "no file",
-        Cause::FileLimit => "file limit",
-        Cause::Halt => "halt",
-    }
 }
 
 /// The line of the ending of the program of a title, if it has one; an execution that an object has broken off has none.

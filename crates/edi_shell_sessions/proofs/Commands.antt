@@ -6,7 +6,7 @@ use Rattle.edi_calls.specs.Choice.{Choices}
 use Rattle.edi_calls.specs.State.{State}
 use Rattle.edi_session.specs.declared.end.SessionEnd.{SessionEnd}
 use Rattle.edi_session.specs.declared.end.SessionEnd.TheVariants as end
-use Rattle.edi_session.specs.Session.{Next, goes, closes}
+use Rattle.edi_session.specs.Session.{AfterLine, goes, closes}
 use Rattle.edi_session.specs.Shell.{Shell}
 use Rattle.edi_shell_calls.specs.Standing.{IsLeft, Leads}
 use Rattle.edi_shell.specs.Rows.{LineDoes, LineDoesOrEnds}
@@ -32,7 +32,7 @@ module _ (bound : ℕ) (choices : Choices) {C : Type 0} (ready : C → Type 0) (
   }
 
   -- the object was led to the shell that the row has
-  pub leads_comes : (Row : Next → Type 0) (result : Result (Unit {0}) SessionEnd) (s t : Shell) (taken drawn : ℕ) (c c' : C) → Row (goes t) → IsAlike s t
+  pub leads_comes : (Row : AfterLine → Type 0) (result : Result (Unit {0}) SessionEnd) (s t : Shell) (taken drawn : ℕ) (c c' : C) → Row (goes t) → IsAlike s t
       → Awaits at s taken drawn c → IsLeft ready failed result c' → Leads at stands result t c'
       → LinesCome bound choices at stands Row result s taken drawn c'
   leads_comes Row (Ok x) s t taken drawn c c' row like w left l = record {
@@ -49,7 +49,7 @@ module _ (bound : ℕ) (choices : Choices) {C : Type 0} (ready : C → Type 0) (
       breaks_by bound choices at stands Row e s taken drawn c' left.0 (record { next = goes t; lines_ = 0; comes = row; in_ = l })
 
   -- the object was led to something that the row has
-  pub does_comes : (Row : Shell → Next → Type 0) (result : Result (Unit {0}) SessionEnd) (s : Shell) (taken drawn drawn' : ℕ) (c c' : C)
+  pub does_comes : (Row : Shell → AfterLine → Type 0) (result : Result (Unit {0}) SessionEnd) (s : Shell) (taken drawn drawn' : ℕ) (c c' : C)
       → Awaits at s taken drawn c → IsLeft ready failed result c' → LineDoes at stands Row result drawn' s c'
       → LinesCome bound choices at stands (Row s) result s taken drawn' c'
   does_comes Row (Ok x) s taken drawn drawn' c c' w left h = record {
@@ -66,7 +66,7 @@ module _ (bound : ℕ) (choices : Choices) {C : Type 0} (ready : C → Type 0) (
       breaks_by bound choices at stands (Row s) e s taken drawn' c' left.0 (record { next = h.next; lines_ = 0; comes = h.row; in_ = h.in_ })
 
   -- the object was led to something that the row has, and bytes were taken on the way
-  pub ends_comes : (Row : Shell → Next → Type 0) (result : Result (Unit {0}) SessionEnd) (s : Shell) (taken drawn taken' drawn' : ℕ) (c c' : C)
+  pub ends_comes : (Row : Shell → AfterLine → Type 0) (result : Result (Unit {0}) SessionEnd) (s : Shell) (taken drawn taken' drawn' : ℕ) (c c' : C)
       → Awaits at s taken drawn c → LineDoesOrEnds at stands Row result taken' drawn' s c' → LinesCome bound choices at stands (Row s) result s taken' drawn' c'
   ends_comes Row (Ok x) s taken drawn taken' drawn' c c' w h = record {
     after = h.after;

@@ -1,4 +1,5 @@
 pub mod Onward
+pub mod Failing
 pub mod Kept
 pub mod Commands
 pub mod Prompted

@@ -1,5 +1,5 @@
 -- A session on a system.
-use Rattle.std.proofs.Common.{◌≡◌, ℕ, true, false, List, [], ◌∷◌, Option, Some, None, refl, sym, subst, ◌∙◌, inl, inr}
+use Rattle.std.proofs.Common.{◌≡◌, ℕ, true, false, List, Option, Some, None, refl, sym, subst, ◌∙◌, inl, inr}
 use Rattle.std.specs.Prelude.{IsSome}
 use Rattle.edi_told.specs.Faults.{CountRose}
 use Rattle.edi_told.specs.Told.{WhereTold}
@@ -16,7 +16,9 @@ use Rattle.edi_system.specs.declared.system.System.{System}
 use Rattle.edi_shell_calls.specs.OnSystem.{SystemLasts}
 use Rattle.edi_shell_calls.specs.Standing.{failed_by}
 use Rattle.edi_shell.specs.Taking.{Stays}
+use Rattle.edi_execute.proofs.Executing.{run_keeps}
 use Rattle.edi_shell_sessions.specs.Ends.{SessionEnds, SessionHasEnded, SessionHasFailed, ends_by_fault}
+use Rattle.edi_shell_sessions.proofs.Failing.{otherwise}
 
 -- what is said of two states where both are told, and the second only where the first is
 pub told_both : (o o' : Option State) (P : State → State → Type 0) → (IsSome o' → IsSome o)
@@ -50,20 +52,12 @@ module _ (bound : ℕ) (choices : Choices) {C E : Type 0} (at : C → State → 
 
   pub ends_otherwise : (start : Shell) (how : SessionEnd) (drawn : ℕ) → SessionEnds bound choices at stands start how drawn c
       → SessionEnds bound choices at' stands' start how drawn e
-  ends_otherwise start end.Halted drawn h = ended_otherwise start end.Halted drawn h
-  ends_otherwise start end.InputEnd drawn h = ended_otherwise start end.InputEnd drawn h
-  ends_otherwise start end.Limit drawn h = ended_otherwise start end.Limit drawn h
-  ends_otherwise start end.DriveFault drawn h = failed_otherwise start h
-  ends_otherwise start end.InputFault drawn h = failed_otherwise start h
-  ends_otherwise start end.TerminalFault drawn h = failed_otherwise start h
-  ends_otherwise start end.PrinterFault drawn h = failed_otherwise start h
+  ends_otherwise start how drawn h =
+      otherwise (ends_by_fault how) (SessionHasEnded bound choices at stands start how drawn c) (SessionHasFailed bound choices at stands start c)
+      (SessionHasEnded bound choices at' stands' start how drawn e) (SessionHasFailed bound choices at' stands' start e) (ended_otherwise start how drawn)
+      (failed_otherwise start) h
 
 -- ---- what the calls of a session keep
-
--- the references one by one
-six_same : (a b c d e f a' b' c' d' e' f' : ℕ) → a' ∷ b' ∷ c' ∷ d' ∷ e' ∷ f' ∷ [] ≡ a ∷ b ∷ c ∷ d ∷ e ∷ f ∷ []
-    → (a' ≡ a) × (b' ≡ b) × (c' ≡ c) × (d' ≡ d) × (e' ≡ e) × (f' ≡ f)
-six_same a b c d e f a' b' c' d' e' f' same = (cc, cc, cc, cc, cc, cc)
 
 module _ {D S T P : Type 0} (contents : D → Option (List (List ℕ))) (count : D → ℕ) (left : S → Option (List ℕ)) (shown : T → Option (List ℕ))
     (printed : P → Option (List ℕ)) (drive : D → ℕ) (input : S → ℕ) (terminal : T → ℕ) (printer : P → ℕ) (before after : System D S T P)
@@ -76,37 +70,18 @@ module _ {D S T P : Type 0} (contents : D → Option (List (List ℕ))) (count :
     | inr more ↦ more
   ]
 
-  blames : (e : SessionEnd) → failed_in after ≡ failed_by e
-      → Blames (ends_by_fault e) (failed_in after) (faults_of drive input terminal printer before) (faults_of drive input terminal printer after)
-  blames end.Halted is =
-      subst (λ o. Blames false o (faults_of drive input terminal printer before) (faults_of drive input terminal printer after)) (sym is) tt
-  blames end.InputEnd is =
-      subst (λ o. Blames false o (faults_of drive input terminal printer before) (faults_of drive input terminal printer after)) (sym is) tt
-  blames end.Limit is =
-      subst (λ o. Blames false o (faults_of drive input terminal printer before) (faults_of drive input terminal printer after)) (sym is) tt
-  blames end.DriveFault is =
-      subst (λ o. Blames true o (faults_of drive input terminal printer before) (faults_of drive input terminal printer after)) (sym is)
-      (rose outside.Drive is)
-  blames end.InputFault is =
-      subst (λ o. Blames true o (faults_of drive input terminal printer before) (faults_of drive input terminal printer after)) (sym is)
-      (rose outside.Input is)
-  blames end.TerminalFault is =
-      subst (λ o. Blames true o (faults_of drive input terminal printer before) (faults_of drive input terminal printer after)) (sym is)
-      (rose outside.Terminal is)
-  blames end.PrinterFault is =
-      subst (λ o. Blames true o (faults_of drive input terminal printer before) (faults_of drive input terminal printer after)) (sym is)
-      (rose outside.Printer is)
+  blamed : (e : SessionEnd) → failed_in after ≡ failed_by e
+      → Blames (ends_by_fault e) (failed_by e) (faults_of drive input terminal printer before) (faults_of drive input terminal printer after)
+  blamed end.Halted is = tt
+  blamed end.InputEnd is = tt
+  blamed end.Limit is = tt
+  blamed end.DriveFault is = rose outside.Drive is
+  blamed end.InputFault is = rose outside.Input is
+  blamed end.TerminalFault is = rose outside.Terminal is
+  blamed end.PrinterFault is = rose outside.Printer is
 
   pub keeps_all : (e : SessionEnd) → failed_in after ≡ failed_by e → Keeps drive input terminal printer (ends_by_fault e) before after
   keeps_all e is =
-      let each = six_same _ _ _ _ _ _ _ _ _ _ _ _ lasts.references in
-      record {
-        same_drive = each.0;
-        same_room = each.1;
-        same_input = each.2;
-        same_terminal = each.3;
-        same_printer = each.4;
-        same_buffer = each.5;
-        later = lasts.later;
-        blame = blames e is;
-      }
+      run_keeps drive input terminal printer (ends_by_fault e) before after lasts.references lasts.later
+      (subst (λ o. Blames (ends_by_fault e) o (faults_of drive input terminal printer before) (faults_of drive input terminal printer after)) (sym is)
+      (blamed e is))

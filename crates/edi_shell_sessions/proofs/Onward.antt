@@ -5,7 +5,7 @@ use Rattle.edi_calls.specs.Choice.{Choices}
 use Rattle.edi_calls.specs.State.{State}
 use Rattle.edi_session.specs.declared.end.SessionEnd.{SessionEnd}
 use Rattle.edi_session.specs.declared.end.SessionEnd.TheVariants as end
-use Rattle.edi_session.specs.Session.{Next, goes, closes, ComesTo, Goes}
+use Rattle.edi_session.specs.Session.{AfterLine, goes, closes, ComesTo, Goes}
 use Rattle.edi_session.specs.Shell.{Shell}
 use Rattle.edi_shell_calls.specs.Standing.{IsFault}
 use Rattle.edi_shell_edit.specs.Chain.{LinesBreakOff, LinesClose, LinesCome}
@@ -24,7 +24,7 @@ module _ (bound : ℕ) (choices : Choices) where
   one_more (suc n) s last after is g = (is.0, is.1, one_more n is.0 last after is.2 g)
 
   module _ {C : Type 0} (at : C → State → ℕ → Type 0) (stands : C → State → Type 0) where
-    pub breaks_by : (Row : Next → Type 0) (e : SessionEnd) (s : Shell) (taken drawn : ℕ) (c : C) → IsFault e
+    pub breaks_by : (Row : AfterLine → Type 0) (e : SessionEnd) (s : Shell) (taken drawn : ℕ) (c : C) → IsFault e
         → LinesBreakOff bound choices at stands Row c → LinesCome bound choices at stands Row (Err e) s taken drawn c
     breaks_by Row end.Halted s taken drawn c f h = absurd f
     breaks_by Row end.InputEnd s taken drawn c f h = absurd f
@@ -34,7 +34,7 @@ module _ (bound : ℕ) (choices : Choices) where
     breaks_by Row end.TerminalFault s taken drawn c f h = h
     breaks_by Row end.PrinterFault s taken drawn c f h = h
 
-    closes_by : (Row Other : Next → Type 0) (e : SessionEnd) (drawn : ℕ) (c : C) → ((next : Next) → Row next → Other next)
+    closes_by : (Row Other : AfterLine → Type 0) (e : SessionEnd) (drawn : ℕ) (c : C) → ((next : AfterLine) → Row next → Other next)
         → LinesClose bound choices at stands Row e drawn c → LinesClose bound choices at stands Other e drawn c
     closes_by Row Other e drawn c f h = record {
       last = h.last;
@@ -44,7 +44,7 @@ module _ (bound : ℕ) (choices : Choices) where
       at_ = h.at_;
     }
 
-    broken_by : (Row Other : Next → Type 0) (c : C) → ((next : Next) → Row next → Other next) → LinesBreakOff bound choices at stands Row c
+    broken_by : (Row Other : AfterLine → Type 0) (c : C) → ((next : AfterLine) → Row next → Other next) → LinesBreakOff bound choices at stands Row c
         → LinesBreakOff bound choices at stands Other c
     broken_by Row Other c f h = record {
       next = h.next;
@@ -54,8 +54,8 @@ module _ (bound : ℕ) (choices : Choices) where
     }
 
     -- what one line comes to another comes to, from a shell before it
-    pub comes_by : (Row Other : Next → Type 0) (result : Result (Unit {0}) SessionEnd) (t s : Shell) (taken drawn : ℕ) (c : C)
-        → t.shown_before ≡ s.shown_before → ((next : Next) → Row next → Other next) → LinesCome bound choices at stands Row result t taken drawn c
+    pub comes_by : (Row Other : AfterLine → Type 0) (result : Result (Unit {0}) SessionEnd) (t s : Shell) (taken drawn : ℕ) (c : C)
+        → t.shown_before ≡ s.shown_before → ((next : AfterLine) → Row next → Other next) → LinesCome bound choices at stands Row result t taken drawn c
         → LinesCome bound choices at stands Other result s taken drawn c
     comes_by Row Other (Ok x) t s taken drawn c same f h = record {
       after = h.after;

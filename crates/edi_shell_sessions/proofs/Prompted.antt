@@ -6,7 +6,7 @@ use Rattle.edi_calls.specs.Choice.{Choices}
 use Rattle.edi_calls.specs.State.{State}
 use Rattle.edi_session.specs.declared.end.SessionEnd.{SessionEnd}
 use Rattle.edi_session.specs.declared.end.SessionEnd.TheVariants as end
-use Rattle.edi_session.specs.Session.{Next, closes, shell_in, Acts, ActsOn, Goes, GoesIn, prompted, Taking}
+use Rattle.edi_session.specs.Session.{AfterLine, closes, shell_in, ActsBy, ActsOn, Goes, GoesIn, prompted, BehindTaken}
 use Rattle.edi_session.specs.Shell.{Shell, commanding, state_in, Taken, took, ended, limited, shell_of, next_line, on_fresh_line}
 use Rattle.edi_session.specs.Words.{command_line}
 use Rattle.edi_session.proofs.Later.{Later, shown_on, take_line_on}
@@ -35,8 +35,8 @@ same_command bytes = go (nat_le (length bytes) 80) refl where
 module _ (bound : ℕ) (choices : Choices) where
   -- ---- the line of a shell at which a command is awaited
 
-  goes_at : (s : Shell) (next : Next) → s.mode ≡ commanding
-      → Taking (next_line true (prompted bound choices s)) (ActsOn bound choices) next → Goes bound choices s next
+  goes_at : (s : Shell) (next : AfterLine) → s.mode ≡ commanding
+      → BehindTaken (next_line true (prompted bound choices s)) (ActsOn bound choices) next → Goes bound choices s next
   goes_at s next mode row = subst (λ m. GoesIn bound choices m s next) (sym mode) row
 
   -- what was shown before it was taken is behind it
@@ -67,11 +67,11 @@ module _ (bound : ℕ) (choices : Choices) where
         (row_breaks s c mode (stands_later stands t (shell_of (next_line true (prompted bound choices s))) c later st))
 
     ends_at : (e : SessionEnd) (s t : Shell) (taken_ : Taken) (drawn : ℕ) (c : C) → s.mode ≡ commanding → next_line true (prompted bound choices s) ≡ taken_
-        → Taking taken_ (ActsOn bound choices) (closes e t) → t.drawn ≡ drawn → At at c t → LinesClose bound choices at stands (Goes bound choices s) e drawn c
+        → BehindTaken taken_ (ActsOn bound choices) (closes e t) → t.drawn ≡ drawn → At at c t → LinesClose bound choices at stands (Goes bound choices s) e drawn c
     ends_at e s t taken_ drawn c mode is row draws a = record {
       last = t;
       lines_ = 0;
-      comes = goes_at s (closes e t) mode (subst (λ r. Taking r (ActsOn bound choices) (closes e t)) (sym is) row);
+      comes = goes_at s (closes e t) mode (subst (λ r. BehindTaken r (ActsOn bound choices) (closes e t)) (sym is) row);
       drawn_is = draws;
       at_ = a;
     }
@@ -132,10 +132,10 @@ module _ (bound : ℕ) (choices : Choices) where
     -- what the command comes to the line comes to
     pub command_acts : (s : Shell) (kept : List ℕ) (count drawn taken' drawn' : ℕ) (result : Result (Unit {0}) SessionEnd) (c c' : C) → s.mode ≡ commanding
         → (u : IsTaken s kept count drawn c)
-        → LinesCome bound choices at stands (Acts bound choices (command_line kept) u.at_shell) result u.at_shell taken' drawn' c'
+        → LinesCome bound choices at stands (ActsBy bound choices (command_line kept) u.at_shell) result u.at_shell taken' drawn' c'
         → LinesCome bound choices at stands (Goes bound choices s) result s taken' drawn' c'
     command_acts s kept count drawn taken' drawn' result c c' mode u h =
-        comes_by bound choices at stands (Acts bound choices (command_line kept) u.at_shell) (Goes bound choices s) result u.at_shell s taken' drawn' c'
+        comes_by bound choices at stands (ActsBy bound choices (command_line kept) u.at_shell) (Goes bound choices s) result u.at_shell s taken' drawn' c'
         u.before_is
-        (λ next row. goes_at s next mode (subst (λ r. Taking r (ActsOn bound choices) next) (sym u.is)
-        (subst (λ l. Acts bound choices l u.at_shell next) (ap command_line u.kept_is ∙ same_command u.bytes) row))) h
+        (λ next row. goes_at s next mode (subst (λ r. BehindTaken r (ActsOn bound choices) next) (sym u.is)
+        (subst (λ l. ActsBy bound choices l u.at_shell next) (ap command_line u.kept_is ∙ same_command u.bytes) row))) h

@@ -11,6 +11,7 @@ use Rattle.edi_session.specs.Shell.{Shell, on_fresh_line}
 use Rattle.edi_shell_calls.specs.Standing.{At, IsFault, StandsIn}
 use Rattle.edi_shell_edit.specs.Chain.{LinesBreakOff, LinesClose, LinesCome}
 use Rattle.edi_shell_sessions.specs.Ends.{Awaits, ends_by_fault, SessionEnds, SessionHasEnded, SessionHasFailed, SessionIsToEnd, SessionStops}
+use Rattle.edi_shell_sessions.proofs.Failing.{by_end, by_fault, ended_so, failed_so}
 use Rattle.edi_shell_edit.proofs.Chains.{comes_of}
 use Rattle.edi_shell_sessions.proofs.Onward.{comes_then, one_more}
 
@@ -105,13 +106,14 @@ module _ (bound : ℕ) (choices : Choices) {C : Type 0} (at : C → State → �
   -- by a fault
   pub ends_failed : (start : Shell) (e : SessionEnd) (drawn : ℕ) (c : C) → ends_by_fault e ≡ true → SessionStops bound choices at stands start e drawn c
       → SessionEnds bound choices at stands start e drawn c
-  ends_failed start end.Halted drawn c f h = absurd (cc)
-  ends_failed start end.InputEnd drawn c f h = absurd (cc)
-  ends_failed start end.Limit drawn c f h = absurd (cc)
-  ends_failed start end.DriveFault drawn c f h = h
-  ends_failed start end.InputFault drawn c f h = h
-  ends_failed start end.TerminalFault drawn c f h = h
-  ends_failed start end.PrinterFault drawn c f h = h
+  ends_failed start e drawn c f h =
+      by_fault (ends_by_fault e) (SessionHasEnded bound choices at stands start e drawn c) (SessionHasFailed bound choices at stands start c) f
+      (failed_so (ends_by_fault e) (SessionIsToEnd bound choices at stands start e drawn c) (SessionHasFailed bound choices at stands start c) f h)
+
+  to_end : (start : Shell) (e : SessionEnd) (drawn : ℕ) (c : C) → ends_by_fault e ≡ false → SessionStops bound choices at stands start e drawn c
+      → SessionIsToEnd bound choices at stands start e drawn c
+  to_end start e drawn c f h =
+      ended_so (ends_by_fault e) (SessionIsToEnd bound choices at stands start e drawn c) (SessionHasFailed bound choices at stands start c) f h
 
   closed : (start : Shell) (e : SessionEnd) (drawn : ℕ) (c c' : C) → ((t : Shell) → At at c t → At at c' (on_fresh_line t))
       → SessionIsToEnd bound choices at stands start e drawn c → SessionHasEnded bound choices at stands start e drawn c'
@@ -125,13 +127,9 @@ module _ (bound : ℕ) (choices : Choices) {C : Type 0} (at : C → State → �
   -- by another end, and the fresh-line rule was applied
   pub ends_closed : (start : Shell) (e : SessionEnd) (drawn : ℕ) (c c' : C) → ends_by_fault e ≡ false → SessionStops bound choices at stands start e drawn c
       → ((t : Shell) → At at c t → At at c' (on_fresh_line t)) → SessionEnds bound choices at stands start e drawn c'
-  ends_closed start end.Halted drawn c c' f h shown = closed start end.Halted drawn c c' shown h
-  ends_closed start end.InputEnd drawn c c' f h shown = closed start end.InputEnd drawn c c' shown h
-  ends_closed start end.Limit drawn c c' f h shown = closed start end.Limit drawn c c' shown h
-  ends_closed start end.DriveFault drawn c c' f h shown = absurd (cc)
-  ends_closed start end.InputFault drawn c c' f h shown = absurd (cc)
-  ends_closed start end.TerminalFault drawn c c' f h shown = absurd (cc)
-  ends_closed start end.PrinterFault drawn c c' f h shown = absurd (cc)
+  ends_closed start e drawn c c' f h shown =
+      by_end (ends_by_fault e) (SessionHasEnded bound choices at stands start e drawn c') (SessionHasFailed bound choices at stands start c') f
+      (closed start e drawn c c' shown (to_end start e drawn c f h))
 
   unclosed : (start : Shell) (e : SessionEnd) (drawn : ℕ) (c c' : C) → ((t : Shell) → At at c t → StandsIn stands (on_fresh_line t) c')
       → SessionIsToEnd bound choices at stands start e drawn c → SessionHasFailed bound choices at stands start c'
@@ -145,26 +143,20 @@ module _ (bound : ℕ) (choices : Choices) {C : Type 0} (at : C → State → �
 
   unclosed_by : (start : Shell) (e : SessionEnd) (drawn : ℕ) (c c' : C) → ends_by_fault e ≡ false → SessionStops bound choices at stands start e drawn c
       → ((t : Shell) → At at c t → StandsIn stands (on_fresh_line t) c') → SessionHasFailed bound choices at stands start c'
-  unclosed_by start end.Halted drawn c c' f h broke = unclosed start end.Halted drawn c c' broke h
-  unclosed_by start end.InputEnd drawn c c' f h broke = unclosed start end.InputEnd drawn c c' broke h
-  unclosed_by start end.Limit drawn c c' f h broke = unclosed start end.Limit drawn c c' broke h
-  unclosed_by start end.DriveFault drawn c c' f h broke = absurd (cc)
-  unclosed_by start end.InputFault drawn c c' f h broke = absurd (cc)
-  unclosed_by start end.TerminalFault drawn c c' f h broke = absurd (cc)
-  unclosed_by start end.PrinterFault drawn c c' f h broke = absurd (cc)
+  unclosed_by start e drawn c c' f h broke = unclosed start e drawn c c' broke (to_end start e drawn c f h)
 
-  by_fault : (start : Shell) (fault : SessionEnd) (drawn : ℕ) (c : C) → IsFault fault → SessionHasFailed bound choices at stands start c
+  of_fault : (start : Shell) (fault : SessionEnd) (drawn : ℕ) (c : C) → IsFault fault → SessionHasFailed bound choices at stands start c
       → SessionEnds bound choices at stands start fault drawn c
-  by_fault start end.Halted drawn c f h = absurd f
-  by_fault start end.InputEnd drawn c f h = absurd f
-  by_fault start end.Limit drawn c f h = absurd f
-  by_fault start end.DriveFault drawn c f h = h
-  by_fault start end.InputFault drawn c f h = h
-  by_fault start end.TerminalFault drawn c f h = h
-  by_fault start end.PrinterFault drawn c f h = h
+  of_fault start end.Halted drawn c f h = absurd f
+  of_fault start end.InputEnd drawn c f h = absurd f
+  of_fault start end.Limit drawn c f h = absurd f
+  of_fault start end.DriveFault drawn c f h = h
+  of_fault start end.InputFault drawn c f h = h
+  of_fault start end.TerminalFault drawn c f h = h
+  of_fault start end.PrinterFault drawn c f h = h
 
   -- and the terminal failed in it
   pub ends_unclosed : (start : Shell) (e fault : SessionEnd) (drawn : ℕ) (c c' : C) → ends_by_fault e ≡ false → IsFault fault
       → SessionStops bound choices at stands start e drawn c → ((t : Shell) → At at c t → StandsIn stands (on_fresh_line t) c')
       → SessionEnds bound choices at stands start fault drawn c'
-  ends_unclosed start e fault drawn c c' f is h broke = by_fault start fault drawn c' is (unclosed_by start e drawn c c' f h broke)
+  ends_unclosed start e fault drawn c c' f is h broke = of_fault start fault drawn c' is (unclosed_by start e drawn c c' f h broke)

@@ -25,6 +25,11 @@ ends_by_fault end.InputFault = true
 ends_by_fault end.TerminalFault = true
 ends_by_fault end.PrinterFault = true
 
+-- it has failed so, or else it has ended
+abbrev pub ByFault : (fault : Bool) → (Ended Failed : Type 0) → Type 0
+ByFault true Ended Failed = Failed
+ByFault false Ended Failed = Ended
+
 module _ (bound : ℕ) (choices : Choices) {C : Type 0} (at : C → State → ℕ → Type 0) (stands : C → State → Type 0) where
   -- the session from this shell has ended so, and so many choices are drawn
   pub record SessionHasEnded (start : Shell) (how : SessionEnd) (drawn : ℕ) (c : C) : Type 0 where
@@ -51,23 +56,11 @@ module _ (bound : ℕ) (choices : Choices) {C : Type 0} (at : C → State → �
 
   -- HOW A SESSION ENDS
   abbrev pub SessionEnds : (start : Shell) → SessionEnd → (drawn : ℕ) → C → Type 0
-  SessionEnds start end.Halted drawn c = SessionHasEnded start end.Halted drawn c
-  SessionEnds start end.InputEnd drawn c = SessionHasEnded start end.InputEnd drawn c
-  SessionEnds start end.Limit drawn c = SessionHasEnded start end.Limit drawn c
-  SessionEnds start end.DriveFault drawn c = SessionHasFailed start c
-  SessionEnds start end.InputFault drawn c = SessionHasFailed start c
-  SessionEnds start end.TerminalFault drawn c = SessionHasFailed start c
-  SessionEnds start end.PrinterFault drawn c = SessionHasFailed start c
+  SessionEnds start e drawn c = ByFault (ends_by_fault e) (SessionHasEnded start e drawn c) (SessionHasFailed start c)
 
   -- how it stops, before the fresh-line rule is applied
   abbrev pub SessionStops : (start : Shell) → SessionEnd → (drawn : ℕ) → C → Type 0
-  SessionStops start end.Halted drawn c = SessionIsToEnd start end.Halted drawn c
-  SessionStops start end.InputEnd drawn c = SessionIsToEnd start end.InputEnd drawn c
-  SessionStops start end.Limit drawn c = SessionIsToEnd start end.Limit drawn c
-  SessionStops start end.DriveFault drawn c = SessionHasFailed start c
-  SessionStops start end.InputFault drawn c = SessionHasFailed start c
-  SessionStops start end.TerminalFault drawn c = SessionHasFailed start c
-  SessionStops start end.PrinterFault drawn c = SessionHasFailed start c
+  SessionStops start e drawn c = ByFault (ends_by_fault e) (SessionIsToEnd start e drawn c) (SessionHasFailed start c)
 
 -- a state has what another has, but for the files that a program has open
 abbrev pub IsFreshly : (now state : State) → Type 0

@@ -2,7 +2,7 @@
 
 ghost use Rattle.std.specs.Prelude.{◌≡◌, ◌≤◌, ◌<◌, ◌+◌, ◌^◌, length};
 ghost use Rattle.edi_calls.specs.State.{most_bytes};
-ghost use Rattle.edi_session.specs.Session.{Acts};
+ghost use Rattle.edi_session.specs.Session.{ActsBy};
 ghost use Rattle.edi_session.specs.Shell.{Shell};
 ghost use Rattle.edi_shell.specs.Taking.{IsLeftSo};
 ghost use Rattle.edi_shell_edit.specs.Chain.{LinesCome};
@@ -35,7 +35,7 @@ pub(crate) fn act<C: ShellCalls>(
     requires limit { taken.old ≤ LIMIT }
     requires room { most_bytes ≤ length room.old }
     ensures exact { choices.old.drawn + bound < 2 ^ 64 → (s : Shell) → Awaits C.at s taken.old choices.old.drawn calls.old → C.tells calls.new →
-        LinesCome bound choices.old.source C.at C.stands (Acts bound choices.old.source line s) result s taken.new choices.new.drawn calls.new }
+        LinesCome bound choices.old.source C.at C.stands (ActsBy bound choices.old.source line s) result s taken.new choices.new.drawn calls.new }
     ensures source { choices.new.source ≡ choices.old.source }
     ensures drawn { choices.new.drawn ≤ choices.old.drawn + bound }
     ensures left { IsLeftSo C.ready C.failed result calls.new }

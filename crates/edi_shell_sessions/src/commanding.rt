@@ -50,8 +50,8 @@ pub(crate) fn command<C: ShellCalls>(
     act(alloc, calls, taken, said, kernel, room, bound, choices)
 }
 
-// Whether a session has ended by a fault.
-fn ends_by_fault(end: SessionEnd) -> bool
+/// Whether a session has ended by the fault of an object.
+pub fn ends_by_fault(end: SessionEnd) -> bool
     ensures exact { result ≡ ends_by_fault end }
 {
     match end {

@@ -15,7 +15,7 @@ use edi_trace::Choices;
 use std::alloc::Global;
 
 /// Holds a session, and tells how it ended. Programs run on the kernel, each with the bound anew; the choices go on from one to the
-/// next. `room` has place for the bytes of a file.
+/// next. `room` has room for the bytes of a file.
 pub fn hold<C: ShellCalls>(
     alloc: Global,
     calls: &mut C,

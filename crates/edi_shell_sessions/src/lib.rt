@@ -6,5 +6,6 @@ mod commanding;
 mod holding;
 mod on_system;
 
+pub use commanding::ends_by_fault;
 pub use holding::hold;
 pub use on_system::session;

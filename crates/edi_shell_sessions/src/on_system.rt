@@ -21,7 +21,7 @@ use edi_trace::Choices;
 use std::alloc::Global;
 
 /// Holds a session on a system of which no object has failed, and tells how it ended. Programs run on the kernel, each with the
-/// bound anew; the choices go on from one to the next. `room` has place for the bytes of a file.
+/// bound anew; the choices go on from one to the next. `room` has room for the bytes of a file.
 pub fn session<D: Drive, S: Source, T: Sink, P: Sink>(
     alloc: Global,
     system: &mut System<'_, '_, '_, '_, '_, '_, D, S, T, P>,

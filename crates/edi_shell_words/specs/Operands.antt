@@ -4,11 +4,11 @@ use Rattle.edi_calls.specs.State.{is_title}
 use Rattle.edi_trace.specs.Lines.{number_of}
 use Rattle.edi_session.specs.declared.line.Line.{Line}
 use Rattle.edi_session.specs.declared.line.Line.TheVariants.{Bad}
-use Rattle.edi_session.specs.Words.{is_number, is_separator}
+use Rattle.edi_session.specs.Words.{is_number, is_gap}
 
 -- a byte of a word
 abbrev pub is_plain : ℕ → Bool
-is_plain b = not (is_separator b)
+is_plain b = not (is_gap b)
 
 abbrev pub title_in : List ℕ → Option (List ℕ)
 title_in word = if is_title word then Some word else None

@@ -13,7 +13,7 @@ const LONGEST: usize = 80;
 
 // The command where no words stand behind its name.
 fn alone(operands: &[u8], command: Line) -> Option<Line>
-    ensures { line_or_bad result ≡ spec.none_of (spec.words_of operands.now) command }
+    ensures { line_or_bad result ≡ spec.none_of (spec.words_in operands.now) command }
 {
     if has_none(operands) {
         Some(command)
@@ -25,8 +25,8 @@ fn alone(operands: &[u8], command: Line) -> Option<Line>
 #[tactic(auto, using(crate::proofs::Table::one_bad, crate::proofs::Table::two_bad))]
 // The command of this name with these operands; none where it is none. The second half of the names.
 fn named_more(name: &[u8], operands: &[u8]) -> Option<Line>
-    requires whole { list_any spec.is_separator name.now ≡ false }
-    ensures { line_or_bad result ≡ spec.line_of_more name.now (spec.words_of operands.now) }
+    requires whole { list_any spec.is_gap name.now ≡ false }
+    ensures { line_or_bad result ≡ spec.line_of_more name.now (spec.words_in operands.now) }
 {
     if name == b"delete".as_slice() {
         return Some(Line::Delete(one_title(operands)?));
@@ -54,8 +54,8 @@ fn named_more(name: &[u8], operands: &[u8]) -> Option<Line>
 #[tactic(auto, using(crate::proofs::Table::one_bad, crate::proofs::Table::two_bad))]
 // The command of this name with these operands; none where it is none.
 fn named(name: &[u8], operands: &[u8]) -> Option<Line>
-    requires whole { list_any spec.is_separator name.now ≡ false }
-    ensures { line_or_bad result ≡ spec.line_of name.now (spec.words_of operands.now) }
+    requires whole { list_any spec.is_gap name.now ≡ false }
+    ensures { line_or_bad result ≡ spec.line_of_word name.now (spec.words_in operands.now) }
 {
     if name == b"list".as_slice() {
         return alone(operands, Line::Catalogue);

@@ -40,7 +40,7 @@ fn spelled(digits: &[u8]) -> Option<u32>
 
 // The command of this letter with a number.
 fn numbered(letter: u8, n: u32) -> EditLine
-    ensures { result ≡ spec.numbered letter n }
+    ensures { result ≡ spec.numbered_line letter n }
 {
     match letter {
         b'i' => EditLine::Insert(n),

@@ -9,7 +9,7 @@ use edi_image::Title;
 
 // A blank, a tab or a carriage return.
 fn is_separator(byte: u8) -> bool
-    ensures { result ≡ spec.is_separator byte }
+    ensures { result ≡ spec.is_gap byte }
 {
     byte == b' ' || byte == b'\t' || byte == b'\r'
 }
@@ -29,7 +29,7 @@ pub(crate) fn are_line_bytes(line: &[u8]) -> bool
 
 // How many separators stand in front.
 fn separators(line: &[u8]) -> usize
-    ensures before { result ≡ prefix_len spec.is_separator line.now }
+    ensures before { result ≡ prefix_len spec.is_gap line.now }
     ensures within { result ≤ length line.now }
 {
     line.iter().take_while(|byte| is_separator(**byte)).count()
@@ -45,9 +45,9 @@ fn word_length(line: &[u8]) -> usize
 
 /// The first word, and what stands behind it; none where there are no words.
 pub(crate) fn next_word(line: &[u8]) -> Option<(&[u8], &[u8])>
-    ensures cut { MatchOption result (spec.words_of line.now ≡ [])
-        (λ pair. spec.words_of line.now ≡ pair.0.now ∷ spec.words_of pair.1.now) }
-    ensures whole { IfSome result (λ pair. list_any spec.is_separator pair.0.now ≡ false) }
+    ensures cut { MatchOption result (spec.words_in line.now ≡ [])
+        (λ pair. spec.words_in line.now ≡ pair.0.now ∷ spec.words_in pair.1.now) }
+    ensures whole { IfSome result (λ pair. list_any spec.is_gap pair.0.now ≡ false) }
 {
     let (_, begun) = line.split_at(separators(line));
     let (word, rest) = begun.split_at(word_length(begun));
@@ -60,14 +60,14 @@ pub(crate) fn next_word(line: &[u8]) -> Option<(&[u8], &[u8])>
 
 /// Whether there are no words.
 pub(crate) fn has_none(line: &[u8]) -> bool
-    ensures { IsTrue result ↔ (spec.words_of line.now ≡ []) }
+    ensures { IsTrue result ↔ (spec.words_in line.now ≡ []) }
 {
     next_word(line).is_none()
 }
 
 /// The title that a word is.
 pub(crate) fn title_of(word: &[u8]) -> Option<Title>
-    requires whole { list_any spec.is_separator word.now ≡ false }
+    requires whole { list_any spec.is_gap word.now ≡ false }
     ensures { result ≡ operands.title_in word.now }
 {
     Title::new(word)
@@ -75,7 +75,7 @@ pub(crate) fn title_of(word: &[u8]) -> Option<Title>
 
 /// The one title that the words are; none where they are anything else.
 pub(crate) fn one_title(line: &[u8]) -> Option<Title>
-    ensures { result ≡ operands.one_title (spec.words_of line.now) }
+    ensures { result ≡ operands.one_title (spec.words_in line.now) }
 {
     let (word, rest) = next_word(line)?;
     let title = title_of(word)?;
@@ -84,7 +84,7 @@ pub(crate) fn one_title(line: &[u8]) -> Option<Title>
 
 /// The two titles that the words are; none where they are anything else.
 pub(crate) fn two_titles(line: &[u8]) -> Option<(Title, Title)>
-    ensures { result ≡ operands.two_titles (spec.words_of line.now) }
+    ensures { result ≡ operands.two_titles (spec.words_in line.now) }
 {
     let (word, rest) = next_word(line)?;
     let first = title_of(word)?;

@@ -1,6 +1,6 @@
 use Rattle.std.proofs.Common.{◌≡◌, suc, ◌∙◌, ap, arith}
 use Rattle.std.specs.Prelude.{Some}
-use Rattle.edi_edit.specs.Lines.{line_at}
+use Rattle.edi_edit.specs.Lines.{line_numbered}
 use Rattle.edi_edit.specs.Editing.{Editing}
 use Rattle.edi_edit.specs.Steps.{plain}
 use Rattle.edi_edit.proofs.Single.{line_at_is}
@@ -14,6 +14,6 @@ returns c =
       exact =
           ap (λ bytes. Some bytes) c.as_slice.ensures.value
           ∙ line_at_is _ _ _ _ at found.3.0 found.1
-          ∙ ap (λ lines. line_at (plain lines) c.args.at) c.deref.ensures.value
-          ∙ ap (λ (e : Editing). line_at e.lines c.args.at) c.self.view_is;
+          ∙ ap (λ lines. line_numbered (plain lines) c.args.at) c.deref.ensures.value
+          ∙ ap (λ (e : Editing). line_numbered e.lines c.args.at) c.self.view_is;
     }

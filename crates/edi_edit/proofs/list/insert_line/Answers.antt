@@ -1,7 +1,7 @@
 use Rattle.std.proofs.Common.{◌≡◌, ◌≤◌, ◌-◌, ◌+◌, length, ◌∙◌, ap, arith}
 use Rattle.std.specs.Prelude.{insert, None}
 use Rattle.edi_edit.specs.declared.TheConstants.{ROOM}
-use Rattle.edi_edit.specs.Lines.{size_of}
+use Rattle.edi_edit.specs.Lines.{size_of_lines}
 use Rattle.edi_edit.specs.Editing.{refusal, is_index}
 use Rattle.edi_edit.specs.Steps.{plain}
 use Rattle.edi_edit.proofs.Single.{plain-insert, counted, accepted, size-insert}
@@ -14,8 +14,8 @@ returns c =
     let found = c.in_ok-line_index.ensures.ok in
     let line_index : c.in_ok-line_index.line_index ≡ c.args.at - 1 = omega (arith, found.1) in
     let count : c.len.result ≡ length lines = c.len.ensures ∙ counted c.args.lines.now in
-    let sized : c.size.result ≡ size_of lines = c.size.ensures.exact ∙ ap (λ ls. size_of (plain ls)) c.deref.ensures.value in
-    let small : size_of (insert lines (c.args.at - 1) c.args.line.now) ≤ ROOM = omega (arith, size-insert lines (c.args.at - 1) c.args.line.now) in
+    let sized : c.size.result ≡ size_of_lines lines = c.size.ensures.exact ∙ ap (λ ls. size_of_lines (plain ls)) c.deref.ensures.value in
+    let small : size_of_lines (insert lines (c.args.at - 1) c.args.line.now) ≤ ROOM = omega (arith, size-insert lines (c.args.at - 1) c.args.line.now) in
     let free : refusal (is_index c.args.at (length lines + 1)) (insert lines (c.args.at - 1) c.args.line.now) ≡ None = accepted
     (is_index c.args.at (length lines + 1)) (insert lines (c.args.at - 1) c.args.line.now) (rw (← count) found.0) small in
     record {

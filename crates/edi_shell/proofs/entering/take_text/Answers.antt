@@ -4,7 +4,7 @@ use Rattle.std.specs.Prelude.{Ok, IfSome, IfNone}
 use Rattle.std.proofs.lemmas.Result.{err_from_is_err_and}
 use Rattle.std.proofs.lemmas.Bool.{ne_eqb}
 use Rattle.std.proofs.Math.Bool.{and-false}
-use Rattle.edi_session.specs.Shell.{is_end, line_with, next_text, text_with, took_byte}
+use Rattle.edi_session.specs.Shell.{ends_text, line_with, next_text, text_with, took_byte}
 use Rattle.edi_shell.specs.Taking.{GivesByte}
 use Rattle.edi_shell.proofs.Entered.{dot_is, joined, more_is, no_text, text_given, text_kept, whole_is}
 use Rattle.edi_shell.proofs.entering.take_text.Goals as goal
@@ -41,7 +41,7 @@ returns-then-byte-eq-LINE_FEED-clause-exact g c = λ s e a t.
     text_given g.C.ShellCalls.at g.C.ShellCalls.stands c.bytes.progress.whole c.next_byte.new.taken (next_text s) u.text c.bytes.room (took_byte n.1 u.now)
     c.next_byte.new.calls
     (whole_is u.text u.line n.1 c.in-Some.byte u.now (next_text s) u.comes n.0 n.2
-    (ap (λ b. b && is_end u.line) feed ∙ sym u.so_far.ends ∙ c.if-progress-2.true)) u.so_far.lines_
+    (ap (λ b. b && ends_text u.line) feed ∙ sym u.so_far.ends ∙ c.if-progress-2.true)) u.so_far.lines_
     (text_kept c.bytes.progress.length c.bytes.progress.whole c.bytes.progress.dot u.text u.line c.bytes.room u.so_far u.kept)
     (ap (λ k. k + 1) u.taken_is ∙ sym one) n.3
 

@@ -1,10 +1,10 @@
 -- A command line is taken exactly by the definition.
-use Rattle.std.proofs.Common.{◌≡◌, ◌<◌, ◌≤◌, ◌==◌, ◌∷◌, ◌++◌, ◌+◌, [], true, false, length, sym, ap, subst, ◌∙◌, arith, rules}
+use Rattle.std.proofs.Common.{◌≡◌, ◌<◌, ◌==◌, ◌∷◌, ◌++◌, ◌+◌, [], true, false, length, sym, ap, subst, ◌∙◌, arith, rules}
 use Rattle.std.specs.Prelude.{Ok, IfSome, IfNone}
 use Rattle.std.proofs.lemmas.Result.{err_from_is_err_and}
 use Rattle.edi_session.specs.Shell.{next_line, shown_by, took_byte}
 use Rattle.edi_shell.specs.Taking.{GivesByte}
-use Rattle.edi_shell.proofs.Lines.{none_stops, last_is, fed_is, more_is, gives_shown, byte_breaks, keeps_more, keeps_all}
+use Rattle.edi_shell.proofs.Lines.{none_stops, last_is, fed_is, more_is, gives_shown, byte_breaks, keeps_still}
 use Rattle.edi_shell.proofs.taking.take_command.Goals as goal
 
 pub returns-in_err-byte-clause-exact : goal.returns-in_err-byte-clause-exact
@@ -59,39 +59,10 @@ returns-then-byte-eq-LINE_FEED-clause-exact g c = λ s e a t.
     (subst (λ b. g.C.ShellCalls.at c.show-in-bytes.new.self (shown_by (b ∷ []) (took_byte n.1 u.now)).system.now u.now.shown_before) feed
     (c.in_ok-show.ensures.exact (took_byte n.1 u.now) n.3 t))
 
-pub bytes-preserved-then-not-is_full : goal.bytes-preserved-then-not-is_full
-bytes-preserved-then-not-is_full g c =
-    let one : c.next_byte.new.taken ≡ c.bytes.taken + 1 = subst (λ b. IfSome b (λ x. c.next_byte.new.taken ≡ c.bytes.taken + 1)) c.in-Some.is
-    c.in_ok-byte.ensures.more in
-    let few : length c.bytes.line.items < 81 = search rules in
-    let other : (c.in-Some.byte == 10) ≡ false = search rules in
-    record {
-      ready = c.in_ok-show.ensures.left;
-      limit = c.next_byte.ensures.limit;
-      later = omega (arith, one, c.bytes.invariant.later);
-      more = λ some. omega (arith, one, c.bytes.invariant.later);
-      lasts = g.met.C.ShellCalls.lasts_on _ _ _ (g.met.C.ShellCalls.lasts_on _ _ _ c.bytes.invariant.lasts c.next_byte.ensures.lasts)
-          c.show-in-bytes.ensures.lasts;
-      exact = λ s e a t.
-          let before = g.met.C.ShellCalls.lasts_told _ _ c.show-in-bytes.ensures.lasts t in
-          let u = c.bytes.invariant.exact s e a (g.met.C.ShellCalls.lasts_told _ _ c.next_byte.ensures.lasts before) in
-          let n = subst (λ b. GivesByte g.C.ShellCalls.at g.C.ShellCalls.stands (Ok b) u.now c.next_byte.new.calls) c.in-Some.is
-          (c.in_ok-byte.ensures.exact u.now u.taken_is u.at_ before) in
-          record {
-            now = shown_by (c.in-Some.byte ∷ []) (took_byte n.1 u.now);
-            line = u.line ++ c.in-Some.byte ∷ [];
-            comes = more_is g.C.ShellCalls.at g.C.ShellCalls.stands true n.1 u.line c.in-Some.byte u.now (next_line true s) u.comes n.0 n.2 other;
-            kept_is = c.push.ensures.items ∙ keeps_more 81 c.bytes.line.items u.line c.in-Some.byte u.kept_is few;
-            taken_is = ap (λ k. k + 1) u.taken_is ∙ sym one;
-            at_ = c.in_ok-show.ensures.exact (took_byte n.1 u.now) n.3 t;
-          };
-    }
-
 pub bytes-preserved : goal.bytes-preserved
 bytes-preserved g c =
     let one : c.next_byte.new.taken ≡ c.bytes.taken + 1 = subst (λ b. IfSome b (λ x. c.next_byte.new.taken ≡ c.bytes.taken + 1)) c.in-Some.is
     c.in_ok-byte.ensures.more in
-    let all : 81 ≤ length c.bytes.line.items = search rules in
     let other : (c.in-Some.byte == 10) ≡ false = search rules in
     record {
       ready = c.in_ok-show.ensures.left;
@@ -109,7 +80,7 @@ bytes-preserved g c =
             now = shown_by (c.in-Some.byte ∷ []) (took_byte n.1 u.now);
             line = u.line ++ c.in-Some.byte ∷ [];
             comes = more_is g.C.ShellCalls.at g.C.ShellCalls.stands true n.1 u.line c.in-Some.byte u.now (next_line true s) u.comes n.0 n.2 other;
-            kept_is = keeps_all 81 c.bytes.line.items u.line c.in-Some.byte u.kept_is all;
+            kept_is = c.keep_byte.ensures.keeps ∙ keeps_still 81 c.bytes.line.items u.line c.in-Some.byte u.kept_is;
             taken_is = ap (λ k. k + 1) u.taken_is ∙ sym one;
             at_ = c.in_ok-show.ensures.exact (took_byte n.1 u.now) n.3 t;
           };

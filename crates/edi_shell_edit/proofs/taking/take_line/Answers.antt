@@ -1,13 +1,12 @@
 -- A line is taken exactly by the definition.
-use Rattle.std.proofs.Common.{◌≡◌, ◌<◌, ◌≤◌, ◌==◌, ◌∷◌, ◌++◌, ◌+◌, [], false, length, sym, ap, subst, ◌∙◌, arith, rules}
+use Rattle.std.proofs.Common.{◌≡◌, ◌<◌, ◌==◌, ◌∷◌, ◌++◌, ◌+◌, [], false, length, sym, ap, subst, ◌∙◌, arith, rules}
 use Rattle.std.specs.Prelude.{Ok, IfSome, IfNone}
-use Rattle.std.proofs.Common.{length-append}
 use Rattle.edi_edit.specs.Lines.{has_feed}
 use Rattle.std.proofs.lemmas.Result.{err_from_is_err_and}
 use Rattle.edi_session.specs.Shell.{next_line, took_byte}
-use Rattle.edi_shell.proofs.Lines.{none_stops, last_is, fed_is, more_is, keeps_more, keeps_all}
+use Rattle.edi_shell.proofs.Lines.{none_stops, last_is, fed_is, more_is, keeps_still}
 use Rattle.edi_shell.specs.Taking.{GivesByte}
-use Rattle.edi_shell_edit.proofs.Silent.{gives_silent, is_more, is_zero, no_feed_more, none_begun}
+use Rattle.edi_shell_edit.proofs.Silent.{gives_silent, is_more, is_zero, no_feed_kept, none_begun}
 use Rattle.edi_shell_edit.proofs.taking.take_line.Goals as goal
 
 pub returns-in_err-byte-clause-exact : goal.returns-in_err-byte-clause-exact
@@ -55,51 +54,20 @@ returns-then-byte-eq-LINE_FEED-clause-exact g c = λ s e a t.
     (fed_is g.C.ShellCalls.at g.C.ShellCalls.stands false n.1 u.line c.in-Some.byte u.now (next_line false s) u.comes n.0 n.2 (ap (λ b. b == 10) feed))
     u.kept_is (ap (λ k. k + 1) u.taken_is ∙ sym one) n.3
 
-pub bytes-preserved-then-len-lt-MOST_KEPT : goal.bytes-preserved-then-len-lt-MOST_KEPT
-bytes-preserved-then-len-lt-MOST_KEPT g c =
-    let one : c.next_byte.new.taken ≡ c.bytes.taken + 1 = subst (λ b. IfSome b (λ x. c.next_byte.new.taken ≡ c.bytes.taken + 1)) c.in-Some.is
-    c.in_ok-byte.ensures.more in
-    let few : length c.bytes.line.items < 261121 = search rules in
-    let other : (c.in-Some.byte == 10) ≡ false = search rules in
-    let longer = ap length c.push_reserved.ensures.items ∙ length-append c.bytes.line.items (c.in-Some.byte ∷ []) in
-    record {
-      ready = c.in_ok-byte.ensures.left;
-      limit = c.next_byte.ensures.limit;
-      later = omega (arith, one, c.bytes.invariant.later);
-      more = λ some. omega (arith, one, c.bytes.invariant.later);
-      room = subst (λ n. 261121 ≤ n) (sym c.push_reserved.ensures.capacity) c.bytes.invariant.room;
-      short = omega (arith, longer, few);
-      one_line = subst (λ l. has_feed l ≡ false) (sym c.push_reserved.ensures.items)
-          (no_feed_more c.bytes.line.items c.in-Some.byte c.bytes.invariant.one_line other);
-      lasts = g.met.C.ShellCalls.lasts_on _ _ _ c.bytes.invariant.lasts c.next_byte.ensures.lasts;
-      exact = λ s e a t.
-          let u = c.bytes.invariant.exact s e a (g.met.C.ShellCalls.lasts_told _ _ c.next_byte.ensures.lasts t) in
-          let n = subst (λ b. GivesByte g.C.ShellCalls.at g.C.ShellCalls.stands (Ok b) u.now c.next_byte.new.calls) c.in-Some.is
-          (c.in_ok-byte.ensures.exact u.now u.taken_is u.at_ t) in
-          record {
-            now = took_byte n.1 u.now;
-            line = u.line ++ c.in-Some.byte ∷ [];
-            comes = more_is g.C.ShellCalls.at g.C.ShellCalls.stands false n.1 u.line c.in-Some.byte u.now (next_line false s) u.comes n.0 n.2 other;
-            kept_is = c.push_reserved.ensures.items ∙ keeps_more 261121 c.bytes.line.items u.line c.in-Some.byte u.kept_is few;
-            taken_is = ap (λ k. k + 1) u.taken_is ∙ sym one;
-            at_ = n.3;
-          };
-    }
-
 pub bytes-preserved : goal.bytes-preserved
 bytes-preserved g c =
     let one : c.next_byte.new.taken ≡ c.bytes.taken + 1 = subst (λ b. IfSome b (λ x. c.next_byte.new.taken ≡ c.bytes.taken + 1)) c.in-Some.is
     c.in_ok-byte.ensures.more in
-    let all : 261121 ≤ length c.bytes.line.items = search rules in
     let other : (c.in-Some.byte == 10) ≡ false = search rules in
     record {
       ready = c.in_ok-byte.ensures.left;
       limit = c.next_byte.ensures.limit;
       later = omega (arith, one, c.bytes.invariant.later);
       more = λ some. omega (arith, one, c.bytes.invariant.later);
-      room = c.bytes.invariant.room;
-      short = c.bytes.invariant.short;
-      one_line = c.bytes.invariant.one_line;
+      room = c.keep_byte.ensures.room;
+      short = c.keep_byte.ensures.short;
+      one_line = subst (λ l. has_feed l ≡ false) (sym c.keep_byte.ensures.keeps)
+          (no_feed_kept 261121 c.bytes.line.items c.in-Some.byte c.bytes.invariant.one_line other);
       lasts = g.met.C.ShellCalls.lasts_on _ _ _ c.bytes.invariant.lasts c.next_byte.ensures.lasts;
       exact = λ s e a t.
           let u = c.bytes.invariant.exact s e a (g.met.C.ShellCalls.lasts_told _ _ c.next_byte.ensures.lasts t) in
@@ -109,7 +77,7 @@ bytes-preserved g c =
             now = took_byte n.1 u.now;
             line = u.line ++ c.in-Some.byte ∷ [];
             comes = more_is g.C.ShellCalls.at g.C.ShellCalls.stands false n.1 u.line c.in-Some.byte u.now (next_line false s) u.comes n.0 n.2 other;
-            kept_is = keeps_all 261121 c.bytes.line.items u.line c.in-Some.byte u.kept_is all;
+            kept_is = c.keep_byte.ensures.keeps ∙ keeps_still 261121 c.bytes.line.items u.line c.in-Some.byte u.kept_is;
             taken_is = ap (λ k. k + 1) u.taken_is ∙ sym one;
             at_ = n.3;
           };

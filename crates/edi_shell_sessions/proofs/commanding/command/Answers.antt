@@ -1,7 +1,7 @@
 -- A command line is taken and done.
 use Rattle.std.proofs.Common.{◌≡◌, ◌∙◌, ◌<◌, ◌≤◌, ap, subst, arith, rules}
 use Rattle.std.proofs.lemmas.Result.{err_from_is_err_and}
-use Rattle.edi_session.specs.Session.{Acts, prompted}
+use Rattle.edi_session.specs.Session.{ActsBy, prompted}
 use Rattle.edi_session.specs.Shell.{on_fresh_line}
 use Rattle.edi_session.specs.Words.{command_line}
 use Rattle.edi_shell_edit.specs.Chain.{LinesCome}
@@ -55,7 +55,7 @@ returns-clause-exact g c = λ few s w t.
     c.take_command.new.line.items c.take_command.new.taken c.args.choices.now.drawn c.act.new.taken c.act.new.choices.drawn c.act.result
     c.take_command.new.calls c.act.new.calls w.mode_is u
     (subst (λ l. LinesCome c.args.bound c.args.choices.now.source g.C.ShellCalls.at g.C.ShellCalls.stands
-    (Acts c.args.bound c.args.choices.now.source l u.at_shell) c.act.result u.at_shell c.act.new.taken c.act.new.choices.drawn c.act.new.calls)
+    (ActsBy c.args.bound c.args.choices.now.source l u.at_shell) c.act.result u.at_shell c.act.new.taken c.act.new.choices.drawn c.act.new.calls)
     (c.command_line-said.ensures.exact ∙ ap command_line whole)
     (c.act.ensures.exact (below _ _ _ room few) u.at_shell u.awaits t))
 

@@ -2,7 +2,7 @@ use Rattle.std.proofs.Common.{◌≡◌, ◌∙◌, sym, ap, ℕ, List, true, fa
 use Rattle.std.specs.Prelude.{codes}
 use Rattle.std.specs.Str.{bytes_eq}
 use Rattle.edi_session.specs.declared.line.Line.TheVariants.{Bad, Release}
-use Rattle.edi_session.specs.Words.{line_of_more, words_of}
+use Rattle.edi_session.specs.Words.{line_of_more, words_in}
 use Rattle.edi_shell_words.specs.Operands.{one_title, line_or_bad}
 use Rattle.edi_shell_words.proofs.Table.{one_bad}
 use Rattle.edi_shell_words.proofs.command_lines.named_more.Goals as goal
@@ -15,7 +15,7 @@ pub returns-in_err-one_title-3 : goal.returns-in_err-one_title-3
 returns-in_err-one_title-3 c =
     let name = c.args.name.now in
     ap line_or_bad c.from_residual-in_err-one_title-3.ensures
-    ∙ sym (no_release name (words_of c.args.operands.now)
+    ∙ sym (no_release name (words_in c.args.operands.now)
     (sym (c.eq.ensures ∙ ap (bytes_eq name) c.as_slice.ensures) ∙ c.if-eq.false)
     (sym (c.eq-2.ensures ∙ ap (bytes_eq name) c.as_slice-2.ensures) ∙ c.if-eq-2.false)
     (sym (c.eq-3.ensures ∙ ap (bytes_eq name) c.as_slice-3.ensures) ∙ c.if-eq-3.true)
