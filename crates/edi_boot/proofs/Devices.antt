@@ -4,13 +4,13 @@ use Rattle.edi_execute.specs.Objects.{Contents}
 use Rattle.edi_execute.specs.Objects as execute
 use Rattle.edi_image.specs.Image.{mount_fault_of}
 use Rattle.edi_session.specs.declared.end.SessionEnd.{SessionEnd}
-use Rattle.edi_session.specs.declared.end.SessionEnd.TheVariants as end
 use Rattle.edi_session.specs.Session.{IsMomentOfSession}
 use Rattle.edi_session.specs.Shell.{session_on}
 use Rattle.edi_shell_sessions.specs.Ends.{ends_by_fault, SessionHasEnded, SessionHasFailed}
+use Rattle.edi_shell_sessions.proofs.Failing.{ended_so, failed_so}
 use Rattle.edi_trace.specs.Drawn.{Drawn}
 use Rattle.edi_statuses.specs.Executions.{StandsAt}
-use Rattle.edi_statuses.specs.Sessions.{HasHeld, shell_on}
+use Rattle.edi_statuses.specs.Sessions.{HasEnded, shell_on}
 use Rattle.edi_run_commands.proofs.Left.{devices}
 use Rattle.edi_boot.specs.OnObjects.{EndsOn, HaveState, HaveStateSince}
 use Rattle.edi_boot.proofs.Blocks.{end_of_session, moment_of_session}
@@ -19,7 +19,7 @@ module _ (bound : ℕ) (old : Drawn) (none : old.drawn ≡ 0) (drawn : ℕ) (sho
     (shows : y.shown ≡ x.shown ++ shown) where
   ended : (how : SessionEnd)
       → SessionHasEnded bound old.source HaveStateSince HaveState (session_on (execute.system_on x) old.drawn (length x.shown)) how drawn y
-      → HasHeld bound old.source how drawn (devices x) (devices y) shown
+      → HasEnded bound old.source how drawn (devices x) (devices y) shown
   ended how h0 =
       let h = subst (λ n. SessionHasEnded bound old.source HaveStateSince HaveState (session_on (execute.system_on x) n (length x.shown)) how drawn y) none h0 in
       record {
@@ -51,24 +51,18 @@ module _ (bound : ℕ) (old : Drawn) (none : old.drawn ≡ 0) (drawn : ℕ) (sho
         };
       }
 
-  -- it was held to its end
-  pub held_to : (how : SessionEnd) → ends_by_fault how ≡ false → EndsOn bound old how drawn x y
-      → HasHeld bound old.source how drawn (devices x) (devices y) shown
-  held_to end.Halted f h = ended end.Halted h
-  held_to end.InputEnd f h = ended end.InputEnd h
-  held_to end.Limit f h = ended end.Limit h
-  held_to end.DriveFault f h = absurd (cc)
-  held_to end.InputFault f h = absurd (cc)
-  held_to end.TerminalFault f h = absurd (cc)
-  held_to end.PrinterFault f h = absurd (cc)
+  -- it came to its end
+  pub ended_to : (how : SessionEnd) → ends_by_fault how ≡ false → EndsOn bound old how drawn x y
+      → HasEnded bound old.source how drawn (devices x) (devices y) shown
+  ended_to how f h =
+      ended how (ended_so (ends_by_fault how)
+      (SessionHasEnded bound old.source HaveStateSince HaveState (session_on (execute.system_on x) old.drawn (length x.shown)) how drawn y)
+      (SessionHasFailed bound old.source HaveStateSince HaveState (session_on (execute.system_on x) old.drawn (length x.shown)) y) f h)
 
   -- an object failed
   pub broken_at : (how : SessionEnd) → ends_by_fault how ≡ true → EndsOn bound old how drawn x y
       → StandsAt (IsMomentOfSession bound old.source (shell_on (devices x))) (devices x) (devices y) shown
-  broken_at end.Halted f h = absurd (cc)
-  broken_at end.InputEnd f h = absurd (cc)
-  broken_at end.Limit f h = absurd (cc)
-  broken_at end.DriveFault f h = failed h
-  broken_at end.InputFault f h = failed h
-  broken_at end.TerminalFault f h = failed h
-  broken_at end.PrinterFault f h = failed h
+  broken_at how f h =
+      failed (failed_so (ends_by_fault how)
+      (SessionHasEnded bound old.source HaveStateSince HaveState (session_on (execute.system_on x) old.drawn (length x.shown)) how drawn y)
+      (SessionHasFailed bound old.source HaveStateSince HaveState (session_on (execute.system_on x) old.drawn (length x.shown)) y) f h)

@@ -22,7 +22,7 @@ use Rattle.edi_statuses.specs.Executions.{record_of, StandsAt}
 use Rattle.edi_statuses.specs.Commands.{IsNothing}
 use Rattle.edi_statuses.specs.EachObject.{MayBeImage, is_in_file}
 use Rattle.edi_statuses.specs.Means.{Came, MeansOf}
-use Rattle.edi_statuses.specs.Sessions.{BootSteps, BrokeSession, HasHeld, HeldWhole, HoldsSession, SessionHeld, session_status, shell_on}
+use Rattle.edi_statuses.specs.Sessions.{BootSteps, BrokeSession, HasEnded, EndedWhole, HoldsSession, SessionEnded, session_status, shell_on}
 use Rattle.edi_steps.specs.OnFiles.{ChoicesStep, RecordStep, files_only}
 use Rattle.edi_steps.specs.NotMounted.{mount_status}
 use Rattle.edi_run_commands.specs.OnMounted.{DriveAsked}
@@ -35,24 +35,24 @@ use Rattle.edi_statuses.proofs.Told.{same_told, shows_nothing, still, still_same
 use Rattle.edi_run_commands.proofs.Told.{on_files, reads_till_the_last, there_on_files}
 use Rattle.edi_run_commands.proofs.Shown.{due_so, shown_since, shows_so}
 use Rattle.edi_boot.specs.OnObjects.{EndsOn}
-use Rattle.edi_boot.specs.SessionCame.{HeldSession, SessionCame}
-use Rattle.edi_boot.proofs.Devices.{broken_at, held_to}
+use Rattle.edi_boot.specs.SessionCame.{BootCame, SessionCame}
+use Rattle.edi_boot.proofs.Devices.{broken_at, ended_to}
 
 -- ---- the drive is not mounted
 
 pub unmounted : (bound : ℕ) (choices : Choices) (name : Option (List ℕ)) (s : Status) (due : Bool) (before after : Outside) (kernel : Lent)
-    (why : MountFault) → s ≡ mount_status why → due ≡ false → IsUnmounted before after kernel why → HeldSession bound choices name s due before after kernel
+    (why : MountFault) → s ≡ mount_status why → due ≡ false → IsUnmounted before after kernel why → BootCame bound choices name s due before after kernel
 unmounted bound choices name s due before after kernel why is silent h = record {
   shown = [];
   came = subst (λ x. SessionCame bound choices name x (seen before after) after [] kernel) (sym is)
-      (unmounted_by before after kernel why h name (BrokeSession bound choices (seen before after) after []) (HeldWhole bound choices (seen before after) after [])
+      (unmounted_by before after kernel why h name (BrokeSession bound choices (seen before after) after []) (EndedWhole bound choices (seen before after) after [])
       (λ end. HoldsSession bound choices name end (seen before after) after []));
   shows = shows_nothing before.shown after.shown h.shown;
   due_is = silent;
   each = unmounted_each before after kernel why h;
 }
 
--- ---- the session was held
+-- ---- the session is over
 
 module _ (bound : ℕ) (old : Drawn) (none : old.drawn ≡ 0) (due : Bool) (how : SessionEnd) (before after : Outside) (left : IsLeft due before after)
     (kernel : Lent) (new : Drawn) (told : WhereTold (told_by before) (told_by after) (EndsOn bound old how new.drawn)) where
@@ -84,7 +84,7 @@ module _ (bound : ℕ) (old : Drawn) (none : old.drawn ≡ 0) (due : Bool) (how 
   broke_by end.PrinterFault name f files b = (files, mounts due before after left, b)
 
   pub broke : (name : Option (List ℕ)) (s : Status) → s ≡ session_status how → ends_by_fault how ≡ true → after.files ≡ before.files
-      → HeldSession bound old.source name s due before after kernel
+      → BootCame bound old.source name s due before after kernel
   broke name s is f files = record {
     shown = shown_now;
     came = subst (λ x. SessionCame bound old.source name x (seen before after) after shown_now kernel) (sym is)
@@ -95,17 +95,17 @@ module _ (bound : ℕ) (old : Drawn) (none : old.drawn ≡ 0) (due : Bool) (how 
   }
 
   module _ (unfailed : ends_by_fault how ≡ false) (within : new.drawn ≤ 4194304 * bound) where
-    held_now : SessionHeld bound old.source how new.drawn (seen before after) after shown_now
-    held_now =
-        devices_told before after shown_now (EndsOn bound old how new.drawn) (λ d e. HasHeld bound old.source how new.drawn d e shown_now) left.valid
-        shows_now (λ x y valid shows h. held_to bound old none new.drawn shown_now x y valid shows how unfailed h) told
+    ended_now : SessionEnded bound old.source how new.drawn (seen before after) after shown_now
+    ended_now =
+        devices_told before after shown_now (EndsOn bound old how new.drawn) (λ d e. HasEnded bound old.source how new.drawn d e shown_now) left.valid
+        shows_now (λ x y valid shows h. ended_to bound old none new.drawn shown_now x y valid shows how unfailed h) told
 
-    whole : HeldWhole bound old.source (seen before after) after shown_now
-    whole = record { how = how; drawn = new.drawn; within = within; held = held_now }
+    whole : EndedWhole bound old.source (seen before after) after shown_now
+    whole = record { how = how; drawn = new.drawn; within = within; ended = ended_now }
 
     holds : (name : Option (List ℕ)) → Keeps (seen before after) after (record_of name old.source new.drawn)
         → HoldsSession bound old.source name (session_status how) (seen before after) after shown_now
-    holds name kept = record { how = how; drawn = new.drawn; within = within; status_is = refl; held = held_now; keeps = kept }
+    holds name kept = record { how = how; drawn = new.drawn; within = within; status_is = refl; ended = ended_now; keeps = kept }
 
     ended_by : (e : SessionEnd) (name : Option (List ℕ)) → ends_by_fault e ≡ false
         → HoldsSession bound old.source name (session_status e) (seen before after) after shown_now
@@ -121,7 +121,7 @@ module _ (bound : ℕ) (old : Drawn) (none : old.drawn ≡ 0) (due : Bool) (how 
     -- its record was kept, if there was to be one
     pub recorded : (name : Option (List ℕ)) (s : Status) → s ≡ session_status how → new.source ≡ old.source
         → WhereTold before.files after.files (λ a b. b ≡ with_kept (record_of name new.source new.drawn) a)
-        → HeldSession bound old.source name s due before after kernel
+        → BootCame bound old.source name s due before after kernel
     recorded name s is source step = record {
       shown = shown_now;
       came = subst (λ x. SessionCame bound old.source name x (seen before after) after shown_now kernel) (sym is)
@@ -135,11 +135,11 @@ module _ (bound : ℕ) (old : Drawn) (none : old.drawn ≡ 0) (due : Bool) (how 
 
     -- it was not kept
     pub unrecorded : (A : Type 0) (name : Option (List ℕ)) (s : Status) → RecordStep {A = A} name new (Err s) before.files after.files
-        → HeldSession bound old.source name s due before after kernel
+        → BootCame bound old.source name s due before after kernel
     unrecorded A name s step = record {
       shown = shown_now;
       came = unkept due before after left new A name s step (BrokeSession bound old.source (seen before after) after shown_now)
-          (HeldWhole bound old.source (seen before after) after shown_now)
+          (EndedWhole bound old.source (seen before after) after shown_now)
           (λ e. HoldsSession bound old.source name e (seen before after) after shown_now) shown_now kernel whole;
       shows = shows_now;
       due_is = due_now;
@@ -148,8 +148,8 @@ module _ (bound : ℕ) (old : Drawn) (none : old.drawn ≡ 0) (due : Bool) (how 
 
 -- another number that is the same
 pub with_bound : (n m : ℕ) → n ≡ m → (choices : Choices) (name : Option (List ℕ)) (s : Status) (due : Bool) (before after : Outside) (kernel : Lent)
-    → HeldSession n choices name s due before after kernel → HeldSession m choices name s due before after kernel
-with_bound n m same choices name s due before after kernel = subst (λ k. HeldSession k choices name s due before after kernel) same
+    → BootCame n choices name s due before after kernel → BootCame m choices name s due before after kernel
+with_bound n m same choices name s due before after kernel = subst (λ k. BootCame k choices name s due before after kernel) same
 
 -- ---- the meaning of the status
 
@@ -255,11 +255,11 @@ module _ (o : Options) (before : Outside) (new : Option Contents) (kernel : Lent
       each = each_same (Some (words.boot o)) before (with_files before new) refl refl refl;
     }
 
-  -- the session was held, or its drive not mounted
-  pub held_came : (choices : Choices) → ReadsChoices (files_only (still_told before.files new)) o.choices (goes choices)
+  -- the session is over, or its drive not mounted
+  pub boot_came : (choices : Choices) → ReadsChoices (files_only (still_told before.files new)) o.choices (goes choices)
       → WhereTold before.files new (λ a b. b ≡ a) → (s : Status) (due : Bool) (after : Outside) → WhereTold new after.files (λ a b. ⊤)
-      → HeldSession o.turns choices o.record_file s due (with_files before new) after kernel → Came s due (Some (words.boot o)) before after kernel
-  held_came choices reads first s due after last h =
+      → BootCame o.turns choices o.record_file s due (with_files before new) after kernel → Came s due (Some (words.boot o)) before after kernel
+  boot_came choices reads first s due after last h =
       let all : Outside = seen before after in
       let there = on_files all o.choices (goes choices) (reads_till_the_last o.choices choices before.files new after.files last reads) in
       let came = subst (λ files. SessionCame o.turns choices o.record_file s (record all { files = files }) after h.shown kernel)

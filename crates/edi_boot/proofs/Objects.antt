@@ -18,7 +18,7 @@ use Rattle.edi_system.specs.declared.system.System.{System}
 use Rattle.edi_trace.specs.Drawn.{Drawn}
 use Rattle.edi_execute.specs.Objects.{FailedIs, Objects, contents_with, faults_in, system_on}
 use Rattle.edi_execute.proofs.Runs.{AreOf, AreUnder, due_run, on_objects, told_run}
-use Rattle.edi_boot.specs.declared.holding.Held.{Held}
+use Rattle.edi_boot.specs.declared.holding.SessionExit.{SessionExit}
 use Rattle.edi_boot.specs.OnObjects.{EndsOn, HaveState, HaveStateSince, SessionLeft}
 
 drop_all : (xs : List ℕ) → drop (length xs) xs ≡ []
@@ -84,21 +84,21 @@ module _ {D S T P : Type 0} (contents : D → Option (List (List ℕ))) (left : 
       (session_on (state_with before x y z w) old.drawn (length z)) how drawn h)
 
   -- all of it
-  pub session_left : (bound : ℕ) (old : Drawn) (held : Held) (drawn : ℕ) → SystemBegins before
+  pub session_left : (bound : ℕ) (old : Drawn) (exit : SessionExit) (drawn : ℕ) → SystemBegins before
       → (old.drawn + 4194304 * bound < 2 ^ 64 → (n : ℕ) → IsDueSince shown before n → WhereTold (state_of contents left shown printed before)
-      (state_of contents left shown printed after) (λ s t. SessionLeaves bound old.source (session_on s old.drawn n) held.end drawn t))
-      → KeepsTold contents left shown printed before after → KeepsDue shown before after → held.due ≡ due_in after
-      → SessionLeft contents left shown printed bound old held drawn o o'
-  session_left bound old held drawn begins exact told keeps due = record {
+      (state_of contents left shown printed after) (λ s t. SessionLeaves bound old.source (session_on s old.drawn n) exit.end drawn t))
+      → KeepsTold contents left shown printed before after → KeepsDue shown before after → exit.due ≡ due_in after
+      → SessionLeft contents left shown printed bound old exit drawn o o'
+  session_left bound old exit drawn begins exact told keeps due = record {
     ends = λ few.
-        on_objects contents left shown printed before after o o' are are' (λ s t. SessionLeaves bound old.source (session_on s old.drawn (length s.shown)) held.end drawn t) (EndsOn bound old held.end drawn)
-        (ends_on bound old held.end drawn begins)
+        on_objects contents left shown printed before after o o' are are' (λ s t. SessionLeaves bound old.source (session_on s old.drawn (length s.shown)) exit.end drawn t) (EndsOn bound old exit.end drawn)
+        (ends_on bound old exit.end drawn begins)
         (from_start (state_with before) (contents (drive_in before)) (left (input_in before)) (shown (terminal_in before)) (printed (printer_in before))
         (state_of contents left shown printed after) (due_in before)
-        (λ n s t. SessionLeaves bound old.source (session_on s old.drawn n) held.end drawn t) (λ s. length s.shown) begins.due
+        (λ n s t. SessionLeaves bound old.source (session_on s old.drawn n) exit.end drawn t) (λ s. length s.shown) begins.due
         (λ x y bytes w. refl) (exact few));
     told = told_run contents left shown printed before after o o' are are' told;
-    due = due_run contents left shown printed before after o o' are are' held.due begins due told keeps;
+    due = due_run contents left shown printed before after o o' are are' exit.due begins due told keeps;
   }
 
 rose_behind : (a b c : ℕ) → a ≤ b → CountRose b c → CountRose a c

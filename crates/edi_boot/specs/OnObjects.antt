@@ -8,7 +8,7 @@ use Rattle.edi_session.specs.Shell.{session_on}
 use Rattle.edi_shell_sessions.specs.Ends.{SessionEnds}
 use Rattle.edi_system.specs.Parts.{due_after, ToldStays}
 use Rattle.edi_trace.specs.Drawn.{Drawn}
-use Rattle.edi_boot.specs.declared.holding.Held.{Held}
+use Rattle.edi_boot.specs.declared.holding.SessionExit.{SessionExit}
 
 -- the objects have what this state has
 abbrev pub HaveState : (c : Contents) → State → Type 0
@@ -18,7 +18,7 @@ HaveState c state = Show state c
 abbrev pub HaveStateSince : (c : Contents) → State → (shown_before : ℕ) → Type 0
 HaveStateSince c state shown_before = Show state c
 
--- the session was held on these objects, and in the end they have what it leaves, or what a state has through which it comes
+-- the session on these objects is over, and in the end they have what it leaves, or what a state has through which it comes
 abbrev pub EndsOn : (bound : ℕ) → Drawn → SessionEnd → (drawn : ℕ) → (before after : Contents) → Type 0
 EndsOn bound old how drawn before after =
     SessionEnds bound old.source HaveStateSince HaveState (session_on (system_on before) old.drawn (length before.shown)) how drawn after
@@ -27,9 +27,9 @@ EndsOn bound old how drawn before after =
 -- told at the start, the input only loses its first bytes, what the terminal and the printer have taken only grows, and the drive is a
 -- valid image; and whether a line is due is told by the bytes that the terminal has taken in between.
 pub record SessionLeft {D S T P : Type 0} (contents : D → Option (List (List ℕ))) (left : S → Option (List ℕ)) (shown : T → Option (List ℕ))
-    (printed : P → Option (List ℕ)) (bound : ℕ) (old : Drawn) (held : Held) (drawn : ℕ) (before after : Objects D S T P) : Type 0 where
+    (printed : P → Option (List ℕ)) (bound : ℕ) (old : Drawn) (exit : SessionExit) (drawn : ℕ) (before after : Objects D S T P) : Type 0 where
   pub ends : old.drawn + 4194304 * bound < 2 ^ 64 →
-      WhereTold (contents_of contents left shown printed before) (contents_of contents left shown printed after) (EndsOn bound old held.end drawn)
+      WhereTold (contents_of contents left shown printed before) (contents_of contents left shown printed after) (EndsOn bound old exit.end drawn)
   pub told : ToldStays (contents before.drive) (contents after.drive) (left before.input) (left after.input) (shown before.terminal) (shown after.terminal)
       (printed before.printer) (printed after.printer)
-  pub due : WhereTold (shown before.terminal) (shown after.terminal) (λ taken now. held.due ≡ due_after false (drop (length taken) now))
+  pub due : WhereTold (shown before.terminal) (shown after.terminal) (λ taken now. exit.due ≡ due_after false (drop (length taken) now))

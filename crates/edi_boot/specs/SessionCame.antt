@@ -1,4 +1,4 @@
--- Words of contracts. What is left where a session is held on a drive that is mounted for it and the record of its choices is kept, by
+-- Words of contracts. What is left where there was a session on a drive that is mounted for it and the record of its choices is kept, by
 -- the status to which that comes.
 use Rattle.std.specs.Prelude.{◌≡◌, ℕ, Bool, List, Option, None}
 use Rattle.edi_calls.specs.Choice.{Choices}
@@ -6,17 +6,17 @@ use Rattle.edi_statuses.specs.declared.status.Status.{Status}
 use Rattle.edi_statuses.specs.EachObject.{LeavesEach}
 use Rattle.edi_statuses.specs.Outside.{Outside, seen, Shows, Lent}
 use Rattle.edi_statuses.specs.Lines.{is_due}
-use Rattle.edi_statuses.specs.Sessions.{BrokeSession, HeldWhole, HoldsSession}
+use Rattle.edi_statuses.specs.Sessions.{BrokeSession, EndedWhole, HoldsSession}
 use Rattle.edi_run_commands.specs.OnMounted.{OnMounted}
 
 -- The session was broken off at one moment of it, or came to its end.
 abbrev pub SessionCame : (bound : ℕ) → Choices → (record_file : Option (List ℕ)) → Status → Outside → Outside → (shown : List ℕ) → Lent → Type 0
 SessionCame bound choices name s before after shown kernel =
-    OnMounted name (BrokeSession bound choices before after shown) (HeldWhole bound choices before after shown)
+    OnMounted name (BrokeSession bound choices before after shown) (EndedWhole bound choices before after shown)
     (λ end. HoldsSession bound choices name end before after shown) s before after shown kernel
 
 -- So it was; a line feed is due before the line of the status, or not. What is left of each object is told whatever the others tell.
-pub record HeldSession (bound : ℕ) (choices : Choices) (name : Option (List ℕ)) (s : Status) (due : Bool) (before after : Outside) (kernel : Lent) : Type 0
+pub record BootCame (bound : ℕ) (choices : Choices) (name : Option (List ℕ)) (s : Status) (due : Bool) (before after : Outside) (kernel : Lent) : Type 0
   where
     pub shown : List ℕ
     pub came : SessionCame bound choices name s (seen before after) after shown kernel

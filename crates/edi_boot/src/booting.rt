@@ -6,17 +6,17 @@ ghost use Rattle.edi_words.specs.Words as words;
 ghost use Rattle.edi_words.specs.View.{options_of};
 ghost use Rattle.edi_statuses.specs.Outside.{lent, outside_of};
 ghost use Rattle.edi_statuses.specs.Counts.{counts_of, HasCause, NoneFalls};
-ghost use Rattle.edi_statuses.specs.EachObject.{DevicesStay, FitsCount, is_before_drive, names_file};
+ghost use Rattle.edi_statuses.specs.EachObject.{DevicesStay, FitsCount, handed, is_before_drive, names_file};
 ghost use Rattle.edi_statuses.specs.Means.{Came};
 ghost use Rattle.edi_run_commands.specs.OnMounted.{DriveAsked};
 ghost use Rattle.edi_statuses.specs.Sessions.{session_status};
-ghost use Rattle.edi_shell_sessions.specs.Ends.{ends_by_fault};
-ghost use Rattle.edi_boot.specs.SessionCame.{HeldSession};
+ghost use Rattle.edi_boot.specs.SessionCame.{BootCame};
 
 use crate::holding::hold_on;
 use edi_host::{Drive, Files, Sink, Source};
 use edi_kernel::Kernel;
 use edi_session::SessionEnd;
+use edi_shell_sessions::ends_by_fault;
 use edi_statuses::{Ended, Status};
 use edi_steps::{keep_record, mount_status, read_from, stopped};
 use edi_trace::Choices;
@@ -38,18 +38,6 @@ fn session_status(end: SessionEnd) -> Status
     }
 }
 
-// Whether a session ended by the fault of an object.
-fn ends_by_fault(end: SessionEnd) -> bool
-    ensures exact { result ≡ ends_by_fault end }
-{
-    match end {
-        SessionEnd::Halted => false,
-        SessionEnd::InputEnd => false,
-        SessionEnd::Limit => false,
-        _ => true,
-    }
-}
-
 // Mounts the drive, holds a session on it, and keeps the record of the choices that were drawn in it, if there is to be one, unless an
 // object has failed.
 fn hold_session<F: Files, D: Drive, S: Source, T: Sink, P: Sink>(
@@ -65,7 +53,7 @@ fn hold_session<F: Files, D: Drive, S: Source, T: Sink, P: Sink>(
     kernel: &mut Kernel,
 ) -> Ended
     requires none_drawn { choices.old.drawn ≡ 0 }
-    ensures held { HeldSession turns choices.old.source (option_map (λ name. name.now) record_file.entry) result.status result.due
+    ensures came { BootCame turns choices.old.source (option_map (λ name. name.now) record_file.entry) result.status result.due
         (outside_of F.contents D.contents S.left T.taken P.taken files.old drive.old input.old terminal.old printer.old)
         (outside_of F.contents D.contents S.left T.taken P.taken files.new drive.new input.new terminal.new printer.new)
         (lent kernel.old.store kernel.old.used kernel.new.store kernel.new.used) }
@@ -80,7 +68,7 @@ fn hold_session<F: Files, D: Drive, S: Source, T: Sink, P: Sink>(
         (counts_of F.faults D.faults S.faults T.faults P.faults files.old drive.old input.old terminal.old printer.old)
         (counts_of F.faults D.faults S.faults T.faults P.faults files.new drive.new input.new terminal.new printer.new) }
 {
-    let held = match hold_on(
+    let exit = match hold_on(
         alloc,
         drive,
         input,
@@ -90,12 +78,12 @@ fn hold_session<F: Files, D: Drive, S: Source, T: Sink, P: Sink>(
         u64::from(turns),
         choices,
     ) {
-        Ok(held) => held,
+        Ok(exit) => exit,
         Err(why) => return stopped(mount_status(why)),
     };
-    let status = session_status(held.end);
-    let due = held.due;
-    if ends_by_fault(held.end) {
+    let status = session_status(exit.end);
+    let due = exit.due;
+    if ends_by_fault(exit.end) {
         return Ended { status, due };
     }
     match keep_record(alloc, files, record_file, choices) {
@@ -130,7 +118,8 @@ pub fn boot<F: Files, D: Drive, S: Source, T: Sink, P: Sink>(
     ensures size { D.count drive.new ≡ D.count drive.old }
     ensures fits { FitsCount result.status (D.count drive.old) }
     ensures early { is_before_drive result.status ≡ true
-        → DevicesStay drive.old drive.new input.old input.new terminal.old terminal.new printer.old printer.new kernel.old kernel.new }
+        → DevicesStay (handed files.old drive.old input.old terminal.old printer.old kernel.old)
+        (handed files.new drive.new input.new terminal.new printer.new kernel.new) }
     ensures cause { HasCause result.status
         (counts_of F.faults D.faults S.faults T.faults P.faults files.old drive.old input.old terminal.old printer.old)
         (counts_of F.faults D.faults S.faults T.faults P.faults files.new drive.new input.new terminal.new printer.new) }

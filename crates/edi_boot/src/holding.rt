@@ -25,18 +25,18 @@ use std::alloc::{AllocError, Global};
 /// The greatest number of bytes of a file.
 const MOST: usize = 261_120;
 
-/// How a session was held.
+/// How a session ended.
 #[derive(Clone, Copy, Debug, PartialEq, Eq, Drop)]
-pub(crate) struct Held {
+pub(crate) struct SessionExit {
     /// How it ended.
     pub(crate) end: SessionEnd,
     /// Whether bytes were shown and the last of them was no line feed.
     pub(crate) due: bool,
 }
 
-// Place for the bytes of a file.
-fn place_for_a_file(alloc: Global) -> Result<Vec<u8>, AllocError>
-    ensures most { IfOk result (λ place. most_bytes ≤ vec_len place) }
+// Room for the bytes of a file.
+fn room_for_a_file(alloc: Global) -> Result<Vec<u8>, AllocError>
+    ensures most { IfOk result (λ room. most_bytes ≤ vec_len room) }
 {
     vec![in alloc; 0; MOST]
 }
@@ -52,15 +52,15 @@ pub(crate) fn hold_on<D: Drive, S: Source, T: Sink, P: Sink>(
     kernel: &mut Kernel,
     bound: u64,
     choices: &mut Choices,
-) -> Result<Held, MountFault>
-    ensures leaves { IfOk result (λ held. SessionLeft D.contents S.left T.taken P.taken bound choices.old held choices.new.drawn
+) -> Result<SessionExit, MountFault>
+    ensures leaves { IfOk result (λ exit. SessionLeft D.contents S.left T.taken P.taken bound choices.old exit choices.new.drawn
         (objects drive.old input.old terminal.old printer.old) (objects drive.new input.new terminal.new printer.new)) }
     // The drive has as many blocks as before, whatever the answer, and was a valid image, where it was mounted.
     ensures size { D.count drive.new ≡ D.count drive.old }
-    ensures mounted { IfOk result (λ held. WhereTold (D.contents drive.old) (D.contents drive.new) (λ old new. mount_fault_of old ≡ None)) }
-    ensures image { IfOk result (λ held. MayBeImage (D.count drive.old)) }
+    ensures mounted { IfOk result (λ exit. WhereTold (D.contents drive.old) (D.contents drive.new) (λ old new. mount_fault_of old ≡ None)) }
+    ensures image { IfOk result (λ exit. MayBeImage (D.count drive.old)) }
     // An object has failed exactly where the end says so, and its count rose.
-    ensures blame { IfOk result (λ held. FailedIs (failed_by held.end)
+    ensures blame { IfOk result (λ exit. FailedIs (failed_by exit.end)
         (faults_in D.faults S.faults T.faults P.faults (objects drive.old input.old terminal.old printer.old))
         (faults_in D.faults S.faults T.faults P.faults (objects drive.new input.new terminal.new printer.new))) }
     ensures later { NoneFalls D.faults S.faults T.faults P.faults
@@ -75,7 +75,7 @@ pub(crate) fn hold_on<D: Drive, S: Source, T: Sink, P: Sink>(
     ensures source { choices.new.source ≡ choices.old.source }
     ensures drawn { choices.new.drawn ≤ choices.old.drawn + 4194304 * bound }
 {
-    let Ok(mut room) = place_for_a_file(alloc) else {
+    let Ok(mut room) = room_for_a_file(alloc) else {
         return Err(MountFault::NoMemory);
     };
     let Ok(mut buffer) = Buffer::new(alloc) else {
@@ -89,7 +89,7 @@ pub(crate) fn hold_on<D: Drive, S: Source, T: Sink, P: Sink>(
     let catalog = mount(disk, &mut entries);
     let mut system = System::new(catalog, input, terminal, printer, &mut buffer);
     let end = session(alloc, &mut system, kernel, &mut room, bound, choices);
-    Ok(Held {
+    Ok(SessionExit {
         end,
         due: system.due(),
     })

@@ -1,10 +1,10 @@
 -- From a code file that was fetched to the steps of `list`.
-use Rattle.std.proofs.Common.{◌≡◌, ◌⊎◌, inl, inr, ℕ, List, take, Result, Ok, Err, refl}
+use Rattle.std.proofs.Common.{◌≡◌, inl, inr, ℕ, List, take, Result, Ok, Err, refl}
 use Rattle.edi_target.specs.Limit.{most_fetched}
 use Rattle.edi_statuses.specs.declared.status.Status.{Status}
 use Rattle.edi_statuses.specs.declared.status.Status.TheVariants as status
 use Rattle.edi_statuses.specs.Outside.{Outside}
-use Rattle.edi_statuses.specs.Steps.{Fetches, Loads, goes, stops}
+use Rattle.edi_statuses.specs.Steps.{Fetches, goes}
 use Rattle.edi_steps.specs.Loaded.{LoadStep}
 use Rattle.edi_steps.specs.OnFiles.{FetchStep}
 use Rattle.edi_steps.proofs.LoadedFiles.{loads_all, stops_all}

@@ -24,10 +24,8 @@ fn listing_of_bytes(alloc: Global, bytes: &[u8]) -> Result<Vec<u8>, Status>
         Ok(code) => code,
         Err(status) => return Err(status),
     };
-    match listing(alloc, &code) {
-        Ok(text) => Ok(text),
-        Err(_) => Err(Status::NoMemory),
-    }
+    let text = listing(alloc, &code)?;
+    Ok(text)
 }
 
 /// The listing of the code in a file, or why the command stops there.

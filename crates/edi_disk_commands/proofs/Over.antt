@@ -11,7 +11,7 @@ use Rattle.edi_catalog.specs.declared.ends.CatEnd.TheVariants as cat
 use Rattle.edi_catalog.specs.Changes.{Leaves}
 use Rattle.edi_catalog.specs.InSlots.{SlotsAnswer, free_in, no_room}
 use Rattle.edi_catalog.specs.Storing.{slots_stored}
-use Rattle.edi_statuses.specs.Commands.{is_full, kind_of, put_in, released}
+use Rattle.edi_statuses.specs.Commands.{is_full, kind_of_bytes, put_in, released}
 use Rattle.edi_disk_commands.specs.OnDrive.{StoresOver, stands}
 use Rattle.edi_disk_commands.proofs.Slots.{released_same}
 use Rattle.edi_disk_commands.proofs.Full.{is_protected_there, no_room_there, protected_room, room_behind, room_there}
@@ -58,13 +58,13 @@ pub record Stores {X : Type 0} (r : Result X CatEnd) (title : List ℕ) (kind : 
       (slots_of new)
   pub leaves : Leaves r (slots_of old) (slots_stored title kind bytes (slots_of old)) old new
 
-module _ (title : List ℕ) (kind : FileKind) (bytes : List ℕ) (short : length bytes ≤ most_bytes) (kind_is : kind ≡ kind_of bytes) where
+module _ (title : List ℕ) (kind : FileKind) (bytes : List ℕ) (short : length bytes ≤ most_bytes) (kind_is : kind ≡ kind_of_bytes bytes) where
   -- a file that is not protected is stored so as it is behind its release
   stored_so : (blocks : List (List ℕ)) → is_protected (find_file (slots_of blocks) title) ≡ false
       → slots_stored title kind bytes (slots_of blocks) ≡ put_in title bytes (slots_of blocks)
   stored_so blocks open_ =
       (λ i. slots_stored title (kind_is i) bytes (slots_of blocks))
-      ∙ ap (slots_stored title (kind_of bytes) bytes) (sym (released_same title (slots_of blocks) open_))
+      ∙ ap (slots_stored title (kind_of_bytes bytes) bytes) (sym (released_same title (slots_of blocks) open_))
 
   pub stored_over : {X : Type 0} (r : Result X CatEnd) (old new : List (List ℕ)) → length new ≡ length old → (r ≡ Err cat.Protected → ⊥)
       → Stores r title kind bytes old new → StoresOver r title bytes old new

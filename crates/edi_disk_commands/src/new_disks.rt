@@ -16,7 +16,7 @@ use std::alloc::Global;
 /// As many bytes as decide what an image of version 1 is: a block more than the largest has.
 const LIMIT: usize = 2_097_664;
 
-/// Makes the drive an image of `blocks` blocks, 64 to 4096, with no files. It touches the drive alone; what that held is lost.
+/// Makes the drive an image of `blocks` blocks, 64 to 4096, with no files. It touches the drive alone; what was on it is lost.
 pub fn new_disk<D: Drive>(alloc: Global, drive: &mut D, blocks: u32) -> Status
     requires least { 64 ≤ blocks }
     requires most { blocks ≤ 4096 }

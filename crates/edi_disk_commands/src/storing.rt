@@ -6,7 +6,7 @@ ghost use Rattle.edi_told.specs.Told.{WhereTold};
 ghost use Rattle.edi_calls.specs.State.{most_bytes};
 ghost use Rattle.edi_disk.specs.Shown.{drive_of, reference_of};
 ghost use Rattle.edi_catalog.specs.Mounted.{IsMounted, disk_of, room_reference};
-ghost use Rattle.edi_statuses.specs.Commands.{kind_of};
+ghost use Rattle.edi_statuses.specs.Commands.{kind_of_bytes};
 ghost use Rattle.edi_disk_commands.specs.OnDrive.{StoresOver, stands};
 
 use edi_calls::blocks_of;
@@ -14,8 +14,8 @@ use edi_catalog::{CatEnd, Catalog, FileKind, Title};
 use edi_host::Drive;
 
 /// A file is code where its first two bytes are those of a code file, else text.
-fn kind_of(bytes: &[u8]) -> FileKind
-    ensures exact { result ≡ kind_of bytes.now }
+fn kind_of_bytes(bytes: &[u8]) -> FileKind
+    ensures exact { result ≡ kind_of_bytes bytes.now }
 {
     if bytes.len() >= 2 && bytes[0] == 0xED && bytes[1] == 0x15 {
         FileKind::Code
@@ -47,7 +47,7 @@ pub(crate) fn store_over<D: Drive>(
     ensures later { D.faults (drive_of (disk_of catalog.old)) ≤ D.faults (drive_of (disk_of catalog.new)) }
     ensures cause { result ≡ Err CatEnd.Fault → CountRose (D.faults (drive_of (disk_of catalog.old))) (D.faults (drive_of (disk_of catalog.new))) }
 {
-    let kind = kind_of(bytes);
+    let kind = kind_of_bytes(bytes);
     let answer = catalog.store(title, kind, bytes);
     if stands(&answer) {
         return answer;

@@ -1,6 +1,6 @@
 -- How `demo` came to its status, whatever the drive and the input are.
 use Rattle.std.proofs.Common.{◌≡◌, ◌∙◌, ◌+◌, arith, ℕ, Bool, false, List, [], ◌++◌}
-use Rattle.std.proofs.Common.{Option, Some, None, Ok, Err, map, refl, sym, ap, subst, inl, inr}
+use Rattle.std.proofs.Common.{Option, Some, None, Ok, Err, map, refl, sym, ap, subst, inl}
 use Rattle.std.specs.Prelude.{⊤}
 use Rattle.edi_told.specs.Told.{WhereTold}
 use Rattle.edi_host.specs.Blocks.{block_of}
@@ -17,7 +17,7 @@ use Rattle.edi_statuses.specs.declared.status.Status.TheVariants as status
 use Rattle.edi_statuses.specs.Counts.{HasCause, counts_with}
 use Rattle.edi_statuses.specs.EachObject.{LeavesEach}
 use Rattle.edi_statuses.specs.Outside.{KernelLeft, Lent, Outside, idle, outside_with, seen, still_told}
-use Rattle.edi_statuses.specs.Showing.{ShowsBytes, due_after}
+use Rattle.edi_statuses.specs.Showing.{ShowsBytes, due_behind}
 use Rattle.edi_statuses.specs.Steps.{ReadsChoices, goes}
 use Rattle.edi_statuses.specs.Executions.{text}
 use Rattle.edi_statuses.specs.Commands.{DemoSteps, IsNothing, Runs, size_line}
@@ -204,6 +204,6 @@ module _ (n : ℕ) (o : Options) (old mid new : Option Contents) (choices : Choi
           (outside_with new blocks input shows prints) (same_told blocks blocks refl) (same_told input input refl) kernel choices (steps shows blocks input)
           r.disk r.left r.ran.shown runs ended.status line.0 line.1;
       shows = closing.shown_line taken takes shows r.ran.shown line.0 r.ran.shows line.2;
-      due_is = line.3 ∙ ap (λ d. due_after d line.0) r.ran.due_is ∙ sym (due_then r.ran.shown line.0);
+      due_is = line.3 ∙ ap (λ d. due_behind d line.0) r.ran.due_is ∙ sym (due_then r.ran.shown line.0);
       each = each_alone shows blocks input;
     }

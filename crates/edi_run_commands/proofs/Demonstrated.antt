@@ -1,6 +1,6 @@
 -- From the steps of `demo` and what its code has left to the meaning of its status.
 use Rattle.std.proofs.Common.{◌≡◌, ◌∙◌, ◌||◌, ℕ, Bool, true, false, true≢false, cond, List, [], ◌++◌, append-nil, Option, Some, None, Err, IsSome}
-use Rattle.std.proofs.Common.{refl, sym, ap, subst, inl, inr}
+use Rattle.std.proofs.Common.{refl, sym, ap, inl, inr}
 use Rattle.std.specs.Prelude.{⊤, not, is_none}
 use Rattle.std.specs.Ordering.{nat_cmp, eq_by_cmp}
 use Rattle.std.specs.Cmp.Lexicographic.{slice_cmp}
@@ -17,7 +17,7 @@ use Rattle.edi_statuses.specs.declared.status.Status.{Status}
 use Rattle.edi_statuses.specs.declared.status.Status.TheVariants as status
 use Rattle.edi_statuses.specs.Outside.{Outside, Lent, SameBlocks, SameFiles, SameInput, with_kept, without_names}
 use Rattle.edi_statuses.specs.Showing.{ShowsFar}
-use Rattle.edi_statuses.specs.Steps.{goes, stops, Mounts, ReadsChoices}
+use Rattle.edi_statuses.specs.Steps.{goes, stops, Mounts}
 use Rattle.edi_statuses.specs.Executions.{BrokeRun, record_of, text}
 use Rattle.edi_statuses.specs.Commands.{DemoSteps, IsNothing, OnItsOwn, Runs, size_line, with_own}
 use Rattle.edi_statuses.specs.EachObject.{is_in_file}

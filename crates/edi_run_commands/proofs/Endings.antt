@@ -15,7 +15,7 @@ use Rattle.edi_statuses.specs.declared.status.Status.{Status}
 use Rattle.edi_statuses.specs.Outside.{Outside, seen, system_on, with_kept, Keeps, SameFiles, Shows, Lent}
 use Rattle.edi_statuses.specs.Lines.{is_due}
 use Rattle.edi_statuses.specs.Steps.{goes, Mounts}
-use Rattle.edi_statuses.specs.Executions.{Program, HasCode, HasMoment, StandsAt, Ran, BrokeRun, record_of, status_of}
+use Rattle.edi_statuses.specs.Executions.{Runnable, HasCode, HasMoment, StandsAt, Ran, BrokeRun, record_of, status_of}
 use Rattle.edi_statuses.specs.Executions as statuses
 use Rattle.edi_statuses.specs.Commands.{Runs}
 use Rattle.edi_statuses.specs.Means.{RanWhole}
@@ -52,7 +52,7 @@ status_is ending.Standstill s h = ap (λ x. unwrap_or x s) h
 status_is (ending.Bad address) s h = ap (λ x. unwrap_or x s) h
 status_is ending.Fault s h = absurd (cc)
 
-ended : (end : outcome.Ending) (program : Program) (bound : ℕ) (choices : Choices) (name : Option (List ℕ)) (before after : Outside) (shown : List ℕ)
+ended : (end : outcome.Ending) (program : Runnable) (bound : ℕ) (choices : Choices) (name : Option (List ℕ)) (before after : Outside) (shown : List ℕ)
     (kernel : Lent) → Mounts before (goes tt) → Runs program bound choices name (status_of end) before after shown kernel
     → CodeRan program bound choices name (status_of end) before after shown kernel
 ended outcome.done program bound choices name before after shown kernel m r = (m, r)
@@ -73,13 +73,13 @@ module _ (parts : CodeParts) (bound : ℕ) (old : Drawn) (none : old.drawn ≡ 0
   due_now = due_so due before.shown after.shown left.grows left.due_is
 
   -- an object has failed
-  broke_run : WhereTold (told_by before) (told_by after) (StandsAtMoment parts bound old) → (program : Program) → HasCode program parts
+  broke_run : WhereTold (told_by before) (told_by after) (StandsAtMoment parts bound old) → (program : Runnable) → HasCode program parts
       → BrokeRun program bound old.source (seen before after) after shown_now
   broke_run moment program is =
       devices_told before after shown_now (StandsAtMoment parts bound old) (λ d e. StandsAt (HasMoment program (system_on d) bound old.source) d e shown_now)
       left.valid shows_now (stands program parts is bound old none shown_now) moment
 
-  broke_by : (failed : failing.Outside) (name : Option (List ℕ)) (kernel : Lent) → SameFiles (seen before after) after → (program : Program)
+  broke_by : (failed : failing.Outside) (name : Option (List ℕ)) (kernel : Lent) → SameFiles (seen before after) after → (program : Runnable)
       → BrokeRun program bound old.source (seen before after) after shown_now
       → CodeRan program bound old.source name (object_status failed) (seen before after) after shown_now kernel
   broke_by object.Drive name kernel files program broke = (files, inr (mounts due before after left, broke))
@@ -101,16 +101,16 @@ module _ (parts : CodeParts) (bound : ℕ) (old : Drawn) (none : old.drawn ≡ 0
   -- the run has come to its ending
   module _ (e : Ending) (unfailed : IsNoFault e) (new : Drawn) (within : new.drawn ≤ bound) (kernel : Lent) (used : kernel.after.used ≤ bound)
       (run : WhereTold (told_by before) (told_by after) (HasRun parts bound old e kernel.after.words kernel.after.used new)) where
-    has_ran : (program : Program) → HasCode program parts → Ran program bound old.source (ending_of e) new.drawn (seen before after) after shown_now kernel
+    has_ran : (program : Runnable) → HasCode program parts → Ran program bound old.source (ending_of e) new.drawn (seen before after) after shown_now kernel
     has_ran program is =
         devices_told before after shown_now (HasRun parts bound old e kernel.after.words kernel.after.used new)
         (λ d x. statuses.HasRun program bound old.source (ending_of e) new.drawn d x shown_now kernel.after) left.valid shows_now
         (λ x y valid shows h. has_run program parts is bound old none shown_now e kernel.after.words kernel.after.used new x y unfailed valid shows h) run
 
-    whole : (program : Program) → HasCode program parts → RanWhole program bound old.source (seen before after) after shown_now kernel
+    whole : (program : Runnable) → HasCode program parts → RanWhole program bound old.source (seen before after) after shown_now kernel
     whole program is = record { ending = ending_of e; drawn = new.drawn; within = within; used = used; ran = has_ran program is }
 
-    runs : (name : Option (List ℕ)) → Keeps (seen before after) after (record_of name old.source new.drawn) → (program : Program) → HasCode program parts
+    runs : (name : Option (List ℕ)) → Keeps (seen before after) after (record_of name old.source new.drawn) → (program : Runnable) → HasCode program parts
         → Runs program bound old.source name (status_of (ending_of e)) (seen before after) after shown_now kernel
     runs name kept program is = record {
       ending = ending_of e;

@@ -11,8 +11,8 @@ use Rattle.edi_target.specs.Check.{CodeParts}
 use Rattle.edi_statuses.specs.declared.status.Status.{Status}
 use Rattle.edi_statuses.specs.declared.status.Status.TheVariants as status
 use Rattle.edi_statuses.specs.Outside.{Outside, IsSomeFile, seen, still_told, Lent}
-use Rattle.edi_statuses.specs.Steps.{Reached, goes, stops, ◌>>=◌, Ready, Fetches, GivesChoices, ReadsChoices, Mounts}
-use Rattle.edi_statuses.specs.Executions.{Program, HasCode}
+use Rattle.edi_statuses.specs.Steps.{AfterStep, goes, stops, ◌>>=◌, Ready, Fetches, GivesChoices, ReadsChoices, Mounts}
+use Rattle.edi_statuses.specs.Executions.{Runnable, HasCode}
 use Rattle.edi_statuses.specs.Commands.{IsNothing}
 use Rattle.edi_statuses.specs.Means.{HasNotBegun, WentOn}
 use Rattle.edi_steps.specs.OnFiles.{FetchStep, ChoicesStep, files_only}
@@ -61,7 +61,7 @@ IsRefusal (status.Refused kind line) = ⊤
 IsRefusal (status.BadCode broken) = ⊤
 IsRefusal _ = ⊥
 
-refused_means : {A : Type 0} (there asks : Type 0) (steps : Reached A → Type 0) (program : A → Program) (choices : A → Choices) (bound : ℕ)
+refused_means : {A : Type 0} (there asks : Type 0) (steps : AfterStep A → Type 0) (program : A → Runnable) (choices : A → Choices) (bound : ℕ)
     (name : Option (List ℕ)) (s : Status)
     (before after : Outside) (kernel : Lent) → IsRefusal s → steps (stops s) → IsNothing before after [] kernel
     → RunMeans there asks steps program choices bound name s before after [] kernel
@@ -87,17 +87,17 @@ choices_refusal o (file name) s (inr h) = go (read_of h.0) h.2
 -- ---- the steps of `run`, `replay` and `exec`
 
 -- fetches a file, reads the choices, takes the third step, mounts
-abbrev pub StepsBy : {U X : Type 0} → (third : List ℕ → Reached U → Type 0) → (List ℕ → U → X) → (file : List ℕ) → ChoicesFrom → Outside
-    → Reached (X × Choices) → Type 0
+abbrev pub StepsBy : {U X : Type 0} → (third : List ℕ → AfterStep U → Type 0) → (List ℕ → U → X) → (file : List ℕ) → ChoicesFrom → Outside
+    → AfterStep (X × Choices) → Type 0
 StepsBy third make name from o =
     Fetches o name >>= λ bytes. ReadsChoices o from >>= λ choices. third bytes >>= λ u. Mounts o >>= λ done. Ready (make bytes u, choices)
 
 -- and has come to the drive
-abbrev pub AsksBy : {U : Type 0} → (third : List ℕ → Reached U → Type 0) → (file : List ℕ) → ChoicesFrom → Outside → Type 0
+abbrev pub AsksBy : {U : Type 0} → (third : List ℕ → AfterStep U → Type 0) → (file : List ℕ) → ChoicesFrom → Outside → Type 0
 AsksBy third name from o = WentOn (Fetches o name >>= λ bytes. ReadsChoices o from >>= λ choices. third bytes)
 
 -- another status that is the same
-pub came : {A : Type 0} (there asks : Outside → Type 0) (steps : Outside → Reached A → Type 0) (program : A → Program) (choices : A → Choices)
+pub came : {A : Type 0} (there asks : Outside → Type 0) (steps : Outside → AfterStep A → Type 0) (program : A → Runnable) (choices : A → Choices)
     (bound : ℕ) (name : Option (List ℕ))
     (s t : Status) (due : Bool) (before after : Outside) (kernel : Lent) → t ≡ s → due ≡ false
     → RunCame there asks steps program choices bound name s false before after kernel
@@ -106,9 +106,9 @@ came there asks steps program choices bound name s t due before after kernel sam
     subst (λ d. RunCame there asks steps program choices bound name t d before after kernel) (sym none)
     (subst (λ x. RunCame there asks steps program choices bound name x false before after kernel) (sym same) h)
 
-module _ {U X : Type 0} (third : List ℕ → Reached U → Type 0) (make : List ℕ → U → X) (program : X → Program) (name : List ℕ) (from : ChoicesFrom)
+module _ {U X : Type 0} (third : List ℕ → AfterStep U → Type 0) (make : List ℕ → U → X) (program : X → Runnable) (name : List ℕ) (from : ChoicesFrom)
     (bound : ℕ) (record_file : Option (List ℕ)) (before : Outside) (kernel : Lent) where
-  abbrev steps : Outside → Reached (X × Choices) → Type 0
+  abbrev steps : Outside → AfterStep (X × Choices) → Type 0
   steps o = StepsBy third make name from o
 
   abbrev file_there : Outside → Type 0
@@ -167,7 +167,7 @@ module _ {U X : Type 0} (third : List ℕ → Reached U → Type 0) (make : List
     fetched : Fetches (seen before (with_files before new)) name (goes all)
     fetched = till_the_last (λ files. map.get files name ≡ Some all) before.files mid new (just_told (λ a b. b ≡ a) mid new second) f
 
-    read : (r : Reached Choices) → ReadsChoices (files_only (still_told mid new)) from r → ReadsChoices (seen before (with_files before new)) from r
+    read : (r : AfterStep Choices) → ReadsChoices (files_only (still_told mid new)) from r → ReadsChoices (seen before (with_files before new)) from r
     read r h =
         on_files (seen before (with_files before new)) from r (subst (λ files. ReadsChoices (files_only files) from r)
         (still_same before.files mid new first (just_told (λ a b. b ≡ a) mid new second)) h)

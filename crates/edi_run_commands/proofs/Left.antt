@@ -23,7 +23,7 @@ use Rattle.edi_texts.proofs.Executions.{runs_are_never_bad}
 use Rattle.edi_trace.specs.Drawn.{Drawn}
 use Rattle.edi_statuses.specs.Outside.{Outside, Devices, devices_of, devices_with, seen, still_told, system_on, Shows, kernel_of}
 use Rattle.edi_run_commands.proofs.Blocks.{end_blocks, moment_blocks}
-use Rattle.edi_statuses.specs.Executions.{Program, text, code, HasCode, HasMoment, HasOutcome, HasRun, NeverBad, StandsAt, StoreIs}
+use Rattle.edi_statuses.specs.Executions.{Runnable, text, code, HasCode, HasMoment, HasOutcome, HasRun, NeverBad, StandsAt, StoreIs}
 
 -- ---- what the four objects tell
 
@@ -110,22 +110,22 @@ runs_as parts system bound old ending.Fault words used now new unfailed h = absu
 
 -- ---- programs with this code
 
-has_outcome : (program : Program) (parts : CodeParts) (system : State) (bound : ℕ) (choices : Choices) (o : Outcome) → HasCode program parts
+has_outcome : (program : Runnable) (parts : CodeParts) (system : State) (bound : ℕ) (choices : Choices) (o : Outcome) → HasCode program parts
     → IsRunOfCode parts system bound choices o → HasOutcome program system bound choices o
 has_outcome (text bytes) parts system bound choices o is run = (is.same system bound choices o).0 run
 has_outcome (code own) parts system bound choices o is run = subst (λ p. IsRunOfCode p system bound choices o) is run
 
-has_moment : (program : Program) (parts : CodeParts) (system : State) (bound : ℕ) (choices : Choices) (moment : State) → HasCode program parts
+has_moment : (program : Runnable) (parts : CodeParts) (system : State) (bound : ℕ) (choices : Choices) (moment : State) → HasCode program parts
     → IsMomentOfCode parts system bound choices moment → HasMoment program system bound choices moment
 has_moment (text bytes) parts system bound choices moment is through = (is.through system bound choices moment).0 through
 has_moment (code own) parts system bound choices moment is through = subst (λ p. IsMomentOfCode p system bound choices moment) is through
 
-never_bad : (program : Program) (system : State) (bound : ℕ) (choices : Choices) (o : Outcome) → HasOutcome program system bound choices o
+never_bad : (program : Runnable) (system : State) (bound : ℕ) (choices : Choices) (o : Outcome) → HasOutcome program system bound choices o
     → NeverBad program o.ending
 never_bad (text bytes) system bound choices o run = runs_are_never_bad bytes system bound choices o run
 never_bad (code own) system bound choices o run = tt
 
-module _ (program : Program) (parts : CodeParts) (is : HasCode program parts) (bound : ℕ) (old : Drawn) (none : old.drawn ≡ 0) (shown : List ℕ) where
+module _ (program : Runnable) (parts : CodeParts) (is : HasCode program parts) (bound : ℕ) (old : Drawn) (none : old.drawn ≡ 0) (shown : List ℕ) where
   -- a run that has come to its ending
   pub has_run : (e : Ending) (words : List ℕ) (used : ℕ) (new : Drawn) (x y : Contents) → IsNoFault e → mount_fault_of y.disk ≡ None
       → y.shown ≡ x.shown ++ shown → execute.HasRun parts bound old e words used new x y

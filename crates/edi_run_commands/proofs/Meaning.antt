@@ -9,14 +9,14 @@ use Rattle.edi_words.specs.Words.{Options}
 use Rattle.edi_statuses.specs.declared.status.Status.{Status}
 use Rattle.edi_statuses.specs.declared.status.Status.TheVariants as status
 use Rattle.edi_statuses.specs.Outside.{Outside, IsSomeFile, Lent}
-use Rattle.edi_statuses.specs.Steps.{Reached, goes, stops, Mounts}
-use Rattle.edi_statuses.specs.Executions.{Program, text, code, status_of}
+use Rattle.edi_statuses.specs.Steps.{AfterStep, goes, stops, Mounts}
+use Rattle.edi_statuses.specs.Executions.{Runnable, text, code, status_of}
 use Rattle.edi_statuses.specs.Commands.{RunSteps, ExecSteps}
 use Rattle.edi_statuses.specs.Means.{AtRecord, Came, ExecAsks, MeansOf, RunAsks}
 use Rattle.edi_run_commands.specs.CodeRan.{CodeRan}
-use Rattle.edi_run_commands.specs.RunMeans.{RunMeans, TextCame, CodeFileCame}
+use Rattle.edi_run_commands.specs.RunMeans.{RunMeans, TextCame, CodeFileCame, replaying}
 
-pub at_record : {A : Type 0} (name : Option (List ℕ)) (steps : Reached A → Type 0) (P : A → Type 0) (a : A) → IsSome name → steps (goes a) → P a
+pub at_record : {A : Type 0} (name : Option (List ℕ)) (steps : AfterStep A → Type 0) (P : A → Type 0) (a : A) → IsSome name → steps (goes a) → P a
     → AtRecord name steps P
 at_record None steps P a there s p = absurd (cc)
 at_record (Some name) steps P a there s p = (a, s, p)
@@ -32,7 +32,7 @@ never_words (outcome.bad address) e = absurd (cc)
 -- ---- a command that has run a code
 
 -- its steps go on if the drive is mounted, and stop where it is not
-module _ {A : Type 0} (there asks : Type 0) (steps : Reached A → Type 0) (program : A → Program) (choices : A → Choices) (a : A) (bound : ℕ) (name : Option (List ℕ))
+module _ {A : Type 0} (there asks : Type 0) (steps : AfterStep A → Type 0) (program : A → Runnable) (choices : A → Choices) (a : A) (bound : ℕ) (name : Option (List ℕ))
     (before after : Outside) (shown : List ℕ) (kernel : Lent) (asked : asks)
     (went : Mounts before (goes tt) → steps (goes a))
     (stopped : (s : Status) → Mounts before (stops s) → steps (stops s)) where
@@ -73,15 +73,13 @@ no_record (inl b) = b
 no_record (inr h) = absurd h
 
 replay_means : (file name : List ℕ) (turns : ℕ) (s : Status) (before after : Outside) (shown : List ℕ) (kernel : Lent)
-    → RunMeans (IsSomeFile before file) (RunAsks before file (words.file name)) (RunSteps before file (words.file name)) (λ a. text a.0) (λ a. a.1) turns None s
-    before after shown kernel
-    → MeansOf s (words.replay file name turns) before after shown kernel
+    → MeansOf s (words.run file (replaying name turns)) before after shown kernel → MeansOf s (words.replay file name turns) before after shown kernel
 replay_means file name turns status.Words before after shown kernel h = h
 replay_means file name turns status.NoMemory before after shown kernel h = no_record h
-replay_means file name turns status.FileFault before after shown kernel h = record { uses = refl; far = h }
-replay_means file name turns status.DriveFault before after shown kernel h = record { uses = refl; far = h }
-replay_means file name turns status.InputFault before after shown kernel h = record { uses = tt; far = h }
-replay_means file name turns status.OutputFault before after shown kernel h = record { uses = tt; far = h }
+replay_means file name turns status.FileFault before after shown kernel h = record { uses = refl; far = h.far }
+replay_means file name turns status.DriveFault before after shown kernel h = record { uses = refl; far = h.far }
+replay_means file name turns status.InputFault before after shown kernel h = record { uses = tt; far = h.far }
+replay_means file name turns status.OutputFault before after shown kernel h = record { uses = tt; far = h.far }
 replay_means file name turns s before after shown kernel h = h
 
 exec_means : (file : List ℕ) (o : Options) (s : Status) (before after : Outside) (shown : List ℕ) (kernel : Lent)
@@ -107,9 +105,9 @@ run_came file o s due before after kernel h =
       each = record { drive = λ stays. h.each.drive refl; input = h.each.input; printer = h.each.printer };
     }
 
-pub replay_came : (file name : List ℕ) (turns : ℕ) (s : Status) (due : Bool) (before after : Outside) (kernel : Lent)
-    → TextCame file (words.file name) turns None s due before after kernel → Came s due (Some (words.replay file name turns)) before after kernel
-replay_came file name turns s due before after kernel h =
+pub replayed : (file name : List ℕ) (turns : ℕ) (s : Status) (due : Bool) (before after : Outside) (kernel : Lent)
+    → Came s due (Some (words.run file (replaying name turns))) before after kernel → Came s due (Some (words.replay file name turns)) before after kernel
+replayed file name turns s due before after kernel h =
     record {
       shown = h.shown;
       means = replay_means file name turns s _ after h.shown kernel h.means;

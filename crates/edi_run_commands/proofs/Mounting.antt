@@ -5,7 +5,7 @@ use Rattle.edi_image.specs.declared.faults.MountFault.{MountFault}
 use Rattle.edi_image.specs.declared.faults.MountFault.TheVariants as mount
 use Rattle.edi_image.specs.Finds.{IsFirst}
 use Rattle.edi_image.specs.Image.{mount_fault_of}
-use Rattle.edi_system.specs.Parts.{IsValid, Grows, Shrinks, due_after}
+use Rattle.edi_system.specs.Parts.{IsValid, Grows, Shrinks, ToldStays, due_after}
 use Rattle.edi_trace.specs.Drawn.{Drawn}
 use Rattle.edi_statuses.specs.declared.status.Status.{Status}
 use Rattle.edi_statuses.specs.declared.status.Status.TheVariants as status
@@ -88,6 +88,18 @@ pub record IsLeft (due : Bool) (before after : Outside) : Type 0 where
   pub grows : WhereTold before.shown after.shown Grows
   pub prints : WhereTold before.printed after.printed Grows
   pub due_is : WhereTold before.shown after.shown (λ taken now. due ≡ due_after false (drop (length taken) now))
+
+pub left_on : (due : Bool) (before after : Outside) → WhereTold before.blocks after.blocks (λ old new. mount_fault_of old ≡ None)
+    → ToldStays before.blocks after.blocks before.input after.input before.shown after.shown before.printed after.printed
+    → WhereTold before.shown after.shown (λ taken now. due ≡ due_after false (drop (length taken) now)) → IsLeft due before after
+left_on due before after mounted told due_is = record {
+  mounted = mounted;
+  valid = told.valid;
+  shrinks = told.shrinks;
+  grows = told.grows;
+  prints = told.prints;
+  due_is = due_is;
+}
 
 pub mounts : (due : Bool) (before after : Outside) → IsLeft due before after → Mounts (seen before after) (goes tt)
 mounts due before after left =

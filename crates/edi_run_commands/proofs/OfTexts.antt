@@ -1,11 +1,12 @@
 -- A text that is compiled, and its code that is run.
-use Rattle.std.proofs.Common.{◌≡◌, ℕ, Bool, false, List, Option, Ok, Err, refl, subst}
+use Rattle.std.proofs.Common.{◌≡◌, ℕ, Bool, false, List, Option, Some, Ok, Err, refl, subst}
 use Rattle.std.specs.Prelude.{⊤, take}
 use Rattle.edi_told.specs.Told.{WhereTold}
 use Rattle.edi_host.specs.Files.{Contents}
 use Rattle.edi_lex.specs.Limit.{most_fetched}
 use Rattle.edi_calls.specs.Choice.{Choices}
-use Rattle.edi_words.specs.Words.{ChoicesFrom}
+use Rattle.edi_words.specs.Words as words
+use Rattle.edi_words.specs.Words.{ChoicesFrom, Options}
 use Rattle.edi_target.specs.Check.{CodeParts}
 use Rattle.edi_texts.specs.declared.refusal.Refusal.{Refusal}
 use Rattle.edi_texts.specs.declared.refusal.Refusal.TheVariants.{At, NoMemory}
@@ -19,19 +20,20 @@ use Rattle.edi_statuses.specs.Outside.{Outside, IsSomeFile, still_told, Lent}
 use Rattle.edi_statuses.specs.Steps.{goes, Fetches, ReadsChoices, Accepts}
 use Rattle.edi_statuses.specs.Executions.{text}
 use Rattle.edi_statuses.specs.Commands.{RunSteps}
-use Rattle.edi_statuses.specs.Means.{RunAsks}
+use Rattle.edi_statuses.specs.Means.{Came, RunAsks}
 use Rattle.edi_steps.specs.OnFiles.{files_only}
 use Rattle.edi_steps.proofs.Units.{unit_there}
 use Rattle.edi_run_commands.specs.CodeRan.{RanCode, refusal_status}
 use Rattle.edi_run_commands.specs.RunMeans.{TextCame}
+use Rattle.edi_run_commands.proofs.Meaning.{run_came}
 use Rattle.edi_run_commands.proofs.Exits.{came, with_files, code_ran, third_stops, third_wants}
 
 -- another status that is the same
-pub text_came : (name : List ℕ) (from : ChoicesFrom) (bound : ℕ) (record_file : Option (List ℕ)) (s t : Status) (due : Bool) (before after : Outside)
-    (kernel : Lent) → t ≡ s → due ≡ false → TextCame name from bound record_file s false before after kernel
-    → TextCame name from bound record_file t due before after kernel
-text_came name from bound record_file s t due before after kernel same silent h =
-    came (λ o. IsSomeFile o name) (λ o. RunAsks o name from) (λ o. RunSteps o name from) (λ a. text a.0) (λ a. a.1) bound record_file s t due before after kernel same silent h
+pub text_came : (name : List ℕ) (o : Options) (s t : Status) (due : Bool) (before after : Outside) (kernel : Lent) → t ≡ s → due ≡ false
+    → TextCame name o.choices o.turns o.record_file s false before after kernel → Came t due (Some (words.run name o)) before after kernel
+text_came name o s t due before after kernel same silent h =
+    run_came name o t due before after kernel
+    (came (λ x. IsSomeFile x name) (λ x. RunAsks x name o.choices) (λ x. RunSteps x name o.choices) (λ a. text a.0) (λ a. a.1) o.turns o.record_file s t due before after kernel same silent h)
 
 module _ (name : List ℕ) (from : ChoicesFrom) (bound : ℕ) (record_file : Option (List ℕ)) (before : Outside) (kernel : Lent) (all bytes : List ℕ)
     (first_bytes : bytes ≡ take most_fetched all) (mid new : Option Contents) (choices : Choices)

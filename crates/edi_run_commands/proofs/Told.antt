@@ -7,7 +7,7 @@ use Rattle.edi_calls.specs.Choice.{Choices}
 use Rattle.edi_words.specs.Words.{ChoicesFrom, nowhere, file, seed}
 use Rattle.edi_statuses.specs.EachObject.{is_in_file}
 use Rattle.edi_statuses.specs.Outside.{Outside, still_told}
-use Rattle.edi_statuses.specs.Steps.{Reached, goes, stops, ReadsChoices, ChoicesAreThere}
+use Rattle.edi_statuses.specs.Steps.{AfterStep, goes, stops, ReadsChoices, ChoicesAreThere}
 use Rattle.edi_statuses.proofs.Told.{till_the_last}
 use Rattle.edi_steps.specs.OnFiles.{files_only}
 
@@ -30,7 +30,7 @@ in_file o (file name) h = refl
 in_file o (seed n) h = absurd h
 
 -- of all objects the files alone are looked at
-pub on_files : (o : Outside) (from : ChoicesFrom) (r : Reached Choices) → ReadsChoices (files_only o.files) from r → ReadsChoices o from r
+pub on_files : (o : Outside) (from : ChoicesFrom) (r : AfterStep Choices) → ReadsChoices (files_only o.files) from r → ReadsChoices o from r
 on_files o nowhere r k = k
 on_files o (seed n) r k = k
 on_files o (file name) (goes choices) (inl k) = absurd k

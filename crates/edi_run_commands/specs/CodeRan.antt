@@ -15,7 +15,7 @@ use Rattle.edi_statuses.specs.declared.status.Status.TheVariants as status
 use Rattle.edi_statuses.specs.EachObject.{LeavesEach}
 use Rattle.edi_statuses.specs.Outside.{Outside, seen, Shows, Lent}
 use Rattle.edi_statuses.specs.Lines.{is_due}
-use Rattle.edi_statuses.specs.Executions.{Program, HasCode, BrokeRun}
+use Rattle.edi_statuses.specs.Executions.{Runnable, HasCode, BrokeRun}
 use Rattle.edi_statuses.specs.Commands.{Runs}
 use Rattle.edi_statuses.specs.Means.{RanWhole}
 use Rattle.edi_run_commands.specs.OnMounted.{OnMounted}
@@ -47,7 +47,7 @@ ending_status ending.Fault = None
 -- ---- what is left
 
 -- The program was broken off at one moment of its execution, or came to its ending.
-abbrev pub CodeRan : Program → (bound : ℕ) → Choices → (record_file : Option (List ℕ)) → Status → Outside → Outside → (shown : List ℕ)
+abbrev pub CodeRan : Runnable → (bound : ℕ) → Choices → (record_file : Option (List ℕ)) → Status → Outside → Outside → (shown : List ℕ)
     → Lent → Type 0
 CodeRan program bound choices name s before after shown kernel =
     OnMounted name (BrokeRun program bound choices before after shown) (RanWhole program bound choices before after shown kernel)
@@ -58,7 +58,7 @@ CodeRan program bound choices name s before after shown kernel =
 pub record RanCode (parts : CodeParts) (bound : ℕ) (choices : Choices) (name : Option (List ℕ)) (s : Status) (due : Bool)
     (before after : Outside) (kernel : Lent) : Type 0 where
   pub shown : List ℕ
-  pub ran : (program : Program) → HasCode program parts → CodeRan program bound choices name s (seen before after) after shown kernel
+  pub ran : (program : Runnable) → HasCode program parts → CodeRan program bound choices name s (seen before after) after shown kernel
   pub shows : Shows before after shown
   pub due_is : due ≡ is_due shown
   pub each : LeavesEach None before after

@@ -3,7 +3,7 @@
 ghost use Rattle.std.specs.Prelude.{◌≡◌, true, Some};
 ghost use Rattle.edi_words.specs.Words as words;
 ghost use Rattle.edi_words.specs.View.{options_of};
-ghost use Rattle.edi_statuses.specs.EachObject.{DevicesStay, FitsCount, is_before_drive};
+ghost use Rattle.edi_statuses.specs.EachObject.{DevicesStay, FitsCount, handed, is_before_drive};
 ghost use Rattle.edi_statuses.specs.Outside.{lent, outside_of};
 ghost use Rattle.edi_statuses.specs.Counts.{counts_of, HasCause, NoneFalls};
 ghost use Rattle.edi_statuses.specs.Means.{Came};
@@ -47,7 +47,8 @@ pub fn exec<F: Files, D: Drive, S: Source, T: Sink, P: Sink>(
     ensures size { D.count drive.new ≡ D.count drive.old }
     ensures fits { FitsCount result.status (D.count drive.old) }
     ensures early { is_before_drive result.status ≡ true
-        → DevicesStay drive.old drive.new input.old input.new terminal.old terminal.new printer.old printer.new kernel.old kernel.new }
+        → DevicesStay (handed files.old drive.old input.old terminal.old printer.old kernel.old)
+        (handed files.new drive.new input.new terminal.new printer.new kernel.new) }
 {
     let bytes = match fetch(alloc, files, file, LIMIT) {
         Ok(bytes) => bytes,

@@ -56,12 +56,8 @@ fn demo_code(alloc: Global, n: u32) -> Result<Demo, Status>
     requires many { n ≤ 1000 }
     ensures made { DemoStep n result }
 {
-    let Ok(text) = demo(alloc, n) else {
-        return Err(Status::NoMemory);
-    };
-    let Ok(symbols) = count_symbols(alloc, &text) else {
-        return Err(Status::NoMemory);
-    };
+    let text = demo(alloc, n)?;
+    let symbols = count_symbols(alloc, &text)?;
     match compile(alloc, &text) {
         Ok(code) => Ok(Demo { code, symbols }),
         Err(refusal) => Err(refusal_status(refusal)),

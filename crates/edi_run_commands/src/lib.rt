@@ -8,4 +8,4 @@ mod texts;
 
 pub use codefile::exec;
 pub use demonstration::demonstrate;
-pub use texts::{replay, run};
+pub use texts::run;

@@ -1,11 +1,10 @@
-//! `run` and `replay`: the program of a text.
+//! `run`, and `replay`: the program of a text.
 
-ghost use Rattle.std.specs.Prelude.{◌≡◌, true, Some, option_map};
+ghost use Rattle.std.specs.Prelude.{◌≡◌, true, Some};
 ghost use Rattle.edi_run_commands.specs.CodeRan.{refusal_status};
-ghost use Rattle.edi_run_commands.specs.RunMeans.{TextCame};
 ghost use Rattle.edi_words.specs.Words as words;
-ghost use Rattle.edi_words.specs.View.{choices_from, options_of};
-ghost use Rattle.edi_statuses.specs.EachObject.{DevicesStay, FitsCount, is_before_drive};
+ghost use Rattle.edi_words.specs.View.{options_of};
+ghost use Rattle.edi_statuses.specs.EachObject.{DevicesStay, FitsCount, handed, is_before_drive};
 ghost use Rattle.edi_statuses.specs.Outside.{lent, outside_of};
 ghost use Rattle.edi_statuses.specs.Counts.{counts_of, HasCause, NoneFalls};
 ghost use Rattle.edi_statuses.specs.Means.{Came};
@@ -16,7 +15,7 @@ use edi_host::{Drive, Files, Sink, Source};
 use edi_kernel::Kernel;
 use edi_statuses::{Ended, Status};
 use edi_steps::{fetch, read_from, stopped};
-use edi_words::{ChoicesFrom, Options};
+use edi_words::Options;
 use std::alloc::Global;
 
 /// As many bytes as decide what a text is.
@@ -32,67 +31,12 @@ pub(crate) fn refusal_status(refusal: Refusal) -> Status
     }
 }
 
-/// Fetches the text of the file, reads the choices, compiles the text, and runs its code.
-fn run_text<F: Files, D: Drive, S: Source, T: Sink, P: Sink>(
-    alloc: Global,
-    file: &str,
-    from: ChoicesFrom<'_>,
-    turns: u32,
-    record_file: Option<&str>,
-    files: &mut F,
-    drive: &mut D,
-    input: &mut S,
-    terminal: &mut T,
-    printer: &mut P,
-    kernel: &mut Kernel,
-) -> Ended
-    ensures came { TextCame file.now (choices_from from.entry) turns (option_map (λ name. name.now) record_file.entry) result.status result.due
-        (outside_of F.contents D.contents S.left T.taken P.taken files.old drive.old input.old terminal.old printer.old)
-        (outside_of F.contents D.contents S.left T.taken P.taken files.new drive.new input.new terminal.new printer.new)
-        (lent kernel.old.store kernel.old.used kernel.new.store kernel.new.used) }
-    ensures cause { HasCause result.status
-        (counts_of F.faults D.faults S.faults T.faults P.faults files.old drive.old input.old terminal.old printer.old)
-        (counts_of F.faults D.faults S.faults T.faults P.faults files.new drive.new input.new terminal.new printer.new) }
-    ensures later { NoneFalls
-        (counts_of F.faults D.faults S.faults T.faults P.faults files.old drive.old input.old terminal.old printer.old)
-        (counts_of F.faults D.faults S.faults T.faults P.faults files.new drive.new input.new terminal.new printer.new) }
-    ensures size { D.count drive.new ≡ D.count drive.old }
-    ensures fits { FitsCount result.status (D.count drive.old) }
-    ensures early { is_before_drive result.status ≡ true
-        → DevicesStay drive.old drive.new input.old input.new terminal.old terminal.new printer.old printer.new kernel.old kernel.new }
-{
-    let text = match fetch(alloc, files, file, LIMIT) {
-        Ok(text) => text,
-        Err(status) => return stopped(status),
-    };
-    let mut choices = match read_from(alloc, files, from) {
-        Ok(choices) => choices,
-        Err(status) => return stopped(status),
-    };
-    let code = match compile(alloc, &text) {
-        Ok(code) => code,
-        Err(refusal) => return stopped(refusal_status(refusal)),
-    };
-    run_code(
-        alloc,
-        &code,
-        turns,
-        record_file,
-        &mut choices,
-        files,
-        drive,
-        input,
-        terminal,
-        printer,
-        kernel,
-    )
-}
-
 /// `run FILE`: fetches the file, reads the choices, compiles, mounts the drive, runs, and keeps the record, in this order.
 ///
 /// The kernel may have run anything before; it is left alone where nothing is run. What the status means, and how all that is
 /// outside stands behind the call, is told by `Came`: the first step that stops decides. Want of memory comes only before the first
-/// effect, or where the record is to be kept; the fault of an object only where its count rose.
+/// effect, or where the record is to be kept; the fault of an object only where its count rose. `replay FILE CHOICES` is the same with
+/// the choices of that file and without a record (`replaying`).
 pub fn run<F: Files, D: Drive, S: Source, T: Sink, P: Sink>(
     alloc: Global,
     file: &str,
@@ -119,59 +63,27 @@ pub fn run<F: Files, D: Drive, S: Source, T: Sink, P: Sink>(
     ensures size { D.count drive.new ≡ D.count drive.old }
     ensures fits { FitsCount result.status (D.count drive.old) }
     ensures early { is_before_drive result.status ≡ true
-        → DevicesStay drive.old drive.new input.old input.new terminal.old terminal.new printer.old printer.new kernel.old kernel.new }
+        → DevicesStay (handed files.old drive.old input.old terminal.old printer.old kernel.old)
+        (handed files.new drive.new input.new terminal.new printer.new kernel.new) }
 {
-    run_text(
+    let text = match fetch(alloc, files, file, LIMIT) {
+        Ok(text) => text,
+        Err(status) => return stopped(status),
+    };
+    let mut choices = match read_from(alloc, files, options.choices) {
+        Ok(choices) => choices,
+        Err(status) => return stopped(status),
+    };
+    let code = match compile(alloc, &text) {
+        Ok(code) => code,
+        Err(refusal) => return stopped(refusal_status(refusal)),
+    };
+    run_code(
         alloc,
-        file,
-        options.choices,
+        &code,
         options.turns,
         options.record_file,
-        files,
-        drive,
-        input,
-        terminal,
-        printer,
-        kernel,
-    )
-}
-
-/// `replay FILE CHOICES`: as `run` with the choices of that file. No record is kept.
-pub fn replay<F: Files, D: Drive, S: Source, T: Sink, P: Sink>(
-    alloc: Global,
-    file: &str,
-    choices: &str,
-    turns: u32,
-    files: &mut F,
-    drive: &mut D,
-    input: &mut S,
-    terminal: &mut T,
-    printer: &mut P,
-    kernel: &mut Kernel,
-) -> Ended
-    ensures came { Came result.status result.due (Some (words.replay file.now choices.now turns))
-        (outside_of F.contents D.contents S.left T.taken P.taken files.old drive.old input.old terminal.old printer.old)
-        (outside_of F.contents D.contents S.left T.taken P.taken files.new drive.new input.new terminal.new printer.new)
-        (lent kernel.old.store kernel.old.used kernel.new.store kernel.new.used) }
-    ensures cause { HasCause result.status
-        (counts_of F.faults D.faults S.faults T.faults P.faults files.old drive.old input.old terminal.old printer.old)
-        (counts_of F.faults D.faults S.faults T.faults P.faults files.new drive.new input.new terminal.new printer.new) }
-    ensures later { NoneFalls
-        (counts_of F.faults D.faults S.faults T.faults P.faults files.old drive.old input.old terminal.old printer.old)
-        (counts_of F.faults D.faults S.faults T.faults P.faults files.new drive.new input.new terminal.new printer.new) }
-    // The status fits the number of blocks, which stays, whatever the drive tells; and where the drive is not asked, no object but the
-    // files is touched.
-    ensures size { D.count drive.new ≡ D.count drive.old }
-    ensures fits { FitsCount result.status (D.count drive.old) }
-    ensures early { is_before_drive result.status ≡ true
-        → DevicesStay drive.old drive.new input.old input.new terminal.old terminal.new printer.old printer.new kernel.old kernel.new }
-{
-    run_text(
-        alloc,
-        file,
-        ChoicesFrom::File(choices),
-        turns,
-        None,
+        &mut choices,
         files,
         drive,
         input,

@@ -6,7 +6,7 @@ use Rattle.edi_image.specs.Image.{mount_fault_of}
 use Rattle.edi_system.specs.Parts.{Grows, IsValid, Shrinks}
 use Rattle.edi_words.specs.Words.{Command}
 use Rattle.edi_statuses.specs.declared.status.Status.{Status}
-use Rattle.edi_statuses.specs.EachObject.{DevicesStay, KeepsImage, LeavesEach, MayBeImage, Untouched, comes_to, is_before_drive, stops_first}
+use Rattle.edi_statuses.specs.EachObject.{DevicesStay, Handed, KeepsImage, LeavesEach, MayBeImage, UnusedStay, is_before_drive, stops_first}
 use Rattle.edi_statuses.specs.EachObject.{uses_devices, uses_drive, uses_files, uses_input}
 use Rattle.edi_statuses.specs.Outside.{Outside}
 
@@ -71,43 +71,43 @@ asked true true used none = refl
 asked true false used none = absurd (true≢false none)
 asked false stops used none = absurd (true≢false (sym used))
 
--- a command that sees all devices has not come to them
-pub untouched : {F D S T P K : Type 0} (c : Command) (s : Status) (f f' : F) (d d' : D) (i i' : S) (t t' : T) (p p' : P) (k k' : K)
-    → uses_drive c ≡ true → uses_input c ≡ true → uses_devices c ≡ true → (stops_first c s ≡ true → is_before_drive s ≡ true)
-    → (uses_files c ≡ false → f' ≡ f) → (is_before_drive s ≡ true → DevicesStay d d' i i' t t' p p' k k')
-    → Untouched (Some c) s f f' d d' i i' p p' k k'
-untouched c s f f' d d' i i' t t' p p' k k' drive input devices first files stay = record {
-  files = files;
-  drive = λ none. (stay (first (asked (uses_drive c) (stops_first c s) drive none))).drive;
-  input = λ none. (stay (first (asked (uses_input c) (stops_first c s) input none))).input;
-  printer = λ none. (stay (first (asked (uses_devices c) (stops_first c s) devices none))).printer;
-  kernel = λ none. (stay (first (asked (uses_devices c) (stops_first c s) devices none))).kernel;
-}
+module _ {F D S T P K : Type 0} (before after : Handed F D S T P K) where
+  -- a command that sees all devices has not come to them
+  pub untouched : (c : Command) (s : Status) → uses_drive c ≡ true → uses_input c ≡ true → uses_devices c ≡ true
+      → (stops_first c s ≡ true → is_before_drive s ≡ true) → (uses_files c ≡ false → after.files ≡ before.files)
+      → (is_before_drive s ≡ true → DevicesStay before after) → UnusedStay (Some c) s before after
+  untouched c s drive input devices first files stay = record {
+    files = files;
+    drive = λ none. (stay (first (asked (uses_drive c) (stops_first c s) drive none))).drive;
+    input = λ none. (stay (first (asked (uses_input c) (stops_first c s) input none))).input;
+    printer = λ none. (stay (first (asked (uses_devices c) (stops_first c s) devices none))).printer;
+    kernel = λ none. (stay (first (asked (uses_devices c) (stops_first c s) devices none))).kernel;
+  }
 
--- so of one that sees the terminal and the printer alone
-pub untouched_alone : {F D S T P K : Type 0} (c : Command) (s : Status) (f f' : F) (d : D) (i : S) (t t' : T) (p p' : P) (k k' : K)
-    → uses_devices c ≡ true → (stops_first c s ≡ true → is_before_drive s ≡ true)
-    → (uses_files c ≡ false → f' ≡ f) → (is_before_drive s ≡ true → DevicesStay d d i i t t' p p' k k')
-    → Untouched (Some c) s f f' d d i i p p' k k'
-untouched_alone c s f f' d i t t' p p' k k' devices first files stay = record {
-  files = files;
-  drive = λ none. refl;
-  input = λ none. refl;
-  printer = λ none. (stay (first (asked (uses_devices c) (stops_first c s) devices none))).printer;
-  kernel = λ none. (stay (first (asked (uses_devices c) (stops_first c s) devices none))).kernel;
-}
+  -- so of one that sees the terminal and the printer alone
+  pub untouched_alone : (c : Command) (s : Status) → uses_devices c ≡ true → (stops_first c s ≡ true → is_before_drive s ≡ true)
+      → (uses_files c ≡ false → after.files ≡ before.files) → after.drive ≡ before.drive → after.input ≡ before.input
+      → (is_before_drive s ≡ true → DevicesStay before after) → UnusedStay (Some c) s before after
+  untouched_alone c s devices first files drive input stay = record {
+    files = files;
+    drive = λ none. drive;
+    input = λ none. input;
+    printer = λ none. (stay (first (asked (uses_devices c) (stops_first c s) devices none))).printer;
+    kernel = λ none. (stay (first (asked (uses_devices c) (stops_first c s) devices none))).kernel;
+  }
 
--- so of one that sees none of them, but the drive
-pub untouched_drive : {F D S P K : Type 0} (c : Command) (s : Status) (f f' : F) (d d' : D) (i : S) (p : P) (k : K)
-    → uses_drive c ≡ true → (uses_files c ≡ false → f' ≡ f) → (stops_first c s ≡ true → d' ≡ d) → Untouched (Some c) s f f' d d' i i p p k k
-untouched_drive c s f f' d d' i p k drive files stay = record {
-  files = files;
-  drive = λ none. stay (asked (uses_drive c) (stops_first c s) drive none);
-  input = λ none. refl;
-  printer = λ none. refl;
-  kernel = λ none. refl;
-}
+  -- so of one that sees none of them, but the drive
+  pub untouched_drive : (c : Command) (s : Status) → uses_drive c ≡ true → (uses_files c ≡ false → after.files ≡ before.files)
+      → (stops_first c s ≡ true → after.drive ≡ before.drive) → after.input ≡ before.input → after.printer ≡ before.printer
+      → after.kernel ≡ before.kernel → UnusedStay (Some c) s before after
+  untouched_drive c s drive files stay input printer kernel = record {
+    files = files;
+    drive = λ none. stay (asked (uses_drive c) (stops_first c s) drive none);
+    input = λ none. input;
+    printer = λ none. printer;
+    kernel = λ none. kernel;
+  }
 
 -- nothing is touched
-pub none_touched : {F D S P K : Type 0} (c : Option Command) (s : Status) (f : F) (d : D) (i : S) (p : P) (k : K) → Untouched c s f f d d i i p p k k
-none_touched c s f d i p k = record { files = λ e. refl; drive = λ e. refl; input = λ e. refl; printer = λ e. refl; kernel = λ e. refl }
+pub none_touched : {F D S T P K : Type 0} (c : Option Command) (s : Status) (objects : Handed F D S T P K) → UnusedStay c s objects objects
+none_touched c s objects = record { files = λ e. refl; drive = λ e. refl; input = λ e. refl; printer = λ e. refl; kernel = λ e. refl }

@@ -9,18 +9,18 @@ use Rattle.edi_words.specs.Words.{Command, Options}
 use Rattle.edi_statuses.specs.declared.status.Status.{Status}
 use Rattle.edi_statuses.specs.declared.status.Status.TheVariants as status
 use Rattle.edi_statuses.specs.Outside.{Outside, seen, SameFiles, Lent}
-use Rattle.edi_statuses.specs.Steps.{Reached, goes, Ready}
-use Rattle.edi_statuses.specs.Executions.{Program, text, code, BrokeRun}
-use Rattle.edi_statuses.specs.Sessions.{BootSteps, HeldUnkept, HeldWhole, HoldsSession}
+use Rattle.edi_statuses.specs.Steps.{AfterStep, goes, Ready}
+use Rattle.edi_statuses.specs.Executions.{Runnable, text, code, BrokeRun}
+use Rattle.edi_statuses.specs.Sessions.{BootSteps, EndedUnkept, EndedWhole, HoldsSession}
 use Rattle.edi_statuses.specs.Commands.{Comes, Does, IsDone, IsNothing, OnlyKeeps, OnlyBlocks, OnlyShows, KeepsCode, Runs, AreNew, AreMigrated, ArePut}
 use Rattle.edi_statuses.specs.Commands.{RunSteps, ExecSteps, TextSteps, OldSteps, PutSteps, GetSteps, ListSteps, DemoSteps}
 use Rattle.edi_statuses.specs.Commands.{Demonstrates, OnItsOwn, with_own}
-use Rattle.edi_statuses.specs.Means.{AtRecord, Begun, BrokeDemo, ComesToBreak, Means, MeansOf, MeansRefused, RanWhole, RanUnkept, Wants, IsOpen}
+use Rattle.edi_statuses.specs.Means.{AtRecord, HasBegun, BrokeDemo, ComesToBreak, Means, MeansOf, MeansRefused, RanWhole, RanUnkept, Wants, IsOpen}
 use Rattle.edi_statuses.specs.Means.{ArePutInPart, with_shown}
 use Rattle.edi_statuses.proofs.Terminal.{StillTold, asks_later, fetch_fails_later, run_later, exec_later, text_later, old_later, put_later, get_later, nothing_later, begun_later}
 use Rattle.edi_statuses.proofs.Terminal.{drive_later, keeps_later, blocks_later, code_later, runs_later, whole_later, unkept_later, broke_later}
 use Rattle.edi_statuses.proofs.Terminal.{record_later, does_later, list_later, shows_later, front_later, demo_later}
-use Rattle.edi_statuses.proofs.Terminal.{boot_later, holds_later, held_later, broke_session_later}
+use Rattle.edi_statuses.proofs.Terminal.{boot_later, holds_later, ended_later, broke_session_later}
 
 module _ (b m : Outside) (y : Option (List ℕ)) (still : StillTold m.shown y) where
   abbrev before_ : Outside
@@ -44,7 +44,7 @@ module _ (b m : Outside) (y : Option (List ℕ)) (still : StillTold m.shown y) w
   -- ---- commands that run a program
 
   -- of one that runs a program to which its steps lead
-  record RunLater {A : Type 0} (steps steps' : Reached A → Type 0) (program : A → Program) (choices : A → Choices) (bound : ℕ) (name : Option (List ℕ))
+  record RunLater {A : Type 0} (steps steps' : AfterStep A → Type 0) (program : A → Runnable) (choices : A → Choices) (bound : ℕ) (name : Option (List ℕ))
       (shown : List ℕ) (kernel : Lent) : Type 0 where
     comes : (s : Status) → Does steps (λ v. Runs (program v) bound (choices v) name) s before_ m shown kernel
         → Does steps' (λ v. Runs (program v) bound (choices v) name) s seen_later later_ shown kernel
@@ -52,18 +52,18 @@ module _ (b m : Outside) (y : Option (List ℕ)) (still : StillTold m.shown y) w
         → IsNothing seen_later later_ shown kernel ⊎ AtRecord name steps' (λ v. RanUnkept (program v) bound (choices v) seen_later later_ shown kernel)
     files : AtRecord name steps (λ v. RanWhole (program v) bound (choices v) before_ m shown kernel)
         → AtRecord name steps' (λ v. RanWhole (program v) bound (choices v) seen_later later_ shown kernel)
-    broke : Begun steps (λ v. BrokeRun (program v) bound (choices v) before_ m shown)
-        → Begun steps' (λ v. BrokeRun (program v) bound (choices v) seen_later later_ shown)
+    broke : HasBegun steps (λ v. BrokeRun (program v) bound (choices v) before_ m shown)
+        → HasBegun steps' (λ v. BrokeRun (program v) bound (choices v) seen_later later_ shown)
 
   -- memory is wanting before the first effect, or at the record
-  wants_later : {A : Type 0} (name : Option (List ℕ)) (steps steps' : Reached A → Type 0) (P P' : A → Type 0) (shown : List ℕ) (kernel : Lent)
-      → ((r : Reached A) → steps r → steps' r) → ((v : A) → P v → P' v) → IsNothing before_ m shown kernel ⊎ AtRecord name steps P
+  wants_later : {A : Type 0} (name : Option (List ℕ)) (steps steps' : AfterStep A → Type 0) (P P' : A → Type 0) (shown : List ℕ) (kernel : Lent)
+      → ((r : AfterStep A) → steps r → steps' r) → ((v : A) → P v → P' v) → IsNothing before_ m shown kernel ⊎ AtRecord name steps P
       → IsNothing seen_later later_ shown kernel ⊎ AtRecord name steps' P'
   wants_later name steps steps' P P' shown kernel f g (inl h) = inl (nothing_later b m y still shown kernel h)
   wants_later name steps steps' P P' shown kernel f g (inr h) = inr (record_later b m y still name steps steps' P P' f g h)
 
-  run_later_by : {A : Type 0} (steps steps' : Reached A → Type 0) (program : A → Program) (choices : A → Choices) (bound : ℕ) (name : Option (List ℕ))
-      (shown : List ℕ) (kernel : Lent) → ((r : Reached A) → steps r → steps' r) → RunLater steps steps' program choices bound name shown kernel
+  run_later_by : {A : Type 0} (steps steps' : AfterStep A → Type 0) (program : A → Runnable) (choices : A → Choices) (bound : ℕ) (name : Option (List ℕ))
+      (shown : List ℕ) (kernel : Lent) → ((r : AfterStep A) → steps r → steps' r) → RunLater steps steps' program choices bound name shown kernel
   run_later_by steps steps' program choices bound name shown kernel go = record {
     comes = λ s. does_later b m y still steps steps' (λ v. Runs (program v) bound (choices v) name) (λ v. Runs (program v) bound (choices v) name) s shown
         kernel go (λ v. runs_later b m y still (program v) bound (choices v) name s shown kernel);
@@ -109,7 +109,7 @@ module _ (b m : Outside) (y : Option (List ℕ)) (still : StillTold m.shown y) w
   own_later P f h = record { disk = h.disk; left = h.left; is = f h.disk h.left h.is; blocks = h.blocks; input = h.input }
 
   module _ (n bound : ℕ) (choices : Choices) (name : Option (List ℕ)) (kernel : Lent) where
-    abbrev program : Program
+    abbrev program : Runnable
     program = text (demo_text n)
 
     own_runs : (s : Status) (shown : List ℕ) → OnItsOwn (λ a c. Runs program bound choices name s a c shown kernel) before_ m
@@ -176,11 +176,11 @@ module _ (b m : Outside) (y : Option (List ℕ)) (still : StillTold m.shown y) w
             (λ v s b a shown k. HoldsSession options.turns v options.record_file s b a shown) s shown kernel steps
             (λ v. holds_later b m y still options.turns v options.record_file s shown);
         wants = wants_later options.record_file (BootSteps before_ options.choices) (BootSteps seen_later options.choices)
-            (λ v. HeldUnkept options.turns v before_ m shown) (λ v. HeldUnkept options.turns v seen_later later_ shown) shown kernel steps
-            (λ v h. (held_later b m y still options.turns v shown h.0, h.1));
+            (λ v. EndedUnkept options.turns v before_ m shown) (λ v. EndedUnkept options.turns v seen_later later_ shown) shown kernel steps
+            (λ v h. (ended_later b m y still options.turns v shown h.0, h.1));
         files = record_later b m y still options.record_file (BootSteps before_ options.choices) (BootSteps seen_later options.choices)
-            (λ v. HeldWhole options.turns v before_ m shown) (λ v. HeldWhole options.turns v seen_later later_ shown) steps
-            (λ v. held_later b m y still options.turns v shown);
+            (λ v. EndedWhole options.turns v before_ m shown) (λ v. EndedWhole options.turns v seen_later later_ shown) steps
+            (λ v. ended_later b m y still options.turns v shown);
         drive = λ h. (h.0, steps (goes h.0) h.1, broke_session_later b m y still options.turns h.0 shown h.2);
         input = λ h. (h.0, steps (goes h.0) h.1, broke_session_later b m y still options.turns h.0 shown h.2);
         output = λ h. (h.0, steps (goes h.0) h.1, broke_session_later b m y still options.turns h.0 shown h.2);

@@ -14,7 +14,7 @@ use Rattle.edi_words.specs.Words as words
 use Rattle.edi_words.specs.Words.{ChoicesFrom, Command}
 use Rattle.edi_statuses.specs.declared.status.Status.{Status}
 use Rattle.edi_statuses.specs.Outside.{Outside, Devices, devices_of, system_on, KernelLeft, Lent}
-use Rattle.edi_statuses.specs.Executions.{Program, text, code, HasOutcome, HasRun, status_of}
+use Rattle.edi_statuses.specs.Executions.{Runnable, text, code, HasOutcome, HasRun, status_of}
 use Rattle.edi_statuses.specs.Commands.{Comes, IsDone, OnlyBlocks, OnlyKeeps, OnlyShows, KeepsCode, Runs, AreNew, AreMigrated, ArePut}
 use Rattle.edi_statuses.specs.Commands.{RunSteps, ExecSteps, TextSteps, OldSteps, PutSteps, GetSteps, ListSteps, DemoSteps}
 use Rattle.edi_statuses.specs.Commands.{Demonstrates, size_shown, with_own}
@@ -26,7 +26,7 @@ use Rattle.edi_statuses.proofs.StepLemmas.{loads_one, old_one, has_place_one, re
 -- ---- executions
 
 -- a program has one outcome
-outcome_same : (program : Program) (system : State) (bound : ℕ) (choices : Choices) (one other : Outcome)
+outcome_same : (program : Runnable) (system : State) (bound : ℕ) (choices : Choices) (one other : Outcome)
     → HasOutcome program system bound choices one → HasOutcome program system bound choices other → one ≡ other
 outcome_same (text bytes) system bound choices one other h k = one_outcome bytes system bound choices one other h k
 outcome_same (code parts) system bound choices one other h k =
@@ -37,7 +37,7 @@ record Same (s t : Ending) (shown bytes : List ℕ) (kernel other : KernelLeft) 
   shown_ : shown ≡ bytes
   used : kernel.used ≡ other.used
 
-ran_same : (program : Program) (bound : ℕ) (choices : Choices) (s t : Ending) (m n : ℕ) (d e f : Devices)
+ran_same : (program : Runnable) (bound : ℕ) (choices : Choices) (s t : Ending) (m n : ℕ) (d e f : Devices)
     (shown bytes : List ℕ) (kernel other : KernelLeft) → HasRun program bound choices s m d e shown kernel
     → HasRun program bound choices t n d f bytes other → Same s t shown bytes kernel other
 ran_same program bound choices s t m n d e f shown bytes kernel other h k =
@@ -71,7 +71,7 @@ there : {A : Type 0} (P : A → A → Type 0) (before after : Option A) (d e : A
 there P before after d e b a h = subst (λ x. WhereTold (Some d) x P) a (subst (λ x. WhereTold x after P) b h)
 
 -- a run has one status, shows one thing and takes one number of turns
-runs_same : (before after behind : Outside) → IsTold before → IsTold after → IsTold behind → (program : Program) (bound : ℕ) (choices : Choices)
+runs_same : (before after behind : Outside) → IsTold before → IsTold after → IsTold behind → (program : Runnable) (bound : ℕ) (choices : Choices)
     (record_file : Option (List ℕ)) (s t : Status) (shown bytes : List ℕ) (kernel other : Lent)
     → Runs program bound choices record_file s before after shown kernel → Runs program bound choices record_file t before behind bytes other
     → (s ≡ t) × (shown ≡ bytes) × (kernel.after.used ≡ other.after.used)
@@ -88,7 +88,7 @@ own_told blocks input o told =
     record { files = told.files; blocks = search rules; input = search rules; shown = told.shown; printed = told.printed }
 
 module _ (each : TextsAreOne) (before after behind : Outside) (is_told : IsTold before) (after_told : IsTold after) (behind_told : IsTold behind) where
-  runs_one : (program : Program) (bound : ℕ) (choices : Choices) (record_file : Option (List ℕ))
+  runs_one : (program : Runnable) (bound : ℕ) (choices : Choices) (record_file : Option (List ℕ))
       → IsOneEffect before after behind (Runs program bound choices record_file)
   runs_one program bound choices record_file s t shown bytes kernel other h k =
       let same = runs_same before after behind is_told after_told behind_told program bound choices record_file s t shown bytes kernel other h k in

@@ -13,22 +13,22 @@ use Rattle.edi_texts.specs.Texts.{IsFault, IsUnit}
 use Rattle.edi_statuses.specs.declared.status.Status.{Status}
 use Rattle.edi_statuses.specs.declared.status.Status.TheVariants as status
 use Rattle.edi_statuses.specs.Outside.{Outside, Lent}
-use Rattle.edi_statuses.specs.Steps.{Reached, goes, stops, ◌>>=◌, Ready, Fetches, GivesChoices, ReadsChoices, Accepts, Mounts}
+use Rattle.edi_statuses.specs.Steps.{AfterStep, goes, stops, ◌>>=◌, Ready, Fetches, GivesChoices, ReadsChoices, Accepts, Mounts}
 use Rattle.edi_statuses.specs.Steps.{Loads, ChecksOld, Tests}
-use Rattle.edi_statuses.specs.Commands.{Effect, Does, HasPlace, Reads}
+use Rattle.edi_statuses.specs.Commands.{CommandEffect, Does, HasPlace, ReadsTitle}
 
-abbrev pub IsOne : {A : Type 0} → (Reached A → Type 0) → Type 0
-IsOne {A = A} step = (r q : Reached A) → step r → step q → r ≡ q
+abbrev pub IsOne : {A : Type 0} → (AfterStep A → Type 0) → Type 0
+IsOne {A = A} step = (r q : AfterStep A) → step r → step q → r ≡ q
 
-abbrev status_or : {A : Type 0} → Status → Reached A → Status
+abbrev status_or : {A : Type 0} → Status → AfterStep A → Status
 status_or s (goes a) = s
 status_or s (stops t) = t
 
-abbrev value_or : {A : Type 0} → A → Reached A → A
+abbrev value_or : {A : Type 0} → A → AfterStep A → A
 value_or a (goes b) = b
 value_or a (stops t) = a
 
-abbrev Goes : {A : Type 0} → Reached A → Type 0
+abbrev Goes : {A : Type 0} → AfterStep A → Type 0
 Goes (goes a) = ⊤
 Goes (stops s) = ⊥
 
@@ -42,7 +42,7 @@ ready_one a (goes b) (goes c) h k = ap (λ x. goes x) (h ∙ sym k)
 ready_one a (goes b) (stops t) h k = absurd k
 ready_one a (stops s) q h k = absurd h
 
-pub then_one : {A B : Type 0} (step : Reached A → Type 0) (more : A → Reached B → Type 0) → IsOne step → ((a : A) → IsOne (more a))
+pub then_one : {A B : Type 0} (step : AfterStep A → Type 0) (more : A → AfterStep B → Type 0) → IsOne step → ((a : A) → IsOne (more a))
     → IsOne (step >>= more)
 then_one step more one ones (stops s) (stops t) (inl h) (inl k) = ap (λ r. stops (status_or s r)) (one (stops s) (stops t) h k)
 then_one step more one ones (goes b) q (inl h) k = absurd h
@@ -151,7 +151,7 @@ has_place_one o told title size (stops s) (goes b) h k =
     let t = told_of _ _ o.blocks told h.1 k in absurd (true≢false (sym t.first ∙ t.second))
 has_place_one o told title size (stops s) (stops t) h k = ap (λ x. stops x) (h.0 ∙ sym k.0)
 
-pub reads_one : (o : Outside) → IsSome o.blocks → (title : List ℕ) → IsOne (Reads o title)
+pub reads_one : (o : Outside) → IsSome o.blocks → (title : List ℕ) → IsOne (ReadsTitle o title)
 reads_one o told title (goes a) (goes b) h k =
     let s = told_of _ _ o.blocks told h k in ap (λ x. goes x) (some_same _ a b s.first s.second)
 reads_one o told title (goes a) (stops t) h k =
@@ -164,12 +164,12 @@ reads_one o told title (stops s) (stops t) h k = ap (λ x. stops x) (h.0 ∙ sym
 
 module _ (before after behind : Outside) where
   -- an effect that gives one status and shows one thing, whatever stands behind it
-  abbrev pub IsOneEffect : Effect → Type 0
+  abbrev pub IsOneEffect : CommandEffect → Type 0
   IsOneEffect effect =
       (s t : Status) (shown bytes : List ℕ) (kernel other : Lent)
       → effect s before after shown kernel → effect t before behind bytes other → (s ≡ t) × (shown ≡ bytes)
 
-  pub does_one : {A : Type 0} (steps : Reached A → Type 0) (effect : A → Effect) → IsOne steps → ((a : A) → IsOneEffect (effect a))
+  pub does_one : {A : Type 0} (steps : AfterStep A → Type 0) (effect : A → CommandEffect) → IsOne steps → ((a : A) → IsOneEffect (effect a))
       → IsOneEffect (Does steps effect)
   does_one steps effect one ones s t shown bytes kernel other (inl h) (inl k) =
       (ap (λ r. status_or s r) (one (stops s) (stops t) h.0 k.0), h.1.shown_ ∙ sym k.1.shown_)

@@ -15,13 +15,13 @@ use Rattle.edi_words.specs.Words as words
 use Rattle.edi_words.specs.Words.{ChoicesFrom, Command}
 use Rattle.edi_statuses.specs.declared.status.Status.{Status}
 use Rattle.edi_statuses.specs.Outside.{Outside, seen, Lent, KernelLeft, Kept, Devices, devices_of, devices_with, system_on}
-use Rattle.edi_statuses.specs.Steps.{Reached, goes, stops, ◌>>=◌, Ready, Fetches, GivesChoices, ReadsChoices, ChoicesAreThere, Accepts, Mounts, Loads}
-use Rattle.edi_statuses.specs.Steps.{ChecksOld, Fits, HasRoom}
-use Rattle.edi_statuses.specs.Executions.{Program, HasMoment, HasRun, StandsAt, BrokeRun}
+use Rattle.edi_statuses.specs.Steps.{AfterStep, goes, stops, ◌>>=◌, Ready, Fetches, GivesChoices, ReadsChoices, ChoicesAreThere, Accepts, Mounts, Loads}
+use Rattle.edi_statuses.specs.Steps.{ChecksOld, FitsDisk, HasRoom}
+use Rattle.edi_statuses.specs.Executions.{Runnable, HasMoment, HasRun, StandsAt, BrokeRun}
 use Rattle.edi_session.specs.declared.end.SessionEnd.{SessionEnd}
 use Rattle.edi_session.specs.Session.{IsMomentOfSession}
-use Rattle.edi_statuses.specs.Sessions.{BootSteps, BrokeSession, HasHeld, HeldWhole, HoldsSession, shell_on}
-use Rattle.edi_statuses.specs.Commands.{Effect, Does, IsNothing, OnlyKeeps, OnlyBlocks, OnlyShows, KeepsCode, Runs, HasPlace, Reads}
+use Rattle.edi_statuses.specs.Sessions.{BootSteps, BrokeSession, HasEnded, EndedWhole, HoldsSession, shell_on}
+use Rattle.edi_statuses.specs.Commands.{CommandEffect, Does, IsNothing, OnlyKeeps, OnlyBlocks, OnlyShows, KeepsCode, Runs, HasPlace, ReadsTitle}
 use Rattle.edi_statuses.specs.Commands.{RunSteps, ExecSteps, TextSteps, OldSteps, PutSteps, GetSteps, ListSteps, DemoSteps}
 use Rattle.edi_statuses.specs.Means.{AsksDrive, AtRecord, FetchFails, HasNotBegun, ChangesDrive, ShowsFront, RanWhole, RanUnkept, with_shown}
 
@@ -55,8 +55,8 @@ devices_later P silent b files (Some blocks) (Some input) (Some x) (Some y) (Som
     where_map P (devices_of b) (devices_with blocks input x printed) (devices_with blocks input y printed)
     (λ d p. silent d (devices_with blocks input x printed) y p) told
 
-step_later : {A B : Type 0} (step step' : Reached A → Type 0) (more more' : A → Reached B → Type 0) → ((r : Reached A) → step r → step' r)
-    → ((v : A) (r : Reached B) → more v r → more' v r) → (r : Reached B) → (step >>= more) r → (step' >>= more') r
+step_later : {A B : Type 0} (step step' : AfterStep A → Type 0) (more more' : A → AfterStep B → Type 0) → ((r : AfterStep A) → step r → step' r)
+    → ((v : A) (r : AfterStep B) → more v r → more' v r) → (r : AfterStep B) → (step >>= more) r → (step' >>= more') r
 step_later step step' more more' f g (goes v) (inl h) = absurd h
 step_later step step' more more' f g (stops s) (inl h) = inl (f (stops s) h)
 step_later step step' more more' f g r (inr h) = inr (h.0, f (goes h.0) h.1, g h.0 r h.2)
@@ -80,23 +80,23 @@ module _ (b m : Outside) (y : Option (List ℕ)) (still : StillTold m.shown y) w
 
   -- ---- the steps
 
-  fetches_later : (name : List ℕ) (r : Reached (List ℕ)) → Fetches seen_then name r → Fetches seen_now name r
+  fetches_later : (name : List ℕ) (r : AfterStep (List ℕ)) → Fetches seen_then name r → Fetches seen_now name r
   fetches_later name (goes bytes) h = h
   fetches_later name (stops s) h = h
 
-  mounts_later : (r : Reached (Unit {0})) → Mounts seen_then r → Mounts seen_now r
+  mounts_later : (r : AfterStep (Unit {0})) → Mounts seen_then r → Mounts seen_now r
   mounts_later (goes done) h = h
   mounts_later (stops s) h = h
 
-  place_later : (title : List ℕ) (size : ℕ) (r : Reached (Unit {0})) → HasPlace seen_then title size r → HasPlace seen_now title size r
+  place_later : (title : List ℕ) (size : ℕ) (r : AfterStep (Unit {0})) → HasPlace seen_then title size r → HasPlace seen_now title size r
   place_later title size (goes done) h = h
   place_later title size (stops s) h = h
 
-  reads_later : (title : List ℕ) (r : Reached (List ℕ)) → Reads seen_then title r → Reads seen_now title r
+  reads_later : (title : List ℕ) (r : AfterStep (List ℕ)) → ReadsTitle seen_then title r → ReadsTitle seen_now title r
   reads_later title (goes bytes) h = h
   reads_later title (stops s) h = h
 
-  choices_later : (from : ChoicesFrom) (r : Reached Choices) → ReadsChoices seen_then from r → ReadsChoices seen_now from r
+  choices_later : (from : ChoicesFrom) (r : AfterStep Choices) → ReadsChoices seen_then from r → ReadsChoices seen_now from r
   choices_later words.nowhere r h = h
   choices_later (words.file name) r h =
       step_later (Fetches seen_then name) (Fetches seen_now name) (λ bytes. GivesChoices (read_of bytes)) (λ bytes. GivesChoices (read_of bytes))
@@ -104,13 +104,13 @@ module _ (b m : Outside) (y : Option (List ℕ)) (still : StillTold m.shown y) w
   choices_later (words.seed number) r h = h
 
   -- steps that end with a mount of the drive
-  mounted_later : {A B : Type 0} (step : Reached B → Type 0) (a : B → A) (r : Reached A) → (step >>= λ v. Mounts seen_then >>= λ done. Ready (a v)) r
+  mounted_later : {A B : Type 0} (step : AfterStep B → Type 0) (a : B → A) (r : AfterStep A) → (step >>= λ v. Mounts seen_then >>= λ done. Ready (a v)) r
       → (step >>= λ v. Mounts seen_now >>= λ done. Ready (a v)) r
   mounted_later step a r h =
       step_later step step (λ v. Mounts seen_then >>= λ done. Ready (a v)) (λ v. Mounts seen_now >>= λ done. Ready (a v)) (λ q k. k)
       (λ v q k. step_later (Mounts seen_then) (Mounts seen_now) (λ done. Ready (a v)) (λ done. Ready (a v)) mounts_later (λ w t l. l) q k) r h
 
-  pub run_later : (file : List ℕ) (from : ChoicesFrom) (r : Reached (List ℕ × Choices)) → RunSteps seen_then file from r → RunSteps seen_now file from r
+  pub run_later : (file : List ℕ) (from : ChoicesFrom) (r : AfterStep (List ℕ × Choices)) → RunSteps seen_then file from r → RunSteps seen_now file from r
   run_later file from r h =
       step_later (Fetches seen_then file) (Fetches seen_now file)
       (λ bytes. ReadsChoices seen_then from >>= λ choices. Accepts bytes >>= λ unit. Mounts seen_then >>= λ done. Ready (bytes, choices))
@@ -121,7 +121,7 @@ module _ (b m : Outside) (y : Option (List ℕ)) (still : StillTold m.shown y) w
       (λ choices. Accepts bytes >>= λ unit. Mounts seen_now >>= λ done. Ready (bytes, choices))
       (choices_later from) (λ choices. mounted_later (Accepts bytes) (λ unit. (bytes, choices)))) r h
 
-  pub exec_later : (file : List ℕ) (from : ChoicesFrom) (r : Reached (CodeParts × Choices)) → ExecSteps seen_then file from r → ExecSteps seen_now file from r
+  pub exec_later : (file : List ℕ) (from : ChoicesFrom) (r : AfterStep (CodeParts × Choices)) → ExecSteps seen_then file from r → ExecSteps seen_now file from r
   exec_later file from r h =
       step_later (Fetches seen_then file) (Fetches seen_now file)
       (λ bytes. ReadsChoices seen_then from >>= λ choices. Loads bytes >>= λ parts. Mounts seen_then >>= λ done. Ready (parts, choices))
@@ -133,49 +133,49 @@ module _ (b m : Outside) (y : Option (List ℕ)) (still : StillTold m.shown y) w
       (choices_later from) (λ choices. mounted_later (Loads bytes) (λ parts. (parts, choices)))) r h
 
   -- steps that look at a fetched file alone
-  fetched_later : {A : Type 0} (file : List ℕ) (more : List ℕ → Reached A → Type 0) (r : Reached A) → (Fetches seen_then file >>= more) r
+  fetched_later : {A : Type 0} (file : List ℕ) (more : List ℕ → AfterStep A → Type 0) (r : AfterStep A) → (Fetches seen_then file >>= more) r
       → (Fetches seen_now file >>= more) r
   fetched_later file more r h = step_later (Fetches seen_then file) (Fetches seen_now file) more more (fetches_later file) (λ v q k. k) r h
 
-  pub text_later : (file : List ℕ) (r : Reached (List ℕ × ProgramUnit)) → TextSteps seen_then file r → TextSteps seen_now file r
+  pub text_later : (file : List ℕ) (r : AfterStep (List ℕ × ProgramUnit)) → TextSteps seen_then file r → TextSteps seen_now file r
   text_later file r h = fetched_later file (λ bytes. Accepts bytes >>= λ unit. Ready (bytes, unit)) r h
 
-  pub old_later : (blocks : ℕ) (file : List ℕ) (r : Reached (List (List ℕ))) → OldSteps seen_then blocks file r → OldSteps seen_now blocks file r
+  pub old_later : (blocks : ℕ) (file : List ℕ) (r : AfterStep (List (List ℕ))) → OldSteps seen_then blocks file r → OldSteps seen_now blocks file r
   old_later blocks file r h =
       fetched_later file (λ bytes. ChecksOld bytes >>= λ old. HasRoom (state.blocks_taken (old_slots_of old)) (blocks - 33) >>= λ done. Ready old) r h
 
-  pub put_later : (file title : List ℕ) (r : Reached (List ℕ)) → PutSteps seen_then file title r → PutSteps seen_now file title r
+  pub put_later : (file title : List ℕ) (r : AfterStep (List ℕ)) → PutSteps seen_then file title r → PutSteps seen_now file title r
   put_later file title r h =
       step_later (Fetches seen_then file) (Fetches seen_now file)
-      (λ bytes. Fits bytes >>= λ fits. Mounts seen_then >>= λ done. HasPlace seen_then title (length bytes) >>= λ room. Ready bytes)
-      (λ bytes. Fits bytes >>= λ fits. Mounts seen_now >>= λ done. HasPlace seen_now title (length bytes) >>= λ room. Ready bytes)
+      (λ bytes. FitsDisk bytes >>= λ fits. Mounts seen_then >>= λ done. HasPlace seen_then title (length bytes) >>= λ room. Ready bytes)
+      (λ bytes. FitsDisk bytes >>= λ fits. Mounts seen_now >>= λ done. HasPlace seen_now title (length bytes) >>= λ room. Ready bytes)
       (fetches_later file)
-      (λ bytes. step_later (Fits bytes) (Fits bytes) (λ fits. Mounts seen_then >>= λ done. HasPlace seen_then title (length bytes) >>= λ room. Ready bytes)
+      (λ bytes. step_later (FitsDisk bytes) (FitsDisk bytes) (λ fits. Mounts seen_then >>= λ done. HasPlace seen_then title (length bytes) >>= λ room. Ready bytes)
       (λ fits. Mounts seen_now >>= λ done. HasPlace seen_now title (length bytes) >>= λ room. Ready bytes) (λ q k. k)
       (λ fits. step_later (Mounts seen_then) (Mounts seen_now) (λ done. HasPlace seen_then title (length bytes) >>= λ room. Ready bytes)
       (λ done. HasPlace seen_now title (length bytes) >>= λ room. Ready bytes) mounts_later
       (λ done. step_later (HasPlace seen_then title (length bytes)) (HasPlace seen_now title (length bytes)) (λ room. Ready bytes) (λ room. Ready bytes)
       (place_later title (length bytes)) (λ v q k. k)))) r h
 
-  pub get_later : (title : List ℕ) (r : Reached (List ℕ)) → GetSteps seen_then title r → GetSteps seen_now title r
+  pub get_later : (title : List ℕ) (r : AfterStep (List ℕ)) → GetSteps seen_then title r → GetSteps seen_now title r
   get_later title r h =
-      step_later (Mounts seen_then) (Mounts seen_now) (λ done. Reads seen_then title) (λ done. Reads seen_now title) mounts_later
+      step_later (Mounts seen_then) (Mounts seen_now) (λ done. ReadsTitle seen_then title) (λ done. ReadsTitle seen_now title) mounts_later
       (λ done. reads_later title) r h
 
-  pub list_later : (file : List ℕ) (r : Reached CodeParts) → ListSteps seen_then file r → ListSteps seen_now file r
+  pub list_later : (file : List ℕ) (r : AfterStep CodeParts) → ListSteps seen_then file r → ListSteps seen_now file r
   list_later file r h = fetched_later file (λ bytes. Loads bytes) r h
 
-  pub demo_later : (from : ChoicesFrom) (r : Reached Choices) → DemoSteps seen_then from r → DemoSteps seen_now from r
+  pub demo_later : (from : ChoicesFrom) (r : AfterStep Choices) → DemoSteps seen_then from r → DemoSteps seen_now from r
   demo_later from r h = choices_later from r h
 
-  pub boot_later : (from : ChoicesFrom) (r : Reached Choices) → BootSteps seen_then from r → BootSteps seen_now from r
+  pub boot_later : (from : ChoicesFrom) (r : AfterStep Choices) → BootSteps seen_then from r → BootSteps seen_now from r
   boot_later from r h =
       step_later (ReadsChoices seen_then from) (ReadsChoices seen_now from) (λ choices. Mounts seen_then >>= λ done. Ready choices)
       (λ choices. Mounts seen_now >>= λ done. Ready choices) (choices_later from)
       (λ choices. step_later (Mounts seen_then) (Mounts seen_now) (λ done. Ready choices) (λ done. Ready choices) mounts_later (λ w t l. l)) r h
 
   -- the steps before the drive is asked
-  third_later : {U : Type 0} (file : List ℕ) (from : ChoicesFrom) (third : List ℕ → Reached U → Type 0) (r : Reached U)
+  third_later : {U : Type 0} (file : List ℕ) (from : ChoicesFrom) (third : List ℕ → AfterStep U → Type 0) (r : AfterStep U)
       → (Fetches seen_then file >>= λ bytes. ReadsChoices seen_then from >>= λ choices. third bytes) r
       → (Fetches seen_now file >>= λ bytes. ReadsChoices seen_now from >>= λ choices. third bytes) r
   third_later file from third r h =
@@ -189,7 +189,7 @@ module _ (b m : Outside) (y : Option (List ℕ)) (still : StillTold m.shown y) w
   asks_later (words.replay file choices turns) h = (h.0, third_later file (words.file choices) Accepts (goes h.0) h.1)
   asks_later (words.exec file o) h = (h.0, third_later file o.choices Loads (goes h.0) h.1)
   asks_later (words.boot o) h = (h.0, choices_later o.choices (goes h.0) h.1)
-  asks_later (words.put file title) h = (h.0, fetched_later file (λ bytes. Fits bytes) (goes h.0) h.1)
+  asks_later (words.put file title) h = (h.0, fetched_later file (λ bytes. FitsDisk bytes) (goes h.0) h.1)
   asks_later (words.get title file) h = tt
   asks_later c h = absurd h
 
@@ -266,7 +266,7 @@ module _ (b m : Outside) (y : Option (List ℕ)) (still : StillTold m.shown y) w
     kernel_same = h.kernel_same;
   }
 
-  has_run_silent : (program : Program) (bound : ℕ) (choices : Choices) (ending : Ending) (drawn : ℕ) (shown : List ℕ) (kernel : KernelLeft)
+  has_run_silent : (program : Runnable) (bound : ℕ) (choices : Choices) (ending : Ending) (drawn : ℕ) (shown : List ℕ) (kernel : KernelLeft)
       → Silent (λ d e. HasRun program bound choices ending drawn d e shown kernel)
   has_run_silent program bound choices ending drawn shown kernel d e bytes h = record {
     outcome_ = h.outcome_;
@@ -285,7 +285,7 @@ module _ (b m : Outside) (y : Option (List ℕ)) (still : StillTold m.shown y) w
     at = record { input = h.at.input; shown_ = h.at.shown_; printed = h.at.printed; disk = h.at.disk; count = h.at.count };
   }
 
-  pub runs_later : (program : Program) (bound : ℕ) (choices : Choices) (record_file : Option (List ℕ)) (s : Status) (shown : List ℕ) (kernel : Lent)
+  pub runs_later : (program : Runnable) (bound : ℕ) (choices : Choices) (record_file : Option (List ℕ)) (s : Status) (shown : List ℕ) (kernel : Lent)
       → Runs program bound choices record_file s seen_then m shown kernel → Runs program bound choices record_file s seen_now now shown kernel
   runs_later program bound choices record_file s shown kernel r = record {
     ending = r.ending;
@@ -298,7 +298,7 @@ module _ (b m : Outside) (y : Option (List ℕ)) (still : StillTold m.shown y) w
     keeps = r.keeps;
   }
 
-  pub whole_later : (program : Program) (bound : ℕ) (choices : Choices) (shown : List ℕ) (kernel : Lent)
+  pub whole_later : (program : Runnable) (bound : ℕ) (choices : Choices) (shown : List ℕ) (kernel : Lent)
       → RanWhole program bound choices seen_then m shown kernel → RanWhole program bound choices seen_now now shown kernel
   whole_later program bound choices shown kernel r = record {
     ending = r.ending;
@@ -309,11 +309,11 @@ module _ (b m : Outside) (y : Option (List ℕ)) (still : StillTold m.shown y) w
         (has_run_silent program bound choices r.ending r.drawn shown kernel.after) r.ran;
   }
 
-  pub unkept_later : (program : Program) (bound : ℕ) (choices : Choices) (shown : List ℕ) (kernel : Lent)
+  pub unkept_later : (program : Runnable) (bound : ℕ) (choices : Choices) (shown : List ℕ) (kernel : Lent)
       → RanUnkept program bound choices seen_then m shown kernel → RanUnkept program bound choices seen_now now shown kernel
   unkept_later program bound choices shown kernel r = (whole_later program bound choices shown kernel r.0, r.1)
 
-  pub broke_later : (program : Program) (bound : ℕ) (choices : Choices) (shown : List ℕ) → BrokeRun program bound choices seen_then m shown
+  pub broke_later : (program : Runnable) (bound : ℕ) (choices : Choices) (shown : List ℕ) → BrokeRun program bound choices seen_then m shown
       → BrokeRun program bound choices seen_now now shown
   broke_later program bound choices shown told =
       told_later (λ d e. StandsAt (HasMoment program (system_on d) bound choices) d e shown)
@@ -321,9 +321,9 @@ module _ (b m : Outside) (y : Option (List ℕ)) (still : StillTold m.shown y) w
 
   -- ---- sessions
 
-  has_held_silent : (bound : ℕ) (choices : Choices) (how : SessionEnd) (drawn : ℕ) (shown : List ℕ)
-      → Silent (λ d e. HasHeld bound choices how drawn d e shown)
-  has_held_silent bound choices how drawn shown d e bytes h = record {
+  session_ended_silent : (bound : ℕ) (choices : Choices) (how : SessionEnd) (drawn : ℕ) (shown : List ℕ)
+      → Silent (λ d e. HasEnded bound choices how drawn d e shown)
+  session_ended_silent bound choices how drawn shown d e bytes h = record {
     after = h.after;
     session = h.session;
     draws = h.draws;
@@ -337,16 +337,16 @@ module _ (b m : Outside) (y : Option (List ℕ)) (still : StillTold m.shown y) w
     drawn = h.drawn;
     within = h.within;
     status_is = h.status_is;
-    held = told_later (λ d e. HasHeld bound choices h.how h.drawn d e shown) (has_held_silent bound choices h.how h.drawn shown) h.held;
+    ended = told_later (λ d e. HasEnded bound choices h.how h.drawn d e shown) (session_ended_silent bound choices h.how h.drawn shown) h.ended;
     keeps = h.keeps;
   }
 
-  pub held_later : (bound : ℕ) (choices : Choices) (shown : List ℕ) → HeldWhole bound choices seen_then m shown → HeldWhole bound choices seen_now now shown
-  held_later bound choices shown h = record {
+  pub ended_later : (bound : ℕ) (choices : Choices) (shown : List ℕ) → EndedWhole bound choices seen_then m shown → EndedWhole bound choices seen_now now shown
+  ended_later bound choices shown h = record {
     how = h.how;
     drawn = h.drawn;
     within = h.within;
-    held = told_later (λ d e. HasHeld bound choices h.how h.drawn d e shown) (has_held_silent bound choices h.how h.drawn shown) h.held;
+    ended = told_later (λ d e. HasEnded bound choices h.how h.drawn d e shown) (session_ended_silent bound choices h.how h.drawn shown) h.ended;
   }
 
   pub broke_session_later : (bound : ℕ) (choices : Choices) (shown : List ℕ) → BrokeSession bound choices seen_then m shown
@@ -357,14 +357,14 @@ module _ (b m : Outside) (y : Option (List ℕ)) (still : StillTold m.shown y) w
 
   -- ---- commands
 
-  pub record_later : {A : Type 0} (name : Option (List ℕ)) (steps steps' : Reached A → Type 0) (P P' : A → Type 0)
-      → ((r : Reached A) → steps r → steps' r) → ((v : A) → P v → P' v) → AtRecord name steps P → AtRecord name steps' P'
+  pub record_later : {A : Type 0} (name : Option (List ℕ)) (steps steps' : AfterStep A → Type 0) (P P' : A → Type 0)
+      → ((r : AfterStep A) → steps r → steps' r) → ((v : A) → P v → P' v) → AtRecord name steps P → AtRecord name steps' P'
   record_later None steps steps' P P' f g h = absurd h
   record_later (Some name) steps steps' P P' f g h = (h.0, f (goes h.0) h.1, g h.0 h.2)
 
   -- a command made of steps and an effect
-  pub does_later : {A : Type 0} (steps steps' : Reached A → Type 0) (effect effect' : A → Effect) (s : Status) (shown : List ℕ) (kernel : Lent)
-      → ((r : Reached A) → steps r → steps' r) → ((v : A) → effect v s seen_then m shown kernel → effect' v s seen_now now shown kernel)
+  pub does_later : {A : Type 0} (steps steps' : AfterStep A → Type 0) (effect effect' : A → CommandEffect) (s : Status) (shown : List ℕ) (kernel : Lent)
+      → ((r : AfterStep A) → steps r → steps' r) → ((v : A) → effect v s seen_then m shown kernel → effect' v s seen_now now shown kernel)
       → Does steps effect s seen_then m shown kernel → Does steps' effect' s seen_now now shown kernel
   does_later steps steps' effect effect' s shown kernel f g (inl h) = inl (f (stops s) h.0, nothing_later shown kernel h.1)
   does_later steps steps' effect effect' s shown kernel f g (inr h) = inr (h.0, f (goes h.0) h.1, g h.0 h.2)

@@ -30,31 +30,31 @@ use Rattle.edi_statuses.specs.declared.status.Status.TheVariants as status
 use Rattle.edi_statuses.specs.Lines.{line_end}
 use Rattle.edi_statuses.specs.Outside.{Outside, Keeps, SameFiles, SameBlocks, SameInput, SamePrinted, IsAsBefore, Kept}
 use Rattle.edi_statuses.specs.Outside.{system_on, Devices, Lent}
-use Rattle.edi_statuses.specs.Steps.{Reached, goes, stops, ◌>>=◌, Ready, Fetches, ReadsChoices, Accepts, Mounts, Loads, ChecksOld}
-use Rattle.edi_statuses.specs.Steps.{Fits, HasRoom}
-use Rattle.edi_statuses.specs.Executions.{Program, text, code, status_of, Ran, record_of}
+use Rattle.edi_statuses.specs.Steps.{AfterStep, goes, stops, ◌>>=◌, Ready, Fetches, ReadsChoices, Accepts, Mounts, Loads, ChecksOld}
+use Rattle.edi_statuses.specs.Steps.{FitsDisk, HasRoom}
+use Rattle.edi_statuses.specs.Executions.{Runnable, text, code, status_of, Ran, record_of}
 use Rattle.edi_statuses.specs.Sessions.{BootSteps, HoldsSession}
 
 -- ---- the steps of each command
 
 -- `run FILE` and `replay FILE CHOICES`: fetches the text, reads the choices, compiles, mounts
-abbrev pub RunSteps : Outside → (file : List ℕ) → ChoicesFrom → Reached (List ℕ × Choices) → Type 0
+abbrev pub RunSteps : Outside → (file : List ℕ) → ChoicesFrom → AfterStep (List ℕ × Choices) → Type 0
 RunSteps o file from =
     Fetches o file >>= λ bytes. ReadsChoices o from >>= λ choices. Accepts bytes >>= λ unit. Mounts o >>= λ done.
     Ready (bytes, choices)
 
 -- `exec CODEFILE`: fetches the code file, reads the choices, loads, mounts
-abbrev pub ExecSteps : Outside → (file : List ℕ) → ChoicesFrom → Reached (CodeParts × Choices) → Type 0
+abbrev pub ExecSteps : Outside → (file : List ℕ) → ChoicesFrom → AfterStep (CodeParts × Choices) → Type 0
 ExecSteps o file from =
     Fetches o file >>= λ bytes. ReadsChoices o from >>= λ choices. Loads bytes >>= λ parts. Mounts o >>= λ done.
     Ready (parts, choices)
 
 -- `compile FILE OUT`: fetches the text, compiles
-abbrev pub TextSteps : Outside → (file : List ℕ) → Reached (List ℕ × ProgramUnit) → Type 0
+abbrev pub TextSteps : Outside → (file : List ℕ) → AfterStep (List ℕ × ProgramUnit) → Type 0
 TextSteps o file = Fetches o file >>= λ bytes. Accepts bytes >>= λ unit. Ready (bytes, unit)
 
 -- `newdisk BLOCKS --from FILE`: fetches the old image, checks it, then the room
-abbrev pub OldSteps : Outside → (blocks : ℕ) → (file : List ℕ) → Reached (List (List ℕ)) → Type 0
+abbrev pub OldSteps : Outside → (blocks : ℕ) → (file : List ℕ) → AfterStep (List (List ℕ)) → Type 0
 OldSteps o blocks file =
     Fetches o file >>= λ bytes. ChecksOld bytes >>= λ old. HasRoom (state.blocks_taken (old_slots_of old)) (blocks - 33) >>= λ done.
     Ready old
@@ -66,38 +66,38 @@ is_full blocks title size =
     nat_lt (state.free (system_on d)) (blocks_of size)
     || (is_none (find_slot (slots_of blocks) title) && is_none (first_free (slots_of blocks)))
 
-abbrev pub HasPlace : Outside → (title : List ℕ) → (size : ℕ) → Reached (Unit {0}) → Type 0
+abbrev pub HasPlace : Outside → (title : List ℕ) → (size : ℕ) → AfterStep (Unit {0}) → Type 0
 HasPlace o title size (goes done) = IfSome o.blocks (λ blocks. is_full blocks title size ≡ false)
 HasPlace o title size (stops s) = (s ≡ status.DiskFull) × IfSome o.blocks (λ blocks. is_full blocks title size ≡ true)
 
 -- `put FILE TITLE`: fetches, checks the length, mounts, stores
-abbrev pub PutSteps : Outside → (file title : List ℕ) → Reached (List ℕ) → Type 0
+abbrev pub PutSteps : Outside → (file title : List ℕ) → AfterStep (List ℕ) → Type 0
 PutSteps o file title =
-    Fetches o file >>= λ bytes. Fits bytes >>= λ fits. Mounts o >>= λ done. HasPlace o title (length bytes) >>= λ room. Ready bytes
+    Fetches o file >>= λ bytes. FitsDisk bytes >>= λ fits. Mounts o >>= λ done. HasPlace o title (length bytes) >>= λ room. Ready bytes
 
 -- the bytes of the file of a title on the drive
-abbrev pub Reads : Outside → (title : List ℕ) → Reached (List ℕ) → Type 0
-Reads o title (goes bytes) =
+abbrev pub ReadsTitle : Outside → (title : List ℕ) → AfterStep (List ℕ) → Type 0
+ReadsTitle o title (goes bytes) =
     IfSome o.blocks (λ blocks. option_map (λ (f : File). f.bytes) (find_file (slots_of blocks) title) ≡ Some bytes)
-Reads o title (stops s) = (s ≡ status.Absent) × IfSome o.blocks (λ blocks. find_file (slots_of blocks) title ≡ None)
+ReadsTitle o title (stops s) = (s ≡ status.Absent) × IfSome o.blocks (λ blocks. find_file (slots_of blocks) title ≡ None)
 
 -- `get TITLE FILE`: mounts, reads
-abbrev pub GetSteps : Outside → (title : List ℕ) → Reached (List ℕ) → Type 0
-GetSteps o title = Mounts o >>= λ done. Reads o title
+abbrev pub GetSteps : Outside → (title : List ℕ) → AfterStep (List ℕ) → Type 0
+GetSteps o title = Mounts o >>= λ done. ReadsTitle o title
 
 -- `list CODEFILE`: fetches, loads
-abbrev pub ListSteps : Outside → (file : List ℕ) → Reached CodeParts → Type 0
+abbrev pub ListSteps : Outside → (file : List ℕ) → AfterStep CodeParts → Type 0
 ListSteps o file = Fetches o file >>= λ bytes. Loads bytes
 
 -- `demo N`: reads the choices; the text of a demonstration is never refused
-abbrev pub DemoSteps : Outside → ChoicesFrom → Reached Choices → Type 0
+abbrev pub DemoSteps : Outside → ChoicesFrom → AfterStep Choices → Type 0
 DemoSteps o from = ReadsChoices o from
 
 -- ---- the effects
 
 -- what a command leaves: its status, the outside before and behind it, what was shown before the line of its status, and the kernel
-abbrev pub Effect : Type 1
-Effect = Status → Outside → Outside → (shown : List ℕ) → Lent → Type 0
+abbrev pub CommandEffect : Type 1
+CommandEffect = Status → Outside → Outside → (shown : List ℕ) → Lent → Type 0
 
 -- nothing was shown or run, and all is as before
 pub record IsNothing (before after : Outside) (shown : List ℕ) (kernel : Lent) : Type 0 where
@@ -106,12 +106,12 @@ pub record IsNothing (before after : Outside) (shown : List ℕ) (kernel : Lent)
   pub kernel_same : kernel.after ≡ kernel.before
 
 -- a command that has stopped at one of its steps has done nothing; else it has its effect
-abbrev pub Does : {A : Type 0} → (steps : Reached A → Type 0) → (effect : A → Effect) → Effect
+abbrev pub Does : {A : Type 0} → (steps : AfterStep A → Type 0) → (effect : A → CommandEffect) → CommandEffect
 Does steps effect s before after shown kernel =
     (steps (stops s) × IsNothing before after shown kernel) ⊎ ((a : _) × steps (goes a) × effect a s before after shown kernel)
 
 -- it has done all that it does, and that is this
-abbrev pub IsDone : (Outside → Outside → (shown : List ℕ) → Lent → Type 0) → Effect
+abbrev pub IsDone : (Outside → Outside → (shown : List ℕ) → Lent → Type 0) → CommandEffect
 IsDone P s before after shown kernel = (s ≡ status.Ok) × P before after shown kernel
 
 -- these files are kept, and nothing else is changed, shown or run
@@ -139,7 +139,7 @@ pub record OnlyShows (bytes : List ℕ) (before after : Outside) (shown : List �
   pub kernel_same : kernel.after ≡ kernel.before
 
 -- A program is run to its ending, which the status tells, and the record of its choices is kept.
-pub record Runs (program : Program) (bound : ℕ) (choices : Choices) (record_file : Option (List ℕ)) (s : Status)
+pub record Runs (program : Runnable) (bound : ℕ) (choices : Choices) (record_file : Option (List ℕ)) (s : Status)
     (before after : Outside) (shown : List ℕ) (kernel : Lent) : Type 0 where
   pub ending : Ending
   pub drawn : ℕ
@@ -200,9 +200,9 @@ abbrev pub AreMigrated : (count : ℕ) → (image : List (List ℕ)) → List (L
 AreMigrated count image old new = (length new ≡ count) × Holds new (migrated_slots image)
 
 -- a file that begins as a code file does is code
-abbrev pub kind_of : List ℕ → FileKind
-kind_of (a ∷ b ∷ bytes) = if a == 237 && b == 21 then file_kind.Code else file_kind.Text
-kind_of _ = file_kind.Text
+abbrev pub kind_of_bytes : List ℕ → FileKind
+kind_of_bytes (a ∷ b ∷ bytes) = if a == 237 && b == 21 then file_kind.Code else file_kind.Text
+kind_of_bytes _ = file_kind.Text
 
 -- the file of the title is no longer protected
 abbrev pub released : (title : List ℕ) → List (Option File) → List (Option File)
@@ -210,14 +210,14 @@ released title slots = slots_changed (file_protected false) title slots
 
 -- stored unprotected in place of any file of that title, protected or not
 abbrev pub put_in : (title bytes : List ℕ) → List (Option File) → List (Option File)
-put_in title bytes slots = slots_stored title (kind_of bytes) bytes (released title slots)
+put_in title bytes slots = slots_stored title (kind_of_bytes bytes) bytes (released title slots)
 
 abbrev pub ArePut : (title bytes : List ℕ) → List (List ℕ) → List (List ℕ) → Type 0
 ArePut title bytes old new = (length new ≡ length old) × Holds new (put_in title bytes (slots_of old))
 
 -- ---- THE TABLE OF COMMANDS, by the statuses that the words and the contents decide
 
-abbrev pub Comes : Command → Effect
+abbrev pub Comes : Command → CommandEffect
 Comes (words.run file o) s before after shown kernel =
     Does (RunSteps before file o.choices) (λ a. Runs (text a.0) o.turns a.1 o.record_file) s before after shown kernel
 Comes (words.replay file choices turns) s before after shown kernel =

@@ -59,9 +59,9 @@ uses_files (words.demo n o) = names_file o
 uses_files _ = true
 
 -- so, where there is a command
-abbrev pub does : (Command → Bool) → Option Command → Bool
-does test None = false
-does test (Some c) = test c
+abbrev pub command_does : (Command → Bool) → Option Command → Bool
+command_does test None = false
+command_does test (Some c) = test c
 
 -- a fault of the files or of the drive is one of an object that the command uses
 abbrev pub Uses : Status → Command → Type 0
@@ -98,21 +98,34 @@ abbrev pub comes_to : (Command → Bool) → Option Command → Status → Bool
 comes_to uses None s = false
 comes_to uses (Some c) s = uses c && not (stops_first c s)
 
--- The objects that a command has no use for, and those that it has not come to, are not touched; words that are refused touch none.
-pub record Untouched {F D S P K : Type 0} (c : Option Command) (s : Status) (f f' : F) (d d' : D) (i i' : S) (p p' : P) (k k' : K) : Type 0 where
-  pub files : does uses_files c ≡ false → f' ≡ f
-  pub drive : comes_to uses_drive c s ≡ false → d' ≡ d
-  pub input : comes_to uses_input c s ≡ false → i' ≡ i
-  pub printer : comes_to uses_devices c s ≡ false → p' ≡ p
-  pub kernel : comes_to uses_devices c s ≡ false → k' ≡ k
+-- the objects that a call is handed, and the kernel
+pub record Handed (F D S T P K : Type 0) : Type 0 where
+  pub files : F
+  pub drive : D
+  pub input : S
+  pub terminal : T
+  pub printer : P
+  pub kernel : K
+
+abbrev pub handed : {F D S T P K : Type 0} → F → D → S → T → P → K → Handed F D S T P K
+handed files drive input terminal printer kernel =
+    record { files = files; drive = drive; input = input; terminal = terminal; printer = printer; kernel = kernel }
+
+-- Those that a command has no use for, and those that it has not come to, are not touched; words that are refused touch none.
+pub record UnusedStay {F D S T P K : Type 0} (c : Option Command) (s : Status) (before after : Handed F D S T P K) : Type 0 where
+  pub files : command_does uses_files c ≡ false → after.files ≡ before.files
+  pub drive : comes_to uses_drive c s ≡ false → after.drive ≡ before.drive
+  pub input : comes_to uses_input c s ≡ false → after.input ≡ before.input
+  pub printer : comes_to uses_devices c s ≡ false → after.printer ≡ before.printer
+  pub kernel : comes_to uses_devices c s ≡ false → after.kernel ≡ before.kernel
 
 -- the devices and the kernel are not touched
-pub record DevicesStay {D S T P K : Type 0} (d d' : D) (i i' : S) (t t' : T) (p p' : P) (k k' : K) : Type 0 where
-  pub drive : d' ≡ d
-  pub input : i' ≡ i
-  pub terminal : t' ≡ t
-  pub printer : p' ≡ p
-  pub kernel : k' ≡ k
+pub record DevicesStay {F D S T P K : Type 0} (before after : Handed F D S T P K) : Type 0 where
+  pub drive : after.drive ≡ before.drive
+  pub input : after.input ≡ before.input
+  pub terminal : after.terminal ≡ before.terminal
+  pub printer : after.printer ≡ before.printer
+  pub kernel : after.kernel ≡ before.kernel
 
 -- ---- the number of blocks
 
@@ -173,6 +186,6 @@ formats c = false
 
 -- A valid image stays one, the input only loses its first bytes, and what the printer has taken only grows.
 pub record LeavesEach (c : Option Command) (before after : Outside) : Type 0 where
-  pub drive : does formats c ≡ false → WhereTold before.blocks after.blocks KeepsImage
+  pub drive : command_does formats c ≡ false → WhereTold before.blocks after.blocks KeepsImage
   pub input : WhereTold before.input after.input Shrinks
   pub printer : WhereTold before.printed after.printed Grows

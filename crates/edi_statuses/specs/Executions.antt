@@ -20,20 +20,20 @@ use Rattle.edi_statuses.specs.Outside.{Outside, Kept, Devices, devices_of, syste
 -- ---- programs
 
 -- what is run: a text, or a code of a code file
-pub data Program : Type 0 where
-  text : List ℕ → Program
-  code : CodeParts → Program
+pub data Runnable : Type 0 where
+  text : List ℕ → Runnable
+  code : CodeParts → Runnable
 
-abbrev pub HasOutcome : Program → State → (bound : ℕ) → Choices → Outcome → Type 0
+abbrev pub HasOutcome : Runnable → State → (bound : ℕ) → Choices → Outcome → Type 0
 HasOutcome (text bytes) system bound choices o = IsRunOf bytes system bound choices o
 HasOutcome (code parts) system bound choices o = IsRunOfCode parts system bound choices o
 
-abbrev pub HasMoment : Program → State → (bound : ℕ) → Choices → State → Type 0
+abbrev pub HasMoment : Runnable → State → (bound : ℕ) → Choices → State → Type 0
 HasMoment (text bytes) system bound choices moment = IsMomentOf bytes system bound choices moment
 HasMoment (code parts) system bound choices moment = IsMomentOfCode parts system bound choices moment
 
 -- the code that the lent kernel has run
-abbrev pub HasCode : Program → CodeParts → Type 0
+abbrev pub HasCode : Runnable → CodeParts → Type 0
 HasCode (text bytes) parts = IsCodeFor bytes parts
 HasCode (code own) parts = parts ≡ own
 
@@ -48,7 +48,7 @@ status_of outcome.standstill = status.Standstill
 status_of (outcome.bad address) = status.BadState address
 
 -- No program of a text comes to an instruction without a meaning; code may.
-abbrev pub NeverBad : Program → Ending → Type 0
+abbrev pub NeverBad : Runnable → Ending → Type 0
 NeverBad (text bytes) ending = IsNoBad ending
 NeverBad (code parts) ending = ⊤
 
@@ -64,7 +64,7 @@ StoreIs outcome.standstill memory words = ⊤
 StoreIs (outcome.bad address) memory words = ⊤
 
 -- The kernel stands as the machine left it that ran such a code of the program: it used the turns of the outcome.
-pub record KernelRan (program : Program) (system : State) (bound : ℕ) (choices : Choices) (o : Outcome) (kernel : KernelLeft) : Type 0 where
+pub record KernelRan (program : Runnable) (system : State) (bound : ℕ) (choices : Choices) (o : Outcome) (kernel : KernelLeft) : Type 0 where
   pub parts : CodeParts
   pub parts_are : HasCode program parts
   pub machine : Machine
@@ -75,7 +75,7 @@ pub record KernelRan (program : Program) (system : State) (bound : ℕ) (choices
 -- ---- what they leave
 
 -- The program was run on the devices `d` and has left `e`. It has shown these bytes, ended so, and drawn so many choices.
-pub record HasRun (program : Program) (bound : ℕ) (choices : Choices) (ending : Ending) (drawn : ℕ) (d e : Devices) (shown : List ℕ)
+pub record HasRun (program : Runnable) (bound : ℕ) (choices : Choices) (ending : Ending) (drawn : ℕ) (d e : Devices) (shown : List ℕ)
     (kernel : KernelLeft) : Type 0 where
   pub outcome_ : Outcome
   pub outcome_is : HasOutcome program (system_on d) bound choices outcome_
@@ -86,7 +86,7 @@ pub record HasRun (program : Program) (bound : ℕ) (choices : Choices) (ending 
   pub kernel_is : KernelRan program (system_on d) bound choices outcome_ kernel
 
 -- so, where the devices tell their contents
-abbrev pub Ran : Program → (bound : ℕ) → Choices → Ending → (drawn : ℕ) → Outside → Outside → (shown : List ℕ) → Lent → Type 0
+abbrev pub Ran : Runnable → (bound : ℕ) → Choices → Ending → (drawn : ℕ) → Outside → Outside → (shown : List ℕ) → Lent → Type 0
 Ran program bound choices ending drawn before after shown kernel =
     WhereTold (devices_of before) (devices_of after) (λ d e. HasRun program bound choices ending drawn d e shown kernel.after)
 
@@ -99,7 +99,7 @@ pub record StandsAt (Comes : State → Type 0) (d e : Devices) (shown : List ℕ
   pub comes : Comes moment
   pub at : DevicesAreAt moment d e shown
 
-abbrev pub BrokeRun : Program → (bound : ℕ) → Choices → Outside → Outside → (shown : List ℕ) → Type 0
+abbrev pub BrokeRun : Runnable → (bound : ℕ) → Choices → Outside → Outside → (shown : List ℕ) → Type 0
 BrokeRun program bound choices before after shown =
     WhereTold (devices_of before) (devices_of after) (λ d e. StandsAt (HasMoment program (system_on d) bound choices) d e shown)
 

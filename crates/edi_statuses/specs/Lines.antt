@@ -10,27 +10,27 @@ use Rattle.edi_statuses.specs.declared.status.Status.{Status}
 use Rattle.edi_statuses.specs.declared.status.Status.TheVariants as status
 
 -- the number of a status, with which the program ends
-abbrev pub number_of : Status → ℕ
-number_of status.Ok = 0
-number_of status.Words = 1
-number_of (status.Refused kind line) = 2
-number_of (status.Stopped cause line) = 3
-number_of status.Turns = 4
-number_of status.NoMemory = 5
-number_of status.FileFault = 6
-number_of status.DriveFault = 7
-number_of status.InputFault = 8
-number_of status.OutputFault = 9
-number_of (status.BadImage broken) = 10
-number_of (status.BadCode broken) = 11
-number_of (status.BadState address) = 11
-number_of status.Absent = 12
-number_of (status.BadChoices line) = 13
-number_of status.SessionLimit = 14
-number_of status.DiskFull = 15
-number_of status.FileLarge = 16
-number_of status.Standstill = 17
-number_of (status.BadPoints line) = 18
+abbrev pub status_number : Status → ℕ
+status_number status.Ok = 0
+status_number status.Words = 1
+status_number (status.Refused kind line) = 2
+status_number (status.Stopped cause line) = 3
+status_number status.Turns = 4
+status_number status.NoMemory = 5
+status_number status.FileFault = 6
+status_number status.DriveFault = 7
+status_number status.InputFault = 8
+status_number status.OutputFault = 9
+status_number (status.BadImage broken) = 10
+status_number (status.BadCode broken) = 11
+status_number (status.BadState address) = 11
+status_number status.Absent = 12
+status_number (status.BadChoices line) = 13
+status_number status.SessionLimit = 14
+status_number status.DiskFull = 15
+status_number status.FileLarge = 16
+status_number status.Standstill = 17
+status_number (status.BadPoints line) = 18
 
 -- ---- texts
 

@@ -18,16 +18,16 @@ use Rattle.edi_statuses.specs.Showing.{ClosesWith, IsFront}
 use Rattle.edi_statuses.specs.Counts.{Counts, HasCause}
 use Rattle.edi_statuses.specs.Outside.{Outside, seen, Shows, SameFiles, SameBut, SameBlocks, SameInput, SamePrinted, IsAsBefore, IsSomeFile, Lent}
 use Rattle.edi_statuses.specs.EachObject.{LeavesEach, Uses}
-use Rattle.edi_statuses.specs.Steps.{Reached, goes, ◌>>=◌, Fetches, ReadsChoices, ChoicesAreThere, Accepts, Loads, Fits}
-use Rattle.edi_statuses.specs.Executions.{Program, text, code, Ran, BrokeRun}
-use Rattle.edi_statuses.specs.Sessions.{BootSteps, BrokeSession, HeldUnkept, HeldWhole}
+use Rattle.edi_statuses.specs.Steps.{AfterStep, goes, ◌>>=◌, Fetches, ReadsChoices, ChoicesAreThere, Accepts, Loads, FitsDisk}
+use Rattle.edi_statuses.specs.Executions.{Runnable, text, code, Ran, BrokeRun}
+use Rattle.edi_statuses.specs.Sessions.{BootSteps, BrokeSession, EndedUnkept, EndedWhole}
 use Rattle.edi_statuses.specs.Commands.{Comes, IsNothing, Runs, OnItsOwn, RunSteps, ExecSteps, TextSteps, OldSteps, PutSteps, GetSteps, ListSteps, DemoSteps}
 use Rattle.edi_statuses.specs.Commands.{released, put_in, size_line}
 
 -- ---- want of memory
 
 -- The program was run to its ending; of the files nothing is said.
-pub record RanWhole (program : Program) (bound : ℕ) (choices : Choices) (before after : Outside) (shown : List ℕ) (kernel : Lent) : Type 0 where
+pub record RanWhole (program : Runnable) (bound : ℕ) (choices : Choices) (before after : Outside) (shown : List ℕ) (kernel : Lent) : Type 0 where
   pub ending : Ending
   pub drawn : ℕ
   pub within : drawn ≤ bound
@@ -35,12 +35,12 @@ pub record RanWhole (program : Program) (bound : ℕ) (choices : Choices) (befor
   pub ran : Ran program bound choices ending drawn before after shown kernel
 
 -- and no file was kept
-abbrev pub RanUnkept : Program → (bound : ℕ) → Choices → Outside → Outside → (shown : List ℕ) → Lent → Type 0
+abbrev pub RanUnkept : Runnable → (bound : ℕ) → Choices → Outside → Outside → (shown : List ℕ) → Lent → Type 0
 RanUnkept program bound choices before after shown kernel =
     RanWhole program bound choices before after shown kernel × SameFiles before after
 
 -- where a record is asked for, and it is to be kept
-abbrev pub AtRecord : {A : Type 0} → Option (List ℕ) → (Reached A → Type 0) → (A → Type 0) → Type 0
+abbrev pub AtRecord : {A : Type 0} → Option (List ℕ) → (AfterStep A → Type 0) → (A → Type 0) → Type 0
 AtRecord None steps P = ⊥
 AtRecord (Some name) steps P = (a : _) × steps (goes a) × P a
 
@@ -54,7 +54,7 @@ Wants (words.exec file o) before after shown kernel =
     ⊎ AtRecord o.record_file (ExecSteps before file o.choices) (λ a. RanUnkept (code a.0) o.turns a.1 before after shown kernel)
 Wants (words.boot o) before after shown kernel =
     IsNothing before after shown kernel
-    ⊎ AtRecord o.record_file (BootSteps before o.choices) (λ choices. HeldUnkept o.turns choices before after shown)
+    ⊎ AtRecord o.record_file (BootSteps before o.choices) (λ choices. EndedUnkept o.turns choices before after shown)
 Wants (words.demo n o) before after shown kernel =
     IsNothing before after shown kernel
     ⊎ AtRecord o.record_file (DemoSteps before o.choices)
@@ -126,11 +126,11 @@ BrokeDemo n bound choices record_file before after shown kernel =
     ⊎ CutsDemo n bound choices record_file before after shown kernel
 
 -- the steps of a command went on, and it was broken off there
-abbrev pub Begun : {A : Type 0} → (Reached A → Type 0) → (A → Type 0) → Type 0
-Begun steps P = (a : _) × steps (goes a) × P a
+abbrev pub HasBegun : {A : Type 0} → (AfterStep A → Type 0) → (A → Type 0) → Type 0
+HasBegun steps P = (a : _) × steps (goes a) × P a
 
 -- the steps of a command went on
-abbrev pub WentOn : {A : Type 0} → (Reached A → Type 0) → Type 0
+abbrev pub WentOn : {A : Type 0} → (AfterStep A → Type 0) → Type 0
 WentOn steps = (a : _) × steps (goes a)
 
 -- so those of `run` and `replay`, and those of `exec`, before the drive is asked
@@ -146,7 +146,7 @@ AsksDrive (words.run file o) before = RunAsks before file o.choices
 AsksDrive (words.replay file choices turns) before = RunAsks before file (words.file choices)
 AsksDrive (words.exec file o) before = ExecAsks before file o.choices
 AsksDrive (words.boot o) before = WentOn (ReadsChoices before o.choices)
-AsksDrive (words.put file title) before = WentOn (Fetches before file >>= λ bytes. Fits bytes)
+AsksDrive (words.put file title) before = WentOn (Fetches before file >>= λ bytes. FitsDisk bytes)
 AsksDrive (words.get title file) before = ⊤
 AsksDrive _ before = ⊥
 
@@ -173,32 +173,32 @@ ComesToBreak status.FileFault (words.run file o) before after shown kernel =
 ComesToBreak status.FileFault (words.exec file o) before after shown kernel =
     AtRecord o.record_file (ExecSteps before file o.choices) (λ a. RanWhole (code a.0) o.turns a.1 before after shown kernel)
 ComesToBreak status.FileFault (words.boot o) before after shown kernel =
-    AtRecord o.record_file (BootSteps before o.choices) (λ choices. HeldWhole o.turns choices before after shown)
+    AtRecord o.record_file (BootSteps before o.choices) (λ choices. EndedWhole o.turns choices before after shown)
 ComesToBreak status.FileFault (words.demo n o) before after shown kernel =
     AtRecord o.record_file (DemoSteps before o.choices)
     (λ choices. OnItsOwn (λ b a. RanWhole (text (demo_text n)) o.turns choices b a shown kernel) before after)
 ComesToBreak status.FileFault (words.compile file out) before after shown kernel =
-    Begun (TextSteps before file) (λ a. HasNotBegun before after shown kernel)
+    HasBegun (TextSteps before file) (λ a. HasNotBegun before after shown kernel)
 ComesToBreak status.FileFault (words.get title file) before after shown kernel =
-    Begun (GetSteps before title) (λ bytes. HasNotBegun before after shown kernel)
+    HasBegun (GetSteps before title) (λ bytes. HasNotBegun before after shown kernel)
 ComesToBreak status.FileFault c before after shown kernel = ⊥
 ComesToBreak s (words.run file o) before after shown kernel =
-    Begun (RunSteps before file o.choices) (λ a. BrokeRun (text a.0) o.turns a.1 before after shown)
+    HasBegun (RunSteps before file o.choices) (λ a. BrokeRun (text a.0) o.turns a.1 before after shown)
 ComesToBreak s (words.replay file choices turns) before after shown kernel =
-    Begun (RunSteps before file (words.file choices)) (λ a. BrokeRun (text a.0) turns a.1 before after shown)
+    HasBegun (RunSteps before file (words.file choices)) (λ a. BrokeRun (text a.0) turns a.1 before after shown)
 ComesToBreak s (words.exec file o) before after shown kernel =
-    Begun (ExecSteps before file o.choices) (λ a. BrokeRun (code a.0) o.turns a.1 before after shown)
+    HasBegun (ExecSteps before file o.choices) (λ a. BrokeRun (code a.0) o.turns a.1 before after shown)
 ComesToBreak s (words.boot o) before after shown kernel =
-    Begun (BootSteps before o.choices) (λ choices. BrokeSession o.turns choices before after shown)
+    HasBegun (BootSteps before o.choices) (λ choices. BrokeSession o.turns choices before after shown)
 ComesToBreak status.DriveFault (words.put file title) before after shown kernel =
-    Begun (PutSteps before file title) (λ bytes. ChangesDrive (ArePutInPart title bytes) before after shown kernel)
+    HasBegun (PutSteps before file title) (λ bytes. ChangesDrive (ArePutInPart title bytes) before after shown kernel)
 ComesToBreak status.DriveFault (words.newdisk blocks None) before after shown kernel = ChangesDrive IsOpen before after shown kernel
 ComesToBreak status.DriveFault (words.newdisk blocks (Some file)) before after shown kernel =
-    Begun (OldSteps before blocks file) (λ old. ChangesDrive IsOpen before after shown kernel)
+    HasBegun (OldSteps before blocks file) (λ old. ChangesDrive IsOpen before after shown kernel)
 ComesToBreak status.OutputFault (words.list file) before after shown kernel =
-    Begun (ListSteps before file) (λ parts. ShowsFront (listing_of parts.words) before after shown kernel)
+    HasBegun (ListSteps before file) (λ parts. ShowsFront (listing_of parts.words) before after shown kernel)
 ComesToBreak status.OutputFault (words.demo n o) before after shown kernel =
-    Begun (DemoSteps before o.choices) (λ choices. BrokeDemo n o.turns choices o.record_file before after shown kernel)
+    HasBegun (DemoSteps before o.choices) (λ choices. BrokeDemo n o.turns choices o.record_file before after shown kernel)
 ComesToBreak s c before after shown kernel = ⊥
 
 -- The files of these names may be others than before: where the files have failed, what was to be kept; and where the line of a

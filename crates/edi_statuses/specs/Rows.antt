@@ -6,7 +6,7 @@ use Rattle.std.specs.Fmt.{digits}
 use Rattle.edi_host.specs.Files.{Contents}
 use Rattle.edi_calls.specs.Choice.{listed}
 use Rattle.edi_calls.specs.Outcome as outcome
-use Rattle.edi_calls.specs.Outcome.{Ending, outcome_of}
+use Rattle.edi_calls.specs.Outcome.{outcome_of}
 use Rattle.edi_calls.specs.State.{fresh}
 use Rattle.edi_image.specs.declared.faults.MountFault.TheVariants as mount
 use Rattle.edi_image.specs.Image.{image_rules}

@@ -1,4 +1,4 @@
--- Words of contracts. What `boot` leaves: a session of the shell is held on the devices.
+-- Words of contracts. What `boot` leaves: there is a session of the shell on the devices.
 use Rattle.std.specs.Prelude.{◌≡◌, ◌≤◌, ℕ, ◌*◌, List, length, Option}
 use Rattle.edi_told.specs.Told.{WhereTold}
 use Rattle.edi_calls.specs.Choice.{Choices}
@@ -10,11 +10,11 @@ use Rattle.edi_words.specs.Words.{ChoicesFrom}
 use Rattle.edi_statuses.specs.declared.status.Status.{Status}
 use Rattle.edi_statuses.specs.declared.status.Status.TheVariants as status
 use Rattle.edi_statuses.specs.Outside.{Outside, Devices, DevicesAreAt, Keeps, SameFiles, devices_of, system_on}
-use Rattle.edi_statuses.specs.Steps.{Reached, ◌>>=◌, Ready, ReadsChoices, Mounts}
+use Rattle.edi_statuses.specs.Steps.{AfterStep, ◌>>=◌, Ready, ReadsChoices, Mounts}
 use Rattle.edi_statuses.specs.Executions.{StandsAt, record_of}
 
 -- `boot`: reads the choices, mounts
-abbrev pub BootSteps : Outside → ChoicesFrom → Reached Choices → Type 0
+abbrev pub BootSteps : Outside → ChoicesFrom → AfterStep Choices → Type 0
 BootSteps o from = ReadsChoices o from >>= λ choices. Mounts o >>= λ done. Ready choices
 
 -- The status of how a session ended. One that the definition has ends in one of the first three ways.
@@ -31,40 +31,40 @@ session_status end.PrinterFault = status.OutputFault
 abbrev pub shell_on : Devices → Shell
 shell_on d = session_on (system_on d) 0 (length d.shown)
 
--- The session was held on the devices `d` and has left `e`. It ended so, has shown these bytes, and so many choices were drawn.
-pub record HasHeld (bound : ℕ) (choices : Choices) (end : SessionEnd) (drawn : ℕ) (d e : Devices) (shown : List ℕ) : Type 0 where
+-- The session on the devices `d` is over and has left `e`. It ended so, has shown these bytes, and so many choices were drawn.
+pub record HasEnded (bound : ℕ) (choices : Choices) (end : SessionEnd) (drawn : ℕ) (d e : Devices) (shown : List ℕ) : Type 0 where
   pub after : Shell
   pub session : Session bound choices (shell_on d) end after
   pub draws : after.drawn ≡ drawn
   pub leaves : DevicesAreAt (state_in after) d e shown
 
 -- so, where the devices tell their contents
-abbrev pub SessionHeld : (bound : ℕ) → Choices → SessionEnd → (drawn : ℕ) → Outside → Outside → (shown : List ℕ) → Type 0
-SessionHeld bound choices end drawn before after shown =
-    WhereTold (devices_of before) (devices_of after) (λ d e. HasHeld bound choices end drawn d e shown)
+abbrev pub SessionEnded : (bound : ℕ) → Choices → SessionEnd → (drawn : ℕ) → Outside → Outside → (shown : List ℕ) → Type 0
+SessionEnded bound choices end drawn before after shown =
+    WhereTold (devices_of before) (devices_of after) (λ d e. HasEnded bound choices end drawn d e shown)
 
 -- an object failed in the midst of the session: the devices are at one moment of it
 abbrev pub BrokeSession : (bound : ℕ) → Choices → Outside → Outside → (shown : List ℕ) → Type 0
 BrokeSession bound choices before after shown =
     WhereTold (devices_of before) (devices_of after) (λ d e. StandsAt (IsMomentOfSession bound choices (shell_on d)) d e shown)
 
--- A session is held to its end, which the status tells, and the record of its choices is kept. Of the lent kernel nothing is said.
+-- A session comes to its end, which the status tells, and the record of its choices is kept. Of the lent kernel nothing is said.
 pub record HoldsSession (bound : ℕ) (choices : Choices) (record_file : Option (List ℕ)) (s : Status) (before after : Outside) (shown : List ℕ) : Type 0
   where
     pub how : SessionEnd
     pub drawn : ℕ
     pub within : drawn ≤ 4194304 * bound
     pub status_is : s ≡ session_status how
-    pub held : SessionHeld bound choices how drawn before after shown
+    pub ended : SessionEnded bound choices how drawn before after shown
     pub keeps : Keeps before after (record_of record_file choices drawn)
 
--- The session was held to its end; of the files nothing is said.
-pub record HeldWhole (bound : ℕ) (choices : Choices) (before after : Outside) (shown : List ℕ) : Type 0 where
+-- The session came to its end; of the files nothing is said.
+pub record EndedWhole (bound : ℕ) (choices : Choices) (before after : Outside) (shown : List ℕ) : Type 0 where
   pub how : SessionEnd
   pub drawn : ℕ
   pub within : drawn ≤ 4194304 * bound
-  pub held : SessionHeld bound choices how drawn before after shown
+  pub ended : SessionEnded bound choices how drawn before after shown
 
 -- and no file was kept
-abbrev pub HeldUnkept : (bound : ℕ) → Choices → Outside → Outside → (shown : List ℕ) → Type 0
-HeldUnkept bound choices before after shown = HeldWhole bound choices before after shown × SameFiles before after
+abbrev pub EndedUnkept : (bound : ℕ) → Choices → Outside → Outside → (shown : List ℕ) → Type 0
+EndedUnkept bound choices before after shown = EndedWhole bound choices before after shown × SameFiles before after

@@ -20,9 +20,9 @@ ClosesWith meant answer line before after =
 -- ---- bytes before the line of a status
 
 -- whether a line feed is due behind these bytes, where it was due before them or not
-abbrev pub due_after : (due : Bool) → List ℕ → Bool
-due_after due [] = due
-due_after due (b ∷ more) = is_due (b ∷ more)
+abbrev pub due_behind : (due : Bool) → List ℕ → Bool
+due_behind due [] = due
+due_behind due (b ∷ more) = is_due (b ∷ more)
 
 -- all the bytes were shown, or a first part of them where the output has failed
 abbrev pub ShowsFar : Status → (front all : List ℕ) → Type 0
@@ -34,4 +34,4 @@ ShowsFar _ front all = ⊥
 abbrev pub ShowsBytes : (all : List ℕ) → (due : Bool) → Ended → (before after : Option (List ℕ)) → Type 0
 ShowsBytes all due ended before after =
     (front : List ℕ) × ShowsFar ended.status front all × WhereTold before after (λ old new. new ≡ old ++ front)
-    × (ended.due ≡ due_after due front)
+    × (ended.due ≡ due_behind due front)

@@ -6,10 +6,9 @@ ghost use Rattle.edi_statuses.specs.Lines as lines;
 
 use crate::status::Status;
 use arrayvec::ArrayString;
-use edi_calls::Cause;
 use edi_image::MountFault;
 use edi_target::CodeFault;
-use edi_texts::RefusalKind;
+use edi_texts::{RefusalKind, cause_text};
 use itoa::Buffer;
 
 /// Room for the longest line of a status, with a line feed before it and one behind it.
@@ -63,21 +62,6 @@ fn on_line(n: u16, text: &str) -> Line
     line.push_str(" ");
     line.push_str(text);
     line
-}
-
-fn cause_text(cause: Cause) -> &'static str
-    ensures exact { result.now ≡ lines.cause_text cause }
-    ensures short { length result.now ≤ 32 }
-{
-    match cause {
-        Cause::Range => "range",
-        Cause::VariableLimit => "variable limit",
-        Cause::ProcessLimit => "process limit",
-        Cause::Held => "held",
-        Cause::NoFile => "no file",
-        Cause::FileLimit => "file limit",
-        Cause::Halt => "halt",
-    }
 }
 
 fn refusal_line(kind: RefusalKind, line: u16) -> Line

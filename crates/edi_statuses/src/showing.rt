@@ -3,7 +3,7 @@
 ghost use Rattle.std.specs.Prelude.{◌≡◌, ◌≢◌, ◌⊎◌, ◌≤◌, None};
 ghost use Rattle.edi_told.specs.Faults.{CountRose};
 ghost use Rattle.edi_statuses.specs.Lines.{closing_line as line_for, text_of};
-ghost use Rattle.edi_statuses.specs.Showing.{ClosesWith, due_after, ShowsBytes};
+ghost use Rattle.edi_statuses.specs.Showing.{ClosesWith, due_behind, ShowsBytes};
 
 use crate::ended::Ended;
 use crate::lines::closing_line;
@@ -31,7 +31,7 @@ pub fn show_status<T: Sink>(terminal: &mut T, status: Status, due: bool) -> Stat
 
 /// Whether a line feed is due behind bytes, where it was due before them or not.
 fn is_due_after(due: bool, bytes: &[u8]) -> bool
-    ensures exact { result ≡ due_after due bytes.now }
+    ensures exact { result ≡ due_behind due bytes.now }
 {
     match bytes.last() {
         Some(byte) => *byte != b'\n',

@@ -2,12 +2,14 @@
 
 ghost use Rattle.std.specs.Prelude.{◌≡◌, option_map};
 ghost use Rattle.edi_statuses.specs.Lines as lines;
+ghost use Rattle.edi_statuses.specs.declared.status.Status.TheVariants as status;
 
 use crate::lines::{Line, text_of};
 use edi_calls::Cause;
 use edi_image::MountFault;
 use edi_target::CodeFault;
 use edi_texts::RefusalKind;
+use std::alloc::AllocError;
 use std::fmt;
 
 /// How a call ended.
@@ -58,7 +60,7 @@ pub enum Status {
 impl Status {
     /// The exit status of the program, 0 to 18.
     pub fn number(&self) -> u8
-        ensures exact { result ≡ lines.number_of self.now }
+        ensures exact { result ≡ lines.status_number self.now }
     {
         match self {
             Status::Ok => 0,
@@ -88,6 +90,14 @@ impl Status {
         ensures exact { option_map (λ line. line.bytes) result ≡ lines.text_of self.now }
     {
         text_of(*self)
+    }
+}
+
+impl From<AllocError> for Status {
+    ghost from_gives = { λ _ s. s ≡ status.NoMemory };
+
+    fn from(_error: AllocError) -> Self {
+        Status::NoMemory
     }
 }
 

@@ -27,10 +27,8 @@ fn choices_of(alloc: Global, bytes: &[u8]) -> Result<Choices, Status>
         Err(ChoiceFault::Line(line)) => return Err(Status::BadChoices(line)),
         Err(ChoiceFault::NoMemory) => return Err(Status::NoMemory),
     };
-    match Choices::list(alloc, &values) {
-        Ok(choices) => Ok(choices),
-        Err(_) => Err(Status::NoMemory),
-    }
+    let choices = Choices::list(alloc, &values)?;
+    Ok(choices)
 }
 
 /// The choices of a run, none of them drawn, or why the command stops there.
@@ -54,8 +52,6 @@ pub fn read_from<F: Files>(
         ChoicesFrom::Nowhere => Choices::list(alloc, &[]),
         ChoicesFrom::Seed(seed) => Choices::seeded(alloc, seed),
     };
-    match made {
-        Ok(choices) => Ok(choices),
-        Err(_) => Err(Status::NoMemory),
-    }
+    let choices = made?;
+    Ok(choices)
 }

@@ -24,9 +24,7 @@ pub fn keep_record<F: Files>(
     let Some(name) = name else {
         return Ok(());
     };
-    let Ok(bytes) = write_choices(alloc, choices.used()) else {
-        return Err(Status::NoMemory);
-    };
+    let bytes = write_choices(alloc, choices.used())?;
     match files.keep(alloc, name, &bytes) {
         KeepEnd::Ok => Ok(()),
         KeepEnd::Failed => Err(Status::FileFault),

@@ -8,7 +8,7 @@ use edi_statuses::{Ended, Status};
 
 /// A command has stopped before it showed anything.
 pub fn stopped(status: Status) -> Ended
-    ensures told { result.status ≡ status }
+    ensures status_is { result.status ≡ status }
     ensures due { result.due ≡ false }
 {
     Ended { status, due: false }

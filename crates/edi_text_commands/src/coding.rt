@@ -26,10 +26,8 @@ fn code_text(alloc: Global, text: &[u8]) -> Result<Vec<u8>, Status>
         Err(Refusal::At { kind, line, .. }) => return Err(Status::Refused(kind, line)),
         Err(Refusal::NoMemory) => return Err(Status::NoMemory),
     };
-    match pack(alloc, &code) {
-        Ok(bytes) => Ok(bytes),
-        Err(_) => Err(Status::NoMemory),
-    }
+    let bytes = pack(alloc, &code)?;
+    Ok(bytes)
 }
 
 /// The bytes of the code of the text in a file, or why the command stops there.

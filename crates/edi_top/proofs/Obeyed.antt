@@ -17,9 +17,11 @@ use Rattle.edi_told.specs.Told.{WhereTold}
 use Rattle.edi_statuses.proofs.EachLeft.{each_same}
 use Rattle.edi_statuses.proofs.Silent.{idle, nothing_shown}
 use Rattle.edi_disk_commands.specs.OnDisk.{MeansOnDisk, RestStays}
+use Rattle.edi_run_commands.specs.RunMeans.{replaying}
+use Rattle.edi_run_commands.proofs.Meaning.{replayed}
 use Rattle.edi_top.specs.Built.{built}
 use Rattle.edi_statuses.specs.Lines.{text_of}
-use Rattle.edi_statuses.specs.EachObject.{CountsBlocks, CountsNew, FitsCount, FitsGet, KeepsImage, LeavesEach, Untouched, comes_to, formats, stops_first}
+use Rattle.edi_statuses.specs.EachObject.{CountsBlocks, CountsNew, FitsCount, FitsGet, Handed, KeepsImage, LeavesEach, UnusedStay, comes_to, formats, handed, stops_first}
 use Rattle.edi_statuses.specs.EachObject.{uses_devices, uses_drive, uses_input}
 use Rattle.edi_statuses.specs.Means.{Came}
 
@@ -61,6 +63,15 @@ pub obeyed_demo : (c : commands.Command) (n m : ℕ) (o : Options) (s : Status) 
 obeyed_demo c n m o s due before after kernel is same came =
     obeyed_so c (command.Demo n o) s due before after kernel is
     (subst (λ k. Came s due (Some (words.demo k (options_of o))) before after kernel) same came)
+
+-- so of a replay, which is a run
+pub obeyed_replay : (c : commands.Command) (file choices : Bor Text) (turns : ℕ) (o : Options) (s : Status) (due : Bool) (before after : Outside)
+    (kernel : Lent) → c ≡ command.Replay file choices turns → options_of o ≡ replaying choices.now turns
+    → Came s due (Some (words.run file.now (options_of o))) before after kernel → Came s due (built (Some (view c))) before after kernel
+obeyed_replay c file choices turns o s due before after kernel is same came =
+    obeyed_so c (command.Replay file choices turns) s due before after kernel is
+    (replayed file.now choices.now turns s due before after kernel
+    (subst (λ x. Came s due (Some (words.run file.now x)) before after kernel) same came))
 
 -- so of one that shows nothing
 pub obeyed : (c d : commands.Command) (meant s : Status) (due : Bool) (before after : Outside) (kernel : Lent) → c ≡ d → s ≡ meant → due ≡ false
@@ -151,12 +162,11 @@ counts_so c d meant s old new had has is same h =
 -- ---- what is not touched
 
 -- a command as the code has it, and its status
-pub untouched_so : {F D S P K : Type 0} (c d : commands.Command) (meant s : Status) (f f' : F) (dr dr' : D) (i i' : S) (p p' : P) (k k' : K) → c ≡ d
-    → s ≡ meant → Untouched (built (Some (view d))) meant f f' dr dr' i i' p p' k k'
-    → Untouched (built (Some (view c))) s f f' dr dr' i i' p p' k k'
-untouched_so c d meant s f f' dr dr' i i' p p' k k' is same h =
-    subst (λ x. Untouched (built (Some (view x))) s f f' dr dr' i i' p p' k k') (sym is)
-    (subst (λ t. Untouched (built (Some (view d))) t f f' dr dr' i i' p p' k k') (sym same) h)
+pub untouched_so : {F D S T P K : Type 0} (c d : commands.Command) (meant s : Status) (before after : Handed F D S T P K) → c ≡ d → s ≡ meant
+    → UnusedStay (built (Some (view d))) meant before after → UnusedStay (built (Some (view c))) s before after
+untouched_so c d meant s before after is same h =
+    subst (λ x. UnusedStay (built (Some (view x))) s before after) (sym is)
+    (subst (λ t. UnusedStay (built (Some (view d))) t before after) (sym same) h)
 
 -- a fault of the output is no status of a step
 never_first : (c : Command) → stops_first c status.OutputFault ≡ false
@@ -188,9 +198,9 @@ comes_less uses (Some c) s t (inr fault) h =
     (subst (λ x. comes_to uses (Some c) x ≡ false) fault h)
 
 -- the status of a command is answered, or a fault of the output in its place
-pub untouched_closed : {F D S P K : Type 0} (c : Option Command) (s t : Status) (f f' : F) (d d' : D) (i i' : S) (p p' : P) (k k' : K)
-    → (t ≡ s) ⊎ (t ≡ status.OutputFault) → Untouched c s f f' d d' i i' p p' k k' → Untouched c t f f' d d' i i' p p' k k'
-untouched_closed c s t f f' d d' i i' p p' k k' which h = record {
+pub untouched_closed : {F D S T P K : Type 0} (c : Option Command) (s t : Status) (before : Handed F D S T P K) (f : F) (d : D) (i : S) (w w' : T)
+    (p : P) (k : K) → (t ≡ s) ⊎ (t ≡ status.OutputFault) → UnusedStay c s before (handed f d i w p k) → UnusedStay c t before (handed f d i w' p k)
+untouched_closed c s t before f d i w w' p k which h = record {
   files = h.files;
   drive = λ none. h.drive (comes_less uses_drive c s t which none);
   input = λ none. h.input (comes_less uses_input c s t which none);

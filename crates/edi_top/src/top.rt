@@ -1,16 +1,17 @@
-//! The call that does all that the program does.
+//! The call that command_does all that the program command_does.
 
 ghost use Rattle.std.specs.Prelude.{◌≡◌, ◌⊎◌, ◌≤◌, ℕ, List, None, Some, false, true, map, option_map};
 ghost use Rattle.std.specs.String.{string_bytes};
 ghost use Rattle.edi_told.specs.Faults.{CountRose};
 ghost use Rattle.edi_words.specs.Words.{command_of, newdisk};
-ghost use Rattle.edi_words.specs.View.{view, IsInRange};
+ghost use Rattle.edi_words.specs.View.{options_of, view, IsInRange};
+ghost use Rattle.edi_run_commands.specs.RunMeans.{replaying};
 ghost use Rattle.edi_disk_commands.specs.OnDisk.{IsOfDisk, MeansOnDisk};
 ghost use Rattle.edi_top.specs.Built.{built};
 ghost use Rattle.edi_statuses.specs.Outside.{lent, outside_of, Shows};
 ghost use Rattle.edi_statuses.specs.Counts.{counts_of, HasCause, NoneFalls};
-ghost use Rattle.edi_statuses.specs.EachObject.{does, is_before_format, is_silent, uses_files};
-ghost use Rattle.edi_statuses.specs.EachObject.{CountsBlocks, CountsNew, LeavesEach, Untouched};
+ghost use Rattle.edi_statuses.specs.EachObject.{command_does, handed, is_before_format, is_silent, uses_files};
+ghost use Rattle.edi_statuses.specs.EachObject.{CountsBlocks, CountsNew, LeavesEach, UnusedStay};
 ghost use Rattle.edi_statuses.specs.Means.{Came, EndsWith};
 
 use edi_boot::boot;
@@ -18,10 +19,10 @@ use edi_code_commands::list;
 use edi_disk_commands::{get, new_disk, new_disk_from, put};
 use edi_host::{Drive, Files, Sink, Source};
 use edi_kernel::Kernel;
-use edi_run_commands::{demonstrate, exec, replay, run};
+use edi_run_commands::{demonstrate, exec, run};
 use edi_statuses::{Ended, Status, show_status};
 use edi_text_commands::compile_file;
-use edi_words::{Command, command};
+use edi_words::{ChoicesFrom, Command, Options, command};
 use std::alloc::Global;
 
 /// Where nothing was shown.
@@ -60,6 +61,17 @@ fn new_by<F: Files, D: Drive>(
     }
 }
 
+/// The options of `run` with which it replays the choices of a file.
+fn replaying(choices: &str, turns: u32) -> Options<'_>
+    ensures exact { options_of result ≡ replaying choices.now turns }
+{
+    Options {
+        turns,
+        choices: ChoicesFrom::File(choices),
+        record_file: None,
+    }
+}
+
 // Does what the command says. The line of the status is still to be shown.
 fn perform<F: Files, D: Drive, S: Source, T: Sink, P: Sink>(
     alloc: Global,
@@ -84,9 +96,10 @@ fn perform<F: Files, D: Drive, S: Source, T: Sink, P: Sink>(
         (counts_of F.faults D.faults S.faults T.faults P.faults files.new drive.new input.new terminal.new printer.new) }
     ensures size { CountsBlocks (built (Some (view command.entry))) result.status (D.count drive.old) (D.count drive.new)
         (D.faults drive.old) (D.faults drive.new) }
-    ensures untouched { Untouched (built (Some (view command.entry))) result.status files.old files.new drive.old drive.new input.old input.new
-        printer.old printer.new kernel.old kernel.new }
-    ensures no_terminal { does is_silent (built (Some (view command.entry))) ≡ true → terminal.new ≡ terminal.old }
+    ensures untouched { UnusedStay (built (Some (view command.entry))) result.status
+        (handed files.old drive.old input.old terminal.old printer.old kernel.old)
+        (handed files.new drive.new input.new terminal.new printer.new kernel.new) }
+    ensures no_terminal { command_does is_silent (built (Some (view command.entry))) ≡ true → terminal.new ≡ terminal.old }
 {
     match command {
         Command::Run { file, options } => run(
@@ -96,8 +109,16 @@ fn perform<F: Files, D: Drive, S: Source, T: Sink, P: Sink>(
             file,
             choices,
             turns,
-        } => replay(
-            alloc, file, choices, turns, files, drive, input, terminal, printer, kernel,
+        } => run(
+            alloc,
+            file,
+            replaying(choices, turns),
+            files,
+            drive,
+            input,
+            terminal,
+            printer,
+            kernel,
         ),
         Command::Exec { file, options } => exec(
             alloc, file, options, files, drive, input, terminal, printer, kernel,
@@ -146,9 +167,10 @@ fn obey<F: Files, D: Drive, S: Source, T: Sink, P: Sink>(
         (counts_of F.faults D.faults S.faults T.faults P.faults files.new drive.new input.new terminal.new printer.new) }
     ensures size { CountsBlocks (built (command_of (map string_bytes words.now))) result.status (D.count drive.old) (D.count drive.new)
         (D.faults drive.old) (D.faults drive.new) }
-    ensures untouched { Untouched (built (command_of (map string_bytes words.now))) result.status files.old files.new drive.old drive.new
-        input.old input.new printer.old printer.new kernel.old kernel.new }
-    ensures no_terminal { does is_silent (built (command_of (map string_bytes words.now))) ≡ true → terminal.new ≡ terminal.old }
+    ensures untouched { UnusedStay (built (command_of (map string_bytes words.now))) result.status
+        (handed files.old drive.old input.old terminal.old printer.old kernel.old)
+        (handed files.new drive.new input.new terminal.new printer.new kernel.new) }
+    ensures no_terminal { command_does is_silent (built (command_of (map string_bytes words.now))) ≡ true → terminal.new ≡ terminal.old }
 {
     match command(alloc, words) {
         Ok(Some(command)) => perform(
@@ -207,9 +229,10 @@ pub fn edison<F: Files, D: Drive, S: Source, T: Sink, P: Sink>(
 
     // Objects that a command has no use for, and those that it has not come to, are not touched, whatever they tell; words that are
     // refused touch none but the terminal.
-    ensures untouched { Untouched (built (command_of (map string_bytes words.now))) result files.old files.new drive.old drive.new
-        input.old input.new printer.old printer.new kernel.old kernel.new }
-    ensures no_terminal { result ≡ Status.Ok → does is_silent (built (command_of (map string_bytes words.now))) ≡ true
+    ensures untouched { UnusedStay (built (command_of (map string_bytes words.now))) result
+        (handed files.old drive.old input.old terminal.old printer.old kernel.old)
+        (handed files.new drive.new input.new terminal.new printer.new kernel.new) }
+    ensures no_terminal { result ≡ Status.Ok → command_does is_silent (built (command_of (map string_bytes words.now))) ≡ true
         → terminal.new ≡ terminal.old }
 {
     let ended = obey(alloc, words, files, drive, input, terminal, printer, kernel);

@@ -6,7 +6,7 @@ use Rattle.edi_steps.specs.OnFiles.{files_only}
 use Rattle.edi_statuses.specs.EachObject.{FitsCount}
 use Rattle.edi_steps.proofs.OnFilesLemmas.{choices_fit}
 use Rattle.edi_run_commands.proofs.Asked.{never_early}
-use Rattle.edi_boot.proofs.Exits.{held_came, unread}
+use Rattle.edi_boot.proofs.Exits.{boot_came, unread}
 use Rattle.edi_boot.proofs.booting.boot.Goals as goal
 
 pub returns-in-Err-clause-came : goal.returns-in-Err-clause-came
@@ -15,7 +15,7 @@ returns-in-Err-clause-came g c =
     c.args.drive.now c.args.input.now c.args.terminal.now c.args.printer.now in
     let kernel : Lent = lent c.args.kernel.now.store c.args.kernel.now.used c.args.kernel.now.store c.args.kernel.now.used in
     unread (options_of c.args.options) before (g.F.Files.contents c.read_from.new.files) kernel refl c.in-Err.ensures.unchanged c.in-Err.status
-    c.stopped.result.status c.stopped.result.due c.stopped.ensures.told c.stopped.ensures.due c.in-Err.ensures.reads
+    c.stopped.result.status c.stopped.result.due c.stopped.ensures.status_is c.stopped.ensures.due c.in-Err.ensures.reads
 
 pub returns-clause-came : goal.returns-clause-came
 returns-clause-came g c =
@@ -24,13 +24,13 @@ returns-clause-came g c =
     let after : Outside = outside_of g.F.Files.contents g.D.Drive.contents g.S.Source.left g.T.Sink.taken g.P.Sink.taken c.hold_session.new.files
     c.hold_session.new.drive c.hold_session.new.input c.hold_session.new.terminal c.hold_session.new.printer in
     let kernel : Lent = lent c.args.kernel.now.store c.args.kernel.now.used c.hold_session.new.kernel.store c.hold_session.new.kernel.used in
-    held_came (options_of c.args.options) before (g.F.Files.contents c.read_from.new.files) kernel c.in-Ok.choices.source c.in-Ok.ensures.reads.1
-    c.in-Ok.ensures.unchanged c.hold_session.result.status c.hold_session.result.due after c.hold_session.ensures.tells c.hold_session.ensures.held
+    boot_came (options_of c.args.options) before (g.F.Files.contents c.read_from.new.files) kernel c.in-Ok.choices.source c.in-Ok.ensures.reads.1
+    c.in-Ok.ensures.unchanged c.hold_session.result.status c.hold_session.result.due after c.hold_session.ensures.tells c.hold_session.ensures.came
 
 pub returns-in-Err-clause-fits : goal.returns-in-Err-clause-fits
 returns-in-Err-clause-fits g c =
     let o : Outside = files_only (still_told (g.F.Files.contents c.args.files.now) (g.F.Files.contents c.read_from.new.files)) in
-    subst (λ s. FitsCount s (g.D.Drive.count c.args.drive.now)) (sym c.stopped.ensures.told)
+    subst (λ s. FitsCount s (g.D.Drive.count c.args.drive.now)) (sym c.stopped.ensures.status_is)
     (choices_fit o (choices_from c.args.options.choices) c.in-Err.status _ c.in-Err.ensures.reads)
 
 pub returns-clause-fits : goal.returns-clause-fits

@@ -5,15 +5,16 @@ use Rattle.edi_statuses.specs.Outside.{kernel_of}
 use Rattle.edi_run_commands.proofs.Counted.{none_falls}
 use Rattle.edi_steps.specs.NotMounted.{mount_status}
 use Rattle.edi_statuses.specs.Sessions.{session_status}
+use Rattle.edi_run_commands.proofs.Mounting.{left_on}
 use Rattle.edi_run_commands.proofs.Asked.{asked_so, unkept_asked, unmounted_asked}
 use Rattle.edi_boot.proofs.Exits.{broke, ended_asked, recorded, unmounted, unrecorded, with_bound}
 use Rattle.edi_boot.proofs.booting.hold_session.Goals as goal
 
-pub returns-in-Err-clause-held : goal.returns-in-Err-clause-held
-returns-in-Err-clause-held g c =
+pub returns-in-Err-clause-came : goal.returns-in-Err-clause-came
+returns-in-Err-clause-came g c =
     let n = c.in-Err.ensures.nothing_begun in
     unmounted c.args.turns c.args.choices.now.source (option_map (λ name. name.now) c.args.record_file) c.stopped.result.status c.stopped.result.due _ _ _
-    c.in-Err.why (c.stopped.ensures.told ∙ c.mount_status.ensures.exact) c.stopped.ensures.due
+    c.in-Err.why (c.stopped.ensures.status_is ∙ c.mount_status.ensures.exact) c.stopped.ensures.due
     (record {
       files = refl;
       blocks = c.in-Err.ensures.not_mounted;
@@ -28,21 +29,14 @@ returns-in-Err-clause-later g c =
     none_falls g.F.Files.faults g.D.Drive.faults g.S.Source.faults g.T.Sink.faults g.P.Sink.faults c.args.files.now c.args.files.now _ _ (omega arith)
     c.hold_on.ensures.later
 
-pub returns-then-ends_by_fault-clause-held : goal.returns-then-ends_by_fault-clause-held
-returns-then-ends_by_fault-clause-held g c =
+pub returns-then-ends_by_fault-clause-came : goal.returns-then-ends_by_fault-clause-came
+returns-then-ends_by_fault-clause-came g c =
     let l = c.in-Ok.ensures.leaves in
     let few : c.args.choices.now.drawn + 4194304 * c.from.result < 2 ^ 64 = search rules in
-    let failed : ends_by_fault c.in-Ok.held.end ≡ true = search rules in
+    let failed : ends_by_fault c.in-Ok.exit.end ≡ true = search rules in
     with_bound c.from.result c.args.turns (search rules) _ _ _ _ _ _ _
-    (broke c.from.result c.args.choices.now c.requires.none_drawn c.in-Ok.held.due c.in-Ok.held.end _ _
-    (record {
-      mounted = c.in-Ok.ensures.mounted;
-      valid = l.told.valid;
-      shrinks = l.told.shrinks;
-      grows = l.told.grows;
-      prints = l.told.prints;
-      due_is = l.due;
-    }) _ c.hold_on.new.choices (l.ends few)
+    (broke c.from.result c.args.choices.now c.requires.none_drawn c.in-Ok.exit.due c.in-Ok.exit.end _ _
+    (left_on _ _ _ c.in-Ok.ensures.mounted l.told l.due) _ c.hold_on.new.choices (l.ends few)
     (option_map (λ name. name.now) c.args.record_file) c.session_status-status.result c.session_status-status.ensures.exact failed refl)
 
 pub returns-then-ends_by_fault-clause-later : goal.returns-then-ends_by_fault-clause-later
@@ -50,21 +44,14 @@ returns-then-ends_by_fault-clause-later g c =
     none_falls g.F.Files.faults g.D.Drive.faults g.S.Source.faults g.T.Sink.faults g.P.Sink.faults c.args.files.now c.args.files.now _ _ (omega arith)
     c.hold_on.ensures.later
 
-pub returns-in-Ok-keep_record-clause-held : goal.returns-in-Ok-keep_record-clause-held
-returns-in-Ok-keep_record-clause-held g c =
+pub returns-in-Ok-keep_record-clause-came : goal.returns-in-Ok-keep_record-clause-came
+returns-in-Ok-keep_record-clause-came g c =
     let l = c.in-Ok.ensures.leaves in
     let few : c.args.choices.now.drawn + 4194304 * c.from.result < 2 ^ 64 = search rules in
-    let unfailed : ends_by_fault c.in-Ok.held.end ≡ false = search rules in
+    let unfailed : ends_by_fault c.in-Ok.exit.end ≡ false = search rules in
     with_bound c.from.result c.args.turns (search rules) _ _ _ _ _ _ _
-    (recorded c.from.result c.args.choices.now c.requires.none_drawn c.in-Ok.held.due c.in-Ok.held.end _ _
-    (record {
-      mounted = c.in-Ok.ensures.mounted;
-      valid = l.told.valid;
-      shrinks = l.told.shrinks;
-      grows = l.told.grows;
-      prints = l.told.prints;
-      due_is = l.due;
-    }) _ c.hold_on.new.choices (l.ends few)
+    (recorded c.from.result c.args.choices.now c.requires.none_drawn c.in-Ok.exit.due c.in-Ok.exit.end _ _
+    (left_on _ _ _ c.in-Ok.ensures.mounted l.told l.due) _ c.hold_on.new.choices (l.ends few)
     unfailed (omega (arith, c.hold_on.ensures.drawn, c.requires.none_drawn)) (option_map (λ name. name.now) c.args.record_file)
     c.session_status-status.result c.session_status-status.ensures.exact c.hold_on.ensures.source
     c.in-Ok-keep_record.ensures.keeps)
@@ -73,21 +60,14 @@ pub returns-in-Ok-keep_record-clause-later : goal.returns-in-Ok-keep_record-clau
 returns-in-Ok-keep_record-clause-later g c =
     none_falls g.F.Files.faults g.D.Drive.faults g.S.Source.faults g.T.Sink.faults g.P.Sink.faults _ _ _ _ c.keep_record.ensures.later c.hold_on.ensures.later
 
-pub returns-in-Err-keep_record-clause-held : goal.returns-in-Err-keep_record-clause-held
-returns-in-Err-keep_record-clause-held g c =
+pub returns-in-Err-keep_record-clause-came : goal.returns-in-Err-keep_record-clause-came
+returns-in-Err-keep_record-clause-came g c =
     let l = c.in-Ok.ensures.leaves in
     let few : c.args.choices.now.drawn + 4194304 * c.from.result < 2 ^ 64 = search rules in
-    let unfailed : ends_by_fault c.in-Ok.held.end ≡ false = search rules in
+    let unfailed : ends_by_fault c.in-Ok.exit.end ≡ false = search rules in
     with_bound c.from.result c.args.turns (search rules) _ _ _ _ _ _ _
-    (unrecorded c.from.result c.args.choices.now c.requires.none_drawn c.in-Ok.held.due c.in-Ok.held.end _ _
-    (record {
-      mounted = c.in-Ok.ensures.mounted;
-      valid = l.told.valid;
-      shrinks = l.told.shrinks;
-      grows = l.told.grows;
-      prints = l.told.prints;
-      due_is = l.due;
-    }) _ c.hold_on.new.choices (l.ends few)
+    (unrecorded c.from.result c.args.choices.now c.requires.none_drawn c.in-Ok.exit.due c.in-Ok.exit.end _ _
+    (left_on _ _ _ c.in-Ok.ensures.mounted l.told l.due) _ c.hold_on.new.choices (l.ends few)
     unfailed (omega (arith, c.hold_on.ensures.drawn, c.requires.none_drawn)) (Unit {0}) (option_map (λ name. name.now) c.args.record_file)
     c.in-Err-keep_record.status c.in-Err-keep_record.ensures.keeps)
 
@@ -97,18 +77,18 @@ returns-in-Err-keep_record-clause-later g c =
 
 pub returns-in-Err-clause-asked : goal.returns-in-Err-clause-asked
 returns-in-Err-clause-asked g c =
-    asked_so (mount_status c.in-Err.why) c.stopped.result.status _ (c.stopped.ensures.told ∙ c.mount_status.ensures.exact)
+    asked_so (mount_status c.in-Err.why) c.stopped.result.status _ (c.stopped.ensures.status_is ∙ c.mount_status.ensures.exact)
     (unmounted_asked c.in-Err.why _ c.in-Err.ensures.faults)
 
 pub returns-then-ends_by_fault-clause-asked : goal.returns-then-ends_by_fault-clause-asked
 returns-then-ends_by_fault-clause-asked g c =
-    asked_so (session_status c.in-Ok.held.end) c.session_status-status.result _ c.session_status-status.ensures.exact
-    (ended_asked _ c.in-Ok.ensures.image c.in-Ok.held.end)
+    asked_so (session_status c.in-Ok.exit.end) c.session_status-status.result _ c.session_status-status.ensures.exact
+    (ended_asked _ c.in-Ok.ensures.image c.in-Ok.exit.end)
 
 pub returns-in-Ok-keep_record-clause-asked : goal.returns-in-Ok-keep_record-clause-asked
 returns-in-Ok-keep_record-clause-asked g c =
-    asked_so (session_status c.in-Ok.held.end) c.session_status-status.result _ c.session_status-status.ensures.exact
-    (ended_asked _ c.in-Ok.ensures.image c.in-Ok.held.end)
+    asked_so (session_status c.in-Ok.exit.end) c.session_status-status.result _ c.session_status-status.ensures.exact
+    (ended_asked _ c.in-Ok.ensures.image c.in-Ok.exit.end)
 
 pub returns-in-Err-keep_record-clause-asked : goal.returns-in-Err-keep_record-clause-asked
 returns-in-Err-keep_record-clause-asked g c =

@@ -5,5 +5,5 @@ use Rattle.edi_code_commands.proofs.loading.listing_of_bytes.Goals as goal
 pub returns-in-Err : goal.returns-in-Err
 returns-in-Err c = record { lists = not_loaded (λ (v : Vec ℕ Global). v.items) c.args.bytes.now c.in-Err.status c.in-Err.ensures.loads }
 
-pub returns-in-Ok-listing : goal.returns-in-Ok-listing
-returns-in-Ok-listing c = record { lists = (c.in-Ok.code, c.in-Ok.ensures.loads, c.in-Ok-listing.ensures.exact) }
+pub returns : goal.returns
+returns c = record { lists = (c.in-Ok.code, c.in-Ok.ensures.loads, c.in_ok-text.ensures.exact) }

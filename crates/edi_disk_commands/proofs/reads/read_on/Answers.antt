@@ -3,7 +3,6 @@ use Rattle.std.proofs.Common.{◌≡◌, rules, subst, sym}
 use Rattle.edi_catalog.specs.Taken.{IsOfCount}
 use Rattle.edi_disk.specs.Shown.{drive_of}
 use Rattle.edi_statuses.specs.EachObject.{FitsGet}
-use Rattle.edi_statuses.proofs.EachLeft.{mounted_image}
 use Rattle.edi_steps.proofs.Unmounted.{unread_fits}
 use Rattle.edi_disk_commands.proofs.reads.read_on.Goals as goal
 

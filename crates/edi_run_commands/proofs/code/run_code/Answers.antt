@@ -9,13 +9,14 @@ use Rattle.edi_run_commands.proofs.Asked.{asked_so, ended_asked, failed_asked, u
 use Rattle.edi_run_commands.proofs.Left.{ending_of}
 use Rattle.edi_run_commands.proofs.Counted.{none_falls}
 use Rattle.edi_run_commands.proofs.Endings.{unmounted, broke, recorded, status_is, unrecorded, with_bound}
+use Rattle.edi_run_commands.proofs.Mounting.{left_on}
 use Rattle.edi_run_commands.proofs.code.run_code.Goals as goal
 
 pub returns-in-Err-clause-ran : goal.returns-in-Err-clause-ran
 returns-in-Err-clause-ran g c =
     let n = c.in-Err.ensures.nothing_run in
     unmounted c.args.code.now c.args.turns c.args.choices.now.source (option_map (λ name. name.now) c.args.record_file) c.stopped.result.status
-    c.stopped.result.due _ _ _ c.in-Err.why (c.stopped.ensures.told ∙ c.mount_status.ensures.exact) c.stopped.ensures.due
+    c.stopped.result.due _ _ _ c.in-Err.why (c.stopped.ensures.status_is ∙ c.mount_status.ensures.exact) c.stopped.ensures.due
     (record {
       files = refl;
       blocks = c.in-Err.ensures.not_mounted;
@@ -37,14 +38,7 @@ returns-in-Some-clause-ran g c =
     let there : IsSome c.in-Ok.ran.failed = search rules in
     with_bound c.from.result c.args.turns (search rules) _ _ _ _ _ _ _ _
     (broke c.args.code.now c.from.result c.args.choices.now c.requires.none_drawn c.in-Ok.ran.due _ _
-    (record {
-      mounted = c.in-Ok.ensures.mounted;
-      valid = c.in-Ok.ensures.valid;
-      shrinks = l.told.shrinks;
-      grows = l.told.grows;
-      prints = l.told.prints;
-      due_is = l.due;
-    })
+    (left_on _ _ _ c.in-Ok.ensures.mounted l.told l.due)
     (option_map (λ name. name.now) c.args.record_file) c.object_status.result c.in-Some.object _ c.object_status.ensures.exact refl
     (l.moment (c.in-Ok.ensures.failed.0 there) few))
 
@@ -60,14 +54,7 @@ returns-in-Ok-keep_record-clause-ran g c =
     let unfailed : c.in-Ok.ran.ending ≡ ending.Fault → ⊥ = search rules in
     with_bound c.from.result c.args.turns (search rules) _ _ _ _ _ _ _ _
     (recorded c.args.code.now c.from.result c.args.choices.now c.requires.none_drawn c.in-Ok.ran.due _ _
-    (record {
-      mounted = c.in-Ok.ensures.mounted;
-      valid = c.in-Ok.ensures.valid;
-      shrinks = l.told.shrinks;
-      grows = l.told.grows;
-      prints = l.told.prints;
-      due_is = l.due;
-    })
+    (left_on _ _ _ c.in-Ok.ensures.mounted l.told l.due)
     c.in-Ok.ran.ending unfailed c.run_on.new.choices (omega (arith, c.run_on.ensures.drawn, c.requires.none_drawn)) _ c.in-Ok.ensures.used (l.runs few)
     (option_map (λ name. name.now) c.args.record_file) c.ending_status.result c.ending_status.ensures.exact c.run_on.ensures.source
     c.in-Ok-keep_record.ensures.keeps)
@@ -83,14 +70,7 @@ returns-in-Err-keep_record-clause-ran g c =
     let unfailed : c.in-Ok.ran.ending ≡ ending.Fault → ⊥ = search rules in
     with_bound c.from.result c.args.turns (search rules) _ _ _ _ _ _ _ _
     (unrecorded c.args.code.now c.from.result c.args.choices.now c.requires.none_drawn c.in-Ok.ran.due _ _
-    (record {
-      mounted = c.in-Ok.ensures.mounted;
-      valid = c.in-Ok.ensures.valid;
-      shrinks = l.told.shrinks;
-      grows = l.told.grows;
-      prints = l.told.prints;
-      due_is = l.due;
-    })
+    (left_on _ _ _ c.in-Ok.ensures.mounted l.told l.due)
     c.in-Ok.ran.ending unfailed c.run_on.new.choices (omega (arith, c.run_on.ensures.drawn, c.requires.none_drawn)) _ c.in-Ok.ensures.used (l.runs few)
     (Unit {0}) (option_map (λ name. name.now) c.args.record_file) c.in-Err-keep_record.status c.in-Err-keep_record.ensures.keeps)
 
@@ -100,7 +80,7 @@ returns-in-Err-keep_record-clause-later g c =
 
 pub returns-in-Err-clause-asked : goal.returns-in-Err-clause-asked
 returns-in-Err-clause-asked g c =
-    asked_so (mount_status c.in-Err.why) c.stopped.result.status _ (c.stopped.ensures.told ∙ c.mount_status.ensures.exact)
+    asked_so (mount_status c.in-Err.why) c.stopped.result.status _ (c.stopped.ensures.status_is ∙ c.mount_status.ensures.exact)
     (unmounted_asked c.in-Err.why _ c.in-Err.ensures.faults)
 
 pub returns-in-Some-clause-asked : goal.returns-in-Some-clause-asked

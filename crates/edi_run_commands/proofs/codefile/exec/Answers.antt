@@ -23,7 +23,7 @@ returns-in-Err-clause-came g c =
     let record_file : Option (List ℕ) = option_map (λ name. name.now) c.args.options.record_file in
     let o : Options = options_of c.args.options in
     code_came c.args.file.now o c.in-Err.status c.stopped.result.status c.stopped.result.due before _ kernel
-    c.stopped.ensures.told c.stopped.ensures.due
+    c.stopped.ensures.status_is c.stopped.ensures.due
     (fetch_stops Loads (λ b p. p) code c.args.file.now from c.args.options.turns record_file before kernel {V = Vec ℕ Global} (λ v. v.items) 8388641
     (g.F.Files.contents c.fetch.new.files) c.in-Err.status refl c.in-Err.ensures.fetched c.in-Err.ensures.unchanged)
 
@@ -37,7 +37,7 @@ returns-in-Err-read_from-clause-came g c =
     let o : Options = options_of c.args.options in
     let f = c.in-Ok.ensures.fetched in
     code_came c.args.file.now o c.in-Err-read_from.status c.stopped-in-Err-read_from.result.status c.stopped-in-Err-read_from.result.due before _ kernel
-    c.stopped-in-Err-read_from.ensures.told c.stopped-in-Err-read_from.ensures.due
+    c.stopped-in-Err-read_from.ensures.status_is c.stopped-in-Err-read_from.ensures.due
     (choices_stop Loads (λ b p. p) code c.args.file.now from c.args.options.turns record_file before kernel f.0 (g.F.Files.contents c.fetch.new.files)
     (g.F.Files.contents c.read_from.new.files) f.1 c.in-Ok.ensures.unchanged c.in-Err-read_from.ensures.unchanged
     c.in-Err-read_from.status refl c.in-Err-read_from.ensures.reads)
@@ -52,7 +52,7 @@ returns-in-Err-load_code-clause-came g c =
     let o : Options = options_of c.args.options in
     let f = c.in-Ok.ensures.fetched in
     code_came c.args.file.now o c.in-Err-load_code.status c.stopped-in-Err-load_code.result.status c.stopped-in-Err-load_code.result.due before _ kernel
-    c.stopped-in-Err-load_code.ensures.told c.stopped-in-Err-load_code.ensures.due
+    c.stopped-in-Err-load_code.ensures.status_is c.stopped-in-Err-load_code.ensures.due
     (code_stops c.args.file.now from c.args.options.turns record_file before kernel f.0 c.deref.result.now (c.deref.ensures.value ∙ f.2)
     (g.F.Files.contents c.fetch.new.files) (g.F.Files.contents c.read_from.new.files) c.in-Ok-read_from.choices.source f.1
     c.in-Ok-read_from.ensures.reads.1 c.in-Ok.ensures.unchanged c.in-Ok-read_from.ensures.unchanged
@@ -79,18 +79,18 @@ returns-clause-came g c =
 pub returns-in-Err-clause-fits : goal.returns-in-Err-clause-fits
 returns-in-Err-clause-fits g c =
     let o : Outside = files_only (still_told (g.F.Files.contents c.args.files.now) (g.F.Files.contents c.fetch.new.files)) in
-    subst (λ s. FitsCount s (g.D.Drive.count c.args.drive.now)) (sym c.stopped.ensures.told)
+    subst (λ s. FitsCount s (g.D.Drive.count c.args.drive.now)) (sym c.stopped.ensures.status_is)
     (fetch_fits (λ (v : Vec ℕ Global). v.items) o c.args.file.now 8388641 c.in-Err.status _ c.in-Err.ensures.fetched)
 
 pub returns-in-Err-read_from-clause-fits : goal.returns-in-Err-read_from-clause-fits
 returns-in-Err-read_from-clause-fits g c =
     let o : Outside = files_only (still_told (g.F.Files.contents c.fetch.new.files) (g.F.Files.contents c.read_from.new.files)) in
-    subst (λ s. FitsCount s (g.D.Drive.count c.args.drive.now)) (sym c.stopped-in-Err-read_from.ensures.told)
+    subst (λ s. FitsCount s (g.D.Drive.count c.args.drive.now)) (sym c.stopped-in-Err-read_from.ensures.status_is)
     (choices_fit o (choices_from c.args.options.choices) c.in-Err-read_from.status _ c.in-Err-read_from.ensures.reads)
 
 pub returns-in-Err-load_code-clause-fits : goal.returns-in-Err-load_code-clause-fits
 returns-in-Err-load_code-clause-fits g c =
-    subst (λ s. FitsCount s (g.D.Drive.count c.args.drive.now)) (sym c.stopped-in-Err-load_code.ensures.told)
+    subst (λ s. FitsCount s (g.D.Drive.count c.args.drive.now)) (sym c.stopped-in-Err-load_code.ensures.status_is)
     (load_fits _ c.in-Err-load_code.status _ c.in-Err-load_code.ensures.loads)
 
 pub returns-clause-fits : goal.returns-clause-fits

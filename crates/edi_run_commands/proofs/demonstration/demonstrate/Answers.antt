@@ -20,7 +20,7 @@ returns-in-Err-clause-came g c =
     let taken : Option (List ℕ) = g.T.Sink.taken c.args.terminal.now in
     let printed : Option (List ℕ) = g.P.Sink.taken c.args.printer.now in
     let kernel : KernelLeft = kernel_of c.args.kernel.now.store c.args.kernel.now.used in
-    came_so c.args.n o c.in-Err.status c.stopped.result.status c.stopped.result.due old mid taken printed (idle kernel) c.stopped.ensures.told
+    came_so c.args.n o c.in-Err.status c.stopped.result.status c.stopped.result.due old mid taken printed (idle kernel) c.stopped.ensures.status_is
     c.stopped.ensures.due (unread c.args.n o old mid c.in-Err.ensures.unchanged taken printed kernel c.in-Err.status c.in-Err.ensures.reads)
 
 pub returns-in-Err-demo_code-clause-came : goal.returns-in-Err-demo_code-clause-came
@@ -32,7 +32,7 @@ returns-in-Err-demo_code-clause-came g c =
     let printed : Option (List ℕ) = g.P.Sink.taken c.args.printer.now in
     let kernel : KernelLeft = kernel_of c.args.kernel.now.store c.args.kernel.now.used in
     came_so c.args.n o status.NoMemory c.stopped-in-Err-demo_code.result.status c.stopped-in-Err-demo_code.result.due old mid taken printed
-    (idle kernel) (c.stopped-in-Err-demo_code.ensures.told ∙ c.in-Err-demo_code.ensures.made) c.stopped-in-Err-demo_code.ensures.due
+    (idle kernel) (c.stopped-in-Err-demo_code.ensures.status_is ∙ c.in-Err-demo_code.ensures.made) c.stopped-in-Err-demo_code.ensures.due
     (uncoded c.args.n o old mid c.in-Ok.ensures.unchanged taken printed kernel)
 
 pub returns-then-not-is_ok-clause-came : goal.returns-then-not-is_ok-clause-came

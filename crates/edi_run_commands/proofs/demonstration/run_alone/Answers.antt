@@ -9,13 +9,13 @@ pub returns-in_default-clause-ran : goal.returns-in_default-clause-ran
 returns-in_default-clause-ran g c =
     alone_wants c.args.code.now c.args.turns c.args.choices.now.source (option_map (λ name. name.now) c.args.record_file) c.stopped.result.status
     c.stopped.result.due (g.F.Files.contents c.args.files.now) (g.T.Sink.taken c.args.terminal.now) (g.P.Sink.taken c.args.printer.now)
-    (kernel_of c.args.kernel.now.store c.args.kernel.now.used) c.stopped.ensures.told c.stopped.ensures.due
+    (kernel_of c.args.kernel.now.store c.args.kernel.now.used) c.stopped.ensures.status_is c.stopped.ensures.due
 
 pub returns-in_default-new-clause-ran : goal.returns-in_default-new-clause-ran
 returns-in_default-new-clause-ran g c =
     alone_wants c.args.code.now c.args.turns c.args.choices.now.source (option_map (λ name. name.now) c.args.record_file)
     c.stopped-in_default-new.result.status c.stopped-in_default-new.result.due (g.F.Files.contents c.args.files.now) (g.T.Sink.taken c.args.terminal.now)
-    (g.P.Sink.taken c.args.printer.now) (kernel_of c.args.kernel.now.store c.args.kernel.now.used) c.stopped-in_default-new.ensures.told
+    (g.P.Sink.taken c.args.printer.now) (kernel_of c.args.kernel.now.store c.args.kernel.now.used) c.stopped-in_default-new.ensures.status_is
     c.stopped-in_default-new.ensures.due
 
 pub returns-clause-ran : goal.returns-clause-ran
@@ -27,10 +27,10 @@ returns-clause-ran g c =
     c.in-Ok.disk c.run_code.new.drive c.in-Ok-new.input c.run_code.new.input c.in-Ok.ensures.made c.in-Ok-new.ensures.left c.run_code.ensures.ran
 
 pub returns-in_default-clause-asked : goal.returns-in_default-clause-asked
-returns-in_default-clause-asked g c = ap is_before_drive c.stopped.ensures.told
+returns-in_default-clause-asked g c = ap is_before_drive c.stopped.ensures.status_is
 
 pub returns-in_default-new-clause-asked : goal.returns-in_default-new-clause-asked
-returns-in_default-new-clause-asked g c = ap is_before_drive c.stopped-in_default-new.ensures.told
+returns-in_default-new-clause-asked g c = ap is_before_drive c.stopped-in_default-new.ensures.status_is
 
 pub returns-clause-asked : goal.returns-clause-asked
 returns-clause-asked g c = c.run_code.ensures.asked.behind_steps

@@ -38,7 +38,7 @@ returns-clause-no_terminal g c = λ ok silent.
 
 pub returns-clause-untouched : goal.returns-clause-untouched
 returns-clause-untouched g c =
-    untouched_closed (built (command_of (map string_bytes c.args.words.now))) c.obey-ended.result.status c.show_status.result _ _ _ _ _ _ _ _ _ _
+    untouched_closed (built (command_of (map string_bytes c.args.words.now))) c.obey-ended.result.status c.show_status.result _ _ _ _ _ _ _ _
     (elim c.show_status.ensures.exact [
       | inl same ↦ inl same.0
       | inr fault ↦ inr fault.0

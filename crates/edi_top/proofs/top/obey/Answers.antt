@@ -20,7 +20,7 @@ pub returns-in-Err-clause-size : goal.returns-in-Err-clause-size
 returns-in-Err-clause-size g c = counts_unread _ c.silent-in-Err.result.status _ _ c.silent-in-Err.ensures.status
 
 pub returns-in-Ok-None-clause-untouched : goal.returns-in-Ok-None-clause-untouched
-returns-in-Ok-None-clause-untouched g c = none_touched _ _ _ _ _ _ _
+returns-in-Ok-None-clause-untouched g c = none_touched _ _ _
 
 pub returns-in-Err-clause-untouched : goal.returns-in-Err-clause-untouched
-returns-in-Err-clause-untouched g c = none_touched _ _ _ _ _ _ _
+returns-in-Err-clause-untouched g c = none_touched _ _ _

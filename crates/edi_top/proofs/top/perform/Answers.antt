@@ -1,4 +1,4 @@
-use Rattle.std.proofs.Common.{false, Some, option_map, refl, rules, sym, true≢false}
+use Rattle.std.proofs.Common.{false, option_map, refl, rules, sym, true≢false}
 use Rattle.edi_words.specs.Words as words
 use Rattle.edi_words.specs.View.{options_of}
 use Rattle.edi_words.specs.declared.commands.Command.TheVariants as command
@@ -6,13 +6,12 @@ use Rattle.edi_statuses.specs.Outside.{kernel_of}
 use Rattle.edi_statuses.proofs.EachLeft.{none_touched, same_valid, untouched, untouched_alone, untouched_drive}
 use Rattle.edi_statuses.proofs.Silent.{on_files, refused}
 use Rattle.edi_statuses.proofs.Told.{told_so}
-use Rattle.edi_top.proofs.Obeyed.{counts_of_none, counts_so, not_built, obeyed, obeyed_demo, obeyed_so, on_disk, untouched_so}
+use Rattle.edi_top.proofs.Obeyed.{counts_of_none, counts_so, not_built, obeyed, obeyed_demo, obeyed_replay, obeyed_so, on_disk, untouched_so}
 use Rattle.edi_top.proofs.top.perform.Goals as goal
 
 pub returns-in-Compile-clause-came : goal.returns-in-Compile-clause-came
 returns-in-Compile-clause-came g c =
-    obeyed c.args.command (command.Compile c.in-Compile.file c.in-Compile.out) c.compile_file.result c.silent.result.status c.silent.result.due _ _ _
-    c.in-Compile.is c.silent.ensures.status c.silent.ensures.due
+    obeyed c.args.command (command.Compile c.in-Compile.file c.in-Compile.out) c.compile_file.result c.silent.result.status c.silent.result.due _ _ _ c.in-Compile.is c.silent.ensures.status c.silent.ensures.due
     (on_files (words.compile c.in-Compile.file.now c.in-Compile.out.now) c.compile_file.result false _ _ _ refl c.compile_file.ensures.means)
 
 pub returns-in-NewDisk-clause-came : goal.returns-in-NewDisk-clause-came
@@ -24,19 +23,16 @@ returns-in-NewDisk-clause-came g c =
 
 pub returns-in-NewDisk-clause-size : goal.returns-in-NewDisk-clause-size
 returns-in-NewDisk-clause-size g c =
-    counts_so c.args.command (command.NewDisk c.in-NewDisk.blocks c.in-NewDisk.old) c.new_by.result c.silent-in-NewDisk.result.status _ _ _ _
-    c.in-NewDisk.is c.silent-in-NewDisk.ensures.status c.new_by.ensures.size
+    counts_so c.args.command (command.NewDisk c.in-NewDisk.blocks c.in-NewDisk.old) c.new_by.result c.silent-in-NewDisk.result.status _ _ _ _ c.in-NewDisk.is c.silent-in-NewDisk.ensures.status c.new_by.ensures.size
 
 pub returns-in-Put-clause-came : goal.returns-in-Put-clause-came
 returns-in-Put-clause-came g c =
-    obeyed c.args.command (command.Put c.in-Put.file c.in-Put.title) c.put.result c.silent-in-Put.result.status c.silent-in-Put.result.due _ _ _
-    c.in-Put.is c.silent-in-Put.ensures.status c.silent-in-Put.ensures.due
+    obeyed c.args.command (command.Put c.in-Put.file c.in-Put.title) c.put.result c.silent-in-Put.result.status c.silent-in-Put.result.due _ _ _ c.in-Put.is c.silent-in-Put.ensures.status c.silent-in-Put.ensures.due
     (on_disk (words.put c.in-Put.file.now c.in-Put.title.now) c.put.result _ _ _ _ c.put.ensures.means (λ stays. c.put.ensures.valid))
 
 pub returns-in-Get-clause-came : goal.returns-in-Get-clause-came
 returns-in-Get-clause-came g c =
-    obeyed c.args.command (command.Get c.in-Get.title c.in-Get.file) c.get.result c.silent-in-Get.result.status c.silent-in-Get.result.due _ _ _
-    c.in-Get.is c.silent-in-Get.ensures.status c.silent-in-Get.ensures.due
+    obeyed c.args.command (command.Get c.in-Get.title c.in-Get.file) c.get.result c.silent-in-Get.result.status c.silent-in-Get.result.due _ _ _ c.in-Get.is c.silent-in-Get.ensures.status c.silent-in-Get.ensures.due
     (on_disk (words.get c.in-Get.title.now c.in-Get.file.now) c.get.result _ _ _ _ c.get.ensures.means
     (λ stays. told_so _ _ _ _ same_valid c.get.ensures.same))
 
@@ -68,7 +64,7 @@ returns-in_default g c =
       cause = search rules;
       later = search rules;
       size = counts_of_none _ c.silent-in_default.result.status _ _ none;
-      untouched = none_touched _ _ _ _ _ _ _;
+      untouched = none_touched _ _ _;
       no_terminal = λ e. refl;
     }
 
@@ -79,25 +75,26 @@ returns-in-Run-clause-size g c =
 
 pub returns-in-Run-clause-untouched : goal.returns-in-Run-clause-untouched
 returns-in-Run-clause-untouched g c =
-    untouched_so c.args.command (command.Run c.in-Run.file c.in-Run.options) c.run.result.status c.run.result.status
-    _ _ _ _ _ _ _ _ _ _ c.in-Run.is refl
-    (untouched (words.run c.in-Run.file.now (options_of c.in-Run.options)) c.run.result.status
-    _ _ _ _ _ _ _ _ _ _ _ _ refl refl refl (λ e. e) (λ none. absurd (true≢false none))
-    c.run.ensures.early)
+    untouched_so c.args.command (command.Run c.in-Run.file c.in-Run.options) c.run.result.status c.run.result.status _ _ c.in-Run.is refl
+    (untouched _ _ (words.run c.in-Run.file.now (options_of c.in-Run.options)) c.run.result.status refl refl refl (λ e. e)
+    (λ none. absurd (true≢false none)) c.run.ensures.early)
+
+pub returns-in-Replay-clause-came : goal.returns-in-Replay-clause-came
+returns-in-Replay-clause-came g c =
+    obeyed_replay c.args.command c.in-Replay.file c.in-Replay.choices c.in-Replay.turns c.replaying.result c.run-in-Replay.result.status
+    c.run-in-Replay.result.due _ _ _ c.in-Replay.is c.replaying.ensures.exact c.run-in-Replay.ensures.came
 
 pub returns-in-Replay-clause-size : goal.returns-in-Replay-clause-size
 returns-in-Replay-clause-size g c =
-    counts_so c.args.command (command.Replay c.in-Replay.file c.in-Replay.choices c.in-Replay.turns) c.replay.result.status c.replay.result.status _ _ _ _
-    c.in-Replay.is refl
-    (c.replay.ensures.size, c.replay.ensures.fits)
+    counts_so c.args.command (command.Replay c.in-Replay.file c.in-Replay.choices c.in-Replay.turns) c.run-in-Replay.result.status c.run-in-Replay.result.status _ _ _ _ c.in-Replay.is refl
+    (c.run-in-Replay.ensures.size, c.run-in-Replay.ensures.fits)
 
 pub returns-in-Replay-clause-untouched : goal.returns-in-Replay-clause-untouched
 returns-in-Replay-clause-untouched g c =
-    untouched_so c.args.command (command.Replay c.in-Replay.file c.in-Replay.choices c.in-Replay.turns) c.replay.result.status c.replay.result.status
-    _ _ _ _ _ _ _ _ _ _ c.in-Replay.is refl
-    (untouched (words.replay c.in-Replay.file.now c.in-Replay.choices.now c.in-Replay.turns) c.replay.result.status
-    _ _ _ _ _ _ _ _ _ _ _ _ refl refl refl (λ e. e) (λ none. absurd (true≢false none))
-    c.replay.ensures.early)
+    untouched_so c.args.command (command.Replay c.in-Replay.file c.in-Replay.choices c.in-Replay.turns) c.run-in-Replay.result.status c.run-in-Replay.result.status
+    _ _ c.in-Replay.is refl
+    (untouched _ _ (words.replay c.in-Replay.file.now c.in-Replay.choices.now c.in-Replay.turns) c.run-in-Replay.result.status refl refl refl (λ e. e)
+    (λ none. absurd (true≢false none)) c.run-in-Replay.ensures.early)
 
 pub returns-in-Exec-clause-size : goal.returns-in-Exec-clause-size
 returns-in-Exec-clause-size g c =
@@ -106,11 +103,9 @@ returns-in-Exec-clause-size g c =
 
 pub returns-in-Exec-clause-untouched : goal.returns-in-Exec-clause-untouched
 returns-in-Exec-clause-untouched g c =
-    untouched_so c.args.command (command.Exec c.in-Exec.file c.in-Exec.options) c.exec.result.status c.exec.result.status
-    _ _ _ _ _ _ _ _ _ _ c.in-Exec.is refl
-    (untouched (words.exec c.in-Exec.file.now (options_of c.in-Exec.options)) c.exec.result.status
-    _ _ _ _ _ _ _ _ _ _ _ _ refl refl refl (λ e. e) (λ none. absurd (true≢false none))
-    c.exec.ensures.early)
+    untouched_so c.args.command (command.Exec c.in-Exec.file c.in-Exec.options) c.exec.result.status c.exec.result.status _ _ c.in-Exec.is refl
+    (untouched _ _ (words.exec c.in-Exec.file.now (options_of c.in-Exec.options)) c.exec.result.status refl refl refl (λ e. e)
+    (λ none. absurd (true≢false none)) c.exec.ensures.early)
 
 pub returns-in-Boot-clause-size : goal.returns-in-Boot-clause-size
 returns-in-Boot-clause-size g c =
@@ -119,31 +114,28 @@ returns-in-Boot-clause-size g c =
 
 pub returns-in-Boot-clause-untouched : goal.returns-in-Boot-clause-untouched
 returns-in-Boot-clause-untouched g c =
-    untouched_so c.args.command (command.Boot c.in-Boot.options) c.boot.result.status c.boot.result.status
-    _ _ _ _ _ _ _ _ _ _ c.in-Boot.is refl
-    (untouched (words.boot (options_of c.in-Boot.options)) c.boot.result.status
-    _ _ _ _ _ _ _ _ _ _ _ _ refl refl refl (λ e. e) c.boot.ensures.no_files
-    c.boot.ensures.early)
+    untouched_so c.args.command (command.Boot c.in-Boot.options) c.boot.result.status c.boot.result.status _ _ c.in-Boot.is refl
+    (untouched _ _ (words.boot (options_of c.in-Boot.options)) c.boot.result.status refl refl refl (λ e. e)
+    c.boot.ensures.no_files c.boot.ensures.early)
 
 pub returns-in-Compile-clause-untouched : goal.returns-in-Compile-clause-untouched
 returns-in-Compile-clause-untouched g c =
-    untouched_so c.args.command (command.Compile c.in-Compile.file c.in-Compile.out) c.silent.result.status c.silent.result.status _ _ _ _ _ _ _ _ _ _
-    c.in-Compile.is refl
+    untouched_so c.args.command (command.Compile c.in-Compile.file c.in-Compile.out) c.silent.result.status c.silent.result.status _ _ c.in-Compile.is refl
     (record { files = λ none. absurd (true≢false none); drive = λ e. refl; input = λ e. refl; printer = λ e. refl; kernel = λ e. refl })
 
 pub returns-in-NewDisk-clause-untouched : goal.returns-in-NewDisk-clause-untouched
 returns-in-NewDisk-clause-untouched g c =
     untouched_so c.args.command (command.NewDisk c.in-NewDisk.blocks c.in-NewDisk.old) c.new_by.result c.silent-in-NewDisk.result.status
-    _ _ _ _ _ _ _ _ _ _ c.in-NewDisk.is c.silent-in-NewDisk.ensures.status
-    (untouched_drive (words.newdisk c.in-NewDisk.blocks (option_map (λ name. name.now) c.in-NewDisk.old)) c.new_by.result _ _ _ _ _ _ _ refl
-    c.new_by.ensures.no_files c.new_by.ensures.early)
+    _ _ c.in-NewDisk.is c.silent-in-NewDisk.ensures.status
+    (untouched_drive _ _ (words.newdisk c.in-NewDisk.blocks (option_map (λ name. name.now) c.in-NewDisk.old)) c.new_by.result refl
+    c.new_by.ensures.no_files c.new_by.ensures.early refl refl refl)
 
 pub returns-in-Put-clause-untouched : goal.returns-in-Put-clause-untouched
 returns-in-Put-clause-untouched g c =
-    untouched_so c.args.command (command.Put c.in-Put.file c.in-Put.title) c.put.result c.silent-in-Put.result.status _ _ _ _ _ _ _ _ _ _
-    c.in-Put.is c.silent-in-Put.ensures.status
-    (untouched_drive (words.put c.in-Put.file.now c.in-Put.title.now) c.put.result _ _ _ _ _ _ _ refl (λ none. absurd (true≢false none))
-    c.put.ensures.early)
+    untouched_so c.args.command (command.Put c.in-Put.file c.in-Put.title) c.put.result c.silent-in-Put.result.status
+    _ _ c.in-Put.is c.silent-in-Put.ensures.status
+    (untouched_drive _ _ (words.put c.in-Put.file.now c.in-Put.title.now) c.put.result refl (λ none. absurd (true≢false none))
+    c.put.ensures.early refl refl refl)
 
 pub returns-in-Put-clause-size : goal.returns-in-Put-clause-size
 returns-in-Put-clause-size g c =
@@ -152,10 +144,10 @@ returns-in-Put-clause-size g c =
 
 pub returns-in-Get-clause-untouched : goal.returns-in-Get-clause-untouched
 returns-in-Get-clause-untouched g c =
-    untouched_so c.args.command (command.Get c.in-Get.title c.in-Get.file) c.get.result c.silent-in-Get.result.status _ _ _ _ _ _ _ _ _ _
-    c.in-Get.is c.silent-in-Get.ensures.status
-    (untouched_drive (words.get c.in-Get.title.now c.in-Get.file.now) c.get.result _ _ _ _ _ _ _ refl (λ none. absurd (true≢false none))
-    (λ never. absurd (true≢false (sym never))))
+    untouched_so c.args.command (command.Get c.in-Get.title c.in-Get.file) c.get.result c.silent-in-Get.result.status
+    _ _ c.in-Get.is c.silent-in-Get.ensures.status
+    (untouched_drive _ _ (words.get c.in-Get.title.now c.in-Get.file.now) c.get.result refl (λ none. absurd (true≢false none))
+    (λ never. absurd (true≢false (sym never))) refl refl refl)
 
 pub returns-in-Get-clause-size : goal.returns-in-Get-clause-size
 returns-in-Get-clause-size g c =
@@ -164,15 +156,14 @@ returns-in-Get-clause-size g c =
 
 pub returns-in-List-clause-untouched : goal.returns-in-List-clause-untouched
 returns-in-List-clause-untouched g c =
-    untouched_so c.args.command (command.List c.in-List.file) c.list.result.status c.list.result.status _ _ _ _ _ _ _ _ _ _ c.in-List.is refl
+    untouched_so c.args.command (command.List c.in-List.file) c.list.result.status c.list.result.status _ _ c.in-List.is refl
     (record { files = λ none. absurd (true≢false none); drive = λ e. refl; input = λ e. refl; printer = λ e. refl; kernel = λ e. refl })
 
 pub returns-in-Demo-clause-untouched : goal.returns-in-Demo-clause-untouched
 returns-in-Demo-clause-untouched g c =
-    untouched_so c.args.command (command.Demo c.in-Demo.n c.in-Demo.options) c.demonstrate.result.status c.demonstrate.result.status _ _ _ _ _ _ _ _ _ _
-    c.in-Demo.is refl
-    (untouched_alone (words.demo c.in-Demo.n (options_of c.in-Demo.options)) c.demonstrate.result.status _ _ _ _ _ _ _ _ _ _ refl (λ e. e)
-    c.demonstrate.ensures.no_files
+    untouched_so c.args.command (command.Demo c.in-Demo.n c.in-Demo.options) c.demonstrate.result.status c.demonstrate.result.status _ _ c.in-Demo.is refl
+    (untouched_alone _ _ (words.demo c.in-Demo.n (options_of c.in-Demo.options)) c.demonstrate.result.status refl (λ e. e)
+    c.demonstrate.ensures.no_files refl refl
     (λ early.
     let none = c.demonstrate.ensures.early early in
     record { drive = refl; input = refl; terminal = none.0; printer = none.1; kernel = none.2 }))
