@@ -1,6 +1,6 @@
 -- Words of contracts. What each of a program's ten calls leaves, of each object by its own contents: which objects it uses, the found
 -- file, the buffer, what is kept of the catalogue, and the blocks of the drive and their number.
-use Rattle.std.specs.Prelude.{◌≡◌, ◌↔◌, ℕ, zero, suc, not, List, [], ◌∷◌, slice_index, Option, None, Some, is_some, IfOk, IfSome, Result, Ok, Err, ⊤}
+use Rattle.std.specs.Prelude.{◌≡◌, ◌↔◌, ◌⊎◌, ◌<◌, ℕ, zero, suc, not, List, [], ◌∷◌, slice_index, Option, None, Some, is_some, IfErr, IfOk, IfSome, Result, Ok, Err, ⊤}
 use Rattle.edi_told.specs.Told.{WhereTold}
 use Rattle.edi_calls.specs.Calls.{word_of}
 use Rattle.edi_calls.specs.State.{character, title_of}
@@ -23,19 +23,34 @@ AcceptsByte (Ok (Some word)) [] new = (word ≡ 25) × (new ≡ [])
 AcceptsByte (Ok (Some word)) (byte ∷ rest) new = (word ≡ character byte) × (new ≡ rest)
 AcceptsByte (Err why) old new = new ≡ old
 
+-- the answer of a call that asks for a character, and of one that has no answer word: there is no refusal
+abbrev pub AsksOnly : Result (Option ℕ) Stop → Type 0
+AsksOnly (Ok (Some word)) = word < 128
+AsksOnly (Err stop.Fault) = ⊤
+AsksOnly other = ⊥
+
+abbrev pub TellsOnly : Result (Option ℕ) Stop → Type 0
+TellsOnly (Ok None) = ⊤
+TellsOnly (Err stop.Fault) = ⊤
+TellsOnly other = ⊥
+
+-- the one refusal is that there is no found file
+abbrev pub MayLackFile : {X : Type 0} → Result X Stop → Type 0
+MayLackFile result = IfErr result (λ why. (why ≡ stop.NoFile) ⊎ (why ≡ stop.Fault))
+
 module _ {D S T P : Type 0} where
   abbrev pub DoesAccept : (S → Option (List ℕ)) → Result (Option ℕ) Stop → (before after : System D S T P) → Type 0
   DoesAccept left result before after =
-      OnlyInput before after × WhereTold (left (input_in before)) (left (input_in after)) (AcceptsByte result)
+      OnlyInput before after × AsksOnly result × WhereTold (left (input_in before)) (left (input_in after)) (AcceptsByte result)
 
   -- the character of a word was shown, or a fault says that it was not
   abbrev pub DoesDisplay : (T → Option (List ℕ)) → ℕ → Result (Option ℕ) Stop → (before after : System D S T P) → Type 0
   DoesDisplay shown word result before after =
-      OnlyTerminal before after × Shows shown (not (is_fault result)) (character word ∷ []) before after
+      OnlyTerminal before after × TellsOnly result × Shows shown (not (is_fault result)) (character word ∷ []) before after
 
   abbrev pub DoesPrint : (P → Option (List ℕ)) → ℕ → Result (Option ℕ) Stop → (before after : System D S T P) → Type 0
   DoesPrint printed word result before after =
-      OnlyPrinter before after × Prints printed (not (is_fault result)) (character word ∷ []) before after
+      OnlyPrinter before after × TellsOnly result × Prints printed (not (is_fault result)) (character word ∷ []) before after
 
   -- the found file is the text whose title the words spell, if there is one
   abbrev pub DoesFind : (words : List ℕ) → Result (Option ℕ) Stop → (before after : System D S T P) → Type 0
@@ -47,7 +62,7 @@ module _ {D S T P : Type 0} where
   abbrev pub NeedsFile : (D → Option (List (List ℕ))) → (D → ℕ) → Result (Option ℕ) Stop → (before after : System D S T P) → Type 0
   NeedsFile contents count result before after =
       OnlyReading before after × CatalogRests contents count (catalog_in before) (catalog_in after)
-      × ((result ≡ Err stop.NoFile) ↔ (before.found ≡ None))
+      × ((result ≡ Err stop.NoFile) ↔ (before.found ≡ None)) × MayLackFile result
 
   abbrev pub DoesMore : (D → Option (List (List ℕ))) → (D → ℕ) → Result (Option ℕ) Stop → (before after : System D S T P) → Type 0
   DoesMore contents count result before after =

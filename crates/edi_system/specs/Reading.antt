@@ -1,5 +1,5 @@
 -- Words of contracts. Reading a text of the catalogue.
-use Rattle.std.specs.Prelude.{◌≡◌, ℕ, ◌≤◌, ◌+◌, Bool, true, false, nat_lt, ◌==◌, if◌then◌else◌, List, slice_get, Option, Some, None, Result, Ok, Err, ⊤}
+use Rattle.std.specs.Prelude.{◌≡◌, ℕ, ◌≤◌, ◌<◌, ◌+◌, Bool, true, false, nat_lt, ◌==◌, if◌then◌else◌, List, slice_get, Option, Some, None, Result, Ok, Err, ⊤}
 use Rattle.std.specs.Option.{option_map, option_and_then}
 use Rattle.std.specs.Str.{bytes_eq}
 use Rattle.edi_told.specs.Faults.{CountRose}
@@ -92,7 +92,7 @@ MoreIs (Some word) (Some reading) (Some next) =
 
 -- the position is one further, or at the end the same, and then the word is that of the end
 abbrev pub GoesOn : Bool → ℕ → (before after : Reading) → Type 0
-GoesOn true word before after = after ≡ record before { position = before.position + 1; kept = after.kept }
+GoesOn true word before after = (after ≡ record before { position = before.position + 1; kept = after.kept }) × (word < 128)
 GoesOn false word before after = (after ≡ record before { kept = after.kept }) × (word ≡ 25)
 
 abbrev pub ReadsOn : Option ℕ → (before after : Option Reading) → Type 0

@@ -6,6 +6,7 @@ ghost use Rattle.edi_calls.specs.Calls.{find, more, read, word_of};
 ghost use Rattle.edi_catalog.specs.Mounted.{files_of};
 ghost use Rattle.edi_system.specs.State.{catalog_in, drive_in, state_of, IsReady};
 ghost use Rattle.edi_system.specs.Catalogue.{OnlyReading};
+ghost use Rattle.edi_system.specs.Does.{MayLackFile};
 ghost use Rattle.edi_system.specs.Ends.{is_fault, Keeps, Reaches};
 ghost use Rattle.edi_system.specs.AsCalls.{KeepsDue};
 ghost use Rattle.edi_system.specs.Parts.{KeepsTold, OnlyOpenFiles};
@@ -46,6 +47,7 @@ impl<D: Drive, S: Source, T: Sink, P: Sink> System<'_, '_, '_, '_, '_, '_, D, S,
         ensures exact { WhereTold (state_of D.contents S.left T.taken P.taken self.old) (state_of D.contents S.left T.taken P.taken self.new)
             (λ before after. LooksAt result before.found before after) }
         ensures no_file { (result ≡ Err Stop.NoFile) ↔ (self.old.found ≡ None) }
+        ensures refusals { MayLackFile result }
         ensures looks { IfOk result (λ byte. LooksIn (is_some byte) self.old.found self.new.found) }
         ensures only { OnlyReading self.old self.new }
         ensures rests { CatalogRests D.contents D.count (catalog_in self.old) (catalog_in self.new) }
@@ -77,6 +79,7 @@ impl<D: Drive, S: Source, T: Sink, P: Sink> System<'_, '_, '_, '_, '_, '_, D, S,
         ensures exact { WhereTold (state_of D.contents S.left T.taken P.taken self.old) (state_of D.contents S.left T.taken P.taken self.new)
             (λ before after. Reaches (more before) result before after) }
         ensures no_file { (result ≡ Err Stop.NoFile) ↔ (self.old.found ≡ None) }
+        ensures refusals { MayLackFile result }
         ensures tells { IfOk result (λ word. MoreIs word self.old.found self.new.found) }
         ensures only { OnlyReading self.old self.new }
         ensures rests { CatalogRests D.contents D.count (catalog_in self.old) (catalog_in self.new) }
@@ -99,6 +102,7 @@ impl<D: Drive, S: Source, T: Sink, P: Sink> System<'_, '_, '_, '_, '_, '_, D, S,
         ensures exact { WhereTold (state_of D.contents S.left T.taken P.taken self.old) (state_of D.contents S.left T.taken P.taken self.new)
             (λ before after. Reaches (read before) result before after) }
         ensures no_file { (result ≡ Err Stop.NoFile) ↔ (self.old.found ≡ None) }
+        ensures refusals { MayLackFile result }
         ensures moves { IfOk result (λ word. ReadsOn word self.old.found self.new.found) }
         ensures only { OnlyReading self.old self.new }
         ensures rests { CatalogRests D.contents D.count (catalog_in self.old) (catalog_in self.new) }

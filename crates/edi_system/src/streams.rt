@@ -7,7 +7,7 @@ ghost use Rattle.edi_calls.specs.Calls.{accept, display, print, word_of};
 ghost use Rattle.edi_system.specs.State.{drive_in, due_in, failed_in, input_in, state_of, IsReady};
 ghost use Rattle.edi_system.specs.Ends.{is_fault, Keeps, Reaches};
 ghost use Rattle.edi_system.specs.AsCalls.{KeepsDue};
-ghost use Rattle.edi_system.specs.Does.{AcceptsByte};
+ghost use Rattle.edi_system.specs.Does.{AcceptsByte, AsksOnly, TellsOnly};
 ghost use Rattle.edi_system.specs.Parts.{due_after, line_end, KeepsTold, OnlyInput, OnlyPrinter, OnlyTerminal, Prints, PrintsMore, Shows, ShowsMore, TakesByte};
 
 use crate::ends::Stop;
@@ -120,6 +120,7 @@ impl<D: Drive, S: Source, T: Sink, P: Sink> System<'_, '_, '_, '_, '_, '_, D, S,
     pub fn fresh_line(&mut self) -> bool
         requires ready { IsReady D.contents D.count self.old }
         ensures shows { Shows T.taken result (line_end (due_in self.old)) self.old self.new }
+        ensures quiet { due_in self.old ≡ false → (result ≡ true) × (self.new ≡ self.old) }
         ensures exact { WhereTold (state_of D.contents S.left T.taken P.taken self.old) (state_of D.contents S.left T.taken P.taken self.new)
             (ShowsMore result (line_end (due_in self.old))) }
         ensures only { OnlyTerminal self.old self.new }
@@ -141,6 +142,7 @@ impl<D: Drive, S: Source, T: Sink, P: Sink> System<'_, '_, '_, '_, '_, '_, D, S,
         requires ready { IsReady D.contents D.count self.old }
         ensures exact { WhereTold (state_of D.contents S.left T.taken P.taken self.old) (state_of D.contents S.left T.taken P.taken self.new)
             (λ before after. Reaches (accept before) result before after) }
+        ensures asks { AsksOnly result }
         ensures accepts { WhereTold (S.left (input_in self.old)) (S.left (input_in self.new)) (AcceptsByte result) }
         ensures only { OnlyInput self.old self.new }
         ensures untouched { result ≡ Err Stop.NoFile → self.new ≡ self.old }
@@ -162,6 +164,7 @@ impl<D: Drive, S: Source, T: Sink, P: Sink> System<'_, '_, '_, '_, '_, '_, D, S,
         requires ready { IsReady D.contents D.count self.old }
         ensures exact { WhereTold (state_of D.contents S.left T.taken P.taken self.old) (state_of D.contents S.left T.taken P.taken self.new)
             (λ before after. Reaches (display word before) result before after) }
+        ensures tells { TellsOnly result }
         ensures shows { Shows T.taken (not (is_fault result)) (word % 128 ∷ []) self.old self.new }
         ensures only { OnlyTerminal self.old self.new }
         ensures untouched { result ≡ Err Stop.NoFile → self.new ≡ self.old }
@@ -183,6 +186,7 @@ impl<D: Drive, S: Source, T: Sink, P: Sink> System<'_, '_, '_, '_, '_, '_, D, S,
         requires ready { IsReady D.contents D.count self.old }
         ensures exact { WhereTold (state_of D.contents S.left T.taken P.taken self.old) (state_of D.contents S.left T.taken P.taken self.new)
             (λ before after. Reaches (print word before) result before after) }
+        ensures tells { TellsOnly result }
         ensures prints { Prints P.taken (not (is_fault result)) (word % 128 ∷ []) self.old self.new }
         ensures only { OnlyPrinter self.old self.new }
         ensures untouched { result ≡ Err Stop.NoFile → self.new ≡ self.old }
