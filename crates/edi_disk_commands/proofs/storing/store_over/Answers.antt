@@ -15,7 +15,7 @@ use Rattle.edi_disk_commands.proofs.storing.store_over.Goals as goal
 
 pub returns-then-stands-clause-leaves : goal.returns-then-stands-clause-leaves
 returns-then-stands-clause-leaves g c =
-    let kind = c.kind_of-kind.result in
+    let kind = c.kind_of_bytes-kind.result in
     let title = c.args.title.now in
     let bytes = c.args.bytes.now in
     let r = c.store-answer.result in
@@ -25,7 +25,7 @@ returns-then-stands-clause-leaves g c =
     (g.met.D.Drive.counted (drive_of (disk_of c.store-answer.new.self)))
     c.store-answer.ensures.changes.count_stays _ stores in
     told_both _ _ _ _ (StoresOver r title bytes)
-    (λ x y n s. stored_over title kind bytes c.requires.most c.kind_of-kind.ensures.exact r x y n
+    (λ x y n s. stored_over title kind bytes c.requires.most c.kind_of_bytes-kind.ensures.exact r x y n
     (other_answer r (sym c.stands.ensures.exact ∙ c.if-stands.true)) s)
     many stores
 
@@ -38,13 +38,13 @@ returns-in-Ok-clause-leaves g c =
     let same : first ≡ c.args.catalog.now = subst (λ r. Untouched r c.args.catalog.now first) is c.store-answer.ensures.changes.untouched in
     let refused = subst (λ r. WhereTold (g.D.Drive.contents (drive_of (disk_of c.args.catalog.now))) (g.D.Drive.contents (drive_of (disk_of first)))
     (λ old new. SlotsAnswer r (no_room title (length bytes) (free_in old) (slots_of old)) (slots_of old)
-    (slots_stored title c.kind_of-kind.result bytes (slots_of old)) (slots_of new)))
+    (slots_stored title c.kind_of_bytes-kind.result bytes (slots_of old)) (slots_of new)))
     is c.store-answer.ensures.exact in
     let here = subst (λ k. WhereTold (g.D.Drive.contents (drive_of (disk_of k))) (g.D.Drive.contents (drive_of (disk_of first)))
     (λ old new. (no_room title (length bytes) (free_in old) (slots_of old) ≡ Some cat.Protected) × (slots_of new ≡ slots_of old))) (sym same) refused in
     subst (λ k. WhereTold (g.D.Drive.contents (drive_of (disk_of k))) (g.D.Drive.contents (drive_of (disk_of c.store.new.self)))
     (StoresOver c.store.result title bytes)) same
-    (released_then title c.kind_of-kind.result bytes c.requires.most c.kind_of-kind.ensures.exact c.store.result
+    (released_then title c.kind_of_bytes-kind.result bytes c.requires.most c.kind_of_bytes-kind.ensures.exact c.store.result
     (g.D.Drive.contents (drive_of (disk_of first))) (g.D.Drive.contents (drive_of (disk_of c.release.new.self)))
     (g.D.Drive.contents (drive_of (disk_of c.store.new.self))) _ _ _
     (g.met.D.Drive.counted (drive_of (disk_of first))) (g.met.D.Drive.counted (drive_of (disk_of c.release.new.self)))
@@ -53,7 +53,7 @@ returns-in-Ok-clause-leaves g c =
     (if_so _ _ (λ blocks. blocks_of (length bytes) ≤ free_in blocks)
     (λ x h. omega (arith, h, c.if-free-wanted.false, c.blocks_of-wanted.ensures.exact)) c.free-free.ensures.in_slots)
     c.in-Ok.ensures.changes.leaves
-    (told_both _ _ _ _ (Stores c.store.result title c.kind_of-kind.result bytes) (λ x y a l. record { answers = a; leaves = l })
+    (told_both _ _ _ _ (Stores c.store.result title c.kind_of_bytes-kind.result bytes) (λ x y a l. record { answers = a; leaves = l })
     c.store.ensures.exact c.store.ensures.changes.leaves))
 
 pub returns-in-Ok-clause-size : goal.returns-in-Ok-clause-size
