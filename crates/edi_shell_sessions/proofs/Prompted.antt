@@ -16,7 +16,8 @@ use Rattle.edi_shell.specs.Taking.{GivesLine, Stops}
 use Rattle.edi_shell.proofs.Standing.{stands_later}
 use Rattle.edi_shell_edit.specs.Chain.{LinesBreakOff, LinesClose, LinesCome}
 use Rattle.edi_shell_sessions.specs.Ends.{Awaits}
-use Rattle.edi_shell_edit.proofs.Chains.{line_keeps, taking_behind}
+use Rattle.edi_shell.proofs.Keeping.{taking_behind}
+use Rattle.edi_shell_edit.proofs.Chains.{line_keeps}
 use Rattle.edi_shell_sessions.proofs.Onward.{breaks_by, comes_by}
 
 -- ---- the first 81 bytes of a line tell its command
