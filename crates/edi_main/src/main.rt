@@ -5,6 +5,7 @@ use edi_host::{HostDrive, HostFiles, HostSink, HostSource};
 use edi_kernel::Kernel;
 use edi_top::{Status, edison};
 use std::env;
+use std::fs::File;
 use std::io::{self, ErrorKind, Input};
 use std::process::ExitCode;
 
@@ -18,6 +19,13 @@ fn words_of(rt: &HostRuntime) -> io::Result<Vec<String>> {
 }
 
 fn main(rt: HostRuntime) -> ExitCode {
+    // The number of a standard stream that the caller has closed is given to the next file that is opened, and what the program
+    // shows would then be written there. So files that can only be read have such numbers to the end.
+    let _closed = [
+        File::open(&rt, "/dev/null"),
+        File::open(&rt, "/dev/null"),
+        File::open(&rt, "/dev/null"),
+    ];
     let mut printer = HostSink::printer(&rt);
     let Ok(words) = words_of(&rt) else {
         return ExitCode::from(Status::NoMemory.number());
