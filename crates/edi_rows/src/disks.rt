@@ -1,7 +1,6 @@
 //! Disks: made, filled and read.
 
 use crate::play::play;
-use std::test::Fail;
 
 /// New disks, and files that are put there and got from there.
 const FILES: &str = "
@@ -89,24 +88,31 @@ same k f9
 ";
 
 /// All 256 slots are taken.
+const FULL: &str = "call 15 put e t
+shows disk full/
+unchanged
+call 0 put e t255
+input 0 enter x/./copy t0 x/copy t0 t1/rename t0 x/
+call 0 boot
+shows > enter x/catalogue full/> copy t0 x/catalogue full/> copy t0 t1/> rename t0 x/> /
+";
+
 #[test]
-fn there_are_256_slots(rt: HostRuntime) -> Result<(), Fail> {
+fn there_are_256_slots(rt: HostRuntime) {
     let alloc = rt.alloc();
-    let mut script = String::from_str(alloc, "call 0 newdisk 1024\nfile e\n")?;
+    let first = "call 0 newdisk 1024\nfile e\n";
+    let mut script = String::from_str(alloc, first).expect(&rt, "memory");
     for n in 0..256 {
-        script.push_str(&format!(in alloc; "call 0 put e t{n}\n")?)?;
+        let line = format!(in alloc; "call 0 put e t{n}\n").expect(&rt, "memory");
+        script.push_str(&line).expect(&rt, "memory");
     }
-    script.push_str("call 15 put e t\nshows disk full/\nunchanged\ncall 0 put e t255\n")?;
-    script.push_str(
-        "input 0 enter x/./copy t0 x/copy t0 t1/rename t0 x/\ncall 0 boot\nshows > enter x/catalogue full/",
-    )?;
-    script.push_str("> copy t0 x/catalogue full/> copy t0 t1/> rename t0 x/> /\n")?;
-    play(&rt, alloc, &script, 0)
+    script.push_str(FULL).expect(&rt, "memory");
+    play(&rt, alloc, &script, 0);
 }
 
 #[test]
-fn files_are_put_and_got(rt: HostRuntime) -> Result<(), Fail> {
-    play(&rt, rt.alloc(), FILES, 0)
+fn files_are_put_and_got(rt: HostRuntime) {
+    play(&rt, rt.alloc(), FILES, 0);
 }
 
 /// A protected file is replaced in its slot, where there is room beside it; it has 2 of the 31 blocks for files.
@@ -219,11 +225,11 @@ unchanged
 ";
 
 #[test]
-fn protected_files_are_replaced_by_put_alone(rt: HostRuntime) -> Result<(), Fail> {
-    play(&rt, rt.alloc(), PROTECTED, 0)
+fn protected_files_are_replaced_by_put_alone(rt: HostRuntime) {
+    play(&rt, rt.alloc(), PROTECTED, 0);
 }
 
 #[test]
-fn programs_keep_files(rt: HostRuntime) -> Result<(), Fail> {
-    play(&rt, rt.alloc(), KEPT, 0)
+fn programs_keep_files(rt: HostRuntime) {
+    play(&rt, rt.alloc(), KEPT, 0);
 }

@@ -1,7 +1,6 @@
 //! Sessions: editings of a text, their refusals and undos.
 
 use crate::play::play;
-use std::test::Fail;
 
 /// Each line of an editing, each with its refusals.
 const LINES: &str = "
@@ -133,22 +132,35 @@ same h whole
 ";
 
 #[test]
-fn texts_are_edited(rt: HostRuntime) -> Result<(), Fail> {
-    play(&rt, rt.alloc(), LINES, 0)
+fn texts_are_edited(rt: HostRuntime) {
+    play(&rt, rt.alloc(), LINES, 0);
 }
 
 /// Of 65 changes the last 64 are undone, and what the first one made is left.
+const UNDONE: &str = "| u
+| l 1
+| l 2
+| w
+| type t
+| halt
+|
+types 0
+call 0 boot
+shows > edit t/no undo/line 1/no line 2/> type t/line 1/> halt/
+";
+
 #[test]
-fn changes_are_undone(rt: HostRuntime) -> Result<(), Fail> {
+fn changes_are_undone(rt: HostRuntime) {
     let alloc = rt.alloc();
-    let mut script = String::from_str(alloc, "call 0 newdisk 64\n| edit t\n")?;
+    let first = "call 0 newdisk 64\n| edit t\n";
+    let mut script = String::from_str(alloc, first).expect(&rt, "memory");
     for n in 1..=65 {
-        script.push_str(&format!(in alloc; "| i 1\n| line {n}\n")?)?;
+        let lines = format!(in alloc; "| i 1\n| line {n}\n").expect(&rt, "memory");
+        script.push_str(&lines).expect(&rt, "memory");
     }
     for _n in 1..=64 {
-        script.push_str("| u\n")?;
+        script.push_str("| u\n").expect(&rt, "memory");
     }
-    script.push_str("| u\n| l 1\n| l 2\n| w\n| type t\n| halt\n|\ntypes 0\ncall 0 boot\n")?;
-    script.push_str("shows > edit t/no undo/line 1/no line 2/> type t/line 1/> halt/\n")?;
-    play(&rt, alloc, &script, 0)
+    script.push_str(UNDONE).expect(&rt, "memory");
+    play(&rt, alloc, &script, 0);
 }

@@ -1,7 +1,6 @@
 //! Drives that are no disk, and images of version 1.
 
 use crate::play::play;
-use std::test::Fail;
 
 /// No disk, and disks that are none.
 const NONE: &str = "
@@ -104,8 +103,8 @@ shows bad image entry 1/
 ";
 
 #[test]
-fn what_is_no_disk_is_refused(rt: HostRuntime) -> Result<(), Fail> {
-    play(&rt, rt.alloc(), NONE, 0)
+fn what_is_no_disk_is_refused(rt: HostRuntime) {
+    play(&rt, rt.alloc(), NONE, 0);
 }
 
 /// Old images of 64 blocks: one with a file in its second slot, one with a file that has no room, and broken ones.
@@ -220,6 +219,6 @@ same h f59
 ";
 
 #[test]
-fn old_images_are_taken_over(rt: HostRuntime) -> Result<(), Fail> {
-    play(&rt, rt.alloc(), OLD, 0)
+fn old_images_are_taken_over(rt: HostRuntime) {
+    play(&rt, rt.alloc(), OLD, 0);
 }

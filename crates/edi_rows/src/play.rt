@@ -26,12 +26,11 @@
 //! In a TEXT `/` is a line feed and `~` the byte 25. The number `n` is that of the round. All that is shown and printed has to be
 //! looked at before the next call.
 
-use crate::script::{meant, parts, write_hex};
+use crate::script::{byte, meant, number, parts, size, write_hex};
 use crate::world::World;
 use edi_host::{MemoryDrive, MemoryFiles, MemorySink, MemorySource};
 use std::alloc::Global;
 use std::process::Abort;
-use std::test::Fail;
 
 // What a script has made so far.
 #[derive(Drop)]
@@ -47,273 +46,265 @@ struct Stage {
     round: u64,
 }
 
+/// Asserts that these bytes are all from this place on.
+fn are_next(rt: &impl Abort, seen: &[u8], from: usize, wanted: &[u8], what: &str) {
+    assert_eq!(rt; seen.get(from..), Some(wanted), "{what}");
+}
+
+/// Asserts that two lists have the same bytes.
+fn are_same(rt: &impl Abort, found: &[u8], wanted: &[u8], what: &str) {
+    assert_eq!(rt; found, wanted, "{what}");
+}
+
 impl Stage {
-    fn new(alloc: Global, round: u64) -> Result<Stage, Fail> {
-        Ok(Stage {
-            world: World::new(alloc)?,
+    fn new(rt: &impl Abort, alloc: Global, round: u64) -> Stage {
+        Stage {
+            world: World::new(rt, alloc),
             bytes: Vec::new(alloc),
             before: Vec::new(alloc),
             shown: 0,
             printed: 0,
             round,
-        })
+        }
     }
 
     // The number of a call.
-    fn number(&self, text: &str) -> Result<u64, Fail> {
+    fn number(&self, rt: &impl Abort, text: &str) -> u64 {
         if text == "n" {
-            return Ok(self.round);
+            return self.round;
         }
-        Ok(text.parse::<u64>()?)
+        number(rt, text)
     }
 
     // All that was shown and printed is looked at.
     fn settle(&self, rt: &impl Abort, line: &str) {
-        assert_eq!(rt;
-            self.world.devices.terminal.bytes().len(),
+        are_next(
+            rt,
+            self.world.devices.terminal.bytes(),
             self.shown,
-            "shown before {line}"
+            &[],
+            line,
         );
-        assert_eq!(rt;
-            self.world.devices.printer.bytes().len(),
+        are_next(
+            rt,
+            self.world.devices.printer.bytes(),
             self.printed,
-            "printed before {line}"
+            &[],
+            line,
         );
     }
 
     // A drive of the bytes.
-    fn drive(
-        &mut self,
-        rt: &impl Abort,
-        alloc: Global,
-        text: &str,
-        lands: bool,
-    ) -> Result<(), Fail> {
-        let n = self.number(text)?;
+    fn drive(&mut self, rt: &impl Abort, alloc: Global, text: &str, lands: bool) {
+        let n = self.number(rt, text);
         assert!(rt; self.bytes.len() % 512 == 0);
-        self.world.devices.drive = MemoryDrive::new(alloc, &self.bytes, &[n], lands)?;
+        self.world.devices.drive = MemoryDrive::new(alloc, &self.bytes, &[n], lands).expect(
+            rt, "memory",
+        );
         self.bytes.clear();
-        Ok(())
     }
 
     // A sink with this plan and room.
-    fn sink(&self, alloc: Global, text: &str) -> Result<MemorySink, Fail> {
+    fn sink(&self, rt: &impl Abort, alloc: Global, text: &str) -> MemorySink {
         let (n, room) = parts(text);
-        let n = self.number(n)?;
-        Ok(MemorySink::new(alloc, room.parse::<usize>()?, &[n])?)
+        MemorySink::new(alloc, size(rt, room), &[self.number(rt, n)]).expect(rt, "memory")
     }
 
     // All anew.
-    fn restart(&mut self, rt: &impl Abort, alloc: Global) -> Result<(), Fail> {
+    fn restart(&mut self, rt: &impl Abort, alloc: Global) {
         self.settle(rt, "world");
-        self.world = World::new(alloc)?;
+        self.world = World::new(rt, alloc);
         self.bytes.clear();
         self.shown = 0;
         self.printed = 0;
-        Ok(())
     }
 
-    fn files(&mut self, alloc: Global, rest: &str) -> Result<(), Fail> {
-        let n = self.number(rest)?;
-        self.world.files = MemoryFiles::new(alloc, &[n])?;
-        Ok(())
+    fn files(&mut self, rt: &impl Abort, alloc: Global, rest: &str) {
+        let n = self.number(rt, rest);
+        self.world.files = MemoryFiles::new(alloc, &[n]).expect(rt, "memory");
     }
 
-    fn input(&mut self, alloc: Global, rest: &str) -> Result<(), Fail> {
+    // An input of these bytes.
+    fn source(&mut self, rt: &impl Abort, alloc: Global, n: &str, bytes: &[u8]) {
+        let n = self.number(rt, n);
+        self.world.devices.input = MemorySource::new(alloc, bytes, &[n]).expect(rt, "memory");
+    }
+
+    fn input(&mut self, rt: &impl Abort, alloc: Global, rest: &str) {
         let (n, text) = parts(rest);
-        let n = self.number(n)?;
-        let text = meant(alloc, text)?;
-        self.world.devices.input = MemorySource::new(alloc, &text, &[n])?;
-        Ok(())
+        let bytes = meant(rt, alloc, text);
+        self.source(rt, alloc, n, &bytes);
     }
 
-    fn types(&mut self, alloc: Global, rest: &str) -> Result<(), Fail> {
-        let n = self.number(rest)?;
-        self.world.devices.input = MemorySource::new(alloc, &self.bytes, &[n])?;
-        self.bytes.clear();
-        Ok(())
+    fn types(&mut self, rt: &impl Abort, alloc: Global, rest: &str) {
+        let bytes = self.taken(alloc);
+        self.source(rt, alloc, rest, &bytes);
     }
 
-    fn terminal(&mut self, rt: &impl Abort, alloc: Global, rest: &str) -> Result<(), Fail> {
+    fn terminal(&mut self, rt: &impl Abort, alloc: Global, rest: &str) {
         self.settle(rt, rest);
-        self.world.devices.terminal = self.sink(alloc, rest)?;
+        self.world.devices.terminal = self.sink(rt, alloc, rest);
         self.shown = 0;
-        Ok(())
     }
 
-    fn printer(&mut self, rt: &impl Abort, alloc: Global, rest: &str) -> Result<(), Fail> {
+    fn printer(&mut self, rt: &impl Abort, alloc: Global, rest: &str) {
         self.settle(rt, rest);
-        self.world.devices.printer = self.sink(alloc, rest)?;
+        self.world.devices.printer = self.sink(rt, alloc, rest);
         self.printed = 0;
-        Ok(())
     }
 }
 
 // The lines that write the bytes, and make files of them.
 impl Stage {
-    fn fill(&mut self, rest: &str) -> Result<(), Fail> {
-        let (count, byte) = parts(rest);
-        let count = count.parse::<usize>()?;
-        let byte = byte.parse::<u8>()?;
-        self.bytes.clear();
-        self.bytes.resize(count, byte)?;
-        Ok(())
+    // The bytes, of which there are none then.
+    fn taken(&mut self, alloc: Global) -> Vec<u8> {
+        std::mem::replace(&mut self.bytes, Vec::new(alloc))
     }
 
-    fn put_at(&mut self, rt: &impl Abort, rest: &str) -> Result<(), Fail> {
+    fn fill(&mut self, rt: &impl Abort, rest: &str) {
+        let (count, value) = parts(rest);
+        self.bytes.clear();
+        self.bytes
+            .resize(size(rt, count), byte(rt, value))
+            .expect(rt, "memory");
+    }
+
+    fn put_at(&mut self, rt: &impl Abort, rest: &str) {
         let (at, hex) = parts(rest);
-        let at = at.parse::<usize>()?;
-        write_hex(rt, &mut self.bytes, at, hex)
+        write_hex(rt, &mut self.bytes, size(rt, at), hex);
     }
 
-    fn copy(&mut self, alloc: Global, rest: &str) -> Result<(), Fail> {
-        let Some(bytes) = self.world.files.get(rest) else {
-            return Err("no such file")?;
-        };
-        self.bytes = Vec::from_slice(alloc, bytes)?;
-        Ok(())
+    fn copy(&mut self, rt: &impl Abort, alloc: Global, rest: &str) {
+        self.bytes = file(rt, alloc, &self.world, rest);
     }
 
-    fn file(&mut self, rt: &impl Abort, alloc: Global, rest: &str) -> Result<(), Fail> {
-        self.world.add(rt, alloc, rest, &self.bytes)?;
-        self.bytes.clear();
-        Ok(())
+    fn file(&mut self, rt: &impl Abort, alloc: Global, rest: &str) {
+        let bytes = self.taken(alloc);
+        self.world.add(rt, alloc, rest, &bytes);
     }
 
-    fn one_more(&mut self, text: &str) -> Result<(), Fail> {
+    fn one_more(&mut self, rt: &impl Abort, text: &str) {
         if !self.bytes.is_empty() {
-            self.bytes.push(b'\n')?;
+            self.bytes.push(b'\n').expect(rt, "memory");
         }
-        self.bytes.extend_from_slice(text.as_bytes())?;
-        Ok(())
+        self.bytes
+            .extend_from_slice(text.as_bytes())
+            .expect(rt, "memory");
     }
 }
 
+/// The bytes of a file.
+fn file(rt: &impl Abort, alloc: Global, world: &World, name: &str) -> Vec<u8> {
+    let bytes = world.files.get(name).expect(rt, name);
+    bytes.to_vec(alloc).expect(rt, "memory")
+}
+
 impl Stage {
-    fn call(&mut self, rt: &impl Abort, alloc: Global, rest: &str) -> Result<(), Fail> {
+    fn call(&mut self, rt: &impl Abort, alloc: Global, rest: &str) {
         self.settle(rt, rest);
-        self.before = Vec::from_slice(alloc, self.world.devices.drive.bytes())?;
-        let (status, words) = parts(rest);
-        let status = status.parse::<u8>()?;
-        assert_eq!(rt; self.world.call(alloc, words)?, status, "{words}");
-        Ok(())
-    }
-
-    fn shows(&mut self, rt: &impl Abort, alloc: Global, text: &str) -> Result<(), Fail> {
-        let wanted = meant(alloc, text)?;
-        let seen = self.world.devices.terminal.bytes();
-        assert_eq!(rt; seen.get(self.shown..), Some(wanted.as_slice()), "{text}");
-        self.shown = seen.len();
-        Ok(())
-    }
-
-    fn seen(&mut self, rt: &impl Abort) {
-        let seen = self.world.devices.terminal.bytes();
-        assert_eq!(rt; seen.get(self.shown..), Some(self.bytes.as_slice()));
-        self.shown = seen.len();
-        self.bytes.clear();
-    }
-
-    fn prints(&mut self, rt: &impl Abort, alloc: Global, text: &str) -> Result<(), Fail> {
-        let wanted = meant(alloc, text)?;
-        let seen = self.world.devices.printer.bytes();
-        assert_eq!(rt; seen.get(self.printed..), Some(wanted.as_slice()), "{text}");
-        self.printed = seen.len();
-        Ok(())
-    }
-
-    // The disk has just this file of the host under the title `t`, or no file.
-    fn either(&mut self, rt: &impl Abort, alloc: Global, name: &str) -> Result<(), Fail> {
-        self.settle(rt, name);
-        let status = self.world.call(alloc, "get t got")?;
-        if status == 12 {
-            return self.shows(rt, alloc, "absent/");
-        }
-        assert_eq!(rt; status, 0, "{name}");
-        self.are_same(rt, "got", name)
-    }
-
-    // Two files have the same bytes.
-    fn are_same(&self, rt: &impl Abort, one: &str, other: &str) -> Result<(), Fail> {
-        let bytes = self.world.files.get(one).ok_or("no such file")?;
-        assert_eq!(rt; Some(bytes), self.world.files.get(other), "{one} {other}");
-        Ok(())
-    }
-
-    // The drive has these bytes from here on.
-    fn sees(&self, rt: &impl Abort, alloc: Global, at: &str, hex: &str) -> Result<(), Fail> {
-        let at = at.parse::<usize>()?;
-        let mut wanted = vec![in alloc; 0; hex.len() / 2]?;
-        write_hex(rt, &mut wanted, 0, hex)?;
-        let rest = self
+        self.before = self
             .world
             .devices
             .drive
             .bytes()
-            .get(at..)
-            .ok_or("no such byte")?;
-        assert_eq!(rt; rest.get(..wanted.len()), Some(wanted.as_slice()), "{hex}");
-        Ok(())
+            .to_vec(alloc)
+            .expect(rt, "memory");
+        let (status, words) = parts(rest);
+        let found = self.world.call(rt, alloc, words);
+        assert_eq!(rt; found, byte(rt, status), "{words}");
+    }
+
+    // The terminal has taken these bytes since.
+    fn has_shown(&mut self, rt: &impl Abort, wanted: &[u8], what: &str) {
+        let seen = self.world.devices.terminal.bytes();
+        are_next(rt, seen, self.shown, wanted, what);
+        self.shown = seen.len();
+    }
+
+    fn shows(&mut self, rt: &impl Abort, alloc: Global, text: &str) {
+        self.has_shown(rt, &meant(rt, alloc, text), text);
+    }
+
+    fn seen(&mut self, rt: &impl Abort, alloc: Global) {
+        let wanted = self.taken(alloc);
+        self.has_shown(rt, &wanted, "seen");
+    }
+
+    fn prints(&mut self, rt: &impl Abort, alloc: Global, text: &str) {
+        let seen = self.world.devices.printer.bytes();
+        are_next(rt, seen, self.printed, &meant(rt, alloc, text), text);
+        self.printed = seen.len();
+    }
+
+    // The disk has just this file of the host under the title `t`, or no file.
+    fn either(&mut self, rt: &impl Abort, alloc: Global, name: &str) {
+        self.settle(rt, name);
+        match self.world.call(rt, alloc, "get t got") {
+            0 => self.are_same(rt, alloc, "got", name),
+            12 => self.shows(rt, alloc, "absent/"),
+            status => panic!(rt; "{name}: {status}"),
+        }
+    }
+
+    // Two files have the same bytes.
+    fn are_same(&self, rt: &impl Abort, alloc: Global, one: &str, other: &str) {
+        let bytes = file(rt, alloc, &self.world, one);
+        self.is_file(rt, other, &bytes);
+    }
+
+    // The file with this name has these bytes.
+    fn is_file(&self, rt: &impl Abort, name: &str, bytes: &[u8]) {
+        are_same(rt, self.world.files.get(name).expect(rt, name), bytes, name);
+    }
+
+    // The drive has these bytes from here on.
+    fn sees(&self, rt: &impl Abort, alloc: Global, at: &str, hex: &str) {
+        let mut wanted = vec![in alloc; 0; hex.len() / 2].expect(rt, "memory");
+        write_hex(rt, &mut wanted, 0, hex);
+        let rest = rest_of(rt, self.world.devices.drive.bytes(), at);
+        are_same(rt, rest.get(..wanted.len()).expect(rt, hex), &wanted, hex);
     }
 
     // The drive has only zeros from here to there.
-    fn are_zeros(&self, rt: &impl Abort, from: &str, to: &str) -> Result<(), Fail> {
-        let from = from.parse::<usize>()?;
-        let to = to.parse::<usize>()?;
+    fn are_zeros(&self, rt: &impl Abort, from: &str, to: &str) {
         let bytes = self.world.devices.drive.bytes();
-        let bytes = bytes.get(from..to).ok_or("no such bytes")?;
-        for byte in bytes {
+        for byte in bytes.get(size(rt, from)..size(rt, to)).expect(rt, to) {
             assert_eq!(rt; *byte, 0);
         }
-        Ok(())
     }
 
-    fn lacks(&self, rt: &impl Abort, name: &str) -> Result<(), Fail> {
+    fn lacks(&self, rt: &impl Abort, name: &str) {
         assert!(rt; self.world.files.get(name).is_none(), "{name}");
-        Ok(())
     }
 
     // The drive has the bytes from before the call. No other word stands for another line.
-    fn is_unchanged(&self, rt: &impl Abort, word: &str) -> Result<(), Fail> {
+    fn is_unchanged(&self, rt: &impl Abort, word: &str) {
         assert!(rt; word == "unchanged", "no line begins with {word}");
-        assert!(rt; self.world.devices.drive.bytes() == self.before.as_slice());
-        Ok(())
+        are_same(rt, self.world.devices.drive.bytes(), &self.before, word);
     }
 
-    fn leaves(&self, rt: &impl Abort, alloc: Global, text: &str) -> Result<(), Fail> {
-        let wanted = meant(alloc, text)?;
-        assert_eq!(rt;
-            self.world.devices.input.bytes(),
-            wanted.as_slice(),
-            "{text}"
-        );
-        Ok(())
+    fn leaves(&self, rt: &impl Abort, alloc: Global, text: &str) {
+        let wanted = meant(rt, alloc, text);
+        are_same(rt, self.world.devices.input.bytes(), &wanted, text);
     }
 
-    fn holds(&self, rt: &impl Abort, alloc: Global, rest: &str) -> Result<(), Fail> {
+    fn holds(&self, rt: &impl Abort, alloc: Global, rest: &str) {
         let (name, text) = parts(rest);
-        let wanted = meant(alloc, text)?;
-        assert_eq!(rt;
-            self.world.files.get(name),
-            Some(wanted.as_slice()),
-            "{rest}"
-        );
-        Ok(())
+        self.is_file(rt, name, &meant(rt, alloc, text));
     }
 
-    fn blocks(&self, rt: &impl Abort, rest: &str) -> Result<(), Fail> {
-        let count = rest.parse::<usize>()?;
-        assert_eq!(rt; self.world.devices.drive.bytes().len() / 512, count);
-        Ok(())
+    fn blocks(&self, rt: &impl Abort, rest: &str) {
+        let length = self.world.devices.drive.bytes().len();
+        assert_eq!(rt; length / 512, size(rt, rest));
     }
 
     // The lines that look at files, the input and the drive.
-    fn look(&self, rt: &impl Abort, alloc: Global, word: &str, rest: &str) -> Result<(), Fail> {
+    fn look(&self, rt: &impl Abort, alloc: Global, word: &str, rest: &str) {
         let (first, second) = parts(rest);
         match word {
             "leaves" => self.leaves(rt, alloc, rest),
             "holds" => self.holds(rt, alloc, rest),
-            "same" => self.are_same(rt, first, second),
+            "same" => self.are_same(rt, alloc, first, second),
             "blocks" => self.blocks(rt, rest),
             "sees" => self.sees(rt, alloc, first, second),
             "zeros" => self.are_zeros(rt, first, second),
@@ -323,21 +314,18 @@ impl Stage {
     }
 
     // Plays a line.
-    fn line(&mut self, rt: &impl Abort, alloc: Global, line: &str) -> Result<(), Fail> {
+    fn line(&mut self, rt: &impl Abort, alloc: Global, line: &str) {
         let (word, rest) = parts(line);
         match word {
-            "" => Ok(()),
-            "|" => self.one_more(rest),
-            "bytes" => self.fill(rest),
+            "" => {}
+            "|" => self.one_more(rt, rest),
+            "bytes" => self.fill(rt, rest),
             "at" => self.put_at(rt, rest),
-            "copy" => self.copy(alloc, rest),
+            "copy" => self.copy(rt, alloc, rest),
             "file" => self.file(rt, alloc, rest),
             "call" => self.call(rt, alloc, rest),
             "shows" => self.shows(rt, alloc, rest),
-            "seen" => {
-                self.seen(rt);
-                Ok(())
-            }
+            "seen" => self.seen(rt, alloc),
             "prints" => self.prints(rt, alloc, rest),
             "either" => self.either(rt, alloc, rest),
             _ => self.make_or_look(rt, alloc, word, rest),
@@ -345,20 +333,14 @@ impl Stage {
     }
 
     // The lines that make objects, and those that look at them.
-    fn make_or_look(
-        &mut self,
-        rt: &impl Abort,
-        alloc: Global,
-        word: &str,
-        rest: &str,
-    ) -> Result<(), Fail> {
+    fn make_or_look(&mut self, rt: &impl Abort, alloc: Global, word: &str, rest: &str) {
         match word {
             "world" => self.restart(rt, alloc),
-            "files" => self.files(alloc, rest),
+            "files" => self.files(rt, alloc, rest),
             "drive" => self.drive(rt, alloc, rest, false),
             "lands" => self.drive(rt, alloc, rest, true),
-            "input" => self.input(alloc, rest),
-            "types" => self.types(alloc, rest),
+            "input" => self.input(rt, alloc, rest),
+            "types" => self.types(rt, alloc, rest),
             "terminal" => self.terminal(rt, alloc, rest),
             "printer" => self.printer(rt, alloc, rest),
             _ => self.look(rt, alloc, word, rest),
@@ -366,12 +348,16 @@ impl Stage {
     }
 }
 
+/// The bytes from a place on.
+fn rest_of<'a>(rt: &impl Abort, bytes: &'a [u8], at: &str) -> &'a [u8] {
+    bytes.get(size(rt, at)..).expect(rt, at)
+}
+
 /// Plays a script, in which the number `n` is that of the round.
-pub fn play(rt: &impl Abort, alloc: Global, script: &str, round: u64) -> Result<(), Fail> {
-    let mut stage = Stage::new(alloc, round)?;
+pub fn play(rt: &impl Abort, alloc: Global, script: &str, round: u64) {
+    let mut stage = Stage::new(rt, alloc, round);
     for line in script.split('\n') {
-        stage.line(rt, alloc, line)?;
+        stage.line(rt, alloc, line);
     }
     stage.settle(rt, "the end");
-    Ok(())
 }

@@ -1,7 +1,6 @@
 //! Worked programs: what they show and leave, with choices, records and bounds.
 
 use crate::play::play;
-use std::test::Fail;
 
 /// The choices of some runs, and programs of one process.
 const ALONE: &str = "
@@ -149,8 +148,8 @@ shows absent/
 ";
 
 #[test]
-fn programs_end_as_they_mean(rt: HostRuntime) -> Result<(), Fail> {
-    play(&rt, rt.alloc(), ALONE, 0)
+fn programs_end_as_they_mean(rt: HostRuntime) {
+    play(&rt, rt.alloc(), ALONE, 0);
 }
 
 /// Programs of several processes.
@@ -348,6 +347,6 @@ shows turn limit/
 ";
 
 #[test]
-fn processes_end_as_their_choices_select(rt: HostRuntime) -> Result<(), Fail> {
-    play(&rt, rt.alloc(), TOGETHER, 0)
+fn processes_end_as_their_choices_select(rt: HostRuntime) {
+    play(&rt, rt.alloc(), TOGETHER, 0);
 }

@@ -1,7 +1,6 @@
 //! Sessions: how programs end in them, and their choices.
 
 use crate::play::play;
-use std::test::Fail;
 
 /// How programs end: each has the bound, no file is open, and the input goes on.
 const ENDS: &str = "
@@ -115,7 +114,7 @@ shows bad words/
 ";
 
 #[test]
-fn programs_end_in_a_session(rt: HostRuntime) -> Result<(), Fail> {
-    play(&rt, rt.alloc(), ENDS, 0)?;
-    play(&rt, rt.alloc(), CHOICES, 0)
+fn programs_end_in_a_session(rt: HostRuntime) {
+    play(&rt, rt.alloc(), ENDS, 0);
+    play(&rt, rt.alloc(), CHOICES, 0);
 }

@@ -1,7 +1,6 @@
 //! Sessions in which an object fails, or the limit is reached, and disks on which none is held.
 
 use crate::play::play;
-use std::test::Fail;
 
 /// Files, inputs, terminals and printers of which one call fails, or that have no room.
 const OBJECTS: &str = "
@@ -111,14 +110,14 @@ shows absent/
 ";
 
 #[test]
-fn a_session_is_broken_off(rt: HostRuntime) -> Result<(), Fail> {
-    play(&rt, rt.alloc(), OBJECTS, 0)?;
-    play(&rt, rt.alloc(), DISKS, 0)
+fn a_session_is_broken_off(rt: HostRuntime) {
+    play(&rt, rt.alloc(), OBJECTS, 0);
+    play(&rt, rt.alloc(), DISKS, 0);
 }
 
 #[test]
-fn a_session_has_a_limit(rt: HostRuntime) -> Result<(), Fail> {
-    play(&rt, rt.alloc(), LIMIT, 0)
+fn a_session_has_a_limit(rt: HostRuntime) {
+    play(&rt, rt.alloc(), LIMIT, 0);
 }
 
 /// An image with a file of 2,000 bytes, whose first 33 blocks and the map of the file are read before a session begins.
@@ -211,13 +210,13 @@ same h wanted
 ";
 
 #[test]
-fn each_call_of_the_drive_may_fail_in_a_copy(rt: HostRuntime) -> Result<(), Fail> {
-    let alloc = rt.alloc();
-    for n in 1..=34 {
-        play(&rt, alloc, MOUNTS, n)?;
+fn each_call_of_the_drive_may_fail_in_a_copy(rt: HostRuntime) {
+    for n in 1..=45u64 {
+        let script = match n {
+            1..=34 => MOUNTS,
+            45 => COPIED,
+            _ => COPIES,
+        };
+        play(&rt, rt.alloc(), script, n);
     }
-    for n in 35..=44 {
-        play(&rt, alloc, COPIES, n)?;
-    }
-    play(&rt, alloc, COPIED, 45)
 }

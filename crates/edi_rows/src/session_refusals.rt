@@ -1,7 +1,6 @@
 //! Sessions: each refusal of a command of the shell.
 
 use crate::play::play;
-use std::test::Fail;
 
 /// Each command with each of its refusals, the first of which is told; and lines that are no commands.
 const REFUSED: &str = "
@@ -203,7 +202,7 @@ same g lines
 ";
 
 #[test]
-fn commands_are_refused_in_order(rt: HostRuntime) -> Result<(), Fail> {
-    play(&rt, rt.alloc(), REFUSED, 0)?;
-    play(&rt, rt.alloc(), ROOM, 0)
+fn commands_are_refused_in_order(rt: HostRuntime) {
+    play(&rt, rt.alloc(), REFUSED, 0);
+    play(&rt, rt.alloc(), ROOM, 0);
 }

@@ -5,7 +5,6 @@ use edi_kernel::Kernel;
 use edi_top::edison;
 use std::alloc::Global;
 use std::process::Abort;
-use std::test::Fail;
 
 /// Room for all that a terminal or a printer takes.
 const ROOM: usize = 65_536;
@@ -21,13 +20,13 @@ pub struct Devices {
 
 impl Devices {
     /// A drive without blocks, no input, and sinks with room. None of them fails.
-    pub fn new(alloc: Global) -> Result<Devices, Fail> {
-        Ok(Devices {
-            drive: MemoryDrive::new(alloc, &[], &[], false)?,
-            input: MemorySource::new(alloc, &[], &[])?,
-            terminal: MemorySink::new(alloc, ROOM, &[])?,
-            printer: MemorySink::new(alloc, ROOM, &[])?,
-        })
+    pub fn new(rt: &impl Abort, alloc: Global) -> Devices {
+        Devices {
+            drive: MemoryDrive::new(alloc, &[], &[], false).expect(rt, "memory"),
+            input: MemorySource::new(alloc, &[], &[]).expect(rt, "memory"),
+            terminal: MemorySink::new(alloc, ROOM, &[]).expect(rt, "memory"),
+            printer: MemorySink::new(alloc, ROOM, &[]).expect(rt, "memory"),
+        }
     }
 }
 
@@ -41,33 +40,23 @@ pub struct World {
 
 impl World {
     /// No files, no disk, no input, and a kernel that has run nothing.
-    pub fn new(alloc: Global) -> Result<World, Fail> {
-        Ok(World {
-            files: MemoryFiles::new(alloc, &[])?,
-            devices: Devices::new(alloc)?,
-            kernel: Kernel::new(alloc)?,
-        })
+    pub fn new(rt: &impl Abort, alloc: Global) -> World {
+        World {
+            files: MemoryFiles::new(alloc, &[]).expect(rt, "memory"),
+            devices: Devices::new(rt, alloc),
+            kernel: Kernel::new(alloc).expect(rt, "memory"),
+        }
     }
 
     /// Puts a file of the host in, whose name is new.
-    pub fn add(
-        &mut self,
-        rt: &impl Abort,
-        alloc: Global,
-        name: &str,
-        bytes: &[u8],
-    ) -> Result<(), Fail> {
+    pub fn add(&mut self, rt: &impl Abort, alloc: Global, name: &str, bytes: &[u8]) {
         assert!(rt; self.files.get(name).is_none(), "{name}");
-        self.files.add(alloc, name, bytes)?;
-        Ok(())
+        self.files.add(alloc, name, bytes).expect(rt, "memory");
     }
 
     /// The number of the status of a call with these words, which blanks part.
-    pub fn call(&mut self, alloc: Global, words: &str) -> Result<u8, Fail> {
-        let mut list = Vec::new(alloc);
-        for word in words.split(' ') {
-            list.push(String::from_str(alloc, word)?)?;
-        }
+    pub fn call(&mut self, rt: &impl Abort, alloc: Global, words: &str) -> u8 {
+        let list = words_of(rt, alloc, words);
         let status = edison(
             alloc,
             &list,
@@ -78,6 +67,16 @@ impl World {
             &mut self.devices.printer,
             &mut self.kernel,
         );
-        Ok(status.number())
+        status.number()
     }
+}
+
+/// The words of a text, which blanks part.
+fn words_of(rt: &impl Abort, alloc: Global, words: &str) -> Vec<String> {
+    let mut list = Vec::new(alloc);
+    for word in words.split(' ') {
+        let word = String::from_str(alloc, word).expect(rt, "memory");
+        list.push(word).expect(rt, "memory");
+    }
+    list
 }

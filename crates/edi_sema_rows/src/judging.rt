@@ -3,17 +3,24 @@
 use edi_lex::scan;
 use edi_sema::{StaticFault, StaticKind, resolve};
 use edi_syntax::parse;
-use edi_unit::Unit;
+use edi_tree::Program;
+use edi_unit::{Block, Unit};
 use std::alloc::Global;
+use std::process::Abort;
 
-/// What the static rules say of a text that keeps the grammar.
-pub(crate) fn judged(alloc: Global, text: &str) -> Option<Result<Unit, StaticFault>> {
+/// The tree of a text that keeps the grammar.
+pub(crate) fn tree_of(alloc: Global, text: &str) -> Option<Program> {
     let Ok(symbols) = scan(alloc, text.as_bytes()) else {
         return None;
     };
-    match parse(alloc, &symbols) {
-        Ok(tree) => Some(resolve(alloc, &tree)),
-        Err(_) => None,
+    parse(alloc, &symbols).ok()
+}
+
+/// What the static rules say of a text that keeps the grammar.
+fn judged(alloc: Global, text: &str) -> Option<Result<Unit, StaticFault>> {
+    match tree_of(alloc, text) {
+        Some(tree) => Some(resolve(alloc, &tree)),
+        None => None,
     }
 }
 
@@ -25,16 +32,31 @@ pub(crate) fn refused(alloc: Global, text: &str) -> Option<(StaticKind, u16)> {
     }
 }
 
-/// The needs of a sound text's blocks, the number of its types, and its calls.
-pub(crate) fn summary(alloc: Global, text: &str) -> Option<(Vec<u32>, u32, Vec<u8>)> {
-    let Some(Ok(unit)) = judged(alloc, text) else {
-        return None;
-    };
-    let mut needs = Vec::new(alloc);
-    for block in unit.blocks.items() {
-        let Ok(()) = needs.push(block.need) else {
-            return None;
-        };
+/// Asserts that each text is refused for this fault at this line.
+pub(crate) fn are_refused(rt: &impl Abort, alloc: Global, cases: &[(&str, StaticKind, u16)]) {
+    for (text, kind, line) in cases {
+        assert_eq!(rt; refused(alloc, text), Some((*kind, *line)), "{text}");
     }
-    Some((needs, unit.types.len(), unit.calls.into_vec()))
+}
+
+/// Whether these are the needs of the blocks.
+fn have_needs(blocks: &[Block], needs: &[u32]) -> bool {
+    for (block, need) in blocks.iter().zip(needs) {
+        if block.need != *need {
+            return false;
+        }
+    }
+    blocks.len() == needs.len()
+}
+
+/// Whether a text is sound, its blocks have these needs, and it has so many types and these calls.
+pub(crate) fn is_sound(alloc: Global, text: &str, needs: &[u32], types: u32, calls: &[u8]) -> bool {
+    match judged(alloc, text) {
+        Some(Ok(unit)) => {
+            have_needs(unit.blocks.items(), needs)
+                && unit.types.len() == types
+                && unit.calls.items() == calls
+        }
+        _ => false,
+    }
 }

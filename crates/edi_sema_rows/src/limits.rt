@@ -1,9 +1,9 @@
 //! Enumerations with as many constants as there can be, and with one more.
 
-use crate::judging::{refused, summary};
+use crate::judging::{is_sound, refused};
 use edi_sema::StaticKind;
 use std::alloc::{AllocError, Global};
-use std::test::Fail;
+use std::process::Abort;
 
 /// A program with an enumeration of so many constants and one more, which stands on line 2.
 fn enumeration(alloc: Global, constants: u32, last: &str) -> Result<String, AllocError> {
@@ -18,17 +18,24 @@ fn enumeration(alloc: Global, constants: u32, last: &str) -> Result<String, Allo
     Ok(text)
 }
 
+/// The rule that such a program breaks, and the line.
+fn refused_with(
+    rt: &impl Abort,
+    alloc: Global,
+    constants: u32,
+    last: &str,
+) -> Option<(StaticKind, u16)> {
+    let text = enumeration(alloc, constants, last).expect(rt, "memory");
+    refused(alloc, text.as_str())
+}
+
 #[test]
-fn enumerations(rt: HostRuntime) -> Result<(), Fail> {
+fn enumerations(rt: HostRuntime) {
     let alloc = rt.alloc();
-    let longest = enumeration(alloc, 32767, "last")?;
-    assert_eq!(rt;
-        summary(alloc, longest.as_str()),
-        Some((vec![in alloc; 5]?, 4, Vec::new(alloc)))
-    );
+    let longest = enumeration(alloc, 32767, "last").expect(&rt, "memory");
+    assert!(rt; is_sound(alloc, longest.as_str(), &[5], 4, &[]));
     for (last, kind) in [("last", StaticKind::Range), ("c0", StaticKind::Ambiguous)] {
-        let longer = enumeration(alloc, 32768, last)?;
-        assert_eq!(rt; refused(alloc, longer.as_str()), Some((kind, 2)), "{last}");
+        let found = refused_with(&rt, alloc, 32768, last);
+        assert_eq!(rt; found, Some((kind, 2)), "{last}");
     }
-    Ok(())
 }

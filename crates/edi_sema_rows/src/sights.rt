@@ -1,12 +1,9 @@
 //! Texts, with the sights of a line and a name.
 
-use edi_lex::scan;
+use crate::judging::tree_of;
 use edi_sema::resolve;
-use edi_sights::{Sight, Sighted, sights};
-use edi_syntax::parse;
+use edi_sights::{Sight, Sighted, Sights, sights};
 use std::alloc::Global;
-use std::process::Abort;
-use std::test::Fail;
 
 /// A `when` at this place, where the name means a variable.
 fn seen(block: u32, index: u32, levels: u32, variable: u32) -> Option<Sight> {
@@ -26,32 +23,33 @@ fn unseen(block: u32, index: u32) -> Option<Sight> {
     })
 }
 
-/// The first two sights in a text.
-fn first_sights(
-    rt: &impl Abort,
-    alloc: Global,
-    text: &str,
-    line: u16,
-    name: &str,
-) -> (Option<Sight>, Option<Sight>) {
-    let Ok(symbols) = scan(alloc, text.as_bytes()) else {
-        assert!(rt; false, "the text has symbols");
-        return (None, None);
-    };
-    let Ok(tree) = parse(alloc, &symbols) else {
-        assert!(rt; false, "the symbols spell a program");
-        return (None, None);
+/// The sights in a sound text.
+fn sights_in(alloc: Global, text: &str, line: u16, name: &str) -> Option<Sights> {
+    let Some(tree) = tree_of(alloc, text) else {
+        return None;
     };
     let Ok(_unit) = resolve(alloc, &tree) else {
-        assert!(rt; false, "the program is sound");
-        return (None, None);
+        return None;
     };
-    let Ok(found) = sights(alloc, &tree, line, name.as_bytes()) else {
-        assert!(rt; false, "there is memory");
-        return (None, None);
-    };
-    assert!(rt; found.len() <= 2);
-    (found.get(0).copied(), found.get(1).copied())
+    sights(alloc, &tree, line, name.as_bytes()).ok()
+}
+
+/// Whether these are the sights in a text, and there are no more.
+fn are_seen(
+    alloc: Global,
+    line: u16,
+    name: &str,
+    first: Option<Sight>,
+    second: Option<Sight>,
+) -> bool {
+    match sights_in(alloc, BUFFER, line, name) {
+        Some(found) => {
+            found.get(0).copied() == first
+                && found.get(1).copied() == second
+                && found.get(2).is_none()
+        }
+        None => false,
+    }
 }
 
 /// A buffer of a module, with a producer and a consumer.
@@ -74,7 +72,7 @@ begin
 end";
 
 #[test]
-fn names_at_the_whens_of_a_line(rt: HostRuntime) -> Result<(), Fail> {
+fn names_at_the_whens_of_a_line(rt: HostRuntime) {
     let cases: [(u16, &str, Option<Sight>, Option<Sight>); 11] = [
         (6, "length", seen(1, 0, 1, 5), None),
         (6, "slot", unseen(1, 0), None),
@@ -89,9 +87,7 @@ fn names_at_the_whens_of_a_line(rt: HostRuntime) -> Result<(), Fail> {
         (12, "x", None, None),
     ];
     for (line, name, first, second) in cases {
-        let found = first_sights(&rt, rt.alloc(), BUFFER, line, name);
-        assert_eq!(rt; found.0, first, "{name}");
-        assert_eq!(rt; found.1, second, "{name}");
+        let right = are_seen(rt.alloc(), line, name, first, second);
+        assert!(rt; right, "{name} on line {line}");
     }
-    Ok(())
 }

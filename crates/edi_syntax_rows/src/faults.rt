@@ -4,7 +4,6 @@ use edi_lex::scan;
 use edi_syntax::{SyntaxFault, parse};
 use std::alloc::Global;
 use std::process::Abort;
-use std::test::Fail;
 
 /// A program of 211 symbols, in which a blank or a line feed stands between two of them, and nowhere else.
 const BUFFER: &str = "proc main ( proc accept ( var c : char ) ; proc display ( c : char ) )
@@ -31,79 +30,80 @@ begin get ( y ) ; while y <> char ( 25 ) do display ( y ) ; get ( y ) end end
 begin cobegin 1 do producer also 2 do consumer end end";
 
 /// The syntax fault of a text that has symbols, if it has one.
-fn fault_in(rt: &impl Abort, alloc: Global, text: &[u8]) -> Option<SyntaxFault> {
-    let Ok(symbols) = scan(alloc, text) else {
-        assert!(rt; false, "the text has symbols");
-        return None;
-    };
+pub(crate) fn fault_in(rt: &impl Abort, alloc: Global, text: &[u8]) -> Option<SyntaxFault> {
+    let symbols = scan(alloc, text).expect(rt, "symbols");
     parse(alloc, &symbols).err()
 }
 
-fn syntax(line: u16, index: u32) -> SyntaxFault {
-    SyntaxFault::Syntax { line, index }
-}
+/// Texts with their first symbol that is no part of a program: its line and its place among the symbols.
+const SYNTAX: [(&str, u16, u32); 26] = [
+    ("", 1, 0),
+    ("\n\n", 3, 0),
+    ("proc main begin end", 1, 3),
+    ("proc main begin skip end skip", 1, 5),
+    ("proc main begin skip; end", 1, 5),
+    ("proc main begin skip end :", 1, 5),
+    ("proc main : : int begin skip end", 1, 3),
+    ("proc main * module begin skip end begin skip end", 1, 2),
+    (
+        "proc main module * module begin skip end begin skip end",
+        1,
+        4,
+    ),
+    ("const a = 'ab' proc main begin skip end", 1, 3),
+    ("const a = char(x) proc main begin skip end", 1, 5),
+    ("var x: int proc main begin skip end", 1, 0),
+    ("enum e () proc main begin skip end", 1, 3),
+    ("array a [1:2] int proc main begin skip end", 1, 7),
+    ("proc main(var proc p) begin skip end", 1, 4),
+    ("proc main pre p begin skip end", 1, 3),
+    ("proc main post pre proc p begin skip end", 1, 3),
+    ("proc main begin x.1 := 2 end", 1, 5),
+    ("proc main begin x[1 := 2 end", 1, 6),
+    ("proc main begin x() end", 1, 5),
+    ("proc main begin x := 1 = 2 = 3 end", 1, 8),
+    ("proc main begin x := - - 1 end", 1, 6),
+    ("proc main begin x := not + 1 end", 1, 6),
+    (
+        "proc main begin cobegin 1 do skip else 2 do skip end end",
+        1,
+        7,
+    ),
+    ("proc main begin if x do skip also x do skip end end", 1, 7),
+    ("proc main begin val f end", 1, 5),
+];
 
-fn outside(line: u16, index: u32) -> SyntaxFault {
-    SyntaxFault::NotInProfile { line, index }
-}
+/// Texts with their first symbol that the profile leaves out.
+const OUTSIDE: [(&str, u16, u32); 5] = [
+    ("proc main lib", 1, 2),
+    ("lib", 1, 0),
+    ("proc main begin x : = 1 end", 1, 4),
+    ("proc main\nbegin display('a':char) end", 2, 6),
+    ("proc main begin if true do skip end : end", 1, 8),
+];
 
-#[test]
-fn the_first_fault_its_line_and_place(rt: HostRuntime) -> Result<(), Fail> {
-    let cases: [(&str, SyntaxFault); 31] = [
-        ("", syntax(1, 0)),
-        ("\n\n", syntax(3, 0)),
-        ("proc main begin end", syntax(1, 3)),
-        ("proc main begin skip end skip", syntax(1, 5)),
-        ("proc main begin skip; end", syntax(1, 5)),
-        ("proc main lib", outside(1, 2)),
-        ("lib", outside(1, 0)),
-        ("proc main begin x : = 1 end", outside(1, 4)),
-        ("proc main\nbegin display('a':char) end", outside(2, 6)),
-        ("proc main begin skip end :", syntax(1, 5)),
-        ("proc main begin if true do skip end : end", outside(1, 8)),
-        ("proc main : : int begin skip end", syntax(1, 3)),
-        (
-            "proc main * module begin skip end begin skip end",
-            syntax(1, 2),
-        ),
-        (
-            "proc main module * module begin skip end begin skip end",
-            syntax(1, 4),
-        ),
-        ("const a = 'ab' proc main begin skip end", syntax(1, 3)),
-        ("const a = char(x) proc main begin skip end", syntax(1, 5)),
-        ("var x: int proc main begin skip end", syntax(1, 0)),
-        ("enum e () proc main begin skip end", syntax(1, 3)),
-        ("array a [1:2] int proc main begin skip end", syntax(1, 7)),
-        ("proc main(var proc p) begin skip end", syntax(1, 4)),
-        ("proc main pre p begin skip end", syntax(1, 3)),
-        ("proc main post pre proc p begin skip end", syntax(1, 3)),
-        ("proc main begin x.1 := 2 end", syntax(1, 5)),
-        ("proc main begin x[1 := 2 end", syntax(1, 6)),
-        ("proc main begin x() end", syntax(1, 5)),
-        ("proc main begin x := 1 = 2 = 3 end", syntax(1, 8)),
-        ("proc main begin x := - - 1 end", syntax(1, 6)),
-        ("proc main begin x := not + 1 end", syntax(1, 6)),
-        (
-            "proc main begin cobegin 1 do skip else 2 do skip end end",
-            syntax(1, 7),
-        ),
-        (
-            "proc main begin if x do skip also x do skip end end",
-            syntax(1, 7),
-        ),
-        ("proc main begin val f end", syntax(1, 5)),
-    ];
-    for (text, fault) in cases {
-        let found = fault_in(&rt, rt.alloc(), text.as_bytes());
+/// Asserts that each text has a fault at this symbol, outside of the profile or of the syntax.
+fn are_faulty(rt: &impl Abort, alloc: Global, cases: &[(&str, u16, u32)], outside: bool) {
+    for (text, line, index) in cases {
+        let (line, index) = (*line, *index);
+        let fault = if outside {
+            SyntaxFault::NotInProfile { line, index }
+        } else {
+            SyntaxFault::Syntax { line, index }
+        };
+        let found = fault_in(rt, alloc, text.as_bytes());
         assert_eq!(rt; found, Some(fault), "{text}");
     }
-    Ok(())
 }
 
 #[test]
-fn each_beginning_of_a_program_ends_too_early(rt: HostRuntime) -> Result<(), Fail> {
-    let alloc = rt.alloc();
+fn the_first_fault_its_line_and_place(rt: HostRuntime) {
+    are_faulty(&rt, rt.alloc(), &SYNTAX, false);
+    are_faulty(&rt, rt.alloc(), &OUTSIDE, true);
+}
+
+#[test]
+fn each_beginning_of_a_program_ends_too_early(rt: HostRuntime) {
     let bytes = BUFFER.as_bytes();
     let mut line: u16 = 1;
     let mut index: u32 = 1;
@@ -111,22 +111,20 @@ fn each_beginning_of_a_program_ends_too_early(rt: HostRuntime) -> Result<(), Fai
         if *byte != b' ' && *byte != b'\n' {
             continue;
         }
-        assert_eq!(rt;
-            fault_in(&rt, alloc, &bytes[..place]),
-            Some(syntax(line, index))
-        );
+        let beginning = bytes.get(..place).expect(&rt, "a beginning");
+        let found = fault_in(&rt, rt.alloc(), beginning);
+        assert_eq!(rt; found, Some(SyntaxFault::Syntax { line, index }));
         index = index.saturating_add(1);
         if *byte == b'\n' {
             line = line.saturating_add(1);
         }
     }
     assert_eq!(rt; index, 211);
-    assert_eq!(rt; fault_in(&rt, alloc, bytes), None);
-    Ok(())
+    assert_eq!(rt; fault_in(&rt, rt.alloc(), bytes), None);
 }
 
 #[test]
-fn programs_are_accepted(rt: HostRuntime) -> Result<(), Fail> {
+fn programs_are_accepted(rt: HostRuntime) {
     let cases: [&str; 4] = [
         "proc main : int begin skip end",
         "const a = ''' proc main begin skip end",
@@ -136,5 +134,4 @@ fn programs_are_accepted(rt: HostRuntime) -> Result<(), Fail> {
     for text in cases {
         assert_eq!(rt; fault_in(&rt, rt.alloc(), text.as_bytes()), None, "{text}");
     }
-    Ok(())
 }

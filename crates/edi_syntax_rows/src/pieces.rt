@@ -1,6 +1,6 @@
 //! Texts that come in pieces.
 
-use edi_lex::{LexFault, Scanner, Symbol, Symbols, Text, scan};
+use edi_lex::{LexFault, Scanner, Symbol, Symbols, scan};
 use std::alloc::Global;
 use std::test::Fail;
 
@@ -18,35 +18,47 @@ fn in_pieces(alloc: Global, text: &[u8], length: usize) -> Result<Symbols, LexFa
     scanner.finish(alloc)
 }
 
+/// The symbols of a text that comes in pieces, between which a bar stands; a star is a long one.
+pub(crate) fn fed(alloc: Global, pieces: &str, long: &[u8]) -> Result<Symbols, LexFault> {
+    let mut scanner = Scanner::new(alloc);
+    for piece in pieces.split('|') {
+        let bytes = if piece == "*" { long } else { piece.as_bytes() };
+        if scanner.feed(alloc, bytes).is_err() {
+            return Err(LexFault::NoMemory);
+        }
+    }
+    scanner.finish(alloc)
+}
+
+fn are_same(one: &Symbols, other: &Symbols) -> bool {
+    one.last == other.last && one.marks.as_slice() == other.marks.as_slice()
+}
+
 #[test]
 fn pieces_make_no_difference(rt: HostRuntime) -> Result<(), Fail> {
     let whole = scan(rt.alloc(), PROGRAM)?;
-    assert_eq!(rt; whole.marks.len(), 65);
-    assert_eq!(rt; whole.last, 11);
+    assert!(rt; whole.marks.len() == 65 && whole.last == 11);
     for length in [1, 7] {
         let symbols = in_pieces(rt.alloc(), PROGRAM, length)?;
-        assert_eq!(rt;
-            symbols.marks.as_slice(),
-            whole.marks.as_slice(),
-            "{length}"
-        );
-        assert_eq!(rt; symbols.last, whole.last, "{length}");
+        assert!(rt; are_same(&symbols, &whole), "{length}");
     }
     Ok(())
 }
 
+/// Whether there is one symbol, which is this string.
+fn are_string(symbols: &Symbols, characters: &[u8]) -> bool {
+    match symbols.marks.as_slice() {
+        [mark] => match &mark.symbol {
+            Symbol::Chars(text) => text.as_slice() == characters,
+            _ => false,
+        },
+        _ => false,
+    }
+}
+
 #[test]
 fn a_string_in_two_pieces(rt: HostRuntime) -> Result<(), Fail> {
-    let mut scanner = Scanner::new(rt.alloc());
-    scanner.feed(rt.alloc(), b"'")?;
-    scanner.feed(rt.alloc(), b"")?;
-    scanner.feed(rt.alloc(), b"a'")?;
-    let symbols = scanner.finish(rt.alloc())?;
-    assert_eq!(rt; symbols.marks.len(), 1);
-    let string = Symbol::Chars(Text::from_slice(rt.alloc(), b"a")?);
-    assert_eq!(rt;
-        symbols.marks.get(0).map(|mark| &mark.symbol),
-        Some(&string)
-    );
+    let symbols = fed(rt.alloc(), "'||a'", b"")?;
+    assert!(rt; are_string(&symbols, b"a"));
     Ok(())
 }

@@ -3,9 +3,8 @@
 use edi_lex::scan;
 use edi_syntax::parse;
 use edi_tree::print;
-use std::alloc::{AllocError, Global};
+use std::alloc::Global;
 use std::process::Abort;
-use std::test::Fail;
 
 /// A program with most constructs of the grammar.
 const TEXT: &str = "\"most constructs\"
@@ -58,23 +57,16 @@ do display ( 'b' ) end
 end";
 
 /// What is printed for the program that a text is read as.
-fn printed(rt: &impl Abort, alloc: Global, text: &str) -> Result<Vec<u8>, AllocError> {
-    let Ok(symbols) = scan(alloc, text.as_bytes()) else {
-        assert!(rt; false, "the text has symbols");
-        return Ok(Vec::new(alloc));
-    };
-    let Ok(tree) = parse(alloc, &symbols) else {
-        assert!(rt; false, "the symbols are a program");
-        return Ok(Vec::new(alloc));
-    };
-    print(alloc, &tree)
+fn printed(rt: &impl Abort, alloc: Global, text: &str) -> Vec<u8> {
+    let symbols = scan(alloc, text.as_bytes()).expect(rt, "symbols");
+    let tree = parse(alloc, &symbols).expect(rt, "a program");
+    print(alloc, &tree).expect(rt, "memory")
 }
 
 #[test]
-fn a_printed_program_is_read_again(rt: HostRuntime) -> Result<(), Fail> {
+fn a_printed_program_is_read_again(rt: HostRuntime) {
     for text in [TEXT, PRINTED] {
-        let found = printed(&rt, rt.alloc(), text)?;
+        let found = printed(&rt, rt.alloc(), text);
         assert!(rt; found.as_slice() == PRINTED.as_bytes(), "{text}");
     }
-    Ok(())
 }

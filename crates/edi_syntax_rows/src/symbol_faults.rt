@@ -1,57 +1,63 @@
 //! Texts that have a fault.
 
 use edi_lex::{LexFault, scan};
-use std::test::Fail;
+use std::alloc::Global;
+use std::process::Abort;
 
-#[test]
-fn the_first_fault_and_its_line(rt: HostRuntime) -> Result<(), Fail> {
-    let bad = LexFault::BadCharacter;
-    let cases: [(&[u8], LexFault); 22] = [
-        (b"\x07", bad(1)),
-        (b"begin\nskip\x7fend", bad(2)),
-        (b"a\x80", bad(1)),
-        (b"x # y", bad(1)),
-        (b"_x", bad(1)),
-        (b"a{", bad(1)),
-        (b"32768", LexFault::BadNumeral(1)),
-        (b"x\n y := 99999999999999999999999", LexFault::BadNumeral(2)),
-        (b"1 32768 \x07", LexFault::BadNumeral(1)),
-        (b"\x07 32768", bad(1)),
-        // A comment that is not ended, or holds another byte, is a fault where it was opened.
-        (b"\n\"a\nb", bad(2)),
-        (b"\"a\n\x7f\"", bad(1)),
-        (b"\"\x00\"", bad(1)),
-        (b"\"\" \"", bad(1)),
-        // A string stands on one line, and has at least one character.
-        (b"'", bad(1)),
-        (b"\n\n'ab", bad(3)),
-        (b"'ab\n'", bad(1)),
-        (b"''", bad(1)),
-        (b"'' '", bad(1)),
-        (b"'''' ", bad(1)),
-        (b"'a\tb'", bad(1)),
-        (b"'a\x7f'", bad(1)),
-    ];
+/// Texts with their first faults.
+const CASES: [(&[u8], LexFault); 22] = [
+    (b"\x07", LexFault::BadCharacter(1)),
+    (b"begin\nskip\x7fend", LexFault::BadCharacter(2)),
+    (b"a\x80", LexFault::BadCharacter(1)),
+    (b"x # y", LexFault::BadCharacter(1)),
+    (b"_x", LexFault::BadCharacter(1)),
+    (b"a{", LexFault::BadCharacter(1)),
+    (b"32768", LexFault::BadNumeral(1)),
+    (b"x\n y := 99999999999999999999999", LexFault::BadNumeral(2)),
+    (b"1 32768 \x07", LexFault::BadNumeral(1)),
+    (b"\x07 32768", LexFault::BadCharacter(1)),
+    // A comment that is not ended, or holds another byte, is a fault where it was opened.
+    (b"\n\"a\nb", LexFault::BadCharacter(2)),
+    (b"\"a\n\x7f\"", LexFault::BadCharacter(1)),
+    (b"\"\x00\"", LexFault::BadCharacter(1)),
+    (b"\"\" \"", LexFault::BadCharacter(1)),
+    // A string stands on one line, and has at least one character.
+    (b"'", LexFault::BadCharacter(1)),
+    (b"\n\n'ab", LexFault::BadCharacter(3)),
+    (b"'ab\n'", LexFault::BadCharacter(1)),
+    (b"''", LexFault::BadCharacter(1)),
+    (b"'' '", LexFault::BadCharacter(1)),
+    (b"'''' ", LexFault::BadCharacter(1)),
+    (b"'a\tb'", LexFault::BadCharacter(1)),
+    (b"'a\x7f'", LexFault::BadCharacter(1)),
+];
+
+/// Asserts the first faults of texts.
+fn have(rt: &impl Abort, alloc: Global, cases: &[(&[u8], LexFault)]) {
     for (text, fault) in cases {
-        match scan(rt.alloc(), text) {
-            Ok(_) => assert!(rt; false, "{text:?} has symbols"),
-            Err(found) => assert_eq!(rt; found, fault, "{text:?}"),
-        }
+        assert_eq!(rt; scan(alloc, text).err(), Some(*fault), "{text:?}");
     }
-    Ok(())
 }
 
 #[test]
-fn faults_are_shown(rt: HostRuntime) -> Result<(), Fail> {
+fn the_first_fault_and_its_line(rt: HostRuntime) {
+    have(&rt, rt.alloc(), &CASES);
+}
+
+/// What is shown of a fault.
+fn shown(rt: &impl Abort, alloc: Global, fault: LexFault) -> String {
+    format!(in alloc; "{fault}").expect(rt, "memory")
+}
+
+#[test]
+fn faults_are_shown(rt: HostRuntime) {
     let cases = [
         (LexFault::BadCharacter(7), "line 7 invalid character"),
         (LexFault::BadNumeral(65535), "line 65535 invalid numeral"),
         (LexFault::TooLong, "line 0 text too long"),
         (LexFault::NoMemory, "no memory"),
     ];
-    for (fault, shown) in cases {
-        let text = format!(in rt.alloc(); "{fault}")?;
-        assert_eq!(rt; text.as_str(), shown);
+    for (fault, text) in cases {
+        assert_eq!(rt; shown(&rt, rt.alloc(), fault).as_str(), text);
     }
-    Ok(())
 }

@@ -1,8 +1,23 @@
 //! Texts that have symbols.
 
-use edi_lex::{Mark, Marks, Symbol, scan};
+use edi_lex::{Mark, Marks, Symbol, Text, scan};
 use std::alloc::{AllocError, Global};
+use std::process::Abort;
 use std::test::Fail;
+
+/// Asserts the symbols of a text and its last line.
+fn assert_scanned(
+    rt: &impl Abort,
+    alloc: Global,
+    text: &[u8],
+    marks: &Marks,
+    last: u16,
+) -> Result<(), Fail> {
+    let symbols = scan(alloc, text)?;
+    assert_eq!(rt; symbols.marks.as_slice(), marks.as_slice());
+    assert_eq!(rt; symbols.last, last);
+    Ok(())
+}
 
 // The marks of these symbols on one line.
 fn on_line<const N: usize>(
@@ -79,10 +94,7 @@ fn every_word_symbol(rt: HostRuntime) -> Result<(), Fail> {
             Symbol::While,
         ],
     )?;
-    let symbols = scan(alloc, text)?;
-    assert_eq!(rt; symbols.marks.as_slice(), marks.as_slice());
-    assert_eq!(rt; symbols.last, 4);
-    Ok(())
+    assert_scanned(&rt, alloc, text, &marks, 4)
 }
 
 #[test]
@@ -122,53 +134,49 @@ fn every_special_symbol(rt: HostRuntime) -> Result<(), Fail> {
             Symbol::CloseBracket,
         ],
     )?;
-    let symbols = scan(alloc, text)?;
-    assert_eq!(rt; symbols.marks.as_slice(), marks.as_slice());
-    assert_eq!(rt; symbols.last, 2);
-    Ok(())
+    assert_scanned(&rt, alloc, text, &marks, 2)
 }
 
-// What a symbol is, and how its name or string is spelled.
-fn seen(symbol: &Symbol) -> (char, &[u8]) {
-    match symbol {
-        Symbol::Name(spelling) => ('n', spelling.as_slice()),
-        Symbol::Chars(characters) => ('s', characters.as_slice()),
-        Symbol::Numeral(0) => ('0', b""),
-        Symbol::Numeral(12) => ('d', b""),
-        Symbol::Numeral(32767) => ('m', b""),
-        _ => ('?', b""),
+// A name, a string, or a numeral with this value.
+fn symbol_of(
+    alloc: Global,
+    kind: char,
+    spelling: &'static [u8],
+    value: i16,
+) -> Result<Symbol, AllocError> {
+    match kind {
+        'n' => Ok(Symbol::Name(Text::from_slice(alloc, spelling)?)),
+        's' => Ok(Symbol::Chars(Text::from_slice(alloc, spelling)?)),
+        _ => Ok(Symbol::Numeral(value)),
     }
 }
 
 #[test]
 fn names_numerals_and_strings(rt: HostRuntime) -> Result<(), Fail> {
+    let alloc = rt.alloc();
     let text =
         b"a Begin z_9_ 0 32767 0012 00012b 'x' '''\n'a b' ''' \"\" \" '\n\t\r\" x\r\n'\"''~'\n\n";
-    let expected: [(u16, char, &[u8]); 15] = [
-        (1, 'n', b"a"),
-        (1, 'n', b"Begin"),
-        (1, 'n', b"z_9_"),
-        (1, '0', b""),
-        (1, 'm', b""),
-        (1, 'd', b""),
-        (1, 'd', b""),
-        (1, 'n', b"b"),
-        (1, 's', b"x"),
-        (1, 's', b"'"),
-        (2, 's', b"a b"),
-        (2, 's', b"'"),
-        (3, 'n', b"x"),
-        (4, 's', b"\""),
-        (4, 's', b"~"),
+    let expected: [(u16, char, &[u8], i16); 15] = [
+        (1, 'n', b"a", 0),
+        (1, 'n', b"Begin", 0),
+        (1, 'n', b"z_9_", 0),
+        (1, 'd', b"", 0),
+        (1, 'd', b"", 32767),
+        (1, 'd', b"", 12),
+        (1, 'd', b"", 12),
+        (1, 'n', b"b", 0),
+        (1, 's', b"x", 0),
+        (1, 's', b"'", 0),
+        (2, 's', b"a b", 0),
+        (2, 's', b"'", 0),
+        (3, 'n', b"x", 0),
+        (4, 's', b"\"", 0),
+        (4, 's', b"~", 0),
     ];
-    let symbols = scan(rt.alloc(), text)?;
-    assert_eq!(rt; symbols.marks.len(), 15);
-    assert_eq!(rt; symbols.last, 6);
-    for ((line, kind, spelling), mark) in expected.iter().zip(symbols.marks.as_slice()) {
-        assert_eq!(rt; mark.line, *line);
-        let (found, bytes) = seen(&mark.symbol);
-        assert_eq!(rt; found, *kind);
-        assert_eq!(rt; bytes, *spelling);
+    let mut marks = Marks::new(alloc);
+    for (line, kind, spelling, value) in expected {
+        let symbol = symbol_of(alloc, kind, spelling, value)?;
+        marks.push(alloc, Mark { symbol, line })?;
     }
-    Ok(())
+    assert_scanned(&rt, alloc, text, &marks, 6)
 }
