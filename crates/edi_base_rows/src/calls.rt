@@ -1,147 +1,20 @@
 //! Programs' calls of a system in memory.
 
-ghost use Rattle.std.specs.Prelude.{◌≡◌, ◌≤◌};
-
-use edi_calls::{CallEnd, Calls, FileKind, Outside, blocks_of, is_title, words_of};
+use crate::call_rows::{
+    ACCEPT, CLOSE, DISPLAY, FAULTS, FILE, FIND, FREE, IS_TEXT, KEPT, MORE, PRINT, PRINTED, READ,
+    REMOVE, SHOWN, TITLED, WRITE, add, walk,
+};
+use crate::outside::filled;
+use edi_calls::{FileKind, blocks_of, is_title, words_of};
 use edi_memory::MemoryCalls;
-use std::process::Abort;
 use std::test::Fail;
 
-const ACCEPT: u8 = 1;
-
-const DISPLAY: u8 = 2;
-
-const PRINT: u8 = 3;
-
-const FIND: u8 = 4;
-
-const MORE: u8 = 5;
-
-const READ: u8 = 6;
-
-const FRESH: u8 = 7;
-
-const WRITE: u8 = 8;
-
-const CLOSE: u8 = 9;
-
-const REMOVE: u8 = 10;
-
-/// No call: a file of so many characters is begun and written.
-const FILE: u8 = 11;
-
-/// No call: the number of free blocks.
-const FREE: u8 = 12;
-
-/// A call with a character (for `FILE` their number) and a title, as far as it takes them, and what it answers: its word,
-/// 0 where it has none, and 1000 or more for another end than `Ok`.
-type Step = (u8, u32, &'static str, u16);
-
-/// Makes a call with an answer word, and gives it.
-fn ask<C: Calls>(rt: &impl Abort, calls: &mut C, number: u8, args: &[u16]) -> (CallEnd, u16)
-    requires from { 1 ≤ number }
-    requires to { number ≤ 10 }
-    requires working { C.failed calls.old None }
-{
-    let (arguments, answers) = words_of(number);
-    assert_eq!(rt; args.len(), arguments);
-    assert_eq!(rt; answers, 1);
-    let mut answer = [u16::MAX];
-    let end = calls.call(number, args, &mut answer);
-    (end, answer[0])
-}
-
-/// Makes a call without an answer word.
-fn tell<C: Calls>(rt: &impl Abort, calls: &mut C, number: u8, args: &[u16]) -> CallEnd
-    requires from { 1 ≤ number }
-    requires to { number ≤ 10 }
-    requires working { C.failed calls.old None }
-{
-    let (arguments, answers) = words_of(number);
-    assert_eq!(rt; args.len(), arguments);
-    assert_eq!(rt; answers, 0);
-    calls.call(number, args, &mut [])
-}
-
-/// The word that a call of a system which works answers, or the number 1000 and more for another end.
-fn answer(rt: &impl Abort, calls: &mut MemoryCalls, number: u8, args: &[u16]) -> u16
-    requires from { 1 ≤ number }
-    requires to { number ≤ 10 }
-{
-    assert_eq!(rt; calls.failed(), None);
-    match ask(rt, calls, number, args) {
-        (CallEnd::Ok, word) => word,
-        (CallEnd::NoFile, _) => 1_000,
-        (CallEnd::FileLimit, _) => 1_001,
-        (CallEnd::OutsideFault, _) => 1_002,
-    }
-}
-
-/// The end of a call without answer, of a system which works.
-fn end(rt: &impl Abort, calls: &mut MemoryCalls, number: u8, args: &[u16]) -> CallEnd
-    requires from { 1 ≤ number }
-    requires to { number ≤ 10 }
-{
-    assert_eq!(rt; calls.failed(), None);
-    tell(rt, calls, number, args)
-}
-
-/// A title filled with blanks.
-fn title(text: &str) -> [u16; 12] {
-    let mut words = [32; 12];
-    for (word, byte) in words.iter_mut().zip(text.as_bytes()) {
-        *word = u16::from(*byte);
-    }
-    words
-}
-
-/// What the end of a call without answer is in a `Step`.
-fn ended(end: CallEnd) -> u16 {
-    match end {
-        CallEnd::Ok => 0,
-        CallEnd::NoFile => 1_000,
-        CallEnd::FileLimit => 1_001,
-        CallEnd::OutsideFault => 1_002,
-    }
-}
-
-/// Begins a file and writes so many characters.
-fn write(rt: &impl Abort, calls: &mut MemoryCalls, length: u32) -> u16 {
-    let mut last = ended(end(rt, calls, FRESH, &[]));
-    for _ in 0..length {
-        if last == 0 {
-            last = ended(end(rt, calls, WRITE, &[97]));
-        }
-    }
-    last
-}
-
-/// What a call of a system which works answers.
-fn made(rt: &impl Abort, calls: &mut MemoryCalls, number: u8, character: u32, text: &str) -> u16 {
-    if number == FILE {
-        return write(rt, calls, character);
-    }
-    if number == FREE {
-        return (calls.free_blocks() % 65_536) as u16;
-    }
+/// The words of a call; none where there is no such call.
+fn words_at(number: u8) -> Option<(usize, usize)> {
     if number < 1 || number > 10 {
-        return 1_003;
+        return None;
     }
-    match words_of(number) {
-        (0, 1) => answer(rt, calls, number, &[]),
-        (12, 1) => answer(rt, calls, number, &title(text)),
-        (0, 0) => ended(end(rt, calls, number, &[])),
-        (1, 0) => ended(end(rt, calls, number, &[(character % 65_536) as u16])),
-        _ => 1_003,
-    }
-}
-
-/// Makes the calls of a table.
-fn walk(rt: &impl Abort, calls: &mut MemoryCalls, steps: &[Step]) {
-    for (number, character, text, word) in steps {
-        let found = made(rt, calls, *number, *character, text);
-        assert_eq!(rt; found, *word, "call {number} {text}");
-    }
+    Some(words_of(number))
 }
 
 #[test]
@@ -159,9 +32,7 @@ fn calls_have_their_words(rt: HostRuntime) -> Result<(), Fail> {
         (12, 1),
     ];
     for (i, words) in (1..11).zip(cases) {
-        assert!(rt; 1 <= i);
-        assert!(rt; i <= 10);
-        assert_eq!(rt; words_of(i), words, "call {i}");
+        assert!(rt; words_at(i) == Some(words), "call {i}");
     }
     Ok(())
 }
@@ -180,9 +51,17 @@ fn titles_are_names(rt: HostRuntime) -> Result<(), Fail> {
         ("a-b", false),
     ];
     for (text, valid) in cases {
-        assert_eq!(rt; is_title(text.as_bytes()), valid, "{text}");
+        assert!(rt; is_title(text.as_bytes()) == valid, "{text}");
     }
     Ok(())
+}
+
+/// The blocks of a file of so many bytes; none where no file is so long.
+fn blocks_at(bytes: usize) -> Option<usize> {
+    if bytes > 261_120 {
+        return None;
+    }
+    Some(blocks_of(bytes))
 }
 
 #[test]
@@ -197,7 +76,7 @@ fn files_take_blocks(rt: HostRuntime) -> Result<(), Fail> {
         (261_120, 512),
     ];
     for (bytes, blocks) in cases {
-        assert_eq!(rt; blocks_of(bytes), blocks, "{bytes} bytes");
+        assert!(rt; blocks_at(bytes) == Some(blocks), "{bytes} bytes");
     }
     Ok(())
 }
@@ -215,11 +94,11 @@ fn terminal_and_printer_take_characters(rt: HostRuntime) -> Result<(), Fail> {
         (ACCEPT, 0, "", 25),
         (DISPLAY, 25, "", 0),
         (PRINT, 0xff41, "", 0),
+        (SHOWN, 0, "xx\x19\x19", 1),
+        (PRINTED, 0, "A", 1),
+        (FAULTS, 0, "", 0),
     ];
     walk(&rt, &mut calls, &steps);
-    assert_eq!(rt; calls.shown(), b"xx\x19\x19".as_slice());
-    assert_eq!(rt; calls.printed(), b"A".as_slice());
-    assert_eq!(rt; calls.faults(Outside::Terminal), 0);
     Ok(())
 }
 
@@ -257,13 +136,16 @@ fn files_are_written_and_read(rt: HostRuntime) -> Result<(), Fail> {
 #[test]
 fn files_need_room(rt: HostRuntime) -> Result<(), Fail> {
     // A disk of 64 blocks has 31 for files; the first file leaves 2 or 3 of them.
-    for (pages, done) in [(28, 0), (27, 1)] {
+    for (size, done) in [(14_336, 0), (13_824, 1)] {
         let mut calls = MemoryCalls::new(rt.alloc(), b"", 64)?;
-        let bytes = vec![in rt.alloc(); 0; pages * 512]?;
-        assert_eq!(rt;
-            calls.add(rt.alloc(), b"first", FileKind::Text, false, &bytes)?,
-            true
+        let bytes = filled(rt.alloc(), 0, size)?;
+        let first = add(
+            rt.alloc(),
+            &mut calls,
+            ("first", FileKind::Text, false),
+            &bytes,
         );
+        assert!(rt; first == Some(true), "{size}");
         let steps = [(FILE, 513, "", 0), (CLOSE, 0, "second", done)];
         walk(&rt, &mut calls, &steps);
     }
@@ -296,14 +178,13 @@ fn protected_files_and_code_stay_as_they_are(rt: HostRuntime) -> Result<(), Fail
         ("code", FileKind::Code, false, "c", true),
     ];
     for (text, kind, protected, bytes, done) in files {
-        let added = calls.add(
+        let added = add(
             rt.alloc(),
-            text.as_bytes(),
-            kind,
-            protected,
+            &mut calls,
+            (text, kind, protected),
             bytes.as_bytes(),
-        )?;
-        assert_eq!(rt; added, done, "{text}");
+        );
+        assert!(rt; added == Some(done), "{text}");
     }
     let steps = [
         (FIND, 0, "p", 1),
@@ -314,13 +195,10 @@ fn protected_files_and_code_stay_as_they_are(rt: HostRuntime) -> Result<(), Fail
         (FIND, 0, "code", 0),
         (READ, 0, "", 1_000),
         (CLOSE, 0, "code", 1),
+        (IS_TEXT, 1, "", 1),
+        (KEPT, 0, "kept", 1),
     ];
     walk(&rt, &mut calls, &steps);
-    assert_eq!(rt; calls.slot(1).expect(&rt, "a file").kind(), FileKind::Text);
-    assert_eq!(rt;
-        calls.file(b"p").expect(&rt, "a file").bytes(),
-        b"kept".as_slice()
-    );
     Ok(())
 }
 
@@ -343,8 +221,13 @@ fn there_are_256_slots(rt: HostRuntime) -> Result<(), Fail> {
     let mut calls = MemoryCalls::new(rt.alloc(), b"", 4_096)?;
     for i in 0..257u32 {
         let text = format!(in rt.alloc(); "t{i}")?;
-        let added = calls.add(rt.alloc(), text.as_bytes(), FileKind::Text, false, b"")?;
-        assert_eq!(rt; added, i < 256, "{i}");
+        let added = add(
+            rt.alloc(),
+            &mut calls,
+            (text.as_str(), FileKind::Text, false),
+            b"",
+        );
+        assert!(rt; added == Some(i < 256), "{i}");
     }
     let first = [
         (FILE, 0, "", 0),
@@ -354,10 +237,7 @@ fn there_are_256_slots(rt: HostRuntime) -> Result<(), Fail> {
     ];
     walk(&rt, &mut calls, &first);
     calls.fresh();
-    walk(&rt, &mut calls, &[(FILE, 0, "", 0), (CLOSE, 0, "u", 1)]);
-    assert_eq!(rt;
-        calls.slot(9).expect(&rt, "a file").title(),
-        b"u".as_slice()
-    );
+    let second = [(FILE, 0, "", 0), (CLOSE, 0, "u", 1), (TITLED, 9, "u", 1)];
+    walk(&rt, &mut calls, &second);
     Ok(())
 }

@@ -1,27 +1,30 @@
 //! Choices and their files.
 
 use edi_trace::{ChoiceFault, Choices, read_choices, write_choices};
+use std::process::Abort;
 use std::test::Fail;
+
+// The choices to come first are these, and are told as those that were drawn.
+fn are_drawn(rt: &impl Abort, choices: &mut Choices, values: &[u8]) {
+    for (i, value) in values.iter().enumerate() {
+        assert!(rt; choices.drawn() == i as u64, "choice {i}");
+        assert!(rt; choices.draw() == *value, "choice {i}");
+    }
+    assert!(rt; choices.used() == values);
+    assert!(rt; choices.drawn() == values.len() as u64);
+}
 
 #[test]
 fn a_seed_generates(rt: HostRuntime) -> Result<(), Fail> {
     let mut choices = Choices::seeded(rt.alloc(), 7)?;
-    for (i, value) in [230, 15].into_iter().enumerate() {
-        assert_eq!(rt; choices.drawn(), i as u64);
-        assert_eq!(rt; choices.draw(), value, "choice {i}");
-    }
-    assert_eq!(rt; choices.used(), [230, 15].as_slice());
+    are_drawn(&rt, &mut choices, &[230, 15]);
     Ok(())
 }
 
 #[test]
 fn a_list_goes_on_with_zeros(rt: HostRuntime) -> Result<(), Fail> {
     let mut choices = Choices::list(rt.alloc(), &[3, 255])?;
-    for (i, value) in [3, 255, 0, 0].into_iter().enumerate() {
-        assert_eq!(rt; choices.draw(), value, "choice {i}");
-    }
-    assert_eq!(rt; choices.used(), [3, 255, 0, 0].as_slice());
-    assert_eq!(rt; choices.drawn(), 4);
+    are_drawn(&rt, &mut choices, &[3, 255, 0, 0]);
     Ok(())
 }
 
@@ -31,8 +34,7 @@ fn the_first_choices_are_kept(rt: HostRuntime) -> Result<(), Fail> {
     for _ in 0..65_540 {
         choices.draw();
     }
-    assert_eq!(rt; choices.drawn(), 65_540);
-    assert_eq!(rt; choices.used().len(), 65_536);
+    assert!(rt; (choices.drawn(), choices.used().len()) == (65_540, 65_536));
     Ok(())
 }
 
@@ -42,6 +44,14 @@ fn bad_line(rt: &HostRuntime, bytes: &[u8]) -> u32 {
         Ok(_) => 0,
         Err(ChoiceFault::Line(line)) => line,
         Err(ChoiceFault::NoMemory) => u32::MAX,
+    }
+}
+
+/// Whether a file has these choices.
+fn are_read(rt: &HostRuntime, bytes: &[u8], values: &[u8]) -> bool {
+    match read_choices(rt.alloc(), bytes) {
+        Ok(found) => found.as_slice() == values,
+        Err(_) => false,
     }
 }
 
@@ -61,10 +71,9 @@ fn files_are_read_to_the_first_bad_line(rt: HostRuntime) -> Result<(), Fail> {
         (b" 1\n".as_slice(), 1),
     ];
     for (bytes, line) in cases {
-        assert_eq!(rt; bad_line(&rt, bytes), line, "{bytes:?}");
+        assert!(rt; bad_line(&rt, bytes) == line, "{bytes:?}");
     }
-    let values = read_choices(rt.alloc(), b"7\n007\n255\n").expect(&rt, "choices");
-    assert_eq!(rt; values.as_slice(), [7, 7, 255].as_slice());
+    assert!(rt; are_read(&rt, b"7\n007\n255\n", &[7, 7, 255]));
     Ok(())
 }
 
@@ -74,17 +83,17 @@ fn a_file_has_at_most_65536_lines(rt: HostRuntime) -> Result<(), Fail> {
     for _ in 0..65_536 {
         bytes.extend_from_slice(b"1\n")?;
     }
-    assert_eq!(rt; bad_line(&rt, &bytes), 0);
-    bytes.push(b'1')?;
-    assert_eq!(rt; bad_line(&rt, &bytes), 65_537);
-    bytes.push(b'\n')?;
-    assert_eq!(rt; bad_line(&rt, &bytes), 65_537);
+    // So many lines, a digit more, and a line feed more.
+    for (more, line) in [(b"".as_slice(), 0), (b"1", 65_537), (b"\n", 65_537)] {
+        bytes.extend_from_slice(more)?;
+        assert!(rt; bad_line(&rt, &bytes) == line, "{line}");
+    }
     Ok(())
 }
 
 #[test]
 fn files_are_written(rt: HostRuntime) -> Result<(), Fail> {
     let bytes = write_choices(rt.alloc(), &[0, 9, 10, 255])?;
-    assert_eq!(rt; bytes.as_slice(), b"0\n9\n10\n255\n".as_slice());
+    assert!(rt; bytes.as_slice() == b"0\n9\n10\n255\n".as_slice());
     Ok(())
 }

@@ -38,29 +38,30 @@ fn bad_words(rt: HostRuntime) {
     }
 }
 
+/// Whether the words of a line are this command; none where memory is wanting.
+fn is_command(alloc: Global, line: &str, expected: Command<'_>) -> Option<bool> {
+    let words = words_of(alloc, line).ok()?;
+    let found = command(alloc, &words).ok()?;
+    Some(found == Some(expected))
+}
+
 #[test]
 fn options_anywhere(rt: HostRuntime) {
-    let words = words_of(rt.alloc(), "--seed 7 run --turns 0000000005 a --record r").expect(
-        &rt, "words",
-    );
-    let found = command(rt.alloc(), &words).expect(&rt, "memory");
+    let line = "--seed 7 run --turns 0000000005 a --record r";
     let options = Options {
         turns: 5,
         choices: ChoicesFrom::Seed(7),
         record_file: Some("r"),
     };
-    assert!(rt; found == Some(Command::Run { file: "a", options }));
+    let expected = Command::Run { file: "a", options };
+    assert!(rt; is_command(rt.alloc(), line, expected) == Some(true));
 }
 
 #[test]
 fn an_old_disk(rt: HostRuntime) {
-    let words = words_of(rt.alloc(), "newdisk --from old 64").expect(&rt, "words");
-    let found = command(rt.alloc(), &words).expect(&rt, "memory");
-    assert!(rt;
-        found
-            == Some(Command::NewDisk {
-                blocks: 64,
-                old: Some("old")
-            })
-    );
+    let expected = Command::NewDisk {
+        blocks: 64,
+        old: Some("old"),
+    };
+    assert!(rt; is_command(rt.alloc(), "newdisk --from old 64", expected) == Some(true));
 }

@@ -3,11 +3,13 @@
 ghost use Rattle.std.specs.Prelude.{◌≡◌, ◌≤◌, ◌+◌, length, false, IsTrue};
 ghost use Rattle.edi_edit.specs.Lines.{has_feed};
 
+use crate::outside::filled;
 use edi_edit::{EditEnd, ROOM, Text, UNDOS};
 use std::alloc::{AllocError, Global};
+use std::process::Abort;
 use std::test::Fail;
 
-#[derive(Clone, Copy, Debug)]
+#[derive(Clone, Copy)]
 enum Call<'a> {
     Insert(u32, &'a [u8]),
     Replace(u32, &'a [u8]),
@@ -15,7 +17,7 @@ enum Call<'a> {
     Undo,
 }
 
-#[derive(Clone, Copy, Debug, PartialEq, Eq)]
+#[derive(Clone, Copy, PartialEq)]
 enum Answer {
     Done,
     NothingToUndo,
@@ -59,11 +61,38 @@ fn make(text: &mut Text, alloc: Global, call: Call) -> Answer {
     }
 }
 
-fn read(alloc: Global, bytes: &[u8]) -> Result<Option<Text>, AllocError> {
+fn read(alloc: Global, bytes: &[u8]) -> Result<Text, Fail> {
     if bytes.len() > ROOM as usize {
-        return Ok(None);
+        return Err(Fail::from("too long"));
     }
-    Ok(Some(Text::new(alloc, bytes)?))
+    Ok(Text::new(alloc, bytes)?)
+}
+
+// Whether the text has these bytes; not where memory is wanting.
+fn has_bytes(text: &Text, alloc: Global, expected: &[u8]) -> bool {
+    match text.bytes(alloc) {
+        Ok(bytes) => bytes.as_slice() == expected,
+        Err(AllocError) => false,
+    }
+}
+
+/// A call, its answer, and the bytes of the text behind it.
+type Step<'a> = (Call<'a>, Answer, &'a [u8]);
+
+// Makes the calls of a table.
+fn walk(rt: &impl Abort, alloc: Global, text: &mut Text, steps: &[Step<'_>]) {
+    for (row, (call, answer, bytes)) in steps.iter().enumerate() {
+        assert!(rt; make(text, alloc, *call) == *answer, "row {row}");
+        assert!(rt; has_bytes(text, alloc, bytes), "row {row}");
+    }
+}
+
+// Makes a call so many times.
+fn repeat(rt: &impl Abort, alloc: Global, text: &mut Text, count: usize, step: (Call<'_>, Answer)) {
+    let (call, answer) = step;
+    for i in 0..count {
+        assert!(rt; make(text, alloc, call) == answer, "{i} of {count}");
+    }
 }
 
 #[test]
@@ -71,7 +100,7 @@ fn an_editing(rt: HostRuntime) -> Result<(), Fail> {
     use Answer::{Done, NoLine, NothingToUndo};
     use Call::{Delete, Insert, Replace, Undo};
     let alloc = rt.alloc();
-    let steps: [(Call, Answer, &[u8]); 22] = [
+    let steps: [Step<'_>; 22] = [
         (Insert(2, b"b"), Done, b"a\nb\n"),
         (Delete(1), Done, b"b\n"),
         (Undo, Done, b"a\nb\n"),
@@ -95,12 +124,19 @@ fn an_editing(rt: HostRuntime) -> Result<(), Fail> {
         (Undo, Done, b""),
         (Undo, Done, b"a\n"),
     ];
-    let mut text = read(alloc, b"a\n")?.ok_or("too long")?;
-    for (call, answer, bytes) in steps {
-        assert_eq!(rt; make(&mut text, alloc, call), answer, "{call:?}");
-        assert_eq!(rt; text.bytes(alloc)?.as_slice(), bytes, "{call:?}");
-    }
+    let mut text = read(alloc, b"a\n")?;
+    walk(&rt, alloc, &mut text, &steps);
     Ok(())
+}
+
+// Whether the lines 0 to 3 are these.
+fn has_lines(text: &Text, lines: &[Option<&[u8]>]) -> bool {
+    for (at, line) in (0..4u32).zip(lines) {
+        if text.line(at) != *line {
+            return false;
+        }
+    }
+    true
 }
 
 #[test]
@@ -117,12 +153,18 @@ fn pieces_of_a_text(rt: HostRuntime) -> Result<(), Fail> {
         (b"a\n\na\n", [None, Some(a), Some(none), Some(a)]),
     ];
     for (bytes, lines) in cases {
-        let text = read(alloc, bytes)?.ok_or("too long")?;
-        for at in 0..4u32 {
-            assert_eq!(rt; text.line(at), lines[at as usize], "{bytes:?}");
-        }
+        let text = read(alloc, bytes)?;
+        assert!(rt; has_lines(&text, &lines), "{bytes:?}");
     }
     Ok(())
+}
+
+// All but the last byte.
+fn less_one(bytes: &[u8]) -> &[u8] {
+    match bytes.split_last() {
+        Some((_, front)) => front,
+        None => bytes,
+    }
 }
 
 #[test]
@@ -131,9 +173,10 @@ fn a_full_text(rt: HostRuntime) -> Result<(), Fail> {
     use Call::{Delete, Insert, Replace, Undo};
     let alloc = rt.alloc();
     // So many bytes with no line feed are one line, which counts one more.
-    let bytes = vec![in alloc; b'a'; 261_120]?;
+    let bytes = filled(alloc, b'a', 261_120)?;
     let all = bytes.as_slice();
-    let steps: [(Call, Answer); 9] = [
+    let less = less_one(all);
+    let steps: [(Call<'_>, Answer); 9] = [
         (Insert(1, b""), Full(261_122)),
         (Replace(1, all), Full(261_121)),
         (Insert(3, b""), NoLine),
@@ -141,12 +184,12 @@ fn a_full_text(rt: HostRuntime) -> Result<(), Fail> {
         (Undo, Done),
         (Delete(1), Done),
         (Insert(1, all), Full(261_121)),
-        (Insert(1, &all[1..]), Done),
+        (Insert(1, less), Done),
         (Insert(1, b""), Full(261_121)),
     ];
-    let mut text = read(alloc, all)?.ok_or("too long")?;
-    for (call, answer) in steps {
-        assert_eq!(rt; make(&mut text, alloc, call), answer);
+    let mut text = read(alloc, all)?;
+    for step in &steps {
+        repeat(&rt, alloc, &mut text, 1, *step);
     }
     Ok(())
 }
@@ -154,18 +197,16 @@ fn a_full_text(rt: HostRuntime) -> Result<(), Fail> {
 #[test]
 fn the_last_changes(rt: HostRuntime) -> Result<(), Fail> {
     let alloc = rt.alloc();
-    let mut text = read(alloc, b"x\n")?.ok_or("too long")?;
-    assert_eq!(rt;
-        make(&mut text, alloc, Call::Replace(1, b"first")),
-        Answer::Done
-    );
-    for _ in 0..UNDOS {
-        assert_eq!(rt; make(&mut text, alloc, Call::Insert(1, b"y")), Answer::Done);
+    let mut text = read(alloc, b"x\n")?;
+    let steps: [(usize, (Call<'_>, Answer)); 4] = [
+        (1, (Call::Replace(1, b"first"), Answer::Done)),
+        (UNDOS, (Call::Insert(1, b"y"), Answer::Done)),
+        (UNDOS, (Call::Undo, Answer::Done)),
+        (1, (Call::Undo, Answer::NothingToUndo)),
+    ];
+    for (count, step) in &steps {
+        repeat(&rt, alloc, &mut text, *count, *step);
     }
-    for _ in 0..UNDOS {
-        assert_eq!(rt; make(&mut text, alloc, Call::Undo), Answer::Done);
-    }
-    assert_eq!(rt; make(&mut text, alloc, Call::Undo), Answer::NothingToUndo);
-    assert_eq!(rt; text.bytes(alloc)?.as_slice(), b"first\n".as_slice());
+    assert!(rt; has_bytes(&text, alloc, b"first\n"));
     Ok(())
 }

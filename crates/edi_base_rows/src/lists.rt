@@ -1,13 +1,14 @@
 //! Lists linked by index, each checked by every call that reads them.
 
 use edi_ring::Lists;
+use std::process::Abort;
 use std::test::Fail;
 
 const NODES: usize = 5;
 
 const LISTS: usize = 2;
 
-#[derive(Clone, Copy, Debug)]
+#[derive(Clone, Copy)]
 enum Call {
     PushBack(usize, usize),
     Take(usize),
@@ -39,18 +40,26 @@ fn make(lists: &mut Lists<NODES, LISTS>, call: Call) -> bool {
     true
 }
 
-fn holds(lists: &Lists<NODES, LISTS>, list: usize, nodes: &[usize]) -> bool {
-    if list >= LISTS
-        || lists.len(list) != nodes.len()
-        || lists.front(list) != nodes.first().copied()
-    {
+// Whether the nodes of a list are these in order, and no others.
+fn are_in_order(lists: &Lists<NODES, LISTS>, list: usize, nodes: &[usize]) -> bool {
+    if list >= LISTS {
         return false;
     }
-    for i in 0..7 {
-        if lists.nth(list, i) != nodes.get(i).copied() {
+    for (i, node) in nodes.iter().enumerate() {
+        if lists.nth(list, i) != Some(*node) {
             return false;
         }
     }
+    for i in nodes.len()..7 {
+        if lists.nth(list, i).is_some() {
+            return false;
+        }
+    }
+    true
+}
+
+// Whether these nodes and no others are at home in a list.
+fn are_at_home(lists: &Lists<NODES, LISTS>, list: usize, nodes: &[usize]) -> bool {
     for node in 0..NODES {
         if (lists.home(node) == Some(list)) != nodes.contains(&node) {
             return false;
@@ -59,11 +68,37 @@ fn holds(lists: &Lists<NODES, LISTS>, list: usize, nodes: &[usize]) -> bool {
     true
 }
 
+fn holds(lists: &Lists<NODES, LISTS>, list: usize, nodes: &[usize]) -> bool {
+    list < LISTS
+        && lists.len(list) == nodes.len()
+        && lists.front(list) == nodes.first().copied()
+        && are_in_order(lists, list, nodes)
+        && are_at_home(lists, list, nodes)
+}
+
+// Whether the two lists have these nodes.
+fn hold(lists: &Lists<NODES, LISTS>, first: &[usize], second: &[usize]) -> bool {
+    holds(lists, 0, first) && holds(lists, 1, second)
+}
+
+/// A call, and the nodes of the two lists behind it.
+type Step<'a> = (Call, &'a [usize], &'a [usize]);
+
+// Makes the calls of a table.
+fn walk(rt: &impl Abort, lists: &mut Lists<NODES, LISTS>, steps: &[Step<'_>]) {
+    for (row, (call, first, second)) in steps.iter().enumerate() {
+        assert!(rt;
+            make(lists, *call) && hold(lists, first, second),
+            "row {row}"
+        );
+    }
+}
+
 #[test]
 fn calls_in_a_row(rt: HostRuntime) -> Result<(), Fail> {
     use Call::{PushBack, Take, ToBack};
     let none: &[usize] = &[];
-    let steps: [(Call, &[usize], &[usize]); 17] = [
+    let steps: [Step<'_>; 17] = [
         (PushBack(0, 3), &[3], none),
         (PushBack(0, 1), &[3, 1], none),
         (PushBack(0, 4), &[3, 1, 4], none),
@@ -87,12 +122,7 @@ fn calls_in_a_row(rt: HostRuntime) -> Result<(), Fail> {
         (PushBack(0, 0), &[0], &[1, 4]),
     ];
     let mut lists = Lists::new();
-    assert!(rt; holds(&lists, 0, none));
-    assert!(rt; holds(&lists, 1, none));
-    for (call, first, second) in steps {
-        assert!(rt; make(&mut lists, call), "{call:?}");
-        assert!(rt; holds(&lists, 0, first), "{call:?}");
-        assert!(rt; holds(&lists, 1, second), "{call:?}");
-    }
+    assert!(rt; hold(&lists, none, none));
+    walk(&rt, &mut lists, &steps);
     Ok(())
 }

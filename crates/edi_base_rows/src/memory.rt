@@ -1,33 +1,88 @@
 //! The memory and its shares.
 
 use edi_store::{Segment, Store, carve};
+use std::alloc::{AllocError, Global};
+use std::process::Abort;
 use std::test::Fail;
+
+/// Puts words.
+fn put(store: &mut Store, words: &[(u16, u16)]) {
+    for (at, word) in words {
+        store.put(*at, *word);
+    }
+}
+
+/// Clears words, so many from a place on; none where they are not all in the memory.
+fn clear(store: &mut Store, ranges: &[(u32, u32)]) {
+    for (at, n) in ranges {
+        if *n <= 65_536 && *at <= 65_536 && *at + *n <= 65_536 {
+            store.clear(*at, *n);
+        }
+    }
+}
+
+/// The words are in their places.
+fn holds(rt: &impl Abort, store: &Store, words: &[(u16, u16)]) {
+    for (at, word) in words {
+        assert!(rt; store.get(*at) == *word, "{at}");
+    }
+}
 
 #[test]
 fn words_are_put_and_cleared(rt: HostRuntime) -> Result<(), Fail> {
     let mut store = Store::new(rt.alloc())?;
-    assert_eq!(rt; (store.get(0), store.get(65535)), (0, 0));
-    for at in [0, 7, 8, 9, 10, 65535] {
-        store.put(at, 65535 - at);
-    }
-    store.clear(8, 2);
-    store.clear(65536, 0);
-    let cases = [
-        (0, 65535),
-        (7, 65528),
-        (8, 0),
-        (9, 0),
-        (10, 65525),
-        (65535, 0),
+    // What is put, where how many words are cleared, and what is there then.
+    let steps: [(&[(u16, u16)], &[(u32, u32)], &[(u16, u16)]); 3] = [
+        (&[], &[], &[(0, 0), (65535, 0)]),
+        (
+            &[
+                (0, 65535),
+                (7, 65528),
+                (8, 65527),
+                (9, 65526),
+                (10, 65525),
+                (65535, 0),
+            ],
+            &[(8, 2), (65536, 0)],
+            &[
+                (0, 65535),
+                (7, 65528),
+                (8, 0),
+                (9, 0),
+                (10, 65525),
+                (65535, 0),
+            ],
+        ),
+        (
+            &[(65534, 5), (65535, 6)],
+            &[(65534, 2)],
+            &[(65534, 0), (65535, 0)],
+        ),
     ];
-    for (at, want) in cases {
-        assert_eq!(rt; store.get(at), want, "{at}");
+    for (words, cleared, found) in steps {
+        put(&mut store, words);
+        clear(&mut store, cleared);
+        holds(&rt, &store, found);
     }
-    store.put(65534, 5);
-    store.put(65535, 6);
-    store.clear(65534, 2);
-    assert_eq!(rt; (store.get(65534), store.get(65535)), (0, 0));
     Ok(())
+}
+
+/// The words from 10 on, after four of 1 to 6 that stand there are copied; none where they have no room.
+fn copied(alloc: Global, to: u32) -> Result<Option<[u16; 6]>, AllocError> {
+    let mut store = Store::new(alloc)?;
+    put(
+        &mut store,
+        &[(10, 1), (11, 2), (12, 3), (13, 4), (14, 5), (15, 6)],
+    );
+    if to > 65_532 {
+        return Ok(None);
+    }
+    store.copy(10, to, 4);
+    let mut found = [0; 6];
+    for (at, word) in (10..16).zip(found.iter_mut()) {
+        *word = store.get(at);
+    }
+    Ok(Some(found))
 }
 
 #[test]
@@ -42,33 +97,35 @@ fn copies_overlap_both_ways(rt: HostRuntime) -> Result<(), Fail> {
         (100, [1, 2, 3, 4, 5, 6]),
     ];
     for (to, want) in cases {
-        let mut store = Store::new(rt.alloc())?;
-        for i in 0..6 {
-            store.put(10 + i, 1 + i);
-        }
-        store.copy(10, to, 4);
-        let found = [
-            store.get(10),
-            store.get(11),
-            store.get(12),
-            store.get(13),
-            store.get(14),
-            store.get(15),
-        ];
-        assert_eq!(rt; found, want, "copied to {to}");
+        let found = copied(rt.alloc(), to)?;
+        assert!(rt; found == Some(want), "copied to {to}");
     }
     Ok(())
+}
+
+/// Whether the words are equal; none where they are not all in the memory.
+fn are_equal(store: &Store, a: u32, b: u32, n: u32) -> Option<bool> {
+    if n > 65_536 || a > 65_536 || b > 65_536 || a + n > 65_536 || b + n > 65_536 {
+        return None;
+    }
+    Some(store.equal(a, b, n))
 }
 
 #[test]
 fn ranges_are_compared_whole(rt: HostRuntime) -> Result<(), Fail> {
     let mut store = Store::new(rt.alloc())?;
-    for i in 0..4 {
-        store.put(100 + i, 7);
-        store.put(200 + i, 7);
-    }
-    store.put(203, 8);
-    store.put(65535, 7);
+    let words = [
+        (100, 7),
+        (101, 7),
+        (102, 7),
+        (103, 7),
+        (200, 7),
+        (201, 7),
+        (202, 7),
+        (203, 8),
+        (65535, 7),
+    ];
+    put(&mut store, &words);
     let cases = [
         (100, 200, 3, true),
         (100, 200, 4, false),
@@ -79,83 +136,35 @@ fn ranges_are_compared_whole(rt: HostRuntime) -> Result<(), Fail> {
         (0, 0, 65536, true),
     ];
     for (a, b, n, want) in cases {
-        assert_eq!(rt;
-            store.equal(a, b, n),
-            want,
-            "{n} words from {a} and from {b}"
-        );
+        let found = are_equal(&store, a, b, n);
+        assert!(rt; found == Some(want), "{n} words from {a} and from {b}");
     }
     Ok(())
 }
 
+/// The share of a child, as its first word and the one behind its last; none where there is no such child or memory.
+fn share(room: (u32, u32), n: u32, i: u32) -> Option<(u32, u32)> {
+    let (first, last) = room;
+    if first > last || last > 65_536 || i >= n {
+        return None;
+    }
+    let found = carve(Segment { first, last }, n, i);
+    Some((found.first, found.last))
+}
+
 #[test]
 fn a_room_is_carved_into_shares(rt: HostRuntime) -> Result<(), Fail> {
-    let memory = Segment {
-        first: 0,
-        last: 65536,
-    };
-    let room = Segment {
-        first: 100,
-        last: 110,
-    };
     let cases = [
-        (
-            memory,
-            1,
-            0,
-            Segment {
-                first: 0,
-                last: 65536,
-            },
-        ),
-        (
-            memory,
-            3,
-            2,
-            Segment {
-                first: 43690,
-                last: 65535,
-            },
-        ),
-        (
-            room,
-            3,
-            0,
-            Segment {
-                first: 100,
-                last: 103,
-            },
-        ),
-        (
-            room,
-            3,
-            1,
-            Segment {
-                first: 103,
-                last: 106,
-            },
-        ),
-        (
-            room,
-            3,
-            2,
-            Segment {
-                first: 106,
-                last: 109,
-            },
-        ),
-        (
-            room,
-            11,
-            10,
-            Segment {
-                first: 100,
-                last: 100,
-            },
-        ),
+        ((0, 65536), 1, 0, (0, 65536)),
+        ((0, 65536), 3, 2, (43690, 65535)),
+        ((100, 110), 3, 0, (100, 103)),
+        ((100, 110), 3, 1, (103, 106)),
+        ((100, 110), 3, 2, (106, 109)),
+        ((100, 110), 11, 10, (100, 100)),
     ];
     for (room, n, i, want) in cases {
-        assert_eq!(rt; carve(room, n, i), want, "child {i} of {n} in {room:?}");
+        let found = share(room, n, i);
+        assert!(rt; found == Some(want), "child {i} of {n}");
     }
     Ok(())
 }

@@ -2,9 +2,15 @@
 
 use edi_host::{Drive, DriveEnd, FetchEnd, Files, KeepEnd, ResizeEnd};
 use std::alloc::{AllocError, Global};
+use std::process::Abort;
+
+/// So many times this byte.
+pub fn filled(alloc: Global, byte: u8, count: usize) -> Result<Vec<u8>, AllocError> {
+    vec![in alloc; byte; count]
+}
 
 /// A call on a drive.
-#[derive(Clone, Copy, Debug, Drop)]
+#[derive(Clone, Copy, Drop)]
 pub enum DriveCall {
     /// The number of blocks.
     Blocks,
@@ -26,9 +32,9 @@ fn last_byte<D: Drive>(drive: &mut D, n: u32) -> Option<u32> {
     }
 }
 
-/// Makes the call. A number of blocks is answered by itself, a read by the block's last byte, another call
-/// by 0, and a call that does not succeed by `None`.
-pub fn call_drive<D: Drive>(drive: &mut D, alloc: Global, call: DriveCall) -> Option<u32> {
+// Makes the call. A number of blocks is answered by itself, a read by the block's last byte, another call
+// by 0, and a call that does not succeed by `None`.
+fn call_drive<D: Drive>(drive: &mut D, alloc: Global, call: DriveCall) -> Option<u32> {
     let succeeds = match call {
         DriveCall::Blocks => return Some(drive.blocks()),
         DriveCall::Read(n) => return last_byte(drive, n),
@@ -40,33 +46,56 @@ pub fn call_drive<D: Drive>(drive: &mut D, alloc: Global, call: DriveCall) -> Op
     if succeeds { Some(0) } else { None }
 }
 
+/// Makes the calls of a table, each with its answer: a number of blocks by itself, a read by the block's last byte, another
+/// call by 0, and a call that does not succeed by `None`.
+pub fn walk_drive<D: Drive>(
+    rt: &impl Abort,
+    alloc: Global,
+    drive: &mut D,
+    table: &[(DriveCall, Option<u32>)],
+) {
+    for (row, (call, answer)) in table.iter().enumerate() {
+        let found = call_drive(drive, alloc, *call);
+        assert!(rt; found == *answer, "row {row}");
+    }
+}
+
 /// A call on files.
-#[derive(Clone, Copy, Debug, Drop)]
-pub enum FilesCall {
+#[derive(Clone, Copy, Drop)]
+pub enum FilesCall<'a> {
     /// Fetches the first bytes of a file, up to this limit.
     Fetch(usize),
     /// Keeps this text.
-    Keep(&'static str),
+    Keep(&'a str),
 }
 
-/// How a call on files ended, and for a fetch what it left in a buffer that had bytes before.
-pub fn call_files<F: Files>(
-    files: &mut F,
-    alloc: Global,
-    name: &str,
-    call: FilesCall,
-) -> Result<(FetchEnd, Vec<u8>), AllocError> {
-    let mut into = vec![in alloc; 1u8, 2]?;
-    let end = match call {
-        FilesCall::Fetch(limit) => files.fetch(alloc, name, limit, &mut into),
-        FilesCall::Keep(text) => {
-            into.clear();
-            match files.keep(alloc, name, text.as_bytes()) {
-                KeepEnd::Ok => FetchEnd::Ok,
-                KeepEnd::Failed => FetchEnd::Failed,
-                KeepEnd::NoMemory => FetchEnd::NoMemory,
+/// A name, a call, how it ends, and for a fetch what it leaves in a buffer that had bytes before.
+pub type FilesRow<'a> = (&'a str, FilesCall<'a>, FetchEnd, &'a str);
+
+// How a text is kept.
+fn keep<F: Files>(files: &mut F, alloc: Global, name: &str, text: &str) -> FetchEnd {
+    match files.keep(alloc, name, text.as_bytes()) {
+        KeepEnd::Ok => FetchEnd::Ok,
+        KeepEnd::Failed => FetchEnd::Failed,
+        KeepEnd::NoMemory => FetchEnd::NoMemory,
+    }
+}
+
+/// Makes the calls of a table.
+pub fn walk_files<F: Files>(rt: &impl Abort, alloc: Global, files: &mut F, table: &[FilesRow<'_>]) {
+    let mut into = Vec::new(alloc);
+    for (row, (name, call, end, bytes)) in table.iter().enumerate() {
+        let _ = into.resize(2, 1);
+        let ended = match call {
+            FilesCall::Fetch(limit) => files.fetch(alloc, name, *limit, &mut into),
+            FilesCall::Keep(text) => {
+                into.clear();
+                keep(files, alloc, name, text)
             }
-        }
-    };
-    Ok((end, into))
+        };
+        assert!(rt;
+            ended == *end && into.as_slice() == bytes.as_bytes(),
+            "row {row}"
+        );
+    }
 }

@@ -6,14 +6,20 @@ use std::test::Fail;
 /// The words of the set of 0, 15, 16 and 127: member n is bit n mod 16 of word n div 16.
 const FOUR: [u16; 8] = [0x8001, 1, 0, 0, 0, 0, 0, 0x8000];
 
+// The set of these members.
+fn set_of(members: &[u8]) -> Members {
+    let mut set = Members::empty();
+    for member in members {
+        if *member <= 127 {
+            set = set.with(*member);
+        }
+    }
+    set
+}
+
 #[test]
 fn members_at_both_ends(rt: HostRuntime) -> Result<(), Fail> {
-    let four = Members::empty()
-        .with(127)
-        .with(16)
-        .with(0)
-        .with(15)
-        .with(15);
+    let four = set_of(&[127, 16, 0, 15, 15]);
     let cases = [
         (-32768, false),
         (-1, false),
@@ -29,30 +35,42 @@ fn members_at_both_ends(rt: HostRuntime) -> Result<(), Fail> {
         (32767, false),
     ];
     for (n, want) in cases {
-        assert_eq!(rt; four.has(n), want, "{n}");
-        assert!(rt; !Members::empty().has(n), "{n} in the empty set");
+        let found = (four.has(n), Members::empty().has(n));
+        assert!(rt; found == (want, false), "{n}");
     }
-    assert_eq!(rt; four.words(), FOUR);
-    assert_eq!(rt; Members::empty().words(), [0; 8]);
+    assert!(rt; (four.words(), Members::empty().words()) == (FOUR, [0; 8]));
     assert!(rt; Members::from_words(FOUR) == four);
     Ok(())
 }
 
+// Whether each of the members is in the set, as it is wanted.
+fn has_each(set: &Members, members: &[(i16, bool)]) -> bool {
+    for (member, want) in members {
+        if set.has(*member) != *want {
+            return false;
+        }
+    }
+    true
+}
+
 #[test]
 fn operations_on_sets(rt: HostRuntime) -> Result<(), Fail> {
-    let low = Members::empty().with(0).with(40).with(41);
-    let high = Members::empty().with(41).with(127);
+    let low = set_of(&[0, 40, 41]);
+    let high = set_of(&[41, 127]);
+    let (union, less) = (low.union(&high), low.minus(&high));
     let cases = [
-        ("union", low.union(&high), [true, true, true, true]),
-        ("minus", low.minus(&high), [true, true, false, false]),
-        ("meet", low.meet(&high), [false, false, true, false]),
+        (union, [(0, true), (40, true), (41, true), (127, true)]),
+        (less, [(0, true), (40, true), (41, false), (127, false)]),
+        (
+            low.meet(&high),
+            [(0, false), (40, false), (41, true), (127, false)],
+        ),
     ];
-    for (name, found, want) in cases {
-        let has = [found.has(0), found.has(40), found.has(41), found.has(127)];
-        assert_eq!(rt; has, want, "{name}");
+    for (found, want) in cases {
+        assert!(rt; has_each(&found, &want), "{want:?}");
     }
-    assert!(rt; low.union(&high).minus(&high).union(&high) == low.union(&high));
-    assert!(rt; low.minus(&low) == Members::empty());
+    let again = union.minus(&high).union(&high);
+    assert!(rt; (again, low.minus(&low)) == (union, Members::empty()));
     assert!(rt; low != high);
     Ok(())
 }

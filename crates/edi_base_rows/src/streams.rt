@@ -1,11 +1,13 @@
 //! Sources and sinks over readers and writers, and in memory.
 
+use crate::outside::filled;
 use edi_host::{
     HostSink, HostSource, MemorySink, MemorySource, Next, PRINTER_FILE, PutEnd, Sink, Source,
     SteadySink, SteadySource,
 };
 use std::fs::File;
 use std::io::{ErrorKind, Read, Write};
+use std::process::Abort;
 use std::test::Fail;
 use std::{fs, io};
 
@@ -58,25 +60,57 @@ impl Write for Narrow {
     }
 }
 
+// The source gives these in order.
+fn gives<S: Source>(rt: &impl Abort, source: &mut S, expected: &[Next]) {
+    for (row, next) in expected.iter().enumerate() {
+        assert!(rt; source.next() == *next, "row {row}");
+    }
+}
+
+/// A piece, how many of its bytes are taken, and how that ends.
+type PutRow = (&'static str, usize, PutEnd);
+
+// The sink takes of each piece so many bytes.
+fn takes<T: Sink>(rt: &impl Abort, sink: &mut T, puts: &[PutRow]) {
+    for (piece, taken, end) in puts {
+        let put = sink.put(piece.as_bytes());
+        assert!(rt; put.taken == *taken && put.end == *end, "{piece}");
+    }
+}
+
+// How often a source over the file gives a 3, up to 5,001 times, and what it gives then.
+fn threes_of(rt: &HostRuntime, name: &str) -> Result<(u32, Next), Fail> {
+    let mut source = HostSource::new(File::open(rt, name)?);
+    for count in 0..5_001 {
+        let next = source.next();
+        if next != Next::Byte(3) {
+            return Ok((count, next));
+        }
+    }
+    Ok((5_001, Next::Byte(3)))
+}
+
+// Makes a file of so many threes, an empty file, and a folder.
+fn lay_out(rt: &HostRuntime, count: usize) -> Result<(), Fail> {
+    let bytes = filled(rt.alloc(), 3, count)?;
+    fs::write(rt, "bytes", bytes.as_slice())?;
+    fs::write(rt, "empty", "")?;
+    Ok(fs::create_dir(rt, "folder of bytes")?)
+}
+
 // A file of more bytes than one read gives, an empty file, and a folder.
 #[test]
 fn source_over_a_file(rt: HostRuntime) -> Result<(), Fail> {
-    fs::write(&rt, "bytes", [3u8; 5000].as_slice())?;
-    let mut source = HostSource::new(File::open(&rt, "bytes")?);
-    for _ in 0..5000 {
-        assert_eq!(rt; source.next(), Next::Byte(3));
+    lay_out(&rt, 5_000)?;
+    let cases = [
+        ("bytes", 5_000, Next::End),
+        ("empty", 0, Next::End),
+        ("folder of bytes", 0, Next::Failed),
+    ];
+    for (name, count, next) in cases {
+        let found = threes_of(&rt, name)?;
+        assert!(rt; found == (count, next), "{name}");
     }
-    assert_eq!(rt; source.next(), Next::End);
-    fs::write(&rt, "empty", "")?;
-    assert_eq!(rt;
-        HostSource::new(File::open(&rt, "empty")?).next(),
-        Next::End
-    );
-    fs::create_dir(&rt, "folder of bytes")?;
-    assert_eq!(rt;
-        HostSource::new(File::open(&rt, "folder of bytes")?).next(),
-        Next::Failed
-    );
     Ok(())
 }
 
@@ -92,16 +126,14 @@ fn source_over_a_reader_that_fails(rt: HostRuntime) {
         Next::End,
         Next::End,
     ];
-    for next in expected {
-        assert_eq!(rt; source.next(), next);
-    }
+    gives(&rt, &mut source, &expected);
 }
 
 // Calls 2 and 6 are to fail; at the sixth nothing is left, so that it is the end.
 #[test]
 fn sources_in_memory(rt: HostRuntime) -> Result<(), Fail> {
     let mut source = MemorySource::new(rt.alloc(), b"abc", &[2, 6])?;
-    assert_eq!(rt; source.bytes(), b"abc".as_slice());
+    assert!(rt; source.bytes() == b"abc".as_slice());
     let expected = [
         Next::Byte(97),
         Next::Failed,
@@ -110,12 +142,10 @@ fn sources_in_memory(rt: HostRuntime) -> Result<(), Fail> {
         Next::End,
         Next::End,
     ];
-    for next in expected {
-        assert_eq!(rt; source.next(), next);
-    }
+    gives(&rt, &mut source, &expected);
     let mut source = SteadySource::new(rt.alloc(), b"ab")?;
-    assert_eq!(rt; source.next(), Next::Byte(97));
-    assert_eq!(rt; source.bytes(), b"b".as_slice());
+    gives(&rt, &mut source, &[Next::Byte(97)]);
+    assert!(rt; source.bytes() == b"b".as_slice());
     Ok(())
 }
 
@@ -124,15 +154,24 @@ fn sources_in_memory(rt: HostRuntime) -> Result<(), Fail> {
 fn sink_over_the_printer(rt: HostRuntime) -> Result<(), Fail> {
     fs::write(&rt, PRINTER_FILE, "old text")?;
     let mut sink = HostSink::printer(&rt);
-    assert_eq!(rt; fs::read(&rt, PRINTER_FILE)?.len(), 0);
-    for (piece, taken) in [("abc", 3), ("", 0), ("de", 2)] {
-        let put = sink.put(piece.as_bytes());
-        assert_eq!(rt; (put.taken, put.end), (taken, PutEnd::Ok), "{piece}");
+    let puts: [(&[PutRow], &str); 2] = [
+        (&[], ""),
+        (
+            &[
+                ("abc", 3, PutEnd::Ok),
+                ("", 0, PutEnd::Ok),
+                ("de", 2, PutEnd::Ok),
+            ],
+            "abcde",
+        ),
+    ];
+    for (pieces, text) in puts {
+        takes(&rt, &mut sink, pieces);
+        assert!(rt;
+            fs::read(&rt, PRINTER_FILE)?.as_slice() == text.as_bytes(),
+            "{text}"
+        );
     }
-    assert_eq!(rt;
-        fs::read(&rt, PRINTER_FILE)?.as_slice(),
-        b"abcde".as_slice()
-    );
     Ok(())
 }
 
@@ -143,8 +182,7 @@ fn sinks_that_fail(rt: HostRuntime) -> Result<(), Fail> {
     fs::create_dir(&rt, PRINTER_FILE)?;
     let full = HostSink::new(File::create(&rt, "/dev/full")?);
     for mut sink in [HostSink::printer(&rt), full] {
-        let put = sink.put(b"abc");
-        assert_eq!(rt; (put.taken, put.end), (0, PutEnd::Failed));
+        takes(&rt, &mut sink, &[("abc", 0, PutEnd::Failed)]);
     }
     fs::remove_dir(&rt, PRINTER_FILE)?;
     Ok(())
@@ -157,16 +195,13 @@ fn sinks_over_writers(rt: HostRuntime) {
         taken: 0,
         flushes: true,
     });
-    for (piece, taken, end) in [("abc", 3, PutEnd::Ok), ("de", 1, PutEnd::Failed)] {
-        let put = sink.put(piece.as_bytes());
-        assert_eq!(rt; (put.taken, put.end), (taken, end), "{piece}");
-    }
+    let puts = [("abc", 3, PutEnd::Ok), ("de", 1, PutEnd::Failed)];
+    takes(&rt, &mut sink, &puts);
     let mut sink = HostSink::new(Narrow {
         taken: 0,
         flushes: false,
     });
-    let put = sink.put(b"abc");
-    assert_eq!(rt; (put.taken, put.end), (3, PutEnd::Failed));
+    takes(&rt, &mut sink, &[("abc", 3, PutEnd::Failed)]);
 }
 
 // Call 2 is to fail, and the third piece goes beyond the capacity.
@@ -180,17 +215,16 @@ fn sinks_in_memory(rt: HostRuntime) -> Result<(), Fail> {
         ("", 0, PutEnd::Ok),
         ("i", 0, PutEnd::Failed),
     ];
-    for (piece, taken, end) in puts {
-        let put = sink.put(piece.as_bytes());
-        assert_eq!(rt; (put.taken, put.end), (taken, end), "{piece}");
-    }
-    assert_eq!(rt; sink.bytes(), b"abcef".as_slice());
+    takes(&rt, &mut sink, &puts);
+    assert!(rt; sink.bytes() == b"abcef".as_slice());
 
     let mut sink = SteadySink::new(rt.alloc(), 3)?;
-    for (piece, taken) in [("ab", 2), ("cd", 2), ("e", 1)] {
-        let put = sink.put(piece.as_bytes());
-        assert_eq!(rt; (put.taken, put.end), (taken, PutEnd::Ok), "{piece}");
-    }
-    assert_eq!(rt; sink.bytes(), b"abc".as_slice());
+    let puts = [
+        ("ab", 2, PutEnd::Ok),
+        ("cd", 2, PutEnd::Ok),
+        ("e", 1, PutEnd::Ok),
+    ];
+    takes(&rt, &mut sink, &puts);
+    assert!(rt; sink.bytes() == b"abc".as_slice());
     Ok(())
 }

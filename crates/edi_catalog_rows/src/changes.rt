@@ -1,20 +1,11 @@
 //! Files that are protected, released, deleted and renamed.
 
-use crate::images::image;
-use edi_catalog::{CatEnd, Title, check, mount};
-use edi_disk::Disk;
-use edi_host::MemoryDrive;
+use crate::asking::{Reply, Request, asked};
+use crate::images::{failing, image, put};
+use edi_catalog::CatEnd;
 use std::alloc::{AllocError, Global};
 use std::process::Abort;
 use std::test::Fail;
-
-#[derive(Clone, Copy, Debug)]
-enum Call {
-    Protect,
-    Release,
-    Delete,
-    Rename,
-}
 
 /// A file: a title of one character, and whether it is protected.
 type File = (u8, bool);
@@ -25,87 +16,59 @@ fn two_slots(alloc: Global, first: Option<File>) -> Result<Vec<u8>, AllocError> 
     let slots = [(title, 1, 33, 0, 0), (b'b', 1, 34, 0, 0)];
     let mut bytes = image(alloc, b"EDIS\0\x02\0\x40", 64, &slots, &[], &[])?;
     if protected {
-        if let Some(byte) = bytes.get_mut(512 + 25) {
-            *byte = 1;
-        }
+        put(&mut bytes, 512 + 25, &[1]);
     }
     if first.is_none() {
-        for byte in bytes.iter_mut().skip(512).take(64) {
-            *byte = 0;
-        }
+        put(&mut bytes, 512, &[0; 64]);
     }
     Ok(bytes)
 }
 
-// The answer of a call on an image of these blocks, and the blocks that it leaves. The calls of the drive of these numbers fail.
-fn made(
+/// What is asked, of an image with which file, how that ends, and which file it leaves.
+type Case<'a> = (Request<'a>, Option<File>, Result<(), CatEnd>, Option<File>);
+
+// The drive's call of a number fails, and lands or not.
+fn is_changed(
     rt: &impl Abort,
     alloc: Global,
-    bytes: &[u8],
-    failing: (&[u64], bool),
-    call: Call,
-    title: &[u8],
-    new: &[u8],
-) -> Result<(Result<(), CatEnd>, Vec<u8>), Fail> {
-    assert!(rt; bytes.len() % 512 == 0);
-    let title = Title::new(title).ok_or("no title")?;
-    let new = Title::new(new).ok_or("no title")?;
-    let (numbers, lands) = failing;
-    let mut drive = MemoryDrive::new(alloc, bytes, numbers, lands)?;
-    let answer = {
-        let mut disk = Disk::attach(&mut drive);
-        let Ok(mut room) = check(alloc, &mut disk) else {
-            return Err("not mounted")?;
-        };
-        let mut catalog = mount(disk, &mut room);
-        match call {
-            Call::Protect => catalog.protect(&title),
-            Call::Release => catalog.release(&title),
-            Call::Delete => catalog.delete(&title),
-            Call::Rename => catalog.rename(&title, &new),
-        }
-    };
-    Ok((answer, Vec::from_slice(alloc, drive.bytes())?))
+    fault: (u64, bool),
+    case: Case<'_>,
+) -> Result<bool, Fail> {
+    let (number, lands) = fault;
+    let (request, before, answer, after) = case;
+    let bytes = two_slots(alloc, before)?;
+    let expected = two_slots(alloc, after)?;
+    let mut drive = failing(rt, alloc, &bytes, number, lands)?;
+    let found = asked(alloc, &mut drive, request);
+    Ok(found == Some(Reply::Ended(answer)) && drive.bytes() == expected.as_slice())
 }
 
 #[test]
 fn one_file_is_changed(rt: HostRuntime) -> Result<(), Fail> {
+    use Request::{Delete, Protect, Release, Rename};
     let alloc = rt.alloc();
     let (plain, protected) = (Some((b'a', false)), Some((b'a', true)));
     let (none, kept) = (Err(CatEnd::NoSuch), Err(CatEnd::Protected));
-    let taken = Err(CatEnd::Taken);
-    let cases: [(
-        Call,
-        &[u8],
-        &[u8],
-        Option<File>,
-        Result<(), CatEnd>,
-        Option<File>,
-    ); 14] = [
-        (Call::Protect, b"a", b"a", plain, Ok(()), protected),
-        (Call::Protect, b"a", b"a", protected, Ok(()), protected),
-        (Call::Protect, b"x", b"a", plain, none, plain),
-        (Call::Release, b"a", b"a", protected, Ok(()), plain),
-        (Call::Release, b"x", b"a", protected, none, protected),
-        (Call::Delete, b"a", b"a", plain, Ok(()), None),
-        (Call::Delete, b"a", b"a", protected, kept, protected),
-        (Call::Delete, b"x", b"a", plain, none, plain),
-        (Call::Rename, b"a", b"c", plain, Ok(()), Some((b'c', false))),
-        (Call::Rename, b"a", b"c", protected, kept, protected),
-        (Call::Rename, b"a", b"b", protected, kept, protected),
-        (Call::Rename, b"a", b"b", plain, taken, plain),
-        (Call::Rename, b"a", b"a", plain, taken, plain),
-        (Call::Rename, b"x", b"b", plain, none, plain),
+    let (taken, renamed) = (Err(CatEnd::Taken), Some((b'c', false)));
+    let cases: [Case<'_>; 14] = [
+        (Protect(b"a"), plain, Ok(()), protected),
+        (Protect(b"a"), protected, Ok(()), protected),
+        (Protect(b"x"), plain, none, plain),
+        (Release(b"a"), protected, Ok(()), plain),
+        (Release(b"x"), protected, none, protected),
+        (Delete(b"a"), plain, Ok(()), None),
+        (Delete(b"a"), protected, kept, protected),
+        (Delete(b"x"), plain, none, plain),
+        (Rename(b"a", b"c"), plain, Ok(()), renamed),
+        (Rename(b"a", b"c"), protected, kept, protected),
+        (Rename(b"a", b"b"), protected, kept, protected),
+        (Rename(b"a", b"b"), plain, taken, plain),
+        (Rename(b"a", b"a"), plain, taken, plain),
+        (Rename(b"x", b"b"), plain, none, plain),
     ];
-    for (call, title, new, before, expected, after) in cases {
-        let bytes = two_slots(alloc, before)?;
-        let (answer, left) = made(&rt, alloc, &bytes, (&[], false), call, title, new)?;
-        assert_eq!(rt; answer, expected, "{call:?}");
-        assert_eq!(rt;
-            left.as_slice(),
-            two_slots(alloc, after)?.as_slice(),
-            "{call:?}"
-        );
+    for (row, case) in cases.iter().enumerate() {
+        let done = is_changed(&rt, alloc, (0, false), *case)?;
+        assert!(rt; done, "row {row}");
     }
     Ok(())
 }
@@ -113,19 +76,17 @@ fn one_file_is_changed(rt: HostRuntime) -> Result<(), Fail> {
 #[test]
 fn a_fault_leaves_the_files_from_before_or_after(rt: HostRuntime) -> Result<(), Fail> {
     let alloc = rt.alloc();
-    let plain = Some((b'a', false));
+    let (delete, plain) = (Request::Delete(b"a"), Some((b'a', false)));
     let fault = Err(CatEnd::Fault);
     // mounting reads the 33 blocks of the catalogue and two maps; then one block is written
-    let cases: [(u64, bool, Result<(), CatEnd>, Option<File>); 3] = [
-        (36, false, fault, plain),
-        (36, true, fault, None),
-        (37, true, Ok(()), None),
+    let cases: [((u64, bool), Case<'_>); 3] = [
+        ((36, false), (delete, plain, fault, plain)),
+        ((36, true), (delete, plain, fault, None)),
+        ((37, true), (delete, plain, Ok(()), None)),
     ];
-    for (n, lands, expected, after) in cases {
-        let bytes = two_slots(alloc, plain)?;
-        let (answer, left) = made(&rt, alloc, &bytes, (&[n], lands), Call::Delete, b"a", b"a")?;
-        assert_eq!(rt; answer, expected, "{n}");
-        assert_eq!(rt; left.as_slice(), two_slots(alloc, after)?.as_slice(), "{n}");
+    for ((number, lands), case) in cases {
+        let done = is_changed(&rt, alloc, (number, lands), case)?;
+        assert!(rt; done, "{number} {lands}");
     }
     Ok(())
 }

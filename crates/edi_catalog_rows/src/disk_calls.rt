@@ -10,7 +10,7 @@ use edi_host::Drive;
 pub const NONE: u32 = 99;
 
 /// A call on a disk.
-#[derive(Clone, Copy, Debug, Drop)]
+#[derive(Clone, Copy, Drop)]
 pub enum Call {
     /// Gives a block.
     Page(u32),

@@ -1,9 +1,9 @@
 //! Images: a new one, one for each rule that is broken, and one with files.
 
+use crate::asking::{Reply, Request, asked, fault_of, formatted, tells};
 use edi_calls::FileKind;
-use edi_catalog::{FormatEnd, MountFault, Title, check, format, mount};
-use edi_disk::Disk;
-use edi_host::{Drive, MemoryDrive, SteadyDrive};
+use edi_catalog::{Entry, FormatEnd, MountFault, Title};
+use edi_host::{MemoryDrive, SteadyDrive};
 use std::alloc::{AllocError, Global};
 use std::process::Abort;
 use std::test::Fail;
@@ -11,34 +11,38 @@ use std::test::Fail;
 /// An entry: a title of one character, the kind, the two maps, the length.
 type Slot = (u8, u8, u16, u16, u32);
 
-// The bytes of an entry of version 2.
-fn entry_bytes(slot: Slot) -> [u8; 64] {
-    let (title, kind, first, second, length) = slot;
-    let mut bytes = [0; 64];
-    for byte in bytes.iter_mut().take(24) {
-        *byte = b' ';
-    }
-    bytes[0] = title;
-    bytes[24] = kind;
-    bytes[26] = (first / 256) as u8;
-    bytes[27] = (first % 256) as u8;
-    bytes[28] = (second / 256) as u8;
-    bytes[29] = (second % 256) as u8;
-    bytes[31] = (length / 65_536 % 256) as u8;
-    bytes[32] = (length / 256 % 256) as u8;
-    bytes[33] = (length % 256) as u8;
-    bytes
+/// So many times this byte.
+pub(crate) fn filled(alloc: Global, byte: u8, count: usize) -> Result<Vec<u8>, AllocError> {
+    vec![in alloc; byte; count]
 }
 
-// Puts a map block of these page numbers, without the rest of the block, behind the others.
-fn put_map(bytes: &mut Vec<u8>, pages: &[u16]) -> Result<(), AllocError> {
-    bytes.push(0)?;
-    bytes.push((pages.len() % 256) as u8)?;
-    for page in pages {
-        bytes.push((*page / 256) as u8)?;
-        bytes.push((*page % 256) as u8)?;
+/// Puts bytes from a place on, as far as there is room.
+pub(crate) fn put(bytes: &mut [u8], at: usize, from: &[u8]) {
+    for (place, byte) in bytes.iter_mut().skip(at).zip(from) {
+        *place = *byte;
     }
-    Ok(())
+}
+
+// Puts an entry of version 2.
+fn put_entry(bytes: &mut [u8], at: usize, slot: Slot) {
+    let (title, kind, first, second, length) = slot;
+    let [_, high, middle, low] = length.to_be_bytes();
+    put(bytes, at, &[b' '; 24]);
+    put(bytes, at, &[title]);
+    put(bytes, at.saturating_add(24), &[kind]);
+    put(bytes, at.saturating_add(26), &first.to_be_bytes());
+    put(bytes, at.saturating_add(28), &second.to_be_bytes());
+    put(bytes, at.saturating_add(31), &[high, middle, low]);
+}
+
+// Puts a map block of these page numbers, without the rest of the block.
+fn put_map(bytes: &mut [u8], at: usize, pages: &[u16]) {
+    put(bytes, at, &[0, (pages.len() % 256) as u8]);
+    let mut place = at;
+    for page in pages {
+        place = place.saturating_add(2);
+        put(bytes, place, &page.to_be_bytes());
+    }
 }
 
 /// An image of so many blocks with these entries in its first slots; blocks 33 and 34 are map blocks of these page numbers.
@@ -50,30 +54,38 @@ pub(crate) fn image(
     first: &[u16],
     second: &[u16],
 ) -> Result<Vec<u8>, AllocError> {
-    let mut bytes = Vec::from_slice(alloc, start)?;
-    bytes.resize(512, 0)?;
+    let mut bytes = filled(alloc, 0, usize::from(count) * 512)?;
+    put(&mut bytes, 0, start);
+    let mut place = 512usize;
     for slot in slots {
-        bytes.extend_from_slice(&entry_bytes(*slot))?;
+        put_entry(&mut bytes, place, *slot);
+        place = place.saturating_add(64);
     }
-    bytes.resize(33 * 512, 0)?;
-    put_map(&mut bytes, first)?;
-    bytes.resize(34 * 512, 0)?;
-    put_map(&mut bytes, second)?;
-    bytes.resize(usize::from(count) * 512, 0)?;
+    put_map(&mut bytes, 33 * 512, first);
+    put_map(&mut bytes, 34 * 512, second);
     Ok(bytes)
 }
 
-// What a check of these blocks finds. The drive keeps them, whatever the answer.
-fn fault_of(rt: &impl Abort, alloc: Global, bytes: &[u8]) -> Result<Option<MountFault>, Fail> {
+/// A drive that has these blocks and never fails.
+pub(crate) fn steady(
+    rt: &impl Abort,
+    alloc: Global,
+    bytes: &[u8],
+) -> Result<SteadyDrive, AllocError> {
     assert!(rt; bytes.len() % 512 == 0);
-    let mut drive = SteadyDrive::new(alloc, bytes)?;
-    let mut disk = Disk::attach(&mut drive);
-    let fault = match check(alloc, &mut disk) {
-        Ok(_) => None,
-        Err(fault) => Some(fault),
-    };
-    assert_eq!(rt; drive.bytes(), bytes);
-    Ok(fault)
+    SteadyDrive::new(alloc, bytes)
+}
+
+/// A drive that has these blocks and fails at the call of this number, which lands or not.
+pub(crate) fn failing(
+    rt: &impl Abort,
+    alloc: Global,
+    bytes: &[u8],
+    number: u64,
+    lands: bool,
+) -> Result<MemoryDrive, AllocError> {
+    assert!(rt; bytes.len() % 512 == 0);
+    MemoryDrive::new(alloc, bytes, &[number], lands)
 }
 
 #[test]
@@ -154,7 +166,10 @@ fn the_first_broken_rule_is_answered(rt: HostRuntime) -> Result<(), Fail> {
     ];
     for (start, count, slots, first, second, expected) in cases {
         let bytes = image(alloc, start, count, slots, first, second)?;
-        assert_eq!(rt; fault_of(&rt, alloc, &bytes)?, expected, "{slots:?}");
+        let mut drive = steady(&rt, alloc, &bytes)?;
+        assert!(rt; fault_of(alloc, &mut drive) == expected, "{slots:?}");
+        // the drive keeps its blocks, whatever the answer
+        assert!(rt; drive.bytes() == bytes.as_slice(), "{slots:?}");
     }
     Ok(())
 }
@@ -163,17 +178,15 @@ fn the_first_broken_rule_is_answered(rt: HostRuntime) -> Result<(), Fail> {
 fn a_new_image_has_no_files(rt: HostRuntime) -> Result<(), Fail> {
     let alloc = rt.alloc();
     let mut drive = SteadyDrive::new(alloc, &[])?;
-    assert_eq!(rt; format(alloc, &mut drive, 64), FormatEnd::Ok);
+    assert!(rt; formatted(alloc, &mut drive, 64) == Some(FormatEnd::Ok));
     let expected = image(alloc, b"EDIS\0\x02\0\x40", 64, &[], &[], &[])?;
-    assert_eq!(rt; drive.bytes(), expected.as_slice());
-    let mut disk = Disk::attach(&mut drive);
-    let Ok(mut room) = check(alloc, &mut disk) else {
-        return Err("not mounted")?;
-    };
-    let catalog = mount(disk, &mut room);
-    assert_eq!(rt; catalog.free(), 31);
-    assert_eq!(rt; catalog.slot(0), None);
-    assert_eq!(rt; catalog.slot(256), None);
+    assert!(rt; drive.bytes() == expected.as_slice());
+    let cases = [
+        (Request::Free, Reply::Number(31)),
+        (Request::Slot(0), Reply::NoFile),
+        (Request::Slot(256), Reply::NoFile),
+    ];
+    tells(&rt, alloc, &mut drive, &cases);
     Ok(())
 }
 
@@ -182,20 +195,18 @@ fn files_are_found_and_read(rt: HostRuntime) -> Result<(), Fail> {
     let alloc = rt.alloc();
     let slots = [(b'a', 1, 33, 0, 0), (b'b', 2, 34, 0, 600)];
     let bytes = image(alloc, b"EDIS\0\x02\0\x40", 64, &slots, &[], &[40, 39])?;
-    assert!(rt; bytes.len() % 512 == 0);
-    let mut drive = SteadyDrive::new(alloc, &bytes)?;
-    let mut disk = Disk::attach(&mut drive);
-    let Ok(mut room) = check(alloc, &mut disk) else {
-        return Err("not mounted")?;
+    let mut drive = steady(&rt, alloc, &bytes)?;
+    let found = Entry {
+        title: Title::new(b"b").ok_or("no title")?,
+        kind: FileKind::Code,
+        protected: false,
+        length: 600,
     };
-    let catalog = mount(disk, &mut room);
-    let title = Title::new(b"b").ok_or("no title")?;
-    let entry = catalog.find(&title).ok_or("not found")?;
-    assert_eq!(rt;
-        (entry.kind, entry.protected, entry.length),
-        (FileKind::Code, false, 600)
-    );
-    assert_eq!(rt; catalog.free(), 27);
+    let cases = [
+        (Request::Find(b"b"), Reply::File(found)),
+        (Request::Free, Reply::Number(27)),
+    ];
+    tells(&rt, alloc, &mut drive, &cases);
     Ok(())
 }
 
@@ -203,7 +214,6 @@ fn files_are_found_and_read(rt: HostRuntime) -> Result<(), Fail> {
 fn a_drive_that_fails_is_answered(rt: HostRuntime) -> Result<(), Fail> {
     let alloc = rt.alloc();
     let bytes = image(alloc, b"EDIS\0\x02\0\x40", 64, &[], &[], &[])?;
-    assert!(rt; bytes.len() % 512 == 0);
     // a format makes 34 calls; a check of a new image reads 33 blocks
     let cases: [(u64, FormatEnd, Option<MountFault>); 4] = [
         (1, FormatEnd::Fault, Some(MountFault::Fault)),
@@ -212,17 +222,21 @@ fn a_drive_that_fails_is_answered(rt: HostRuntime) -> Result<(), Fail> {
         (35, FormatEnd::Ok, None),
     ];
     for (n, end, expected) in cases {
-        let mut drive = MemoryDrive::new(alloc, &bytes, &[n], false)?;
-        assert_eq!(rt; format(alloc, &mut drive, 64), end, "{n}");
-        let mut other = MemoryDrive::new(alloc, &bytes, &[n], false)?;
-        let mut disk = Disk::attach(&mut other);
-        let fault = match check(alloc, &mut disk) {
-            Ok(_) => None,
-            Err(fault) => Some(fault),
-        };
-        assert_eq!(rt; fault, expected, "{n}");
+        let mut drive = failing(&rt, alloc, &bytes, n, false)?;
+        assert!(rt; formatted(alloc, &mut drive, 64) == Some(end), "{n}");
+        let mut other = failing(&rt, alloc, &bytes, n, false)?;
+        assert!(rt; fault_of(alloc, &mut other) == expected, "{n}");
     }
     Ok(())
+}
+
+/// A page that begins with so many sevens.
+pub(crate) fn sevens(count: usize) -> [u8; 512] {
+    let mut page = [0; 512];
+    for byte in page.iter_mut().take(count) {
+        *byte = 7;
+    }
+    page
 }
 
 #[test]
@@ -230,23 +244,9 @@ fn pages_are_read(rt: HostRuntime) -> Result<(), Fail> {
     let alloc = rt.alloc();
     let slots = [(b'b', 2, 34, 0, 600)];
     let mut bytes = image(alloc, b"EDIS\0\x02\0\x40", 64, &slots, &[], &[40, 39])?;
-    if let Some(byte) = bytes.get_mut(39 * 512) {
-        *byte = 7;
-    }
-    assert!(rt; bytes.len() % 512 == 0);
-    let mut drive = SteadyDrive::new(alloc, &bytes)?;
-    let mut disk = Disk::attach(&mut drive);
-    let Ok(mut room) = check(alloc, &mut disk) else {
-        return Err("not mounted")?;
-    };
-    let mut catalog = mount(disk, &mut room);
-    let mut page = [1; 512];
-    let title = Title::new(b"b").ok_or("no title")?;
-    let Some(entry) = catalog.find(&title) else {
-        return Err("not found")?;
-    };
-    assert!(rt; entry.length == 600);
-    assert_eq!(rt; catalog.read_page(&title, 1, &mut page), Ok(()));
-    assert_eq!(rt; (page[0], page[1]), (7, 0));
+    put(&mut bytes, 39 * 512, &[7]);
+    let mut drive = steady(&rt, alloc, &bytes)?;
+    let page = asked(alloc, &mut drive, Request::Page(b"b", 1));
+    assert!(rt; page == Some(Reply::Page(sevens(1))));
     Ok(())
 }

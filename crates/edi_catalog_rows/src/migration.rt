@@ -1,51 +1,48 @@
 //! Images of version 2 that are made of images of version 1.
 
+use crate::asking::{Reply, Request, migrated, tells};
+use crate::images::{failing, filled, put, sevens};
 use edi_calls::FileKind;
-use edi_catalog::{Title, check, mount};
-use edi_disk::Disk;
-use edi_host::{MemoryDrive, SteadyDrive};
-use edi_migrate::{MigrateEnd, MountFault, migrate};
+use edi_catalog::{Entry, Title};
+use edi_host::SteadyDrive;
+use edi_migrate::{MigrateEnd, MountFault};
 use std::alloc::{AllocError, Global};
 use std::test::Fail;
 
 /// An entry of version 1: a title of one character, or 0 for a free slot, the kind, the map, the length.
 type Slot = (u8, u8, u8, u32);
 
-// The bytes of an entry of version 1.
-fn entry_bytes(slot: Slot) -> [u8; 32] {
+// Puts an entry of version 1.
+fn put_entry(bytes: &mut [u8], at: usize, slot: Slot) {
     let (title, kind, map, length) = slot;
-    let mut bytes = [0; 32];
     if title == 0 {
-        return bytes;
+        return;
     }
-    for byte in bytes.iter_mut().take(12) {
-        *byte = b' ';
-    }
-    bytes[0] = title;
-    bytes[12] = kind;
-    bytes[15] = map;
-    bytes[17] = (length / 65_536 % 256) as u8;
-    bytes[18] = (length / 256 % 256) as u8;
-    bytes[19] = (length % 256) as u8;
-    bytes
+    let [_, high, middle, low] = length.to_be_bytes();
+    put(bytes, at, &[b' '; 12]);
+    put(bytes, at, &[title]);
+    put(bytes, at.saturating_add(12), &[kind]);
+    put(bytes, at.saturating_add(15), &[map]);
+    put(bytes, at.saturating_add(17), &[high, middle, low]);
 }
 
 // An image of 64 blocks with these entries in its first slots; block 5 is a map block of so many pages, from block 6 on, which
 // begin with a 7.
 fn image(alloc: Global, start: &[u8], slots: &[Slot], pages: u8) -> Result<Vec<u8>, AllocError> {
-    let mut bytes = Vec::from_slice(alloc, start)?;
-    bytes.resize(512, 0)?;
+    let mut bytes = filled(alloc, 0, 64 * 512)?;
+    put(&mut bytes, 0, start);
+    let mut place = 512usize;
     for slot in slots {
-        bytes.extend_from_slice(&entry_bytes(*slot))?;
+        put_entry(&mut bytes, place, *slot);
+        place = place.saturating_add(32);
     }
-    bytes.resize(5 * 512, 0)?;
-    bytes.extend_from_slice(&[0, pages])?;
+    put(&mut bytes, 5 * 512, &[0, pages]);
+    let mut place = 2560usize;
     for page in 0..pages {
-        bytes.extend_from_slice(&[0, page.saturating_add(6)])?;
+        place = place.saturating_add(2);
+        put(&mut bytes, place, &[0, page.saturating_add(6)]);
     }
-    bytes.resize(6 * 512, 0)?;
-    bytes.push(7)?;
-    bytes.resize(64 * 512, 0)?;
+    put(&mut bytes, 6 * 512, &[7]);
     Ok(bytes)
 }
 
@@ -88,22 +85,10 @@ fn each_end_comes(rt: HostRuntime) -> Result<(), Fail> {
     for (start, slots, pages, blocks, expected) in cases {
         let bytes = image(alloc, start, slots, pages)?;
         let mut drive = SteadyDrive::new(alloc, &[])?;
-        if blocks == 64 {
-            assert_eq!(rt;
-                migrate(alloc, &mut drive, 64, &bytes),
-                expected,
-                "{slots:?}"
-            );
-        } else {
-            assert_eq!(rt;
-                migrate(alloc, &mut drive, 92, &bytes),
-                expected,
-                "{slots:?}"
-            );
-        }
-        if expected != MigrateEnd::Ok {
-            assert!(rt; drive.bytes().is_empty());
-        }
+        let end = migrated(alloc, &mut drive, blocks, &bytes);
+        assert!(rt; end == Some(expected), "{slots:?}");
+        let is_made = expected == MigrateEnd::Ok;
+        assert!(rt; is_made || drive.bytes().is_empty(), "{slots:?}");
     }
     Ok(())
 }
@@ -115,27 +100,22 @@ fn files_keep_their_slots(rt: HostRuntime) -> Result<(), Fail> {
     let mut bytes = image(alloc, b"EDIS\0\x01\0\x40", &slots, 1)?;
     bytes.push(1)?;
     let mut drive = SteadyDrive::new(alloc, &[])?;
-    assert_eq!(rt; migrate(alloc, &mut drive, 64, &bytes), MigrateEnd::Ok);
-    let mut disk = Disk::attach(&mut drive);
-    let Ok(mut room) = check(alloc, &mut disk) else {
-        return Err("not mounted")?;
+    let end = migrated(alloc, &mut drive, 64, &bytes);
+    assert!(rt; end == Some(MigrateEnd::Ok));
+    let found = Entry {
+        title: Title::new(b"t").ok_or("no title")?,
+        kind: FileKind::Text,
+        protected: false,
+        length: 60,
     };
-    let mut catalog = mount(disk, &mut room);
-    assert_eq!(rt; catalog.free(), 29);
-    assert_eq!(rt; catalog.slot(0), None);
-    let title = Title::new(b"t").ok_or("no title")?;
-    let entry = catalog.slot(1).ok_or("no file")?;
-    assert_eq!(rt;
-        (entry.title, entry.kind, entry.protected, entry.length),
-        (title, FileKind::Text, false, 60)
-    );
-    let mut page = [1; 512];
-    let Some(found) = catalog.find(&title) else {
-        return Err("not found")?;
-    };
-    assert!(rt; found.length == 60);
-    assert_eq!(rt; catalog.read_page(&title, 0, &mut page), Ok(()));
-    assert_eq!(rt; (page[0], page[1]), (7, 0));
+    let cases = [
+        (Request::Free, Reply::Number(29)),
+        (Request::Slot(0), Reply::NoFile),
+        (Request::Slot(1), Reply::File(found)),
+        (Request::Find(b"t"), Reply::File(found)),
+        (Request::Page(b"t", 0), Reply::Page(sevens(1))),
+    ];
+    tells(&rt, alloc, &mut drive, &cases);
     Ok(())
 }
 
@@ -151,8 +131,11 @@ fn a_drive_that_fails_is_told(rt: HostRuntime) -> Result<(), Fail> {
         (37, MigrateEnd::Ok),
     ];
     for (n, expected) in cases {
-        let mut drive = MemoryDrive::new(alloc, &[], &[n], false)?;
-        assert_eq!(rt; migrate(alloc, &mut drive, 64, &bytes), expected, "{n}");
+        let mut drive = failing(&rt, alloc, &[], n, false)?;
+        assert!(rt;
+            migrated(alloc, &mut drive, 64, &bytes) == Some(expected),
+            "{n}"
+        );
     }
     Ok(())
 }

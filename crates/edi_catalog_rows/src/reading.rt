@@ -1,11 +1,8 @@
 //! Whole files that are read.
 
-use crate::images::image;
-use edi_catalog::{CatEnd, Title, check, mount};
-use edi_disk::Disk;
-use edi_host::SteadyDrive;
-use std::alloc::Global;
-use std::process::Abort;
+use crate::asking::whole;
+use crate::images::{filled, image, steady};
+use edi_catalog::CatEnd;
 use std::test::Fail;
 
 /// The blocks of the pages, the last one first: a file of n pages has the first n of them.
@@ -32,29 +29,6 @@ fn are_numbered(bytes: &[u8], count: usize) -> bool {
         .all(|(place, byte)| usize::from(*byte) == place / 512 + 1)
 }
 
-// The answer to reading the file `b` on these blocks into so many bytes, and the bytes.
-fn read(
-    rt: &impl Abort,
-    alloc: Global,
-    bytes: &[u8],
-    title: &[u8],
-    room: usize,
-) -> Result<(Result<u32, CatEnd>, Vec<u8>), Fail> {
-    assert!(rt; bytes.len() % 512 == 0);
-    let title = Title::new(title).ok_or("no title")?;
-    let mut into = Vec::new(alloc);
-    into.resize(room, 255)?;
-    assert!(rt; into.len() >= 261_120);
-    let mut drive = SteadyDrive::new(alloc, bytes)?;
-    let mut disk = Disk::attach(&mut drive);
-    let Ok(mut kept) = check(alloc, &mut disk) else {
-        return Err("not mounted")?;
-    };
-    let mut catalog = mount(disk, &mut kept);
-    let answer = catalog.read_into(&title, &mut into);
-    Ok((answer, into))
-}
-
 #[test]
 fn whole_files_are_read(rt: HostRuntime) -> Result<(), Fail> {
     let alloc = rt.alloc();
@@ -72,8 +46,10 @@ fn whole_files_are_read(rt: HostRuntime) -> Result<(), Fail> {
         let slots = [(b'b', 1, 34, 0, length)];
         let mut bytes = image(alloc, b"EDIS\0\x02\0\x40", 64, &slots, &[], numbers)?;
         number_pages(&mut bytes);
-        let (answer, into) = read(&rt, alloc, &bytes, title, 261_120)?;
-        assert_eq!(rt; answer, expected, "{length}");
+        let mut drive = steady(&rt, alloc, &bytes)?;
+        let mut into = filled(alloc, 255, 261_120)?;
+        let answer = whole(alloc, &mut drive, title, &mut into);
+        assert!(rt; answer == Some(expected), "{length}");
         assert!(rt; are_numbered(&into, count), "{length}");
     }
     Ok(())

@@ -2,6 +2,7 @@
 
 use edi_codefile::{load, pack};
 use edi_target::CodeFault;
+use std::alloc::Global;
 use std::test::Fail;
 
 /// A file of version 1: a program with one parameter, the call of number 2, which it is given the character `a`.
@@ -28,30 +29,31 @@ fn changed(changes: &[(usize, u8)]) -> [u8; 62] {
     file
 }
 
+/// What is found in a file of these bytes.
+fn fault_of(alloc: Global, bytes: &[u8]) -> Option<CodeFault> {
+    load(alloc, bytes).err()
+}
+
 #[test]
 fn files_of_every_length(rt: HostRuntime) -> Result<(), Fail> {
-    for length in 0..FILE.len() {
-        let (front, _) = FILE.split_at(length);
-        let short = CodeFault::Short { at: length as u32 };
-        assert_eq!(rt;
-            load(rt.alloc(), front).err(),
-            Some(short),
-            "{length} bytes"
-        );
-    }
-    assert_eq!(rt; load(rt.alloc(), &FILE).err(), None);
     let mut longer = FILE.to_vec(rt.alloc())?;
     longer.push(0)?;
-    assert_eq!(rt;
-        load(rt.alloc(), &longer).err(),
-        Some(CodeFault::Over { at: 62 })
-    );
+    for length in 0..longer.len() {
+        let (front, _) = longer.as_slice().split_at(length);
+        let short = CodeFault::Short { at: length as u32 };
+        let expected = if length < 62 { Some(short) } else { None };
+        assert!(rt; fault_of(rt.alloc(), front) == expected, "{length} bytes");
+    }
+    assert!(rt; fault_of(rt.alloc(), &longer) == Some(CodeFault::Over { at: 62 }));
     Ok(())
+}
+
+fn header(at: u32, found: u8) -> Option<CodeFault> {
+    Some(CodeFault::Header { at, found })
 }
 
 #[test]
 fn fields_of_the_header(rt: HostRuntime) -> Result<(), Fail> {
-    let header = |at: u32, found: u8| Some(CodeFault::Header { at, found });
     let cases = [
         (0, 0xEC, header(0, 0xEC)),
         (1, 0x16, header(0, 0xED)),
@@ -75,9 +77,8 @@ fn fields_of_the_header(rt: HostRuntime) -> Result<(), Fail> {
     ];
     for (at, byte, fault) in cases {
         let file = changed(&[(at, byte)]);
-        assert_eq!(rt;
-            load(rt.alloc(), &file).err(),
-            fault,
+        assert!(rt;
+            fault_of(rt.alloc(), &file) == fault,
             "byte {at} made {byte}"
         );
     }
@@ -86,27 +87,42 @@ fn fields_of_the_header(rt: HostRuntime) -> Result<(), Fail> {
 
 #[test]
 fn faults_of_the_words(rt: HostRuntime) -> Result<(), Fail> {
-    // a JUMP into its own operand, and a NOT behind it
-    let jump = changed(&[(45, 28), (47, 0), (49, 7), (51, 15)]);
-    let fault = CodeFault::Jump { at: 6, target: 7 };
-    assert_eq!(rt; load(rt.alloc(), &jump).err(), Some(fault));
-    // a QUIET that leads back to 6, which only version 2 has
+    let jump = CodeFault::Jump { at: 6, target: 7 };
     let quiet = CodeFault::Operation { at: 12, found: 44 };
-    let older = changed(&[(57, 44), (61, 6)]);
-    assert_eq!(rt; load(rt.alloc(), &older).err(), Some(quiet));
-    let newer = changed(&[(3, 2), (57, 44), (61, 6)]);
-    assert_eq!(rt; load(rt.alloc(), &newer).err(), None);
+    let cases: [(&[(usize, u8)], Option<CodeFault>); 3] = [
+        // a JUMP into its own operand, and a NOT behind it
+        (&[(45, 28), (47, 0), (49, 7), (51, 15)], Some(jump)),
+        // a QUIET that leads back to 6, which only version 2 has
+        (&[(57, 44), (61, 6)], Some(quiet)),
+        (&[(3, 2), (57, 44), (61, 6)], None),
+    ];
+    for (changes, fault) in cases {
+        let file = changed(changes);
+        assert!(rt; fault_of(rt.alloc(), &file) == fault, "{changes:?}");
+    }
     Ok(())
+}
+
+/// The file that is packed of the code of a file.
+fn packed(alloc: Global, bytes: &[u8]) -> Result<Vec<u8>, Fail> {
+    let code = load(alloc, bytes)?;
+    Ok(pack(alloc, &code)?)
+}
+
+/// Whether a file has a code of these words from address 0 on, with a parameter that is call 2.
+fn has_words(alloc: Global, bytes: &[u8], words: &[u16]) -> bool {
+    match load(alloc, bytes) {
+        Ok(code) => code.words() == words && code.entry() == 0 && code.calls() == [2].as_slice(),
+        Err(_) => false,
+    }
 }
 
 #[test]
 fn packed_files(rt: HostRuntime) -> Result<(), Fail> {
-    let code = load(rt.alloc(), &FILE)?;
-    let file = pack(rt.alloc(), &code)?;
-    assert_eq!(rt; file.as_slice(), changed(&[(3, 2)]).as_slice());
-    let again = load(rt.alloc(), &file)?;
-    assert_eq!(rt; again.words(), code.words());
-    assert_eq!(rt; again.entry(), 0);
-    assert_eq!(rt; again.calls(), [2].as_slice());
+    let words = [33, 9, 0, 3, 0, 0, 1, 97, 35, 0, 5, 1, 37, 0, 0];
+    let file = packed(rt.alloc(), &FILE)?;
+    assert!(rt; file.as_slice() == changed(&[(3, 2)]).as_slice());
+    assert!(rt; has_words(rt.alloc(), &FILE, &words));
+    assert!(rt; has_words(rt.alloc(), &file, &words));
     Ok(())
 }

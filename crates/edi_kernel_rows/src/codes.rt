@@ -1,7 +1,5 @@
 //! Codes, checked: the words of a program that displays the letter a, with one change each.
 
-ghost use Rattle.std.specs.Prelude.{◌<◌, ◌≤◌, ◌^◌, length, vec_len, IfOk};
-
 use edi_target::{Code, CodeFault};
 use std::alloc::{AllocError, Global};
 use std::process::Abort;
@@ -10,6 +8,11 @@ use std::test::Fail;
 /// ENTRY 9 0 3 0 0; CONST 97; CALLP 0 5 1; RETURN 0 0.
 const SAMPLE: [u16; 15] = [33, 9, 0, 3, 0, 0, 1, 97, 35, 0, 5, 1, 37, 0, 0];
 
+// Whether a code is of these words, this entry and these calls.
+fn is_of(code: &Code, words: &[u16], entry: u32, calls: &[u8]) -> bool {
+    code.words() == words && code.entry() == entry && code.calls() == calls
+}
+
 // What `Code::check` finds, and whether a code is what was given.
 fn fault_of(
     rt: &impl Abort,
@@ -17,17 +20,12 @@ fn fault_of(
     words: &[u16],
     entry: u32,
     calls: &[u8],
-) -> Result<Option<CodeFault>, Fail>
-    requires size { length words.now < 2 ^ 32 }
-    requires number { length calls.now ≤ 255 }
-{
-    let given = words.to_vec(alloc)?;
-    match Code::check(alloc, given, entry, calls) {
+) -> Result<Option<CodeFault>, Fail> {
+    assert!(rt; words.len() < 1000 && calls.len() < 100);
+    match Code::check(alloc, words.to_vec(alloc)?, entry, calls) {
         Err(fault) => Ok(Some(fault)),
         Ok(code) => {
-            assert_eq!(rt; code.words(), words);
-            assert_eq!(rt; code.entry(), entry);
-            assert_eq!(rt; code.calls(), calls);
+            assert!(rt; is_of(&code, words, entry, calls), "{words:?}");
             Ok(None)
         }
     }
@@ -116,11 +114,8 @@ fn words_are_checked(rt: HostRuntime) -> Result<(), Fail> {
         ),
     ];
     for (words, fault) in cases {
-        assert_eq!(rt;
-            fault_of(&rt, rt.alloc(), words, 0, &[2])?,
-            fault,
-            "{words:?}"
-        );
+        let found = fault_of(&rt, rt.alloc(), words, 0, &[2])?;
+        assert!(rt; found == fault, "{words:?}");
     }
     Ok(())
 }
@@ -177,38 +172,31 @@ fn headers_are_checked(rt: HostRuntime) -> Result<(), Fail> {
         (&SAMPLE, 6, &[2], Some(CodeFault::Jump { at: 6, target: 6 })),
     ];
     for (words, entry, calls, fault) in cases {
-        assert_eq!(rt;
-            fault_of(&rt, rt.alloc(), words, entry, calls)?,
-            fault,
-            "{entry} {calls:?}"
-        );
+        let found = fault_of(&rt, rt.alloc(), words, entry, calls)?;
+        assert!(rt; found == fault, "{entry} {calls:?}");
     }
     Ok(())
 }
 
-// An ENTRY, and NOTs up to a number of words.
-fn long_words(alloc: Global, count: usize) -> Result<Vec<u16>, AllocError>
-    requires some { 6 ≤ count }
-    requires size { count < 2 ^ 32 }
-    ensures size { IfOk result (λ words. vec_len words < 2 ^ 32) }
-{
-    let mut words = vec![in alloc; 15; count]?;
-    words[0] = 33;
-    words[1] = 5;
-    words[2] = 0;
-    words[3] = 0;
-    words[4] = 0;
-    words[5] = 0;
-    Ok(words)
+// What is found in a code of an ENTRY, and NOTs up to a number of words.
+fn long_fault(
+    rt: &impl Abort,
+    alloc: Global,
+    count: usize,
+) -> Result<Option<CodeFault>, AllocError> {
+    let mut words = [33, 5, 0, 0, 0, 0].to_vec(alloc)?;
+    words.resize(count, 15)?;
+    assert!(rt; words.len() < 5_000_000);
+    Ok(Code::check(alloc, words, 0, &[]).err())
 }
 
 // The longest code has 4,194,304 words.
 #[test]
 fn the_longest_code_is_checked(rt: HostRuntime) -> Result<(), Fail> {
-    let longest = long_words(rt.alloc(), 4_194_304)?;
-    assert_eq!(rt; Code::check(rt.alloc(), longest, 0, &[]).err(), None);
-    let longer = long_words(rt.alloc(), 4_194_305)?;
-    let fault = CodeFault::Header { at: 4, found: 0 };
-    assert_eq!(rt; Code::check(rt.alloc(), longer, 0, &[]).err(), Some(fault));
+    let longer = CodeFault::Header { at: 4, found: 0 };
+    for (count, fault) in [(4_194_304, None), (4_194_305, Some(longer))] {
+        let found = long_fault(&rt, rt.alloc(), count)?;
+        assert!(rt; found == fault, "{count}");
+    }
     Ok(())
 }

@@ -1,41 +1,55 @@
 //! Each instruction, written and read, and words that are none.
 
 use edi_target::{Op, read_op, write_op};
-use std::alloc::Global;
-use std::process::Abort;
+use std::alloc::{AllocError, Global};
 use std::test::Fail;
 
-// The instruction is written as these words, behind two others, and read again before another; without their last word the
-// words are no instruction.
-fn is_written_and_read(
-    rt: &impl Abort,
-    alloc: Global,
-    op: Op<'_>,
-    words: &[u16],
-) -> Result<(), Fail> {
-    assert!(rt; op.is_allowed(), "{words:?}");
-    assert!(rt; !words.is_empty() && words.len() < 100);
-    let mut written = [9, 9].to_vec(alloc)?;
-    write_op(alloc, &mut written, &op)?;
-    let mut expected = [9, 9].to_vec(alloc)?;
-    expected.extend_from_slice(words)?;
-    assert_eq!(rt; written.as_slice(), expected.as_slice());
-    expected.push(15)?;
-    let next = 2 + words.len() as u32;
-    let mut again = [9, 9].to_vec(alloc)?;
-    let mut end = 0;
-    if let Some((found, behind)) = read_op(&expected, 2) {
-        assert!(rt; found.is_allowed(), "{words:?}");
-        write_op(alloc, &mut again, &found)?;
-        end = behind;
+// The words of an instruction behind two others; none where it is not allowed.
+fn written(alloc: Global, op: Op<'_>) -> Result<Vec<u16>, AllocError> {
+    let mut words = Vec::from_slice(alloc, &[9, 9])?;
+    if op.is_allowed() {
+        write_op(alloc, &mut words, &op)?;
     }
-    assert_eq!(rt; end, next, "{words:?}");
-    assert_eq!(rt; again.as_slice(), written.as_slice());
-    assert!(rt;
-        read_op(&words[..words.len() - 1], 0).is_none(),
-        "{words:?}"
-    );
-    Ok(())
+    Ok(words)
+}
+
+// The words of the instruction that stands behind two of these words, and where the next one stands; nothing where there is
+// none.
+fn read(alloc: Global, words: &[u16]) -> Result<Option<(Vec<u16>, u32)>, AllocError> {
+    if words.len() > 100 {
+        return Ok(None);
+    }
+    match read_op(words, 2) {
+        Some((op, next)) => Ok(Some((written(alloc, op)?, next))),
+        None => Ok(None),
+    }
+}
+
+// The instruction is written as these words, behind two others, and read again before another.
+fn is_written_and_read(alloc: Global, op: Op<'_>, words: &[u16]) -> Result<bool, AllocError> {
+    let mut expected = Vec::from_slice(alloc, &[9, 9])?;
+    expected.extend_from_slice(words)?;
+    let is_written = written(alloc, op)?.as_slice() == expected.as_slice();
+    expected.push(15)?;
+    let Some((mut again, next)) = read(alloc, &expected)? else {
+        return Ok(false);
+    };
+    let is_next = next as usize == again.len();
+    again.push(15)?;
+    Ok(is_written && is_next && again.as_slice() == expected.as_slice())
+}
+
+// Whether no instruction stands at an address of these words.
+fn is_none(words: &[u16], at: u32) -> bool {
+    words.len() <= 100 && read_op(words, at).is_none()
+}
+
+// Whether these words without their last are no instruction.
+fn is_cut_short(words: &[u16]) -> bool {
+    match words.split_last() {
+        Some((_, front)) => is_none(front, 0),
+        None => false,
+    }
 }
 
 #[test]
@@ -154,7 +168,8 @@ fn each_is_written_and_read(rt: HostRuntime) -> Result<(), Fail> {
         (Op::Quiet { target: 8 }, &[44, 0, 8]),
     ];
     for (op, words) in cases {
-        is_written_and_read(&rt, rt.alloc(), op, words)?;
+        let found = is_written_and_read(rt.alloc(), op, words)?;
+        assert!(rt; found && is_cut_short(words), "{words:?}");
     }
     Ok(())
 }
@@ -194,9 +209,10 @@ fn words_of_none_are_refused(rt: HostRuntime) -> Result<(), Fail> {
         &[42, 2, 1, 5, 0, 0, 5, 0],
     ];
     for words in cases {
-        assert!(rt; read_op(words, 0).is_none(), "{words:?}");
+        assert!(rt; is_none(words, 0), "{words:?}");
     }
-    assert!(rt; read_op(&[15], 1).is_none());
-    assert!(rt; read_op(&[15], 4_294_967_295).is_none());
+    for at in [1, 4_294_967_295] {
+        assert!(rt; is_none(&[15], at), "{at}");
+    }
     Ok(())
 }

@@ -30,68 +30,114 @@ fn slot(place: u16) -> u16 {
     place.min(SLOTS).wrapping_mul(12).wrapping_add(6)
 }
 
-/// The operands of the instruction at this place, drawn by a number.
-fn operands(alloc: Global, number: u16, place: u16, drawn: u16) -> Result<Vec<u16>, AllocError> {
+/// The operands of the instruction at this place, drawn by a number, and how many there are.
+fn operands(number: u16, place: u16, drawn: u16) -> ([u16; 8], usize) {
     let small = drawn % 4;
-    let ahead = slot(place.wrapping_add(1 + small));
+    let ahead = slot(place.wrapping_add(1).wrapping_add(small));
     let back = slot(drawn.wrapping_mul(7) % place.wrapping_add(1).max(1));
     let exit = slot(SLOTS).wrapping_add(3);
     let procedure = slot(SLOTS).wrapping_add(4);
     let line = place;
     match number {
-        1 => Vec::from_slice(alloc, &[drawn % 300]),
-        3 => Vec::from_slice(alloc, &[1 + small]),
-        4 => Vec::from_slice(alloc, &[small / 2, 5 + drawn % 8]),
-        5 => Vec::from_slice(alloc, &[small]),
-        6 => Vec::from_slice(alloc, &[0, 9, 1, line]),
-        7 | 8 | 16 | 17 => Vec::from_slice(alloc, &[1]),
-        9..=14 | 26 | 38 | 39 => Vec::from_slice(alloc, &[line]),
-        27 => Vec::from_slice(alloc, &[0, 100, line]),
-        28..=31 => Vec::from_slice(alloc, &[0, ahead]),
-        32 | 40 | 44 => Vec::from_slice(alloc, &[0, back]),
-        34 => Vec::from_slice(alloc, &[0, 0, procedure, line]),
-        35 => Vec::from_slice(alloc, &[0, 5, line]),
-        36 => Vec::from_slice(alloc, &[0, 0, procedure]),
-        37 => Vec::from_slice(alloc, &[0, 0]),
-        42 => Vec::from_slice(alloc, &[2, line, 20, 0, ahead, 20, 0, exit]),
-        _ => Ok(Vec::new(alloc)),
+        1 => ([drawn % 300, 0, 0, 0, 0, 0, 0, 0], 1),
+        3 => ([small.wrapping_add(1), 0, 0, 0, 0, 0, 0, 0], 1),
+        4 => (
+            [small / 2, (drawn % 8).wrapping_add(5), 0, 0, 0, 0, 0, 0],
+            2,
+        ),
+        5 => ([small, 0, 0, 0, 0, 0, 0, 0], 1),
+        6 => ([0, 9, 1, line, 0, 0, 0, 0], 4),
+        7 | 8 | 16 | 17 => ([1, 0, 0, 0, 0, 0, 0, 0], 1),
+        9..=14 | 26 | 38 | 39 => ([line, 0, 0, 0, 0, 0, 0, 0], 1),
+        27 => ([0, 100, line, 0, 0, 0, 0, 0], 3),
+        28..=31 => ([0, ahead, 0, 0, 0, 0, 0, 0], 2),
+        32 | 40 | 44 => ([0, back, 0, 0, 0, 0, 0, 0], 2),
+        34 => ([0, 0, procedure, line, 0, 0, 0, 0], 4),
+        35 => ([0, 5, line, 0, 0, 0, 0, 0], 3),
+        36 => ([0, 0, procedure, 0, 0, 0, 0, 0], 3),
+        37 => ([0, 0, 0, 0, 0, 0, 0, 0], 2),
+        42 => ([2, line, 20, 0, ahead, 20, 0, exit], 8),
+        _ => ([0, 0, 0, 0, 0, 0, 0, 0], 0),
     }
+}
+
+/// Puts words from an address on, as far as there is room.
+fn put(words: &mut [u16], at: u16, from: &[u16]) {
+    for (place, word) in words.iter_mut().skip(usize::from(at)).zip(from) {
+        *place = *word;
+    }
+}
+
+/// Puts the instruction at this place, drawn by a number, and a jump to the next behind it.
+fn put_slot(words: &mut [u16], place: u16, drawn: u16) {
+    let number = NUMBERS.get(usize::from(drawn % 64)).copied().unwrap_or(1);
+    let (operands, count) = operands(number, place, drawn / 64);
+    let at = slot(place);
+    let behind = at.wrapping_add(1).wrapping_add(count as u16);
+    put(words, at, &[number]);
+    put(words, at.wrapping_add(1), &operands);
+    put(
+        words,
+        behind,
+        &[28, 0, slot(place.wrapping_add(1)), 41, 41, 41, 41, 41],
+    );
+}
+
+/// So many instructions DONE.
+fn dones(alloc: Global, count: usize) -> Result<Vec<u16>, AllocError> {
+    vec![in alloc; 41; count]
 }
 
 /// The words of a random code.
 fn random_words(alloc: Global, seed: u64) -> Result<Vec<u16>, AllocError> {
-    let mut words = Vec::from_slice(alloc, &[33, 40, 0, 0, 8, 0])?;
+    let mut words = dones(alloc, 501)?;
     let mut number = seed;
+    put(&mut words, 0, &[33, 40, 0, 0, 8, 0]);
     for place in 0..SLOTS {
         number = next_number(number);
-        let drawn = (number >> 48) as u16;
-        let op = NUMBERS[usize::from(drawn % 64)];
-        words.push(op)?;
-        words.extend_from_slice(operands(alloc, op, place, drawn / 64)?.as_slice())?;
-        words.extend_from_slice(&[28, 0, slot(place.wrapping_add(1))])?;
-        for _pad in words.len()..usize::from(slot(place.wrapping_add(1))) {
-            words.push(41)?;
-        }
+        put_slot(&mut words, place, (number >> 48) as u16);
     }
-    words.extend_from_slice(&[37, 0, 0, 43, 33, 12, 0, 0, 2, 0, 1, 7, 37, 0, 0])?;
+    let last = [37, 0, 0, 43, 33, 12, 0, 0, 2, 0, 1, 7, 37, 0, 0];
+    put(&mut words, slot(SLOTS), &last);
     Ok(words)
 }
 
-/// How the run of a code ends, with the turns and the choices that it took.
+/// A random code.
+fn random_code(rt: &impl Abort, alloc: Global, seed: u16) -> Result<Code, Fail> {
+    let words = random_words(alloc, u64::from(seed))?;
+    assert!(rt; words.len() < 1000);
+    Ok(Code::check(alloc, words, 0, &[])?)
+}
+
+/// How the run of a code ends, and the turns that it took.
 fn end_of(
+    alloc: Global,
+    code: &Code,
+    choices: &mut Choices,
+    bound: u64,
+) -> Result<(Ending, u64), AllocError> {
+    let mut calls = MemoryCalls::new(alloc, b"", 0)?;
+    let mut kernel = Kernel::new(alloc)?;
+    let ending = kernel.run(code, &mut calls, bound, choices);
+    Ok((ending, kernel.turns_used()))
+}
+
+/// How the run of a random code ends, with the turns and the choices that it took.
+fn outcome(
     rt: &impl Abort,
     alloc: Global,
-    words: Vec<u16>,
     seed: u16,
     bound: u64,
 ) -> Result<(Ending, u64, u64), Fail> {
-    assert!(rt; words.len() < 1000);
-    let code = Code::check(alloc, words, 0, &[])?;
-    let mut calls = MemoryCalls::new(alloc, b"", 0)?;
+    let code = random_code(rt, alloc, seed)?;
     let mut choices = Choices::seeded(alloc, seed)?;
-    let mut kernel = Kernel::new(alloc)?;
-    let ending = kernel.run(&code, &mut calls, bound, &mut choices);
-    Ok((ending, kernel.turns_used(), choices.drawn()))
+    let (ending, turns) = end_of(alloc, &code, &mut choices, bound)?;
+    Ok((ending, turns, choices.drawn()))
+}
+
+/// Whether a run takes no more turns than it was given, and uses them up where they end it.
+fn is_bounded(ending: Ending, turns: u64, bound: u64) -> bool {
+    turns <= bound && ending != Ending::Fault && (ending != Ending::Turns || turns == bound)
 }
 
 #[test]
@@ -99,17 +145,14 @@ fn random_codes_end(rt: HostRuntime) -> Result<(), Fail> {
     let bound = 300;
     let mut long = false;
     for seed in 0..200u16 {
-        let words = random_words(rt.alloc(), u64::from(seed))?;
-        let again = random_words(rt.alloc(), u64::from(seed))?;
-        let (ending, turns, drawn) = end_of(&rt, rt.alloc(), words, seed, bound)?;
-        assert!(rt; turns <= bound, "{seed}");
-        assert!(rt; ending != Ending::Turns || turns == bound, "{seed}");
-        assert!(rt; ending != Ending::Fault, "{seed}");
-        if ending == Ending::Turns {
-            long = true;
-        }
-        let repeated = end_of(&rt, rt.alloc(), again, seed, bound)?;
-        assert_eq!(rt; repeated, (ending, turns, drawn), "{seed}");
+        let found = outcome(&rt, rt.alloc(), seed, bound)?;
+        let again = outcome(&rt, rt.alloc(), seed, bound)?;
+        let (ending, turns, _) = found;
+        assert!(rt;
+            is_bounded(ending, turns, bound) && again == found,
+            "{seed}"
+        );
+        long = long || ending == Ending::Turns;
     }
     // some of them run until their turns are used up
     assert!(rt; long);

@@ -1,7 +1,5 @@
 //! Codes that no compiler made, run by the kernel.
 
-ghost use Rattle.std.specs.Prelude.{◌≤◌, ◌<◌, length};
-
 use edi_kernel::{Ending, Kernel, StintEnd};
 use edi_machine::Cause;
 use edi_memory::MemoryCalls;
@@ -11,37 +9,61 @@ use std::alloc::{AllocError, Global};
 use std::process::Abort;
 use std::test::Fail;
 
-/// What a run leaves.
-#[derive(Drop)]
-struct Ran {
+/// A code with its call numbers, what it is run with, and what comes of it.
+#[derive(Clone, Copy)]
+struct Case<'a> {
+    words: &'a [u16],
+    numbers: &'a [u8],
+    choices: &'a [u8],
+    bound: u64,
     ending: Ending,
     turns: u64,
     drawn: u64,
-    shown: Vec<u8>,
+    shown: &'a [u8],
 }
 
-// Runs the code of these words from address 0, with these call numbers and choices.
-fn run_code(
-    rt: &impl Abort,
+fn with_calls(
     alloc: Global,
-    words: &[u16],
-    numbers: &[u8],
-    choices: &[u8],
-    bound: u64,
-) -> Result<Ran, Fail> {
-    assert!(rt; words.len() < 1000);
-    assert!(rt; numbers.len() <= 10);
-    let code = Code::check(alloc, words.to_vec(alloc)?, 0, numbers)?;
-    let mut calls = MemoryCalls::new(alloc, b"", 0)?;
-    let mut choices = Choices::list(alloc, choices)?;
+    code: &Code,
+    choices: &mut Choices,
+    calls: &mut MemoryCalls,
+    case: Case<'_>,
+) -> Result<bool, AllocError> {
     let mut kernel = Kernel::new(alloc)?;
-    let ending = kernel.run(&code, &mut calls, bound, &mut choices);
-    Ok(Ran {
-        ending,
-        turns: kernel.turns_used(),
-        drawn: choices.drawn(),
-        shown: calls.shown().to_vec(alloc)?,
-    })
+    if calls.failed().is_some() {
+        return Ok(false);
+    }
+    let ending = kernel.run(code, calls, case.bound, choices);
+    Ok(ending == case.ending && kernel.turns_used() == case.turns)
+}
+
+fn with_choices(
+    alloc: Global,
+    code: &Code,
+    choices: &mut Choices,
+    case: Case<'_>,
+) -> Result<bool, AllocError> {
+    let mut calls = MemoryCalls::new(alloc, b"", 0)?;
+    let ends = with_calls(alloc, code, choices, &mut calls, case)?;
+    Ok(ends && calls.shown() == case.shown)
+}
+
+fn with_code(alloc: Global, code: &Code, case: Case<'_>) -> Result<bool, AllocError> {
+    let mut choices = Choices::list(alloc, case.choices)?;
+    let ends = with_choices(alloc, code, &mut choices, case)?;
+    Ok(ends && choices.drawn() == case.drawn)
+}
+
+// The code of these words, whose entry is at address 0.
+fn code_of(rt: &impl Abort, alloc: Global, words: &[u16], numbers: &[u8]) -> Result<Code, Fail> {
+    assert!(rt; words.len() < 1000 && numbers.len() <= 10);
+    Ok(Code::check(alloc, words.to_vec(alloc)?, 0, numbers)?)
+}
+
+// Whether the run of a code ends as the case says.
+fn ends(rt: &impl Abort, alloc: Global, case: Case<'_>) -> Result<bool, Fail> {
+    let code = code_of(rt, alloc, case.words, case.numbers)?;
+    Ok(with_code(alloc, &code, case)?)
 }
 
 /// ENTRY 9 0 3 0 0; CONST 97; CALLP 0 5 1; RETURN 0 0.
@@ -140,26 +162,31 @@ fn runs_end_as_worked_out(rt: HostRuntime) -> Result<(), Fail> {
         (&INSIDE, &[], &[], 9, Ending::Bad(30), 2, 0, b""),
     ];
     for (words, numbers, choices, bound, ending, turns, drawn, shown) in cases {
-        let ran = run_code(&rt, rt.alloc(), words, numbers, choices, bound)?;
-        assert_eq!(rt; ran.ending, ending, "{words:?} {choices:?} {bound}");
-        assert_eq!(rt; ran.turns, turns, "{words:?} {choices:?} {bound}");
-        assert_eq!(rt; ran.drawn, drawn, "{words:?} {choices:?} {bound}");
-        assert_eq!(rt;
-            ran.shown.as_slice(),
+        let case = Case {
+            words,
+            numbers,
+            choices,
+            bound,
+            ending,
+            turns,
+            drawn,
             shown,
+        };
+        assert!(rt;
+            ends(&rt, rt.alloc(), case)?,
             "{words:?} {choices:?} {bound}"
         );
     }
     Ok(())
 }
 
-// A COBEGIN at line 2 of so many branches `skip`.
-fn with_branches(alloc: Global, count: u16) -> Result<Vec<u16>, AllocError>
-    requires { count ≤ 100 }
-{
+// A COBEGIN at line 2 of so many branches `skip`, at most 100.
+fn with_branches(alloc: Global, count: u16) -> Result<Vec<u16>, AllocError> {
+    let count = count.min(100);
+    let exit = count.saturating_mul(3).saturating_add(12);
     let mut words = Vec::from_slice(alloc, &[33, 5, 0, 0, 0, 0, 42, count, 2])?;
     for _branch in 0..count {
-        words.extend_from_slice(&[5, 0, 12 + 3 * count])?;
+        words.extend_from_slice(&[5, 0, exit])?;
     }
     words.extend_from_slice(&[37, 0, 0, 43])?;
     Ok(words)
@@ -173,36 +200,61 @@ fn as_many_as_32_processes_live(rt: HostRuntime) -> Result<(), Fail> {
         (32, Ending::Failed(Cause::ProcessLimit, 2), 1, 0),
     ];
     for (count, ending, turns, drawn) in cases {
-        assert!(rt; count <= 100);
         let words = with_branches(rt.alloc(), count)?;
-        let ran = run_code(&rt, rt.alloc(), words.as_slice(), &[], &[], 1000)?;
-        assert_eq!(rt; ran.ending, ending, "{count}");
-        assert_eq!(rt; ran.turns, turns, "{count}");
-        assert_eq!(rt; ran.drawn, drawn, "{count}");
+        let case = Case {
+            words: &words,
+            numbers: &[],
+            choices: &[],
+            bound: 1000,
+            ending,
+            turns,
+            drawn,
+            shown: b"",
+        };
+        assert!(rt; ends(&rt, rt.alloc(), case)?, "{count}");
     }
     Ok(())
 }
 
+// Whether a first stint forks, in two turns, and a second one, with a choice between them, comes to a `when`, in one turn more.
+fn are_stints(
+    kernel: &mut Kernel,
+    code: &Code,
+    calls: &mut MemoryCalls,
+    choices: &mut Choices,
+) -> bool {
+    if kernel.is_taken() || calls.failed().is_some() {
+        return false;
+    }
+    kernel.start(code);
+    let StintEnd::Forked { used } = kernel.stint(code, calls, 100) else {
+        return false;
+    };
+    if used != 2 || kernel.ready() != 2 || kernel.standing().is_some() {
+        return false;
+    }
+    kernel.choose(choices);
+    if calls.failed().is_some() {
+        return false;
+    }
+    kernel.stint(code, calls, 98) == StintEnd::Arrived { used: 1 }
+}
+
+// Whether there are two such stints, with one choice drawn, and three turns used. At 8 is then the parent's base, and four words
+// of zeros.
+fn two_stints(alloc: Global, code: &Code, choices: &mut Choices) -> Result<bool, AllocError> {
+    let mut calls = MemoryCalls::new(alloc, b"", 0)?;
+    let mut kernel = Kernel::new(alloc)?;
+    let holds = are_stints(&mut kernel, code, &mut calls, choices);
+    let told = (choices.drawn(), kernel.turns_used(), kernel.word(8));
+    Ok(holds && told == (1, 3, 0) && kernel.standing().is_some())
+}
+
 #[test]
 fn stints_follow_one_another(rt: HostRuntime) -> Result<(), Fail> {
-    let code = Code::check(rt.alloc(), LETTERS.to_vec(rt.alloc())?, 0, &[2])?;
-    let mut calls = MemoryCalls::new(rt.alloc(), b"", 0)?;
+    let code = code_of(&rt, rt.alloc(), &LETTERS, &[2])?;
     let mut choices = Choices::list(rt.alloc(), &[])?;
-    let mut kernel = Kernel::new(rt.alloc())?;
-    assert!(rt; !kernel.is_taken());
-    kernel.start(&code);
-    let forked = kernel.stint(&code, &mut calls, 100);
-    assert_eq!(rt; forked, StintEnd::Forked { used: 2 });
-    assert_eq!(rt; kernel.ready(), 2);
-    assert_eq!(rt; kernel.standing(), None);
-    kernel.choose(&mut choices);
-    assert_eq!(rt; choices.drawn(), 1);
-    assert!(rt; calls.failed().is_none());
-    let arrived = kernel.stint(&code, &mut calls, 98);
-    assert_eq!(rt; arrived, StintEnd::Arrived { used: 1 });
-    assert_eq!(rt; kernel.turns_used(), 3);
-    assert!(rt; kernel.standing().is_some());
-    // the parent's base, and four words of zeros
-    assert_eq!(rt; kernel.word(8), 0);
+    let found = two_stints(rt.alloc(), &code, &mut choices)?;
+    assert!(rt; found);
     Ok(())
 }

@@ -8,7 +8,7 @@ use edi_machine::{Activity, Cause, StepEnd, TurnKind, begin, branch, step};
 use edi_memory::MemoryCalls;
 use edi_store::{Segment, Store};
 use edi_target::Code;
-use std::alloc::Global;
+use std::alloc::{AllocError, Global};
 use std::process::Abort;
 use std::test::Fail;
 
@@ -41,30 +41,37 @@ fn run_alone(
     StepEnd::On
 }
 
-/// The end of a program, and what it has shown.
-#[derive(Drop)]
-struct Ran {
-    end: StepEnd,
-    shown: Vec<u8>,
+// The code of these words, whose entry is at address 0.
+fn code_of(rt: &impl Abort, alloc: Global, words: &[u16], numbers: &[u8]) -> Result<Code, Fail> {
+    assert!(rt; words.len() < 100 && numbers.len() <= 10);
+    Ok(Code::check(alloc, words.to_vec(alloc)?, 0, numbers)?)
 }
 
-// Runs the code of these words, whose entry is at address 0.
-fn run_code(
-    rt: &impl Abort,
+// The end of a program; nothing where a call has failed before.
+fn end_of(
     alloc: Global,
-    words: &[u16],
-    numbers: &[u8],
-    input: &[u8],
-) -> Result<Ran, Fail> {
-    assert!(rt; words.len() < 100);
-    assert!(rt; numbers.len() <= 10);
+    code: &Code,
+    calls: &mut MemoryCalls,
+) -> Result<Option<StepEnd>, AllocError> {
     let mut store = Store::new(alloc)?;
+    if calls.failed().is_some() {
+        return Ok(None);
+    }
+    let mut activity = begin(&mut store, code);
+    Ok(Some(run_alone(&mut store, &mut activity, code, calls)))
+}
+
+// Whether a program ends so over this input, and has then shown this.
+fn ends(
+    alloc: Global,
+    code: &Code,
+    input: &[u8],
+    end: StepEnd,
+    shown: &[u8],
+) -> Result<bool, AllocError> {
     let mut calls = MemoryCalls::new(alloc, input, 64)?;
-    let code = Code::check(alloc, words.to_vec(alloc)?, 0, numbers)?;
-    let mut activity = begin(&mut store, &code);
-    let end = run_alone(&mut store, &mut activity, &code, &mut calls);
-    let shown = calls.shown().to_vec(alloc)?;
-    Ok(Ran { end, shown })
+    let found = end_of(alloc, code, &mut calls)?;
+    Ok(found == Some(end) && calls.shown() == shown)
 }
 
 #[test]
@@ -245,36 +252,41 @@ fn codes_run(rt: HostRuntime) -> Result<(), Fail> {
         ),
     ];
     for (what, words, numbers, input, end, shown) in cases {
-        let ran = run_code(&rt, rt.alloc(), words, numbers, input)?;
-        assert_eq!(rt; ran.end, end, "{what}");
-        assert_eq!(rt; ran.shown.as_slice(), shown, "{what}");
+        let code = code_of(&rt, rt.alloc(), words, numbers)?;
+        assert!(rt; ends(rt.alloc(), &code, input, end, shown)?, "{what}");
     }
     Ok(())
 }
 
-#[test]
-fn branches_begin(rt: HostRuntime) -> Result<(), Fail> {
-    let alloc = rt.alloc();
-    // a COBEGIN of two branches, which end at once
-    let words = [33, 5, 0, 0, 0, 0, 42, 2, 3, 5, 0, 15, 7, 0, 15, 43];
+/// Where a program forks in its first step, and where it goes on; its first branch, and how the first step of that ends.
+type Forked = (u32, u32, Activity, StepEnd);
+
+fn fork_of(store: &mut Store, code: &Code, calls: &mut MemoryCalls) -> Option<Forked> {
+    if calls.failed().is_some() {
+        return None;
+    }
+    let mut parent = begin(store, code);
+    let StepEnd::Turn(TurnKind::Fork(at)) = step(store, &mut parent, code, 1, true, calls) else {
+        return None;
+    };
+    let child = branch(store, &parent, code, at, 0);
+    let mut goes_on = child;
+    let end = step(store, &mut goes_on, code, 3, false, calls);
+    Some((at, parent.pc, child, end))
+}
+
+fn fork_in(alloc: Global, code: &Code) -> Result<Option<Forked>, AllocError> {
     let mut store = Store::new(alloc)?;
     let mut calls = MemoryCalls::new(alloc, b"", 64)?;
-    let code = Code::check(alloc, words.to_vec(alloc)?, 0, &[])?;
-    let mut parent = begin(&mut store, &code);
-    let StepEnd::Turn(TurnKind::Fork(at)) = step(
-        &mut store,
-        &mut parent,
-        &code,
-        1,
-        true,
-        &mut calls,
-    ) else {
-        return Err(Fail::from("no fork"));
-    };
-    assert_eq!(rt; at, 6);
-    assert_eq!(rt; parent.pc, 15);
-    let mut child = branch(&mut store, &parent, &code, at, 0);
-    let expected = Activity {
+    Ok(fork_of(&mut store, code, &mut calls))
+}
+
+#[test]
+fn branches_begin(rt: HostRuntime) -> Result<(), Fail> {
+    // a COBEGIN of two branches, which end at once
+    let words = [33, 5, 0, 0, 0, 0, 42, 2, 3, 5, 0, 15, 7, 0, 15, 43];
+    let code = code_of(&rt, rt.alloc(), &words, &[])?;
+    let child = Activity {
         base: 5,
         end: 10,
         top: 10,
@@ -285,8 +297,7 @@ fn branches_begin(rt: HostRuntime) -> Result<(), Fail> {
         },
         held: 0,
     };
-    assert_eq!(rt; child, expected);
-    let ended = step(&mut store, &mut child, &code, 3, false, &mut calls);
-    assert_eq!(rt; ended, StepEnd::Turn(TurnKind::Exit));
+    let expected = (6, 15, child, StepEnd::Turn(TurnKind::Exit));
+    assert!(rt; fork_in(rt.alloc(), &code)? == Some(expected));
     Ok(())
 }

@@ -8,6 +8,8 @@ mod files;
 #[cfg(test)]
 mod image;
 #[cfg(test)]
+mod objects;
+#[cfg(test)]
 mod programs;
 #[cfg(test)]
 mod requests;

@@ -2,65 +2,12 @@
 
 use crate::calls::Answer::{Done, NoFile, Word};
 use crate::calls::Call::{Accept, Close, Display, Find, Fresh, More, Print, Read, Remove, Write};
-use crate::calls::{Answer, Call, answered};
-use crate::image::image;
+use crate::objects::{Case, Table, holds};
 use edi_calls::Outside;
-use edi_catalog::{check, mount};
-use edi_disk::Disk;
-use edi_host::{MemoryDrive, MemorySink, MemorySource};
-use edi_system::{Buffer, System};
-use std::alloc::Global;
-use std::process::Abort;
 use std::test::Fail;
 
-/// What a program leaves.
-#[derive(Drop)]
-struct Left {
-    /// How many of its calls were answered as the table says.
-    answered: usize,
-    failed: Option<Outside>,
-    shown: Vec<u8>,
-    printed: Vec<u8>,
-}
-
-// The number of the call that fails, if this object is to fail at its n-th call.
-fn failing(object: Outside, which: Outside, n: u64) -> [u64; 1] {
-    if object == which { [n] } else { [0] }
-}
-
-// Makes the calls of a table over the image, with the input `xy` and an octet above 127. The n-th call of an object fails,
-// or none where n is 0.
-fn ran(
-    rt: &impl Abort,
-    alloc: Global,
-    table: &[(Call, Answer)],
-    object: Outside,
-    n: u64,
-) -> Result<Left, Fail> {
-    let bytes = image(alloc)?;
-    assert!(rt; bytes.len() % 512 == 0);
-    let mut drive = MemoryDrive::new(alloc, &bytes, &failing(object, Outside::Drive, n), false)?;
-    let mut input = MemorySource::new(alloc, b"x\xf9", &failing(object, Outside::Input, n))?;
-    let mut terminal = MemorySink::new(alloc, 16, &failing(object, Outside::Terminal, n))?;
-    let mut printer = MemorySink::new(alloc, 16, &failing(object, Outside::Printer, n))?;
-    let mut buffer = Buffer::new(alloc)?;
-    let (answered, failed) = {
-        let mut disk = Disk::attach(&mut drive);
-        let Ok(mut kept) = check(alloc, &mut disk) else {
-            return Err("not mounted")?;
-        };
-        let files = mount(disk, &mut kept);
-        let mut system = System::new(files, &mut input, &mut terminal, &mut printer, &mut buffer);
-        let count = answered(&mut system, table);
-        (count, system.failed())
-    };
-    Ok(Left {
-        answered,
-        failed,
-        shown: Vec::from_slice(alloc, terminal.bytes())?,
-        printed: Vec::from_slice(alloc, printer.bytes())?,
-    })
-}
+/// An input of the characters `x` and `y`, which comes with an octet above 127.
+const INPUT: &[u8] = b"x\xf9";
 
 #[test]
 fn each_call_is_answered(rt: HostRuntime) -> Result<(), Fail> {
@@ -112,11 +59,17 @@ fn each_call_is_answered(rt: HostRuntime) -> Result<(), Fail> {
         (Remove("text"), Word(0)),
         (Find("text"), Word(0)),
     ];
-    let left = ran(&rt, rt.alloc(), &table, Outside::Drive, 0)?;
-    assert_eq!(rt; left.answered, table.len());
-    assert_eq!(rt; left.failed, None);
-    assert_eq!(rt; left.shown.as_slice(), b"A".as_slice());
-    assert_eq!(rt; left.printed.as_slice(), b"B".as_slice());
+    let case = Case {
+        table: Table::Calls(&table),
+        input: INPUT,
+        capacity: 16,
+        fails: (Outside::Drive, 0),
+        answered: table.len(),
+        failed: None,
+        shown: b"A",
+        printed: b"B",
+    };
+    assert!(rt; holds(&rt, rt.alloc(), case)?);
     Ok(())
 }
 
@@ -159,12 +112,17 @@ fn each_object_fails_in_each_of_its_calls(rt: HostRuntime) -> Result<(), Fail> {
         (drive, 42, 13, b"ab", b"cd"),
     ];
     for (object, n, calls, shown, printed) in cases {
-        let left = ran(&rt, rt.alloc(), &table, object, n)?;
-        let failed = if calls < 13 { Some(object) } else { None };
-        assert_eq!(rt; left.answered, calls, "{object:?} {n}");
-        assert_eq!(rt; left.failed, failed, "{object:?} {n}");
-        assert_eq!(rt; left.shown.as_slice(), shown, "{object:?} {n}");
-        assert_eq!(rt; left.printed.as_slice(), printed, "{object:?} {n}");
+        let case = Case {
+            table: Table::Calls(&table),
+            input: INPUT,
+            capacity: 16,
+            fails: (object, n),
+            answered: calls,
+            failed: if calls < 13 { Some(object) } else { None },
+            shown,
+            printed,
+        };
+        assert!(rt; holds(&rt, rt.alloc(), case)?, "{object:?} {n}");
     }
     Ok(())
 }
