@@ -111,7 +111,7 @@ fn each_beginning_of_a_program_ends_too_early(rt: HostRuntime) {
         if *byte != b' ' && *byte != b'\n' {
             continue;
         }
-        let beginning = bytes.get(..place).expect(&rt, "a beginning");
+        let beginning = bytes.get(..place).unwrap_or(b"");
         let found = fault_in(&rt, rt.alloc(), beginning);
         assert_eq!(rt; found, Some(SyntaxFault::Syntax { line, index }));
         index = index.saturating_add(1);
