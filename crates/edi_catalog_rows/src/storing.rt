@@ -56,11 +56,19 @@ fn a_file_of_513_bytes_takes_three_blocks(rt: HostRuntime) -> Result<(), Fail> {
     Ok(())
 }
 
+// What a store of 2,000 bytes leaves: the third page of the file, or no file, and the free blocks.
+fn found_after(is_there: bool) -> (Reply, u32) {
+    if is_there {
+        (Reply::Page(sevens(464)), 24)
+    } else {
+        (Reply::NoFile, 29)
+    }
+}
+
 #[test]
 fn a_fault_leaves_the_files_before_or_after(rt: HostRuntime) -> Result<(), Fail> {
     let alloc = rt.alloc();
     let bytes = with_pages(alloc, 1)?;
-    let after = Reply::Page(sevens(464));
     // a mount reads the 33 blocks of the catalogue and one map; a store of 2,000 bytes writes five blocks, and then that of
     // the entry
     let cases: [(u64, bool, bool); 14] = [
@@ -81,11 +89,7 @@ fn a_fault_leaves_the_files_before_or_after(rt: HostRuntime) -> Result<(), Fail>
     ];
     for (n, lands, is_there) in cases {
         let answer = if n < 41 { Err(CatEnd::Fault) } else { Ok(()) };
-        let (found, free) = if is_there {
-            (after, 24)
-        } else {
-            (Reply::NoFile, 29)
-        };
+        let (found, free) = found_after(is_there);
         is_stored(&rt, alloc, &bytes, (2000, n, lands, answer, 3, found, free))?;
     }
     Ok(())

@@ -31,7 +31,7 @@ fn slot(place: u16) -> u16 {
 }
 
 /// The operands of the instruction at this place, drawn by a number, and how many there are.
-fn operands(number: u16, place: u16, drawn: u16) -> ([u16; 8], usize) {
+fn operands(number: u16, place: u16, drawn: u16) -> ([u16; 8], u16) {
     let small = drawn % 4;
     let ahead = slot(place.wrapping_add(1).wrapping_add(small));
     let back = slot(drawn.wrapping_mul(7) % place.wrapping_add(1).max(1));
@@ -73,7 +73,7 @@ fn put_slot(words: &mut [u16], place: u16, drawn: u16) {
     let number = NUMBERS.get(usize::from(drawn % 64)).copied().unwrap_or(1);
     let (operands, count) = operands(number, place, drawn / 64);
     let at = slot(place);
-    let behind = at.wrapping_add(1).wrapping_add(count as u16);
+    let behind = at.wrapping_add(1).wrapping_add(count);
     put(words, at, &[number]);
     put(words, at.wrapping_add(1), &operands);
     put(
