@@ -159,6 +159,28 @@ fn a_drive_that_fails_in_a_call_has_the_files_before_or_after(rt: HostRuntime) -
     Ok(())
 }
 
+// Whether the last of these calls fails with the n-th call of an object, and leaves the input, these files, and what was shown.
+fn stays(
+    rt: &impl Abort,
+    alloc: Global,
+    table: Table<'_>,
+    fails: (Outside, u64),
+    shown: &[u8],
+    left: &Files,
+) -> Result<bool, AllocError> {
+    let case = Case {
+        table,
+        input: INPUT,
+        capacity: 16,
+        fails,
+        answered: count_of(table).saturating_sub(1),
+        failed: Some(fails.0),
+        shown,
+        printed: b"",
+    };
+    leaves(rt, alloc, case, false, INPUT, left)
+}
+
 #[test]
 fn a_stream_that_fails_in_a_call_is_as_before(rt: HostRuntime) -> Result<(), Fail> {
     let alloc = rt.alloc();
@@ -182,19 +204,9 @@ fn a_stream_that_fails_in_a_call_is_as_before(rt: HostRuntime) -> Result<(), Fai
         (Table::Requests(&fresh_line), Outside::Terminal, 2, b"a"),
         (Table::Requests(&print_out), Outside::Printer, 1, b""),
     ];
-    for (table, object, n, shown) in &rows {
-        let case = Case {
-            table: *table,
-            input: INPUT,
-            capacity: 16,
-            fails: (*object, *n),
-            answered: count_of(*table).saturating_sub(1),
-            failed: Some(*object),
-            shown,
-            printed: b"",
-        };
+    for (table, object, n, shown) in rows {
         assert!(&rt;
-            leaves(&rt, alloc, case, false, INPUT, &before)?,
+            stays(&rt, alloc, table, (object, n), shown, &before)?,
             "{object:?}"
         );
     }
