@@ -118,10 +118,20 @@ fn with_input<D: Drive, S: Source>(
     Ok(is_told && terminal.bytes() == case.shown)
 }
 
-fn with_drive<D: Drive>(alloc: Global, drive: &mut D, case: Case<'_>) -> Result<bool, AllocError> {
+// Whether the case holds over this drive, and the input then has these bytes, where they are asked for.
+fn with_drive<D: Drive>(
+    alloc: Global,
+    drive: &mut D,
+    case: Case<'_>,
+    unread: Option<&[u8]>,
+) -> Result<bool, AllocError> {
     let number = failing(case, Outside::Input);
     let mut input = MemorySource::new(alloc, case.input, &number)?;
-    with_input(alloc, drive, &mut input, case)
+    let is_told = with_input(alloc, drive, &mut input, case)?;
+    match unread {
+        Some(bytes) => Ok(is_told && input.bytes() == bytes),
+        None => Ok(is_told),
+    }
 }
 
 /// Whether the case holds.
@@ -129,5 +139,44 @@ pub(crate) fn holds(rt: &impl Abort, alloc: Global, case: Case<'_>) -> Result<bo
     let bytes = image(alloc)?;
     assert!(rt; bytes.len() % 512 == 0);
     let mut drive = MemoryDrive::new(alloc, &bytes, &failing(case, Outside::Drive), false)?;
-    with_drive(alloc, &mut drive, case)
+    with_drive(alloc, &mut drive, case, None)
+}
+
+// Whether these bytes are a valid image, of which a system tells this.
+fn has_files(
+    rt: &impl Abort,
+    alloc: Global,
+    bytes: &[u8],
+    files: &[(Request, Reply)],
+) -> Result<bool, AllocError> {
+    assert!(rt; bytes.len() % 512 == 0);
+    let mut drive = MemoryDrive::new(alloc, bytes, &[0], false)?;
+    let case = Case {
+        table: Table::Requests(files),
+        input: b"",
+        capacity: 0,
+        fails: (Outside::Drive, 0),
+        answered: files.len(),
+        failed: None,
+        shown: b"",
+        printed: b"",
+    };
+    with_drive(alloc, &mut drive, case, None)
+}
+
+/// Whether the case holds where the failing call of the drive lands or not, the input then has these bytes, and the drive
+/// is a valid image of these files.
+pub(crate) fn leaves(
+    rt: &impl Abort,
+    alloc: Global,
+    case: Case<'_>,
+    lands: bool,
+    unread: &[u8],
+    files: &[(Request, Reply)],
+) -> Result<bool, AllocError> {
+    let bytes = image(alloc)?;
+    assert!(rt; bytes.len() % 512 == 0);
+    let mut drive = MemoryDrive::new(alloc, &bytes, &failing(case, Outside::Drive), lands)?;
+    let is_told = with_drive(alloc, &mut drive, case, Some(unread))?;
+    Ok(is_told && has_files(rt, alloc, drive.bytes(), files)?)
 }
