@@ -21,7 +21,7 @@
 //! | `same NAME NAME` | two files with the same bytes |
 //! | `blocks N`, `sees N HEX`, `zeros N N` | the number of blocks of the drive; its bytes from N on; zeros from N on to N |
 //! | `unchanged` | the drive has the bytes from before the call |
-//! | `either TITLE NAME` | the disk has just this file under the title, or none |
+//! | `either NAME` | the disk has just this file under the title `t`, or none |
 //!
 //! In a TEXT `/` is a line feed and `~` the byte 25. The number `n` is that of the round. All that is shown and printed has to be
 //! looked at before the next call.
