@@ -68,18 +68,7 @@ pub decides : (o : Operator) (one two three four : List ℕ) (behind : ℕ) (res
     → four ≡ decided o behind (length one) three → Emits one four (decision o behind ++ rest)
 decides op.And one two three four behind rest p q e = aims one two three four instruction.and 30 behind rest (λ k. refl) p q e
 decides op.Or one two three four behind rest p q e = aims one two three four instruction.or 31 behind rest (λ k. refl) p q e
-decides op.Equal one two three four behind rest p q e = subst (λ l. Emits one l rest) (sym e) (emits_then one two three [] rest p q)
-decides op.NotEqual one two three four behind rest p q e = subst (λ l. Emits one l rest) (sym e) (emits_then one two three [] rest p q)
-decides op.Less one two three four behind rest p q e = subst (λ l. Emits one l rest) (sym e) (emits_then one two three [] rest p q)
-decides op.LessOrEqual one two three four behind rest p q e = subst (λ l. Emits one l rest) (sym e) (emits_then one two three [] rest p q)
-decides op.Greater one two three four behind rest p q e = subst (λ l. Emits one l rest) (sym e) (emits_then one two three [] rest p q)
-decides op.GreaterOrEqual one two three four behind rest p q e = subst (λ l. Emits one l rest) (sym e) (emits_then one two three [] rest p q)
-decides op.In one two three four behind rest p q e = subst (λ l. Emits one l rest) (sym e) (emits_then one two three [] rest p q)
-decides op.Plus one two three four behind rest p q e = subst (λ l. Emits one l rest) (sym e) (emits_then one two three [] rest p q)
-decides op.Minus one two three four behind rest p q e = subst (λ l. Emits one l rest) (sym e) (emits_then one two three [] rest p q)
-decides op.Times one two three four behind rest p q e = subst (λ l. Emits one l rest) (sym e) (emits_then one two three [] rest p q)
-decides op.Div one two three four behind rest p q e = subst (λ l. Emits one l rest) (sym e) (emits_then one two three [] rest p q)
-decides op.Mod one two three four behind rest p q e = subst (λ l. Emits one l rest) (sym e) (emits_then one two three [] rest p q)
+decides o one two three four behind rest p q e = subst (λ l. Emits one l rest) (sym e) (emits_then one two three [] rest p q)
 
 -- ---- jumps that start at indices
 

@@ -24,18 +24,7 @@ use Rattle.edi_code.specs.Writable.{ClauseIsWritable, ClausesAreWritable, IsWrit
 operator_writable : (types : List Shape) (o : Operator) (t : ℕ) → 1 ≤ size types t → OperatorIsWritable types o t
 operator_writable types op.Equal t h = h
 operator_writable types op.NotEqual t h = h
-operator_writable types op.Less t h = tt
-operator_writable types op.LessOrEqual t h = tt
-operator_writable types op.Greater t h = tt
-operator_writable types op.GreaterOrEqual t h = tt
-operator_writable types op.In t h = tt
-operator_writable types op.Plus t h = tt
-operator_writable types op.Minus t h = tt
-operator_writable types op.Times t h = tt
-operator_writable types op.Div t h = tt
-operator_writable types op.Mod t h = tt
-operator_writable types op.And t h = tt
-operator_writable types op.Or t h = tt
+operator_writable types o t h = tt
 
 module _ (types : List Shape) (table : IsTypeTable types) (parts : HaveParts types) (blocks : List Block) (headings : ℕ → ℕ → Heading)
     (each : (n : ℕ) → n < length blocks → BlockFits types blocks headings n) (b : ℕ) (inside : b < length blocks) where
@@ -107,15 +96,7 @@ module _ (types : List Shape) (table : IsTypeTable types) (parts : HaveParts typ
     arguments_writable (argument_then (by_value e) xs) (value_then t fs) h = (expression_writable e h.1, arguments_writable xs fs h.2)
     arguments_writable (argument_then (by_variable p) xs) (variable_then t fs) h = (place_writable p h.1, arguments_writable xs fs h.2)
     arguments_writable (argument_then (by_procedure c) xs) (procedure_then hd fs) h = (callee_writable c h.1, arguments_writable xs fs h.2)
-    arguments_writable (argument_then (by_value e) xs) no_formal h = absurd h
-    arguments_writable (argument_then (by_value e) xs) (variable_then t fs) h = absurd h
-    arguments_writable (argument_then (by_value e) xs) (procedure_then hd fs) h = absurd h
-    arguments_writable (argument_then (by_variable p) xs) no_formal h = absurd h
-    arguments_writable (argument_then (by_variable p) xs) (value_then t fs) h = absurd h
-    arguments_writable (argument_then (by_variable p) xs) (procedure_then hd fs) h = absurd h
-    arguments_writable (argument_then (by_procedure c) xs) no_formal h = absurd h
-    arguments_writable (argument_then (by_procedure c) xs) (value_then t fs) h = absurd h
-    arguments_writable (argument_then (by_procedure c) xs) (variable_then t fs) h = absurd h
+    arguments_writable (argument_then x xs) fs h = absurd h
 
   branches_writable : (bs : List ℕ) → All (BranchFits types blocks headings b) bs → All (λ n. n < length blocks) bs
   branches_writable bs h k d l = (h k d l).0

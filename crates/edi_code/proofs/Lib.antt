@@ -3,6 +3,8 @@ pub mod Frames
 pub mod Constants
 pub mod Cobegins
 pub mod Links
+pub mod Calling
+pub mod Listed
 pub mod Clauses
 pub mod Aiming
 pub mod Layers

@@ -1,8 +1,9 @@
 //! How instructions are appended, and those that depend on types, operators and kinds alone.
 
-ghost use Rattle.std.specs.Prelude.{◌≡◌, ◌+◌, ◌≤◌, ◌<◌, ◌^◌, IfOk, IfSome, OnOk, length};
+ghost use Rattle.std.specs.Prelude.{◌≡◌, ◌+◌, ◌≤◌, ◌<◌, ◌^◌, [], ◌∷◌, IfOk, IfSome, OnOk, length};
 ghost use Rattle.edi_unit.specs.Types.{shape_at};
 ghost use Rattle.edi_unit.specs.Fits.{ShapesFit, greatest_levels};
+ghost use Rattle.edi_target.specs.Op.{address};
 ghost use Rattle.edi_target.specs.View.{instruction_of};
 ghost use Rattle.edi_scheme.specs.Pieces as pieces;
 ghost use Rattle.edi_scheme.specs.Pieces.{code_length};
@@ -170,6 +171,26 @@ pub(crate) fn element(types: &TypeTable, of: u32, line: u16) -> Option<Op<'stati
 
 // ---- variables and callees
 
+// Appends the address of what stands at an offset in the frame `levels` steps out.
+fn put_address(
+    alloc: Global,
+    levels: u32,
+    offset: u16,
+    out: &mut Vec<u16>,
+) -> Result<(), AllocError>
+    requires levels { levels ≤ greatest_levels }
+    ensures emits { OnOk result (Emits out.old.items out.new.items (address levels offset ∷ [])) }
+{
+    put(
+        alloc,
+        &Op::Address {
+            level: levels as u16,
+            offset,
+        },
+        out,
+    )
+}
+
 // Appends the address of a variable.
 pub(crate) fn emit_variable(
     alloc: Global,
@@ -184,15 +205,7 @@ pub(crate) fn emit_variable(
     ensures emits { OnOk result (Emits out.old.items out.new.items
         (pieces.variable_code levels (in_scope.slot_offset scope.now levels variable) found)) }
 {
-    let offset = slot_offset(scope, levels, variable);
-    put(
-        alloc,
-        &Op::Address {
-            level: levels as u16,
-            offset,
-        },
-        out,
-    )?;
+    put_address(alloc, levels, slot_offset(scope, levels, variable), out)?;
     if is_address(found) {
         return put(alloc, &Op::Load { count: 1 }, out);
     }
@@ -253,15 +266,7 @@ pub(crate) fn emit_procedure(
             )
         }
         Callee::Formal { levels, variable } => {
-            let offset = slot_offset(scope, levels, variable);
-            put(
-                alloc,
-                &Op::Address {
-                    level: levels as u16,
-                    offset,
-                },
-                out,
-            )?;
+            put_address(alloc, levels, slot_offset(scope, levels, variable), out)?;
             put(alloc, &Op::Load { count: 3 }, out)
         }
     }

@@ -13,9 +13,8 @@ ghost use Rattle.edi_code.specs.InScope as in_scope;
 ghost use Rattle.edi_code.specs.InScope.{ActIsWritable, ActsAreWritable, ClauseIsWritable, ClausesAreWritable};
 ghost use Rattle.edi_code.specs.Scope.{IsScope, blocks_in, clause_kind_of, is_end};
 
-use crate::expressions::calls::emit_call;
 use crate::expressions::emit_value;
-use crate::expressions::places::emit_place;
+use crate::expressions::places::{emit_call, emit_place};
 use crate::instructions::{again, entry_of, put, put_at};
 use crate::jumps::{aim, aim_all, open_jump, target_of};
 use crate::pieces::close_length;

@@ -1,42 +1,27 @@
 use Rattle.std.proofs.Common.{rules, ◌≡◌, ◌+◌, ◌-◌, ◌<◌, ◌^◌, ◌++◌, ◌∷◌, length, drop, refl, sym, ap, subst, ◌∙◌, arith}
 use Rattle.std.specs.Prelude.{map}
 use Rattle.std.proofs.lemmas.List.{drop_all}
-use Rattle.edi_unit.specs.Tree.{act_then, clause_then}
+use Rattle.edi_unit.specs.Lists.{list_items}
+use Rattle.edi_unit.specs.Tree.{clause_then}
 use Rattle.edi_unit.specs.Tree.{clause as plain_clause}
-use Rattle.edi_unit.specs.View.{acts, act_of, acts_of, clauses, clause_of, clauses_of, expression_of}
+use Rattle.edi_unit.specs.View.{acts_of, clauses, clause_of, clauses_of, expression_of}
 use Rattle.edi_unit.proofs.Limits.{drop_item}
 use Rattle.edi_target.specs.Op as instruction
-use Rattle.edi_scheme.specs.Pieces.{words_of_code, again_code, released}
+use Rattle.edi_scheme.specs.Pieces.{again_code, released}
 use Rattle.edi_code.specs.Scope.{clause_kind_of}
-use Rattle.edi_code.specs.InScope.{clause_length, act_length, acts_length, clauses_length, act_code, acts_code, clause_code, clauses_code}
-use Rattle.edi_code.specs.InScope.{ActsAreWritable, ClausesAreWritable}
+use Rattle.edi_code.specs.InScope.{clause_length, acts_length, clauses_length, acts_code, clause_code, clauses_code, ActsAreWritable, ClausesAreWritable}
 use Rattle.edi_code.specs.Aimed.{AreThere, IsTarget, Opens, aimed, aimed_at, target_of}
 use Rattle.edi_code.specs.Emits.{Emits}
 use Rattle.edi_code.proofs.Aiming.{IsOpen, grown, aims, open_at_first, open_at_last, opens_all, target_is}
-use Rattle.edi_code.proofs.Emitting.{both, emits_then, rest_behind}
-use Rattle.edi_code.proofs.Clauses.{end_is, clause_open}
+use Rattle.edi_code.proofs.Emitting.{both, emits_then}
+use Rattle.edi_code.proofs.Clauses.{words_in, clause_at, clause_open}
+use Rattle.edi_code.proofs.Listed.{item_behind, of_acts}
 use Rattle.edi_code.proofs.statements.+statements.Goals as goal
 
 pub emit_acts-loop-act-preserved : goal.emit_acts-loop-act-preserved
 emit_acts-loop-act-preserved t c =
-    let s = c.args.scope.now in
-    let items = c.items-act-items.result.now in
-    let i = c.loop-act.act-index in
-    let here = c.loop-act.here in
-    let part = drop_item items i c.act-item.result c.loop-act-test.true c.act-item.is in
-    let x = act_of c.act-item.result in
-    let rest = acts (map act_of (drop (i + 1) items)) in
-    let writable : ActsAreWritable s (act_then x rest) = subst (λ l. ActsAreWritable s (acts (map act_of l))) part c.loop-act.invariant.writable in
-    let room : here + acts_length s (act_then x rest) ≡ c.args.at + acts_length s (acts (map act_of items)) = subst
-    (λ l. here + acts_length s (acts (map act_of l)) ≡ c.args.at + acts_length s (acts (map act_of items))) part c.loop-act.invariant.room in
-    let words = subst (λ l. c.loop-act.out.items ++ words_of_code (acts_code s here (acts (map act_of l))) ≡ c.args.out.now.items
-    ++ words_of_code (acts_code s c.args.at (acts (map act_of items)))) part c.loop-act.invariant.words in
-    record {
-      writable = writable.1;
-      room = omega (arith, room, c.in_ok-here.ensures.behind);
-      words = rest_behind c.loop-act.out.items _ _ (act_code s here x) (λ h k. acts_code s h rest) here (act_length s x) c.in_ok-here.here 0 0
-          c.in_ok-here.ensures.behind refl c.in_ok-here.ensures.emits words;
-    }
+    item_behind (of_acts c.args.scope.now) _ _ _ _ _ _ _ _ _ _ _ _ (drop_item _ _ _ c.loop-act-test.true c.act-item.is) c.loop-act.invariant
+    refl c.in_ok-here.ensures.behind c.in_ok-here.ensures.emits
 
 pub emit_open_clauses-loop-clause-init : goal.emit_open_clauses-loop-clause-init
 emit_open_clauses-loop-clause-init t c = record {
@@ -48,54 +33,38 @@ emit_open_clauses-loop-clause-init t c = record {
 
 pub emit_open_clauses-overflow_add-here : goal.emit_open_clauses-overflow_add-here
 emit_open_clauses-overflow_add-here t c =
-    let s = c.args.scope.now in
     let kind = clause_kind_of c.args.closing in
-    let items = c.items-clause-items.result.now in
-    let i = c.loop-clause.clause-index in
-    let here = c.loop-clause.here in
-    let part = drop_item items i c.clause-item.result c.loop-clause-test.true c.clause-item.is in
-    let x = clause_of c.clause-item.result in
-    let rest = clauses (map clause_of (drop (i + 1) items)) in
-    let room : here + clauses_length s kind (clause_then x rest) ≡ c.args.at + clauses_length s kind (clauses (map clause_of items)) = subst
-    (λ l. here + clauses_length s kind (clauses (map clause_of l)) ≡ c.args.at + clauses_length s kind (clauses (map clause_of items))) part
+    let step = clause_at c.args.scope.now kind _ _ _ _ _ _ (λ l. c.args.at + words_in c.args.scope.now kind l)
+    (drop_item _ _ _ c.loop-clause-test.true c.clause-item.is) c.loop-clause.invariant.behind c.loop-clause-test.true (c.close_length-more.ensures.exact 0)
     c.loop-clause.invariant.room in
-    let all = ap (λ l. clauses_length s kind (clauses (map clause_of l))) c.items-clause-items.ensures.exact in
-    let behind : c.loop-clause.behind - 1 + (i + 1) ≡ length items = omega (arith, c.loop-clause.invariant.behind, c.loop-clause-test.true) in
-    let last = end_is clause_of items i (c.loop-clause.behind - 1) behind in
-    let closes = c.close_length-more.ensures.exact 0 rest last in
-    omega (arith, room, all, closes, c.in_ok-ends.ensures.behind, c.requires.room)
+    omega (arith, step.room _ c.items-clause-items.ensures.exact c.requires.room, c.in_ok-ends.ensures.behind)
 
 pub emit_open_clauses-loop-clause-preserved : goal.emit_open_clauses-loop-clause-preserved
 emit_open_clauses-loop-clause-preserved t c =
     let s = c.args.scope.now in
     let kind = clause_kind_of c.args.closing in
     let items = c.items-clause-items.result.now in
-    let i = c.loop-clause.clause-index in
     let here = c.loop-clause.here in
-    let part = drop_item items i c.clause-item.result c.loop-clause-test.true c.clause-item.is in
+    let more = c.close_length-more.result in
+    let cut = drop_item items c.loop-clause.clause-index c.clause-item.result c.loop-clause-test.true c.clause-item.is in
     let x = clause_of c.clause-item.result in
-    let rest = clauses (map clause_of (drop (i + 1) items)) in
-    let writable : ClausesAreWritable s (clause_then x rest) = subst (λ l. ClausesAreWritable s (clauses (map clause_of l))) part
+    let rest = clauses (map clause_of (drop (c.loop-clause.clause-index + 1) items)) in
+    let writable : ClausesAreWritable s (clause_then x rest) = subst (λ l. ClausesAreWritable s (clauses (map clause_of l))) cut
     c.loop-clause.invariant.writable in
-    let room : here + clauses_length s kind (clause_then x rest) ≡ c.args.at + clauses_length s kind (clauses (map clause_of items)) = subst
-    (λ l. here + clauses_length s kind (clauses (map clause_of l)) ≡ c.args.at + clauses_length s kind (clauses (map clause_of items))) part
-    c.loop-clause.invariant.room in
     let opens = subst (λ l. IsOpen kind c.args.at c.args.starts.now.items c.loop-clause.starts.items c.args.out.now.items c.loop-clause.out.items
-    (λ k. clauses_code s kind k here (clauses (map clause_of l))) (λ k. clauses_code s kind k c.args.at (clauses (map clause_of items)))) part
+    (λ k. clauses_code s kind k here (clauses (map clause_of l))) (λ k. clauses_code s kind k c.args.at (clauses (map clause_of items)))) cut
     c.loop-clause.invariant.opens in
-    let behind : c.loop-clause.behind - 1 + (i + 1) ≡ length items = omega (arith, c.loop-clause.invariant.behind, c.loop-clause-test.true) in
-    let last = end_is clause_of items i (c.loop-clause.behind - 1) behind in
-    let closes = c.close_length-more.ensures.exact 0 rest last in
-    let all = ap (λ l. clauses_length s kind (clauses (map clause_of l))) c.items-clause-items.ensures.exact in
-    let fits : here + clause_length s x + c.close_length-more.result < 2 ^ 32 = omega (arith, room, all, closes, c.requires.room) in
-    let emits = subst (λ k. Emits c.loop-clause.out.items c.emit_clause.new.out.items (clause_code s here (k + c.close_length-more.result) x))
-    (sym c.in_ok-ends.ensures.behind) (c.in_ok-ends.ensures.emits fits) in
+    let step = clause_at s kind items c.loop-clause.clause-index c.loop-clause.behind here more c.clause-item.result (λ l. c.args.at + words_in s kind l) cut
+    c.loop-clause.invariant.behind c.loop-clause-test.true (c.close_length-more.ensures.exact 0) c.loop-clause.invariant.room in
+    let room = step.room (list_items c.args.clauses.now) c.items-clause-items.ensures.exact c.requires.room in
+    let emits = subst (λ k. Emits c.loop-clause.out.items c.emit_clause.new.out.items (clause_code s here (k + more) x)) (sym c.in_ok-ends.ensures.behind)
+    (c.in_ok-ends.ensures.emits (omega (arith, room))) in
     record {
-      behind = behind;
+      behind = omega (arith, c.loop-clause.invariant.behind, c.loop-clause-test.true);
       writable = writable.1;
-      room = omega (arith, room, c.in_ok-ends.ensures.behind, closes);
-      opens = clause_open s kind c.args.at _ _ _ _ _ _ _ here _ x rest _ (omega (arith, c.in_ok-ends.ensures.behind, closes)) emits
-          (c.in_ok-emit_close.ensures.closes rest last) opens;
+      room = omega (arith, step.left, c.in_ok-ends.ensures.behind);
+      opens = clause_open s kind c.args.at _ _ _ _ _ _ _ here _ x rest _ (omega (arith, c.in_ok-ends.ensures.behind, step.closed)) emits
+          (c.in_ok-emit_close.ensures.closes rest step.last) opens;
     }
 
 pub emit_guarded-emit_acts-requires : goal.emit_guarded-emit_acts-requires

@@ -1,19 +1,14 @@
-use Rattle.std.proofs.Common.{◌≡◌, ◌+◌, ◌++◌, drop, length}
+use Rattle.std.proofs.Common.{◌≡◌, ◌+◌, drop, length}
 use Rattle.std.specs.Prelude.{map}
-use Rattle.edi_unit.specs.View.{acts, act_of, clauses, clause_of}
-use Rattle.edi_scheme.specs.Pieces.{words_of_code}
-use Rattle.edi_code.specs.InScope.{acts_length, clauses_length, acts_code, clauses_code, ActsAreWritable, ClausesAreWritable}
+use Rattle.edi_unit.specs.View.{clauses, clause_of}
+use Rattle.edi_code.specs.InScope.{clauses_length, clauses_code, ClausesAreWritable}
 use Rattle.edi_code.specs.Scope.{clause_kind_of}
 use Rattle.edi_code.proofs.Aiming.{IsOpen}
+use Rattle.edi_code.proofs.Listed.{Left, of_acts}
 use Rattle.edi_code.proofs.statements.+statements.Given as goal
 
 abbrev pub invariant-emit_acts-loop-act : goal.invariant-emit_acts-loop-act
-invariant-emit_acts-loop-act l = record {
-  writable : ActsAreWritable l.scope (acts (map act_of (drop l.act-index l.act-items)));
-  room : l.here + acts_length l.scope (acts (map act_of (drop l.act-index l.act-items))) ≡ l.at + acts_length l.scope (acts (map act_of l.act-items));
-  words : l.out.items ++ words_of_code (acts_code l.scope l.here (acts (map act_of (drop l.act-index l.act-items)))) ≡ l.fn.out.items
-      ++ words_of_code (acts_code l.scope l.at (acts (map act_of l.act-items)));
-}
+invariant-emit_acts-loop-act l = Left (of_acts l.scope) l.fn.out.items l.out.items l.at l.here 0 0 l.act-items l.act-index
 
 abbrev pub invariant-emit_open_clauses-loop-clause : goal.invariant-emit_open_clauses-loop-clause
 invariant-emit_open_clauses-loop-clause l = record {
