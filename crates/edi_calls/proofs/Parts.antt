@@ -87,73 +87,37 @@ unmoved : {A : Type 0} {a before next : A} → (a ≡ before) ⊎ (a ≡ next) �
 unmoved (inl e) same = e
 unmoved (inr e) same = e ∙ same
 
+moved : {A : Type 0} {a before next : A} → (a ≡ before) ⊎ (a ≡ next) → next ≡ before → a ≡ next
+moved torn same = unmoved torn same ∙ sym same
+
+same_outside : {one other : State} → other.input ≡ one.input → other.shown ≡ one.shown → other.printed ≡ one.printed → other.slots ≡ one.slots
+    → other.blocks ≡ one.blocks → IsSameOutside one other
+same_outside input shown printed slots blocks = record {
+  input = input;
+  shown = shown;
+  printed = printed;
+  slots = slots;
+  blocks = blocks;
+}
+
 -- it has, of a part that stays, what was before; so it has of the one other part what is before or what is behind
 whole : (before next after : State) → ChangesOnePart before next → next.blocks ≡ before.blocks → IsTorn before next after
     → IsSameOutside before after ⊎ IsSameOutside next after
 whole before next after (only_input shown printed slots) blocks torn = elim torn.input [
-  | inl e ↦ inl (record {
-    input = e;
-    shown = unmoved torn.shown shown;
-    printed = unmoved torn.printed printed;
-    slots = unmoved torn.slots slots;
-    blocks = torn.blocks;
-  })
-  | inr e ↦ inr (record {
-    input = e;
-    shown = unmoved torn.shown shown ∙ sym shown;
-    printed = unmoved torn.printed printed ∙ sym printed;
-    slots = unmoved torn.slots slots ∙ sym slots;
-    blocks = torn.blocks ∙ sym blocks;
-  })
+  | inl e ↦ inl (same_outside e (unmoved torn.shown shown) (unmoved torn.printed printed) (unmoved torn.slots slots) torn.blocks)
+  | inr e ↦ inr (same_outside e (moved torn.shown shown) (moved torn.printed printed) (moved torn.slots slots) (torn.blocks ∙ sym blocks))
 ]
 whole before next after (only_shown input printed slots) blocks torn = elim torn.shown [
-  | inl e ↦ inl (record {
-    input = unmoved torn.input input;
-    shown = e;
-    printed = unmoved torn.printed printed;
-    slots = unmoved torn.slots slots;
-    blocks = torn.blocks;
-  })
-  | inr e ↦ inr (record {
-    input = unmoved torn.input input ∙ sym input;
-    shown = e;
-    printed = unmoved torn.printed printed ∙ sym printed;
-    slots = unmoved torn.slots slots ∙ sym slots;
-    blocks = torn.blocks ∙ sym blocks;
-  })
+  | inl e ↦ inl (same_outside (unmoved torn.input input) e (unmoved torn.printed printed) (unmoved torn.slots slots) torn.blocks)
+  | inr e ↦ inr (same_outside (moved torn.input input) e (moved torn.printed printed) (moved torn.slots slots) (torn.blocks ∙ sym blocks))
 ]
 whole before next after (only_printed input shown slots) blocks torn = elim torn.printed [
-  | inl e ↦ inl (record {
-    input = unmoved torn.input input;
-    shown = unmoved torn.shown shown;
-    printed = e;
-    slots = unmoved torn.slots slots;
-    blocks = torn.blocks;
-  })
-  | inr e ↦ inr (record {
-    input = unmoved torn.input input ∙ sym input;
-    shown = unmoved torn.shown shown ∙ sym shown;
-    printed = e;
-    slots = unmoved torn.slots slots ∙ sym slots;
-    blocks = torn.blocks ∙ sym blocks;
-  })
+  | inl e ↦ inl (same_outside (unmoved torn.input input) (unmoved torn.shown shown) e (unmoved torn.slots slots) torn.blocks)
+  | inr e ↦ inr (same_outside (moved torn.input input) (moved torn.shown shown) e (moved torn.slots slots) (torn.blocks ∙ sym blocks))
 ]
 whole before next after (only_slots input shown printed) blocks torn = elim torn.slots [
-  | inl e ↦ inl (record {
-    input = unmoved torn.input input;
-    shown = unmoved torn.shown shown;
-    printed = unmoved torn.printed printed;
-    slots = e;
-    blocks = torn.blocks;
-  })
-  | inr e ↦ inr (record {
-    input = unmoved torn.input input ∙ sym input;
-    shown = unmoved torn.shown shown ∙ sym shown;
-    printed = unmoved torn.printed printed
-        ∙ sym printed;
-    slots = e;
-    blocks = torn.blocks ∙ sym blocks;
-  })
+  | inl e ↦ inl (same_outside (unmoved torn.input input) (unmoved torn.shown shown) (unmoved torn.printed printed) e torn.blocks)
+  | inr e ↦ inr (same_outside (moved torn.input input) (moved torn.shown shown) (moved torn.printed printed) e (torn.blocks ∙ sym blocks))
 ]
 
 pub torn_is_before_or_behind_all : TornIsBeforeOrBehind

@@ -33,12 +33,7 @@ turn_goes (suc n) kind l r = tt
 
 failure_goes : (c : Cause) (line : ℕ) → ending_of c line ≡ outcome.standstill → ⊥
 failure_goes cause.Range line e = cc
-failure_goes cause.VariableLimit line e = cc
-failure_goes cause.ProcessLimit line e = cc
-failure_goes cause.Held line e = cc
-failure_goes cause.NoFile line e = cc
-failure_goes cause.FileLimit line e = cc
-failure_goes cause.Halt line e = cc
+failure_goes c line e = cc
 
 settled_goes : (e : Effect) (r : Running) → AnswerGoes (settled e r)
 settled_goes (goes l) r = tt

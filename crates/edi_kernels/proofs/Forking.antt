@@ -188,6 +188,13 @@ module _ (g : Coded) (p : Name) (f limit share : ℕ) (parent : Spot) (first : N
   word_same : (z : Spot) (a : ℕ) → IsLive F z → address first F z ≤ a → a < address first F z + (frame_at F z).need → word t'.memory a ≡ word t.memory a
   word_same z a l low high = elim (st.clear z l) [ inl h ↦ word_before a (omega (arith, h, high)) | inr h ↦ word_after a (omega (arith, h, low)) ]
 
+  -- the child has no variables
+  no_cells : (z : Spot) (v : ℕ) → z ≡ (c, 0) → v < slots_of g (block_at g G z) → ⊥
+  no_cells z v e k =
+      let none : slots_of g (block_at g G z) ≡ 0 = ap (λ y. slots_of g (block_at g G y)) e ∙ ap (λ (y : meaning.Frame). slots_of g y.block) new_frame
+      ∙ ap length no_slots in
+      absurd (omega (arith, k, none))
+
   mirrors' : Mirrors g first' G s'.world.store t'.memory
   mirrors' = record { link = λ z l. link z (which z l); cells = λ z v l k. cells z v (which z l) k }
     where
@@ -205,10 +212,7 @@ module _ (g : Coded) (p : Name) (f limit share : ℕ) (parent : Spot) (first : N
 
       cells : (z : Spot) (v : ℕ) → (z ≡ (c, 0)) ⊎ IsLive F z → v < slots_of g (block_at g G z) →
           words_at t'.memory (slot_address g first' G z v) (words_in g (slot_in g (block_at g G z) v)) ≡ cell_words g first' G (cell s'.world.store z v)
-      cells z v (inl e) k =
-          let none : slots_of g (block_at g G z) ≡ 0 = ap (λ y. slots_of g (block_at g G y)) e ∙ ap (λ (y : meaning.Frame). slots_of g y.block) new_frame
-          ∙ ap length no_slots in
-          absurd (omega (arith, k, none))
+      cells z v (inl e) k = absurd (no_cells z v e k)
       cells z v (inr l) k =
           let e : block_at g G z ≡ block_at g F z = ap (λ (y : meaning.Frame). y.block) (old_frame z l) in
           let k' : v < slots_of g (block_at g F z) = subst (λ b. v < slots_of g b) e k in
@@ -252,10 +256,7 @@ module _ (g : Coded) (p : Name) (f limit share : ℕ) (parent : Spot) (first : N
 
       holds : (z : Spot) (v : ℕ) → (z ≡ (c, 0)) ⊎ IsLive F z → v < slots_of g (block_at g G z) →
           Holds g G z (heading_of g (block_at g G z) v) (slot_in g (block_at g G z) v) (cell s'.world.store z v)
-      holds z v (inl e) k =
-          let none : slots_of g (block_at g G z) ≡ 0 = ap (λ y. slots_of g (block_at g G y)) e ∙ ap (λ (y : meaning.Frame). slots_of g y.block) new_frame
-          ∙ ap length no_slots in
-          absurd (omega (arith, k, none))
+      holds z v (inl e) k = absurd (no_cells z v e k)
       holds z v (inr l) k =
           let e : block_at g G z ≡ block_at g F z = ap (λ (y : meaning.Frame). y.block) (old_frame z l) in
           let k' : v < slots_of g (block_at g F z) = subst (λ b. v < slots_of g b) e k in

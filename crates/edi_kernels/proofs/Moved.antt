@@ -60,10 +60,4 @@ module _ (g : Coded) (first first' : Name → ℕ) (F G : Shape) where
         ap (λ a. high_word (entry g number) ∷ low_word (entry g number) ∷ a ∷ []) (address_moved parent e),
         (held.0, held.1, held.2, subst (λ fs. parent.1 < length fs) (sym e.0) held.3, held.4, block_moved parent e ∙ held.5),
       )
-  words_moved z h None c k held = absurd held
-  words_moved z h (Some (slot.Value t)) (location l) k held = absurd held
-  words_moved z h (Some (slot.Value t)) (procedure c) k held = absurd held
-  words_moved z h (Some (slot.Var t)) (value x) k held = absurd held
-  words_moved z h (Some (slot.Var t)) (procedure c) k held = absurd held
-  words_moved z h (Some (slot.Formal r)) (value x) k held = absurd held
-  words_moved z h (Some (slot.Formal r)) (location l) k held = absurd held
+  words_moved z h v c k held = absurd held

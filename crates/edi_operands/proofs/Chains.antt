@@ -207,18 +207,7 @@ module _ (g : Coded) (s : Scene) (deeper : Acts → World → Evaluation (Unit {
   operated_does : (o : Operator) (e : Expression) (line of : ℕ) → E g s deeper bound e → Operated o e line of
   operated_does operator.And e line of claim = and_does e line of claim
   operated_does operator.Or e line of claim = or_does e line of claim
-  operated_does operator.Equal e line of claim = simple operator.Equal e line of claim tt (λ v. refl) (λ b. refl) refl
-  operated_does operator.NotEqual e line of claim = simple operator.NotEqual e line of claim tt (λ v. refl) (λ b. refl) refl
-  operated_does operator.Less e line of claim = simple operator.Less e line of claim tt (λ v. refl) (λ b. refl) refl
-  operated_does operator.LessOrEqual e line of claim = simple operator.LessOrEqual e line of claim tt (λ v. refl) (λ b. refl) refl
-  operated_does operator.Greater e line of claim = simple operator.Greater e line of claim tt (λ v. refl) (λ b. refl) refl
-  operated_does operator.GreaterOrEqual e line of claim = simple operator.GreaterOrEqual e line of claim tt (λ v. refl) (λ b. refl) refl
-  operated_does operator.In e line of claim = simple operator.In e line of claim tt (λ v. refl) (λ b. refl) refl
-  operated_does operator.Plus e line of claim = simple operator.Plus e line of claim tt (λ v. refl) (λ b. refl) refl
-  operated_does operator.Minus e line of claim = simple operator.Minus e line of claim tt (λ v. refl) (λ b. refl) refl
-  operated_does operator.Times e line of claim = simple operator.Times e line of claim tt (λ v. refl) (λ b. refl) refl
-  operated_does operator.Div e line of claim = simple operator.Div e line of claim tt (λ v. refl) (λ b. refl) refl
-  operated_does operator.Mod e line of claim = simple operator.Mod e line of claim tt (λ v. refl) (λ b. refl) refl
+  operated_does o e line of claim = simple o e line of claim tt (λ v. refl) (λ b. refl) refl
 
   -- ---- chains
 

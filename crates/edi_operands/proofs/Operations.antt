@@ -51,13 +51,7 @@ result_fits g o s known = go o
     go operator.Div = omega arith
     go operator.Mod = omega arith
     go operator.And = omega arith
-    go operator.Equal = truth_fits
-    go operator.NotEqual = truth_fits
-    go operator.Less = truth_fits
-    go operator.LessOrEqual = truth_fits
-    go operator.Greater = truth_fits
-    go operator.GreaterOrEqual = truth_fits
-    go operator.In = truth_fits
+    go o = truth_fits
 
 -- each operator but `and` and `or`
 abbrev pub IsPlain : Operator → Type 0

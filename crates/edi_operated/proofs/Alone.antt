@@ -42,22 +42,16 @@ module _ (types : List Shape) (h : IsTable types) where
 -- ---- elementary values
 
 elementary_parts : (s : Shape) → IsTrue (is_elementary_shape s) → IsTrue (has_parts s) → ⊥
-elementary_parts int h k = false≢true k
-elementary_parts char h k = false≢true k
-elementary_parts bool h k = false≢true k
-elementary_parts (enumeration c) h k = false≢true k
 elementary_parts (record_of fs) h k = false≢true h
 elementary_parts (array_of i lo hi e) h k = false≢true h
 elementary_parts (set_of b) h k = false≢true h
+elementary_parts s h k = false≢true k
 
 elementary_set : (s : Shape) → IsTrue (is_elementary_shape s) → IsTrue (is_set_shape s) → ⊥
-elementary_set int h k = false≢true k
-elementary_set char h k = false≢true k
-elementary_set bool h k = false≢true k
-elementary_set (enumeration c) h k = false≢true k
 elementary_set (record_of fs) h k = false≢true h
 elementary_set (array_of i lo hi e) h k = false≢true h
 elementary_set (set_of b) h k = false≢true h
+elementary_set s h k = false≢true k
 
 pub elementary_is_alone : ElementaryIsAlone
 elementary_is_alone types h (ordinal n) t known elementary is = record {

@@ -197,7 +197,7 @@ module _ (g : Coded) where
     pub begins : (system : State) (n : ℕ) → Begins system n
     pub begins_not : (system : State) → BeginsNot system
 
--- ---- what the meaning keeps by itself (public in edi_meaning after two words `pub`)
+-- ---- what the meaning keeps by itself
 
 abbrev pub StepsCohere : Type 0
 StepsCohere = (unit : ProgramUnit) (s : Processes) (p : Name) → Coherent s → After Coherent (source.step unit s p)

@@ -19,7 +19,7 @@ use Rattle.edi_target.specs.Mach.{Machine, is_first, effect_at, settled}
 use Rattle.edi_spots.specs.Coded.{Coded}
 use Rattle.edi_spots.specs.Spots.{address, frame_start, frames_end}
 use Rattle.edi_spots.specs.Located.{Hops, Matches}
-use Rattle.edi_spots.specs.Walks.{Walker, plain, onward, Gets}
+use Rattle.edi_spots.specs.Walks.{Walker, plain, onward, Gets, Comes}
 use Rattle.edi_spots.specs.Scene.{Scene, Outer, alone, After, stops}
 use Rattle.edi_spots.specs.Claims.{Ran}
 use Rattle.edi_spots.specs.Follows.{Follows, Stretch, resting}
@@ -82,6 +82,14 @@ module _ (g : Coded) (s : Processes) (t : Machine) (p : Name) (q : Process) (x :
       (hops_get g s t p q x r n pc at low 0 s.world m hops)
       (stops_by g.fetched (length t.activities) (is_first p) (Outer S) (at_pc at) (at_pc at) (due kind l) outcome.turns is
       (ap (λ k. target.turn_from k kind l (plain (at_pc at))) none) refl (λ a o. refl))
+
+  -- an instruction behind some jumps takes its turn, and changes nothing else
+  turn_comes : (n pc at left : ℕ) (kind : turn.Turn) → Hops g n pc at → does at ≡ due kind (at_pc at).local → s.world.turns ≡ suc left →
+      Comes g.fetched (length t.activities) (is_first p) (Outer S) (at_pc pc) kind (record (at_pc at) { turns = left }) false
+  turn_comes n pc at left kind hops is some =
+      comes_by g.fetched (length t.activities) (is_first p) (Outer S) (at_pc pc) (at_pc at) (record (at_pc at) { turns = left })
+      (due kind (at_pc at).local) kind false (hops_get g s t p q x r n pc at low 0 s.world m hops) is
+      (ap (λ k. target.turn_from k kind (at_pc at).local (plain (at_pc at))) some) refl (λ a o. refl)
 
   -- ---- statements
 
@@ -193,11 +201,7 @@ module _ (g : Coded) (s : Processes) (t : Machine) (p : Name) (q : Process) (x :
       go (suc n) e = record {
         end = record (at_pc h.1) { turns = n };
         cleared = false;
-        comes_there =
-            comes_by g.fetched (length t.activities) (is_first p) (Outer S) (at_pc pc) (at_pc h.1) (record (at_pc h.1) { turns = n })
-            (due turn.exiting (at_pc h.1).local) turn.exiting false
-            (hops_get g s t p q x r h.0 pc h.1 low 0 s.world m h.2) is
-            (ap (λ k. target.turn_from k turn.exiting (at_pc h.1).local (plain (at_pc h.1))) e) refl (λ a o. refl);
+        comes_there = turn_comes h.0 pc h.1 n turn.exiting h.2 is e;
         memory = refl;
         store_is = refl;
         system = refl;
@@ -224,11 +228,7 @@ module _ (g : Coded) (s : Processes) (t : Machine) (p : Name) (q : Process) (x :
         record {
           end = record (at_pc h.1) { turns = n };
           cleared = false;
-          comes_there =
-              comes_by g.fetched (length t.activities) (is_first p) (Outer S) (at_pc pc) (at_pc h.1) (record (at_pc h.1) { turns = n })
-              (due turn.finishing (at_pc h.1).local) turn.finishing false
-              (hops_get g s t p q x r h.0 pc h.1 low 0 s.world m h.2) is
-              (ap (λ k. target.turn_from k turn.finishing (at_pc h.1).local (plain (at_pc h.1))) e) refl (λ a o. refl);
+          comes_there = turn_comes h.0 pc h.1 n turn.finishing h.2 is e;
           system_is = refl;
           turns_are = refl;
         },

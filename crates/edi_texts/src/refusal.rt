@@ -56,27 +56,22 @@ fn static_kind(kind: StaticKind) -> RefusalKind
     }
 }
 
+// A refusal by this pass, at a line.
+fn at(pass: Pass, kind: RefusalKind, line: u16) -> Refusal
+    ensures exact { result ≡ refusal.At pass kind line }
+{
+    Refusal::At { pass, kind, line }
+}
+
 impl From<LexFault> for Refusal {
     ghost from_gives = { λ fault r. r ≡ lexical_refusal fault };
 
     fn from(fault: LexFault) -> Refusal {
         let pass = Pass::Lexical;
         match fault {
-            LexFault::BadCharacter(line) => Refusal::At {
-                pass,
-                kind: RefusalKind::InvalidCharacter,
-                line,
-            },
-            LexFault::BadNumeral(line) => Refusal::At {
-                pass,
-                kind: RefusalKind::InvalidNumeral,
-                line,
-            },
-            LexFault::TooLong => Refusal::At {
-                pass,
-                kind: RefusalKind::TextTooLong,
-                line: 0,
-            },
+            LexFault::BadCharacter(line) => at(pass, RefusalKind::InvalidCharacter, line),
+            LexFault::BadNumeral(line) => at(pass, RefusalKind::InvalidNumeral, line),
+            LexFault::TooLong => at(pass, RefusalKind::TextTooLong, 0),
             LexFault::NoMemory => Refusal::NoMemory,
         }
     }
@@ -88,21 +83,9 @@ impl From<SyntaxFault> for Refusal {
     fn from(fault: SyntaxFault) -> Refusal {
         let pass = Pass::Syntactic;
         match fault {
-            SyntaxFault::Syntax { line, .. } => Refusal::At {
-                pass,
-                kind: RefusalKind::InvalidSyntax,
-                line,
-            },
-            SyntaxFault::TooDeep { line, .. } => Refusal::At {
-                pass,
-                kind: RefusalKind::NestingTooDeep,
-                line,
-            },
-            SyntaxFault::NotInProfile { line, .. } => Refusal::At {
-                pass,
-                kind: RefusalKind::NotInProfile,
-                line,
-            },
+            SyntaxFault::Syntax { line, .. } => at(pass, RefusalKind::InvalidSyntax, line),
+            SyntaxFault::TooDeep { line, .. } => at(pass, RefusalKind::NestingTooDeep, line),
+            SyntaxFault::NotInProfile { line, .. } => at(pass, RefusalKind::NotInProfile, line),
             SyntaxFault::NoMemory => Refusal::NoMemory,
         }
     }
@@ -113,11 +96,7 @@ impl From<StaticFault> for Refusal {
 
     fn from(fault: StaticFault) -> Refusal {
         match fault {
-            StaticFault::At { kind, line } => Refusal::At {
-                pass: Pass::Semantic,
-                kind: static_kind(kind),
-                line,
-            },
+            StaticFault::At { kind, line } => at(Pass::Semantic, static_kind(kind), line),
             StaticFault::NoMemory => Refusal::NoMemory,
         }
     }

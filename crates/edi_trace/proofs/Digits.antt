@@ -4,15 +4,8 @@ use Rattle.std.proofs.Common.{leb-true}
 use Rattle.std.specs.Prelude.{◌&&◌, nat_le}
 use Rattle.std.specs.List.{list_all, fold}
 use Rattle.std.proofs.lemmas.List.{take_more}
+use Rattle.edi_calls.proofs.Storing.{and_first, and_second}
 use Rattle.edi_trace.specs.Lines.{is_digit, number_of}
-
-pub and_first : (a b : Bool) → (a && b) ≡ true → a ≡ true
-and_first true b h = refl
-and_first false b h = h
-
-pub and_second : (a b : Bool) → (a && b) ≡ true → b ≡ true
-and_second true b h = h
-and_second false b h = absurd (cc)
 
 -- each of the digits
 each_digit : (line : List ℕ) (i : ℕ) → list_all is_digit line ≡ true → i < length line → is_digit (get_or line i 0) ≡ true

@@ -5,7 +5,7 @@ use Rattle.std.specs.List.{slice_split, onto_first, list_all}
 use Rattle.std.proofs.lemmas.List.{length-take-le, take_all, take-append-drop}
 use Rattle.edi_trace.specs.Lines.{Reading, values, bad_line, is_digit, number_of, is_choice, is_line_feed, with_value, read_rest, read_parts, read_of}
 use Rattle.edi_trace.specs.Limit.{most_fetched, FirstBytesDecide}
-use Rattle.edi_trace.proofs.Digits.{and_first, and_second}
+use Rattle.edi_calls.proofs.Storing.{and_first, and_second}
 
 -- ---- the parts of a longer list
 

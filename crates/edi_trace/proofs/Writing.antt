@@ -1,15 +1,14 @@
 -- Files of choices, as they are written.
-use Rattle.std.proofs.Common.{◌≡◌, ℕ, zero, suc, ◌+◌, ◌<◌, ◌≤◌, Bool, true, false, cond, List, [], ◌∷◌, ◌++◌, length, take, get_or, refl, sym, ap, ◌∙◌}
-use Rattle.std.proofs.Common.{arith, append_assoc, le-leb, inl, inr, eqb-true}
+use Rattle.std.proofs.Common.{◌≡◌, ℕ, zero, suc, ◌+◌, ◌*◌, ◌/◌, ◌<◌, ◌≤◌, Bool, true, false, cond, List, [], ◌∷◌, ◌++◌, length, take, get_or, refl}
+use Rattle.std.proofs.Common.{sym, ap, ◌∙◌, arith, append_assoc, le-leb, inl, inr, eqb-true}
 use Rattle.std.specs.Prelude.{not, nat_le, ◌&&◌, ◌==◌, if◌then◌else◌, decimal}
 use Rattle.std.specs.List.{slice_split, onto_first, list_all}
 use Rattle.std.proofs.lemmas.List.{take_more}
 use Rattle.std.proofs.Math.Nat.{eq-or-lt_of_le}
-use Rattle.std.proofs.lemmas.Bool.{cases_lt}
 use Rattle.std.specs.Fmt.{digits}
+use Rattle.edi_calls.proofs.Storing.{and_first, and_second}
 use Rattle.edi_trace.specs.Drawn.{most_kept}
 use Rattle.edi_trace.specs.Lines.{values, bad_line, is_choice, is_line_feed, number_of, with_value, read_parts, read_of, written}
-use Rattle.edi_trace.proofs.Digits.{and_first, and_second}
 use Rattle.edi_trace.proofs.Readings.{read_cut}
 
 -- one more line
@@ -38,63 +37,21 @@ within test start (suc n) v h from to =
       | inr more ↦ within test (start + 1) n v (and_second (test start) (all_from test (start + 1) n) h) (omega arith) (omega arith)
     ]
 
-reads_0 : all_from reads_back 0 32 ≡ true
+-- so does each of 32 numbers, in eight parts
+reads_of : (k : ℕ) → k < 8 → all_from reads_back (32 * k) 32 ≡ true
 unfolding digits
-reads_0 = refl
+reads_of zero h = refl
+reads_of (suc zero) h = refl
+reads_of (suc (suc zero)) h = refl
+reads_of (suc (suc (suc zero))) h = refl
+reads_of (suc (suc (suc (suc zero)))) h = refl
+reads_of (suc (suc (suc (suc (suc zero))))) h = refl
+reads_of (suc (suc (suc (suc (suc (suc zero)))))) h = refl
+reads_of (suc (suc (suc (suc (suc (suc (suc zero))))))) h = refl
+reads_of (suc (suc (suc (suc (suc (suc (suc (suc k)))))))) h = absurd (omega arith)
 
-reads_32 : all_from reads_back 32 32 ≡ true
-unfolding digits
-reads_32 = refl
-
-reads_64 : all_from reads_back 64 32 ≡ true
-unfolding digits
-reads_64 = refl
-
-reads_96 : all_from reads_back 96 32 ≡ true
-unfolding digits
-reads_96 = refl
-
-reads_128 : all_from reads_back 128 32 ≡ true
-unfolding digits
-reads_128 = refl
-
-reads_160 : all_from reads_back 160 32 ≡ true
-unfolding digits
-reads_160 = refl
-
-reads_192 : all_from reads_back 192 32 ≡ true
-unfolding digits
-reads_192 = refl
-
-reads_224 : all_from reads_back 224 32 ≡ true
-unfolding digits
-reads_224 = refl
-
--- by halves
 each_reads_back : (v : ℕ) → v < 256 → reads_back v ≡ true
-each_reads_back v h =
-    elim (cases_lt v 128) [
-      | inl a ↦ elim (cases_lt v 64) [
-        | inl b ↦ elim (cases_lt v 32) [
-          | inl d ↦ within reads_back 0 32 v reads_0 (omega arith) (omega arith)
-          | inr d ↦ within reads_back 32 32 v reads_32 d (omega arith)
-        ]
-        | inr b ↦ elim (cases_lt v 96) [
-          | inl d ↦ within reads_back 64 32 v reads_64 b (omega arith)
-          | inr d ↦ within reads_back 96 32 v reads_96 d (omega arith)
-        ]
-      ]
-      | inr a ↦ elim (cases_lt v 192) [
-        | inl b ↦ elim (cases_lt v 160) [
-          | inl d ↦ within reads_back 128 32 v reads_128 a (omega arith)
-          | inr d ↦ within reads_back 160 32 v reads_160 d (omega arith)
-        ]
-        | inr b ↦ elim (cases_lt v 224) [
-          | inl d ↦ within reads_back 192 32 v reads_192 b (omega arith)
-          | inr d ↦ within reads_back 224 32 v reads_224 d (omega arith)
-        ]
-      ]
-    ]
+each_reads_back v h = within reads_back (32 * (v / 32)) 32 v (reads_of (v / 32) (omega arith)) (omega arith) (omega arith)
 
 -- a line is cut off the front
 split_line : (line rest : List ℕ) → list_all (λ c. not (is_line_feed c)) line ≡ true

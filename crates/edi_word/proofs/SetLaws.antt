@@ -137,29 +137,24 @@ AreSetWords-each_word f keeps one other are both =
           rw (get_or-each_word f one other i here there) (keeps _ _ (are.small i 0 here) (both.small i 0 there)));
     }
 
+-- what is so of each two bits is so of all numbers below two
+by_bits : (f : ℕ → ℕ → ℕ) (g : Bool → Bool → Bool) → (f 0 0 == 1) ≡ g false false → (f 0 1 == 1) ≡ g false true → (f 1 0 == 1) ≡ g true false
+    → (f 1 1 == 1) ≡ g true true → (a b : ℕ) → a < 2 → b < 2 → (f a b == 1) ≡ g (a == 1) (b == 1)
+by_bits f g none right left both zero zero small other = none
+by_bits f g none right left both zero (suc zero) small other = right
+by_bits f g none right left both (suc zero) zero small other = left
+by_bits f g none right left both (suc zero) (suc zero) small other = both
+by_bits f g none right left both (suc (suc a)) b small other = absurd (omega arith)
+by_bits f g none right left both a (suc (suc b)) small other = absurd (omega arith)
+
 either_bit : (a b : ℕ) → a < 2 → b < 2 → (max a b == 1) ≡ ((a == 1) || (b == 1))
-either_bit zero zero small other = refl
-either_bit zero (suc zero) small other = refl
-either_bit (suc zero) zero small other = refl
-either_bit (suc zero) (suc zero) small other = refl
-either_bit (suc (suc a)) b small other = absurd (omega arith)
-either_bit a (suc (suc b)) small other = absurd (omega arith)
+either_bit = by_bits (λ a b. max a b) (λ a b. a || b) refl refl refl refl
 
 both_bits : (a b : ℕ) → a < 2 → b < 2 → (min a b == 1) ≡ ((a == 1) && (b == 1))
-both_bits zero zero small other = refl
-both_bits zero (suc zero) small other = refl
-both_bits (suc zero) zero small other = refl
-both_bits (suc zero) (suc zero) small other = refl
-both_bits (suc (suc a)) b small other = absurd (omega arith)
-both_bits a (suc (suc b)) small other = absurd (omega arith)
+both_bits = by_bits (λ a b. min a b) (λ a b. a && b) refl refl refl refl
 
 first_bit : (a b : ℕ) → a < 2 → b < 2 → (min a (1 - b) == 1) ≡ ((a == 1) && not (b == 1))
-first_bit zero zero small other = refl
-first_bit zero (suc zero) small other = refl
-first_bit (suc zero) zero small other = refl
-first_bit (suc zero) (suc zero) small other = refl
-first_bit (suc (suc a)) b small other = absurd (omega arith)
-first_bit a (suc (suc b)) small other = absurd (omega arith)
+first_bit = by_bits (λ a b. min a (1 - b)) (λ a b. a && not b) refl refl refl refl
 
 -- the members of the union of two sets of words are the union of their members
 pub members_of-words_union : (one other : List ℕ) → AreSetWords one → AreSetWords other → members_of (words_union one other) ≡ set_union (members_of one)

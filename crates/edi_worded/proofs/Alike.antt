@@ -81,31 +81,21 @@ same_sets s t set other =
 -- ---- values of different forms are not of one type
 
 pub ordinal_parts : (s : Shape) (n : ℤ) → IsTrue (is_ordinal_of s n) → IsTrue (has_parts s) → ⊥
-ordinal_parts int n h k = false≢true k
-ordinal_parts char n h k = false≢true k
-ordinal_parts bool n h k = false≢true k
-ordinal_parts (enumeration c) n h k = false≢true k
 ordinal_parts (record_of fs) n h k = false≢true h
 ordinal_parts (array_of i lo hi e) n h k = false≢true h
 ordinal_parts (set_of b) n h k = false≢true h
+ordinal_parts s n h k = false≢true k
 
 pub ordinal_set : (s : Shape) (n : ℤ) → IsTrue (is_ordinal_of s n) → IsTrue (is_set_shape s) → ⊥
-ordinal_set int n h k = false≢true k
-ordinal_set char n h k = false≢true k
-ordinal_set bool n h k = false≢true k
-ordinal_set (enumeration c) n h k = false≢true k
 ordinal_set (record_of fs) n h k = false≢true h
 ordinal_set (array_of i lo hi e) n h k = false≢true h
 ordinal_set (set_of b) n h k = false≢true h
+ordinal_set s n h k = false≢true k
 
 pub parts_set : (s : Shape) → IsTrue (has_parts s) → IsTrue (is_set_shape s) → ⊥
-parts_set int h k = false≢true h
-parts_set char h k = false≢true h
-parts_set bool h k = false≢true h
-parts_set (enumeration c) h k = false≢true h
 parts_set (record_of fs) h k = false≢true k
 parts_set (array_of i lo hi e) h k = false≢true k
-parts_set (set_of b) h k = false≢true h
+parts_set s h k = false≢true h
 
 -- ---- all values
 
