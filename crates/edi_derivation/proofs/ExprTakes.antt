@@ -28,329 +28,135 @@ use Rattle.edi_derivation.specs.Parts.{with_args, selected, relation_elements, a
 use Rattle.edi_derivation.specs.Fits.{Items, Fit}
 use Rattle.edi_derivation.proofs.Builds.{value_of, line_in, couple, factor_with}
 use Rattle.edi_derivation.proofs.Stands.{name_is, chars_is, chars_on}
-use Rattle.edi_derivation.proofs.Reading.{read_token, read_end, by_rule, Takes}
+use Rattle.edi_derivation.proofs.Reading.{done, past, past_end, past_part, takes, Takes}
 
 pub relation_takes : (t : Relation × ℕ) (es : List Element) (items : Items) → Fit (relation_elements t es) items → Takes g.Relation t es items
 relation_takes (relation.Equal, line) es items h =
-    record {
-      rest = h.1;
-      fits = h.4;
-      go = λ later. by_rule g.Relation 0 (token kind.Equal ∷ []) (Some h.0, tt)
-          (λ P made. ((Some h.0, tt), ap (λ z. couple relation.Equal z) (sym h.3.1), made)) (read_token h.2 (ap kind_of h.3.0) (later));
-    }
+    takes g.Relation 0 (past h.2 (ap kind_of h.3.0) (done h.4)) (λ P made. ((Some h.0, tt), ap (λ z. couple relation.Equal z) (sym h.3.1), made))
 relation_takes (relation.NotEqual, line) es items h =
-    record {
-      rest = h.1;
-      fits = h.4;
-      go = λ later. by_rule g.Relation 1 (token kind.NotEqual ∷ []) (Some h.0, tt)
-          (λ P made. ((Some h.0, tt), ap (λ z. couple relation.NotEqual z) (sym h.3.1), made)) (read_token h.2 (ap kind_of h.3.0) (later));
-    }
+    takes g.Relation 1 (past h.2 (ap kind_of h.3.0) (done h.4)) (λ P made. ((Some h.0, tt), ap (λ z. couple relation.NotEqual z) (sym h.3.1), made))
 relation_takes (relation.Less, line) es items h =
-    record {
-      rest = h.1;
-      fits = h.4;
-      go = λ later. by_rule g.Relation 2 (token kind.Less ∷ []) (Some h.0, tt)
-          (λ P made. ((Some h.0, tt), ap (λ z. couple relation.Less z) (sym h.3.1), made)) (read_token h.2 (ap kind_of h.3.0) (later));
-    }
+    takes g.Relation 2 (past h.2 (ap kind_of h.3.0) (done h.4)) (λ P made. ((Some h.0, tt), ap (λ z. couple relation.Less z) (sym h.3.1), made))
 relation_takes (relation.AtMost, line) es items h =
-    record {
-      rest = h.1;
-      fits = h.4;
-      go = λ later. by_rule g.Relation 3 (token kind.AtMost ∷ []) (Some h.0, tt)
-          (λ P made. ((Some h.0, tt), ap (λ z. couple relation.AtMost z) (sym h.3.1), made)) (read_token h.2 (ap kind_of h.3.0) (later));
-    }
+    takes g.Relation 3 (past h.2 (ap kind_of h.3.0) (done h.4)) (λ P made. ((Some h.0, tt), ap (λ z. couple relation.AtMost z) (sym h.3.1), made))
 relation_takes (relation.Greater, line) es items h =
-    record {
-      rest = h.1;
-      fits = h.4;
-      go = λ later. by_rule g.Relation 4 (token kind.Greater ∷ []) (Some h.0, tt)
-          (λ P made. ((Some h.0, tt), ap (λ z. couple relation.Greater z) (sym h.3.1), made)) (read_token h.2 (ap kind_of h.3.0) (later));
-    }
+    takes g.Relation 4 (past h.2 (ap kind_of h.3.0) (done h.4)) (λ P made. ((Some h.0, tt), ap (λ z. couple relation.Greater z) (sym h.3.1), made))
 relation_takes (relation.AtLeast, line) es items h =
-    record {
-      rest = h.1;
-      fits = h.4;
-      go = λ later. by_rule g.Relation 5 (token kind.AtLeast ∷ []) (Some h.0, tt)
-          (λ P made. ((Some h.0, tt), ap (λ z. couple relation.AtLeast z) (sym h.3.1), made)) (read_token h.2 (ap kind_of h.3.0) (later));
-    }
+    takes g.Relation 5 (past h.2 (ap kind_of h.3.0) (done h.4)) (λ P made. ((Some h.0, tt), ap (λ z. couple relation.AtLeast z) (sym h.3.1), made))
 relation_takes (relation.In, line) es items h =
-    record {
-      rest = h.1;
-      fits = h.4;
-      go = λ later. by_rule g.Relation 6 (token kind.In ∷ []) (Some h.0, tt)
-          (λ P made. ((Some h.0, tt), ap (λ z. couple relation.In z) (sym h.3.1), made)) (read_token h.2 (ap kind_of h.3.0) (later));
-    }
+    takes g.Relation 6 (past h.2 (ap kind_of h.3.0) (done h.4)) (λ P made. ((Some h.0, tt), ap (λ z. couple relation.In z) (sym h.3.1), made))
 
 pub addition_takes : (t : Addition × ℕ) (es : List Element) (items : Items) → Fit (addition_elements t es) items → Takes g.Addition t es items
 addition_takes (addition.Plus, line) es items h =
-    record {
-      rest = h.1;
-      fits = h.4;
-      go = λ later. by_rule g.Addition 0 (token kind.Plus ∷ []) (Some h.0, tt)
-          (λ P made. ((Some h.0, tt), ap (λ z. couple addition.Plus z) (sym h.3.1), made)) (read_token h.2 (ap kind_of h.3.0) (later));
-    }
+    takes g.Addition 0 (past h.2 (ap kind_of h.3.0) (done h.4)) (λ P made. ((Some h.0, tt), ap (λ z. couple addition.Plus z) (sym h.3.1), made))
 addition_takes (addition.Minus, line) es items h =
-    record {
-      rest = h.1;
-      fits = h.4;
-      go = λ later. by_rule g.Addition 1 (token kind.Minus ∷ []) (Some h.0, tt)
-          (λ P made. ((Some h.0, tt), ap (λ z. couple addition.Minus z) (sym h.3.1), made)) (read_token h.2 (ap kind_of h.3.0) (later));
-    }
+    takes g.Addition 1 (past h.2 (ap kind_of h.3.0) (done h.4)) (λ P made. ((Some h.0, tt), ap (λ z. couple addition.Minus z) (sym h.3.1), made))
 addition_takes (addition.Or, line) es items h =
-    record {
-      rest = h.1;
-      fits = h.4;
-      go = λ later. by_rule g.Addition 2 (token kind.Or ∷ []) (Some h.0, tt)
-          (λ P made. ((Some h.0, tt), ap (λ z. couple addition.Or z) (sym h.3.1), made)) (read_token h.2 (ap kind_of h.3.0) (later));
-    }
+    takes g.Addition 2 (past h.2 (ap kind_of h.3.0) (done h.4)) (λ P made. ((Some h.0, tt), ap (λ z. couple addition.Or z) (sym h.3.1), made))
 
 pub multiplication_takes : (t : Multiplication × ℕ) (es : List Element) (items : Items) → Fit (multiplication_elements t es) items
     → Takes g.Multiplication t es items
 multiplication_takes (multiplication.Star, line) es items h =
-    record {
-      rest = h.1;
-      fits = h.4;
-      go = λ later. by_rule g.Multiplication 0 (token kind.Star ∷ []) (Some h.0, tt)
-          (λ P made. ((Some h.0, tt), ap (λ z. couple multiplication.Star z) (sym h.3.1), made)) (read_token h.2 (ap kind_of h.3.0) (later));
-    }
+    takes g.Multiplication 0 (past h.2 (ap kind_of h.3.0) (done h.4)) (λ P made. ((Some h.0, tt), ap (λ z. couple multiplication.Star z) (sym h.3.1), made))
 multiplication_takes (multiplication.Div, line) es items h =
-    record {
-      rest = h.1;
-      fits = h.4;
-      go = λ later. by_rule g.Multiplication 1 (token kind.Div ∷ []) (Some h.0, tt)
-          (λ P made. ((Some h.0, tt), ap (λ z. couple multiplication.Div z) (sym h.3.1), made)) (read_token h.2 (ap kind_of h.3.0) (later));
-    }
+    takes g.Multiplication 1 (past h.2 (ap kind_of h.3.0) (done h.4)) (λ P made. ((Some h.0, tt), ap (λ z. couple multiplication.Div z) (sym h.3.1), made))
 multiplication_takes (multiplication.Mod, line) es items h =
-    record {
-      rest = h.1;
-      fits = h.4;
-      go = λ later. by_rule g.Multiplication 2 (token kind.Mod ∷ []) (Some h.0, tt)
-          (λ P made. ((Some h.0, tt), ap (λ z. couple multiplication.Mod z) (sym h.3.1), made)) (read_token h.2 (ap kind_of h.3.0) (later));
-    }
+    takes g.Multiplication 2 (past h.2 (ap kind_of h.3.0) (done h.4)) (λ P made. ((Some h.0, tt), ap (λ z. couple multiplication.Mod z) (sym h.3.1), made))
 multiplication_takes (multiplication.And, line) es items h =
-    record {
-      rest = h.1;
-      fits = h.4;
-      go = λ later. by_rule g.Multiplication 3 (token kind.And ∷ []) (Some h.0, tt)
-          (λ P made. ((Some h.0, tt), ap (λ z. couple multiplication.And z) (sym h.3.1), made)) (read_token h.2 (ap kind_of h.3.0) (later));
-    }
+    takes g.Multiplication 3 (past h.2 (ap kind_of h.3.0) (done h.4)) (λ P made. ((Some h.0, tt), ap (λ z. couple multiplication.And z) (sym h.3.1), made))
 
 pub sign_takes : (t : Option Sign) (es : List Element) (items : Items) → Fit (sign_elements t es) items → Takes g.Sign t es items
 sign_takes (Some (sign.Plus line)) es items h =
-    record {
-      rest = h.1;
-      fits = h.4;
-      go = λ later. by_rule g.Sign 0 (token kind.Plus ∷ []) (Some h.0, tt)
-          (λ P made. ((Some h.0, tt), ap (λ z. Some (sign.Plus z)) (sym h.3.1), made)) (read_token h.2 (ap kind_of h.3.0) (later));
-    }
+    takes g.Sign 0 (past h.2 (ap kind_of h.3.0) (done h.4)) (λ P made. ((Some h.0, tt), ap (λ z. Some (sign.Plus z)) (sym h.3.1), made))
 sign_takes (Some (sign.Minus line)) es items h =
-    record {
-      rest = h.1;
-      fits = h.4;
-      go = λ later. by_rule g.Sign 1 (token kind.Minus ∷ []) (Some h.0, tt)
-          (λ P made. ((Some h.0, tt), ap (λ z. Some (sign.Minus z)) (sym h.3.1), made)) (read_token h.2 (ap kind_of h.3.0) (later));
-    }
-sign_takes None es items h = record { rest = items; fits = h; go = λ later. by_rule g.Sign 2 ([]) tt (λ P made. (tt, refl, made)) (later) }
+    takes g.Sign 1 (past h.2 (ap kind_of h.3.0) (done h.4)) (λ P made. ((Some h.0, tt), ap (λ z. Some (sign.Minus z)) (sym h.3.1), made))
+sign_takes None es items h = takes g.Sign 2 (done h) (λ P made. (tt, refl, made))
 
 pub string_takes : (text : List ℕ) (line : ℕ) (es : List Element) (items : Items) → Fit (mark (on (is.Chars text) line) ∷ es) items
     → Takes g.Factor (string (chars_on text line)) es items
-string_takes [] line es items h = record {
-  rest = h.1;
-  fits = h.4;
-  go = λ later. by_rule g.Factor 2 (token kind.Text ∷ []) (Some h.0, tt)
-      (λ P made. ((Some h.0, tt), ap (λ z. string z) (chars_is (chars_on [] line) h.0 h.3), made)) (read_token h.2 (ap kind_of h.3.0) later);
-}
-string_takes (c ∷ []) line es items h = record {
-  rest = h.1;
-  fits = h.4;
-  go = λ later. by_rule g.Factor 1 (token kind.Char ∷ []) (Some h.0, tt)
-      (λ P made. ((Some h.0, tt), ap (λ z. string z) (chars_is (chars_on (c ∷ []) line) h.0 h.3), made)) (read_token h.2 (ap kind_of h.3.0) later);
-}
+string_takes [] line es items h = takes g.Factor 2 (past h.2 (ap kind_of h.3.0) (done h.4)) (λ P made. ((Some h.0, tt), ap (λ z. string z) (chars_is (chars_on [] line) h.0 h.3), made))
+string_takes (c ∷ []) line es items h = takes g.Factor 1 (past h.2 (ap kind_of h.3.0) (done h.4)) (λ P made. ((Some h.0, tt), ap (λ z. string z) (chars_is (chars_on (c ∷ []) line) h.0 h.3), made))
 string_takes (c ∷ d ∷ more) line es items h =
-    record {
-      rest = h.1;
-      fits = h.4;
-      go = λ later. by_rule g.Factor 2 (token kind.Text ∷ []) (Some h.0, tt)
-          (λ P made. ((Some h.0, tt), ap (λ z. string z) (chars_is (chars_on (c ∷ d ∷ more) line) h.0 h.3), made)) (read_token h.2 (ap kind_of h.3.0) later);
-    }
+    takes g.Factor 2 (past h.2 (ap kind_of h.3.0) (done h.4)) (λ P made. ((Some h.0, tt), ap (λ z. string z) (chars_is (chars_on (c ∷ d ∷ more) line) h.0 h.3), made))
 
 mutual
   pub expr_takes : (t : Expr) (es : List Element) (items : Items) → Fit (expr_elements t es) items → Takes g.Expr t es items
   expr_takes (expr s c) es items h = let p1 = simple_takes s (comparison_elements c es) items h in let p2 = comparison_takes c es p1.rest p1.fits in
-      record {
-        rest = p2.rest;
-        fits = p2.fits;
-        go = λ later. by_rule g.Expr 0 (part g.Simple ∷ part g.Comparison ∷ []) (s, (c, tt))
-            (λ P made. ((s, (c, tt)), refl, made)) (p1.go (p2.go (later)));
-      }
+      takes g.Expr 0 (past_part p1 (past_part p2 (done p2.fits))) (λ P made. ((s, (c, tt)), refl, made))
 
   pub comparison_takes : (t : Comparison) (es : List Element) (items : Items) → Fit (comparison_elements t es) items → Takes g.Comparison t es items
   comparison_takes (compared r line s) es items h = let p1 = relation_takes (r, line) (simple_elements s es) items h in
       let p2 = simple_takes s es p1.rest p1.fits in
-      record {
-        rest = p2.rest;
-        fits = p2.fits;
-        go = λ later. by_rule g.Comparison 0 (part g.Relation ∷ part g.Simple ∷ []) ((r, line), (s, tt))
-            (λ P made. (((r, line), (s, tt)), refl, made)) (p1.go (p2.go (later)));
-      }
+      takes g.Comparison 0 (past_part p1 (past_part p2 (done p2.fits))) (λ P made. (((r, line), (s, tt)), refl, made))
   comparison_takes no_comparison es items h =
-      record { rest = items; fits = h; go = λ later. by_rule g.Comparison 1 ([]) tt (λ P made. (tt, refl, made)) (later) }
+      takes g.Comparison 1 (done h) (λ P made. (tt, refl, made))
 
   pub exprs_takes : (t : Exprs) (es : List Element) (items : Items) → Fit (exprs_elements t es) items → Takes g.Exprs t es items
   exprs_takes (next_expr e more) es items h = let p1 = expr_takes e (exprs_elements more es) h.1 h.4 in let p2 = exprs_takes more es p1.rest p1.fits in
-      record {
-        rest = p2.rest;
-        fits = p2.fits;
-        go = λ later. by_rule g.Exprs 0 (token kind.Comma ∷ part g.Expr ∷ part g.Exprs ∷ []) (Some h.0, (e, (more, tt)))
-            (λ P made. ((Some h.0, (e, (more, tt))), refl, made)) (read_token h.2 (ap kind_of h.3.0) (p1.go (p2.go (later))));
-      }
-  exprs_takes no_expr es items h = record { rest = items; fits = h; go = λ later. by_rule g.Exprs 1 ([]) tt (λ P made. (tt, refl, made)) (later) }
+      takes g.Exprs 0 (past h.2 (ap kind_of h.3.0) (past_part p1 (past_part p2 (done p2.fits)))) (λ P made. ((Some h.0, (e, (more, tt))), refl, made))
+  exprs_takes no_expr es items h = takes g.Exprs 1 (done h) (λ P made. (tt, refl, made))
 
   pub simple_takes : (t : Simple) (es : List Element) (items : Items) → Fit (simple_elements t es) items → Takes g.Simple t es items
   simple_takes (simple s t ts) es items h = let p1 = sign_takes s (term_elements t (addends_elements ts es)) items h in
       let p2 = term_takes t (addends_elements ts es) p1.rest p1.fits in let p3 = addends_takes ts es p2.rest p2.fits in
-      record {
-        rest = p3.rest;
-        fits = p3.fits;
-        go = λ later. by_rule g.Simple 0 (part g.Sign ∷ part g.Term ∷ part g.Addends ∷ []) (s, (t, (ts, tt)))
-            (λ P made. ((s, (t, (ts, tt))), refl, made)) (p1.go (p2.go (p3.go (later))));
-      }
+      takes g.Simple 0 (past_part p1 (past_part p2 (past_part p3 (done p3.fits)))) (λ P made. ((s, (t, (ts, tt))), refl, made))
 
   pub addend_takes : (t : Addend) (es : List Element) (items : Items) → Fit (addend_elements t es) items → Takes g.Addend t es items
   addend_takes (addend o line t) es items h = let p1 = addition_takes (o, line) (term_elements t es) items h in let p2 = term_takes t es p1.rest p1.fits in
-      record {
-        rest = p2.rest;
-        fits = p2.fits;
-        go = λ later. by_rule g.Addend 0 (part g.Addition ∷ part g.Term ∷ []) ((o, line), (t, tt))
-            (λ P made. (((o, line), (t, tt)), refl, made)) (p1.go (p2.go (later)));
-      }
+      takes g.Addend 0 (past_part p1 (past_part p2 (done p2.fits))) (λ P made. (((o, line), (t, tt)), refl, made))
 
   pub addends_takes : (t : Addends) (es : List Element) (items : Items) → Fit (addends_elements t es) items → Takes g.Addends t es items
   addends_takes (next_addend t ts) es items h = let p1 = addend_takes t (addends_elements ts es) items h in let p2 = addends_takes ts es p1.rest p1.fits in
-      record {
-        rest = p2.rest;
-        fits = p2.fits;
-        go = λ later. by_rule g.Addends 0 (part g.Addend ∷ part g.Addends ∷ []) (t, (ts, tt))
-            (λ P made. ((t, (ts, tt)), refl, made)) (p1.go (p2.go (later)));
-      }
-  addends_takes no_addend es items h = record { rest = items; fits = h; go = λ later. by_rule g.Addends 1 ([]) tt (λ P made. (tt, refl, made)) (later) }
+      takes g.Addends 0 (past_part p1 (past_part p2 (done p2.fits))) (λ P made. ((t, (ts, tt)), refl, made))
+  addends_takes no_addend es items h = takes g.Addends 1 (done h) (λ P made. (tt, refl, made))
 
   pub term_takes : (t : Term) (es : List Element) (items : Items) → Fit (term_elements t es) items → Takes g.Term t es items
   term_takes (term f fs) es items h = let p1 = factor_takes f (multipliers_elements fs es) items h in let p2 = multipliers_takes fs es p1.rest p1.fits in
-      record {
-        rest = p2.rest;
-        fits = p2.fits;
-        go = λ later. by_rule g.Term 0 (part g.Factor ∷ part g.Multipliers ∷ []) (f, (fs, tt))
-            (λ P made. ((f, (fs, tt)), refl, made)) (p1.go (p2.go (later)));
-      }
+      takes g.Term 0 (past_part p1 (past_part p2 (done p2.fits))) (λ P made. ((f, (fs, tt)), refl, made))
 
   pub multiplier_takes : (t : Multiplier) (es : List Element) (items : Items) → Fit (multiplier_elements t es) items → Takes g.Multiplier t es items
   multiplier_takes (multiplier o line f) es items h = let p1 = multiplication_takes (o, line) (factor_elements f es) items h in
       let p2 = factor_takes f es p1.rest p1.fits in
-      record {
-        rest = p2.rest;
-        fits = p2.fits;
-        go = λ later. by_rule g.Multiplier 0 (part g.Multiplication ∷ part g.Factor ∷ []) ((o, line), (f, tt))
-            (λ P made. (((o, line), (f, tt)), refl, made)) (p1.go (p2.go (later)));
-      }
+      takes g.Multiplier 0 (past_part p1 (past_part p2 (done p2.fits))) (λ P made. (((o, line), (f, tt)), refl, made))
 
   pub multipliers_takes : (t : Multipliers) (es : List Element) (items : Items) → Fit (multipliers_elements t es) items → Takes g.Multipliers t es items
   multipliers_takes (next_multiplier f fs) es items h = let p1 = multiplier_takes f (multipliers_elements fs es) items h in
       let p2 = multipliers_takes fs es p1.rest p1.fits in
-      record {
-        rest = p2.rest;
-        fits = p2.fits;
-        go = λ later. by_rule g.Multipliers 0 (part g.Multiplier ∷ part g.Multipliers ∷ []) (f, (fs, tt))
-            (λ P made. ((f, (fs, tt)), refl, made)) (p1.go (p2.go (later)));
-      }
+      takes g.Multipliers 0 (past_part p1 (past_part p2 (done p2.fits))) (λ P made. ((f, (fs, tt)), refl, made))
   multipliers_takes no_multiplier es items h =
-      record { rest = items; fits = h; go = λ later. by_rule g.Multipliers 1 ([]) tt (λ P made. (tt, refl, made)) (later) }
+      takes g.Multipliers 1 (done h) (λ P made. (tt, refl, made))
 
   pub factor_takes : (t : Factor) (es : List Element) (items : Items) → Fit (factor_elements t es) items → Takes g.Factor t es items
-  factor_takes (numeral v) es items h = record {
-    rest = h.1;
-    fits = h.4;
-    go = λ later. by_rule g.Factor 0 (token kind.Numeral ∷ []) (Some h.0, tt)
-        (λ P made. ((Some h.0, tt), ap (λ z. numeral z) (sym (ap value_of h.3.0)), made)) (read_token h.2 (ap kind_of h.3.0) (later));
-  }
+  factor_takes (numeral v) es items h = takes g.Factor 0 (past h.2 (ap kind_of h.3.0) (done h.4)) (λ P made. ((Some h.0, tt), ap (λ z. numeral z) (sym (ap value_of h.3.0)), made))
   factor_takes (string s) es items h = string_takes s.text s.line es items h
   factor_takes (not_factor line f) es items h = let p1 = factor_takes f (level_end ∷ es) h.1 h.4 in
-      record {
-        rest = p1.fits.0;
-        fits = p1.fits.2;
-        go = λ later. by_rule g.Factor 3 (token kind.Not ∷ part g.Factor ∷ item.level_end ∷ []) (Some h.0, (f, tt))
-            (λ P made. ((Some h.0, (f, tt)), ap (λ z. not_factor z f) (sym h.3.1), made)) (read_token h.2 (ap kind_of h.3.0) (p1.go (read_end p1.fits.1 (later))));
-      }
+      takes g.Factor 3 (past h.2 (ap kind_of h.3.0) (past_part p1 (past_end p1.fits.1 (done p1.fits.2)))) (λ P made. ((Some h.0, (f, tt)), ap (λ z. not_factor z f) (sym h.3.1), made))
   factor_takes (parenthesized e) es items h = let p1 = expr_takes e (word is.Close ∷ level_end ∷ es) h.1 h.4 in
-      record {
-        rest = p1.fits.4.0;
-        fits = p1.fits.4.2;
-        go = λ later. by_rule g.Factor 4 (token kind.Open ∷ part g.Expr ∷ token kind.Close ∷ item.level_end ∷ [])
-            (Some h.0, (e, (Some p1.fits.0, tt))) (λ P made. ((Some h.0, (e, (Some p1.fits.0, tt))), refl, made))
-            (read_token h.2 (ap kind_of h.3.0) (p1.go (read_token p1.fits.2 (ap kind_of p1.fits.3.0) (read_end p1.fits.4.1 (later)))));
-      }
+      takes g.Factor 4 (past h.2 (ap kind_of h.3.0) (past_part p1 (past p1.fits.2 (ap kind_of p1.fits.3.0) (past_end p1.fits.4.1 (done p1.fits.4.2))))) (λ P made. ((Some h.0, (e, (Some p1.fits.0, tt))), refl, made))
   factor_takes (call_factor n a) es items h = let p1 = args_takes a es h.1 h.4 in
-      record {
-        rest = p1.rest;
-        fits = p1.fits;
-        go = λ later. by_rule g.Factor 5 (token kind.Name ∷ part g.Behind ∷ []) (Some h.0, (with_args a, tt))
-            (λ P made. ((Some h.0, (with_args a, tt)), ap (λ z. factor_with z (with_args a)) (name_is n h.0 h.3), made))
-            (read_token h.2 (ap kind_of h.3.0) (by_rule g.Behind 0 (part g.Args ∷ []) (a, tt) (λ P made. ((a, tt), refl, made)) (p1.go later)));
-      }
+      let p2 : Takes g.Behind (with_args a) es h.1 = takes g.Behind 0 (past_part p1 (done p1.fits)) (λ P made. ((a, tt), refl, made)) in
+      takes g.Factor 5 (past h.2 (ap kind_of h.3.0) (past_part p2 (done p2.fits)))
+      (λ P made. ((Some h.0, (with_args a, tt)), ap (λ z. factor_with z (with_args a)) (name_is n h.0 h.3), made))
   factor_takes (variable_factor (variable (root.Name n) ss)) es items h = let p1 = selectors_takes ss es h.1 h.4 in
-      record {
-        rest = p1.rest;
-        fits = p1.fits;
-        go = λ later. by_rule g.Factor 5 (token kind.Name ∷ part g.Behind ∷ []) (Some h.0, (selected ss, tt))
-            (λ P made. ((Some h.0, (selected ss, tt)), ap (λ z. factor_with z (selected ss)) (name_is n h.0 h.3), made))
-            (read_token h.2 (ap kind_of h.3.0) (by_rule g.Behind 1 (part g.Selectors ∷ []) (ss, tt) (λ P made. ((ss, tt), refl, made)) (p1.go later)));
-      }
+      let p2 : Takes g.Behind (selected ss) es h.1 = takes g.Behind 1 (past_part p1 (done p1.fits)) (λ P made. ((ss, tt), refl, made)) in
+      takes g.Factor 5 (past h.2 (ap kind_of h.3.0) (past_part p2 (done p2.fits)))
+      (λ P made. ((Some h.0, (selected ss, tt)), ap (λ z. factor_with z (selected ss)) (name_is n h.0 h.3), made))
   factor_takes (variable_factor (variable (root.Val n) ss)) es items h = let p1 = selectors_takes ss es h.4.1 h.4.4 in
-      record {
-        rest = p1.rest;
-        fits = p1.fits;
-        go = λ later. by_rule g.Factor 6 (token kind.Val ∷ token kind.Name ∷ part g.Selectors ∷ [])
-            (Some h.0, (Some h.4.0, (ss, tt))) (λ P made.
-            ((Some h.0, (Some h.4.0, (ss, tt))), ap (λ z. variable_factor (variable (root.Val z) ss)) (name_is n h.4.0 h.4.3), made))
-            (read_token h.2 (ap kind_of h.3.0) (read_token h.4.2 (ap kind_of h.4.3.0) (p1.go (later))));
-      }
+      takes g.Factor 6 (past h.2 (ap kind_of h.3.0) (past h.4.2 (ap kind_of h.4.3.0) (past_part p1 (done p1.fits)))) (λ P made. ((Some h.0, (Some h.4.0, (ss, tt))), ap (λ z. variable_factor (variable (root.Val z) ss)) (name_is n h.4.0 h.4.3), made))
 
   pub args_takes : (t : Args) (es : List Element) (items : Items) → Fit (args_elements t es) items → Takes g.Args t es items
   args_takes (args e more) es items h = let p1 = expr_takes e (exprs_elements more (word is.Close ∷ level_end ∷ es)) h.1 h.4 in
       let p2 = exprs_takes more (word is.Close ∷ level_end ∷ es) p1.rest p1.fits in
-      record {
-        rest = p2.fits.4.0;
-        fits = p2.fits.4.2;
-        go = λ later. by_rule g.Args 0 (token kind.Open ∷ part g.Expr ∷ part g.Exprs ∷ token kind.Close ∷ item.level_end ∷ [])
-            (Some h.0, (e, (more, (Some p2.fits.0, tt)))) (λ P made. ((Some h.0, (e, (more, (Some p2.fits.0, tt)))), refl, made))
-            (read_token h.2 (ap kind_of h.3.0) (p1.go (p2.go (read_token p2.fits.2 (ap kind_of p2.fits.3.0) (read_end p2.fits.4.1 (later))))));
-      }
+      takes g.Args 0 (past h.2 (ap kind_of h.3.0) (past_part p1 (past_part p2 (past p2.fits.2 (ap kind_of p2.fits.3.0) (past_end p2.fits.4.1 (done p2.fits.4.2)))))) (λ P made. ((Some h.0, (e, (more, (Some p2.fits.0, tt)))), refl, made))
 
   pub selector_takes : (t : Selector) (es : List Element) (items : Items) → Fit (selector_elements t es) items → Takes g.Selector t es items
   selector_takes (field line n) es items h =
-      record {
-        rest = h.4.1;
-        fits = h.4.4;
-        go = λ later. by_rule g.Selector 0 (token kind.Period ∷ token kind.Name ∷ []) (Some h.0, (Some h.4.0, tt))
-            (λ P made. ((Some h.0, (Some h.4.0, tt)), ap (λ z. field z n) (sym h.3.1) ∙ ap (λ z. field (line_in (Some h.0)) z) (name_is n h.4.0 h.4.3), made))
-            (read_token h.2 (ap kind_of h.3.0) (read_token h.4.2 (ap kind_of h.4.3.0) (later)));
-      }
+      takes g.Selector 0 (past h.2 (ap kind_of h.3.0) (past h.4.2 (ap kind_of h.4.3.0) (done h.4.4))) (λ P made. ((Some h.0, (Some h.4.0, tt)), ap (λ z. field z n) (sym h.3.1) ∙ ap (λ z. field (line_in (Some h.0)) z) (name_is n h.4.0 h.4.3), made))
   selector_takes (index line e) es items h = let p1 = expr_takes e (word is.CloseBracket ∷ level_end ∷ es) h.1 h.4 in
-      record {
-        rest = p1.fits.4.0;
-        fits = p1.fits.4.2;
-        go = λ later. by_rule g.Selector 1 (token kind.OpenBracket ∷ part g.Expr ∷ token kind.CloseBracket ∷ item.level_end ∷ [])
-            (Some h.0, (e, (Some p1.fits.0, tt))) (λ P made. ((Some h.0, (e, (Some p1.fits.0, tt))), ap (λ z. index z e) (sym h.3.1), made))
-            (read_token h.2 (ap kind_of h.3.0) (p1.go (read_token p1.fits.2 (ap kind_of p1.fits.3.0) (read_end p1.fits.4.1 (later)))));
-      }
+      takes g.Selector 1 (past h.2 (ap kind_of h.3.0) (past_part p1 (past p1.fits.2 (ap kind_of p1.fits.3.0) (past_end p1.fits.4.1 (done p1.fits.4.2))))) (λ P made. ((Some h.0, (e, (Some p1.fits.0, tt))), ap (λ z. index z e) (sym h.3.1), made))
 
   pub selectors_takes : (t : Selectors) (es : List Element) (items : Items) → Fit (selectors_elements t es) items → Takes g.Selectors t es items
   selectors_takes (next_selector s ss) es items h = let p1 = selector_takes s (selectors_elements ss es) items h in
       let p2 = selectors_takes ss es p1.rest p1.fits in
-      record {
-        rest = p2.rest;
-        fits = p2.fits;
-        go = λ later. by_rule g.Selectors 0 (part g.Selector ∷ part g.Selectors ∷ []) (s, (ss, tt))
-            (λ P made. ((s, (ss, tt)), refl, made)) (p1.go (p2.go (later)));
-      }
-  selectors_takes no_selector es items h = record { rest = items; fits = h; go = λ later. by_rule g.Selectors 1 ([]) tt (λ P made. (tt, refl, made)) (later) }
+      takes g.Selectors 0 (past_part p1 (past_part p2 (done p2.fits))) (λ P made. ((s, (ss, tt)), refl, made))
+  selectors_takes no_selector es items h = takes g.Selectors 1 (done h) (λ P made. (tt, refl, made))

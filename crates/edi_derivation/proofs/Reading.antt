@@ -1,5 +1,5 @@
 -- Steps of a reading, from its end.
-use Rattle.std.proofs.Common.{◌≡◌, ℕ, suc, List, ◌∷◌, ◌++◌, Option, Some}
+use Rattle.std.proofs.Common.{◌≡◌, ℕ, suc, List, [], ◌∷◌, ◌++◌, Option, Some}
 use Rattle.edi_lex.specs.declared.symbol.Mark.{Mark}
 use Rattle.edi_tree.specs.Levels.{Element}
 use Rattle.edi_grammar.specs.Grammar as item
@@ -17,14 +17,14 @@ pub record Read (x : List (Part Sort)) (items : Items) (ts : Ts x) : Type 0 wher
   pub steps : ℕ
   pub reads : Reads edison Tree build steps x items ts
 
-pub read_token : {a : ℕ} {x : List (Part Sort)} {items rest : Items} {m : Mark} {ts : Ts x} → items ≡ item.mark (Some m) ∷ rest → kind_of m.symbol ≡ a
+read_token : {a : ℕ} {x : List (Part Sort)} {items rest : Items} {m : Mark} {ts : Ts x} → items ≡ item.mark (Some m) ∷ rest → kind_of m.symbol ≡ a
     → Read x rest ts → Read (token a ∷ x) items (Some m, ts)
 read_token {rest = rest} e k r = record { steps = suc r.steps; reads = (rest, e, k, r.reads) }
 
-pub read_end : {x : List (Part Sort)} {items rest : Items} {ts : Ts x} → items ≡ closing ∷ rest → Read x rest ts → Read (item.level_end ∷ x) items ts
+read_end : {x : List (Part Sort)} {items rest : Items} {ts : Ts x} → items ≡ closing ∷ rest → Read x rest ts → Read (item.level_end ∷ x) items ts
 read_end {rest = rest} e r = record { steps = suc r.steps; reads = (rest, e, r.reads) }
 
-pub by_rule : (k : Sort) (i : ℕ) (rule : List (Part Sort)) (us : Ts rule) {x : List (Part Sort)} {items : Items} {t : Tree k} {ts : Ts x}
+by_rule : (k : Sort) (i : ℕ) (rule : List (Part Sort)) (us : Ts rule) {x : List (Part Sort)} {items : Items} {t : Tree k} {ts : Ts x}
     → ((P : (x : List (Part Sort)) → Ts x → Type 0) → P rule us → Built (Option Mark) Tree k (rules k) (build k) i t P)
     → Read (rule ++ x) items (join (Option Mark) Tree rule x us ts) → Read (part k ∷ x) items (t, ts)
 by_rule k i rule us {x = x} {items = items} {ts = ts} built r =
@@ -42,3 +42,29 @@ pub record Takes (k : Sort) (t : Tree k) (es : List Element) (items : Items) : T
   pub rest : Items
   pub fits : Fit es rest
   pub go : {x : List (Part Sort)} {ts : Ts x} → Read x rest ts → Read (part k ∷ x) items (t, ts)
+
+-- the items begin with the elements of these trees, one part after the other, and before what reads the rest, the parts and the rest are read
+pub record Along (x : List (Part Sort)) (us : Ts x) (es : List Element) (items : Items) : Type 0 where
+  pub rest : Items
+  pub fits : Fit es rest
+  pub go : {y : List (Part Sort)} {ts : Ts y} → Read y rest ts → Read (x ++ y) items (join (Option Mark) Tree x y us ts)
+
+pub done : {es : List Element} {items : Items} → Fit es items → Along [] tt es items
+done {items = items} fits = record { rest = items; fits = fits; go = λ later. later }
+
+pub past : {a : ℕ} {x : List (Part Sort)} {us : Ts x} {es : List Element} {items rest : Items} {m : Mark} → items ≡ item.mark (Some m) ∷ rest
+    → kind_of m.symbol ≡ a → Along x us es rest → Along (token a ∷ x) (Some m, us) es items
+past e k r = record { rest = r.rest; fits = r.fits; go = λ later. read_token e k (r.go later) }
+
+pub past_end : {x : List (Part Sort)} {us : Ts x} {es : List Element} {items rest : Items} → items ≡ closing ∷ rest → Along x us es rest
+    → Along (item.level_end ∷ x) us es items
+past_end e r = record { rest = r.rest; fits = r.fits; go = λ later. read_end e (r.go later) }
+
+pub past_part : {j : Sort} {t : Tree j} {x : List (Part Sort)} {us : Ts x} {before es : List Element} {items : Items} (p : Takes j t before items)
+    → Along x us es p.rest → Along (part j ∷ x) (t, us) es items
+past_part p r = record { rest = r.rest; fits = r.fits; go = λ later. p.go (r.go later) }
+
+-- the part is read by this rule
+pub takes : (k : Sort) (i : ℕ) {rule : List (Part Sort)} {us : Ts rule} {es : List Element} {items : Items} {t : Tree k} → Along rule us es items
+    → ((P : (x : List (Part Sort)) → Ts x → Type 0) → P rule us → Built (Option Mark) Tree k (rules k) (build k) i t P) → Takes k t es items
+takes k i {rule = rule} {us = us} r built = record { rest = r.rest; fits = r.fits; go = λ later. by_rule k i rule us built (r.go later) }

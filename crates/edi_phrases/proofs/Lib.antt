@@ -3,3 +3,4 @@ pub mod Moves
 pub mod Fronts
 pub mod Pushes
 pub mod Opened
+pub mod Heads

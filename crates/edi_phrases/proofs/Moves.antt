@@ -41,6 +41,10 @@ in_front s m p q es e st h = subst (λ p. StandAsMarks (marks_among (mark s ∷ 
 pub waits : (k : Sort) (n : ℕ) (p : List Mark) → Goes k n (λ es. es) (part k ∷ []) p p
 waits k n p = record { at = λ y w r l h. h; reads = λ es h. h }
 
+-- the part takes this rule
+pub begins : {k : Sort} {n : ℕ} {p : List Mark} (rule : List (Part Sort)) → rule_at edison k (front p) ≡ Some rule → Goes k n (λ es. es) rule p p
+begins {k = k} {p = p} rule e = record { at = λ y w t l h. takes_rule k rule y p w t e h; reads = λ es h. h }
+
 -- a symbol that opens no level
 pub over_mark : {k : Sort} {n a : ℕ} {f : List Element → List Element} {x : List (Part Sort)} {p q r : List Mark} (s : Spelled) (m : Mark)
     → Goes k n f (token a ∷ x) p q → q ≡ m ∷ r → kind_of m.symbol ≡ a → opens a ≡ false → StandsAsMark s m → Goes k n (λ es. f (mark s ∷ es)) x p r

@@ -1,17 +1,13 @@
--- Rules that the symbol in front chooses, and how the declaration of a type begins.
+-- Rules that the symbol in front chooses.
 use Rattle.std.proofs.Common.{◌≡◌, ℕ, ◌≤◌, List, ◌∷◌, ◌++◌, false, Some, refl, ap, ◌∙◌}
 use Rattle.edi_lex.specs.declared.symbol.Symbol.{Symbol}
-use Rattle.edi_lex.specs.declared.symbol.Symbol.TheVariants as is
 use Rattle.edi_lex.specs.declared.symbol.Mark.{Mark}
-use Rattle.edi_tree.specs.declared.names.Name.{Name}
-use Rattle.edi_tree.specs.Spelled.{Spelled, just, name_mark}
+use Rattle.edi_tree.specs.Spelled.{Spelled}
 use Rattle.edi_tree.specs.Spells.{StandsAsMark}
-use Rattle.edi_tree.specs.Levels.{Element, mark, word, named}
+use Rattle.edi_tree.specs.Levels.{Element, mark}
 use Rattle.edi_grammar.specs.Grammar.{Part, token, part, level}
 use Rattle.edi_grammar.specs.Parser.{rule_at}
 use Rattle.edi_grammar.specs.Kind.{kind_of, front}
-use Rattle.edi_grammar.specs.Kinds as kind
-use Rattle.edi_grammar.specs.Rules as g
 use Rattle.edi_grammar.specs.Rules.{Sort, opens}
 use Rattle.edi_grammar.specs.Edison.{edison}
 use Rattle.edi_phrases.specs.Words.{at_line}
@@ -31,16 +27,3 @@ pub open_front : {k : Sort} {n line : ℕ} {f : List Element → List Element} {
     → StandsAsMark s (at_line w line) → Goes k n f (part j ∷ x) p q → q ≡ at_line w line ∷ r → Goes k n (λ es. f (mark s ∷ es)) (rule ++ x) p r
 open_front {line = line} {rule = rule} j w s chosen room stands go here =
     over_open s (at_line w line) (into (token (kind_of w) ∷ rule) go (ap (λ q. rule_at edison j (front q)) here ∙ chosen)) here refl room stands
-
-pub headed : {n line : ℕ} {x : List (Part Sort)} {p q r : List Mark} (w : Symbol) (name : Name)
-    → Goes g.TypeDecl n (λ es. es) (token (kind_of w) ∷ token kind.Name ∷ x) p p → opens (kind_of w) ≡ false → p ≡ at_line w line ∷ q
-    → q ≡ at_line (is.Name name.text) name.line ∷ r → Goes g.TypeDecl n (λ es. word w ∷ named name ∷ es) x p r
-headed {line = line} w name go shut here behind = over_mark (name_mark name) (at_line (is.Name name.text) name.line)
-    (over_mark (just w) (at_line w line) go here refl shut (refl, tt)) behind refl refl (refl, refl)
-
-pub opened : {n line place : ℕ} {x : List (Part Sort)} {p q r t : List Mark} (w bracket : Symbol) (name : Name) (s : Spelled)
-    → Goes g.TypeDecl n (λ es. es) (token (kind_of w) ∷ token kind.Name ∷ token (kind_of bracket) ∷ x) p p → opens (kind_of w) ≡ false
-    → p ≡ at_line w line ∷ q → q ≡ at_line (is.Name name.text) name.line ∷ r → r ≡ at_line bracket place ∷ t → level edison x n ≤ 64
-    → StandsAsMark s (at_line bracket place) → Goes g.TypeDecl n (λ es. word w ∷ named name ∷ mark s ∷ es) x p t
-opened {place = place} w bracket name s go shut here behind inner room stands =
-    over_open s (at_line bracket place) (headed w name go shut here behind) inner refl room stands

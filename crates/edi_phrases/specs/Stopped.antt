@@ -1,11 +1,13 @@
 -- Words of contracts. Where a parsing function stops, unless memory is wanting.
-use Rattle.std.specs.Prelude.{◌≡◌, ◌≤◌, ℕ, List, ◌∷◌, Option}
+use Rattle.std.specs.Prelude.{◌≡◌, ◌≤◌, ℕ, suc, List, ◌∷◌, Option, Some}
+use Rattle.edi_lex.specs.declared.symbol.Symbol.{Symbol}
 use Rattle.edi_lex.specs.declared.symbol.Mark.{Mark}
 use Rattle.edi_tree.specs.Spells.{to_end}
-use Rattle.edi_grammar.specs.Grammar.{Part, part, level}
-use Rattle.edi_grammar.specs.Parser.{Why, wrong, too_deep, Stops}
+use Rattle.edi_grammar.specs.Grammar.{Part, token, part, level}
+use Rattle.edi_grammar.specs.Parser.{Why, wrong, too_deep, Stops, rule_at}
 use Rattle.edi_grammar.specs.Rules.{Sort}
-use Rattle.edi_grammar.specs.Kind.{front}
+use Rattle.edi_grammar.specs.Kind.{kind_of, front}
+use Rattle.edi_grammar.specs.Kinds as kind
 use Rattle.edi_grammar.specs.Edison.{edison}
 use Rattle.edi_phrases.specs.declared.stop.Stop.{Stop}
 use Rattle.edi_phrases.specs.declared.stop.Stop.TheVariants as stop
@@ -40,3 +42,8 @@ RefusesBy a n p stop.NoMemory = Unit {0}
 
 pub record Refuses (a n : ℕ) (p : List Mark) (e : Stop) : Type 0 where
   pub at : RefusesBy a n p e
+
+-- Waiting for a part whose rule here begins with this word, a name and this bracket, and which has one level more open behind it, the parser halts there.
+pub record HaltsInHead (w bracket : Symbol) (n : ℕ) (p : List Mark) (e : Stop) : Type 0 where
+  pub at : (k : Sort) (x : List (Part Sort)) → rule_at edison k (front p) ≡ Some (token (kind_of w) ∷ token kind.Name ∷ token (kind_of bracket) ∷ x)
+      → level edison x n ≡ suc n → HaltsAt k n p e

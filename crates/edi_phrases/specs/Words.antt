@@ -3,6 +3,7 @@ use Rattle.std.specs.Prelude.{◌≡◌, ℕ, List, ◌∷◌, Bool, true, false
 use Rattle.edi_lex.specs.declared.symbol.Symbol.{Symbol}
 use Rattle.edi_lex.specs.declared.symbol.Symbol.TheVariants as is
 use Rattle.edi_lex.specs.declared.symbol.Mark.{Mark}
+use Rattle.edi_tree.specs.declared.names.Name.{Name}
 
 -- no name, numeral or string
 abbrev pub is_word : Symbol → Bool
@@ -17,3 +18,8 @@ at_line symbol line = record { symbol = symbol; line = line }
 -- the symbol is in front of the marks, on some line, and the rest stands behind it
 abbrev pub StandsHere : Symbol → List Mark → List Mark → Type 0
 StandsHere symbol marks rest = (line : ℕ) × (marks ≡ at_line symbol line ∷ rest)
+
+-- so stand the word, on some line, the name and the bracket, with which the declaration of a type begins
+abbrev pub HeadStands : Symbol → Name → Symbol → ℕ → List Mark → List Mark → Type 0
+HeadStands word name bracket line marks rest = (first : ℕ)
+    × (marks ≡ at_line word first ∷ at_line (is.Name name.text) name.line ∷ at_line bracket line ∷ rest)

@@ -1,4 +1,5 @@
 //! Constants.
+#![tactic(auto, using(crate::proofs::Moves::no_memory))]
 
 ghost use Rattle.std.specs.Prelude.{◌≡◌, [], ◌∷◌, ◌<◌, ◌≤◌, ℕ, length, IfOk, IfErr, IfSome, IfNone};
 ghost use Rattle.edi_lex.specs.declared.symbol.Symbol.TheVariants as is;
@@ -54,7 +55,6 @@ fn parse_numeral(marks: &[Mark]) -> Result<(i16, &[Mark]), Stop<'_>>
 }
 
 /// `[ "(" Numeral ")" ]`, and the marks behind it.
-#[tactic(auto, using(crate::proofs::Moves::no_memory))]
 fn parse_code<'a>(marks: &'a [Mark], level: u16) -> Result<(Option<i16>, &'a [Mark]), Stop<'a>>
     ensures passes { IfOk result (λ r. Passes g.Code level (code_elements r.0) marks.now r.1.now) }
     ensures halts { IfErr result (λ e. HaltsAt g.Code level marks.now e) }
@@ -70,7 +70,6 @@ fn parse_code<'a>(marks: &'a [Mark], level: u16) -> Result<(Option<i16>, &'a [Ma
 }
 
 /// `Numeral | Char | Name [ "(" Numeral ")" ]`, and the marks behind it.
-#[tactic(auto, using(crate::proofs::Moves::no_memory))]
 pub fn parse_constant<'a>(
     alloc: Global,
     marks: &'a [Mark],
@@ -92,7 +91,6 @@ pub fn parse_constant<'a>(
 }
 
 /// `Name "=" Constant`, and the marks behind it.
-#[tactic(auto, using(crate::proofs::Moves::no_memory))]
 fn parse_const_decl<'a>(
     alloc: Global,
     marks: &'a [Mark],
@@ -109,7 +107,6 @@ fn parse_const_decl<'a>(
 }
 
 /// `{ ";" ConstDecl }`, and the marks behind it.
-#[tactic(auto, using(crate::proofs::Moves::no_memory))]
 fn parse_const_decls<'a>(
     alloc: Global,
     marks: &'a [Mark],
@@ -130,7 +127,6 @@ fn parse_const_decls<'a>(
 }
 
 /// `"const" ConstDecl { ";" ConstDecl }`, and the marks behind it.
-#[tactic(auto, using(crate::proofs::Moves::no_memory))]
 pub fn parse_const_list<'a>(
     alloc: Global,
     marks: &'a [Mark],

@@ -1,4 +1,5 @@
 //! Names, strings and groups of names.
+#![tactic(auto, using(crate::proofs::Moves::no_memory))]
 
 ghost use Rattle.std.specs.Prelude.{
   ◌≡◌,
@@ -70,7 +71,6 @@ pub fn eat_numeral(marks: &[Mark]) -> Option<(i16, &[Mark])>
 }
 
 /// `{ "," Name }`, and the marks behind it.
-#[tactic(auto, using(crate::proofs::Moves::no_memory))]
 pub fn parse_names<'a>(
     alloc: Global,
     marks: &'a [Mark],
@@ -91,7 +91,6 @@ pub fn parse_names<'a>(
 }
 
 /// `Name { "," Name } ":" Name`, and the marks behind it.
-#[tactic(auto, using(crate::proofs::Moves::no_memory))]
 pub fn parse_group<'a>(
     alloc: Global,
     marks: &'a [Mark],
@@ -116,7 +115,6 @@ pub fn parse_group<'a>(
 }
 
 /// `{ ";" Group }`, and the marks behind it.
-#[tactic(auto, using(crate::proofs::Moves::no_memory))]
 pub fn parse_groups<'a>(
     alloc: Global,
     marks: &'a [Mark],

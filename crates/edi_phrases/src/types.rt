@@ -1,21 +1,23 @@
 //! Declarations of types, and lists of variables.
+#![tactic(auto, using(crate::proofs::Moves::no_memory))]
 
-ghost use Rattle.std.specs.Prelude.{◌≡◌, [], ◌∷◌, ◌<◌, false, length, IfOk, IfErr};
+ghost use Rattle.std.specs.Prelude.{◌≡◌, [], ◌∷◌, ◌<◌, true, false, length, IfOk, IfErr};
 ghost use Rattle.edi_tree.specs.View.{type_decl_of, var_list_of};
 ghost use Rattle.edi_tree.specs.Levels.{type_decl_elements, var_list_elements};
 ghost use Rattle.edi_grammar.specs.Kinds as kind;
-ghost use Rattle.edi_grammar.specs.Kind.{front};
+ghost use Rattle.edi_grammar.specs.Kind.{front, kind_of};
 ghost use Rattle.edi_grammar.specs.Parser.{has};
 ghost use Rattle.edi_grammar.specs.Rules as g;
 ghost use Rattle.edi_grammar.specs.Edison as sets;
+ghost use Rattle.edi_phrases.specs.Words.{is_word, HeadStands};
 ghost use Rattle.edi_phrases.specs.Parses.{Passes};
-ghost use Rattle.edi_phrases.specs.Stopped.{HaltsAt};
+ghost use Rattle.edi_phrases.specs.Stopped.{HaltsAt, HaltsInHead};
 
 use crate::constants::parse_constant;
 use crate::names::{parse_group, parse_groups, parse_name, parse_names};
 use crate::stop::{Stop, at, expect, open};
 use edi_lex::{Mark, Symbol};
-use edi_tree::{Array, Enum, Record, Set, TypeDecl, VarList};
+use edi_tree::{Array, Enum, Name, Record, Set, TypeDecl, VarList};
 use std::alloc::Global;
 
 /// Whether the declaration of a type is in front.
@@ -31,8 +33,31 @@ pub fn at_type_decl(marks: &[Mark]) -> bool
     }
 }
 
+/// The word, the name and the bracket with which the declaration of a type begins: the name, the line of the bracket, which
+/// opens a level where so many are open, and the marks behind it.
+fn parse_type_head<'a>(
+    alloc: Global,
+    marks: &'a [Mark],
+    wanted: &Symbol,
+    bracket: &Symbol,
+    level: u16,
+) -> Result<(Name, u16, &'a [Mark]), Stop<'a>>
+    requires word { is_word wanted.now ≡ true }
+    requires shut { g.opens (kind_of wanted.now) ≡ false }
+    requires bracket_word { is_word bracket.now ≡ true }
+    requires opening { g.opens (kind_of bracket.now) ≡ true }
+    ensures found { IfOk result (λ r. HeadStands wanted.now r.0 bracket.now r.1 marks.now r.2.now) }
+    ensures room { IfOk result (λ r. level < 64) }
+    ensures shorter { IfOk result (λ r. length r.2.now < length marks.now) }
+    ensures halts { IfErr result (λ e. HaltsInHead wanted.now bracket.now level marks.now e) }
+{
+    let (_, behind_word) = expect(marks, wanted)?;
+    let (name, behind_name) = parse_name(alloc, behind_word)?;
+    let (line, rest) = open(behind_name, bracket, level)?;
+    Ok((name, line, rest))
+}
+
 /// `"enum" Name "(" Name { "," Name } ")"`, where `enum` is in front, and the marks behind it.
-#[tactic(auto, using(crate::proofs::Moves::no_memory))]
 fn parse_enum<'a>(
     alloc: Global,
     marks: &'a [Mark],
@@ -43,9 +68,13 @@ fn parse_enum<'a>(
     ensures halts { IfErr result (λ e. HaltsAt g.TypeDecl level marks.now e) }
     ensures shorter { IfOk result (λ r. length r.1.now < length marks.now) }
 {
-    let (_, behind_enum) = expect(marks, &Symbol::Enum)?;
-    let (name, behind_name) = parse_name(alloc, behind_enum)?;
-    let (_, behind_open) = open(behind_name, &Symbol::Open, level)?;
+    let (name, _, behind_open) = parse_type_head(
+        alloc,
+        marks,
+        &Symbol::Enum,
+        &Symbol::Open,
+        level,
+    )?;
     let (first, behind_first) = parse_name(alloc, behind_open)?;
     let (more, behind_more) = parse_names(alloc, behind_first, level + 1)?;
     let (_, rest) = expect(behind_more, &Symbol::Close)?;
@@ -53,7 +82,6 @@ fn parse_enum<'a>(
 }
 
 /// `"record" Name "(" Group { ";" Group } ")"`, where `record` is in front, and the marks behind it.
-#[tactic(auto, using(crate::proofs::Moves::no_memory))]
 fn parse_record<'a>(
     alloc: Global,
     marks: &'a [Mark],
@@ -64,9 +92,13 @@ fn parse_record<'a>(
     ensures halts { IfErr result (λ e. HaltsAt g.TypeDecl level marks.now e) }
     ensures shorter { IfOk result (λ r. length r.1.now < length marks.now) }
 {
-    let (_, behind_record) = expect(marks, &Symbol::Record)?;
-    let (name, behind_name) = parse_name(alloc, behind_record)?;
-    let (_, behind_open) = open(behind_name, &Symbol::Open, level)?;
+    let (name, _, behind_open) = parse_type_head(
+        alloc,
+        marks,
+        &Symbol::Record,
+        &Symbol::Open,
+        level,
+    )?;
     let (first, behind_first) = parse_group(alloc, behind_open, level + 1)?;
     let (more, behind_more) = parse_groups(alloc, behind_first, level + 1)?;
     let (_, rest) = expect(behind_more, &Symbol::Close)?;
@@ -74,7 +106,6 @@ fn parse_record<'a>(
 }
 
 /// `"array" Name "[" Constant ":" Constant "]" "(" Name ")"`, where `array` is in front, and the marks behind it.
-#[tactic(auto, using(crate::proofs::Moves::no_memory))]
 fn parse_array<'a>(
     alloc: Global,
     marks: &'a [Mark],
@@ -85,9 +116,13 @@ fn parse_array<'a>(
     ensures halts { IfErr result (λ e. HaltsAt g.TypeDecl level marks.now e) }
     ensures shorter { IfOk result (λ r. length r.1.now < length marks.now) }
 {
-    let (_, behind_array) = expect(marks, &Symbol::Array)?;
-    let (name, behind_name) = parse_name(alloc, behind_array)?;
-    let (line, behind_bracket) = open(behind_name, &Symbol::OpenBracket, level)?;
+    let (name, line, behind_bracket) = parse_type_head(
+        alloc,
+        marks,
+        &Symbol::Array,
+        &Symbol::OpenBracket,
+        level,
+    )?;
     let (lower, behind_lower) = parse_constant(alloc, behind_bracket, level + 1)?;
     let (_, behind_colon) = expect(behind_lower, &Symbol::Colon)?;
     let (upper, behind_upper) = parse_constant(alloc, behind_colon, level + 1)?;
@@ -108,7 +143,6 @@ fn parse_array<'a>(
 }
 
 /// `"set" Name "(" Name ")"`, where no other declaration of a type is in front, and the marks behind it.
-#[tactic(auto, using(crate::proofs::Moves::no_memory))]
 fn parse_set<'a>(
     alloc: Global,
     marks: &'a [Mark],
@@ -119,16 +153,13 @@ fn parse_set<'a>(
     ensures halts { IfErr result (λ e. HaltsAt g.TypeDecl level marks.now e) }
     ensures shorter { IfOk result (λ r. length r.1.now < length marks.now) }
 {
-    let (_, behind_set) = expect(marks, &Symbol::Set)?;
-    let (name, behind_name) = parse_name(alloc, behind_set)?;
-    let (_, behind_open) = open(behind_name, &Symbol::Open, level)?;
+    let (name, _, behind_open) = parse_type_head(alloc, marks, &Symbol::Set, &Symbol::Open, level)?;
     let (base, behind_base) = parse_name(alloc, behind_open)?;
     let (_, rest) = expect(behind_base, &Symbol::Close)?;
     Ok((TypeDecl::Set(Set { name, base }), rest))
 }
 
 /// `Enum | Record | Array | Set`, and the marks behind it.
-#[tactic(auto, using(crate::proofs::Moves::no_memory))]
 pub fn parse_type_decl<'a>(
     alloc: Global,
     marks: &'a [Mark],
@@ -151,7 +182,6 @@ pub fn parse_type_decl<'a>(
 }
 
 /// `"var" Group { ";" Group }`, and the marks behind it.
-#[tactic(auto, using(crate::proofs::Moves::no_memory))]
 pub fn parse_var_list<'a>(
     alloc: Global,
     marks: &'a [Mark],

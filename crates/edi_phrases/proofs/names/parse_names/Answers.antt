@@ -1,4 +1,4 @@
-use Rattle.std.proofs.Common.{rules, ◌∷◌, [], ap, refl, sym, arith}
+use Rattle.std.proofs.Common.{◌≡◌, rules, ◌∷◌, [], Some, ap, refl, sym, arith}
 use Rattle.std.proofs.lemmas.Result.{err_from_is_err_and}
 use Rattle.std.proofs.lemmas.Bool.{ne_eqb}
 use Rattle.edi_lex.specs.declared.symbol.Symbol.TheVariants as is
@@ -13,23 +13,24 @@ use Rattle.edi_grammar.specs.Rules as g
 use Rattle.edi_grammar.specs.Edison.{edison}
 use Rattle.edi_phrases.specs.Words.{at_line}
 use Rattle.edi_phrases.proofs.Moves.{over_mark, into, written, lacks}
-use Rattle.edi_phrases.proofs.Pushes as push
+use Rattle.edi_phrases.proofs.Pushes.{one_more}
+use Rattle.edi_phrases.proofs.Opened.{over_front}
 use Rattle.edi_phrases.proofs.names.parse_names.Goals as goal
+
+names_comma : rule_at edison g.Names kind.Comma ≡ Some (token kind.Comma ∷ token kind.Name ∷ part g.Names ∷ [])
+names_comma = refl
 
 pub returns-in_err-name-clause-halts : goal.returns-in_err-name-clause-halts
 returns-in_err-name-clause-halts c = let p = err_from_is_err_and c.from_residual.result c.from_residual.ensures.1 in
-    rw (p.1, p.2) (lacks (over_mark (just is.Comma) (at_line is.Comma c.in-Some.field-0-0)
-    (into (token kind.Comma ∷ token kind.Name ∷ part g.Names ∷ []) (c.loop-behind_comma.invariant.goes)
-    (ap (λ q. rule_at edison g.Names (front q)) c.in-Some.ensures.found)) c.in-Some.ensures.found refl refl (refl, tt)) c.in_err-name.ensures.none)
+    rw (p.1, p.2) (lacks (over_front g.Names is.Comma (just is.Comma) names_comma refl (refl, tt) c.loop-behind_comma.invariant.goes c.in-Some.ensures.found) c.in_err-name.ensures.none)
 
 pub loop-behind_comma-preserved : goal.loop-behind_comma-preserved
 loop-behind_comma-preserved c = record {
   goes = written
       (over_mark (name_mark c.in_ok-name.name) (at_line (is.Name c.in_ok-name.name.text) c.in_ok-name.name.line)
-      (over_mark (just is.Comma) (at_line is.Comma c.in-Some.field-0-0)
-      (into (token kind.Comma ∷ token kind.Name ∷ part g.Names ∷ []) (c.loop-behind_comma.invariant.goes)
-      (ap (λ q. rule_at edison g.Names (front q)) c.in-Some.ensures.found)) c.in-Some.ensures.found refl refl (refl, tt)) c.in_ok-name.ensures.found refl refl
-      (refl, refl)) (push.names_push c.loop-behind_comma.names.items c.push.new.self.items c.in_ok-name.name (search rules));
+      (over_front g.Names is.Comma (just is.Comma) names_comma refl (refl, tt) c.loop-behind_comma.invariant.goes c.in-Some.ensures.found) c.in_ok-name.ensures.found refl refl
+      (refl, refl)) (one_more (λ x es. elements.word is.Comma ∷ elements.named x ∷ es) (λ l. elements.names_elements (view.names l)) (λ es. refl) (λ x l es. refl)
+      c.loop-behind_comma.names.items c.push.new.self.items c.in_ok-name.name (search rules));
   shorter = omega (arith, c.loop-behind_comma.invariant.shorter, c.in-Some.ensures.shorter, c.in_ok-name.ensures.shorter);
 }
 

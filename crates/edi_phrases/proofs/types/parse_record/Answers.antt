@@ -1,10 +1,8 @@
-use Rattle.std.proofs.Common.{◌≡◌, ℕ, ◌<◌, List, [], ◌∷◌, ap, refl, arith}
+use Rattle.std.proofs.Common.{◌≡◌, List, [], ◌∷◌, Some, ap, refl, arith}
 use Rattle.std.proofs.lemmas.Result.{err_from_is_err_and}
 use Rattle.edi_lex.specs.declared.symbol.Symbol.TheVariants as is
 use Rattle.edi_lex.specs.declared.symbol.Mark.{Mark}
-use Rattle.edi_tree.specs.declared.names.Name.{Name}
 use Rattle.edi_tree.specs.Spelled.{just}
-use Rattle.edi_tree.specs.Levels.{word, named}
 use Rattle.edi_grammar.specs.Grammar as item
 use Rattle.edi_grammar.specs.Grammar.{Part, token, part}
 use Rattle.edi_grammar.specs.Parser.{rule_at}
@@ -14,58 +12,34 @@ use Rattle.edi_grammar.specs.Rules as g
 use Rattle.edi_grammar.specs.Rules.{Sort}
 use Rattle.edi_grammar.specs.Edison.{edison}
 use Rattle.edi_phrases.specs.Words.{at_line}
-use Rattle.edi_phrases.specs.Parses.{Goes}
-use Rattle.edi_phrases.proofs.Moves.{waits, over_mark, over_end, over_part, into, lacks, refused, halts}
-use Rattle.edi_phrases.proofs.Opened.{headed, opened}
+use Rattle.edi_phrases.proofs.Moves.{over_mark, over_end, over_part, lacks, halts}
+use Rattle.edi_phrases.proofs.Heads.{within}
 use Rattle.edi_phrases.proofs.types.parse_record.Goals as goal
 
 abbrev inner : List (Part Sort)
 inner = part g.Group ∷ part g.Groups ∷ token kind.Close ∷ item.level_end ∷ []
 
--- the rule is taken
-begun : (n : ℕ) (p : List Mark) → front p ≡ kind.Record → Goes g.TypeDecl n (λ es. es) (token kind.Record ∷ token kind.Name ∷ token kind.Open ∷ inner) p p
-begun n p chosen = into (token kind.Record ∷ token kind.Name ∷ token kind.Open ∷ inner) (waits g.TypeDecl n p) (ap (λ a. rule_at edison g.TypeDecl a) chosen)
-
--- behind the bracket
-within : {n line place : ℕ} {p q r t : List Mark} (name : Name) → front p ≡ kind.Record → p ≡ at_line is.Record line ∷ q
-    → q ≡ at_line (is.Name name.text) name.line ∷ r → r ≡ at_line is.Open place ∷ t → n < 64
-    → Goes g.TypeDecl n (λ es. word is.Record ∷ named name ∷ word is.Open ∷ es) inner p t
-within {n = n} {p = p} name chosen here behind bracket room = opened is.Record is.Open name (just is.Open) (begun n p chosen) refl here behind bracket
-    (omega (arith, room)) (refl, tt)
-
-pub returns-in_err-behind_record-clause-halts : goal.returns-in_err-behind_record-clause-halts
-returns-in_err-behind_record-clause-halts c = let p = err_from_is_err_and c.from_residual.result c.from_residual.ensures.1 in rw (p.1, p.2)
-    (lacks (begun c.args.level c.args.marks.now c.requires.chosen) c.in_err-behind_record.ensures.none)
+record_rule : (p : List Mark) → front p ≡ kind.Record → rule_at edison g.TypeDecl (front p) ≡ Some
+    (token kind.Record ∷ token kind.Name ∷ token kind.Open ∷ inner)
+record_rule p chosen = ap (λ a. rule_at edison g.TypeDecl a) chosen
 
 pub returns-in_err-name-clause-halts : goal.returns-in_err-name-clause-halts
-returns-in_err-name-clause-halts c = let p = err_from_is_err_and c.from_residual-in_err-name.result c.from_residual-in_err-name.ensures.1 in rw (p.1, p.2)
-    (lacks (over_mark (just is.Record) (at_line is.Record c.in_ok-behind_record.field-0-0) (begun c.args.level c.args.marks.now c.requires.chosen)
-    c.in_ok-behind_record.ensures.found refl refl (refl, tt)) c.in_err-name.ensures.none)
-
-pub returns-in_err-behind_open-clause-halts : goal.returns-in_err-behind_open-clause-halts
-returns-in_err-behind_open-clause-halts c = let p = err_from_is_err_and c.from_residual-in_err-behind_open.result
-    c.from_residual-in_err-behind_open.ensures.1 in rw (p.1, p.2)
-    (refused (headed is.Record c.in_ok-name.name (begun c.args.level c.args.marks.now c.requires.chosen) refl c.in_ok-behind_record.ensures.found
-    c.in_ok-name.ensures.found) refl (omega arith) c.in_err-behind_open.ensures.none)
+returns-in_err-name-clause-halts c = let p = err_from_is_err_and c.from_residual.result c.from_residual.ensures.1 in rw (p.1, p.2)
+    (c.in_err-name.ensures.halts.at g.TypeDecl inner (record_rule c.args.marks.now c.requires.chosen) (omega arith))
 
 pub returns-in_err-first-clause-halts : goal.returns-in_err-first-clause-halts
 returns-in_err-first-clause-halts c = let p = err_from_is_err_and c.from_residual-in_err-first.result c.from_residual-in_err-first.ensures.1 in rw (p.1, p.2)
-    (halts (within c.in_ok-name.name c.requires.chosen c.in_ok-behind_record.ensures.found c.in_ok-name.ensures.found c.in_ok-behind_open.ensures.found
-    c.in_ok-behind_open.ensures.room) (omega arith) c.in_err-first.ensures.halts)
+    (halts (within is.Record c.in_ok-name.name (record_rule c.args.marks.now c.requires.chosen) refl (omega (arith, c.in_ok-name.ensures.room)) c.in_ok-name.ensures.found) (omega arith) c.in_err-first.ensures.halts)
 
 pub returns-in_err-more-clause-halts : goal.returns-in_err-more-clause-halts
 returns-in_err-more-clause-halts c = let p = err_from_is_err_and c.from_residual-in_err-more.result c.from_residual-in_err-more.ensures.1 in rw (p.1, p.2)
-    (halts (over_part (within c.in_ok-name.name c.requires.chosen c.in_ok-behind_record.ensures.found c.in_ok-name.ensures.found
-    c.in_ok-behind_open.ensures.found c.in_ok-behind_open.ensures.room) c.in_ok-first.ensures.passes (omega arith)) (omega arith) c.in_err-more.ensures.halts)
+    (halts (over_part (within is.Record c.in_ok-name.name (record_rule c.args.marks.now c.requires.chosen) refl (omega (arith, c.in_ok-name.ensures.room)) c.in_ok-name.ensures.found) c.in_ok-first.ensures.passes (omega arith)) (omega arith) c.in_err-more.ensures.halts)
 
 pub returns-in_err-rest-clause-halts : goal.returns-in_err-rest-clause-halts
 returns-in_err-rest-clause-halts c = let p = err_from_is_err_and c.from_residual-in_err-rest.result c.from_residual-in_err-rest.ensures.1 in rw (p.1, p.2)
-    (lacks (over_part (over_part (within c.in_ok-name.name c.requires.chosen c.in_ok-behind_record.ensures.found c.in_ok-name.ensures.found
-    c.in_ok-behind_open.ensures.found c.in_ok-behind_open.ensures.room) c.in_ok-first.ensures.passes (omega arith)) c.in_ok-more.ensures.passes
-    (omega arith)) c.in_err-rest.ensures.none)
+    (lacks (over_part (over_part (within is.Record c.in_ok-name.name (record_rule c.args.marks.now c.requires.chosen) refl (omega (arith, c.in_ok-name.ensures.room)) c.in_ok-name.ensures.found) c.in_ok-first.ensures.passes (omega arith)) c.in_ok-more.ensures.passes (omega arith)) c.in_err-rest.ensures.none)
 
 pub returns-clause-passes : goal.returns-clause-passes
 returns-clause-passes c = over_end (over_mark (just is.Close) (at_line is.Close c.in_ok-rest.field-0-0)
-    (over_part (over_part (within c.in_ok-name.name c.requires.chosen c.in_ok-behind_record.ensures.found c.in_ok-name.ensures.found
-    c.in_ok-behind_open.ensures.found c.in_ok-behind_open.ensures.room) c.in_ok-first.ensures.passes (omega arith)) c.in_ok-more.ensures.passes (omega arith))
-    c.in_ok-rest.ensures.found refl refl (refl, tt))
+    (over_part (over_part (within is.Record c.in_ok-name.name (record_rule c.args.marks.now c.requires.chosen) refl (omega (arith, c.in_ok-name.ensures.room)) c.in_ok-name.ensures.found) c.in_ok-first.ensures.passes (omega arith)) c.in_ok-more.ensures.passes (omega arith)) c.in_ok-rest.ensures.found
+    refl refl (refl, tt))
