@@ -1,3 +1,2 @@
 pub mod Strings
 pub mod Operators
-pub mod Pushes

@@ -1,4 +1,5 @@
 //! Expressions.
+#![tactic(auto, using(edi_phrases::proofs::Moves::no_memory))]
 
 ghost use Rattle.std.specs.Prelude.{◌≡◌, [], ◌∷◌, ◌<◌, ◌≤◌, ℕ, true, false, length, option_map, IfOk, IfErr, IfSome, IfNone};
 ghost use Rattle.edi_lex.specs.declared.symbol.Symbol.TheVariants as is;
@@ -23,7 +24,7 @@ use crate::layers::{
     make_term, make_variable,
 };
 use edi_lex::{Mark, Symbol, Text};
-use edi_phrases::{Stop, at, at_name, eat, eat_numeral, expect, open, parse_name};
+use edi_phrases::{Parsed, Stop, at, at_name, eat, eat_numeral, expect, open, parse_name};
 use edi_tree::{
     Addends, Addition, Args, Chars, Comparison, Expr, Exprs, Factor, Multiplication, Multipliers,
     Relation, Root, Selector, Selectors, Sequence, Sign, Simple, Term,
@@ -122,13 +123,8 @@ fn eat_sign(marks: &[Mark]) -> (Option<Sign>, &[Mark])
 }
 
 /// `"[" Expr "]"`, where no `.` is in front, and the marks behind it.
-#[tactic(auto, using(crate::proofs::Strings::no_memory))]
 #[cycle(expression)]
-fn parse_index<'a>(
-    alloc: Global,
-    marks: &'a [Mark],
-    level: u16,
-) -> Result<(Selector, &'a [Mark]), Stop<'a>>
+fn parse_index<'a>(alloc: Global, marks: &'a [Mark], level: u16) -> Parsed<'a, Selector>
     requires chosen { front marks.now ≡ kind.Period → ⊥ }
     ensures passes { IfOk result (λ r. Passes g.Selector level (selector_elements (selector_of r.0)) marks.now r.1.now) }
     ensures halts { IfErr result (λ e. HaltsAt g.Selector level marks.now e) }
@@ -142,13 +138,8 @@ fn parse_index<'a>(
 }
 
 /// `"." Name | "[" Expr "]"`, and the marks behind it.
-#[tactic(auto, using(crate::proofs::Strings::no_memory))]
 #[cycle(expression)]
-fn parse_selector<'a>(
-    alloc: Global,
-    marks: &'a [Mark],
-    level: u16,
-) -> Result<(Selector, &'a [Mark]), Stop<'a>>
+fn parse_selector<'a>(alloc: Global, marks: &'a [Mark], level: u16) -> Parsed<'a, Selector>
     ensures passes { IfOk result (λ r. Passes g.Selector level (selector_elements (selector_of r.0)) marks.now r.1.now) }
     ensures halts { IfErr result (λ e. HaltsAt g.Selector level marks.now e) }
     ensures shorter { IfOk result (λ r. length r.1.now < length marks.now) }
@@ -171,13 +162,8 @@ fn at_selector(marks: &[Mark]) -> bool
 }
 
 /// `{ "." Name | "[" Expr "]" }`, and the marks behind it.
-#[tactic(auto, using(crate::proofs::Strings::no_memory))]
 #[cycle(expression)]
-pub fn parse_selectors<'a>(
-    alloc: Global,
-    marks: &'a [Mark],
-    level: u16,
-) -> Result<(Selectors, &'a [Mark]), Stop<'a>>
+pub fn parse_selectors<'a>(alloc: Global, marks: &'a [Mark], level: u16) -> Parsed<'a, Selectors>
     ensures passes { IfOk result (λ r. Passes g.Selectors level (selectors_elements (selectors_of r.0)) marks.now r.1.now) }
     ensures halts { IfErr result (λ e. HaltsAt g.Selectors level marks.now e) }
     ensures shorter { IfOk result (λ r. length r.1.now ≤ length marks.now) }
@@ -193,13 +179,8 @@ pub fn parse_selectors<'a>(
 }
 
 /// `{ "," Expr }`, and the marks behind it.
-#[tactic(auto, using(crate::proofs::Strings::no_memory))]
 #[cycle(expression)]
-fn parse_exprs<'a>(
-    alloc: Global,
-    marks: &'a [Mark],
-    level: u16,
-) -> Result<(Exprs, &'a [Mark]), Stop<'a>>
+fn parse_exprs<'a>(alloc: Global, marks: &'a [Mark], level: u16) -> Parsed<'a, Exprs>
     ensures passes { IfOk result (λ r. Passes g.Exprs level (exprs_elements (exprs_of r.0)) marks.now r.1.now) }
     ensures halts { IfErr result (λ e. HaltsAt g.Exprs level marks.now e) }
     ensures shorter { IfOk result (λ r. length r.1.now ≤ length marks.now) }
@@ -215,13 +196,8 @@ fn parse_exprs<'a>(
 }
 
 /// `"(" Expr { "," Expr } ")"`, and the marks behind it.
-#[tactic(auto, using(crate::proofs::Strings::no_memory))]
 #[cycle(expression)]
-pub fn parse_args<'a>(
-    alloc: Global,
-    marks: &'a [Mark],
-    level: u16,
-) -> Result<(Args, &'a [Mark]), Stop<'a>>
+pub fn parse_args<'a>(alloc: Global, marks: &'a [Mark], level: u16) -> Parsed<'a, Args>
     ensures passes { IfOk result (λ r. Passes g.Args level (args_elements (args_of r.0)) marks.now r.1.now) }
     ensures halts { IfErr result (λ e. HaltsAt g.Args level marks.now e) }
     ensures shorter { IfOk result (λ r. length r.1.now < length marks.now) }
@@ -235,13 +211,8 @@ pub fn parse_args<'a>(
 }
 
 /// `"not" Factor`, where `not` is in front, and the marks behind it.
-#[tactic(auto, using(crate::proofs::Strings::no_memory))]
 #[cycle(expression)]
-fn parse_not<'a>(
-    alloc: Global,
-    marks: &'a [Mark],
-    level: u16,
-) -> Result<(Factor, &'a [Mark]), Stop<'a>>
+fn parse_not<'a>(alloc: Global, marks: &'a [Mark], level: u16) -> Parsed<'a, Factor>
     requires chosen { front marks.now ≡ kind.Not }
     ensures passes { IfOk result (λ r. Passes g.Factor level (factor_elements (factor_of r.0)) marks.now r.1.now) }
     ensures halts { IfErr result (λ e. HaltsAt g.Factor level marks.now e) }
@@ -254,13 +225,8 @@ fn parse_not<'a>(
 }
 
 /// `"(" Expr ")"`, where `(` is in front, and the marks behind it.
-#[tactic(auto, using(crate::proofs::Strings::no_memory))]
 #[cycle(expression)]
-fn parse_parenthesized<'a>(
-    alloc: Global,
-    marks: &'a [Mark],
-    level: u16,
-) -> Result<(Factor, &'a [Mark]), Stop<'a>>
+fn parse_parenthesized<'a>(alloc: Global, marks: &'a [Mark], level: u16) -> Parsed<'a, Factor>
     requires chosen { front marks.now ≡ kind.Open }
     ensures passes { IfOk result (λ r. Passes g.Factor level (factor_elements (factor_of r.0)) marks.now r.1.now) }
     ensures halts { IfErr result (λ e. HaltsAt g.Factor level marks.now e) }
@@ -274,13 +240,8 @@ fn parse_parenthesized<'a>(
 }
 
 /// A factor that begins with a name, where one is in front, and the marks behind it.
-#[tactic(auto, using(crate::proofs::Strings::no_memory))]
 #[cycle(expression)]
-fn parse_named<'a>(
-    alloc: Global,
-    marks: &'a [Mark],
-    level: u16,
-) -> Result<(Factor, &'a [Mark]), Stop<'a>>
+fn parse_named<'a>(alloc: Global, marks: &'a [Mark], level: u16) -> Parsed<'a, Factor>
     requires chosen { front marks.now ≡ kind.Name }
     ensures passes { IfOk result (λ r. Passes g.Factor level (factor_elements (factor_of r.0)) marks.now r.1.now) }
     ensures halts { IfErr result (λ e. HaltsAt g.Factor level marks.now e) }
@@ -296,13 +257,8 @@ fn parse_named<'a>(
 }
 
 /// `"val" Name { "." Name | "[" Expr "]" }`, where no other factor is in front, and the marks behind it.
-#[tactic(auto, using(crate::proofs::Strings::no_memory))]
 #[cycle(expression)]
-fn parse_val<'a>(
-    alloc: Global,
-    marks: &'a [Mark],
-    level: u16,
-) -> Result<(Factor, &'a [Mark]), Stop<'a>>
+fn parse_val<'a>(alloc: Global, marks: &'a [Mark], level: u16) -> Parsed<'a, Factor>
     requires chosen { has (front marks.now) (kind.Numeral ∷ kind.Char ∷ kind.Text ∷ kind.Not ∷ kind.Open ∷ kind.Name ∷ []) ≡ false }
     ensures passes { IfOk result (λ r. Passes g.Factor level (factor_elements (factor_of r.0)) marks.now r.1.now) }
     ensures halts { IfErr result (λ e. HaltsAt g.Factor level marks.now e) }
@@ -327,7 +283,7 @@ fn at_string(marks: &[Mark]) -> bool
 
 /// The string that must stand here, and the marks behind it.
 #[tactic(auto, using(crate::proofs::Strings::string_kind))]
-fn parse_chars<'a>(alloc: Global, marks: &'a [Mark]) -> Result<(Chars, &'a [Mark]), Stop<'a>>
+fn parse_chars<'a>(alloc: Global, marks: &'a [Mark]) -> Parsed<'a, Chars>
     ensures found { IfOk result (λ r. marks.now ≡ at_line (is.Chars r.0.text) r.0.line ∷ r.1.now) }
     ensures shorter { IfOk result (λ r. length r.1.now < length marks.now) }
     ensures none { IfErr result (λ e. NoString marks.now e) }
@@ -344,12 +300,7 @@ fn parse_chars<'a>(alloc: Global, marks: &'a [Mark]) -> Result<(Chars, &'a [Mark
 }
 
 /// A string, where one is in front, and the marks behind it.
-#[tactic(auto, using(crate::proofs::Strings::no_memory))]
-fn parse_string<'a>(
-    alloc: Global,
-    marks: &'a [Mark],
-    level: u16,
-) -> Result<(Factor, &'a [Mark]), Stop<'a>>
+fn parse_string<'a>(alloc: Global, marks: &'a [Mark], level: u16) -> Parsed<'a, Factor>
     requires chosen { has (front marks.now) (kind.Char ∷ kind.Text ∷ []) ≡ true }
     ensures passes { IfOk result (λ r. Passes g.Factor level (factor_elements (factor_of r.0)) marks.now r.1.now) }
     ensures halts { IfErr result (λ e. HaltsAt g.Factor level marks.now e) }
@@ -360,13 +311,8 @@ fn parse_string<'a>(
 }
 
 /// `Numeral | String | "not" Factor | "(" Expr ")" | Name Args | Variable`, and the marks behind it.
-#[tactic(auto, using(crate::proofs::Strings::no_memory))]
 #[cycle(expression)]
-fn parse_factor<'a>(
-    alloc: Global,
-    marks: &'a [Mark],
-    level: u16,
-) -> Result<(Factor, &'a [Mark]), Stop<'a>>
+fn parse_factor<'a>(alloc: Global, marks: &'a [Mark], level: u16) -> Parsed<'a, Factor>
     ensures passes { IfOk result (λ r. Passes g.Factor level (factor_elements (factor_of r.0)) marks.now r.1.now) }
     ensures halts { IfErr result (λ e. HaltsAt g.Factor level marks.now e) }
     ensures shorter { IfOk result (λ r. length r.1.now < length marks.now) }
@@ -390,13 +336,8 @@ fn parse_factor<'a>(
 }
 
 /// `{ ( "*" | "div" | "mod" | "and" ) Factor }`, and the marks behind it.
-#[tactic(auto, using(crate::proofs::Strings::no_memory))]
 #[cycle(expression)]
-fn parse_multipliers<'a>(
-    alloc: Global,
-    marks: &'a [Mark],
-    level: u16,
-) -> Result<(Multipliers, &'a [Mark]), Stop<'a>>
+fn parse_multipliers<'a>(alloc: Global, marks: &'a [Mark], level: u16) -> Parsed<'a, Multipliers>
     ensures passes { IfOk result (λ r. Passes g.Multipliers level (multipliers_elements (multipliers_of r.0)) marks.now r.1.now) }
     ensures halts { IfErr result (λ e. HaltsAt g.Multipliers level marks.now e) }
     ensures shorter { IfOk result (λ r. length r.1.now ≤ length marks.now) }
@@ -412,13 +353,8 @@ fn parse_multipliers<'a>(
 }
 
 /// `Factor { ( "*" | "div" | "mod" | "and" ) Factor }`, and the marks behind it.
-#[tactic(auto, using(crate::proofs::Strings::no_memory))]
 #[cycle(expression)]
-fn parse_term<'a>(
-    alloc: Global,
-    marks: &'a [Mark],
-    level: u16,
-) -> Result<(Term, &'a [Mark]), Stop<'a>>
+fn parse_term<'a>(alloc: Global, marks: &'a [Mark], level: u16) -> Parsed<'a, Term>
     ensures passes { IfOk result (λ r. Passes g.Term level (term_elements (term_of r.0)) marks.now r.1.now) }
     ensures halts { IfErr result (λ e. HaltsAt g.Term level marks.now e) }
     ensures shorter { IfOk result (λ r. length r.1.now < length marks.now) }
@@ -429,13 +365,8 @@ fn parse_term<'a>(
 }
 
 /// `{ ( "+" | "-" | "or" ) Term }`, and the marks behind it.
-#[tactic(auto, using(crate::proofs::Strings::no_memory))]
 #[cycle(expression)]
-fn parse_addends<'a>(
-    alloc: Global,
-    marks: &'a [Mark],
-    level: u16,
-) -> Result<(Addends, &'a [Mark]), Stop<'a>>
+fn parse_addends<'a>(alloc: Global, marks: &'a [Mark], level: u16) -> Parsed<'a, Addends>
     ensures passes { IfOk result (λ r. Passes g.Addends level (addends_elements (addends_of r.0)) marks.now r.1.now) }
     ensures halts { IfErr result (λ e. HaltsAt g.Addends level marks.now e) }
     ensures shorter { IfOk result (λ r. length r.1.now ≤ length marks.now) }
@@ -451,13 +382,8 @@ fn parse_addends<'a>(
 }
 
 /// `[ "+" | "-" ] Term { ( "+" | "-" | "or" ) Term }`, and the marks behind it.
-#[tactic(auto, using(crate::proofs::Strings::no_memory))]
 #[cycle(expression)]
-fn parse_simple<'a>(
-    alloc: Global,
-    marks: &'a [Mark],
-    level: u16,
-) -> Result<(Simple, &'a [Mark]), Stop<'a>>
+fn parse_simple<'a>(alloc: Global, marks: &'a [Mark], level: u16) -> Parsed<'a, Simple>
     ensures passes { IfOk result (λ r. Passes g.Simple level (simple_elements (simple_of r.0)) marks.now r.1.now) }
     ensures halts { IfErr result (λ e. HaltsAt g.Simple level marks.now e) }
     ensures shorter { IfOk result (λ r. length r.1.now < length marks.now) }
@@ -469,13 +395,12 @@ fn parse_simple<'a>(
 }
 
 /// `[ Relation Simple ]`, and the marks behind it.
-#[tactic(auto, using(crate::proofs::Strings::no_memory))]
 #[cycle(expression)]
 fn parse_comparison<'a>(
     alloc: Global,
     marks: &'a [Mark],
     level: u16,
-) -> Result<(Option<Comparison>, &'a [Mark]), Stop<'a>>
+) -> Parsed<'a, Option<Comparison>>
     ensures passes { IfOk result (λ r. Passes g.Comparison level (comparison_elements (optional_comparison (option_map comparison_of r.0))) marks.now r.1.now) }
     ensures halts { IfErr result (λ e. HaltsAt g.Comparison level marks.now e) }
     ensures shorter { IfOk result (λ r. length r.1.now ≤ length marks.now) }
@@ -488,13 +413,8 @@ fn parse_comparison<'a>(
 }
 
 /// `Simple [ Relation Simple ]`, and the marks behind it.
-#[tactic(auto, using(crate::proofs::Strings::no_memory))]
 #[cycle(expression)]
-pub fn parse_expr<'a>(
-    alloc: Global,
-    marks: &'a [Mark],
-    level: u16,
-) -> Result<(Expr, &'a [Mark]), Stop<'a>>
+pub fn parse_expr<'a>(alloc: Global, marks: &'a [Mark], level: u16) -> Parsed<'a, Expr>
     ensures passes { IfOk result (λ r. Passes g.Expr level (expr_elements (expr_of r.0)) marks.now r.1.now) }
     ensures halts { IfErr result (λ e. HaltsAt g.Expr level marks.now e) }
     ensures shorter { IfOk result (λ r. length r.1.now < length marks.now) }

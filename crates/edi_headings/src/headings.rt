@@ -1,4 +1,5 @@
 //! Headings of procedures. A level is the number of levels that are open where a part begins; at most 64 may be open.
+#![tactic(auto, using(edi_phrases::proofs::Moves::no_memory))]
 
 ghost use Rattle.std.specs.Prelude.{◌≡◌, ◌<◌, ◌≤◌, length, IfOk, IfErr};
 ghost use Rattle.edi_tree.specs.View.{heading_of, param_of, params_of};
@@ -11,17 +12,12 @@ ghost use Rattle.edi_phrases.specs.Parses.{Passes};
 ghost use Rattle.edi_phrases.specs.Stopped.{HaltsAt};
 
 use edi_lex::{Mark, Symbol};
-use edi_phrases::{Stop, at, eat, expect, open, parse_group, parse_name};
+use edi_phrases::{Parsed, at, eat, expect, open, parse_group, parse_name};
 use edi_tree::{Heading, Name, Param, Params, Sequence};
 use std::alloc::Global;
 
 /// `[ ":" Name ]`, and the marks behind it.
-#[tactic(auto, using(crate::proofs::Pushes::no_memory))]
-fn parse_result<'a>(
-    alloc: Global,
-    marks: &'a [Mark],
-    level: u16,
-) -> Result<(Option<Name>, &'a [Mark]), Stop<'a>>
+fn parse_result<'a>(alloc: Global, marks: &'a [Mark], level: u16) -> Parsed<'a, Option<Name>>
     ensures passes { IfOk result (λ r. Passes g.Result level (result_elements r.0) marks.now r.1.now) }
     ensures halts { IfErr result (λ e. HaltsAt g.Result level marks.now e) }
     ensures shorter { IfOk result (λ r. length r.1.now ≤ length marks.now) }
@@ -34,13 +30,8 @@ fn parse_result<'a>(
 }
 
 /// `[ "var" ] Group | Heading`, and the marks behind it.
-#[tactic(auto, using(crate::proofs::Pushes::no_memory))]
 #[cycle(heading)]
-fn parse_param<'a>(
-    alloc: Global,
-    marks: &'a [Mark],
-    level: u16,
-) -> Result<(Param, &'a [Mark]), Stop<'a>>
+fn parse_param<'a>(alloc: Global, marks: &'a [Mark], level: u16) -> Parsed<'a, Param>
     ensures passes { IfOk result (λ r. Passes g.Param level (param_elements (param_of r.0)) marks.now r.1.now) }
     ensures halts { IfErr result (λ e. HaltsAt g.Param level marks.now e) }
     ensures shorter { IfOk result (λ r. length r.1.now < length marks.now) }
@@ -59,13 +50,8 @@ fn parse_param<'a>(
 }
 
 /// `"(" Param { ";" Param } ")"`, where `(` is in front, and the marks behind it.
-#[tactic(auto, using(crate::proofs::Pushes::no_memory))]
 #[cycle(heading)]
-fn parse_some_params<'a>(
-    alloc: Global,
-    marks: &'a [Mark],
-    level: u16,
-) -> Result<(Params, &'a [Mark]), Stop<'a>>
+fn parse_some_params<'a>(alloc: Global, marks: &'a [Mark], level: u16) -> Parsed<'a, Params>
     requires chosen { front marks.now ≡ kind.Open }
     ensures passes { IfOk result (λ r. Passes g.Params level (params_elements (params_of r.0)) marks.now r.1.now) }
     ensures halts { IfErr result (λ e. HaltsAt g.Params level marks.now e) }
@@ -86,13 +72,8 @@ fn parse_some_params<'a>(
 }
 
 /// `[ "(" Param { ";" Param } ")" ]`, and the marks behind it.
-#[tactic(auto, using(crate::proofs::Pushes::no_memory))]
 #[cycle(heading)]
-fn parse_params<'a>(
-    alloc: Global,
-    marks: &'a [Mark],
-    level: u16,
-) -> Result<(Params, &'a [Mark]), Stop<'a>>
+fn parse_params<'a>(alloc: Global, marks: &'a [Mark], level: u16) -> Parsed<'a, Params>
     ensures passes { IfOk result (λ r. Passes g.Params level (params_elements (params_of r.0)) marks.now r.1.now) }
     ensures halts { IfErr result (λ e. HaltsAt g.Params level marks.now e) }
     ensures shorter { IfOk result (λ r. length r.1.now ≤ length marks.now) }
@@ -106,13 +87,8 @@ fn parse_params<'a>(
 /// `Name [ "(" Param { ";" Param } ")" ] [ ":" Name ]`, what stands behind a `proc`, and the marks behind it.
 /// The level counts that of the `proc`. Fails where another symbol stands, where a 65th level would open, and where memory
 /// is wanting.
-#[tactic(auto, using(crate::proofs::Pushes::no_memory))]
 #[cycle(heading)]
-pub fn parse_head<'a>(
-    alloc: Global,
-    marks: &'a [Mark],
-    level: u16,
-) -> Result<(Heading, &'a [Mark]), Stop<'a>>
+pub fn parse_head<'a>(alloc: Global, marks: &'a [Mark], level: u16) -> Parsed<'a, Heading>
     ensures passes { IfOk result (λ r. Passes g.Head level (head_elements (heading_of r.0)) marks.now r.1.now) }
     ensures halts { IfErr result (λ e. HaltsAt g.Head level marks.now e) }
     ensures shorter { IfOk result (λ r. length r.1.now < length marks.now) }

@@ -15,7 +15,7 @@ ghost use Rattle.edi_phrases.specs.Parses.{Passes};
 ghost use Rattle.edi_phrases.specs.Stopped.{HaltsAt, Lacks};
 
 use crate::names::{eat_numeral, parse_name};
-use crate::stop::{Stop, at, eat, expect, open};
+use crate::stop::{Parsed, Stop, at, eat, expect, open};
 use edi_lex::{Mark, Symbol};
 use edi_tree::{Char, ConstDecl, ConstDecls, ConstList, Constant, Sequence};
 use std::alloc::Global;
@@ -55,7 +55,7 @@ fn parse_numeral(marks: &[Mark]) -> Result<(i16, &[Mark]), Stop<'_>>
 }
 
 /// `[ "(" Numeral ")" ]`, and the marks behind it.
-fn parse_code<'a>(marks: &'a [Mark], level: u16) -> Result<(Option<i16>, &'a [Mark]), Stop<'a>>
+fn parse_code<'a>(marks: &'a [Mark], level: u16) -> Parsed<'a, Option<i16>>
     ensures passes { IfOk result (λ r. Passes g.Code level (code_elements r.0) marks.now r.1.now) }
     ensures halts { IfErr result (λ e. HaltsAt g.Code level marks.now e) }
     ensures shorter { IfOk result (λ r. length r.1.now ≤ length marks.now) }
@@ -70,11 +70,7 @@ fn parse_code<'a>(marks: &'a [Mark], level: u16) -> Result<(Option<i16>, &'a [Ma
 }
 
 /// `Numeral | Char | Name [ "(" Numeral ")" ]`, and the marks behind it.
-pub fn parse_constant<'a>(
-    alloc: Global,
-    marks: &'a [Mark],
-    level: u16,
-) -> Result<(Constant, &'a [Mark]), Stop<'a>>
+pub fn parse_constant<'a>(alloc: Global, marks: &'a [Mark], level: u16) -> Parsed<'a, Constant>
     ensures passes { IfOk result (λ r. Passes g.Constant level (constant_elements r.0) marks.now r.1.now) }
     ensures halts { IfErr result (λ e. HaltsAt g.Constant level marks.now e) }
     ensures shorter { IfOk result (λ r. length r.1.now < length marks.now) }
@@ -91,11 +87,7 @@ pub fn parse_constant<'a>(
 }
 
 /// `Name "=" Constant`, and the marks behind it.
-fn parse_const_decl<'a>(
-    alloc: Global,
-    marks: &'a [Mark],
-    level: u16,
-) -> Result<(ConstDecl, &'a [Mark]), Stop<'a>>
+fn parse_const_decl<'a>(alloc: Global, marks: &'a [Mark], level: u16) -> Parsed<'a, ConstDecl>
     ensures passes { IfOk result (λ r. Passes g.ConstDecl level (const_decl_elements r.0) marks.now r.1.now) }
     ensures halts { IfErr result (λ e. HaltsAt g.ConstDecl level marks.now e) }
     ensures shorter { IfOk result (λ r. length r.1.now < length marks.now) }
@@ -107,11 +99,7 @@ fn parse_const_decl<'a>(
 }
 
 /// `{ ";" ConstDecl }`, and the marks behind it.
-fn parse_const_decls<'a>(
-    alloc: Global,
-    marks: &'a [Mark],
-    level: u16,
-) -> Result<(ConstDecls, &'a [Mark]), Stop<'a>>
+fn parse_const_decls<'a>(alloc: Global, marks: &'a [Mark], level: u16) -> Parsed<'a, ConstDecls>
     ensures passes { IfOk result (λ r. Passes g.ConstDecls level (const_decls_elements (const_decls (items_of r.0))) marks.now r.1.now) }
     ensures halts { IfErr result (λ e. HaltsAt g.ConstDecls level marks.now e) }
     ensures shorter { IfOk result (λ r. length r.1.now ≤ length marks.now) }
@@ -127,11 +115,7 @@ fn parse_const_decls<'a>(
 }
 
 /// `"const" ConstDecl { ";" ConstDecl }`, and the marks behind it.
-pub fn parse_const_list<'a>(
-    alloc: Global,
-    marks: &'a [Mark],
-    level: u16,
-) -> Result<(ConstList, &'a [Mark]), Stop<'a>>
+pub fn parse_const_list<'a>(alloc: Global, marks: &'a [Mark], level: u16) -> Parsed<'a, ConstList>
     ensures passes { IfOk result (λ r. Passes g.ConstList level (const_list_elements (const_list_of r.0)) marks.now r.1.now) }
     ensures halts { IfErr result (λ e. HaltsAt g.ConstList level marks.now e) }
     ensures shorter { IfOk result (λ r. length r.1.now < length marks.now) }

@@ -10,5 +10,5 @@ mod types;
 
 pub use constants::{eat_char, parse_const_list, parse_constant};
 pub use names::{at_name, eat_numeral, parse_group, parse_groups, parse_name, parse_names};
-pub use stop::{LEVELS, Stop, at, eat, expect, open};
+pub use stop::{LEVELS, Parsed, Stop, at, eat, expect, open};
 pub use types::{at_type_decl, parse_type_decl, parse_var_list};

@@ -25,7 +25,7 @@ ghost use Rattle.edi_phrases.specs.Parses.{Passes};
 ghost use Rattle.edi_phrases.specs.Words.{at_line, StandsHere};
 ghost use Rattle.edi_phrases.specs.Stopped.{HaltsAt, Lacks};
 
-use crate::stop::{Stop, eat, expect};
+use crate::stop::{Parsed, Stop, eat, expect};
 use edi_lex::{Mark, Symbol, Text};
 use edi_tree::{Group, Groups, Name, Names, Sequence};
 use std::alloc::Global;
@@ -41,7 +41,7 @@ pub fn at_name(marks: &[Mark]) -> bool
 }
 
 /// The name that must stand here, and the marks behind it.
-pub fn parse_name<'a>(alloc: Global, marks: &'a [Mark]) -> Result<(Name, &'a [Mark]), Stop<'a>>
+pub fn parse_name<'a>(alloc: Global, marks: &'a [Mark]) -> Parsed<'a, Name>
     ensures found { IfOk result (λ r. marks.now ≡ at_line (is.Name r.0.text) r.0.line ∷ r.1.now) }
     ensures shorter { IfOk result (λ r. length r.1.now < length marks.now) }
     ensures none { IfErr result (λ e. Lacks kind.Name marks.now e) }
@@ -71,11 +71,7 @@ pub fn eat_numeral(marks: &[Mark]) -> Option<(i16, &[Mark])>
 }
 
 /// `{ "," Name }`, and the marks behind it.
-pub fn parse_names<'a>(
-    alloc: Global,
-    marks: &'a [Mark],
-    level: u16,
-) -> Result<(Names, &'a [Mark]), Stop<'a>>
+pub fn parse_names<'a>(alloc: Global, marks: &'a [Mark], level: u16) -> Parsed<'a, Names>
     ensures passes { IfOk result (λ r. Passes g.Names level (names_elements (names (items_of r.0))) marks.now r.1.now) }
     ensures halts { IfErr result (λ e. HaltsAt g.Names level marks.now e) }
     ensures shorter { IfOk result (λ r. length r.1.now ≤ length marks.now) }
@@ -91,11 +87,7 @@ pub fn parse_names<'a>(
 }
 
 /// `Name { "," Name } ":" Name`, and the marks behind it.
-pub fn parse_group<'a>(
-    alloc: Global,
-    marks: &'a [Mark],
-    level: u16,
-) -> Result<(Group, &'a [Mark]), Stop<'a>>
+pub fn parse_group<'a>(alloc: Global, marks: &'a [Mark], level: u16) -> Parsed<'a, Group>
     ensures passes { IfOk result (λ r. Passes g.Group level (group_elements (group_of r.0)) marks.now r.1.now) }
     ensures halts { IfErr result (λ e. HaltsAt g.Group level marks.now e) }
     ensures shorter { IfOk result (λ r. length r.1.now < length marks.now) }
@@ -115,11 +107,7 @@ pub fn parse_group<'a>(
 }
 
 /// `{ ";" Group }`, and the marks behind it.
-pub fn parse_groups<'a>(
-    alloc: Global,
-    marks: &'a [Mark],
-    level: u16,
-) -> Result<(Groups, &'a [Mark]), Stop<'a>>
+pub fn parse_groups<'a>(alloc: Global, marks: &'a [Mark], level: u16) -> Parsed<'a, Groups>
     ensures passes { IfOk result (λ r. Passes g.Groups level (groups_elements (groups_of r.0)) marks.now r.1.now) }
     ensures halts { IfErr result (λ e. HaltsAt g.Groups level marks.now e) }
     ensures shorter { IfOk result (λ r. length r.1.now ≤ length marks.now) }

@@ -35,6 +35,9 @@ pub enum Stop<'a> {
     NoMemory,
 }
 
+/// What a parsing function gives: what it has read, and the marks behind it.
+pub type Parsed<'a, T> = Result<(T, &'a [Mark]), Stop<'a>>;
+
 impl From<AllocError> for Stop<'_> {
     ghost from_gives = { λ _ e. e ≡ stop.NoMemory };
 
@@ -141,7 +144,7 @@ pub fn at(marks: &[Mark], wanted: &Symbol) -> bool
 }
 
 /// The line of this symbol, which must stand here, and the marks behind it.
-pub fn expect<'a>(marks: &'a [Mark], wanted: &Symbol) -> Result<(u16, &'a [Mark]), Stop<'a>>
+pub fn expect<'a>(marks: &'a [Mark], wanted: &Symbol) -> Parsed<'a, u16>
     requires word { is_word wanted.now ≡ true }
     ensures found { IfOk result (λ r. marks.now ≡ at_line wanted.now r.0 ∷ r.1.now) }
     ensures shorter { IfOk result (λ r. length r.1.now < length marks.now) }
@@ -154,11 +157,7 @@ pub fn expect<'a>(marks: &'a [Mark], wanted: &Symbol) -> Result<(u16, &'a [Mark]
 }
 
 /// The line of this symbol, which must stand here and opens a level where so many are open, and the marks behind it.
-pub fn open<'a>(
-    marks: &'a [Mark],
-    wanted: &Symbol,
-    level: u16,
-) -> Result<(u16, &'a [Mark]), Stop<'a>>
+pub fn open<'a>(marks: &'a [Mark], wanted: &Symbol, level: u16) -> Parsed<'a, u16>
     requires word { is_word wanted.now ≡ true }
     ensures found { IfOk result (λ r. marks.now ≡ at_line wanted.now r.0 ∷ r.1.now) }
     ensures room { IfOk result (λ r. level < 64) }

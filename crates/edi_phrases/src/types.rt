@@ -15,7 +15,7 @@ ghost use Rattle.edi_phrases.specs.Stopped.{HaltsAt, HaltsInHead};
 
 use crate::constants::parse_constant;
 use crate::names::{parse_group, parse_groups, parse_name, parse_names};
-use crate::stop::{Stop, at, expect, open};
+use crate::stop::{Parsed, Stop, at, expect, open};
 use edi_lex::{Mark, Symbol};
 use edi_tree::{Array, Enum, Name, Record, Set, TypeDecl, VarList};
 use std::alloc::Global;
@@ -58,11 +58,7 @@ fn parse_type_head<'a>(
 }
 
 /// `"enum" Name "(" Name { "," Name } ")"`, where `enum` is in front, and the marks behind it.
-fn parse_enum<'a>(
-    alloc: Global,
-    marks: &'a [Mark],
-    level: u16,
-) -> Result<(TypeDecl, &'a [Mark]), Stop<'a>>
+fn parse_enum<'a>(alloc: Global, marks: &'a [Mark], level: u16) -> Parsed<'a, TypeDecl>
     requires chosen { front marks.now ≡ kind.Enum }
     ensures passes { IfOk result (λ r. Passes g.TypeDecl level (type_decl_elements (type_decl_of r.0)) marks.now r.1.now) }
     ensures halts { IfErr result (λ e. HaltsAt g.TypeDecl level marks.now e) }
@@ -82,11 +78,7 @@ fn parse_enum<'a>(
 }
 
 /// `"record" Name "(" Group { ";" Group } ")"`, where `record` is in front, and the marks behind it.
-fn parse_record<'a>(
-    alloc: Global,
-    marks: &'a [Mark],
-    level: u16,
-) -> Result<(TypeDecl, &'a [Mark]), Stop<'a>>
+fn parse_record<'a>(alloc: Global, marks: &'a [Mark], level: u16) -> Parsed<'a, TypeDecl>
     requires chosen { front marks.now ≡ kind.Record }
     ensures passes { IfOk result (λ r. Passes g.TypeDecl level (type_decl_elements (type_decl_of r.0)) marks.now r.1.now) }
     ensures halts { IfErr result (λ e. HaltsAt g.TypeDecl level marks.now e) }
@@ -106,11 +98,7 @@ fn parse_record<'a>(
 }
 
 /// `"array" Name "[" Constant ":" Constant "]" "(" Name ")"`, where `array` is in front, and the marks behind it.
-fn parse_array<'a>(
-    alloc: Global,
-    marks: &'a [Mark],
-    level: u16,
-) -> Result<(TypeDecl, &'a [Mark]), Stop<'a>>
+fn parse_array<'a>(alloc: Global, marks: &'a [Mark], level: u16) -> Parsed<'a, TypeDecl>
     requires chosen { front marks.now ≡ kind.Array }
     ensures passes { IfOk result (λ r. Passes g.TypeDecl level (type_decl_elements (type_decl_of r.0)) marks.now r.1.now) }
     ensures halts { IfErr result (λ e. HaltsAt g.TypeDecl level marks.now e) }
@@ -143,11 +131,7 @@ fn parse_array<'a>(
 }
 
 /// `"set" Name "(" Name ")"`, where no other declaration of a type is in front, and the marks behind it.
-fn parse_set<'a>(
-    alloc: Global,
-    marks: &'a [Mark],
-    level: u16,
-) -> Result<(TypeDecl, &'a [Mark]), Stop<'a>>
+fn parse_set<'a>(alloc: Global, marks: &'a [Mark], level: u16) -> Parsed<'a, TypeDecl>
     requires chosen { has (front marks.now) (kind.Enum ∷ kind.Record ∷ kind.Array ∷ []) ≡ false }
     ensures passes { IfOk result (λ r. Passes g.TypeDecl level (type_decl_elements (type_decl_of r.0)) marks.now r.1.now) }
     ensures halts { IfErr result (λ e. HaltsAt g.TypeDecl level marks.now e) }
@@ -160,11 +144,7 @@ fn parse_set<'a>(
 }
 
 /// `Enum | Record | Array | Set`, and the marks behind it.
-pub fn parse_type_decl<'a>(
-    alloc: Global,
-    marks: &'a [Mark],
-    level: u16,
-) -> Result<(TypeDecl, &'a [Mark]), Stop<'a>>
+pub fn parse_type_decl<'a>(alloc: Global, marks: &'a [Mark], level: u16) -> Parsed<'a, TypeDecl>
     ensures passes { IfOk result (λ r. Passes g.TypeDecl level (type_decl_elements (type_decl_of r.0)) marks.now r.1.now) }
     ensures halts { IfErr result (λ e. HaltsAt g.TypeDecl level marks.now e) }
     ensures shorter { IfOk result (λ r. length r.1.now < length marks.now) }
@@ -182,11 +162,7 @@ pub fn parse_type_decl<'a>(
 }
 
 /// `"var" Group { ";" Group }`, and the marks behind it.
-pub fn parse_var_list<'a>(
-    alloc: Global,
-    marks: &'a [Mark],
-    level: u16,
-) -> Result<(VarList, &'a [Mark]), Stop<'a>>
+pub fn parse_var_list<'a>(alloc: Global, marks: &'a [Mark], level: u16) -> Parsed<'a, VarList>
     ensures passes { IfOk result (λ r. Passes g.VarList level (var_list_elements (var_list_of r.0)) marks.now r.1.now) }
     ensures halts { IfErr result (λ e. HaltsAt g.VarList level marks.now e) }
     ensures shorter { IfOk result (λ r. length r.1.now < length marks.now) }

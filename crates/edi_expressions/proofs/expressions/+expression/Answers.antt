@@ -14,11 +14,11 @@ use Rattle.edi_grammar.specs.Rules as g
 use Rattle.edi_grammar.specs.Edison.{edison}
 use Rattle.edi_phrases.specs.Words.{at_line}
 use Rattle.edi_phrases.proofs.Moves.{waits, over_mark, over_end, over_part, into, written, lacks, refused, halts}
+use Rattle.edi_phrases.proofs.Pushes.{one_more, separated, separated_halts, repeated, repeated_halts}
 use Rattle.edi_phrases.proofs.Opened.{over_front, open_front}
 use Rattle.std.proofs.lemmas.Int.{to_z-of_z}
 use mir.Syntax.{w16}
 use Rattle.edi_phrases.proofs.Fronts.{apart}
-use Rattle.edi_expressions.proofs.Pushes as push
 use Rattle.edi_expressions.proofs.Operators as ops
 use Rattle.edi_expressions.proofs.expressions.+expression.Goals as goal
 
@@ -27,9 +27,6 @@ selector_openbracket = refl
 
 selector_period : rule_at edison g.Selector kind.Period ≡ Some (token kind.Period ∷ token kind.Name ∷ [])
 selector_period = refl
-
-exprs_comma : rule_at edison g.Exprs kind.Comma ≡ Some (token kind.Comma ∷ part g.Expr ∷ part g.Exprs ∷ [])
-exprs_comma = refl
 
 args_open : rule_at edison g.Args kind.Open ≡ Some (token kind.Open ∷ part g.Expr ∷ part g.Exprs ∷ token kind.Close ∷ item.level_end ∷ [])
 args_open = refl
@@ -85,15 +82,18 @@ parse_selector-returns-in-Some-clause-passes t c = written
 
 pub parse_selectors-returns-in_err-selector-clause-halts : goal.parse_selectors-returns-in_err-selector-clause-halts
 parse_selectors-returns-in_err-selector-clause-halts t c = let p = err_from_is_err_and c.from_residual.result c.from_residual.ensures.1 in
-    rw (p.1, p.2) (halts (into (part g.Selector ∷ part g.Selectors ∷ []) (c.loop-alloc.invariant.goes)
-    (ops.selectors_more (front c.loop-alloc.rest.now) (sym c.at_selector.ensures.exact ∙ c.loop-alloc-test.true))) (omega arith) c.in_err-selector.ensures.halts)
+    rw (p.1, p.2) (repeated_halts g.Selectors g.Selector
+    (ops.selectors_more (front c.loop-alloc.rest.now) (sym c.at_selector.ensures.exact ∙ c.loop-alloc-test.true)) c.loop-alloc.invariant.goes
+    c.in_err-selector.ensures.halts)
 
 pub parse_selectors-loop-alloc-preserved : goal.parse_selectors-loop-alloc-preserved
 parse_selectors-loop-alloc-preserved t c =
     record {
-      goes = written (over_part (into (part g.Selector ∷ part g.Selectors ∷ []) (c.loop-alloc.invariant.goes)
-          (ops.selectors_more (front c.loop-alloc.rest.now) (sym c.at_selector.ensures.exact ∙ c.loop-alloc-test.true))) c.in_ok-selector.ensures.passes
-          (omega arith)) (push.selectors_push view.selector_of c.loop-alloc.selectors.items c.push.new.self.items c.in_ok-selector.selector (search rules));
+      goes = repeated g.Selectors g.Selector (λ x. elements.selector_elements (view.selector_of x))
+          (λ l. elements.selectors_elements (view.selectors (map view.selector_of l))) (λ es. refl) (λ x l es. refl) c.loop-alloc.selectors.items
+          c.push.new.self.items c.in_ok-selector.selector (search rules)
+          (ops.selectors_more (front c.loop-alloc.rest.now) (sym c.at_selector.ensures.exact ∙ c.loop-alloc-test.true)) c.loop-alloc.invariant.goes
+          c.in_ok-selector.ensures.passes;
       shorter = omega (arith, c.loop-alloc.invariant.shorter, c.in_ok-selector.ensures.shorter);
     }
 
@@ -104,15 +104,14 @@ parse_selectors-returns-clause-passes t c = written
 
 pub parse_exprs-returns-in_err-expr-clause-halts : goal.parse_exprs-returns-in_err-expr-clause-halts
 parse_exprs-returns-in_err-expr-clause-halts t c = let p = err_from_is_err_and c.from_residual.result c.from_residual.ensures.1 in
-    rw (p.1, p.2) (halts (over_front g.Exprs is.Comma (just is.Comma) exprs_comma refl (refl, tt) (c.loop-behind_comma.invariant.goes) c.in-Some.ensures.found)
-    (omega arith) c.in_err-expr.ensures.halts)
+    rw (p.1, p.2) (separated_halts g.Exprs g.Expr is.Comma refl refl c.loop-behind_comma.invariant.goes c.in-Some.ensures.found c.in_err-expr.ensures.halts)
 
 pub parse_exprs-loop-behind_comma-preserved : goal.parse_exprs-loop-behind_comma-preserved
 parse_exprs-loop-behind_comma-preserved t c =
     record {
-      goes = written (over_part (over_front g.Exprs is.Comma (just is.Comma) exprs_comma refl (refl, tt) (c.loop-behind_comma.invariant.goes)
-          c.in-Some.ensures.found) c.in_ok-expr.ensures.passes (omega arith))
-          (push.exprs_push view.expr_of c.loop-behind_comma.exprs.items c.push.new.self.items c.in_ok-expr.expr (search rules));
+      goes = separated g.Exprs g.Expr is.Comma (λ x. elements.expr_elements (view.expr_of x)) (λ l. elements.exprs_elements (view.exprs (map view.expr_of l)))
+          (λ es. refl) (λ x l es. refl) refl refl c.loop-behind_comma.exprs.items c.push.new.self.items c.in_ok-expr.expr (search rules)
+          c.loop-behind_comma.invariant.goes c.in-Some.ensures.found c.in_ok-expr.ensures.passes;
       shorter = omega (arith, c.loop-behind_comma.invariant.shorter, c.in-Some.ensures.shorter, c.in_ok-expr.ensures.shorter);
     }
 
@@ -267,8 +266,8 @@ parse_multipliers-loop-operator-preserved t c =
           (ops.multipliers_at c.in-Some.operator c.in-Some.line _ _ c.in-Some.ensures.found)) (refl)) c.in-Some.operator c.in-Some.line c.in-Some.ensures.found)
           c.in_ok-factor.ensures.passes (omega arith))
           (λ es. ap (λ t. elements.multipliers_elements (view.multipliers (map view.multiplier_of c.loop-operator.multipliers.items))
-          (elements.multiplier_elements t es)) (sym c.make_multiplier.ensures.seen) ∙ push.multipliers_push view.multiplier_of c.loop-operator.multipliers.items
-          c.push.new.self.items c.make_multiplier.result (search rules) es);
+          (elements.multiplier_elements t es)) (sym c.make_multiplier.ensures.seen) ∙ one_more (λ x. elements.multiplier_elements (view.multiplier_of x)) (λ l. elements.multipliers_elements (view.multipliers (map view.multiplier_of l)))
+          (λ es. refl) (λ x l es. refl) c.loop-operator.multipliers.items c.push.new.self.items c.make_multiplier.result (search rules) es);
       shorter = omega (arith, c.loop-operator.invariant.shorter, c.in-Some.ensures.shorter, c.in_ok-factor.ensures.shorter);
     }
 
@@ -291,8 +290,8 @@ parse_addends-loop-operator-preserved t c =
           (into (part g.Addend ∷ part g.Addends ∷ []) (c.loop-operator.invariant.goes) (ops.addends_at c.in-Some.operator c.in-Some.line _ _ c.in-Some.ensures.found))
           (refl)) c.in-Some.operator c.in-Some.line c.in-Some.ensures.found) c.in_ok-term.ensures.passes (omega arith))
           (λ es. ap (λ t. elements.addends_elements (view.addends (map view.addend_of c.loop-operator.addends.items)) (elements.addend_elements t es))
-          (sym c.make_addend.ensures.seen) ∙ push.addends_push view.addend_of c.loop-operator.addends.items c.push.new.self.items c.make_addend.result (search rules)
-          es);
+          (sym c.make_addend.ensures.seen) ∙ one_more (λ x. elements.addend_elements (view.addend_of x)) (λ l. elements.addends_elements (view.addends (map view.addend_of l)))
+          (λ es. refl) (λ x l es. refl) c.loop-operator.addends.items c.push.new.self.items c.make_addend.result (search rules) es);
       shorter = omega (arith, c.loop-operator.invariant.shorter, c.in-Some.ensures.shorter, c.in_ok-term.ensures.shorter);
     }
 
