@@ -1,16 +1,8 @@
 -- The branches of a `cobegin`, one after the other.
 use Rattle.std.proofs.Common.{◌≡◌, ℕ, List, [], ◌∷◌, ◌++◌, map, refl, sym, ap, ◌∙◌}
 use Rattle.edi_lex.specs.declared.symbol.Symbol.TheVariants as is
-use Rattle.edi_lex.specs.declared.symbol.Mark.{Mark}
 use Rattle.edi_tree.specs.View.{ClosedBranch, branches}
 use Rattle.edi_tree.specs.Levels.{Element, level_end, kept, branch_elements, branches_elements}
-use Rattle.edi_grammar.specs.Rules.{Sort}
-use Rattle.edi_phrases.specs.declared.stop.Stop.TheVariants as stop
-use Rattle.edi_phrases.specs.Stopped.{HaltsAt}
-use Rattle.edi_phrases.proofs.Moves as moves
-
-pub no_memory : (k : Sort) (n : ℕ) (p : List Mark) → HaltsAt k n p stop.NoMemory
-no_memory k n p = moves.no_memory k n p
 
 -- the elements of the branches behind one that is closed on this line, in front of others
 abbrev pub also_branches : ℕ → List ClosedBranch → List Element → List Element

@@ -1,3 +1,3 @@
 pub mod Branches
-pub mod Pushes
+pub mod Guards
 pub mod Choices

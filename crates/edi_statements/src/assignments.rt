@@ -1,4 +1,5 @@
 //! Assignments and calls.
+#![tactic(auto, using(edi_phrases::proofs::Moves::no_memory))]
 
 ghost use Rattle.std.specs.Prelude.{◌≡◌, [], ◌∷◌, ◌<◌, length, IfOk, IfErr};
 ghost use Rattle.edi_tree.specs.View.{statement_of};
@@ -13,7 +14,7 @@ ghost use Rattle.edi_phrases.specs.Stopped.{HaltsAt};
 use crate::layers::{make_assignment, make_call, make_lone_call};
 use edi_expressions::{parse_args, parse_expr, parse_selectors};
 use edi_lex::{Mark, Symbol};
-use edi_phrases::{Stop, at, expect, parse_name};
+use edi_phrases::{Parsed, at, expect, parse_name};
 use edi_tree::{Root, Statement};
 use std::alloc::Global;
 
@@ -31,12 +32,7 @@ fn at_assignment(marks: &[Mark]) -> bool
 }
 
 /// `Name Args | Name { "." Name | "[" Expr "]" } ":=" Expr | Name`, where a name is in front, and the marks behind it.
-#[tactic(auto, using(crate::proofs::Branches::no_memory))]
-pub fn parse_named<'a>(
-    alloc: Global,
-    marks: &'a [Mark],
-    level: u16,
-) -> Result<(Statement, &'a [Mark]), Stop<'a>>
+pub fn parse_named<'a>(alloc: Global, marks: &'a [Mark], level: u16) -> Parsed<'a, Statement>
     requires chosen { front marks.now ≡ kind.Name }
     ensures passes { IfOk result (λ r. Passes g.Statement level (statement_elements (statement_of r.0)) marks.now r.1.now) }
     ensures halts { IfErr result (λ e. HaltsAt g.Statement level marks.now e) }
@@ -58,12 +54,7 @@ pub fn parse_named<'a>(
 }
 
 /// `"val" Name { "." Name | "[" Expr "]" } ":=" Expr`, where `val` is in front, and the marks behind it.
-#[tactic(auto, using(crate::proofs::Branches::no_memory))]
-pub fn parse_val<'a>(
-    alloc: Global,
-    marks: &'a [Mark],
-    level: u16,
-) -> Result<(Statement, &'a [Mark]), Stop<'a>>
+pub fn parse_val<'a>(alloc: Global, marks: &'a [Mark], level: u16) -> Parsed<'a, Statement>
     requires chosen { front marks.now ≡ kind.Val }
     ensures passes { IfOk result (λ r. Passes g.Statement level (statement_elements (statement_of r.0)) marks.now r.1.now) }
     ensures halts { IfErr result (λ e. HaltsAt g.Statement level marks.now e) }

@@ -15,7 +15,9 @@ ghost use Rattle.edi_tree.specs.View.{
   statement_of,
   statements_of,
 };
+ghost use Rattle.edi_statements.specs.Guards.{guarded};
 
+use edi_lex::Symbol;
 use edi_tree::{
     Args, Assignment, Branch, Branches, Call, Cobegin, Condition, Conditions, Constant, Else, Expr,
     List, Name, Root, Selectors, Statement, Statements, Variable, When,
@@ -57,25 +59,16 @@ pub fn make_lone_call(name: Name) -> Statement
     Statement::Call(Call { name, args })
 }
 
-/// `"if" Conditions "end"`
-pub fn make_if(conditions: Conditions) -> Statement
-    ensures seen { statement_of result ≡ tree.if_statement (conditions_of conditions) }
+/// `"if" Conditions "end" | "while" Conditions "end" | "when" Conditions "end"`, by the symbol that begins it. The line is
+/// that of the symbol, which only a `when` keeps.
+pub fn make_guarded(guard: &Symbol, line: u16, conditions: Conditions) -> Statement
+    ensures seen { statement_of result ≡ guarded guard.now line (conditions_of conditions) }
 {
-    Statement::If(conditions)
-}
-
-/// `"while" Conditions "end"`
-pub fn make_while(conditions: Conditions) -> Statement
-    ensures seen { statement_of result ≡ tree.while_statement (conditions_of conditions) }
-{
-    Statement::While(conditions)
-}
-
-/// `"when" Conditions "end"`
-pub fn make_when(line: u16, conditions: Conditions) -> Statement
-    ensures seen { statement_of result ≡ tree.when_statement line (conditions_of conditions) }
-{
-    Statement::When(When { line, conditions })
+    match guard {
+        Symbol::If => Statement::If(conditions),
+        Symbol::While => Statement::While(conditions),
+        _ => Statement::When(When { line, conditions }),
+    }
 }
 
 /// `"cobegin" Branch { "also" Branch } "end"`

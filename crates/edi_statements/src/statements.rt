@@ -1,25 +1,27 @@
 //! Statements, and lists of statements.
+#![tactic(auto, using(edi_phrases::proofs::Moves::no_memory))]
 
-ghost use Rattle.std.specs.Prelude.{◌≡◌, [], ◌∷◌, ◌<◌, ◌≤◌, false, length, IfOk, IfErr};
+ghost use Rattle.std.specs.Prelude.{◌≡◌, [], ◌∷◌, ◌<◌, ◌≤◌, true, false, length, IfOk, IfErr};
 ghost use Rattle.edi_tree.specs.View.{branch_of, condition_of, conditions_of, else_of, list_of, statement_of, statements_of};
 ghost use Rattle.edi_tree.specs.Levels.{branch_elements, condition_elements, conditions_elements, else_elements, list_elements, statement_elements};
 ghost use Rattle.edi_tree.specs.Levels.{statements_elements};
 ghost use Rattle.edi_grammar.specs.Kinds as kind;
-ghost use Rattle.edi_grammar.specs.Kind.{front};
+ghost use Rattle.edi_grammar.specs.Kind.{front, kind_of};
 ghost use Rattle.edi_grammar.specs.Parser.{has};
 ghost use Rattle.edi_grammar.specs.Rules as g;
+ghost use Rattle.edi_phrases.specs.Words.{is_word};
 ghost use Rattle.edi_phrases.specs.Parses.{Passes};
 ghost use Rattle.edi_phrases.specs.Stopped.{HaltsAt};
+ghost use Rattle.edi_statements.specs.Guards.{is_guard};
 ghost use Rattle.edi_statements.specs.Lines.{front_line};
 
 use crate::assignments::{parse_named, parse_val};
 use crate::layers::{
-    make_branch, make_cobegin, make_condition, make_conditions, make_if, make_list, make_skip,
-    make_when, make_while,
+    make_branch, make_cobegin, make_condition, make_conditions, make_guarded, make_list, make_skip,
 };
 use edi_expressions::parse_expr;
 use edi_lex::{Mark, Symbol};
-use edi_phrases::{Stop, at, at_name, eat, expect, open, parse_constant};
+use edi_phrases::{Parsed, at, at_name, eat, expect, open, parse_constant};
 use edi_tree::{Branch, Condition, Conditions, Else, List, Sequence, Statement, Statements};
 use std::alloc::Global;
 
@@ -34,13 +36,8 @@ fn line_in_front(marks: &[Mark]) -> u16
 }
 
 /// `Expr "do" List`, and the marks behind it.
-#[tactic(auto, using(crate::proofs::Branches::no_memory))]
 #[cycle(statement)]
-fn parse_condition<'a>(
-    alloc: Global,
-    marks: &'a [Mark],
-    level: u16,
-) -> Result<(Condition, &'a [Mark]), Stop<'a>>
+fn parse_condition<'a>(alloc: Global, marks: &'a [Mark], level: u16) -> Parsed<'a, Condition>
     ensures passes { IfOk result (λ r. Passes g.Condition level (condition_elements (condition_of r.0)) marks.now r.1.now) }
     ensures halts { IfErr result (λ e. HaltsAt g.Condition level marks.now e) }
     ensures shorter { IfOk result (λ r. length r.1.now < length marks.now) }
@@ -52,13 +49,8 @@ fn parse_condition<'a>(
 }
 
 /// `{ "else" Expr "do" List }`, and the marks behind it.
-#[tactic(auto, using(crate::proofs::Branches::no_memory))]
 #[cycle(statement)]
-fn parse_else<'a>(
-    alloc: Global,
-    marks: &'a [Mark],
-    level: u16,
-) -> Result<(Else, &'a [Mark]), Stop<'a>>
+fn parse_else<'a>(alloc: Global, marks: &'a [Mark], level: u16) -> Parsed<'a, Else>
     ensures passes { IfOk result (λ r. Passes g.Else level (else_elements (else_of r.0)) marks.now r.1.now) }
     ensures halts { IfErr result (λ e. HaltsAt g.Else level marks.now e) }
     ensures shorter { IfOk result (λ r. length r.1.now ≤ length marks.now) }
@@ -74,13 +66,8 @@ fn parse_else<'a>(
 }
 
 /// `Expr "do" List { "else" Expr "do" List }`, and the marks behind it.
-#[tactic(auto, using(crate::proofs::Branches::no_memory))]
 #[cycle(statement)]
-fn parse_conditions<'a>(
-    alloc: Global,
-    marks: &'a [Mark],
-    level: u16,
-) -> Result<(Conditions, &'a [Mark]), Stop<'a>>
+fn parse_conditions<'a>(alloc: Global, marks: &'a [Mark], level: u16) -> Parsed<'a, Conditions>
     ensures passes { IfOk result (λ r. Passes g.Conditions level (conditions_elements (conditions_of r.0)) marks.now r.1.now) }
     ensures halts { IfErr result (λ e. HaltsAt g.Conditions level marks.now e) }
     ensures shorter { IfOk result (λ r. length r.1.now < length marks.now) }
@@ -90,71 +77,30 @@ fn parse_conditions<'a>(
     Ok((make_conditions(first, more), rest))
 }
 
-/// `"if" Conditions "end"`, where `if` is in front, and the marks behind it.
-#[tactic(auto, using(crate::proofs::Branches::no_memory))]
+/// `Conditions "end"` behind this `if`, `while` or `when`, which must be in front, and the marks behind it.
 #[cycle(statement)]
-fn parse_if<'a>(
+fn parse_guarded<'a>(
     alloc: Global,
     marks: &'a [Mark],
+    wanted: &Symbol,
     level: u16,
-) -> Result<(Statement, &'a [Mark]), Stop<'a>>
-    requires chosen { front marks.now ≡ kind.If }
+) -> Parsed<'a, Statement>
+    requires word { is_word wanted.now ≡ true }
+    requires guard { is_guard wanted.now ≡ true }
+    requires chosen { front marks.now ≡ kind_of wanted.now }
     ensures passes { IfOk result (λ r. Passes g.Statement level (statement_elements (statement_of r.0)) marks.now r.1.now) }
     ensures halts { IfErr result (λ e. HaltsAt g.Statement level marks.now e) }
     ensures shorter { IfOk result (λ r. length r.1.now < length marks.now) }
 {
-    let (_, behind_if) = open(marks, &Symbol::If, level)?;
-    let (conditions, behind_conditions) = parse_conditions(alloc, behind_if, level + 1)?;
+    let (line, behind_guard) = open(marks, wanted, level)?;
+    let (conditions, behind_conditions) = parse_conditions(alloc, behind_guard, level + 1)?;
     let (_, rest) = expect(behind_conditions, &Symbol::End)?;
-    Ok((make_if(conditions), rest))
-}
-
-/// `"while" Conditions "end"`, where `while` is in front, and the marks behind it.
-#[tactic(auto, using(crate::proofs::Branches::no_memory))]
-#[cycle(statement)]
-fn parse_while<'a>(
-    alloc: Global,
-    marks: &'a [Mark],
-    level: u16,
-) -> Result<(Statement, &'a [Mark]), Stop<'a>>
-    requires chosen { front marks.now ≡ kind.While }
-    ensures passes { IfOk result (λ r. Passes g.Statement level (statement_elements (statement_of r.0)) marks.now r.1.now) }
-    ensures halts { IfErr result (λ e. HaltsAt g.Statement level marks.now e) }
-    ensures shorter { IfOk result (λ r. length r.1.now < length marks.now) }
-{
-    let (_, behind_while) = open(marks, &Symbol::While, level)?;
-    let (conditions, behind_conditions) = parse_conditions(alloc, behind_while, level + 1)?;
-    let (_, rest) = expect(behind_conditions, &Symbol::End)?;
-    Ok((make_while(conditions), rest))
-}
-
-/// `"when" Conditions "end"`, where `when` is in front, and the marks behind it.
-#[tactic(auto, using(crate::proofs::Branches::no_memory))]
-#[cycle(statement)]
-fn parse_when<'a>(
-    alloc: Global,
-    marks: &'a [Mark],
-    level: u16,
-) -> Result<(Statement, &'a [Mark]), Stop<'a>>
-    requires chosen { front marks.now ≡ kind.When }
-    ensures passes { IfOk result (λ r. Passes g.Statement level (statement_elements (statement_of r.0)) marks.now r.1.now) }
-    ensures halts { IfErr result (λ e. HaltsAt g.Statement level marks.now e) }
-    ensures shorter { IfOk result (λ r. length r.1.now < length marks.now) }
-{
-    let (line, behind_when) = open(marks, &Symbol::When, level)?;
-    let (conditions, behind_conditions) = parse_conditions(alloc, behind_when, level + 1)?;
-    let (_, rest) = expect(behind_conditions, &Symbol::End)?;
-    Ok((make_when(line, conditions), rest))
+    Ok((make_guarded(wanted, line, conditions), rest))
 }
 
 /// `Constant "do" List`, and the marks behind it. The branch is closed on the line of the symbol behind it.
-#[tactic(auto, using(crate::proofs::Branches::no_memory))]
 #[cycle(statement)]
-fn parse_branch<'a>(
-    alloc: Global,
-    marks: &'a [Mark],
-    level: u16,
-) -> Result<(Branch, &'a [Mark]), Stop<'a>>
+fn parse_branch<'a>(alloc: Global, marks: &'a [Mark], level: u16) -> Parsed<'a, Branch>
     ensures passes { IfOk result (λ r. Passes g.Branch level (branch_elements (branch_of r.0).opened) marks.now r.1.now) }
     ensures closed { IfOk result (λ r. (branch_of r.0).end ≡ front_line r.1.now) }
     ensures halts { IfErr result (λ e. HaltsAt g.Branch level marks.now e) }
@@ -168,13 +114,8 @@ fn parse_branch<'a>(
 }
 
 /// `"cobegin" Branch { "also" Branch } "end"`, where no other statement is in front, and the marks behind it.
-#[tactic(auto, using(crate::proofs::Branches::no_memory))]
 #[cycle(statement)]
-fn parse_cobegin<'a>(
-    alloc: Global,
-    marks: &'a [Mark],
-    level: u16,
-) -> Result<(Statement, &'a [Mark]), Stop<'a>>
+fn parse_cobegin<'a>(alloc: Global, marks: &'a [Mark], level: u16) -> Parsed<'a, Statement>
     requires chosen { has (front marks.now) (kind.Skip ∷ kind.Name ∷ kind.Val ∷ kind.If ∷ kind.While ∷ kind.When ∷ []) ≡ false }
     ensures passes { IfOk result (λ r. Passes g.Statement level (statement_elements (statement_of r.0)) marks.now r.1.now) }
     ensures halts { IfErr result (λ e. HaltsAt g.Statement level marks.now e) }
@@ -195,13 +136,8 @@ fn parse_cobegin<'a>(
 }
 
 /// `"skip" | Assignment | Call | If | While | When | Cobegin`, and the marks behind it.
-#[tactic(auto, using(crate::proofs::Branches::no_memory))]
 #[cycle(statement)]
-fn parse_statement<'a>(
-    alloc: Global,
-    marks: &'a [Mark],
-    level: u16,
-) -> Result<(Statement, &'a [Mark]), Stop<'a>>
+fn parse_statement<'a>(alloc: Global, marks: &'a [Mark], level: u16) -> Parsed<'a, Statement>
     ensures passes { IfOk result (λ r. Passes g.Statement level (statement_elements (statement_of r.0)) marks.now r.1.now) }
     ensures halts { IfErr result (λ e. HaltsAt g.Statement level marks.now e) }
     ensures shorter { IfOk result (λ r. length r.1.now < length marks.now) }
@@ -216,25 +152,20 @@ fn parse_statement<'a>(
         return parse_val(alloc, marks, level);
     }
     if at(marks, &Symbol::If) {
-        return parse_if(alloc, marks, level);
+        return parse_guarded(alloc, marks, &Symbol::If, level);
     }
     if at(marks, &Symbol::While) {
-        return parse_while(alloc, marks, level);
+        return parse_guarded(alloc, marks, &Symbol::While, level);
     }
     if at(marks, &Symbol::When) {
-        return parse_when(alloc, marks, level);
+        return parse_guarded(alloc, marks, &Symbol::When, level);
     }
     parse_cobegin(alloc, marks, level)
 }
 
 /// `{ ";" Statement }`, and the marks behind it.
-#[tactic(auto, using(crate::proofs::Branches::no_memory))]
 #[cycle(statement)]
-fn parse_statements<'a>(
-    alloc: Global,
-    marks: &'a [Mark],
-    level: u16,
-) -> Result<(Statements, &'a [Mark]), Stop<'a>>
+fn parse_statements<'a>(alloc: Global, marks: &'a [Mark], level: u16) -> Parsed<'a, Statements>
     ensures passes { IfOk result (λ r. Passes g.Statements level (statements_elements (statements_of r.0)) marks.now r.1.now) }
     ensures halts { IfErr result (λ e. HaltsAt g.Statements level marks.now e) }
     ensures shorter { IfOk result (λ r. length r.1.now ≤ length marks.now) }
@@ -250,13 +181,8 @@ fn parse_statements<'a>(
 }
 
 /// `Statement { ";" Statement }`, and the marks behind it.
-#[tactic(auto, using(crate::proofs::Branches::no_memory))]
 #[cycle(statement)]
-pub fn parse_list<'a>(
-    alloc: Global,
-    marks: &'a [Mark],
-    level: u16,
-) -> Result<(List, &'a [Mark]), Stop<'a>>
+pub fn parse_list<'a>(alloc: Global, marks: &'a [Mark], level: u16) -> Parsed<'a, List>
     ensures passes { IfOk result (λ r. Passes g.StatementList level (list_elements (list_of r.0)) marks.now r.1.now) }
     ensures halts { IfErr result (λ e. HaltsAt g.StatementList level marks.now e) }
     ensures shorter { IfOk result (λ r. length r.1.now < length marks.now) }

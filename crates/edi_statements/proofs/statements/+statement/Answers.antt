@@ -9,29 +9,18 @@ use Rattle.edi_grammar.specs.Grammar as item
 use Rattle.edi_grammar.specs.Grammar.{token, part}
 use Rattle.edi_grammar.specs.Parser.{rule_at}
 use Rattle.edi_grammar.specs.Kinds as kind
-use Rattle.edi_grammar.specs.Kind.{front}
+use Rattle.edi_grammar.specs.Kind.{kind_of, front}
 use Rattle.edi_grammar.specs.Rules as g
 use Rattle.edi_grammar.specs.Edison.{edison}
 use Rattle.edi_phrases.specs.Words.{at_line}
 use Rattle.edi_phrases.proofs.Moves.{waits, over_mark, over_end, over_part, into, written, lacks, refused, halts}
 use Rattle.edi_phrases.proofs.Opened.{over_front, open_front}
 use Rattle.edi_phrases.proofs.Fronts.{apart}
+use Rattle.edi_phrases.proofs.Pushes.{separated, separated_halts}
 use Rattle.edi_statements.specs.Lines as lines
+use Rattle.edi_statements.proofs.Guards.{guarded_rule, guard_opens, behind_guard, guarded_elements}
 use Rattle.edi_statements.proofs.Branches.{also_branches, last_end, also_push, last_push, ended}
-use Rattle.edi_statements.proofs.Pushes as push
 use Rattle.edi_statements.proofs.statements.+statement.Goals as goal
-
-else_else : rule_at edison g.Else kind.Else ≡ Some (token kind.Else ∷ part g.Condition ∷ part g.Else ∷ [])
-else_else = refl
-
-statement_if : rule_at edison g.Statement kind.If ≡ Some (token kind.If ∷ part g.Conditions ∷ token kind.End ∷ item.level_end ∷ [])
-statement_if = refl
-
-statement_while : rule_at edison g.Statement kind.While ≡ Some (token kind.While ∷ part g.Conditions ∷ token kind.End ∷ item.level_end ∷ [])
-statement_while = refl
-
-statement_when : rule_at edison g.Statement kind.When ≡ Some (token kind.When ∷ part g.Conditions ∷ token kind.End ∷ item.level_end ∷ [])
-statement_when = refl
 
 statement_cobegin : rule_at edison g.Statement kind.Cobegin ≡ Some (token kind.Cobegin ∷ part g.Branch ∷ part g.Branches ∷ item.level_end ∷ [])
 statement_cobegin = refl
@@ -44,9 +33,6 @@ branches_end = refl
 
 statement_skip : rule_at edison g.Statement kind.Skip ≡ Some (token kind.Skip ∷ [])
 statement_skip = refl
-
-statements_semicolon : rule_at edison g.Statements kind.Semicolon ≡ Some (token kind.Semicolon ∷ part g.Statement ∷ part g.Statements ∷ [])
-statements_semicolon = refl
 
 pub parse_condition-returns-in_err-expr-clause-halts : goal.parse_condition-returns-in_err-expr-clause-halts
 parse_condition-returns-in_err-expr-clause-halts t c = let p = err_from_is_err_and c.from_residual.result c.from_residual.ensures.1 in
@@ -73,15 +59,15 @@ parse_condition-returns-clause-passes t c = written
 
 pub parse_else-returns-in_err-condition-clause-halts : goal.parse_else-returns-in_err-condition-clause-halts
 parse_else-returns-in_err-condition-clause-halts t c = let p = err_from_is_err_and c.from_residual.result c.from_residual.ensures.1 in
-    rw (p.1, p.2) (halts (over_front g.Else is.Else (just is.Else) else_else refl (refl, tt) (c.loop-behind_else.invariant.goes) c.in-Some.ensures.found)
-    (omega arith) c.in_err-condition.ensures.halts)
+    rw (p.1, p.2) (separated_halts g.Else g.Condition is.Else refl refl c.loop-behind_else.invariant.goes c.in-Some.ensures.found c.in_err-condition.ensures.halts)
 
 pub parse_else-loop-behind_else-preserved : goal.parse_else-loop-behind_else-preserved
 parse_else-loop-behind_else-preserved t c =
     record {
-      goes = written (over_part (over_front g.Else is.Else (just is.Else) else_else refl (refl, tt) (c.loop-behind_else.invariant.goes)
-          c.in-Some.ensures.found) c.in_ok-condition.ensures.passes (omega arith))
-          (push.else_push view.condition_of c.loop-behind_else.conditions.items c.push.new.self.items c.in_ok-condition.condition (search rules));
+      goes = separated g.Else g.Condition is.Else (λ x. elements.condition_elements (view.condition_of x))
+          (λ l. elements.else_elements (view.else_list (map view.condition_of l))) (λ es. refl) (λ x l es. refl) refl refl c.loop-behind_else.conditions.items
+          c.push.new.self.items c.in_ok-condition.condition (search rules) c.loop-behind_else.invariant.goes c.in-Some.ensures.found
+          c.in_ok-condition.ensures.passes;
       shorter = omega (arith, c.loop-behind_else.invariant.shorter, c.in-Some.ensures.shorter, c.in_ok-condition.ensures.shorter);
     }
 
@@ -105,74 +91,30 @@ parse_conditions-returns-clause-passes t c = written
     (over_part (over_part (into (part g.Condition ∷ part g.Else ∷ []) (waits g.Conditions _ _) (refl)) c.in_ok-first.ensures.passes (omega arith))
     c.in_ok-more.ensures.passes (omega arith)) (λ es. ap (λ t. elements.conditions_elements t es) (sym c.make_conditions.ensures.seen))
 
-pub parse_if-returns-in_err-behind_if-clause-halts : goal.parse_if-returns-in_err-behind_if-clause-halts
-parse_if-returns-in_err-behind_if-clause-halts t c = let p = err_from_is_err_and c.from_residual.result c.from_residual.ensures.1 in
-    rw (p.1, p.2) (refused (into (token kind.If ∷ part g.Conditions ∷ token kind.End ∷ item.level_end ∷ []) (waits g.Statement _ _)
-    (ap (λ a. rule_at edison g.Statement a) c.requires.chosen ∙ statement_if)) refl (omega arith) c.in_err-behind_if.ensures.none)
+pub parse_guarded-returns-in_err-line-clause-halts : goal.parse_guarded-returns-in_err-line-clause-halts
+parse_guarded-returns-in_err-line-clause-halts t c = let p = err_from_is_err_and c.from_residual.result c.from_residual.ensures.1 in
+    rw (p.1, p.2) (refused (into (token (kind_of c.args.wanted.now) ∷ part g.Conditions ∷ token kind.End ∷ item.level_end ∷ []) (waits g.Statement _ _)
+    (ap (λ a. rule_at edison g.Statement a) c.requires.chosen ∙ guarded_rule c.args.wanted.now c.requires.guard))
+    (guard_opens c.args.wanted.now c.requires.guard) (omega arith) c.in_err-line.ensures.none)
 
-pub parse_if-returns-in_err-conditions-clause-halts : goal.parse_if-returns-in_err-conditions-clause-halts
-parse_if-returns-in_err-conditions-clause-halts t c = let p = err_from_is_err_and c.from_residual-in_err-conditions.result
+pub parse_guarded-returns-in_err-conditions-clause-halts : goal.parse_guarded-returns-in_err-conditions-clause-halts
+parse_guarded-returns-in_err-conditions-clause-halts t c = let p = err_from_is_err_and c.from_residual-in_err-conditions.result
     c.from_residual-in_err-conditions.ensures.1 in
-    rw (p.1, p.2) (halts (open_front g.Statement is.If (just is.If) statement_if (omega (arith, c.in_ok-behind_if.ensures.room)) (refl, tt)
-    (waits g.Statement _ _) c.in_ok-behind_if.ensures.found) (omega arith) c.in_err-conditions.ensures.halts)
+    rw (p.1, p.2) (halts (behind_guard c.args.wanted.now c.requires.guard c.in_ok-line.ensures.room c.in_ok-line.ensures.found) (omega arith)
+    c.in_err-conditions.ensures.halts)
 
-pub parse_if-returns-in_err-rest-clause-halts : goal.parse_if-returns-in_err-rest-clause-halts
-parse_if-returns-in_err-rest-clause-halts t c = let p = err_from_is_err_and c.from_residual-in_err-rest.result c.from_residual-in_err-rest.ensures.1 in
-    rw (p.1, p.2) (lacks (over_part (open_front g.Statement is.If (just is.If) statement_if (omega (arith, c.in_ok-behind_if.ensures.room)) (refl, tt)
-    (waits g.Statement _ _) c.in_ok-behind_if.ensures.found) c.in_ok-conditions.ensures.passes (omega arith)) c.in_err-rest.ensures.none)
+pub parse_guarded-returns-in_err-rest-clause-halts : goal.parse_guarded-returns-in_err-rest-clause-halts
+parse_guarded-returns-in_err-rest-clause-halts t c = let p = err_from_is_err_and c.from_residual-in_err-rest.result c.from_residual-in_err-rest.ensures.1 in
+    rw (p.1, p.2) (lacks (over_part (behind_guard c.args.wanted.now c.requires.guard c.in_ok-line.ensures.room c.in_ok-line.ensures.found)
+    c.in_ok-conditions.ensures.passes (omega arith)) c.in_err-rest.ensures.none)
 
-pub parse_if-returns-clause-passes : goal.parse_if-returns-clause-passes
-parse_if-returns-clause-passes t c = written
+pub parse_guarded-returns-clause-passes : goal.parse_guarded-returns-clause-passes
+parse_guarded-returns-clause-passes t c = written
     (over_end (over_mark (just is.End) (at_line is.End c.in_ok-rest.field-0-0)
-    (over_part (open_front g.Statement is.If (just is.If) statement_if (omega (arith, c.in_ok-behind_if.ensures.room)) (refl, tt) (waits g.Statement _ _)
-    c.in_ok-behind_if.ensures.found) c.in_ok-conditions.ensures.passes (omega arith)) c.in_ok-rest.ensures.found refl refl (refl, tt)))
-    (λ es. ap (λ t. elements.statement_elements t es) (sym c.make_if.ensures.seen))
-
-pub parse_while-returns-in_err-behind_while-clause-halts : goal.parse_while-returns-in_err-behind_while-clause-halts
-parse_while-returns-in_err-behind_while-clause-halts t c = let p = err_from_is_err_and c.from_residual.result c.from_residual.ensures.1 in
-    rw (p.1, p.2) (refused (into (token kind.While ∷ part g.Conditions ∷ token kind.End ∷ item.level_end ∷ []) (waits g.Statement _ _)
-    (ap (λ a. rule_at edison g.Statement a) c.requires.chosen ∙ statement_while)) refl (omega arith) c.in_err-behind_while.ensures.none)
-
-pub parse_while-returns-in_err-conditions-clause-halts : goal.parse_while-returns-in_err-conditions-clause-halts
-parse_while-returns-in_err-conditions-clause-halts t c = let p = err_from_is_err_and c.from_residual-in_err-conditions.result
-    c.from_residual-in_err-conditions.ensures.1 in
-    rw (p.1, p.2) (halts (open_front g.Statement is.While (just is.While) statement_while (omega (arith, c.in_ok-behind_while.ensures.room)) (refl, tt)
-    (waits g.Statement _ _) c.in_ok-behind_while.ensures.found) (omega arith) c.in_err-conditions.ensures.halts)
-
-pub parse_while-returns-in_err-rest-clause-halts : goal.parse_while-returns-in_err-rest-clause-halts
-parse_while-returns-in_err-rest-clause-halts t c = let p = err_from_is_err_and c.from_residual-in_err-rest.result c.from_residual-in_err-rest.ensures.1 in
-    rw (p.1, p.2) (lacks (over_part (open_front g.Statement is.While (just is.While) statement_while (omega (arith, c.in_ok-behind_while.ensures.room))
-    (refl, tt) (waits g.Statement _ _) c.in_ok-behind_while.ensures.found) c.in_ok-conditions.ensures.passes (omega arith)) c.in_err-rest.ensures.none)
-
-pub parse_while-returns-clause-passes : goal.parse_while-returns-clause-passes
-parse_while-returns-clause-passes t c = written
-    (over_end (over_mark (just is.End) (at_line is.End c.in_ok-rest.field-0-0)
-    (over_part (open_front g.Statement is.While (just is.While) statement_while (omega (arith, c.in_ok-behind_while.ensures.room)) (refl, tt)
-    (waits g.Statement _ _) c.in_ok-behind_while.ensures.found) c.in_ok-conditions.ensures.passes (omega arith)) c.in_ok-rest.ensures.found refl refl
-    (refl, tt))) (λ es. ap (λ t. elements.statement_elements t es) (sym c.make_while.ensures.seen))
-
-pub parse_when-returns-in_err-line-clause-halts : goal.parse_when-returns-in_err-line-clause-halts
-parse_when-returns-in_err-line-clause-halts t c = let p = err_from_is_err_and c.from_residual.result c.from_residual.ensures.1 in
-    rw (p.1, p.2) (refused (into (token kind.When ∷ part g.Conditions ∷ token kind.End ∷ item.level_end ∷ []) (waits g.Statement _ _)
-    (ap (λ a. rule_at edison g.Statement a) c.requires.chosen ∙ statement_when)) refl (omega arith) c.in_err-line.ensures.none)
-
-pub parse_when-returns-in_err-conditions-clause-halts : goal.parse_when-returns-in_err-conditions-clause-halts
-parse_when-returns-in_err-conditions-clause-halts t c = let p = err_from_is_err_and c.from_residual-in_err-conditions.result
-    c.from_residual-in_err-conditions.ensures.1 in
-    rw (p.1, p.2) (halts (open_front g.Statement is.When (on is.When c.in_ok-line.line) statement_when (omega (arith, c.in_ok-line.ensures.room)) (refl, refl)
-    (waits g.Statement _ _) c.in_ok-line.ensures.found) (omega arith) c.in_err-conditions.ensures.halts)
-
-pub parse_when-returns-in_err-rest-clause-halts : goal.parse_when-returns-in_err-rest-clause-halts
-parse_when-returns-in_err-rest-clause-halts t c = let p = err_from_is_err_and c.from_residual-in_err-rest.result c.from_residual-in_err-rest.ensures.1 in
-    rw (p.1, p.2) (lacks (over_part (open_front g.Statement is.When (on is.When c.in_ok-line.line) statement_when (omega (arith, c.in_ok-line.ensures.room))
-    (refl, refl) (waits g.Statement _ _) c.in_ok-line.ensures.found) c.in_ok-conditions.ensures.passes (omega arith)) c.in_err-rest.ensures.none)
-
-pub parse_when-returns-clause-passes : goal.parse_when-returns-clause-passes
-parse_when-returns-clause-passes t c = written
-    (over_end (over_mark (just is.End) (at_line is.End c.in_ok-rest.field-0-0)
-    (over_part (open_front g.Statement is.When (on is.When c.in_ok-line.line) statement_when (omega (arith, c.in_ok-line.ensures.room)) (refl, refl)
-    (waits g.Statement _ _) c.in_ok-line.ensures.found) c.in_ok-conditions.ensures.passes (omega arith)) c.in_ok-rest.ensures.found refl refl (refl, tt)))
-    (λ es. ap (λ t. elements.statement_elements t es) (sym c.make_when.ensures.seen))
+    (over_part (behind_guard c.args.wanted.now c.requires.guard c.in_ok-line.ensures.room c.in_ok-line.ensures.found) c.in_ok-conditions.ensures.passes
+    (omega arith)) c.in_ok-rest.ensures.found refl refl (refl, tt)))
+    (λ es. guarded_elements c.args.wanted.now c.in_ok-line.line (view.conditions_of c.in_ok-conditions.conditions) c.requires.guard es
+    ∙ ap (λ t. elements.statement_elements t es) (sym c.make_guarded.ensures.seen))
 
 pub parse_branch-returns-in_err-constant-clause-halts : goal.parse_branch-returns-in_err-constant-clause-halts
 parse_branch-returns-in_err-constant-clause-halts t c = let p = err_from_is_err_and c.from_residual.result c.from_residual.ensures.1 in
@@ -270,15 +212,16 @@ parse_statement-returns-in-Some-clause-passes t c = written
 
 pub parse_statements-returns-in_err-statement-clause-halts : goal.parse_statements-returns-in_err-statement-clause-halts
 parse_statements-returns-in_err-statement-clause-halts t c = let p = err_from_is_err_and c.from_residual.result c.from_residual.ensures.1 in
-    rw (p.1, p.2) (halts (over_front g.Statements is.Semicolon (just is.Semicolon) statements_semicolon refl (refl, tt) (c.loop-behind_semicolon.invariant.goes)
-    c.in-Some.ensures.found) (omega arith) c.in_err-statement.ensures.halts)
+    rw (p.1, p.2) (separated_halts g.Statements g.Statement is.Semicolon refl refl c.loop-behind_semicolon.invariant.goes c.in-Some.ensures.found
+    c.in_err-statement.ensures.halts)
 
 pub parse_statements-loop-behind_semicolon-preserved : goal.parse_statements-loop-behind_semicolon-preserved
 parse_statements-loop-behind_semicolon-preserved t c =
     record {
-      goes = written (over_part (over_front g.Statements is.Semicolon (just is.Semicolon) statements_semicolon refl (refl, tt)
-          (c.loop-behind_semicolon.invariant.goes) c.in-Some.ensures.found) c.in_ok-statement.ensures.passes (omega arith))
-          (push.statements_push view.statement_of c.loop-behind_semicolon.statements.items c.push.new.self.items c.in_ok-statement.statement (search rules));
+      goes = separated g.Statements g.Statement is.Semicolon (λ x. elements.statement_elements (view.statement_of x))
+          (λ l. elements.statements_elements (view.statements (map view.statement_of l))) (λ es. refl) (λ x l es. refl) refl refl
+          c.loop-behind_semicolon.statements.items c.push.new.self.items c.in_ok-statement.statement (search rules) c.loop-behind_semicolon.invariant.goes
+          c.in-Some.ensures.found c.in_ok-statement.ensures.passes;
       shorter = omega (arith, c.loop-behind_semicolon.invariant.shorter, c.in-Some.ensures.shorter, c.in_ok-statement.ensures.shorter);
     }
 

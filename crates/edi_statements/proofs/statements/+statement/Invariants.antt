@@ -10,14 +10,8 @@ use Rattle.edi_statements.specs.Lines.{front_line}
 use Rattle.edi_statements.proofs.Branches.{also_branches, last_end}
 use Rattle.edi_statements.proofs.statements.+statement.Given as goal
 
-abbrev pub decreases-parse_if : goal.decreases-parse_if
-decreases-parse_if l = (64 - l.level) * 16 + 0
-
-abbrev pub decreases-parse_while : goal.decreases-parse_while
-decreases-parse_while l = (64 - l.level) * 16 + 0
-
-abbrev pub decreases-parse_when : goal.decreases-parse_when
-decreases-parse_when l = (64 - l.level) * 16 + 0
+abbrev pub decreases-parse_guarded : goal.decreases-parse_guarded
+decreases-parse_guarded l = (64 - l.level) * 16 + 0
 
 abbrev pub decreases-parse_cobegin : goal.decreases-parse_cobegin
 decreases-parse_cobegin l = (64 - l.level) * 16 + 0
