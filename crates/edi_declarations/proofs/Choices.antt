@@ -1,5 +1,5 @@
 -- The rule that is taken before a symbol of each kind.
-use Rattle.std.proofs.Common.{◌≡◌, ℕ, List, [], ◌∷◌, Bool, true, false, Some, refl, sym, ap, subst, if◌then◌else◌}
+use Rattle.std.proofs.Common.{◌≡◌, ℕ, List, [], ◌∷◌, ◌++◌, Bool, true, false, Some, refl, sym, ap, subst, if◌then◌else◌}
 use Rattle.std.proofs.lemmas.Bool.{eqb-true}
 use Rattle.std.specs.Prelude.{nat_eq}
 use Rattle.edi_grammar.specs.Grammar.{part, rule_no}
@@ -20,6 +20,11 @@ among P a (x ∷ xs) all h = by (among P a xs all.1) (nat_eq a x) refl h where
   by : (has a xs ≡ true → P a) → (b : Bool) → nat_eq a x ≡ b → (if b then true else has a xs) ≡ true → P a
   by more true f h = subst P (sym (eqb-true a x f)) all.0
   by more false f h = more h
+
+-- a kind that is not b is among these where it is among these and b
+pub without : (a b : ℕ) (xs : List ℕ) → nat_eq a b ≡ false → has a xs ≡ has a (xs ++ b ∷ [])
+without a b [] e = sym (ap (λ t. if t then true else false) e)
+without a b (x ∷ xs) e = ap (λ r. if nat_eq a x then true else r) (without a b xs e)
 
 pub item_type : (a : ℕ) → has a (first g.TypeDecl) ≡ true → rule_at edison g.Item a ≡ Some (part g.TypeDecl ∷ [])
 item_type a h = among (λ a. rule_at edison g.Item a ≡ Some (part g.TypeDecl ∷ [])) a (first g.TypeDecl) (refl, (refl, (refl, (refl, tt)))) h

@@ -1,5 +1,6 @@
 //! Procedures and modules, and what is declared in them. A level is the number of levels that are open where a part begins;
 //! at most 64 may be open.
+#![tactic(auto, using(edi_phrases::proofs::Moves::no_memory))]
 
 ghost use Rattle.std.specs.Prelude.{◌≡◌, [], ◌∷◌, ◌<◌, ◌≤◌, false, length, IfOk, IfErr};
 ghost use Rattle.edi_tree.specs.View.{procedure_of, item_of, module_of, member_of, members_of, declaration_of, declarations_of};
@@ -20,20 +21,15 @@ use crate::layers::{
 };
 use edi_headings::parse_head;
 use edi_lex::{Mark, Symbol};
-use edi_phrases::{Stop, at, at_type_decl, eat, expect, open};
+use edi_phrases::{Parsed, at, at_type_decl, eat, expect, open};
 use edi_statements::parse_list;
 use edi_tree::{Declaration, Declarations, Item, Member, Members, Module, Procedure, Sequence};
 use std::alloc::Global;
 
 /// `Heading { Declaration } "begin" List "end"`, and the marks behind it. The level is the number of levels that are open
 /// before its `proc`. Fails where another symbol stands, where a 65th level would open, and where memory is wanting.
-#[tactic(auto, using(crate::proofs::Pushes::no_memory))]
 #[cycle(declaration)]
-pub fn parse_procedure<'a>(
-    alloc: Global,
-    marks: &'a [Mark],
-    level: u16,
-) -> Result<(Procedure, &'a [Mark]), Stop<'a>>
+pub fn parse_procedure<'a>(alloc: Global, marks: &'a [Mark], level: u16) -> Parsed<'a, Procedure>
     ensures passes { IfOk result (λ r. Passes g.Procedure level (procedure_elements (procedure_of r.0)) marks.now r.1.now) }
     ensures halts { IfErr result (λ e. HaltsAt g.Procedure level marks.now e) }
     ensures shorter { IfOk result (λ r. length r.1.now < length marks.now) }
@@ -48,13 +44,8 @@ pub fn parse_procedure<'a>(
 }
 
 /// `Procedure`, where no other item is in front, and the marks behind it.
-#[tactic(auto, using(crate::proofs::Pushes::no_memory))]
 #[cycle(declaration)]
-fn parse_procedure_item<'a>(
-    alloc: Global,
-    marks: &'a [Mark],
-    level: u16,
-) -> Result<(Item, &'a [Mark]), Stop<'a>>
+fn parse_procedure_item<'a>(alloc: Global, marks: &'a [Mark], level: u16) -> Parsed<'a, Item>
     requires chosen { has (front marks.now) (kind.Const ∷ kind.Array ∷ kind.Enum ∷ kind.Record ∷ kind.Set ∷ kind.Var ∷ kind.Pre ∷ kind.Post ∷ []) ≡ false }
     ensures passes { IfOk result (λ r. Passes g.Item level (item_elements (item_of r.0)) marks.now r.1.now) }
     ensures halts { IfErr result (λ e. HaltsAt g.Item level marks.now e) }
@@ -65,13 +56,8 @@ fn parse_procedure_item<'a>(
 }
 
 /// `"post" Procedure`, where `post` is in front, and the marks behind it.
-#[tactic(auto, using(crate::proofs::Pushes::no_memory))]
 #[cycle(declaration)]
-fn parse_post<'a>(
-    alloc: Global,
-    marks: &'a [Mark],
-    level: u16,
-) -> Result<(Item, &'a [Mark]), Stop<'a>>
+fn parse_post<'a>(alloc: Global, marks: &'a [Mark], level: u16) -> Parsed<'a, Item>
     requires chosen { front marks.now ≡ kind.Post }
     ensures passes { IfOk result (λ r. Passes g.Item level (item_elements (item_of r.0)) marks.now r.1.now) }
     ensures halts { IfErr result (λ e. HaltsAt g.Item level marks.now e) }
@@ -83,13 +69,8 @@ fn parse_post<'a>(
 }
 
 /// `ConstList | TypeDecl | VarList | Procedure | Pre | Post`, and the marks behind it.
-#[tactic(auto, using(crate::proofs::Pushes::no_memory))]
 #[cycle(declaration)]
-fn parse_item<'a>(
-    alloc: Global,
-    marks: &'a [Mark],
-    level: u16,
-) -> Result<(Item, &'a [Mark]), Stop<'a>>
+fn parse_item<'a>(alloc: Global, marks: &'a [Mark], level: u16) -> Parsed<'a, Item>
     ensures passes { IfOk result (λ r. Passes g.Item level (item_elements (item_of r.0)) marks.now r.1.now) }
     ensures halts { IfErr result (λ e. HaltsAt g.Item level marks.now e) }
     ensures shorter { IfOk result (λ r. length r.1.now < length marks.now) }
@@ -113,13 +94,8 @@ fn parse_item<'a>(
 }
 
 /// `"module" { [ "*" ] Item | Module } "begin" List "end"`, and the marks behind it.
-#[tactic(auto, using(crate::proofs::Pushes::no_memory))]
 #[cycle(declaration)]
-fn parse_module<'a>(
-    alloc: Global,
-    marks: &'a [Mark],
-    level: u16,
-) -> Result<(Module, &'a [Mark]), Stop<'a>>
+fn parse_module<'a>(alloc: Global, marks: &'a [Mark], level: u16) -> Parsed<'a, Module>
     ensures passes { IfOk result (λ r. Passes g.Module level (module_elements (module_of r.0)) marks.now r.1.now) }
     ensures halts { IfErr result (λ e. HaltsAt g.Module level marks.now e) }
     ensures shorter { IfOk result (λ r. length r.1.now < length marks.now) }
@@ -133,13 +109,8 @@ fn parse_module<'a>(
 }
 
 /// `[ "*" ] Item | Module`, and the marks behind it.
-#[tactic(auto, using(crate::proofs::Pushes::no_memory))]
 #[cycle(declaration)]
-fn parse_member<'a>(
-    alloc: Global,
-    marks: &'a [Mark],
-    level: u16,
-) -> Result<(Member, &'a [Mark]), Stop<'a>>
+fn parse_member<'a>(alloc: Global, marks: &'a [Mark], level: u16) -> Parsed<'a, Member>
     ensures passes { IfOk result (λ r. Passes g.Member level (member_elements (member_of r.0)) marks.now r.1.now) }
     ensures halts { IfErr result (λ e. HaltsAt g.Member level marks.now e) }
     ensures shorter { IfOk result (λ r. length r.1.now < length marks.now) }
@@ -157,13 +128,8 @@ fn parse_member<'a>(
 }
 
 /// `{ [ "*" ] Item | Module }`, and the marks behind it.
-#[tactic(auto, using(crate::proofs::Pushes::no_memory))]
 #[cycle(declaration)]
-fn parse_members<'a>(
-    alloc: Global,
-    marks: &'a [Mark],
-    level: u16,
-) -> Result<(Members, &'a [Mark]), Stop<'a>>
+fn parse_members<'a>(alloc: Global, marks: &'a [Mark], level: u16) -> Parsed<'a, Members>
     ensures passes { IfOk result (λ r. Passes g.Members level (members_elements (members_of r.0)) marks.now r.1.now) }
     ensures halts { IfErr result (λ e. HaltsAt g.Members level marks.now e) }
     ensures shorter { IfOk result (λ r. length r.1.now ≤ length marks.now) }
@@ -179,13 +145,8 @@ fn parse_members<'a>(
 }
 
 /// `Item | Module`, and the marks behind it.
-#[tactic(auto, using(crate::proofs::Pushes::no_memory))]
 #[cycle(declaration)]
-fn parse_declaration<'a>(
-    alloc: Global,
-    marks: &'a [Mark],
-    level: u16,
-) -> Result<(Declaration, &'a [Mark]), Stop<'a>>
+fn parse_declaration<'a>(alloc: Global, marks: &'a [Mark], level: u16) -> Parsed<'a, Declaration>
     ensures passes { IfOk result (λ r. Passes g.Declaration level (declaration_elements (declaration_of r.0)) marks.now r.1.now) }
     ensures halts { IfErr result (λ e. HaltsAt g.Declaration level marks.now e) }
     ensures shorter { IfOk result (λ r. length r.1.now < length marks.now) }
@@ -199,13 +160,8 @@ fn parse_declaration<'a>(
 }
 
 /// `{ Item | Module }`, and the marks behind it.
-#[tactic(auto, using(crate::proofs::Pushes::no_memory))]
 #[cycle(declaration)]
-fn parse_declarations<'a>(
-    alloc: Global,
-    marks: &'a [Mark],
-    level: u16,
-) -> Result<(Declarations, &'a [Mark]), Stop<'a>>
+fn parse_declarations<'a>(alloc: Global, marks: &'a [Mark], level: u16) -> Parsed<'a, Declarations>
     ensures passes { IfOk result (λ r. Passes g.Declarations level (declarations_elements (declarations_of r.0)) marks.now r.1.now) }
     ensures halts { IfErr result (λ e. HaltsAt g.Declarations level marks.now e) }
     ensures shorter { IfOk result (λ r. length r.1.now ≤ length marks.now) }

@@ -7,6 +7,7 @@ ghost use Rattle.edi_grammar.specs.Rules as g;
 ghost use Rattle.edi_grammar.specs.Edison as sets;
 
 use edi_lex::{Mark, Symbol};
+use edi_phrases::at;
 
 /// Whether an item or a module is in front.
 pub fn at_declaration(marks: &[Mark]) -> bool
@@ -34,23 +35,10 @@ pub fn at_declaration(marks: &[Mark]) -> bool
 pub fn at_member(marks: &[Mark]) -> bool
     ensures exact { result ≡ has (front marks.now) (sets.first g.Member) }
 {
-    match marks.first() {
-        Some(mark) => matches!(
-            mark.symbol,
-            Symbol::Array
-                | Symbol::Const
-                | Symbol::Enum
-                | Symbol::Module
-                | Symbol::Post
-                | Symbol::Pre
-                | Symbol::Proc
-                | Symbol::Record
-                | Symbol::Set
-                | Symbol::Var
-                | Symbol::Star
-        ),
-        None => false,
+    if at(marks, &Symbol::Star) {
+        return true;
     }
+    at_declaration(marks)
 }
 
 /// Whether a list of constants or the declaration of a type is in front.

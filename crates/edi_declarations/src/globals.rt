@@ -1,4 +1,5 @@
 //! The declarations in front of the procedure of a program. No level is open there.
+#![tactic(auto, using(edi_phrases::proofs::Moves::no_memory))]
 
 ghost use Rattle.std.specs.Prelude.{◌<◌, ◌≤◌, length, IfOk, IfErr};
 ghost use Rattle.edi_tree.specs.View.{global_of, globals_of};
@@ -9,13 +10,12 @@ ghost use Rattle.edi_phrases.specs.Stopped.{HaltsAt};
 
 use crate::fronts::at_global;
 use edi_lex::{Mark, Symbol};
-use edi_phrases::{Stop, at, parse_const_list, parse_type_decl};
+use edi_phrases::{Parsed, at, parse_const_list, parse_type_decl};
 use edi_tree::{Global as Declared, Globals, Sequence};
 use std::alloc::Global;
 
 /// `ConstList | TypeDecl`, and the marks behind it.
-#[tactic(auto, using(crate::proofs::Pushes::no_memory))]
-fn parse_global<'a>(alloc: Global, marks: &'a [Mark]) -> Result<(Declared, &'a [Mark]), Stop<'a>>
+fn parse_global<'a>(alloc: Global, marks: &'a [Mark]) -> Parsed<'a, Declared>
     ensures passes { IfOk result (λ r. Passes g.Global 0 (global_elements (global_of r.0)) marks.now r.1.now) }
     ensures halts { IfErr result (λ e. HaltsAt g.Global 0 marks.now e) }
     ensures shorter { IfOk result (λ r. length r.1.now < length marks.now) }
@@ -30,11 +30,7 @@ fn parse_global<'a>(alloc: Global, marks: &'a [Mark]) -> Result<(Declared, &'a [
 
 /// `{ ConstList | TypeDecl }`, the declarations in front of the procedure of a program, and the marks behind them. Fails
 /// where another symbol stands, where a 65th level would open, and where memory is wanting.
-#[tactic(auto, using(crate::proofs::Pushes::no_memory))]
-pub fn parse_globals<'a>(
-    alloc: Global,
-    marks: &'a [Mark],
-) -> Result<(Globals, &'a [Mark]), Stop<'a>>
+pub fn parse_globals<'a>(alloc: Global, marks: &'a [Mark]) -> Parsed<'a, Globals>
     ensures passes { IfOk result (λ r. Passes g.Globals 0 (globals_elements (globals_of r.0)) marks.now r.1.now) }
     ensures halts { IfErr result (λ e. HaltsAt g.Globals 0 marks.now e) }
     ensures shorter { IfOk result (λ r. length r.1.now ≤ length marks.now) }

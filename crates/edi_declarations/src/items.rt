@@ -1,4 +1,5 @@
 //! The items that have no procedure in them.
+#![tactic(auto, using(edi_phrases::proofs::Moves::no_memory))]
 
 ghost use Rattle.std.specs.Prelude.{◌≡◌, ◌<◌, true, length, IfOk, IfErr};
 ghost use Rattle.edi_tree.specs.View.{item_of};
@@ -14,17 +15,12 @@ ghost use Rattle.edi_phrases.specs.Stopped.{HaltsAt};
 use crate::layers::{make_const_item, make_pre, make_type_item, make_var_item};
 use edi_headings::parse_head;
 use edi_lex::{Mark, Symbol};
-use edi_phrases::{Stop, expect, open, parse_const_list, parse_type_decl, parse_var_list};
+use edi_phrases::{Parsed, expect, open, parse_const_list, parse_type_decl, parse_var_list};
 use edi_tree::Item;
 use std::alloc::Global;
 
 /// `ConstList`, where `const` is in front, and the marks behind it.
-#[tactic(auto, using(crate::proofs::Pushes::no_memory))]
-pub fn parse_const_item<'a>(
-    alloc: Global,
-    marks: &'a [Mark],
-    level: u16,
-) -> Result<(Item, &'a [Mark]), Stop<'a>>
+pub fn parse_const_item<'a>(alloc: Global, marks: &'a [Mark], level: u16) -> Parsed<'a, Item>
     requires chosen { front marks.now ≡ kind.Const }
     ensures passes { IfOk result (λ r. Passes g.Item level (item_elements (item_of r.0)) marks.now r.1.now) }
     ensures halts { IfErr result (λ e. HaltsAt g.Item level marks.now e) }
@@ -35,12 +31,7 @@ pub fn parse_const_item<'a>(
 }
 
 /// `TypeDecl`, where one is in front, and the marks behind it.
-#[tactic(auto, using(crate::proofs::Pushes::no_memory))]
-pub fn parse_type_item<'a>(
-    alloc: Global,
-    marks: &'a [Mark],
-    level: u16,
-) -> Result<(Item, &'a [Mark]), Stop<'a>>
+pub fn parse_type_item<'a>(alloc: Global, marks: &'a [Mark], level: u16) -> Parsed<'a, Item>
     requires chosen { has (front marks.now) (sets.first g.TypeDecl) ≡ true }
     ensures passes { IfOk result (λ r. Passes g.Item level (item_elements (item_of r.0)) marks.now r.1.now) }
     ensures halts { IfErr result (λ e. HaltsAt g.Item level marks.now e) }
@@ -51,12 +42,7 @@ pub fn parse_type_item<'a>(
 }
 
 /// `VarList`, where `var` is in front, and the marks behind it.
-#[tactic(auto, using(crate::proofs::Pushes::no_memory))]
-pub fn parse_var_item<'a>(
-    alloc: Global,
-    marks: &'a [Mark],
-    level: u16,
-) -> Result<(Item, &'a [Mark]), Stop<'a>>
+pub fn parse_var_item<'a>(alloc: Global, marks: &'a [Mark], level: u16) -> Parsed<'a, Item>
     requires chosen { front marks.now ≡ kind.Var }
     ensures passes { IfOk result (λ r. Passes g.Item level (item_elements (item_of r.0)) marks.now r.1.now) }
     ensures halts { IfErr result (λ e. HaltsAt g.Item level marks.now e) }
@@ -67,12 +53,7 @@ pub fn parse_var_item<'a>(
 }
 
 /// `"pre" Heading`, where `pre` is in front, and the marks behind it. The level of the heading ends with it.
-#[tactic(auto, using(crate::proofs::Pushes::no_memory))]
-pub fn parse_pre<'a>(
-    alloc: Global,
-    marks: &'a [Mark],
-    level: u16,
-) -> Result<(Item, &'a [Mark]), Stop<'a>>
+pub fn parse_pre<'a>(alloc: Global, marks: &'a [Mark], level: u16) -> Parsed<'a, Item>
     requires chosen { front marks.now ≡ kind.Pre }
     ensures passes { IfOk result (λ r. Passes g.Item level (item_elements (item_of r.0)) marks.now r.1.now) }
     ensures halts { IfErr result (λ e. HaltsAt g.Item level marks.now e) }

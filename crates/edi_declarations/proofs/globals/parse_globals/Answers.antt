@@ -1,26 +1,25 @@
-use Rattle.std.proofs.Common.{rules, ◌∷◌, ◌∙◌, [], map, ap, sym, arith}
+use Rattle.std.proofs.Common.{rules, ◌∷◌, ◌∙◌, [], map, ap, refl, sym, arith}
 use Rattle.std.proofs.lemmas.Result.{err_from_is_err_and}
 use Rattle.edi_tree.specs.Levels as elements
 use Rattle.edi_tree.specs.View as view
-use Rattle.edi_grammar.specs.Grammar.{part}
 use Rattle.edi_grammar.specs.Kind.{front}
 use Rattle.edi_grammar.specs.Rules as g
-use Rattle.edi_phrases.proofs.Moves.{over_part, into, written, halts}
+use Rattle.edi_phrases.proofs.Moves.{into, written}
+use Rattle.edi_phrases.proofs.Pushes.{repeated, repeated_halts}
 use Rattle.edi_declarations.proofs.Choices.{globals_more, globals_end}
-use Rattle.edi_declarations.proofs.Pushes as push
 use Rattle.edi_declarations.proofs.globals.parse_globals.Goals as goal
 
 pub returns-in_err-global-clause-halts : goal.returns-in_err-global-clause-halts
 returns-in_err-global-clause-halts c = let p = err_from_is_err_and c.from_residual.result c.from_residual.ensures.1 in
-    rw (p.1, p.2) (halts (into (part g.Global ∷ part g.Globals ∷ []) c.loop-alloc.invariant.goes
-    (globals_more (front c.loop-alloc.rest.now) (sym c.at_global.ensures.exact ∙ c.loop-alloc-test.true))) (omega arith) c.in_err-global.ensures.halts)
+    rw (p.1, p.2) (repeated_halts g.Globals g.Global (globals_more (front c.loop-alloc.rest.now) (sym c.at_global.ensures.exact ∙ c.loop-alloc-test.true))
+    c.loop-alloc.invariant.goes c.in_err-global.ensures.halts)
 
 pub loop-alloc-preserved : goal.loop-alloc-preserved
 loop-alloc-preserved c = record {
-  goes = written
-      (over_part (into (part g.Global ∷ part g.Globals ∷ []) c.loop-alloc.invariant.goes
-      (globals_more (front c.loop-alloc.rest.now) (sym c.at_global.ensures.exact ∙ c.loop-alloc-test.true))) c.in_ok-global.ensures.passes (omega arith))
-      (push.globals_push view.global_of c.loop-alloc.globals.items c.push.new.self.items c.in_ok-global.global (search rules));
+  goes = repeated g.Globals g.Global (λ x. elements.global_elements (view.global_of x)) (λ l. elements.globals_elements (view.globals (map view.global_of l)))
+      (λ es. refl) (λ x l es. refl) c.loop-alloc.globals.items c.push.new.self.items c.in_ok-global.global (search rules)
+      (globals_more (front c.loop-alloc.rest.now) (sym c.at_global.ensures.exact ∙ c.loop-alloc-test.true)) c.loop-alloc.invariant.goes
+      c.in_ok-global.ensures.passes;
   shorter = omega (arith, c.loop-alloc.invariant.shorter, c.in_ok-global.ensures.shorter);
 }
 

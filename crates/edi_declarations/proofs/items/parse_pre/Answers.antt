@@ -1,4 +1,4 @@
-use Rattle.std.proofs.Common.{◌∷◌, ◌∙◌, [], ap, refl, sym, arith}
+use Rattle.std.proofs.Common.{◌∷◌, ◌∙◌, [], ap, refl, sym, arith, ◌≡◌, Some}
 use Rattle.std.proofs.lemmas.Result.{err_from_is_err_and}
 use Rattle.edi_lex.specs.declared.symbol.Symbol.TheVariants as is
 use Rattle.edi_tree.specs.Spelled.{just}
@@ -12,35 +12,34 @@ use Rattle.edi_grammar.specs.Rules as g
 use Rattle.edi_grammar.specs.Edison.{edison}
 use Rattle.edi_derivation.proofs.Splits.{heading_split}
 use Rattle.edi_phrases.specs.Words.{at_line}
-use Rattle.edi_phrases.proofs.Moves.{waits, over_mark, over_open, over_end, over_part, into, written, lacks, refused, halts}
+use Rattle.edi_phrases.proofs.Moves.{waits, over_open, over_end, over_part, into, written, lacks, refused, halts}
+use Rattle.edi_phrases.proofs.Opened.{over_front}
 use Rattle.edi_declarations.proofs.items.parse_pre.Goals as goal
+
+item_pre : rule_at edison g.Item kind.Pre ≡ Some (token kind.Pre ∷ token kind.Proc ∷ part g.Head ∷ item.level_end ∷ [])
+item_pre = refl
 
 pub returns-in_err-behind_pre-clause-halts : goal.returns-in_err-behind_pre-clause-halts
 returns-in_err-behind_pre-clause-halts c = let p = err_from_is_err_and c.from_residual.result c.from_residual.ensures.1 in
     rw (p.1, p.2) (lacks (into (token kind.Pre ∷ token kind.Proc ∷ part g.Head ∷ item.level_end ∷ []) (waits g.Item _ _)
-    (ap (λ a. rule_at edison g.Item a) c.requires.chosen)) c.in_err-behind_pre.ensures.none)
+    (ap (λ a. rule_at edison g.Item a) c.requires.chosen ∙ item_pre)) c.in_err-behind_pre.ensures.none)
 
 pub returns-in_err-behind_proc-clause-halts : goal.returns-in_err-behind_proc-clause-halts
 returns-in_err-behind_proc-clause-halts c = let p = err_from_is_err_and c.from_residual-in_err-behind_proc.result
     c.from_residual-in_err-behind_proc.ensures.1 in
-    rw (p.1, p.2) (refused (over_mark (just is.Pre) (at_line is.Pre c.in_ok-behind_pre.field-0-0)
-    (into (token kind.Pre ∷ token kind.Proc ∷ part g.Head ∷ item.level_end ∷ []) (waits g.Item _ _) (ap (λ a. rule_at edison g.Item a) c.requires.chosen))
-    c.in_ok-behind_pre.ensures.found refl refl (refl, tt)) refl (omega arith) c.in_err-behind_proc.ensures.none)
+    rw (p.1, p.2) (refused (over_front g.Item is.Pre (just is.Pre) item_pre refl (refl, tt) (waits g.Item _ _) c.in_ok-behind_pre.ensures.found) refl
+    (omega arith) c.in_err-behind_proc.ensures.none)
 
 pub returns-in_err-heading-clause-halts : goal.returns-in_err-heading-clause-halts
 returns-in_err-heading-clause-halts c = let p = err_from_is_err_and c.from_residual-in_err-heading.result c.from_residual-in_err-heading.ensures.1 in
     rw (p.1, p.2) (halts (over_open (just is.Proc) (at_line is.Proc c.in_ok-behind_proc.field-0-0)
-    (over_mark (just is.Pre) (at_line is.Pre c.in_ok-behind_pre.field-0-0)
-    (into (token kind.Pre ∷ token kind.Proc ∷ part g.Head ∷ item.level_end ∷ []) (waits g.Item _ _) (ap (λ a. rule_at edison g.Item a) c.requires.chosen))
-    c.in_ok-behind_pre.ensures.found refl refl (refl, tt)) c.in_ok-behind_proc.ensures.found refl (omega (arith, c.in_ok-behind_proc.ensures.room)) (refl, tt))
-    (omega arith) c.in_err-heading.ensures.halts)
+    (over_front g.Item is.Pre (just is.Pre) item_pre refl (refl, tt) (waits g.Item _ _) c.in_ok-behind_pre.ensures.found) c.in_ok-behind_proc.ensures.found refl
+    (omega (arith, c.in_ok-behind_proc.ensures.room)) (refl, tt)) (omega arith) c.in_err-heading.ensures.halts)
 
 pub returns-clause-passes : goal.returns-clause-passes
 returns-clause-passes c = written (over_end
     (over_part (over_open (just is.Proc) (at_line is.Proc c.in_ok-behind_proc.field-0-0)
-    (over_mark (just is.Pre) (at_line is.Pre c.in_ok-behind_pre.field-0-0)
-    (into (token kind.Pre ∷ token kind.Proc ∷ part g.Head ∷ item.level_end ∷ []) (waits g.Item _ _) (ap (λ a. rule_at edison g.Item a) c.requires.chosen))
-    c.in_ok-behind_pre.ensures.found refl refl (refl, tt)) c.in_ok-behind_proc.ensures.found refl (omega (arith, c.in_ok-behind_proc.ensures.room)) (refl, tt))
-    c.in_ok-heading.ensures.passes (omega arith)))
+    (over_front g.Item is.Pre (just is.Pre) item_pre refl (refl, tt) (waits g.Item _ _) c.in_ok-behind_pre.ensures.found) c.in_ok-behind_proc.ensures.found refl
+    (omega (arith, c.in_ok-behind_proc.ensures.room)) (refl, tt)) c.in_ok-heading.ensures.passes (omega arith)))
     (λ es. ap (λ l. elements.word is.Pre ∷ l) (sym (heading_split (view.heading_of c.in_ok-heading.heading) (elements.level_end ∷ es)))
     ∙ ap (λ t. elements.item_elements t es) (sym c.make_pre.ensures.seen))
