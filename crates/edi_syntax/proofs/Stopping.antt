@@ -27,7 +27,7 @@ use Rattle.edi_syntax.specs.Ends.{EndsWrong, EndsDeep, EndsAt}
 
 -- ---- the cut
 
-same_marks : (marks rest : List Mark) → to_end marks ≡ to_end rest → marks ≡ rest
+pub same_marks : (marks rest : List Mark) → to_end marks ≡ to_end rest → marks ≡ rest
 same_marks [] [] e = refl
 same_marks [] (m ∷ rest) e = cc
 same_marks (m ∷ marks) [] e = cc
@@ -120,7 +120,7 @@ few_marks (m ∷ marks) e = omega (
   and_right true b e = e
   and_right false b e = cc
 
--- a tree of what symbols hold is held
+-- a tree that the symbols of a text spell is bounded
 pub tree_is_bounded : (marks given : List Mark) (last : ℕ) (tree : Program) → given ≡ marks → IsTheTree given tree → are_spelled marks ≡ true
     → is_orderly 1 marks last ≡ true → extent marks ≤ 262144 → last < 2 ^ 16 → IsBounded tree
 tree_is_bounded marks given last tree same t letters lines few small =

@@ -35,7 +35,7 @@ pub(crate) fn fault_in(rt: &impl Abort, alloc: Global, text: &[u8]) -> Option<Sy
     parse(alloc, &symbols).err()
 }
 
-/// Texts with their first symbol that is no part of a program: its line and its place among the symbols.
+/// Texts with their first symbol that is no part of a program: its line and its index among the symbols.
 const SYNTAX: [(&str, u16, u32); 26] = [
     ("", 1, 0),
     ("\n\n", 3, 0),
@@ -97,7 +97,7 @@ fn are_faulty(rt: &impl Abort, alloc: Global, cases: &[(&str, u16, u32)], outsid
 }
 
 #[test]
-fn the_first_fault_its_line_and_place(rt: HostRuntime) {
+fn the_first_fault_its_line_and_index(rt: HostRuntime) {
     are_faulty(&rt, rt.alloc(), &SYNTAX, false);
     are_faulty(&rt, rt.alloc(), &OUTSIDE, true);
 }
@@ -107,11 +107,11 @@ fn each_beginning_of_a_program_ends_too_early(rt: HostRuntime) {
     let bytes = BUFFER.as_bytes();
     let mut line: u16 = 1;
     let mut index: u32 = 1;
-    for (place, byte) in bytes.iter().enumerate() {
+    for (length, byte) in bytes.iter().enumerate() {
         if *byte != b' ' && *byte != b'\n' {
             continue;
         }
-        let beginning = bytes.get(..place).unwrap_or(b"");
+        let beginning = bytes.get(..length).unwrap_or(b"");
         let found = fault_in(&rt, rt.alloc(), beginning);
         assert_eq!(rt; found, Some(SyntaxFault::Syntax { line, index }));
         index = index.saturating_add(1);
