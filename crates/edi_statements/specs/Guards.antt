@@ -13,6 +13,6 @@ is_guard _ = false
 
 -- the statement that begins with this one of the three, on this line
 abbrev pub guarded : Symbol → ℕ → Conditions → Statement
-guarded is.If line conditions = if_statement conditions
-guarded is.While line conditions = while_statement conditions
-guarded _ line conditions = when_statement line conditions
+guarded is.If line cs = if_statement cs
+guarded is.While line cs = while_statement cs
+guarded _ line cs = when_statement line cs
