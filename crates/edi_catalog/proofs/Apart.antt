@@ -1,9 +1,11 @@
 -- The files of which one is changed still use no block twice.
-use Rattle.std.proofs.Common.{◌≡◌, ◌⊎◌, inl, inr, ℕ, zero, suc, true, List, [], ◌∷◌, ◌++◌, Some, None, Option, refl, ap, sym, ◌∙◌, set, get_or}
+use Rattle.std.proofs.Common.{◌≡◌, ◌⊎◌, inl, inr, ℕ, zero, suc, true, List, [], ◌∷◌, ◌++◌, Some, None, Option, refl, ap, sym, subst, ◌∙◌, set, get_or}
+use Rattle.std.specs.Option.{option_and_then}
 use Rattle.std.proofs.lemmas.Bool.{or_cases, false_from_ne_true, true≢false}
 use Rattle.edi_image.specs.Records.{FileRecord}
 use Rattle.edi_image.specs.Rules.{is_in}
 use Rattle.edi_image.specs.Stored.{StoredFile}
+use Rattle.edi_catalog.specs.Files.{file_titled, find_index}
 use Rattle.edi_catalog.specs.Plan.{are_different, blocks_used, used_in, AreFree}
 use Rattle.edi_catalog.specs.Writing.{IsRecordAt, put_kept, kept_as}
 use Rattle.edi_catalog.proofs.Different.{AreApart, different_join, different_left, different_right, different_apart}
@@ -27,6 +29,20 @@ in_set (f ∷ files) (suc index) file n h =
             | inr new ↦ inr new
           ]
     ]
+
+-- the pages of one file
+pub pages_apart : (title : List ℕ) (files : List (Option StoredFile)) (file : StoredFile) → are_different (blocks_used files) ≡ true
+    → file_titled title files ≡ Some file → are_different file.pages ≡ true
+pages_apart title files file d is =
+    different_right file.record_.maps file.pages (subst (λ o. are_different (used_in o) ≡ true) is (go (find_index title files))) where
+      at : (fs : List (Option StoredFile)) (index : ℕ) → are_different (blocks_used fs) ≡ true → are_different (used_in (get_or fs index None)) ≡ true
+      at [] index d = refl
+      at (f ∷ fs) zero d = different_left (used_in f) (blocks_used fs) d
+      at (f ∷ fs) (suc index) d = at fs index (different_right (used_in f) (blocks_used fs) d)
+
+      go : (index : Option ℕ) → are_different (used_in (option_and_then (λ k. get_or files k None) index)) ≡ true
+      go None = refl
+      go (Some k) = at files k d
 
 -- a slot gets a file that uses none of the blocks
 pub set_apart : (files : List (Option StoredFile)) (index : ℕ) (file : Option StoredFile) → are_different (blocks_used files) ≡ true

@@ -24,7 +24,7 @@ use Rattle.edi_image.specs.Bytes.{bytes_of_slot}
 use Rattle.edi_catalog.specs.Writing.{IsWritten, kept_as, put_kept, file_as, put_file, IsRecordFor, IsRecordAt}
 use Rattle.edi_image.proofs.Spelled.{both}
 use Rattle.edi_image.proofs.SlotRules.{entry_fits}
-use Rattle.edi_catalog.proofs.FileIndices.{kept_at}
+use Rattle.edi_catalog.proofs.Sizes.{kept_at}
 use Rattle.edi_image.proofs.ImageRules.{rules_of}
 use Rattle.edi_image.proofs.KeptFiles.{file_of, slots_are}
 use Rattle.edi_image.proofs.EntryBytes.{maps_fit_back, said_of, says_slot}

@@ -24,7 +24,7 @@ use Rattle.edi_catalog.specs.Changes.{slots_changed}
 use Rattle.edi_image.specs.Bytes.{bytes_of_slot}
 use Rattle.edi_catalog.specs.Writing.{patched, is_protected, IsWritten, EntryLeaves, PutsEntry, kept_as, put_kept, file_as, put_file, IsRecordFor, IsRecordAt}
 use Rattle.edi_image.proofs.Spelled.{both}
-use Rattle.edi_catalog.proofs.FileIndices.{kept_at}
+use Rattle.edi_catalog.proofs.Sizes.{kept_at}
 use Rattle.edi_image.proofs.Told.{told_same}
 use Rattle.edi_image.proofs.KeptFiles.{file_of, slots_are}
 use Rattle.edi_catalog.proofs.WholeFiles.{index_same}
@@ -275,9 +275,6 @@ pub record_at : (files : List (Option StoredFile)) (index : ℕ) (file : StoredF
     → get_or files index None ≡ Some file → IsRecordFor files file q → entry ≡ Some q → IsRecordAt files index entry
 record_at files index file q entry there fits is =
     subst (IsRecordAt files index) (sym is) (record { file = file; there = there; fits = fits })
-
-pub inside : (files : List (Option StoredFile)) (index : ℕ) → length files ≡ 256 → index < length files → index < 256
-inside files index many h = omega (arith, many, h)
 
 -- no file has a title where no slot has one
 pub untitled_none : (title : List ℕ) (files : List (Option StoredFile)) → find_index title files ≡ None → file_titled title files ≡ None

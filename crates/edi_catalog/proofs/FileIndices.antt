@@ -10,6 +10,7 @@ use Rattle.edi_image.specs.Stored.{StoredFile, is_titled, is_record, is_stored, 
 use Rattle.edi_catalog.specs.Files.{find_index, file_titled, PageIs}
 use Rattle.edi_image.specs.Entries.{block_at, is_data}
 use Rattle.edi_image.proofs.Spelled.{both}
+use Rattle.edi_catalog.proofs.Sizes.{kept_pages, titled_kept}
 
 -- the index of a slot that passes, where none before it does
 pub index_at : (title : List ℕ) (files : List (Option StoredFile)) (index : ℕ) (file : Option StoredFile)
@@ -51,20 +52,7 @@ all_sized count (file ∷ files) h =
 
 -- ---- the pages of a file
 
-pub kept_at : (count : ℕ) (files : List (Option StoredFile)) (index : ℕ) → list_all (is_stored count) files ≡ true
-    → is_stored count (slice_index_or files index None) ≡ true
-kept_at count [] index h = refl
-kept_at count (file ∷ files) zero h = (both (is_stored count file) (list_all (is_stored count) files) h).0
-kept_at count (file ∷ files) (suc index) h = kept_at count files index (both (is_stored count file) (list_all (is_stored count) files) h).1
-
-pub file_kept : (count : ℕ) (title : List ℕ) (files : List (Option StoredFile)) → list_all (is_stored count) files ≡ true
-    → is_stored count (file_titled title files) ≡ true
-file_kept count title files h = go (find_index title files) where
-  go : (index : Option ℕ) → is_stored count (option_and_then (λ k. slice_index_or files k None) index) ≡ true
-  go None = refl
-  go (Some k) = kept_at count files k h
-
-data_at : (count : ℕ) (pages : List ℕ) (i : ℕ) → i < length pages → are_data count pages ≡ true
+pub data_at : (count : ℕ) (pages : List ℕ) (i : ℕ) → i < length pages → are_data count pages ≡ true
     → (33 ≤ slice_index pages i) × (slice_index pages i < count)
 data_at count [] i h d = absurd (omega arith)
 data_at count (page ∷ pages) zero h d =
@@ -73,29 +61,26 @@ data_at count (page ∷ pages) zero h d =
     (leb-true 33 page below.0, ltb-true page count below.1)
 data_at count (page ∷ pages) (suc i) h d = data_at count pages i (omega arith) (both (is_data 33 count page) (are_data count pages) d).1
 
-page_is_data : (count : ℕ) (title : List ℕ) (files : List (Option StoredFile)) (i page : ℕ) → list_all (is_stored count) files ≡ true
+-- the number of a page, looked up in the files as they are kept
+pub page_kept : (title : List ℕ) (i page : ℕ) (fs files : List (Option StoredFile)) → fs ≡ files
+    → Some page ≡ option_map (λ (file : StoredFile). slice_index file.pages i) (file_titled title fs)
     → Some page ≡ option_map (λ (file : StoredFile). slice_index file.pages i) (file_titled title files)
-    → IfSome (file_titled title files) (λ file. i < length file.pages) → (33 ≤ page) × (page < count)
-page_is_data count title files i page all is inside = go (file_titled title files) (file_kept count title files all) is inside where
+page_kept title i page fs files same is =
+    is ∙ ap (λ f. option_map (λ (file : StoredFile). slice_index file.pages i) (file_titled title f)) same
+
+-- it lies behind the catalogue and on the drive: a file has as many page numbers as pages
+pub page_stands : (count : ℕ) (title : List ℕ) (files : List (Option StoredFile)) (i page n : ℕ) → list_all (is_stored count) files ≡ true
+    → Some page ≡ option_map (λ (file : StoredFile). slice_index file.pages i) (file_titled title files) → n ≡ page
+    → IfSome (file_titled title files) (λ file. i < pages_of file.record_.length) → (33 ≤ n) × (n < count)
+page_stands count title files i page n all is same inside = go (file_titled title files) (titled_kept count title files all) is inside where
   go : (o : Option StoredFile) → is_stored count o ≡ true → Some page ≡ option_map (λ (file : StoredFile). slice_index file.pages i) o
-      → IfSome o (λ file. i < length file.pages) → (33 ≤ page) × (page < count)
+      → IfSome o (λ file. i < pages_of file.record_.length) → (33 ≤ n) × (n < count)
   go None kept is inside = absurd (let no_page : Some page ≡ None = is in cc)
   go (Some file) kept is inside =
-      let parts = both (is_record count file.record_ && are_data count file.pages) (length file.pages == pages_of file.record_.length) kept in
+      let pages = kept_pages count file kept in
       let here : Some page ≡ Some (slice_index file.pages i) = is in
-      let same : slice_index file.pages i ≡ page = cc in
-      subst (λ n. (33 ≤ n) × (n < count)) same
-      (data_at count file.pages i inside (both (is_record count file.record_) (are_data count file.pages) parts.0).1)
-
-pub page_on_drive : (count : ℕ) (title : List ℕ) (files : List (Option StoredFile)) (i page : ℕ) → list_all (is_stored count) files ≡ true
-    → Some page ≡ option_map (λ (file : StoredFile). slice_index file.pages i) (file_titled title files)
-    → IfSome (file_titled title files) (λ file. i < length file.pages) → page < count
-page_on_drive count title files i page all is inside = (page_is_data count title files i page all is inside).1
-
-pub page_behind : (count : ℕ) (title : List ℕ) (files : List (Option StoredFile)) (i page : ℕ) → list_all (is_stored count) files ≡ true
-    → Some page ≡ option_map (λ (file : StoredFile). slice_index file.pages i) (file_titled title files)
-    → IfSome (file_titled title files) (λ file. i < length file.pages) → 33 ≤ page
-page_behind count title files i page all is inside = (page_is_data count title files i page all is inside).0
+      let it : page ≡ slice_index file.pages i = cc in
+      subst (λ k. (33 ≤ k) × (k < count)) (sym (same ∙ it)) (data_at count file.pages i (subst (λ m. i < m) (sym pages.1) inside) pages.0)
 
 pub page_is : {X : Type 0} (E : Type 0) (x : X) (o : Option StoredFile) (i page : ℕ) (bytes : List ℕ) (blocks : List (List ℕ))
     → Some page ≡ option_map (λ (file : StoredFile). slice_index file.pages i) o → block_at blocks page ≡ bytes
@@ -110,7 +95,7 @@ page_is E x (Some file) i page bytes blocks is here =
 pub page_inside : (count : ℕ) (title : List ℕ) (files : List (Option StoredFile)) (i : ℕ) → list_all (is_stored count) files ≡ true
     → IfSome (file_titled title files) (λ file. i < pages_of file.record_.length)
     → IfSome (file_titled title files) (λ file. i < length file.pages)
-page_inside count title files i all = go (file_titled title files) (file_kept count title files all) where
+page_inside count title files i all = go (file_titled title files) (titled_kept count title files all) where
   go : (o : Option StoredFile) → is_stored count o ≡ true → IfSome o (λ file. i < pages_of file.record_.length)
       → IfSome o (λ file. i < length file.pages)
   go None kept inside = tt

@@ -96,9 +96,3 @@ pub all_within : (count : ℕ) (file : StoredFile) (size many i : ℕ) → is_st
 all_within count file size many i h e is past within =
     let all : length (used_in (Some file)) ≡ many = length_used count file h ∙ ap blocks_of (sym e) ∙ sym is in
     omega arith
-
-pub number_below : (count now : ℕ) (file : StoredFile) (size many i number : ℕ) → is_stored count (Some file) ≡ true → size ≡ file.record_.length
-    → many ≡ blocks_of size → i < many → number ≡ slice_index (used_in (Some file)) i → now ≡ count → number < now
-number_below count now file size many i number h e is less at same =
-    subst (λ n. number < n) (sym same)
-    (subst (λ n. n < count) (sym at) (used_below count file i h (index_within count file size many i h e is less)))

@@ -223,36 +223,35 @@ module _ {D : Type 0} (contents : D → Option (List (List ℕ))) (count faults 
       changes.leaves
 
   -- a call that only asks
+  asked : (catalog : Catalog D) (Q : List (List ℕ) → Type 0) → IsMounted contents count catalog
+      → ((blocks : List (List ℕ)) → list_all is_block blocks ≡ true → length blocks ≡ count (drive_of (disk_of catalog)) → IsKeptOf blocks (files_of catalog)
+      → Q blocks)
+      → IfSome (contents (drive_of (disk_of catalog))) Q
+  asked catalog Q mounted so = some_told (contents (drive_of (disk_of catalog))) Q
+      (λ blocks told. so blocks (some_fact (λ b. list_all is_block b ≡ true) _ blocks told (sized (drive_of (disk_of catalog))))
+      (some_fact (λ b. length b ≡ count (drive_of (disk_of catalog))) _ blocks told (counted (drive_of (disk_of catalog)))) (mounted.image blocks told))
+
   pub find_in_slots : (catalog : Catalog D) (title : List ℕ) (result : Option Entry) → result ≡ option_map entry_of (file_titled title (files_of catalog))
       → IsMounted contents count catalog
       → IfSome (contents (drive_of (disk_of catalog))) (λ blocks. result ≡ option_map entry_told (find_file (slots_of blocks) title))
-  find_in_slots catalog title result is mounted = some_told (contents (drive_of (disk_of catalog)))
-      (λ blocks. result ≡ option_map entry_told (find_file (slots_of blocks) title))
-      (λ blocks told. is ∙ find_told blocks (count (drive_of (disk_of catalog))) (files_of catalog)
-      (some_fact (λ b. list_all is_block b ≡ true) _ blocks told (sized (drive_of (disk_of catalog))))
-      (some_fact (λ b. length b ≡ count (drive_of (disk_of catalog))) _ blocks told (counted (drive_of (disk_of catalog)))) mounted.stored
-      (mounted.image blocks told) title)
+  find_in_slots catalog title result is mounted =
+      asked catalog _ mounted (λ blocks size many kept.
+      is ∙ find_told blocks (count (drive_of (disk_of catalog))) (files_of catalog) size many mounted.stored kept title)
 
   pub slot_in_slots : (catalog : Catalog D) (i : ℕ) (result : Option Entry) → result ≡ option_map entry_of (slice_index_or (files_of catalog) i None)
       → IsMounted contents count catalog
       → IfSome (contents (drive_of (disk_of catalog))) (λ blocks. result ≡ option_map entry_told (slot_at (slots_of blocks) i))
-  slot_in_slots catalog i result is mounted = some_told (contents (drive_of (disk_of catalog)))
-      (λ blocks. result ≡ option_map entry_told (slot_at (slots_of blocks) i))
-      (λ blocks told. is ∙ slot_told blocks (count (drive_of (disk_of catalog))) (files_of catalog)
-      (some_fact (λ b. list_all is_block b ≡ true) _ blocks told (sized (drive_of (disk_of catalog))))
-      (some_fact (λ b. length b ≡ count (drive_of (disk_of catalog))) _ blocks told (counted (drive_of (disk_of catalog)))) mounted.stored
-      (mounted.image blocks told) i
+  slot_in_slots catalog i result is mounted =
+      asked catalog _ mounted (λ blocks size many kept.
+      is ∙ slot_told blocks (count (drive_of (disk_of catalog))) (files_of catalog) size many mounted.stored kept i
       (kept_at (count (drive_of (disk_of catalog))) (files_of catalog) i mounted.stored))
 
   pub free_in_slots : (catalog : Catalog D) (result : ℕ) → result ≡ count (drive_of (disk_of catalog)) - (33 + blocks_taken (files_of catalog))
       → IsMounted contents count catalog
       → IfSome (contents (drive_of (disk_of catalog))) (λ blocks. result ≡ free_in blocks)
-  free_in_slots catalog result is mounted = some_told (contents (drive_of (disk_of catalog)))
-      (λ blocks. result ≡ free_in blocks)
-      (λ blocks told. is ∙ free_told blocks (count (drive_of (disk_of catalog))) (files_of catalog)
-      (some_fact (λ b. list_all is_block b ≡ true) _ blocks told (sized (drive_of (disk_of catalog))))
-      (some_fact (λ b. length b ≡ count (drive_of (disk_of catalog))) _ blocks told (counted (drive_of (disk_of catalog)))) mounted.stored
-      (mounted.image blocks told))
+  free_in_slots catalog result is mounted =
+      asked catalog _ mounted (λ blocks size many kept.
+      is ∙ free_told blocks (count (drive_of (disk_of catalog))) (files_of catalog) size many mounted.stored kept)
 
   -- a page that was read
   pub page_in_slots : {X : Type 0} (E : Type 0) (x : X) (before after : Catalog D) (title : List ℕ) (i : ℕ) (page : List ℕ) → IsMounted contents count before

@@ -30,7 +30,7 @@ use Rattle.edi_catalog.specs.Writing.{IsRecordAt, IsRecordFor, kept_as, patched,
 use Rattle.edi_catalog.proofs.Changed.{record_like}
 use Rattle.edi_catalog.proofs.EntryBlocks.{none_kept}
 use Rattle.edi_catalog.proofs.EntryFrames.{entry_here, entry_other}
-use Rattle.edi_catalog.proofs.FileIndices.{kept_at}
+use Rattle.edi_catalog.proofs.Sizes.{kept_at}
 
 -- ---- reading them
 

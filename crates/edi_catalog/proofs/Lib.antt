@@ -14,6 +14,7 @@ pub mod NewlyLaid
 pub mod OneEntry
 pub mod PutBlocks
 pub mod PutEntry
+pub mod ReadBlocks
 pub mod Sequence
 pub mod StoredFiles
 pub mod StoredImage
@@ -25,6 +26,6 @@ pub mod PageBytes
 pub mod InSlots
 pub mod Taken
 pub mod Apart
-pub mod Marking
+pub mod BlockSets
 pub mod KeptEntries
 pub mod StillCached

@@ -13,7 +13,7 @@ use Rattle.edi_catalog.proofs.WholeFiles.{file_same}
 
 -- ---- bytes of whole pages
 
--- the place of a byte of a page among those of all pages
+-- the index of a byte of a page among those of all pages
 pub page_at : (f : ℕ → List ℕ) (pages : List ℕ) (i k : ℕ) → ((j : ℕ) → j < length pages → length (f (slice_index pages j)) ≡ 512) → k < 512 → i < length pages
     → (512 * i + k < length (flat_map f pages)) × (get_or (flat_map f pages) (512 * i + k) 0 ≡ get_or (f (slice_index pages i)) k 0)
 page_at f [] i k whole h within = absurd (omega arith)

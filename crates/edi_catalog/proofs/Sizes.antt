@@ -65,6 +65,10 @@ titled_kept count title files all = go (find_index title files) where
   go None = refl
   go (Some k) = kept_at count files k all
 
+pub titled_stored : (count : ℕ) (title : List ℕ) (files : List (Option StoredFile)) (file : StoredFile) → list_all (is_stored count) files ≡ true
+    → file_titled title files ≡ Some file → is_stored count (Some file) ≡ true
+titled_stored count title files file all is = subst (λ o. is_stored count o ≡ true) is (titled_kept count title files all)
+
 -- what is kept of a file: its pages lie on the drive, and they are as many as its length wants
 pub kept_pages : (count : ℕ) (file : StoredFile) → is_stored count (Some file) ≡ true
     → (are_data count file.pages ≡ true) × (length file.pages ≡ pages_of file.record_.length)

@@ -19,6 +19,13 @@ pub others_stay : {D : Type 0} (contents : D → Option (List (List ℕ))) (coun
     → Caches n bytes a b → numbers_cached b ≡ after_use n (numbers_cached a) → OthersStay n a b
 others_stay contents count n bytes a b works caches order = λ m other. was_cached n bytes a.cache b.cache caches order works.different m other
 
+pub use_of : {D : Type 0} (contents : D → Option (List (List ℕ))) (count : D → ℕ) (n : ℕ) (bytes : List ℕ) (a b : Disk D) → IsWorking contents count a
+    → Caches n bytes a b → numbers_cached b ≡ after_use n (numbers_cached a) → UsesBlock n bytes a b
+use_of contents count n bytes a b works caches order = record {
+  there = caches.there;
+  others = others_stay contents count n bytes a b works caches order;
+}
+
 -- a put with a flush behind it
 pub use_flushed : {D : Type 0} (n m : ℕ) (bytes : List ℕ) (a b c : Disk D) → n ≡ m → cached n b ≡ Some bytes → OthersStay n a b
     → ((k : ℕ) → cached k c ≡ cached k b) → UsesBlock m bytes a c

@@ -7,6 +7,7 @@ use Rattle.edi_told.specs.Told.{WhereTold}
 use Rattle.std.proofs.lemmas.List.{length-replicate}
 use Rattle.edi_calls.specs.State.{is_title}
 use Rattle.edi_calls.specs.declared.kinds.FileKind.{FileKind}
+use Rattle.edi_disk.specs.declared.disk.DiskEnd.{DiskEnd}
 use Rattle.edi_disk.specs.declared.disk.DiskEnd.TheVariants as disk
 use Rattle.edi_disk.specs.Shown.{drive_of}
 use Rattle.edi_disk.proofs.Writing as writing
@@ -104,37 +105,18 @@ module _ (count : ℕ) (files : List (Option StoredFile)) (title : List ℕ) (ki
 
 module _ {D : Type 0} (contents : D → Option (List (List ℕ))) (count faults : D → ℕ)
     (counted : (drive : D) → IfSome (contents drive) (λ blocks. length blocks ≡ count drive)) where
-  pub store_done : (one other : Catalog D) (title : List ℕ) (kind : FileKind) (bytes : List ℕ) (slot : ℕ) (file : StoredFile)
-      → IsMounted contents count one → Stores (count (drive_of (disk_of one))) (files_of one) title kind bytes slot file
-      → WritesNew contents count faults disk.Ok slot file bytes (disk_of one) (disk_of other)
-      → WhereTold (contents (drive_of (disk_of one))) (contents (drive_of (disk_of other)))
-      (λ old new. Leaves {X = Unit {0}} (Ok tt) (slots_of old) (slots_stored title kind bytes (slots_of old)) old new)
-  store_done one other title kind bytes slot file mounted stores writes =
-      writing.where_told _ (contents (drive_of (disk_of one))) (contents (drive_of (disk_of other)))
+  -- what is told of the drive behind a store
+  stored_told : (one other : Catalog D) (end : DiskEnd) (slot : ℕ) (file : StoredFile) (bytes : List ℕ) (Q : List (List ℕ) → List (List ℕ) → Type 0)
+      → WritesNew contents count faults end slot file bytes (disk_of one) (disk_of other)
+      → ((old new : List (List ℕ)) → contents (drive_of (disk_of one)) ≡ Some old → length old ≡ count (drive_of (disk_of one))
+      → NewLeaves end slot file bytes old new → Q old new)
+      → WhereTold (contents (drive_of (disk_of one))) (contents (drive_of (disk_of other))) Q
+  stored_told one other end slot file bytes Q writes so =
+      writing.where_told Q (contents (drive_of (disk_of one))) (contents (drive_of (disk_of other)))
       (λ new there.
-      let old = writing.told (NewLeaves disk.Ok slot file bytes) (contents (drive_of (disk_of one))) (contents (drive_of (disk_of other))) new writes.leaves
-      there in (
-        old.0,
-        old.1,
-        done_leaves (count (drive_of (disk_of one))) (files_of one) title kind bytes slot file stores old.0
-            (writing.many contents count faults counted (drive_of (disk_of one)) old.0 old.1) (mounted.image old.0 old.1) new old.2,
-      ))
-
-  pub store_fails : (one other : Catalog D) (title : List ℕ) (kind : FileKind) (bytes : List ℕ) (slot : ℕ) (file : StoredFile)
-      → IsMounted contents count one → Stores (count (drive_of (disk_of one))) (files_of one) title kind bytes slot file
-      → WritesNew contents count faults disk.Fault slot file bytes (disk_of one) (disk_of other)
-      → WhereTold (contents (drive_of (disk_of one))) (contents (drive_of (disk_of other)))
-      (λ old new. Leaves {X = Unit {0}} (Err cat.Fault) (slots_of old) (slots_stored title kind bytes (slots_of old)) old new)
-  store_fails one other title kind bytes slot file mounted stores writes =
-      writing.where_told _ (contents (drive_of (disk_of one))) (contents (drive_of (disk_of other)))
-      (λ new there.
-      let old = writing.told (NewLeaves disk.Fault slot file bytes) (contents (drive_of (disk_of one))) (contents (drive_of (disk_of other))) new
-      writes.leaves there in (
-        old.0,
-        old.1,
-        fault_leaves (count (drive_of (disk_of one))) (files_of one) title kind bytes slot file stores old.0
-            (writing.many contents count faults counted (drive_of (disk_of one)) old.0 old.1) (mounted.image old.0 old.1) new old.2,
-      ))
+      let old = writing.told (NewLeaves end slot file bytes) (contents (drive_of (disk_of one))) (contents (drive_of (disk_of other))) new writes.leaves
+      there in
+      (old.0, old.1, so old.0 new old.1 (writing.many contents count faults counted (drive_of (disk_of one)) old.0 old.1) old.2))
 
   pub store_mounted : (one other : Catalog D) (title : List ℕ) (kind : FileKind) (bytes : List ℕ) (slot : ℕ) (file : StoredFile)
       → IsMounted contents count one → Stores (count (drive_of (disk_of one))) (files_of one) title kind bytes slot file
@@ -201,7 +183,10 @@ module _ {D : Type 0} (contents : D → Option (List (List ℕ))) (count faults 
     mounted = inr (store_mounted one other title kind bytes slot file mounted stores writes now whole blocks_now used);
     entries_cached = inr (changed_cached slot (entry_blocks_of one) (entry_blocks_of other) _ (disk_of one) (disk_of other) blocks_now used);
     file_cached = λ at e. subst (λ f. IfSome f (λ it. FileCached it bytes (disk_of other))) (sym (there at e)) file_used;
-    leaves = store_done one other title kind bytes slot file mounted stores writes;
+    leaves =
+        stored_told one other disk.Ok slot file bytes _ writes
+        (λ old new told many made. done_leaves (count (drive_of (disk_of one))) (files_of one) title kind bytes slot file stores old many
+        (mounted.image old told) new made);
     same_reference = writes.same_reference;
     same_room = lent;
     count_stays = writes.count_stays;
@@ -228,7 +213,10 @@ module _ {D : Type 0} (contents : D → Option (List (List ℕ))) (count faults 
     mounted = inl refl;
     entries_cached = inl refl;
     file_cached = tt;
-    leaves = store_fails one other title kind bytes slot file mounted stores writes;
+    leaves =
+        stored_told one other disk.Fault slot file bytes _ writes
+        (λ old new told many made. fault_leaves (count (drive_of (disk_of one))) (files_of one) title kind bytes slot file stores old many
+        (mounted.image old told) new made);
     same_reference = writes.same_reference;
     same_room = lent;
     count_stays = writes.count_stays;

@@ -213,27 +213,24 @@ pub pages_in_range : {X : Type 0} (r : Result X MountFault) (u : List ℕ) (coun
 pages_in_range (Ok x) u count slot pages P found = tt
 pages_in_range (Err e) u count slot pages P found = first_in_range count e _ (broken_in_range u count slot pages) found
 
+drive_fault_is : (e : MountFault) → is_drive_fault e ≡ true → e ≡ fault.Fault
+drive_fault_is fault.Short h = absurd (true≢false (sym h))
+drive_fault_is fault.Header h = absurd (true≢false (sym h))
+drive_fault_is (fault.Entry slot) h = absurd (true≢false (sym h))
+drive_fault_is (fault.Page slot page) h = absurd (true≢false (sym h))
+drive_fault_is (fault.Shared block) h = absurd (true≢false (sym h))
+drive_fault_is fault.Fault h = refl
+drive_fault_is fault.NoMemory h = absurd (true≢false (sym h))
+
 pub drive_in_range : (count : ℕ) (e : MountFault) → is_drive_fault e ≡ true → IsInRange count e
-drive_in_range count fault.Short h = absurd (true≢false (sym h))
-drive_in_range count fault.Header h = absurd (true≢false (sym h))
-drive_in_range count (fault.Entry slot) h = tt
-drive_in_range count (fault.Page slot page) h = absurd (true≢false (sym h))
-drive_in_range count (fault.Shared block) h = absurd (true≢false (sym h))
-drive_in_range count fault.Fault h = tt
-drive_in_range count fault.NoMemory h = tt
+drive_in_range count e h = subst (IsInRange count) (sym (drive_fault_is e h)) tt
 
 pub memory_in_range : {X : Type 0} (r : Result X MountFault) (P : X → Type 0) (count : ℕ) → MatchResult r P (λ e. e ≡ fault.NoMemory) → IfErr r (IsInRange count)
 memory_in_range (Ok x) P count m = tt
 memory_in_range (Err e) P count m = subst (IsInRange count) (sym m) tt
 
 pub drive_of_count : (count : ℕ) (e : MountFault) → is_drive_fault e ≡ true → IsOfCount count e
-drive_of_count count fault.Short h = absurd (true≢false (sym h))
-drive_of_count count fault.Header h = absurd (true≢false (sym h))
-drive_of_count count (fault.Entry slot) h = absurd (true≢false (sym h))
-drive_of_count count (fault.Page slot page) h = absurd (true≢false (sym h))
-drive_of_count count (fault.Shared block) h = absurd (true≢false (sym h))
-drive_of_count count fault.Fault h = tt
-drive_of_count count fault.NoMemory h = tt
+drive_of_count count e h = subst (IsOfCount count) (sym (drive_fault_is e h)) tt
 
 pub memory_of_count : {X : Type 0} (r : Result X MountFault) (P : X → Type 0) (count : ℕ) → MatchResult r P (λ e. e ≡ fault.NoMemory) → IfErr r (IsOfCount count)
 memory_of_count (Ok x) P count m = tt

@@ -34,9 +34,9 @@ one_or_none None = []
 one_or_none (Some n) = n ∷ []
 
 -- these blocks were put into a set of blocks, which tells of each of 4,096 whether it is in it
-pub record Marks (blocks : List ℕ) (before after : List Bool) : Type 0 where
+pub record Inserts (blocks : List ℕ) (before after : List Bool) : Type 0 where
   pub as_many : length after ≡ length before
-  pub marked : (n : ℕ) → n < length before → slice_index_or after n false ≡ (is_in n blocks || slice_index_or before n false)
+  pub inserted : (n : ℕ) → n < length before → slice_index_or after n false ≡ (is_in n blocks || slice_index_or before n false)
 
 -- ---- what is put
 

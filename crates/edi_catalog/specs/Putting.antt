@@ -1,23 +1,43 @@
 -- Words of contracts. Putting the blocks of a file.
-use Rattle.std.specs.Prelude.{◌≡◌, ◌⊎◌, ℕ, ◌≤◌, ◌<◌, Bool, true, false, List, length, slice_index, Option, Some, ⊤}
+use Rattle.std.specs.Prelude.{◌≡◌, ◌⊎◌, ℕ, ◌≤◌, ◌<◌, Bool, true, false, List, length, slice_index, Option, Some, IfSome, ⊤}
 use Rattle.edi_told.specs.Faults.{CountRose}
 use Rattle.edi_told.specs.Told.{WhereTold}
 use Rattle.edi_disk.specs.declared.disk.Disk.{Disk}
 use Rattle.edi_disk.specs.declared.disk.DiskEnd.{DiskEnd}
 use Rattle.edi_disk.specs.declared.disk.DiskEnd.TheVariants as disk
-use Rattle.edi_disk.specs.Shown.{cached, shown, drive_of, reference_of, IsClean, IsWorking}
-use Rattle.edi_disk.specs.Since.{Kept}
+use Rattle.edi_disk.specs.Shown.{cached, shown, drive_of, reference_of, IsWorking}
+use Rattle.edi_disk.specs.Since.{Kept, PutLeaves}
 use Rattle.edi_image.specs.Rules.{is_in}
 use Rattle.edi_image.specs.Entries.{block_at}
-use Rattle.edi_image.specs.Stored.{StoredFile}
-use Rattle.edi_catalog.specs.Reads.{WasCached}
-use Rattle.edi_catalog.specs.Writing.{IsWritten}
+use Rattle.edi_image.specs.Stored.{StoredFile, is_stored}
+use Rattle.edi_catalog.specs.Reads.{UsesBlock, WasCached}
+use Rattle.edi_catalog.specs.Writing.{IsWritten, Settles}
 use Rattle.edi_image.specs.Bytes.{bytes_of_record}
-use Rattle.edi_catalog.specs.Plan.{ArePut, content_of, used_in}
+use Rattle.edi_catalog.specs.Plan.{are_different, ArePut, content_of, used_in}
 
 -- a set of blocks has each of these contents in its block
 abbrev pub HasAll : (ℕ → List ℕ → Bool) → (numbers : List ℕ) → (ℕ → List ℕ) → Type 0
 HasAll was_put numbers content = (i : ℕ) → i < length numbers → was_put (slice_index numbers i) (content i) ≡ true
+
+-- a new file may be put: its blocks lie behind the catalogue and on the drive, none stands twice, and it has as many bytes
+pub record MayBePut (count : ℕ) (file : StoredFile) (bytes : List ℕ) : Type 0 where
+  pub stored : is_stored count (Some file) ≡ true
+  pub different : are_different (used_in (Some file)) ≡ true
+  pub size : length bytes ≡ file.record_.length
+
+-- From before to after a block that is there was put: on Ok it is cached with these bytes.
+pub record PutsBlock {D : Type 0} (contents : D → Option (List (List ℕ))) (count faults : D → ℕ) (end : DiskEnd) (n : ℕ) (from : List ℕ)
+    (before after : Disk D) : Type 0 where
+  pub there : IfSome (shown contents before) (λ blocks. n < length blocks)
+  pub same_reference : reference_of after ≡ reference_of before
+  pub works : end ≡ disk.Ok → IsWorking contents count after
+  pub shows : WhereTold (shown contents before) (shown contents after) (PutLeaves end n from)
+  pub since : (base : List (List ℕ)) (was_put : ℕ → List ℕ → Bool) → was_put n from ≡ true → Kept contents base was_put before
+      → Kept contents base was_put after
+  pub count_stays : count (drive_of after) ≡ count (drive_of before)
+  pub later : faults (drive_of before) ≤ faults (drive_of after)
+  pub cause : end ≡ disk.Fault → CountRose (faults (drive_of before)) (faults (drive_of after))
+  pub uses : end ≡ disk.Ok → UsesBlock n from before after
 
 -- From before to after the contents were put, each in its block: all of them on Ok, and after a fault of the drive some of them.
 -- No other block was put: of the others each that is cached was cached so before.
@@ -53,17 +73,10 @@ abbrev pub NewLeaves : DiskEnd → (slot : ℕ) → StoredFile → List ℕ → 
 NewLeaves disk.Ok slot file bytes old new = IsNew slot file bytes old new
 NewLeaves disk.Fault slot file bytes old new = OnlyIn (used_in (Some file)) old new ⊎ IsNew slot file bytes old new
 
--- From before to after, on a disk with nothing that is not written, a new file is written to the drive, and then its entry.
-pub record WritesNew {D : Type 0} (contents : D → Option (List (List ℕ))) (count faults : D → ℕ) (end : DiskEnd) (slot : ℕ) (file : StoredFile)
-    (bytes : List ℕ) (before after : Disk D) : Type 0 where
-  pub same_reference : reference_of after ≡ reference_of before
-  pub count_stays : count (drive_of after) ≡ count (drive_of before)
-  pub later : faults (drive_of before) ≤ faults (drive_of after)
-  pub cause : end ≡ disk.Fault → CountRose (faults (drive_of before)) (faults (drive_of after))
-  pub works : end ≡ disk.Ok → IsWorking contents count after
-  pub settled : end ≡ disk.Ok → contents (drive_of after) ≡ shown contents after
-  pub clean : end ≡ disk.Ok → IsClean after
-  pub leaves : WhereTold (contents (drive_of before)) (contents (drive_of after)) (NewLeaves end slot file bytes)
+-- a new file is written to the drive, and then its entry
+abbrev pub WritesNew : {D : Type 0} → (contents : D → Option (List (List ℕ))) → (count faults : D → ℕ) → DiskEnd → (slot : ℕ) → StoredFile
+    → (bytes : List ℕ) → (before after : Disk D) → Type 0
+WritesNew contents count faults end slot file bytes before after = Settles contents count faults end (NewLeaves end slot file bytes) before after
 
 -- ---- what is cached behind it, whatever the drive tells
 

@@ -1,6 +1,6 @@
 -- Words of contracts. Writing the entry of a slot.
 use Rattle.std.specs.Prelude.{◌≡◌, ◌⊎◌, ℕ, ◌+◌, ◌*◌, ◌/◌, ◌%◌, ◌≤◌, Bool, true, false, List, [], ◌++◌, take, drop, length, slice_set, slice_index_or, Option}
-use Rattle.std.specs.Prelude.{Some, None, IfSome}
+use Rattle.std.specs.Prelude.{Some, None, IfSome, ⊤}
 use Rattle.std.specs.Option.{option_and_then}
 use Rattle.edi_told.specs.Faults.{CountRose}
 use Rattle.edi_told.specs.Told.{WhereTold}
@@ -8,7 +8,8 @@ use Rattle.edi_calls.specs.State.{File, is_title}
 use Rattle.edi_disk.specs.declared.disk.Disk.{Disk}
 use Rattle.edi_disk.specs.declared.disk.DiskEnd.{DiskEnd}
 use Rattle.edi_disk.specs.declared.disk.DiskEnd.TheVariants as disk
-use Rattle.edi_disk.specs.Shown.{shown, drive_of, reference_of, IsClean, IsWorking}
+use Rattle.edi_disk.specs.Shown.{cached, shown, drive_of, reference_of, IsClean, IsWorking}
+use Rattle.edi_disk.specs.Since.{Kept}
 use Rattle.edi_image.specs.Records.{FileRecord}
 use Rattle.edi_image.specs.Entries.{block_at}
 use Rattle.edi_image.specs.Stored.{StoredFile}
@@ -40,8 +41,14 @@ abbrev pub EntryLeaves : DiskEnd → (slot : ℕ) → List ℕ → (old new : Li
 EntryLeaves disk.Ok slot entry old new = IsWritten slot entry old new
 EntryLeaves disk.Fault slot entry old new = (new ≡ old) ⊎ IsWritten slot entry old new
 
--- From before to after, on a disk with nothing that is not written, the entry of a slot is written to the drive.
-pub record PutsEntry {D : Type 0} (contents : D → Option (List (List ℕ))) (count faults : D → ℕ) (end : DiskEnd) (slot : ℕ) (entry : List ℕ)
+-- a disk on which an entry may be written: it may be called, has nothing that is not written, and has a catalogue
+pub record IsSettled {D : Type 0} (contents : D → Option (List (List ℕ))) (count : D → ℕ) (disk : Disk D) : Type 0 where
+  pub works : IsWorking contents count disk
+  pub settled : contents (drive_of disk) ≡ shown contents disk
+  pub catalogue : 33 ≤ count (drive_of disk)
+
+-- From before to after, on a disk with nothing that is not written, blocks are written to the drive, which it changes so.
+pub record Settles {D : Type 0} (contents : D → Option (List (List ℕ))) (count faults : D → ℕ) (end : DiskEnd) (changes : (old new : List (List ℕ)) → Type 0)
     (before after : Disk D) : Type 0 where
   pub same_reference : reference_of after ≡ reference_of before
   pub count_stays : count (drive_of after) ≡ count (drive_of before)
@@ -50,7 +57,24 @@ pub record PutsEntry {D : Type 0} (contents : D → Option (List (List ℕ))) (c
   pub works : end ≡ disk.Ok → IsWorking contents count after
   pub settled : end ≡ disk.Ok → contents (drive_of after) ≡ shown contents after
   pub clean : end ≡ disk.Ok → IsClean after
-  pub leaves : WhereTold (contents (drive_of before)) (contents (drive_of after)) (EntryLeaves end slot entry)
+  pub leaves : WhereTold (contents (drive_of before)) (contents (drive_of after)) changes
+
+-- all that was put is written, and what is cached and shown stays
+pub record Flushes {D : Type 0} (contents : D → Option (List (List ℕ))) (count faults : D → ℕ) (end : DiskEnd) (before after : Disk D) : Type 0 where
+  pub settles : Settles contents count faults end (λ old new. ⊤) before after
+  pub shows : WhereTold (shown contents before) (shown contents after) (λ old new. end ≡ disk.Ok → new ≡ old)
+  pub since : (base : List (List ℕ)) (was_put : ℕ → List ℕ → Bool) → Kept contents base was_put before → Kept contents base was_put after
+  pub caches : (n : ℕ) → cached n after ≡ cached n before
+
+-- a block gets these bytes: on Ok it has them, and after a fault it has or it has not
+abbrev pub BlockLeaves : DiskEnd → (n : ℕ) → List ℕ → (old new : List (List ℕ)) → Type 0
+BlockLeaves disk.Ok n bytes old new = new ≡ slice_set old n bytes
+BlockLeaves disk.Fault n bytes old new = (new ≡ old) ⊎ (new ≡ slice_set old n bytes)
+
+-- the entry of a slot is written
+abbrev pub PutsEntry : {D : Type 0} → (contents : D → Option (List (List ℕ))) → (count faults : D → ℕ) → DiskEnd → (slot : ℕ) → (entry : List ℕ)
+    → (before after : Disk D) → Type 0
+PutsEntry contents count faults end slot entry before after = Settles contents count faults end (EntryLeaves end slot entry) before after
 
 -- ---- another entry in place of that of a file
 

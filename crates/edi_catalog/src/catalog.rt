@@ -1,6 +1,6 @@
 //! The catalogue of a disk.
 
-ghost use Rattle.std.specs.Prelude.{◌≡◌, ◌≤◌, ◌<◌, ◌+◌, ◌-◌, ◌↔◌, ◌⊎◌, None, Some, Err, IfErr, IfOk, IfSome, length, slice_index_or};
+ghost use Rattle.std.specs.Prelude.{◌≡◌, ◌≤◌, ◌<◌, ◌+◌, ◌-◌, ◌↔◌, ◌⊎◌, None, Some, Err, IfErr, IfOk, IfSome, OnOk, length, slice_index, slice_index_or};
 ghost use Rattle.std.specs.Option.{option_map};
 ghost use Rattle.edi_told.specs.Faults.{CountRose};
 ghost use Rattle.edi_told.specs.Told.{WhereTold};
@@ -9,7 +9,8 @@ ghost use Rattle.edi_calls.specs.State.{find_file, pages_of, slot_at};
 ghost use Rattle.edi_image.specs.Image.{slots_of};
 ghost use Rattle.edi_catalog.specs.InSlots.{entry_told, free_in, PageIn};
 ghost use Rattle.edi_catalog.specs.Mounted.{IsMounted, disk_of, files_of, room_reference};
-ghost use Rattle.edi_catalog.specs.Files.{entry_of, file_titled, FileIs, PageIs};
+ghost use Rattle.edi_catalog.specs.Files.{entry_of, file_titled, find_index, FileIs, PageIs};
+ghost use Rattle.edi_catalog.specs.Reads.{GivesBlock, GivesBlocks};
 ghost use Rattle.edi_image.specs.Stored.{blocks_taken};
 
 use crate::ends::CatEnd;
@@ -41,6 +42,16 @@ impl<'d, 'c, D: Drive> Catalog<'d, 'c, D> {
             Some(index) => entry_in(&self.room.files[index]),
             None => None,
         }
+    }
+
+    // The slot of the file with this title.
+    pub(crate) fn index_kept(&self, title: &Title) -> Option<usize>
+        requires { IsMounted D.contents D.count self.now }
+        ensures exact { result ≡ find_index title.now (files_of self.now) }
+        ensures within { IfSome result (λ index. index < length (files_of self.now)) }
+        ensures bound { IfSome result (λ index. index < 256) }
+    {
+        index_of(&self.room.files, title)
     }
 
     // The file in a slot, as it is kept.
@@ -105,6 +116,9 @@ impl<'d, 'c, D: Drive> Catalog<'d, 'c, D> {
         // Byte k of the page is byte 512 i + k of the file.
         ensures page { WhereTold (D.contents (drive_of (disk_of self.old))) (D.contents (drive_of (disk_of self.new)))
             (λ old new. PageIn result (find_file (slots_of old) title.now) i into.new) }
+        // Whatever the drive tells: on Ok the page is given as it was cached, or else as it is cached from then on.
+        ensures gives { OnOk result (IfSome (file_titled title.now (files_of self.old))
+            (λ file. GivesBlock (slice_index file.pages i) into.new (disk_of self.old) (disk_of self.new))) }
         ensures same_reference { reference_of (disk_of self.new) ≡ reference_of (disk_of self.old) }
         ensures same_room { room_reference self.new ≡ room_reference self.old }
         ensures count { D.count (drive_of (disk_of self.new)) ≡ D.count (drive_of (disk_of self.old)) }
@@ -136,13 +150,17 @@ impl<'d, 'c, D: Drive> Catalog<'d, 'c, D> {
         ensures mounted { result ≡ Err CatEnd.Fault ⊎ IsMounted D.contents D.count self.new }
         ensures reads { WhereTold (D.contents (drive_of (disk_of self.old))) (D.contents (drive_of (disk_of self.new)))
             (λ old new. (new ≡ old) × FileIs result title.now into.new old) }
+        // Whatever the drive tells: on Ok each page that was still cached when it was read is given as it was cached, and each
+        // that is cached afterwards as it is.
+        ensures gives { OnOk result (IfSome (file_titled title.now (files_of self.old))
+            (λ file. GivesBlocks file.pages (length file.pages) into.new (disk_of self.old) (disk_of self.new))) }
         ensures same_reference { reference_of (disk_of self.new) ≡ reference_of (disk_of self.old) }
         ensures same_room { room_reference self.new ≡ room_reference self.old }
         ensures count { D.count (drive_of (disk_of self.new)) ≡ D.count (drive_of (disk_of self.old)) }
         ensures later { D.faults (drive_of (disk_of self.old)) ≤ D.faults (drive_of (disk_of self.new)) }
         ensures cause { result ≡ Err CatEnd.Fault → CountRose (D.faults (drive_of (disk_of self.old))) (D.faults (drive_of (disk_of self.new))) }
     {
-        let Some(index) = index_of(&self.room.files, title) else {
+        let Some(index) = self.index_kept(title) else {
             return Err(CatEnd::NoSuch);
         };
         match &self.room.files[index] {

@@ -14,7 +14,6 @@ ghost use Rattle.edi_catalog.specs.Writing.{IsRecordAt, is_protected, kept_as, p
 
 use crate::catalog::Catalog;
 use crate::ends::CatEnd;
-use crate::files::index_of;
 use crate::writing::put_kept_entry;
 use edi_disk::DiskEnd;
 use edi_host::Drive;
@@ -107,7 +106,7 @@ impl<'d, 'c, D: Drive> Catalog<'d, 'c, D> {
         ensures changes { Changes D.contents D.count D.faults result (not_found (file_titled title.now (files_of self.old)))
             (kept_changed (kept_protected protected) title.now (files_of self.old)) (slots_changed (file_protected protected) title.now) self.old self.new }
     {
-        let Some(index) = index_of(&self.room.files, title) else {
+        let Some(index) = self.index_kept(title) else {
             return Err(CatEnd::NoSuch);
         };
         let entry = record_protected(&self.room.files[index], protected);
@@ -144,7 +143,7 @@ impl<'d, 'c, D: Drive> Catalog<'d, 'c, D> {
         ensures changes { Changes D.contents D.count D.faults result (not_deleted (file_titled title.now (files_of self.old)))
             (kept_changed deleted title.now (files_of self.old)) (slots_changed deleted title.now) self.old self.new }
     {
-        let Some(index) = index_of(&self.room.files, title) else {
+        let Some(index) = self.index_kept(title) else {
             return Err(CatEnd::NoSuch);
         };
         if is_protected(&self.room.files[index]) {
@@ -160,13 +159,13 @@ impl<'d, 'c, D: Drive> Catalog<'d, 'c, D> {
             (not_renamed (file_titled from.now (files_of self.old)) (file_titled to.now (files_of self.old)))
             (kept_changed (kept_renamed to.now) from.now (files_of self.old)) (slots_changed (file_renamed to.now) from.now) self.old self.new }
     {
-        let Some(index) = index_of(&self.room.files, from) else {
+        let Some(index) = self.index_kept(from) else {
             return Err(CatEnd::NoSuch);
         };
         if is_protected(&self.room.files[index]) {
             return Err(CatEnd::Protected);
         }
-        if index_of(&self.room.files, to).is_some() {
+        if self.index_kept(to).is_some() {
             return Err(CatEnd::Taken);
         }
         let entry = record_renamed(&self.room.files[index], to);

@@ -5,7 +5,7 @@ ghost use Rattle.edi_image.specs.Records.{maps_of};
 ghost use Rattle.std.specs.List.{list_all};
 ghost use Rattle.edi_image.specs.Rules.{is_in};
 ghost use Rattle.edi_image.specs.Stored.{is_stored, blocks_taken};
-ghost use Rattle.edi_catalog.specs.Plan.{used_in, blocks_used, one_or_none, AreFree, Marks};
+ghost use Rattle.edi_catalog.specs.Plan.{used_in, blocks_used, one_or_none, AreFree, Inserts};
 
 use arrayvec::ArrayVec;
 use edi_image::{FIRST, StoredFile};
@@ -23,8 +23,8 @@ const MOST_BLOCKS: usize = 4096;
 type BlockSet = [bool; MOST_BLOCKS];
 
 // Puts a block into the set.
-fn mark(used: &mut BlockSet, block: u16)
-    ensures exact { Marks (block ∷ []) used.old used.new }
+fn insert(used: &mut BlockSet, block: u16)
+    ensures exact { Inserts (block ∷ []) used.old used.new }
 {
     let block = usize::from(block);
     if block < MOST_BLOCKS {
@@ -33,39 +33,39 @@ fn mark(used: &mut BlockSet, block: u16)
 }
 
 // Puts these blocks into the set.
-fn mark_all(used: &mut BlockSet, blocks: &[u16])
-    ensures exact { Marks blocks.now used.old used.new }
+fn insert_all(used: &mut BlockSet, blocks: &[u16])
+    ensures exact { Inserts blocks.now used.old used.new }
 {
     for block in blocks {
-        mark(used, *block);
+        insert(used, *block);
     }
 }
 
 // Puts a block into the set, where there is one.
-fn mark_any(used: &mut BlockSet, block: Option<u16>)
-    ensures exact { Marks (one_or_none block) used.old used.new }
+fn insert_any(used: &mut BlockSet, block: Option<u16>)
+    ensures exact { Inserts (one_or_none block) used.old used.new }
 {
     match block {
-        Some(block) => mark(used, block),
+        Some(block) => insert(used, block),
         None => {}
     }
 }
 
 // Puts the maps and the pages of a file into the set.
-fn mark_stored(used: &mut BlockSet, first: u16, second: Option<u16>, pages: &[u16])
-    ensures exact { Marks (maps_of first second ++ pages.now) used.old used.new }
+fn insert_stored(used: &mut BlockSet, first: u16, second: Option<u16>, pages: &[u16])
+    ensures exact { Inserts (maps_of first second ++ pages.now) used.old used.new }
 {
-    mark(used, first);
-    mark_any(used, second);
-    mark_all(used, pages);
+    insert(used, first);
+    insert_any(used, second);
+    insert_all(used, pages);
 }
 
 // Puts the blocks of the file in a slot into the set.
-fn mark_file(used: &mut BlockSet, file: &Option<StoredFile>)
-    ensures exact { Marks (used_in file.now) used.old used.new }
+fn insert_file(used: &mut BlockSet, file: &Option<StoredFile>)
+    ensures exact { Inserts (used_in file.now) used.old used.new }
 {
     match file {
-        Some(file) => mark_stored(
+        Some(file) => insert_stored(
             used,
             file.record.first_map,
             file.record.second_map,
@@ -81,7 +81,7 @@ fn used_blocks(files: &[Option<StoredFile>]) -> BlockSet
 {
     let mut used: BlockSet = [false; MOST_BLOCKS];
     for file in files {
-        mark_file(&mut used, file);
+        insert_file(&mut used, file);
     }
     used
 }

@@ -1,36 +1,42 @@
 //! Putting the blocks of a file.
 
-ghost use Rattle.std.specs.Prelude.{◌≡◌, ◌≤◌, ◌<◌, ◌+◌, ◌-◌, ◌*◌, ◌/◌, ◌%◌, [], true, length, slice_index_or, Some};
+ghost use Rattle.std.specs.Prelude.{◌≡◌, ◌≤◌, ◌<◌, ◌+◌, ◌-◌, ◌*◌, ◌/◌, ◌%◌, [], true, length, slice_index, slice_index_or, Some};
 ghost use Rattle.std.specs.Option.{ForSome};
 ghost use Rattle.edi_disk.specs.Shown.{drive_of, shown, IsWorking};
 ghost use Rattle.edi_image.specs.Bytes.{bytes_of_record};
 ghost use Rattle.edi_image.specs.Entries.{block_at};
-ghost use Rattle.edi_image.specs.Stored.{is_stored};
-ghost use Rattle.edi_catalog.specs.Plan.{are_different, content_of, used_in};
+ghost use Rattle.edi_catalog.specs.Plan.{content_of, used_in};
 ghost use Rattle.edi_catalog.specs.Mounted.{AreEntries};
-ghost use Rattle.edi_catalog.specs.Writing.{entries_with, patched};
-ghost use Rattle.edi_catalog.specs.Putting.{EntryCached, FileCached, PutsBlocks, WritesNew};
+ghost use Rattle.edi_catalog.specs.Writing.{IsSettled, entries_with, patched};
+ghost use Rattle.edi_catalog.specs.Putting.{EntryCached, FileCached, MayBePut, PutsBlock, PutsBlocks, WritesNew};
 
 use crate::contents::{block_of, content_of};
 use crate::mounting::Checked;
-use crate::writing::put_entry;
+use crate::writing::{put_entry, write_cached};
 use edi_calls::blocks_of;
 use edi_disk::{Disk, DiskEnd};
 use edi_host::Drive;
-use edi_image::{BLOCK, FIRST, StoredFile, entry_bytes};
+use edi_image::{BLOCK, StoredFile, entry_bytes};
+
+// Puts the i-th block of a file.
+fn put_block<D: Drive>(disk: &mut Disk<'_, D>, file: &StoredFile, bytes: &[u8], i: usize) -> DiskEnd
+    requires works { IsWorking D.contents D.count disk.old }
+    requires file { MayBePut (D.count (drive_of disk.old)) file.now bytes.now }
+    requires within { i < length (used_in (Some file.now)) }
+    ensures puts { PutsBlock D.contents D.count D.faults result (slice_index (used_in (Some file.now)) i) (content_of file.now bytes.now i) disk.old disk.new }
+{
+    disk.put_page(u32::from(block_of(file, i)), &content_of(file, bytes, i))
+}
 
 // Puts the maps and the pages of a file, each in its block.
 fn put_blocks<D: Drive>(disk: &mut Disk<'_, D>, file: &StoredFile, bytes: &[u8]) -> DiskEnd
     requires works { IsWorking D.contents D.count disk.old }
-    requires stored { is_stored (D.count (drive_of disk.old)) (Some file.now) ≡ true }
-    requires different { are_different (used_in (Some file.now)) ≡ true }
-    requires size { length bytes.now ≡ file.now.record_.length }
+    requires file { MayBePut (D.count (drive_of disk.old)) file.now bytes.now }
     ensures puts { PutsBlocks D.contents D.count D.faults result (used_in (Some file.now)) (content_of file.now bytes.now) (length (used_in (Some file.now)))
         disk.old disk.new }
 {
     for i in 0..blocks_of(bytes.len()) {
-        let number = u32::from(block_of(file, i));
-        match disk.put_page(number, &content_of(file, bytes, i)) {
+        match put_block(disk, file, bytes, i) {
             DiskEnd::Ok => {}
             DiskEnd::Fault => return DiskEnd::Fault,
         }
@@ -45,15 +51,13 @@ pub(crate) fn write_file<D: Drive>(
     bytes: &[u8],
 ) -> DiskEnd
     requires works { IsWorking D.contents D.count disk.old }
-    requires stored { is_stored (D.count (drive_of disk.old)) (Some file.now) ≡ true }
-    requires different { are_different (used_in (Some file.now)) ≡ true }
-    requires size { length bytes.now ≡ file.now.record_.length }
+    requires file { MayBePut (D.count (drive_of disk.old)) file.now bytes.now }
     ensures puts { PutsBlocks D.contents D.count D.faults result (used_in (Some file.now)) (content_of file.now bytes.now) (length (used_in (Some file.now)))
         disk.old disk.new }
     ensures settles { result ≡ DiskEnd.Ok → D.contents (drive_of disk.new) ≡ shown D.contents disk.new }
 {
     match put_blocks(disk, file, bytes) {
-        DiskEnd::Ok => disk.flush(),
+        DiskEnd::Ok => write_cached(disk),
         DiskEnd::Fault => DiskEnd::Fault,
     }
 }
@@ -67,12 +71,8 @@ pub(crate) fn write_new<D: Drive>(
     file: &StoredFile,
     bytes: &[u8],
 ) -> DiskEnd
-    requires works { IsWorking D.contents D.count disk.old }
-    requires settled { D.contents (drive_of disk.old) ≡ shown D.contents disk.old }
-    requires catalogue { FIRST ≤ D.count (drive_of disk.old) }
-    requires stored { is_stored (D.count (drive_of disk.old)) (Some file.now) ≡ true }
-    requires different { are_different (used_in (Some file.now)) ≡ true }
-    requires size { length bytes.now ≡ file.now.record_.length }
+    requires disk { IsSettled D.contents D.count disk.old }
+    requires file { MayBePut (D.count (drive_of disk.old)) file.now bytes.now }
     requires kept { ForSome (D.contents (drive_of disk.old)) (λ blocks. block_at blocks (1 + slot / 8) ≡ kept.old) }
     ensures kept { result ≡ DiskEnd.Ok → kept.new ≡ patched (64 * (slot % 8)) (bytes_of_record file.now.record_) kept.old }
     ensures writes { WritesNew D.contents D.count D.faults result slot file.now bytes.now disk.old disk.new }
@@ -93,12 +93,8 @@ pub(crate) fn write_kept<D: Drive>(
     file: &StoredFile,
     bytes: &[u8],
 ) -> DiskEnd
-    requires works { IsWorking D.contents D.count disk.old }
-    requires settled { D.contents (drive_of disk.old) ≡ shown D.contents disk.old }
-    requires catalogue { FIRST ≤ D.count (drive_of disk.old) }
-    requires stored { is_stored (D.count (drive_of disk.old)) (Some file.now) ≡ true }
-    requires different { are_different (used_in (Some file.now)) ≡ true }
-    requires size { length bytes.now ≡ file.now.record_.length }
+    requires disk { IsSettled D.contents D.count disk.old }
+    requires file { MayBePut (D.count (drive_of disk.old)) file.now bytes.now }
     requires within { index < 256 }
     requires many { length room.old.entries.items ≡ 32 }
     requires kept { ForSome (D.contents (drive_of disk.old)) (AreEntries room.old.entries.items) }

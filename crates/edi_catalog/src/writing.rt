@@ -6,12 +6,12 @@ ghost use Rattle.edi_disk.specs.Shown.{drive_of, shown, IsWorking};
 ghost use Rattle.edi_image.specs.Entries.{block_at};
 ghost use Rattle.edi_catalog.specs.Mounted.{AreEntries};
 ghost use Rattle.edi_catalog.specs.Reads.{UsesBlock};
-ghost use Rattle.edi_catalog.specs.Writing.{PutsEntry, entries_with, patched};
+ghost use Rattle.edi_catalog.specs.Writing.{BlockLeaves, Flushes, IsSettled, PutsEntry, Settles, entries_with, patched};
 
 use crate::mounting::Checked;
 use edi_disk::{Disk, DiskEnd};
 use edi_host::Drive;
-use edi_image::{BLOCK, ENTRY, FIRST};
+use edi_image::{BLOCK, ENTRY};
 
 // Puts an entry over the one at an address in a block.
 fn put_over(block: &mut [u8; BLOCK], at: usize, entry: &[u8; ENTRY])
@@ -23,6 +23,28 @@ fn put_over(block: &mut [u8; BLOCK], at: usize, entry: &[u8; ENTRY])
     index.copy_from_slice(entry);
 }
 
+/// Writes to the drive what was put.
+pub(crate) fn write_cached<D: Drive>(disk: &mut Disk<'_, D>) -> DiskEnd
+    requires works { IsWorking D.contents D.count disk.old }
+    ensures flushes { Flushes D.contents D.count D.faults result disk.old disk.new }
+{
+    disk.flush()
+}
+
+// Puts a block, and writes it to the drive.
+fn write_block<D: Drive>(disk: &mut Disk<'_, D>, n: u32, bytes: &[u8; BLOCK]) -> DiskEnd
+    requires works { IsWorking D.contents D.count disk.old }
+    requires settled { D.contents (drive_of disk.old) ≡ shown D.contents disk.old }
+    requires in_range { n < D.count (drive_of disk.old) }
+    ensures writes { Settles D.contents D.count D.faults result (BlockLeaves result n bytes.now) disk.old disk.new }
+    ensures cached { result ≡ DiskEnd.Ok → UsesBlock n bytes.now disk.old disk.new }
+{
+    match disk.put_page(n, bytes) {
+        DiskEnd::Ok => write_cached(disk),
+        DiskEnd::Fault => DiskEnd::Fault,
+    }
+}
+
 /// Writes the entry of a slot to the drive, in its block, which is kept.
 pub(crate) fn put_entry<D: Drive>(
     disk: &mut Disk<'_, D>,
@@ -30,19 +52,14 @@ pub(crate) fn put_entry<D: Drive>(
     slot: u8,
     entry: &[u8; ENTRY],
 ) -> DiskEnd
-    requires works { IsWorking D.contents D.count disk.old }
-    requires settled { D.contents (drive_of disk.old) ≡ shown D.contents disk.old }
-    requires catalogue { FIRST ≤ D.count (drive_of disk.old) }
+    requires disk { IsSettled D.contents D.count disk.old }
     requires kept { ForSome (D.contents (drive_of disk.old)) (λ blocks. block_at blocks (1 + slot / 8) ≡ kept.old) }
     ensures puts { PutsEntry D.contents D.count D.faults result slot entry.now disk.old disk.new }
     ensures kept { kept.new ≡ patched (ENTRY * (slot % 8)) entry.now kept.old }
     ensures cached { result ≡ DiskEnd.Ok → UsesBlock (1 + slot / 8) kept.new disk.old disk.new }
 {
     put_over(kept, ENTRY * (usize::from(slot) % 8), entry);
-    match disk.put_page(1 + u32::from(slot) / 8, kept) {
-        DiskEnd::Ok => disk.flush(),
-        DiskEnd::Fault => DiskEnd::Fault,
-    }
+    write_block(disk, 1 + u32::from(slot) / 8, kept)
 }
 
 /// Writes the entry of a slot to the drive, in its block, which the room of a catalogue keeps.
@@ -52,9 +69,7 @@ pub(crate) fn put_kept_entry<D: Drive>(
     index: usize,
     entry: &[u8; ENTRY],
 ) -> DiskEnd
-    requires works { IsWorking D.contents D.count disk.old }
-    requires settled { D.contents (drive_of disk.old) ≡ shown D.contents disk.old }
-    requires catalogue { FIRST ≤ D.count (drive_of disk.old) }
+    requires disk { IsSettled D.contents D.count disk.old }
     requires within { index < 256 }
     requires many { length room.old.entries.items ≡ 32 }
     requires kept { ForSome (D.contents (drive_of disk.old)) (AreEntries room.old.entries.items) }

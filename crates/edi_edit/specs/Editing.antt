@@ -48,7 +48,7 @@ EndsBy (Ok made) cause after old new = (cause ≡ None) × (new ≡ after)
 EndsBy (Err NoMemory) cause after old new = (cause ≡ None) × (new ≡ old)
 EndsBy (Err end) cause after old new = (cause ≡ Some end) × (new ≡ old)
 
--- after some changes, to these texts in turn
+-- after some changes, to these texts one after another
 abbrev pub after_changes : Editing → List (List (List ℕ)) → Editing
 after_changes editing [] = editing
 after_changes editing (text ∷ texts) = after_changes (changed editing text) texts

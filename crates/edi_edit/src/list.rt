@@ -12,7 +12,7 @@ use circular_buffer::HeapCircularBuffer;
 use std::alloc::{AllocError, Global};
 use std::mem;
 
-/// What takes a text back to the one before a change. A line's place is counted from 0.
+/// What takes a text back to the one before a change. A line's index is counted from 0.
 #[derive(Debug, Drop)]
 pub(crate) enum Step {
     Remove(usize),
@@ -76,7 +76,7 @@ fn size(lines: &[Vec<u8>]) -> u32
     size
 }
 
-// The place, counted from 0, of line `at`, counted from 1 up to `most`.
+// The index, counted from 0, of line `at`, counted from 1 up to `most`.
 fn line_index(at: u32, most: usize) -> Result<usize, EditEnd>
     ensures ok { IfOk result (λ line_index. (is_index at most ≡ true) × (line_index + 1 ≡ at)) }
     ensures err { IfErr result (λ end. (is_index at most ≡ false) × (end ≡ EditEnd.NoLine)) }

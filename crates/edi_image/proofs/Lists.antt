@@ -5,6 +5,6 @@ use Rattle.edi_image.specs.Laws.{HoldsOneList}
 
 pub holds_one_list : HoldsOneList
 holds_one_list blocks = (
-  ((λ valid. (slots_of blocks, record { valid = valid; files = refl })), (λ held. held.1.valid)),
+  ((λ valid. (slots_of blocks, record { valid = valid; files = refl })), (λ holds. holds.1.valid)),
   λ one other a b. sym a.files ∙ b.files,
 )

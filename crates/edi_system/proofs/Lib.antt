@@ -1,6 +1,7 @@
 pub mod Told
 pub mod Characters
 pub mod Pages
+pub mod Loading
 pub mod FoundFile
 pub mod Lasting
 pub mod Catalogue

@@ -1,6 +1,6 @@
 -- Words of contracts. What each of a program's ten calls leaves, of each object by its own contents: which objects it uses, the found
 -- file, the buffer, what is kept of the catalogue, and the blocks of the drive and their number.
-use Rattle.std.specs.Prelude.{◌≡◌, ◌↔◌, ◌⊎◌, ◌<◌, ℕ, zero, suc, not, List, [], ◌∷◌, slice_index, Option, None, Some, is_some, IfErr, IfOk, IfSome, Result, Ok, Err, ⊤}
+use Rattle.std.specs.Prelude.{◌≡◌, ◌↔◌, ◌⊎◌, ◌<◌, ℕ, zero, suc, not, List, [], ◌∷◌, slice_index, Option, None, Some, is_some, IfErr, IfOk, IfSome, OnOk, Result, Ok, Err, ⊤}
 use Rattle.edi_told.specs.Told.{WhereTold}
 use Rattle.edi_calls.specs.Calls.{word_of}
 use Rattle.edi_calls.specs.State.{character, title_of}
@@ -9,6 +9,7 @@ use Rattle.edi_system.specs.Buffers.{WritesTo}
 use Rattle.edi_system.specs.Catalogue.{OnlyFiles, OnlyReading}
 use Rattle.edi_system.specs.Closing.{Closes, Removes}
 use Rattle.edi_system.specs.Ends.{is_fault}
+use Rattle.edi_system.specs.Loading.{LoadsNext}
 use Rattle.edi_system.specs.Parts.{OnlyInput, OnlyOpenFiles, OnlyPrinter, OnlyTerminal, Prints, Shows}
 use Rattle.edi_system.specs.Reading.{text_spelled, CatalogRests, MoreIs, ReadsOn}
 use Rattle.edi_system.specs.State.{buffer_in, catalog_in, input_in}
@@ -58,11 +59,13 @@ module _ {D S T P : Type 0} where
       OnlyOpenFiles before after × (after.found ≡ text_spelled words (files_of (catalog_in before)))
       × (result ≡ Ok (Some (word_of (is_some after.found))))
 
-  -- there is no found file exactly where the answer says so
+  -- There is no found file exactly where the answer says so. Whatever the drive tells: where there is a next byte, its page is kept, and
+  -- was read unless it was kept.
   abbrev pub NeedsFile : (D → Option (List (List ℕ))) → (D → ℕ) → Result (Option ℕ) Stop → (before after : System D S T P) → Type 0
   NeedsFile contents count result before after =
       OnlyReading before after × CatalogRests contents count (catalog_in before) (catalog_in after)
       × ((result ≡ Err stop.NoFile) ↔ (before.found ≡ None)) × MayLackFile result
+      × OnOk result (LoadsNext before.found after.found before.page after.page (catalog_in before) (catalog_in after))
 
   abbrev pub DoesMore : (D → Option (List (List ℕ))) → (D → ℕ) → Result (Option ℕ) Stop → (before after : System D S T P) → Type 0
   DoesMore contents count result before after =
@@ -70,7 +73,7 @@ module _ {D S T P : Type 0} where
 
   abbrev pub DoesRead : (D → Option (List (List ℕ))) → (D → ℕ) → Result (Option ℕ) Stop → (before after : System D S T P) → Type 0
   DoesRead contents count result before after =
-      NeedsFile contents count result before after × IfOk result (λ word. ReadsOn word before.found after.found)
+      NeedsFile contents count result before after × IfOk result (λ word. ReadsOn word after.page before.found after.found)
 
   -- an empty buffer is begun
   abbrev pub DoesFresh : Result (Option ℕ) Stop → (before after : System D S T P) → Type 0
@@ -79,6 +82,7 @@ module _ {D S T P : Type 0} where
   abbrev pub DoesWrite : ℕ → Result (Option ℕ) Stop → (before after : System D S T P) → Type 0
   DoesWrite word result before after =
       OnlyOpenFiles before after × WritesTo result (character word) (buffer_in before) (buffer_in after) × (after.found ≡ before.found)
+      × IfOk result (λ answer. answer ≡ None)
 
   abbrev pub DoesClose : (D → Option (List (List ℕ))) → (D → ℕ) → (words : List ℕ) → Result (Option ℕ) Stop → (before after : System D S T P) → Type 0
   DoesClose contents count words result before after =

@@ -3,6 +3,7 @@ pub mod Buffers
 pub mod Ends
 pub mod Parts
 pub mod Reading
+pub mod Loading
 pub mod Catalogue
 pub mod InState
 pub mod AsCalls

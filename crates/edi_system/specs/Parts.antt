@@ -58,9 +58,9 @@ OnlyTerminal before after = after ≡ record before { terminal = after.terminal;
 abbrev pub OnlyPrinter : {D S T P : Type 0} → System D S T P → System D S T P → Type 0
 OnlyPrinter before after = after ≡ record before { printer = after.printer; failed = after.failed }
 
--- no object was used
+-- no object was used, and the page that is kept stays
 abbrev pub OnlyOpenFiles : {D S T P : Type 0} → System D S T P → System D S T P → Type 0
-OnlyOpenFiles before after = after ≡ record before { found = after.found; page = after.page; buffer = after.buffer }
+OnlyOpenFiles before after = after ≡ record before { found = after.found; buffer = after.buffer }
 
 -- whether a line that was begun is not ended, after more bytes were shown: the last byte was no line feed
 abbrev pub due_after : Bool → List ℕ → Bool

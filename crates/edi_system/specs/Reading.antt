@@ -1,11 +1,11 @@
 -- Words of contracts. Reading a text of the catalogue.
-use Rattle.std.specs.Prelude.{◌≡◌, ℕ, ◌≤◌, ◌<◌, ◌+◌, Bool, true, false, nat_lt, ◌==◌, if◌then◌else◌, List, slice_get, Option, Some, None, Result, Ok, Err, ⊤}
+use Rattle.std.specs.Prelude.{◌≡◌, ℕ, ◌≤◌, ◌+◌, ◌%◌, Bool, true, false, nat_lt, ◌==◌, if◌then◌else◌, List, slice_get, slice_index, Option, Some, None, Result, Ok, Err, ⊤}
 use Rattle.std.specs.Option.{option_map, option_and_then}
 use Rattle.std.specs.Str.{bytes_eq}
 use Rattle.edi_told.specs.Faults.{CountRose}
 use Rattle.edi_told.specs.Told.{WhereTold}
 use Rattle.edi_disk.specs.Shown.{drive_of, reference_of}
-use Rattle.edi_calls.specs.State.{Found, State, find_file, title_of}
+use Rattle.edi_calls.specs.State.{Found, State, character, find_file, title_of}
 use Rattle.edi_calls.specs.Calls.{bytes_of, found_bytes, is_text, word_of}
 use Rattle.edi_calls.specs.Ends.{IsTorn}
 use Rattle.edi_catalog.specs.declared.catalog.Catalog.{Catalog}
@@ -90,17 +90,19 @@ MoreIs (Some word) None (Some next) = ⊥
 MoreIs (Some word) (Some reading) (Some next) =
     (next ≡ record reading { kept = next.kept }) × (word ≡ word_of (nat_lt reading.position reading.length))
 
--- the position is one further, or at the end the same, and then the word is that of the end
-abbrev pub GoesOn : Bool → ℕ → (before after : Reading) → Type 0
-GoesOn true word before after = (after ≡ record before { position = before.position + 1; kept = after.kept }) × (word < 128)
-GoesOn false word before after = (after ≡ record before { kept = after.kept }) × (word ≡ 25)
+-- The position is one further, and the word is the character of the page at the old one; or at the end it is the same, and then the word
+-- is that of the end.
+abbrev pub GoesOn : Bool → ℕ → (page : List ℕ) → (before after : Reading) → Type 0
+GoesOn true word page before after =
+    (after ≡ record before { position = before.position + 1; kept = after.kept }) × (word ≡ character (slice_index page (before.position % 512)))
+GoesOn false word page before after = (after ≡ record before { kept = after.kept }) × (word ≡ 25)
 
-abbrev pub ReadsOn : Option ℕ → (before after : Option Reading) → Type 0
-ReadsOn None before after = ⊥
-ReadsOn (Some word) before None = ⊥
-ReadsOn (Some word) None (Some next) = ⊥
-ReadsOn (Some word) (Some reading) (Some next) =
-    GoesOn (nat_lt reading.position reading.length) word reading next
+abbrev pub ReadsOn : Option ℕ → (page : List ℕ) → (before after : Option Reading) → Type 0
+ReadsOn None page before after = ⊥
+ReadsOn (Some word) page before None = ⊥
+ReadsOn (Some word) page None (Some next) = ⊥
+ReadsOn (Some word) page (Some reading) (Some next) =
+    GoesOn (nat_lt reading.position reading.length) word page reading next
 
 -- the next byte of the found file was looked for, which changes nothing
 abbrev pub LooksAt : Result (Option ℕ) Stop → Option Found → State → State → Type 0

@@ -1,6 +1,6 @@
 //! The calls of the catalogue, on a system.
 
-ghost use Rattle.std.specs.Prelude.{◌≡◌, ◌⊎◌, ◌≤◌, ◌<◌, ◌+◌, ◌-◌, ◌^◌, ◌↔◌, true, false, None, Some, Err, IfErr, IfOk, IfSome, length, slice_index_or};
+ghost use Rattle.std.specs.Prelude.{◌≡◌, ◌⊎◌, ◌≤◌, ◌<◌, ◌+◌, ◌-◌, ◌^◌, ◌↔◌, true, false, None, Some, Err, IfErr, IfOk, IfSome, OnOk, length, slice_index, slice_index_or};
 ghost use Rattle.std.specs.Option.{option_map};
 ghost use Rattle.edi_told.specs.Told.{WhereTold};
 ghost use Rattle.edi_calls.specs.State.{find_file, free, fresh, most_bytes, pages_of, slot_at};
@@ -12,7 +12,8 @@ ghost use Rattle.edi_system.specs.InState.{left_open, ReadsPage, ReadsWhole, Sta
 ghost use Rattle.edi_catalog.specs.Storing.{slots_stored, StoreChanges, blocks_free, not_stored};
 ghost use Rattle.edi_catalog.specs.Files.{entry_of, file_titled, FileIs, PageIs};
 ghost use Rattle.edi_image.specs.Stored.{blocks_taken};
-ghost use Rattle.edi_catalog.specs.Mounted.{files_of};
+ghost use Rattle.edi_catalog.specs.Mounted.{disk_of, files_of};
+ghost use Rattle.edi_catalog.specs.Reads.{GivesBlock, GivesBlocks};
 ghost use Rattle.edi_system.specs.State.{catalog_in, drive_in, failed_in, state_of, IsReady};
 ghost use Rattle.edi_system.specs.AsCalls.{KeepsDue};
 ghost use Rattle.edi_system.specs.Ends.{Keeps};
@@ -100,6 +101,9 @@ impl<D: Drive, S: Source, T: Sink, P: Sink> System<'_, '_, '_, '_, '_, '_, D, S,
             (λ old new. PageIn result (find_file (slots_of old) title.now) i into.new) }
         ensures exact { WhereTold (state_of D.contents S.left T.taken P.taken self.old) (state_of D.contents S.left T.taken P.taken self.new)
             (λ before after. (after ≡ before) × ReadsPage result (find_file before.slots title.now) i into.new) }
+        // Whatever the drive tells: on Ok the page is given as it was cached, or else as it is cached from then on.
+        ensures gives { OnOk result (IfSome (file_titled title.now (files_of (catalog_in self.old)))
+            (λ file. GivesBlock (slice_index file.pages i) into.new (disk_of (catalog_in self.old)) (disk_of (catalog_in self.new)))) }
         ensures count { D.count (drive_in self.new) ≡ D.count (drive_in self.old) }
         ensures only { OnlyCatalog self.old self.new }
         ensures failed { failed_in self.new ≡ failed_at result }
@@ -127,6 +131,10 @@ impl<D: Drive, S: Source, T: Sink, P: Sink> System<'_, '_, '_, '_, '_, '_, D, S,
             (λ old new. (new ≡ old) × FileIs result title.now into.new old) }
         ensures exact { WhereTold (state_of D.contents S.left T.taken P.taken self.old) (state_of D.contents S.left T.taken P.taken self.new)
             (λ before after. (after ≡ before) × ReadsWhole result (find_file before.slots title.now) into.new) }
+        // Whatever the drive tells: on Ok each page that was still cached when it was read is given as it was cached, and each
+        // that is cached afterwards as it is.
+        ensures gives { OnOk result (IfSome (file_titled title.now (files_of (catalog_in self.old)))
+            (λ file. GivesBlocks file.pages (length file.pages) into.new (disk_of (catalog_in self.old)) (disk_of (catalog_in self.new)))) }
         ensures count { D.count (drive_in self.new) ≡ D.count (drive_in self.old) }
         ensures only { OnlyCatalog self.old self.new }
         ensures failed { failed_in self.new ≡ failed_at result }

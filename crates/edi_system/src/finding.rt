@@ -1,6 +1,6 @@
 //! The found file.
 
-ghost use Rattle.std.specs.Prelude.{◌≡◌, ◌<◌, ◌↔◌, false, length, is_some, Ok, Err, None, Some, IfOk, IfSome, IsSome};
+ghost use Rattle.std.specs.Prelude.{◌≡◌, ◌<◌, ◌↔◌, false, length, is_some, Ok, Err, None, Some, IfOk, IfSome, IsSome, OnOk};
 ghost use Rattle.edi_told.specs.Told.{WhereTold};
 ghost use Rattle.edi_calls.specs.Calls.{find, more, read, word_of};
 ghost use Rattle.edi_catalog.specs.Mounted.{files_of};
@@ -9,6 +9,7 @@ ghost use Rattle.edi_system.specs.Catalogue.{OnlyReading};
 ghost use Rattle.edi_system.specs.Does.{MayLackFile};
 ghost use Rattle.edi_system.specs.Ends.{is_fault, Keeps, Reaches};
 ghost use Rattle.edi_system.specs.AsCalls.{KeepsDue};
+ghost use Rattle.edi_system.specs.Loading.{IsOn, LoadsNext};
 ghost use Rattle.edi_system.specs.Parts.{KeepsTold, OnlyOpenFiles};
 ghost use Rattle.edi_system.specs.Reading.{text_spelled, CatalogRests, LooksAt, LooksIn, MoreIs, ReadsOn};
 
@@ -49,6 +50,8 @@ impl<D: Drive, S: Source, T: Sink, P: Sink> System<'_, '_, '_, '_, '_, '_, D, S,
         ensures no_file { (result ≡ Err Stop.NoFile) ↔ (self.old.found ≡ None) }
         ensures refusals { MayLackFile result }
         ensures looks { IfOk result (λ byte. LooksIn (is_some byte) self.old.found self.new.found) }
+        ensures loads { OnOk result (LoadsNext self.old.found self.new.found self.old.page self.new.page (catalog_in self.old) (catalog_in self.new)) }
+        ensures on { IfOk result (IsOn self.new.page self.old.found) }
         ensures only { OnlyReading self.old self.new }
         ensures rests { CatalogRests D.contents D.count (catalog_in self.old) (catalog_in self.new) }
         ensures untouched { result ≡ Err Stop.NoFile → self.new ≡ self.old }
@@ -81,6 +84,7 @@ impl<D: Drive, S: Source, T: Sink, P: Sink> System<'_, '_, '_, '_, '_, '_, D, S,
         ensures no_file { (result ≡ Err Stop.NoFile) ↔ (self.old.found ≡ None) }
         ensures refusals { MayLackFile result }
         ensures tells { IfOk result (λ word. MoreIs word self.old.found self.new.found) }
+        ensures loads { OnOk result (LoadsNext self.old.found self.new.found self.old.page self.new.page (catalog_in self.old) (catalog_in self.new)) }
         ensures only { OnlyReading self.old self.new }
         ensures rests { CatalogRests D.contents D.count (catalog_in self.old) (catalog_in self.new) }
         ensures untouched { result ≡ Err Stop.NoFile → self.new ≡ self.old }
@@ -103,7 +107,8 @@ impl<D: Drive, S: Source, T: Sink, P: Sink> System<'_, '_, '_, '_, '_, '_, D, S,
             (λ before after. Reaches (read before) result before after) }
         ensures no_file { (result ≡ Err Stop.NoFile) ↔ (self.old.found ≡ None) }
         ensures refusals { MayLackFile result }
-        ensures moves { IfOk result (λ word. ReadsOn word self.old.found self.new.found) }
+        ensures moves { IfOk result (λ word. ReadsOn word self.new.page self.old.found self.new.found) }
+        ensures loads { OnOk result (LoadsNext self.old.found self.new.found self.old.page self.new.page (catalog_in self.old) (catalog_in self.new)) }
         ensures only { OnlyReading self.old self.new }
         ensures rests { CatalogRests D.contents D.count (catalog_in self.old) (catalog_in self.new) }
         ensures untouched { result ≡ Err Stop.NoFile → self.new ≡ self.old }

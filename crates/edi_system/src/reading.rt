@@ -8,6 +8,7 @@ ghost use Rattle.edi_calls.specs.State.{title_of};
 ghost use Rattle.edi_catalog.specs.Files.{entry_of, file_titled};
 ghost use Rattle.edi_catalog.specs.Mounted.{IsMounted, disk_of, files_of};
 ghost use Rattle.edi_system.specs.State.{IsReading};
+ghost use Rattle.edi_system.specs.Loading.{IsOn, Loads, LoadsAt};
 ghost use Rattle.edi_system.specs.Reading.{byte_in, forgotten, is_err, is_kept, not_titled, text_of, text_spelled, CatalogRests, GivesByte, OnlyReads};
 
 use crate::streams::character;
@@ -113,7 +114,7 @@ fn load<D: Drive>(
     requires more { reading.old.position < reading.old.length }
     ensures mounted { OnOk result (IsMounted D.contents D.count catalog.new) }
     ensures reading { OnOk result (IsReading D.contents catalog.new page.new reading.new) }
-    ensures loaded { OnOk result (reading.new.kept ≡ Some (reading.new.position / PAGE)) }
+    ensures loads { OnOk result (Loads reading.old reading.new.kept page.old page.new catalog.old catalog.new) }
     ensures same { reading.new ≡ record reading.old { kept = reading.new.kept } }
     ensures reads { OnlyReads D.faults (is_err result) catalog.old catalog.new }
     ensures rests { CatalogRests D.contents D.count catalog.old catalog.new }
@@ -148,6 +149,9 @@ pub(crate) fn next_byte<D: Drive>(
     ensures rests { CatalogRests D.contents D.count catalog.old catalog.new }
     ensures byte { WhereTold (D.contents (drive_of (disk_of catalog.old))) (D.contents (drive_of (disk_of catalog.new)))
         (λ old new. (new ≡ old) × GivesByte result (byte_in old reading.old.title reading.old.position)) }
+    ensures loads { OnOk result (LoadsAt (nat_lt reading.old.position reading.old.length) reading.old reading.new.kept page.old page.new catalog.old
+        catalog.new) }
+    ensures on { IfOk result (IsOn page.new (Some reading.old)) }
 {
     if reading.position >= reading.length {
         return Ok(None);

@@ -1,6 +1,6 @@
 //! Writing, storing and removing a file.
 
-ghost use Rattle.std.specs.Prelude.{◌≡◌, ◌%◌, ◌↔◌, false, length, [], Ok, Err, None, Some, IfSome};
+ghost use Rattle.std.specs.Prelude.{◌≡◌, ◌%◌, ◌↔◌, false, length, [], Ok, Err, None, Some, IfOk, IfSome};
 ghost use Rattle.edi_told.specs.Told.{WhereTold};
 ghost use Rattle.edi_calls.specs.State.{title_of};
 ghost use Rattle.edi_calls.specs.Calls.{close, fresh_buffer, remove, write};
@@ -56,6 +56,7 @@ impl<D: Drive, S: Source, T: Sink, P: Sink> System<'_, '_, '_, '_, '_, '_, D, S,
         ensures exact { WhereTold (state_of D.contents S.left T.taken P.taken self.old) (state_of D.contents S.left T.taken P.taken self.new)
             (λ before after. Reaches (write word before) result before after) }
         ensures writes { WritesTo result (word % 128) (buffer_in self.old) (buffer_in self.new) }
+        ensures answer { IfOk result (λ answer. answer ≡ None) }
         ensures found { self.new.found ≡ self.old.found }
         ensures only { OnlyOpenFiles self.old self.new }
         ensures untouched { result ≡ Err Stop.NoFile → self.new ≡ self.old }

@@ -17,6 +17,8 @@ pub(crate) enum Call {
     Find(&'static str),
     More,
     Read,
+    /// Reads so many characters; the answer is the last one.
+    ReadOn(u16),
     Fresh,
     Write(u16),
     Close(&'static str),
@@ -78,6 +80,21 @@ fn tell<C: Calls>(calls: &mut C, number: u8, args: &[u16]) -> Option<Answer>
     }
 }
 
+// Reads so many characters, and tells the last; `None` where an object has failed.
+fn read_on<C: Calls>(calls: &mut C, many: u16) -> Option<Answer>
+    requires working { C.failed calls.old None }
+    ensures working { IsSome result → C.failed calls.new None }
+{
+    let mut last = Answer::Done;
+    for _ in 0..many {
+        match ask(calls, 6, &[]) {
+            Some(answer) => last = answer,
+            None => return None,
+        }
+    }
+    Some(last)
+}
+
 // Makes a call; `None` where an object has failed.
 fn make<D: Drive, S: Source, T: Sink, P: Sink>(
     calls: &mut System<'_, '_, '_, '_, '_, '_, D, S, T, P>,
@@ -93,6 +110,7 @@ fn make<D: Drive, S: Source, T: Sink, P: Sink>(
         Call::Find(title) => ask(calls, 4, &name(title)),
         Call::More => ask(calls, 5, &[]),
         Call::Read => ask(calls, 6, &[]),
+        Call::ReadOn(many) => read_on(calls, many),
         Call::Fresh => tell(calls, 7, &[]),
         Call::Write(c) => tell(calls, 8, &[c]),
         Call::Close(title) => ask(calls, 9, &name(title)),

@@ -1,7 +1,10 @@
 //! What each call leaves where one of the objects fails in it: the files from before it, or those that it was to leave.
 
 use crate::calls::Answer::{Done, Word};
-use crate::calls::Call::{Accept, Close, Display, Find, Fresh, More, Print, Read, Remove, Write};
+use crate::calls::Call::{
+    Accept, Close, Display, Find, Fresh, More, Print, Read, ReadOn, Remove, Write,
+};
+use crate::image::Image;
 use crate::objects::{Case, Table, leaves};
 use crate::requests::Reply;
 use crate::requests::Reply::{File, No, Number, Yes};
@@ -53,6 +56,7 @@ type Row<'a> = (Table<'a>, u64, &'a Files);
 fn ends_so(
     rt: &impl Abort,
     alloc: Global,
+    image: Image,
     row: Row<'_>,
     n: u64,
     lands: bool,
@@ -75,24 +79,26 @@ fn ends_so(
         shown: b"",
         printed: b"",
     };
-    leaves(rt, alloc, case, lands, INPUT, left)
+    leaves(rt, alloc, image, case, lands, INPUT, left)
 }
 
-// Mounting makes 36 calls of the drive. The files are those from before wherever a later one fails, but where the last one
-// lands; and where none fails they are those that the table leaves.
+// Before its last call a table makes so many calls of the drive. The files are those from before wherever a later one fails, but
+// where the last one lands; and where none fails they are those that the table leaves.
 fn is_before_or_after(
     rt: &impl Abort,
     alloc: Global,
+    image: Image,
+    made: u64,
     row: Row<'_>,
     before: &Files,
 ) -> Result<(), AllocError> {
     let (_, last, after) = row;
-    for n in 37..last.saturating_add(1) {
+    for n in made.saturating_add(1)..last.saturating_add(1) {
         let landed = if n == last { after } else { before };
-        assert!(rt; ends_so(rt, alloc, row, n, false, before)?, "{n}");
-        assert!(rt; ends_so(rt, alloc, row, n, true, landed)?, "{n} lands");
+        assert!(rt; ends_so(rt, alloc, image, row, n, false, before)?, "{n}");
+        assert!(rt; ends_so(rt, alloc, image, row, n, true, landed)?, "{n} lands");
     }
-    assert!(rt; ends_so(rt, alloc, row, last.saturating_add(1), false, after)?);
+    assert!(rt; ends_so(rt, alloc, image, row, last.saturating_add(1), false, after)?);
     Ok(())
 }
 
@@ -139,7 +145,8 @@ fn a_drive_that_fails_in_a_call_has_the_files_before_or_after(rt: HostRuntime) -
     let rename = [(Rename("text", "t2"), Yes)];
     let protect = [(Protect("text"), Yes)];
     let release = [(Release("kept"), Yes)];
-    // A change writes the block of the entry; a store before it a map and a page.
+    // Mounting reads the 33 blocks of the catalogue and three maps. A change writes the block of the entry; a store before it a
+    // map and a page.
     let rows: [Row<'_>; 11] = [
         (Table::Calls(&more), 37, &before),
         (Table::Calls(&read), 37, &before),
@@ -154,7 +161,44 @@ fn a_drive_that_fails_in_a_call_has_the_files_before_or_after(rt: HostRuntime) -
         (Table::Requests(&release), 37, &released),
     ];
     for row in &rows {
-        is_before_or_after(&rt, alloc, *row, &before)?;
+        is_before_or_after(&rt, alloc, Image::Three, 36, *row, &before)?;
+    }
+    Ok(())
+}
+
+#[test]
+fn a_drive_that_fails_at_a_second_page_has_the_files_before(rt: HostRuntime) -> Result<(), Fail> {
+    let alloc = rt.alloc();
+    let text = File(FileKind::Text, 513, false);
+    let before = [
+        (Slot(0), text),
+        (Slot(1), No),
+        (Slot(2), No),
+        (Free, Number(28)),
+        (Page("long", 0), Number(0)),
+        (Page("long", 1), Number(99)),
+    ];
+    let read = [
+        (Find("long"), Word(1)),
+        (ReadOn(512), Word(98)),
+        (Read, Word(99)),
+    ];
+    let more = [
+        (Find("long"), Word(1)),
+        (ReadOn(512), Word(98)),
+        (More, Word(1)),
+    ];
+    let whole = [(Whole("long"), Number(513))];
+    let page = [(Page("long", 0), Number(0)), (Page("long", 1), Number(99))];
+    // Mounting reads the 33 blocks of the catalogue and one map; then each page is read once, the first in call 35.
+    let rows: [(u64, Row<'_>); 4] = [
+        (35, (Table::Calls(&read), 36, &before)),
+        (35, (Table::Calls(&more), 36, &before)),
+        (34, (Table::Requests(&whole), 36, &before)),
+        (35, (Table::Requests(&page), 36, &before)),
+    ];
+    for (made, row) in &rows {
+        is_before_or_after(&rt, alloc, Image::Long, *made, *row, &before)?;
     }
     Ok(())
 }
@@ -178,7 +222,7 @@ fn stays(
         shown,
         printed: b"",
     };
-    leaves(rt, alloc, case, false, INPUT, left)
+    leaves(rt, alloc, Image::Three, case, false, INPUT, left)
 }
 
 #[test]

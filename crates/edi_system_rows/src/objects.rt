@@ -1,7 +1,7 @@
 //! A system over objects in memory.
 
 use crate::calls::{self, Answer, Call};
-use crate::image::{image, zeros};
+use crate::image::{Image, image, zeros};
 use crate::requests::{self, Reply, Request};
 use edi_calls::Outside;
 use edi_catalog::{check, mount};
@@ -20,7 +20,7 @@ pub(crate) enum Table<'a> {
     Requests(&'a [(Request, Reply)]),
 }
 
-/// A table of calls over the image, and what comes of it.
+/// A table of calls over an image, and what comes of it.
 #[derive(Clone, Copy)]
 pub(crate) struct Case<'a> {
     pub(crate) table: Table<'a>,
@@ -134,9 +134,9 @@ fn with_drive<D: Drive>(
     }
 }
 
-/// Whether the case holds.
+/// Whether the case holds over the image of three files.
 pub(crate) fn holds(rt: &impl Abort, alloc: Global, case: Case<'_>) -> Result<bool, AllocError> {
-    let bytes = image(alloc)?;
+    let bytes = image(alloc, Image::Three)?;
     assert!(rt; bytes.len() % 512 == 0);
     let mut drive = MemoryDrive::new(alloc, &bytes, &failing(case, Outside::Drive), false)?;
     with_drive(alloc, &mut drive, case, None)
@@ -164,17 +164,18 @@ fn has_files(
     with_drive(alloc, &mut drive, case, None)
 }
 
-/// Whether the case holds where the failing call of the drive lands or not, the input then has these bytes, and the drive
-/// is a valid image of these files.
+/// Whether the case holds over an image where the failing call of the drive lands or not, the input then has these bytes, and
+/// the drive is a valid image of these files.
 pub(crate) fn leaves(
     rt: &impl Abort,
     alloc: Global,
+    which: Image,
     case: Case<'_>,
     lands: bool,
     unread: &[u8],
     files: &[(Request, Reply)],
 ) -> Result<bool, AllocError> {
-    let bytes = image(alloc)?;
+    let bytes = image(alloc, which)?;
     assert!(rt; bytes.len() % 512 == 0);
     let mut drive = MemoryDrive::new(alloc, &bytes, &failing(case, Outside::Drive), lands)?;
     let is_told = with_drive(alloc, &mut drive, case, Some(unread))?;

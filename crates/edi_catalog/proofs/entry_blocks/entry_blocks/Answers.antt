@@ -27,7 +27,7 @@ loop-i-preserved g c =
           whole_more c.loop-i.entries.items c.push.new.self.items c.in-Ok.bytes c.loop-i.i more c.loop-i.invariant.many (search rules) c.loop-i.invariant.each;
       kept =
           cached_more c.loop-i.entries.items c.push.new.self.items c.in-Ok.bytes c.loop-i.i c.loop-i.disk c.block.new.disk more c.loop-i.invariant.many
-          c.in-Ok.ensures.cached c.in-Ok.ensures.others c.loop-i.invariant.kept;
+          c.in-Ok.ensures.gives.caches.there c.in-Ok.ensures.others c.loop-i.invariant.kept;
     }
 
 pub returns-in-Err-clause-checks : goal.returns-in-Err-clause-checks

@@ -2,24 +2,24 @@ use Rattle.std.proofs.Common.{false, replicate, None, refl, sym, ap, subst, ◌�
 use Rattle.std.specs.Prelude.{◌||◌, slice_index_or}
 use Rattle.std.proofs.lemmas.List.{drop_all, get_or_default}
 use Rattle.edi_image.specs.Rules.{is_in}
-use Rattle.edi_catalog.specs.Plan.{blocks_used, used_in, Marks}
-use Rattle.edi_catalog.proofs.Marking.{file_marked, nothing_marked}
+use Rattle.edi_catalog.specs.Plan.{blocks_used, used_in, Inserts}
+use Rattle.edi_catalog.proofs.BlockSets.{file_inserted, nothing_inserted}
 use Rattle.edi_catalog.proofs.free.used_blocks.Goals as goal
 
 pub loop-file-init : goal.loop-file-init
 loop-file-init c = record {
   as_many = refl;
-  left = λ n l. nothing_marked (replicate 4096 false) 4096 n (is_in n (blocks_used c.args.files.now)) refl;
+  left = λ n l. nothing_inserted (replicate 4096 false) 4096 n (is_in n (blocks_used c.args.files.now)) refl;
 }
 
 pub loop-file-preserved : goal.loop-file-preserved
 loop-file-preserved c =
     let item = c.file-item.is ∙ get_or_default c.args.files.now c.loop-file.file-index c.file-item.result None c.loop-file-test.true in
-    let marks = subst (λ x. Marks (used_in x) c.loop-file.used c.mark_file.new.used) item c.mark_file.ensures.exact in
+    let inserts = subst (λ x. Inserts (used_in x) c.loop-file.used c.insert_file.new.used) item c.insert_file.ensures.exact in
     record {
-      as_many = c.mark_file.ensures.exact.as_many ∙ c.loop-file.invariant.as_many;
-      left = λ n l. file_marked c.args.files.now c.loop-file.file-index c.loop-file.used c.mark_file.new.used c.loop-file-test.true
-          c.loop-file.invariant.as_many marks n (is_in n (blocks_used c.args.files.now)) l (c.loop-file.invariant.left n l);
+      as_many = c.insert_file.ensures.exact.as_many ∙ c.loop-file.invariant.as_many;
+      left = λ n l. file_inserted c.args.files.now c.loop-file.file-index c.loop-file.used c.insert_file.new.used c.loop-file-test.true
+          c.loop-file.invariant.as_many inserts n (is_in n (blocks_used c.args.files.now)) l (c.loop-file.invariant.left n l);
     }
 
 pub returns : goal.returns

@@ -1,7 +1,8 @@
-use Rattle.std.proofs.Common.{◌∙◌, ap, sym, arith}
+use Rattle.std.proofs.Common.{◌∙◌, ap, sym, subst, arith}
 use Rattle.edi_image.specs.Entries.{block_at}
+use Rattle.edi_catalog.specs.Reads.{GivesBlock}
+use Rattle.edi_catalog.proofs.ReadBlocks.{front_stays, given_at}
 use Rattle.edi_catalog.proofs.Sequence.{checks_map}
-use Rattle.edi_catalog.proofs.StillCached.{entries_stay}
 use Rattle.edi_catalog.proofs.WholeFiles.{page_put}
 use Rattle.edi_catalog.proofs.reading.read_page_at.Goals as goal
 
@@ -13,6 +14,15 @@ returns-in-Ok-clause-checks g c =
     (omega (arith, c.copy_from_slice.ensures.len, c.split_at_mut-index.ensures.front_len)))
     c.in-Ok.ensures.checks
 
-pub returns-in-Ok-clause-entries : goal.returns-in-Ok-clause-entries
-returns-in-Ok-clause-entries g c =
-    entries_stay c.from.result c.args.page c.args.disk.now c.block.new.disk c.from.ensures c.requires.behind c.in-Ok.ensures.others
+pub returns-in-Ok-clause-front : goal.returns-in-Ok-clause-front
+returns-in-Ok-clause-front g c = front_stays c.args.at c.args.into.now _ _ c.split_at_mut-rest.ensures.front c.split_at_mut-rest.ensures.front_len
+
+pub returns-in-Ok-clause-gives : goal.returns-in-Ok-clause-gives
+returns-in-Ok-clause-gives g c =
+    given_at c.from.result c.args.page c.args.at c.in-Ok.bytes _ _ _ c.args.disk.now c.block.new.disk c.from.ensures c.split_at_mut-rest.ensures.front_len
+    c.copy_from_slice.ensures.after
+    (omega (arith, c.copy_from_slice.ensures.len, c.split_at_mut-index.ensures.front_len))
+    c.in-Ok.ensures.gives
+
+pub returns-in-Ok-clause-others : goal.returns-in-Ok-clause-others
+returns-in-Ok-clause-others g c = λ m other. c.in-Ok.ensures.others m (λ same. other (same ∙ c.from.ensures))

@@ -1,27 +1,22 @@
-use Rattle.std.proofs.Common.{◌≡◌, ◌<◌, ◌∙◌, ap, sym, rules, refl, Some, None}
+use Rattle.std.proofs.Common.{ap, sym, refl, Some, None}
 use Rattle.edi_catalog.specs.Mounted.{files_of}
-use Rattle.edi_catalog.specs.Files.{find_index}
 use Rattle.edi_catalog.specs.Changes.{deleted}
-use Rattle.edi_catalog.proofs.Changing.{changes_as, delete_refusal, has_file, inside, protection_is}
+use Rattle.edi_catalog.proofs.Changing.{changes_as, delete_refusal, has_file, protection_is}
 use Rattle.edi_catalog.proofs.catalog.Catalog.delete_kept.Goals as goal
 
 pub put_slot-requires-clause-fits : goal.put_slot-requires-clause-fits
 put_slot-requires-clause-fits g c =
-    let found = has_file c.args.title.now (files_of c.args.self.now) c.in-Some.index
-    (sym (c.in-Some.ensures.exact ∙ ap (find_index c.args.title.now) c.deref.ensures.value)) in
+    let found = has_file c.args.title.now (files_of c.args.self.now) c.in-Some.index (sym c.in-Some.ensures.exact) in
     record { file = found.file; there = found.there; fits = tt }
 
 pub returns : goal.returns
 returns g c =
     let files = files_of c.args.self.now in
-    let finds : find_index c.args.title.now files ≡ Some c.in-Some.index =
-    sym (c.in-Some.ensures.exact ∙ ap (find_index c.args.title.now) c.deref.ensures.value) in
-    let within : c.in-Some.index < 256 = inside files c.in-Some.index c.requires.mounted.many (search rules) in
-    let found = has_file c.args.title.now files c.in-Some.index finds in
-    let free = protection_is files c.in-Some.index _ found.file _ _ c.requires.mounted.many within c.index.ensures found.there c.is_protected.ensures
+    let found = has_file c.args.title.now files c.in-Some.index (sym c.in-Some.ensures.exact) in
+    let free = protection_is files c.in-Some.index _ found.file _ _ c.requires.mounted.many c.in-Some.ensures.bound c.index.ensures found.there c.is_protected.ensures
     c.if-is_protected.false in
     record {
       changes =
           changes_as _ _ _ c.put_slot.result _ c.args.title.now c.in-Some.index None deleted deleted found.file c.args.self.now _ c.requires.mounted
-          finds found.there (delete_refusal c.args.title.now files c.in-Some.index found free) refl (λ blocks. refl) c.put_slot.ensures.changes;
+          (sym c.in-Some.ensures.exact) found.there (delete_refusal c.args.title.now files c.in-Some.index found free) refl (λ blocks. refl) c.put_slot.ensures.changes;
     }

@@ -4,9 +4,12 @@ use Rattle.edi_catalog.specs.Mounted.{files_of}
 use Rattle.edi_catalog.proofs.Changing.{has_catalogue, slot_done, slot_failed, slot_kept, slot_room}
 use Rattle.edi_catalog.proofs.catalog.Catalog.put_slot.Goals as goal
 
-pub put_kept_entry-requires-clause-catalogue : goal.put_kept_entry-requires-clause-catalogue
-put_kept_entry-requires-clause-catalogue g c =
-    has_catalogue _ (files_of c.args.self.now) c.args.index c.args.entry c.requires.mounted.stored c.requires.fits
+pub put_kept_entry-requires-clause-disk : goal.put_kept_entry-requires-clause-disk
+put_kept_entry-requires-clause-disk g c = record {
+  works = c.requires.mounted.works;
+  settled = c.requires.mounted.settled;
+  catalogue = has_catalogue _ (files_of c.args.self.now) c.args.index c.args.entry c.requires.mounted.stored c.requires.fits;
+}
 
 pub put_kept_entry-requires-clause-many : goal.put_kept_entry-requires-clause-many
 put_kept_entry-requires-clause-many g c =

@@ -1,12 +1,27 @@
 use borrow.Rule.Reborrow.{re_v}
 use Rattle.std.specs.Vec.{with_item}
-use Rattle.std.proofs.Common.{◌≡◌, true, Some, refl, ap, set, subst, arith}
+use Rattle.std.proofs.Common.{◌≡◌, true, Some, refl, ap, set, sym, subst, arith}
 use Rattle.edi_disk.specs.Shown.{drive_of}
 use Rattle.edi_catalog.specs.Mounted.{disk_of, files_of}
 use Rattle.edi_image.specs.Stored.{is_stored}
 use Rattle.edi_catalog.specs.Plan.{AreFree, used_in}
+use Rattle.edi_catalog.specs.declared.entry.Entry.{Entry}
 use Rattle.edi_catalog.proofs.StoredFiles.{changes_done, changes_failed, stores_from}
 use Rattle.edi_catalog.proofs.catalog.Catalog.store_at.Goals as goal
+
+pub write_kept-requires-clause-disk : goal.write_kept-requires-clause-disk
+write_kept-requires-clause-disk g c = record {
+  works = c.requires.mounted.works;
+  settled = c.requires.mounted.settled;
+  catalogue = omega (arith, c.requires.room);
+}
+
+pub write_kept-requires-clause-file : goal.write_kept-requires-clause-file
+write_kept-requires-clause-file g c = record {
+  stored = subst (λ n. is_stored n (Some c.lay_file-file.result) ≡ true) c.blocks-count.ensures.count c.lay_file-file.ensures.kept;
+  different = c.lay_file-file.ensures.free.different;
+  size = sym (ap (λ (e : Entry). e.length) c.lay_file-file.ensures.entry);
+}
 
 pub write_kept-requires-clause-many : goal.write_kept-requires-clause-many
 write_kept-requires-clause-many g c = (c.requires.mounted.room (omega (arith, c.requires.room))).many

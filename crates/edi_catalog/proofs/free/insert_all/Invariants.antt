@@ -1,7 +1,7 @@
 use Rattle.std.proofs.Common.{◌≡◌, ℕ, ◌<◌, false, drop, length}
 use Rattle.std.specs.Prelude.{◌||◌, slice_index_or}
 use Rattle.edi_image.specs.Rules.{is_in}
-use Rattle.edi_catalog.proofs.free.mark_all.Given as goal
+use Rattle.edi_catalog.proofs.free.insert_all.Given as goal
 
 abbrev pub invariant-loop-block : goal.invariant-loop-block
 invariant-loop-block l = record {
