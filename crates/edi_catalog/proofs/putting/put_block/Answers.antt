@@ -1,8 +1,7 @@
-use Rattle.std.proofs.Common.{◌≡◌, ◌≤◌, ◌<◌, ◌-◌, ◌*◌, ◌∙◌, length, Some, sym, subst}
-use Rattle.std.specs.Prelude.{slice_index}
+use Rattle.std.proofs.Common.{◌≤◌, ◌<◌, ◌-◌, ◌*◌, ◌∙◌, length, sym, subst}
 use Rattle.edi_disk.specs.Shown.{drive_of, shown}
 use Rattle.edi_disk.proofs.Calls as calls
-use Rattle.edi_catalog.specs.Plan.{content_of, used_in}
+use Rattle.edi_catalog.specs.Plan.{content_of}
 use Rattle.edi_catalog.specs.Putting.{PutsBlock}
 use Rattle.edi_catalog.proofs.FileShape.{shape_of, maps_enough, pages_enough, used_below}
 use Rattle.edi_catalog.proofs.PutBlocks.{there_if}

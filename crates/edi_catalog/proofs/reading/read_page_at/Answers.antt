@@ -1,6 +1,5 @@
-use Rattle.std.proofs.Common.{◌∙◌, ap, sym, subst, arith}
+use Rattle.std.proofs.Common.{◌∙◌, ap, sym, arith}
 use Rattle.edi_image.specs.Entries.{block_at}
-use Rattle.edi_catalog.specs.Reads.{GivesBlock}
 use Rattle.edi_catalog.proofs.ReadBlocks.{front_stays, given_at}
 use Rattle.edi_catalog.proofs.Sequence.{checks_map}
 use Rattle.edi_catalog.proofs.WholeFiles.{page_put}

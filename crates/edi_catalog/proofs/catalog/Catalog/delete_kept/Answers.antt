@@ -1,4 +1,4 @@
-use Rattle.std.proofs.Common.{ap, sym, refl, Some, None}
+use Rattle.std.proofs.Common.{sym, refl, None}
 use Rattle.edi_catalog.specs.Mounted.{files_of}
 use Rattle.edi_catalog.specs.Changes.{deleted}
 use Rattle.edi_catalog.proofs.Changing.{changes_as, delete_refusal, has_file, protection_is}
