@@ -1,5 +1,5 @@
 -- The page of a text that is kept.
-use Rattle.std.proofs.Common.{◌≡◌, ℕ, ◌≤◌, ◌<◌, ◌/◌, true, false, List, Option, Some, None, refl, sym, ap, subst}
+use Rattle.std.proofs.Common.{◌≡◌, ℕ, ◌≤◌, ◌<◌, true, false, List, Option, Some, None, refl, sym, ap, subst}
 use Rattle.std.specs.Prelude.{nat_lt}
 use Rattle.std.proofs.lemmas.Bool.{eqb-true, le-ltb, lt-ltb}
 use Rattle.edi_catalog.specs.declared.catalog.Catalog.{Catalog}
@@ -15,7 +15,7 @@ kept_is page (Some other) h = ap Some (eqb-true other page h)
 pub loads_none : {D : Type 0} (reading : Reading) (page : List ℕ) (catalog : Catalog D) → reading.length ≤ reading.position
     → LoadsAt (nat_lt reading.position reading.length) reading reading.kept page page catalog catalog
 loads_none reading page catalog past =
-    subst (λ b. LoadsAt b reading reading.kept page page catalog catalog) (sym (le-ltb reading.position reading.length past)) (refl, (refl, refl))
+    subst (λ b. LoadsAt b reading reading.kept page page catalog catalog) (sym (le-ltb reading.position reading.length past)) (refl, refl, refl)
 
 pub loads_some : {D : Type 0} (reading : Reading) (kept : Option ℕ) (was page : List ℕ) (before after : Catalog D) → reading.position < reading.length
     → Loads reading kept was page before after → LoadsAt (nat_lt reading.position reading.length) reading kept was page before after
