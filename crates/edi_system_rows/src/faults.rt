@@ -96,7 +96,10 @@ fn is_before_or_after(
     for n in made.saturating_add(1)..last.saturating_add(1) {
         let landed = if n == last { after } else { before };
         assert!(rt; ends_so(rt, alloc, image, row, n, false, before)?, "{n}");
-        assert!(rt; ends_so(rt, alloc, image, row, n, true, landed)?, "{n} lands");
+        assert!(rt;
+            ends_so(rt, alloc, image, row, n, true, landed)?,
+            "{n} lands"
+        );
     }
     assert!(rt; ends_so(rt, alloc, image, row, last.saturating_add(1), false, after)?);
     Ok(())

@@ -50,7 +50,7 @@ fn put_long(bytes: &mut [u8]) {
 }
 
 /// The bytes of an image.
-pub(crate) fn image(alloc: Global, which: Image) -> Result<Vec<u8>, AllocError> {
+pub(crate) fn image_bytes(alloc: Global, which: Image) -> Result<Vec<u8>, AllocError> {
     let mut bytes = zeros(alloc, 64 * 512)?;
     put(&mut bytes, 0, b"EDIS\0\x02\0\x40");
     match which {

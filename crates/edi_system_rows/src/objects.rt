@@ -1,7 +1,7 @@
 //! A system over objects in memory.
 
 use crate::calls::{self, Answer, Call};
-use crate::image::{Image, image, zeros};
+use crate::image::{Image, image_bytes, zeros};
 use crate::requests::{self, Reply, Request};
 use edi_calls::Outside;
 use edi_catalog::{check, mount};
@@ -136,7 +136,7 @@ fn with_drive<D: Drive>(
 
 /// Whether the case holds over the image of three files.
 pub(crate) fn holds(rt: &impl Abort, alloc: Global, case: Case<'_>) -> Result<bool, AllocError> {
-    let bytes = image(alloc, Image::Three)?;
+    let bytes = image_bytes(alloc, Image::Three)?;
     assert!(rt; bytes.len() % 512 == 0);
     let mut drive = MemoryDrive::new(alloc, &bytes, &failing(case, Outside::Drive), false)?;
     with_drive(alloc, &mut drive, case, None)
@@ -175,7 +175,7 @@ pub(crate) fn leaves(
     unread: &[u8],
     files: &[(Request, Reply)],
 ) -> Result<bool, AllocError> {
-    let bytes = image(alloc, which)?;
+    let bytes = image_bytes(alloc, which)?;
     assert!(rt; bytes.len() % 512 == 0);
     let mut drive = MemoryDrive::new(alloc, &bytes, &failing(case, Outside::Drive), lands)?;
     let is_told = with_drive(alloc, &mut drive, case, Some(unread))?;
