@@ -3,10 +3,10 @@
 ghost use Rattle.std.specs.Prelude.{◌≡◌, ◌+◌, ◌≤◌, ◌<◌, ◌^◌, [], ◌∷◌, IfOk, IfSome, OnOk, length};
 ghost use Rattle.edi_unit.specs.Types.{shape_at};
 ghost use Rattle.edi_unit.specs.Fits.{ShapesFit, greatest_levels};
-ghost use Rattle.edi_target.specs.Op.{address};
 ghost use Rattle.edi_target.specs.View.{instruction_of};
 ghost use Rattle.edi_scheme.specs.Pieces as pieces;
 ghost use Rattle.edi_scheme.specs.Pieces.{code_length};
+ghost use Rattle.edi_target.specs.Op.{address};
 ghost use Rattle.edi_code.specs.Emits.{Emits, IsWhole, code_of_op, code_of_option};
 ghost use Rattle.edi_code.specs.InScope as in_scope;
 ghost use Rattle.edi_code.specs.InScope.{CalleeIsWritable};

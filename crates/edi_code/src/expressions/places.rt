@@ -7,15 +7,8 @@ ghost use Rattle.edi_unit.specs.Tree.{load};
 ghost use Rattle.edi_scheme.specs.Lengths as scheme;
 ghost use Rattle.edi_code.specs.Emits.{Emits};
 ghost use Rattle.edi_code.specs.InScope as in_scope;
-ghost use Rattle.edi_code.specs.InScope.{
-  ArgumentIsWritable,
-  ArgumentsAreWritable,
-  CalleeIsWritable,
-  ExpressionIsWritable,
-  PartIsWritable,
-  PartsAreWritable,
-  PlaceIsWritable,
-};
+ghost use Rattle.edi_code.specs.InScope.{ArgumentIsWritable, ArgumentsAreWritable, CalleeIsWritable, ExpressionIsWritable};
+ghost use Rattle.edi_code.specs.InScope.{PartIsWritable, PartsAreWritable, PlaceIsWritable};
 ghost use Rattle.edi_code.specs.Scope.{IsScope};
 
 use crate::expressions::{emit_operand, emit_value};

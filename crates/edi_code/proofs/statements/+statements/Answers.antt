@@ -2,14 +2,15 @@ use Rattle.std.proofs.Common.{rules, ◌≡◌, ◌+◌, ◌-◌, ◌<◌, ◌^�
 use Rattle.std.specs.Prelude.{map}
 use Rattle.std.proofs.lemmas.List.{drop_all}
 use Rattle.edi_unit.specs.Lists.{list_items}
-use Rattle.edi_unit.specs.Tree.{clause_then}
+use Rattle.edi_unit.specs.Tree.{clause_then, when_act}
 use Rattle.edi_unit.specs.Tree.{clause as plain_clause}
 use Rattle.edi_unit.specs.View.{acts_of, clauses, clause_of, clauses_of, expression_of}
 use Rattle.edi_unit.proofs.Limits.{drop_item}
 use Rattle.edi_target.specs.Op as instruction
 use Rattle.edi_scheme.specs.Pieces.{again_code, released}
 use Rattle.edi_code.specs.Scope.{clause_kind_of}
-use Rattle.edi_code.specs.InScope.{clause_length, acts_length, clauses_length, acts_code, clause_code, clauses_code, ActsAreWritable, ClausesAreWritable}
+use Rattle.edi_code.specs.InScope.{clause_length, acts_length, clauses_length, act_code, acts_code, clause_code, clauses_code, ActsAreWritable}
+use Rattle.edi_code.specs.InScope.{ClausesAreWritable}
 use Rattle.edi_code.specs.Aimed.{AreThere, IsTarget, Opens, aimed, aimed_at, target_of}
 use Rattle.edi_code.specs.Emits.{Emits}
 use Rattle.edi_code.proofs.Aiming.{IsOpen, grown, aims, open_at_first, open_at_last, opens_all, target_is}
@@ -95,7 +96,8 @@ emit_guarded-returns-clause-emits t c =
     let list = aims _ _ _ _ instruction.false_ 29 _ _ (λ k. refl) c.in_ok-put.ensures.emits c.in_ok-behind.ensures.emits set in
     both _ _ _ _ _ _ _ c.in_ok-list.ensures.emits list
     (ap (λ k. instruction.false_ k ∷ acts_code s (c.in_ok-list.list + 3) body) target
-    ∙ ap (λ k. instruction.false_ (c.args.at + clause_length s (plain_clause e body) + c.args.more) ∷ acts_code s (k + 3) body) c.in_ok-list.ensures.behind) refl
+    ∙ ap (λ k. instruction.false_ (c.args.at + clause_length s (plain_clause e body) + c.args.more) ∷ acts_code s (k + 3) body) c.in_ok-list.ensures.behind)
+    (refl {a = clause_code s c.args.at (c.args.at + clause_length s (plain_clause e body) + c.args.more) (plain_clause e body)})
 
 pub emit_await-returns-clause-emits : goal.emit_await-returns-clause-emits
 emit_await-returns-clause-emits t c =
@@ -103,7 +105,8 @@ emit_await-returns-clause-emits t c =
     let clauses_in = clauses_of c.args.clauses.now in
     both _ _ _ _ _ _ _ c.in_ok-put.ensures.emits (emits_then _ _ _ _ _ c.in_ok-behind.ensures.emits c.in_ok-put-2.ensures.emits)
     (ap (λ l. clauses_code s released (c.args.at + 2 + clauses_length s released clauses_in + 3) (c.args.at + 2) clauses_in ++ l)
-    (c.again.ensures.exact ∙ ap (λ q. again_code q (c.args.at + 2)) c.is_quiet.ensures.exact)) refl
+    (c.again.ensures.exact ∙ ap (λ q. again_code q (c.args.at + 2)) c.is_quiet.ensures.exact))
+    (refl {a = act_code s c.args.at (when_act clauses_in c.args.line)})
 
 pub emit_open_clauses-returns-clause-opens : goal.emit_open_clauses-returns-clause-opens
 emit_open_clauses-returns-clause-opens t c =
