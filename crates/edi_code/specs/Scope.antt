@@ -1,5 +1,5 @@
 -- Words of contracts. What the code of a construct depends on besides the construct.
-use Rattle.std.specs.Prelude.{ℕ, ◌<◌, Bool, true, false, List, length, map}
+use Rattle.std.specs.Prelude.{ℕ, ◌+◌, ◌<◌, ◌^◌, Bool, true, false, List, length, map}
 use Rattle.edi_unit.specs.Types.{Shape}
 use Rattle.edi_unit.specs.View.{block_of}
 use Rattle.edi_unit.specs.Tree.{Block, Clauses, no_clause, clause_then}
@@ -38,3 +38,9 @@ pub record IsScope (s : Scope) : Type 0 where
   pub shapes : ShapesFit (types_in s)
   pub frames : (n : ℕ) → n < length (blocks_in s) → FrameFits (types_in s) (blocks_in s) n
   pub entries : AreEntries (types_in s) (blocks_in s) s.entries.now
+
+-- a construct can be written in a scope, where it stands at an address and has so many words
+pub record Ready (s : Scope) (at long : ℕ) (Writable : Type 0) : Type 0 where
+  pub scope : IsScope s
+  pub writable : Writable
+  pub room : at + long < 2 ^ 32

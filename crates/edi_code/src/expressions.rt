@@ -9,7 +9,7 @@ ghost use Rattle.edi_scheme.specs.Pieces.{code_length};
 ghost use Rattle.edi_code.specs.Emits.{Emits, IsWhole, code_of_option};
 ghost use Rattle.edi_code.specs.InScope as in_scope;
 ghost use Rattle.edi_code.specs.InScope.{ExpressionIsWritable, ExpressionsAreWritable, LinkIsWritable, LinksAreWritable};
-ghost use Rattle.edi_code.specs.Scope.{IsScope};
+ghost use Rattle.edi_code.specs.Scope.{Ready};
 
 pub(crate) mod places;
 
@@ -18,50 +18,42 @@ use crate::instructions::{check, decision, operation, put, put_any, put_at};
 use crate::jumps::decide;
 use crate::pieces::{check_length, decision_length, is_set, operation_length};
 use crate::rows::constant_row;
-use crate::scope::Scope;
+use crate::scope::{Behind, Scope};
 use edi_target::Op;
 use edi_unit::{Link, Links, Operator, Value, Values, expression_type, operator_type};
-use std::alloc::{AllocError, Global};
 
 // The code of an expression, which stands at `at`. This and each function below gives the address behind what it appends.
 #[cycle(emitted)]
-pub(crate) fn emit_value(
-    alloc: Global,
-    value: &Value,
-    scope: &Scope<'_>,
-    at: u32,
-    out: &mut Vec<u16>,
-) -> Result<u32, AllocError>
-    requires scope { IsScope scope.now }
-    requires writable { ExpressionIsWritable scope.now (expression_of value.now) }
-    requires room { at + in_scope.expression_length scope.now (expression_of value.now) < 2 ^ 32 }
+pub(crate) fn emit_value(value: &Value, scope: &Scope<'_>, at: u32, out: &mut Vec<u16>) -> Behind
+    requires ready { Ready scope.now at (in_scope.expression_length scope.now (expression_of value.now))
+        (ExpressionIsWritable scope.now (expression_of value.now)) }
     ensures emits { OnOk result (Emits out.old.items out.new.items (in_scope.expression_code scope.now at (expression_of value.now))) }
     ensures behind { IfOk result (λ behind. behind ≡ at + in_scope.expression_length scope.now (expression_of value.now)) }
 {
     match value {
         Value::Constant { ordinal, .. } => {
             let value = ordinal.cast_unsigned();
-            put_at(alloc, &Op::Const { value }, at, 2, out)
+            put_at(scope.alloc, &Op::Const { value }, at, 2, out)
         }
-        Value::Load(place) => emit_load(alloc, place, scope, at, out),
-        Value::Not(value) => emit_operand(alloc, value, scope, at, Some(Op::Not), 1, out),
+        Value::Load(place) => emit_load(place, scope, at, out),
+        Value::Not(value) => emit_operand(value, scope, at, Some(Op::Not), 1, out),
         Value::Sign(value, line) => {
             let negates = Some(Op::Neg { line: *line });
-            emit_operand(alloc, value, scope, at, negates, 2, out)
+            emit_operand(value, scope, at, negates, 2, out)
         }
         Value::Chain(first, links) => {
             let left = expression_type(scope.types, scope.blocks, scope.block, first);
-            let behind = emit_value(alloc, first, scope, at, out)?;
-            emit_links(alloc, links, scope, behind, left, out)
+            let behind = emit_value(first, scope, at, out)?;
+            emit_links(links, scope, behind, left, out)
         }
-        Value::Make { of, parts, line } => emit_make(alloc, parts, scope, at, *of, *line, out),
+        Value::Make { of, parts, line } => emit_make(parts, scope, at, *of, *line, out),
         Value::Convert { of, value, line } => {
             let checks = check(scope.types, *of, *line);
             let long = check_length(scope.types, *of);
-            emit_operand(alloc, value, scope, at, checks, long, out)
+            emit_operand(value, scope, at, checks, long, out)
         }
         Value::Apply(callee, arguments, line) => {
-            emit_call(alloc, arguments, scope, at, *callee, *line, out)
+            emit_call(arguments, scope, at, *callee, *line, out)
         }
     }
 }
@@ -69,74 +61,63 @@ pub(crate) fn emit_value(
 // The code of an expression, and an instruction of so many words behind it where there is one.
 #[cycle(emitted)]
 pub(crate) fn emit_operand(
-    alloc: Global,
     value: &Value,
     scope: &Scope<'_>,
     at: u32,
     op: Option<Op<'_>>,
     long: u32,
     out: &mut Vec<u16>,
-) -> Result<u32, AllocError>
-    requires scope { IsScope scope.now }
-    requires writable { ExpressionIsWritable scope.now (expression_of value.now) }
-    requires room { at + (in_scope.expression_length scope.now (expression_of value.now) + long) < 2 ^ 32 }
+) -> Behind
+    requires ready { Ready scope.now at (in_scope.expression_length scope.now (expression_of value.now) + long)
+        (ExpressionIsWritable scope.now (expression_of value.now)) }
     requires allowed { IfSome op IsWhole }
     requires long { long ≡ code_length (code_of_option op) }
     ensures emits { OnOk result (Emits out.old.items out.new.items
         (in_scope.expression_code scope.now at (expression_of value.now) ++ code_of_option op.entry)) }
     ensures behind { IfOk result (λ behind. behind ≡ at + (in_scope.expression_length scope.now (expression_of value.now) + long)) }
 {
-    let behind = emit_value(alloc, value, scope, at, out)?;
-    put_any(alloc, op, out)?;
+    let behind = emit_value(value, scope, at, out)?;
+    put_any(scope.alloc, op, out)?;
     Ok(behind + long)
 }
 
 // The code of a record, an array or a set of type `of`.
 #[cycle(emitted)]
 fn emit_make(
-    alloc: Global,
     parts: &Values,
     scope: &Scope<'_>,
     at: u32,
     of: u32,
     line: u16,
     out: &mut Vec<u16>,
-) -> Result<u32, AllocError>
-    requires scope { IsScope scope.now }
-    requires writable { ExpressionIsWritable scope.now (make of (expressions_of parts.now) line) }
-    requires room { at + in_scope.expression_length scope.now (make of (expressions_of parts.now) line) < 2 ^ 32 }
+) -> Behind
+    requires ready { Ready scope.now at (in_scope.expression_length scope.now (make of (expressions_of parts.now) line))
+        (ExpressionIsWritable scope.now (make of (expressions_of parts.now) line)) }
     ensures emits { OnOk result (Emits out.old.items out.new.items (in_scope.expression_code scope.now at (make of (expressions_of parts.now) line))) }
     ensures behind { IfOk result (λ behind. behind ≡ at + in_scope.expression_length scope.now (make of (expressions_of parts.now) line)) }
 {
     if is_set(scope.types, of) {
-        put(alloc, &Op::Zeros { count: 8 }, out)?;
-        return emit_members(alloc, parts, scope, at + 2, line, out);
+        put(scope.alloc, &Op::Zeros { count: 8 }, out)?;
+        return emit_members(parts, scope, at + 2, line, out);
     }
-    if let Some(words) = constant_row(alloc, parts)? {
-        put(alloc, &Op::Text { words: &words }, out)?;
+    if let Some(words) = constant_row(scope.alloc, parts)? {
+        put(scope.alloc, &Op::Text { words: &words }, out)?;
         return Ok(at + 2 + words.len() as u32);
     }
-    emit_values(alloc, parts, scope, at, out)
+    emit_values(parts, scope, at, out)
 }
 
 // The code of one expression after another.
 #[cycle(emitted)]
-fn emit_values(
-    alloc: Global,
-    values: &Values,
-    scope: &Scope<'_>,
-    at: u32,
-    out: &mut Vec<u16>,
-) -> Result<u32, AllocError>
-    requires scope { IsScope scope.now }
-    requires writable { ExpressionsAreWritable scope.now (expressions_of values.now) }
-    requires room { at + in_scope.expressions_length scope.now (expressions_of values.now) < 2 ^ 32 }
+fn emit_values(values: &Values, scope: &Scope<'_>, at: u32, out: &mut Vec<u16>) -> Behind
+    requires ready { Ready scope.now at (in_scope.expressions_length scope.now (expressions_of values.now))
+        (ExpressionsAreWritable scope.now (expressions_of values.now)) }
     ensures emits { OnOk result (Emits out.old.items out.new.items (in_scope.expressions_code scope.now at (expressions_of values.now))) }
     ensures behind { IfOk result (λ behind. behind ≡ at + in_scope.expressions_length scope.now (expressions_of values.now)) }
 {
     let mut here = at;
     for value in values.items() {
-        here = emit_value(alloc, value, scope, here, out)?;
+        here = emit_value(value, scope, here, out)?;
     }
     Ok(here)
 }
@@ -144,23 +125,21 @@ fn emit_values(
 // The code of the members of a set, each joined to it.
 #[cycle(emitted)]
 fn emit_members(
-    alloc: Global,
     members: &Values,
     scope: &Scope<'_>,
     at: u32,
     line: u16,
     out: &mut Vec<u16>,
-) -> Result<u32, AllocError>
-    requires scope { IsScope scope.now }
-    requires writable { ExpressionsAreWritable scope.now (expressions_of members.now) }
-    requires room { at + in_scope.members_length scope.now (expressions_of members.now) < 2 ^ 32 }
+) -> Behind
+    requires ready { Ready scope.now at (in_scope.members_length scope.now (expressions_of members.now))
+        (ExpressionsAreWritable scope.now (expressions_of members.now)) }
     ensures emits { OnOk result (Emits out.old.items out.new.items (in_scope.members_code scope.now at line (expressions_of members.now))) }
     ensures behind { IfOk result (λ behind. behind ≡ at + in_scope.members_length scope.now (expressions_of members.now)) }
 {
     let mut here = at;
     for member in members.items() {
-        let behind = emit_value(alloc, member, scope, here, out)?;
-        put(alloc, &Op::Member { line }, out)?;
+        let behind = emit_value(member, scope, here, out)?;
+        put(scope.alloc, &Op::Member { line }, out)?;
         here = behind + 2;
     }
     Ok(here)
@@ -170,24 +149,15 @@ fn emit_members(
 
 // The code of operators with their right operands, behind a left operand of type `left`.
 #[cycle(emitted)]
-fn emit_links(
-    alloc: Global,
-    links: &Links,
-    scope: &Scope<'_>,
-    at: u32,
-    left: u32,
-    out: &mut Vec<u16>,
-) -> Result<u32, AllocError>
-    requires scope { IsScope scope.now }
-    requires writable { LinksAreWritable scope.now left (links_of links.now) }
-    requires room { at + in_scope.links_length scope.now left (links_of links.now) < 2 ^ 32 }
+fn emit_links(links: &Links, scope: &Scope<'_>, at: u32, left: u32, out: &mut Vec<u16>) -> Behind
+    requires ready { Ready scope.now at (in_scope.links_length scope.now left (links_of links.now)) (LinksAreWritable scope.now left (links_of links.now)) }
     ensures emits { OnOk result (Emits out.old.items out.new.items (in_scope.links_code scope.now at left (links_of links.now))) }
     ensures behind { IfOk result (λ behind. behind ≡ at + in_scope.links_length scope.now left (links_of links.now)) }
 {
     let mut of = left;
     let mut here = at;
     for link in links.items() {
-        here = emit_link(alloc, link, scope, here, of, out)?;
+        here = emit_link(link, scope, here, of, out)?;
         of = operator_type(operator_of(link), of);
     }
     Ok(here)
@@ -195,36 +165,16 @@ fn emit_links(
 
 // The code of an operator with its right operand, behind a left operand of type `left`.
 #[cycle(emitted)]
-fn emit_link(
-    alloc: Global,
-    link: &Link,
-    scope: &Scope<'_>,
-    at: u32,
-    left: u32,
-    out: &mut Vec<u16>,
-) -> Result<u32, AllocError>
-    requires scope { IsScope scope.now }
-    requires writable { LinkIsWritable scope.now left (link_of link.now) }
-    requires room { at + in_scope.link_length scope.now left (link_of link.now) < 2 ^ 32 }
+fn emit_link(link: &Link, scope: &Scope<'_>, at: u32, left: u32, out: &mut Vec<u16>) -> Behind
+    requires ready { Ready scope.now at (in_scope.link_length scope.now left (link_of link.now)) (LinkIsWritable scope.now left (link_of link.now)) }
     ensures emits { IfOk result (λ behind. Emits out.old.items out.new.items (in_scope.link_code scope.now at left (link_of link.now))) }
     ensures behind { IfOk result (λ behind. behind ≡ at + in_scope.link_length scope.now left (link_of link.now)) }
 {
-    emit_right(
-        alloc,
-        &link.right,
-        scope,
-        at,
-        left,
-        link.operator,
-        link.line,
-        out,
-    )
+    emit_right(&link.right, scope, at, left, link.operator, link.line, out)
 }
 
 #[cycle(emitted)]
-#[allow(clippy::too_many_arguments)]
 fn emit_right(
-    alloc: Global,
     right: &Value,
     scope: &Scope<'_>,
     at: u32,
@@ -232,19 +182,22 @@ fn emit_right(
     operator: Operator,
     line: u16,
     out: &mut Vec<u16>,
-) -> Result<u32, AllocError>
-    requires scope { IsScope scope.now }
-    requires writable { LinkIsWritable scope.now left (plain_link operator (expression_of right.now) line) }
-    requires room { at + in_scope.link_length scope.now left (plain_link operator (expression_of right.now) line) < 2 ^ 32 }
+) -> Behind
+    requires ready { Ready scope.now at (in_scope.link_length scope.now left (plain_link operator (expression_of right.now) line))
+        (LinkIsWritable scope.now left (plain_link operator (expression_of right.now) line)) }
     ensures emits { IfOk result (λ behind. Emits out.old.items out.new.items
         (in_scope.link_code scope.now at left (plain_link operator (expression_of right.now) line))) }
     ensures behind { IfOk result (λ behind. behind ≡ at + in_scope.link_length scope.now left (plain_link operator (expression_of right.now) line)) }
 {
     let begins = at + decision_length(operator);
     let start = out.len();
-    put_any(alloc, decision(operator, 0), out)?;
-    let ends = emit_value(alloc, right, scope, begins, out)?;
-    put_any(alloc, operation(scope.types, left, operator, line), out)?;
+    put_any(scope.alloc, decision(operator, 0), out)?;
+    let ends = emit_value(right, scope, begins, out)?;
+    put_any(
+        scope.alloc,
+        operation(scope.types, left, operator, line),
+        out,
+    )?;
     let behind = ends + operation_length(scope.types, left, operator);
     decide(out, operator, start, behind);
     Ok(behind)

@@ -193,7 +193,6 @@ fn put_address(
 
 // Appends the address of a variable.
 pub(crate) fn emit_variable(
-    alloc: Global,
     scope: &Scope<'_>,
     levels: u32,
     variable: u32,
@@ -205,9 +204,14 @@ pub(crate) fn emit_variable(
     ensures emits { OnOk result (Emits out.old.items out.new.items
         (pieces.variable_code levels (in_scope.slot_offset scope.now levels variable) found)) }
 {
-    put_address(alloc, levels, slot_offset(scope, levels, variable), out)?;
+    put_address(
+        scope.alloc,
+        levels,
+        slot_offset(scope, levels, variable),
+        out,
+    )?;
     if is_address(found) {
-        return put(alloc, &Op::Load { count: 1 }, out);
+        return put(scope.alloc, &Op::Load { count: 1 }, out);
     }
     Ok(())
 }
@@ -244,7 +248,6 @@ pub(crate) fn call(scope: &Scope<'_>, callee: Callee, line: u16) -> Op<'static>
 
 // Appends a procedure that is passed on.
 pub(crate) fn emit_procedure(
-    alloc: Global,
     scope: &Scope<'_>,
     callee: Callee,
     out: &mut Vec<u16>,
@@ -257,7 +260,7 @@ pub(crate) fn emit_procedure(
         Callee::Block { levels, block } => {
             let target = entry_of(scope, block);
             put(
-                alloc,
+                scope.alloc,
                 &Op::Proc {
                     level: levels as u16,
                     target,
@@ -266,8 +269,13 @@ pub(crate) fn emit_procedure(
             )
         }
         Callee::Formal { levels, variable } => {
-            put_address(alloc, levels, slot_offset(scope, levels, variable), out)?;
-            put(alloc, &Op::Load { count: 3 }, out)
+            put_address(
+                scope.alloc,
+                levels,
+                slot_offset(scope, levels, variable),
+                out,
+            )?;
+            put(scope.alloc, &Op::Load { count: 3 }, out)
         }
     }
 }

@@ -11,7 +11,7 @@ ghost use Rattle.edi_scheme.specs.Pieces as pieces;
 ghost use Rattle.edi_scheme.specs.Code.{block_code, blocks_code, code_of, entry};
 ghost use Rattle.edi_code.specs.Emits.{Emits, IsWhole, code_of_op};
 ghost use Rattle.edi_code.specs.InScope.{ActsAreWritable, acts_code, acts_length};
-ghost use Rattle.edi_code.specs.Scope.{IsScope, blocks_in, entry_in, types_in};
+ghost use Rattle.edi_code.specs.Scope.{IsScope, Ready, blocks_in, entry_in, types_in};
 ghost use Rattle.edi_code.specs.Writable.{AreEntries, AreWritable, IsRoomy, IsWritable};
 
 use crate::instructions::put;
@@ -33,6 +33,7 @@ fn block_entries(alloc: Global, types: &TypeTable, blocks: &[Block]) -> Result<V
     for block in 0..blocks.len() as u32 {
         entries.push(here)?;
         let scope = Scope {
+            alloc,
             types,
             blocks,
             entries: &[],
@@ -78,44 +79,38 @@ fn is_branch(kind: BlockKind) -> bool
 
 // The code of a branch, which stands at `at`.
 fn emit_branch(
-    alloc: Global,
     body: &Acts,
     scope: &Scope<'_>,
     at: u32,
     out: &mut Vec<u16>,
 ) -> Result<(), AllocError>
-    requires scope { IsScope scope.now }
-    requires writable { ActsAreWritable scope.now (acts_of body.now) }
-    requires room { at + acts_length scope.now (acts_of body.now) < 2 ^ 32 }
+    requires ready { Ready scope.now at (acts_length scope.now (acts_of body.now)) (ActsAreWritable scope.now (acts_of body.now)) }
     ensures emits { OnOk result (Emits out.old.items out.new.items (acts_code scope.now at (acts_of body.now) ++ exit ∷ [])) }
 {
-    emit_acts(alloc, body, scope, at, out)?;
-    put(alloc, &Op::Exit, out)
+    emit_acts(body, scope, at, out)?;
+    put(scope.alloc, &Op::Exit, out)
 }
 
 // The code of a procedure, a function or the program, which stands at `at`.
 fn emit_procedure(
-    alloc: Global,
     block: &Block,
     scope: &Scope<'_>,
     at: u32,
     out: &mut Vec<u16>,
 ) -> Result<(), AllocError>
-    requires scope { IsScope scope.now }
+    requires ready { Ready scope.now (at + 6) (acts_length scope.now (block_of block.now).body) (ActsAreWritable scope.now (block_of block.now).body) }
     requires frame { IsRoomy (types_in scope.now) (block_of block.now) }
-    requires writable { ActsAreWritable scope.now (block_of block.now).body }
-    requires room { at + 6 + acts_length scope.now (block_of block.now).body < 2 ^ 32 }
     ensures emits { OnOk result (Emits out.old.items out.new.items
         (pieces.entry_of (types_in scope.now) (block_of block.now)
         ∷ (acts_code scope.now (at + 6) (block_of block.now).body ++ pieces.return_of (types_in scope.now) (block_of block.now) ∷ []))) }
 {
-    put(alloc, &entry_of(scope.types, block), out)?;
-    emit_acts(alloc, &block.body, scope, at + 6, out)?;
-    put(alloc, &return_of(scope.types, block), out)
+    put(scope.alloc, &entry_of(scope.types, block), out)?;
+    emit_acts(&block.body, scope, at + 6, out)?;
+    put(scope.alloc, &return_of(scope.types, block), out)
 }
 
 // The code of the block of a scope.
-fn emit_block(alloc: Global, scope: &Scope<'_>, out: &mut Vec<u16>) -> Result<(), AllocError>
+fn emit_block(scope: &Scope<'_>, out: &mut Vec<u16>) -> Result<(), AllocError>
     requires scope { IsScope scope.now }
     requires known { scope.now.block < length (blocks_in scope.now) }
     requires writable { ActsAreWritable scope.now (block_at (blocks_in scope.now) scope.now.block).body }
@@ -126,9 +121,9 @@ fn emit_block(alloc: Global, scope: &Scope<'_>, out: &mut Vec<u16>) -> Result<()
     let block = &scope.blocks[scope.block as usize];
     let at = scope.entries[scope.block as usize];
     if is_branch(block.kind) {
-        return emit_branch(alloc, &block.body, scope, at, out);
+        return emit_branch(&block.body, scope, at, out);
     }
-    emit_procedure(alloc, block, scope, at, out)
+    emit_procedure(block, scope, at, out)
 }
 
 // The code of all blocks, in the order of their numbers.
@@ -145,12 +140,13 @@ fn emit_blocks(
 {
     for block in 0..blocks.len() as u32 {
         let scope = Scope {
+            alloc,
             types,
             blocks,
             entries,
             block,
         };
-        emit_block(alloc, &scope, out)?;
+        emit_block(&scope, out)?;
     }
     Ok(())
 }

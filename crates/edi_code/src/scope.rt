@@ -1,10 +1,15 @@
 //! What the code of a construct depends on besides the construct.
 
 use edi_unit::{Block, TypeTable};
+use std::alloc::{AllocError, Global};
 
-/// A block in its unit.
+/// The address behind a code that was appended. The only error is want of memory.
+pub(crate) type Behind = Result<u32, AllocError>;
+
+/// A block in its unit, and the memory for its code.
 #[derive(Clone, Copy)]
 pub struct Scope<'a> {
+    pub alloc: Global,
     pub types: &'a TypeTable,
     pub blocks: &'a [Block],
     /// The address where the code of each block begins.

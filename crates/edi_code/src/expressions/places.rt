@@ -9,83 +9,58 @@ ghost use Rattle.edi_code.specs.Emits.{Emits};
 ghost use Rattle.edi_code.specs.InScope as in_scope;
 ghost use Rattle.edi_code.specs.InScope.{ArgumentIsWritable, ArgumentsAreWritable, CalleeIsWritable, ExpressionIsWritable};
 ghost use Rattle.edi_code.specs.InScope.{PartIsWritable, PartsAreWritable, PlaceIsWritable};
-ghost use Rattle.edi_code.specs.Scope.{IsScope};
+ghost use Rattle.edi_code.specs.Scope.{Ready};
 
 use crate::expressions::{emit_operand, emit_value};
 use crate::instructions::{call, element, emit_procedure, emit_variable, put, put_at};
 use crate::pieces::{
     call_length, element_length, field_offset, procedure_length, slot_type, variable_length,
 };
-use crate::scope::Scope;
+use crate::scope::{Behind, Scope};
 use edi_target::Op;
 use edi_unit::{
     Argument, Arguments, Callee, Part, Parts, Place, part_type, place_type, slot, type_words,
 };
-use std::alloc::{AllocError, Global};
 
 // The code of the value of a variable.
 #[cycle(emitted)]
-pub(crate) fn emit_load(
-    alloc: Global,
-    place: &Place,
-    scope: &Scope<'_>,
-    at: u32,
-    out: &mut Vec<u16>,
-) -> Result<u32, AllocError>
-    requires scope { IsScope scope.now }
-    requires writable { ExpressionIsWritable scope.now (load (place_of place.now)) }
-    requires room { at + in_scope.expression_length scope.now (load (place_of place.now)) < 2 ^ 32 }
+pub(crate) fn emit_load(place: &Place, scope: &Scope<'_>, at: u32, out: &mut Vec<u16>) -> Behind
+    requires ready { Ready scope.now at (in_scope.expression_length scope.now (load (place_of place.now)))
+        (ExpressionIsWritable scope.now (load (place_of place.now))) }
     ensures emits { OnOk result (Emits out.old.items out.new.items (in_scope.expression_code scope.now at (load (place_of place.now)))) }
     ensures behind { IfOk result (λ behind. behind ≡ at + in_scope.expression_length scope.now (load (place_of place.now))) }
 {
     let of = place_type(scope.types, scope.blocks, scope.block, place);
     let count = type_words(scope.types, of) as u16;
-    let behind = emit_place(alloc, place, scope, at, out)?;
-    put(alloc, &Op::Load { count }, out)?;
+    let behind = emit_place(place, scope, at, out)?;
+    put(scope.alloc, &Op::Load { count }, out)?;
     Ok(behind + 2)
 }
 
 // The code of a place, which leaves its address.
 #[cycle(emitted)]
-pub(crate) fn emit_place(
-    alloc: Global,
-    place: &Place,
-    scope: &Scope<'_>,
-    at: u32,
-    out: &mut Vec<u16>,
-) -> Result<u32, AllocError>
-    requires scope { IsScope scope.now }
-    requires writable { PlaceIsWritable scope.now (place_of place.now) }
-    requires room { at + in_scope.place_length scope.now (place_of place.now) < 2 ^ 32 }
+pub(crate) fn emit_place(place: &Place, scope: &Scope<'_>, at: u32, out: &mut Vec<u16>) -> Behind
+    requires ready { Ready scope.now at (in_scope.place_length scope.now (place_of place.now)) (PlaceIsWritable scope.now (place_of place.now)) }
     ensures emits { OnOk result (Emits out.old.items out.new.items (in_scope.place_code scope.now at (place_of place.now))) }
     ensures behind { IfOk result (λ behind. behind ≡ at + in_scope.place_length scope.now (place_of place.now)) }
 {
     let variable = slot(scope.blocks, scope.block, place.levels, place.variable);
-    emit_variable(alloc, scope, place.levels, place.variable, variable, out)?;
+    emit_variable(scope, place.levels, place.variable, variable, out)?;
     let behind = at + variable_length(variable);
-    emit_parts(alloc, &place.parts, scope, behind, slot_type(variable), out)
+    emit_parts(&place.parts, scope, behind, slot_type(variable), out)
 }
 
 // The code of the steps to a part of a variable of type `root`.
 #[cycle(emitted)]
-fn emit_parts(
-    alloc: Global,
-    parts: &Parts,
-    scope: &Scope<'_>,
-    at: u32,
-    root: u32,
-    out: &mut Vec<u16>,
-) -> Result<u32, AllocError>
-    requires scope { IsScope scope.now }
-    requires writable { PartsAreWritable scope.now (parts_of parts.now) }
-    requires room { at + in_scope.parts_length scope.now root (parts_of parts.now) < 2 ^ 32 }
+fn emit_parts(parts: &Parts, scope: &Scope<'_>, at: u32, root: u32, out: &mut Vec<u16>) -> Behind
+    requires ready { Ready scope.now at (in_scope.parts_length scope.now root (parts_of parts.now)) (PartsAreWritable scope.now (parts_of parts.now)) }
     ensures emits { OnOk result (Emits out.old.items out.new.items (in_scope.parts_code scope.now at root (parts_of parts.now))) }
     ensures behind { IfOk result (λ behind. behind ≡ at + in_scope.parts_length scope.now root (parts_of parts.now)) }
 {
     let mut of = root;
     let mut here = at;
     for part in parts.items() {
-        here = emit_part(alloc, part, scope, here, of, out)?;
+        here = emit_part(part, scope, here, of, out)?;
         of = part_type(scope.types, of, part);
     }
     Ok(here)
@@ -93,29 +68,20 @@ fn emit_parts(
 
 // The code of one step, from a variable of type `of`.
 #[cycle(emitted)]
-fn emit_part(
-    alloc: Global,
-    part: &Part,
-    scope: &Scope<'_>,
-    at: u32,
-    of: u32,
-    out: &mut Vec<u16>,
-) -> Result<u32, AllocError>
-    requires scope { IsScope scope.now }
-    requires writable { PartIsWritable scope.now (part_of part.now) }
-    requires room { at + in_scope.part_length scope.now of (part_of part.now) < 2 ^ 32 }
+fn emit_part(part: &Part, scope: &Scope<'_>, at: u32, of: u32, out: &mut Vec<u16>) -> Behind
+    requires ready { Ready scope.now at (in_scope.part_length scope.now of (part_of part.now)) (PartIsWritable scope.now (part_of part.now)) }
     ensures emits { OnOk result (Emits out.old.items out.new.items (in_scope.part_code scope.now at of (part_of part.now))) }
     ensures behind { IfOk result (λ behind. behind ≡ at + in_scope.part_length scope.now of (part_of part.now)) }
 {
     match part {
         Part::Field(field) => {
             let offset = field_offset(scope.types, of, *field);
-            put_at(alloc, &Op::Field { offset }, at, 2, out)
+            put_at(scope.alloc, &Op::Field { offset }, at, 2, out)
         }
         Part::Index(index, line) => {
             let indexes = element(scope.types, of, *line);
             let long = element_length(scope.types, of);
-            emit_operand(alloc, index, scope, at, indexes, long, out)
+            emit_operand(index, scope, at, indexes, long, out)
         }
     }
 }
@@ -125,47 +91,38 @@ fn emit_part(
 // The code of a call.
 #[cycle(emitted)]
 pub(crate) fn emit_call(
-    alloc: Global,
     arguments: &Arguments,
     scope: &Scope<'_>,
     at: u32,
     callee: Callee,
     line: u16,
     out: &mut Vec<u16>,
-) -> Result<u32, AllocError>
-    requires scope { IsScope scope.now }
+) -> Behind
+    requires ready { Ready scope.now at (in_scope.arguments_length scope.now (arguments_of arguments.now) + scheme.call_length callee)
+        (ArgumentsAreWritable scope.now (arguments_of arguments.now)) }
     requires callee { CalleeIsWritable scope.now callee }
-    requires writable { ArgumentsAreWritable scope.now (arguments_of arguments.now) }
-    requires room { at + (in_scope.arguments_length scope.now (arguments_of arguments.now) + scheme.call_length callee) < 2 ^ 32 }
     ensures emits { OnOk result (Emits out.old.items out.new.items
         (in_scope.arguments_code scope.now at (arguments_of arguments.now) ++ in_scope.call_code scope.now callee line)) }
     ensures behind { IfOk result (λ behind. behind ≡ at + (in_scope.arguments_length scope.now (arguments_of arguments.now) + scheme.call_length callee)) }
 {
-    let behind = emit_arguments(alloc, arguments, scope, at, out)?;
-    put(alloc, &call(scope, callee, line), out)?;
+    let behind = emit_arguments(arguments, scope, at, out)?;
+    put(scope.alloc, &call(scope, callee, line), out)?;
     Ok(behind + call_length(callee))
 }
 
 // The code of an argument.
 #[cycle(emitted)]
-fn emit_argument(
-    alloc: Global,
-    argument: &Argument,
-    scope: &Scope<'_>,
-    at: u32,
-    out: &mut Vec<u16>,
-) -> Result<u32, AllocError>
-    requires scope { IsScope scope.now }
-    requires writable { ArgumentIsWritable scope.now (argument_of argument.now) }
-    requires room { at + in_scope.argument_length scope.now (argument_of argument.now) < 2 ^ 32 }
+fn emit_argument(argument: &Argument, scope: &Scope<'_>, at: u32, out: &mut Vec<u16>) -> Behind
+    requires ready { Ready scope.now at (in_scope.argument_length scope.now (argument_of argument.now))
+        (ArgumentIsWritable scope.now (argument_of argument.now)) }
     ensures emits { OnOk result (Emits out.old.items out.new.items (in_scope.argument_code scope.now at (argument_of argument.now))) }
     ensures behind { IfOk result (λ behind. behind ≡ at + in_scope.argument_length scope.now (argument_of argument.now)) }
 {
     match argument {
-        Argument::Value(value) => emit_value(alloc, value, scope, at, out),
-        Argument::Var(place) => emit_place(alloc, place, scope, at, out),
+        Argument::Value(value) => emit_value(value, scope, at, out),
+        Argument::Var(place) => emit_place(place, scope, at, out),
         Argument::Formal(callee) => {
-            emit_procedure(alloc, scope, *callee, out)?;
+            emit_procedure(scope, *callee, out)?;
             Ok(at + procedure_length(*callee))
         }
     }
@@ -173,22 +130,15 @@ fn emit_argument(
 
 // The code of the arguments of a call.
 #[cycle(emitted)]
-fn emit_arguments(
-    alloc: Global,
-    arguments: &Arguments,
-    scope: &Scope<'_>,
-    at: u32,
-    out: &mut Vec<u16>,
-) -> Result<u32, AllocError>
-    requires scope { IsScope scope.now }
-    requires writable { ArgumentsAreWritable scope.now (arguments_of arguments.now) }
-    requires room { at + in_scope.arguments_length scope.now (arguments_of arguments.now) < 2 ^ 32 }
+fn emit_arguments(arguments: &Arguments, scope: &Scope<'_>, at: u32, out: &mut Vec<u16>) -> Behind
+    requires ready { Ready scope.now at (in_scope.arguments_length scope.now (arguments_of arguments.now))
+        (ArgumentsAreWritable scope.now (arguments_of arguments.now)) }
     ensures emits { OnOk result (Emits out.old.items out.new.items (in_scope.arguments_code scope.now at (arguments_of arguments.now))) }
     ensures behind { IfOk result (λ behind. behind ≡ at + in_scope.arguments_length scope.now (arguments_of arguments.now)) }
 {
     let mut here = at;
     for argument in arguments.items() {
-        here = emit_argument(alloc, argument, scope, here, out)?;
+        here = emit_argument(argument, scope, here, out)?;
     }
     Ok(here)
 }
