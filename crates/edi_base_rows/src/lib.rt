@@ -3,28 +3,4 @@
 #![tactic(auto)]
 
 #[cfg(test)]
-mod call_rows;
-#[cfg(test)]
-mod calls;
-#[cfg(test)]
-mod choices;
-#[cfg(test)]
-mod commands;
-#[cfg(test)]
-mod drives;
-#[cfg(test)]
-mod editing;
-#[cfg(test)]
-mod files;
-#[cfg(test)]
-mod lists;
-#[cfg(test)]
-mod memory;
-#[cfg(test)]
-mod outside;
-#[cfg(test)]
-mod sets;
-#[cfg(test)]
-mod streams;
-#[cfg(test)]
-mod words;
+mod rows;

@@ -1,14 +1,14 @@
 //! Sources and sinks over readers and writers, and in memory.
 
-use crate::outside::filled;
+use crate::rows::outside::filled;
 use edi_host::{
     HostSink, HostSource, MemorySink, MemorySource, Next, PRINTER_FILE, PutEnd, Sink, Source,
     SteadySink, SteadySource,
 };
+use std::alloc::Global;
 use std::fs::File;
 use std::io::{ErrorKind, Read, Write};
 use std::process::Abort;
-use std::test::Fail;
 use std::{fs, io};
 
 // Gives two bytes, is interrupted, fails, gives one more byte, ends, and fails from then on.
@@ -79,39 +79,43 @@ fn takes<T: Sink>(rt: &impl Abort, sink: &mut T, puts: &[PutRow]) {
 }
 
 // How often a source over the file gives a 3, up to 5,001 times, and what it gives then.
-fn threes_of(rt: &HostRuntime, name: &str) -> Result<(u32, Next), Fail> {
-    let mut source = HostSource::new(File::open(rt, name)?);
+fn threes_of(rt: &impl Abort, host: &HostRuntime, name: &str) -> (u32, Next) {
+    let mut source = HostSource::new(File::open(host, name).expect(rt, "file"));
     for count in 0..5_001 {
         let next = source.next();
         if next != Next::Byte(3) {
-            return Ok((count, next));
+            return (count, next);
         }
     }
-    Ok((5_001, Next::Byte(3)))
+    (5_001, Next::Byte(3))
+}
+
+fn have_threes(rt: &impl Abort, host: &HostRuntime, table: &[(&str, u32, Next)]) {
+    for (name, count, next) in table {
+        assert!(rt; threes_of(rt, host, name) == (*count, *next), "{name}");
+    }
 }
 
 // Makes a file of so many threes, an empty file, and a folder.
-fn lay_out(rt: &HostRuntime, count: usize) -> Result<(), Fail> {
-    let bytes = filled(rt.alloc(), 3, count)?;
-    fs::write(rt, "bytes", bytes.as_slice())?;
-    fs::write(rt, "empty", "")?;
-    Ok(fs::create_dir(rt, "folder of bytes")?)
+fn lay_out(rt: &impl Abort, host: &HostRuntime, count: usize) {
+    let bytes = filled(host.alloc(), 3, count).expect(rt, "memory");
+    assert!(rt; fs::write(host, "bytes", bytes.as_slice()).is_ok());
+    assert!(rt; fs::write(host, "empty", "").is_ok());
+    assert!(rt; fs::create_dir(host, "folder of bytes").is_ok());
 }
+
+/// Files, how often each gives a 3, and what it gives then.
+const SOURCES: [(&str, u32, Next); 3] = [
+    ("bytes", 5_000, Next::End),
+    ("empty", 0, Next::End),
+    ("folder of bytes", 0, Next::Failed),
+];
 
 // A file of more bytes than one read gives, an empty file, and a folder.
 #[test]
-fn source_over_a_file(rt: HostRuntime) -> Result<(), Fail> {
-    lay_out(&rt, 5_000)?;
-    let cases = [
-        ("bytes", 5_000, Next::End),
-        ("empty", 0, Next::End),
-        ("folder of bytes", 0, Next::Failed),
-    ];
-    for (name, count, next) in cases {
-        let found = threes_of(&rt, name)?;
-        assert!(rt; found == (count, next), "{name}");
-    }
-    Ok(())
+fn source_over_a_file(rt: HostRuntime) {
+    lay_out(&rt, &rt, 5_000);
+    have_threes(&rt, &rt, &SOURCES);
 }
 
 // The bytes before a fault come first, a call that is interrupted is no fault, and the end stays.
@@ -129,10 +133,16 @@ fn source_over_a_reader_that_fails(rt: HostRuntime) {
     gives(&rt, &mut source, &expected);
 }
 
+fn steady_source(rt: &impl Abort, alloc: Global) {
+    let mut source = SteadySource::new(alloc, b"ab").expect(rt, "memory");
+    gives(rt, &mut source, &[Next::Byte(97)]);
+    assert!(rt; source.bytes() == b"b".as_slice());
+}
+
 // Calls 2 and 6 are to fail; at the sixth nothing is left, so that it is the end.
 #[test]
-fn sources_in_memory(rt: HostRuntime) -> Result<(), Fail> {
-    let mut source = MemorySource::new(rt.alloc(), b"abc", &[2, 6])?;
+fn sources_in_memory(rt: HostRuntime) {
+    let mut source = MemorySource::new(rt.alloc(), b"abc", &[2, 6]).expect(&rt, "memory");
     assert!(rt; source.bytes() == b"abc".as_slice());
     let expected = [
         Next::Byte(97),
@@ -143,71 +153,78 @@ fn sources_in_memory(rt: HostRuntime) -> Result<(), Fail> {
         Next::End,
     ];
     gives(&rt, &mut source, &expected);
-    let mut source = SteadySource::new(rt.alloc(), b"ab")?;
-    gives(&rt, &mut source, &[Next::Byte(97)]);
-    assert!(rt; source.bytes() == b"b".as_slice());
-    Ok(())
+    steady_source(&rt, rt.alloc());
 }
+
+// The sink takes so many bytes of each piece, and the printer's file has this text then.
+fn prints<T: Sink>(
+    rt: &impl Abort,
+    host: &HostRuntime,
+    sink: &mut T,
+    pieces: &[PutRow],
+    text: &str,
+) {
+    takes(rt, sink, pieces);
+    let found = fs::read(host, PRINTER_FILE).expect(rt, "file");
+    assert!(rt; found.as_slice() == text.as_bytes(), "{text}");
+}
+
+const PIECES: [PutRow; 3] = [
+    ("abc", 3, PutEnd::Ok),
+    ("", 0, PutEnd::Ok),
+    ("de", 2, PutEnd::Ok),
+];
 
 // The printer's file is made anew.
 #[test]
-fn sink_over_the_printer(rt: HostRuntime) -> Result<(), Fail> {
-    fs::write(&rt, PRINTER_FILE, "old text")?;
+fn sink_over_the_printer(rt: HostRuntime) {
+    assert!(rt; fs::write(&rt, PRINTER_FILE, "old text").is_ok());
     let mut sink = HostSink::printer(&rt);
-    let puts: [(&[PutRow], &str); 2] = [
-        (&[], ""),
-        (
-            &[
-                ("abc", 3, PutEnd::Ok),
-                ("", 0, PutEnd::Ok),
-                ("de", 2, PutEnd::Ok),
-            ],
-            "abcde",
-        ),
-    ];
-    for (pieces, text) in puts {
-        takes(&rt, &mut sink, pieces);
-        assert!(rt;
-            fs::read(&rt, PRINTER_FILE)?.as_slice() == text.as_bytes(),
-            "{text}"
-        );
-    }
-    Ok(())
+    prints(&rt, &rt, &mut sink, &[], "");
+    prints(&rt, &rt, &mut sink, &PIECES, "abcde");
 }
+
+const NOTHING: [PutRow; 1] = [("abc", 0, PutEnd::Failed)];
 
 // A printer that cannot be made, and a full device.
 #[test]
-fn sinks_that_fail(rt: HostRuntime) -> Result<(), Fail> {
+fn sinks_that_fail(rt: HostRuntime) {
     let _ = fs::remove_file(&rt, PRINTER_FILE);
-    fs::create_dir(&rt, PRINTER_FILE)?;
-    let full = HostSink::new(File::create(&rt, "/dev/full")?);
-    for mut sink in [HostSink::printer(&rt), full] {
-        takes(&rt, &mut sink, &[("abc", 0, PutEnd::Failed)]);
-    }
-    fs::remove_dir(&rt, PRINTER_FILE)?;
-    Ok(())
+    assert!(rt; fs::create_dir(&rt, PRINTER_FILE).is_ok());
+    takes(&rt, &mut HostSink::printer(&rt), &NOTHING);
+    let full = File::create(&rt, "/dev/full").expect(&rt, "file");
+    takes(&rt, &mut HostSink::new(full), &NOTHING);
+    assert!(rt; fs::remove_dir(&rt, PRINTER_FILE).is_ok());
+}
+
+fn narrow_takes(rt: &impl Abort, flushes: bool, puts: &[PutRow]) {
+    let mut sink = HostSink::new(Narrow { taken: 0, flushes });
+    takes(rt, &mut sink, puts);
 }
 
 // A writer that takes little and then nothing, and one that cannot flush.
 #[test]
 fn sinks_over_writers(rt: HostRuntime) {
-    let mut sink = HostSink::new(Narrow {
-        taken: 0,
-        flushes: true,
-    });
     let puts = [("abc", 3, PutEnd::Ok), ("de", 1, PutEnd::Failed)];
-    takes(&rt, &mut sink, &puts);
-    let mut sink = HostSink::new(Narrow {
-        taken: 0,
-        flushes: false,
-    });
-    takes(&rt, &mut sink, &[("abc", 3, PutEnd::Failed)]);
+    narrow_takes(&rt, true, &puts);
+    narrow_takes(&rt, false, &[("abc", 3, PutEnd::Failed)]);
+}
+
+fn steady_sink(rt: &impl Abort, alloc: Global) {
+    let mut sink = SteadySink::new(alloc, 3).expect(rt, "memory");
+    let puts = [
+        ("ab", 2, PutEnd::Ok),
+        ("cd", 2, PutEnd::Ok),
+        ("e", 1, PutEnd::Ok),
+    ];
+    takes(rt, &mut sink, &puts);
+    assert!(rt; sink.bytes() == b"abc".as_slice());
 }
 
 // Call 2 is to fail, and the third piece goes beyond the capacity.
 #[test]
-fn sinks_in_memory(rt: HostRuntime) -> Result<(), Fail> {
-    let mut sink = MemorySink::new(rt.alloc(), 5, &[2])?;
+fn sinks_in_memory(rt: HostRuntime) {
+    let mut sink = MemorySink::new(rt.alloc(), 5, &[2]).expect(&rt, "memory");
     let puts = [
         ("abc", 3, PutEnd::Ok),
         ("d", 0, PutEnd::Failed),
@@ -217,14 +234,5 @@ fn sinks_in_memory(rt: HostRuntime) -> Result<(), Fail> {
     ];
     takes(&rt, &mut sink, &puts);
     assert!(rt; sink.bytes() == b"abcef".as_slice());
-
-    let mut sink = SteadySink::new(rt.alloc(), 3)?;
-    let puts = [
-        ("ab", 2, PutEnd::Ok),
-        ("cd", 2, PutEnd::Ok),
-        ("e", 1, PutEnd::Ok),
-    ];
-    takes(&rt, &mut sink, &puts);
-    assert!(rt; sink.bytes() == b"abc".as_slice());
-    Ok(())
+    steady_sink(&rt, rt.alloc());
 }

@@ -46,14 +46,12 @@ fn call_drive<D: Drive>(drive: &mut D, alloc: Global, call: DriveCall) -> Option
     if succeeds { Some(0) } else { None }
 }
 
-/// Makes the calls of a table, each with its answer: a number of blocks by itself, a read by the block's last byte, another
-/// call by 0, and a call that does not succeed by `None`.
-pub fn walk_drive<D: Drive>(
-    rt: &impl Abort,
-    alloc: Global,
-    drive: &mut D,
-    table: &[(DriveCall, Option<u32>)],
-) {
+/// A call on a drive with its answer: a number of blocks by itself, a read by the block's last byte, another call by 0, and a
+/// call that does not succeed by `None`.
+pub type DriveRow = (DriveCall, Option<u32>);
+
+/// Makes the calls of a table.
+pub fn walk_drive<D: Drive>(rt: &impl Abort, alloc: Global, drive: &mut D, table: &[DriveRow]) {
     for (row, (call, answer)) in table.iter().enumerate() {
         let found = call_drive(drive, alloc, *call);
         assert!(rt; found == *answer, "row {row}");

@@ -2,7 +2,6 @@
 
 use edi_ring::Lists;
 use std::process::Abort;
-use std::test::Fail;
 
 const NODES: usize = 5;
 
@@ -45,13 +44,8 @@ fn are_in_order(lists: &Lists<NODES, LISTS>, list: usize, nodes: &[usize]) -> bo
     if list >= LISTS {
         return false;
     }
-    for (i, node) in nodes.iter().enumerate() {
-        if lists.nth(list, i) != Some(*node) {
-            return false;
-        }
-    }
-    for i in nodes.len()..7 {
-        if lists.nth(list, i).is_some() {
+    for i in 0..7 {
+        if lists.nth(list, i) != nodes.get(i).copied() {
             return false;
         }
     }
@@ -94,35 +88,34 @@ fn walk(rt: &impl Abort, lists: &mut Lists<NODES, LISTS>, steps: &[Step<'_>]) {
     }
 }
 
+/// Calls, and the nodes of the two lists behind each.
+const CALLS: [Step<'static>; 17] = [
+    (Call::PushBack(0, 3), &[3], &[]),
+    (Call::PushBack(0, 1), &[3, 1], &[]),
+    (Call::PushBack(0, 4), &[3, 1, 4], &[]),
+    (Call::PushBack(1, 0), &[3, 1, 4], &[0]),
+    // the last, a middle one, the first
+    (Call::ToBack(4), &[3, 1, 4], &[0]),
+    (Call::ToBack(1), &[3, 4, 1], &[0]),
+    (Call::ToBack(3), &[4, 1, 3], &[0]),
+    // the only one
+    (Call::ToBack(0), &[4, 1, 3], &[0]),
+    (Call::PushBack(1, 2), &[4, 1, 3], &[0, 2]),
+    // a middle one, the last, the first, the only one
+    (Call::Take(1), &[4, 3], &[0, 2]),
+    (Call::Take(3), &[4], &[0, 2]),
+    (Call::Take(0), &[4], &[2]),
+    (Call::Take(2), &[4], &[]),
+    // a node goes on in another list
+    (Call::PushBack(1, 1), &[4], &[1]),
+    (Call::Take(4), &[], &[1]),
+    (Call::PushBack(1, 4), &[], &[1, 4]),
+    (Call::PushBack(0, 0), &[0], &[1, 4]),
+];
+
 #[test]
-fn calls_in_a_row(rt: HostRuntime) -> Result<(), Fail> {
-    use Call::{PushBack, Take, ToBack};
-    let none: &[usize] = &[];
-    let steps: [Step<'_>; 17] = [
-        (PushBack(0, 3), &[3], none),
-        (PushBack(0, 1), &[3, 1], none),
-        (PushBack(0, 4), &[3, 1, 4], none),
-        (PushBack(1, 0), &[3, 1, 4], &[0]),
-        // the last, a middle one, the first
-        (ToBack(4), &[3, 1, 4], &[0]),
-        (ToBack(1), &[3, 4, 1], &[0]),
-        (ToBack(3), &[4, 1, 3], &[0]),
-        // the only one
-        (ToBack(0), &[4, 1, 3], &[0]),
-        (PushBack(1, 2), &[4, 1, 3], &[0, 2]),
-        // a middle one, the last, the first, the only one
-        (Take(1), &[4, 3], &[0, 2]),
-        (Take(3), &[4], &[0, 2]),
-        (Take(0), &[4], &[2]),
-        (Take(2), &[4], none),
-        // a node goes on in another list
-        (PushBack(1, 1), &[4], &[1]),
-        (Take(4), none, &[1]),
-        (PushBack(1, 4), none, &[1, 4]),
-        (PushBack(0, 0), &[0], &[1, 4]),
-    ];
+fn calls_in_a_row(rt: HostRuntime) {
     let mut lists = Lists::new();
-    assert!(rt; hold(&lists, none, none));
-    walk(&rt, &mut lists, &steps);
-    Ok(())
+    assert!(rt; hold(&lists, &[], &[]));
+    walk(&rt, &mut lists, &CALLS);
 }

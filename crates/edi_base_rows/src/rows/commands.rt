@@ -2,6 +2,7 @@
 
 use edi_words::{ChoicesFrom, Command, Options, command};
 use std::alloc::{AllocError, Global};
+use std::process::Abort;
 
 /// The words of a line, cut at blanks.
 fn words_of(alloc: Global, line: &str) -> Result<Vec<String>, AllocError> {
@@ -19,7 +20,7 @@ fn is_refused(alloc: Global, line: &str) -> Option<bool> {
     Some(found.is_none())
 }
 
-static REFUSED: [&str; 9] = [
+const REFUSED: [&str; 9] = [
     "run",
     "--version",
     "run a --turns=5",
@@ -31,11 +32,15 @@ static REFUSED: [&str; 9] = [
     "demo 1001",
 ];
 
+fn are_refused(rt: &impl Abort, alloc: Global, table: &[&str]) {
+    for line in table {
+        assert!(rt; is_refused(alloc, line) == Some(true), "{line}");
+    }
+}
+
 #[test]
 fn bad_words(rt: HostRuntime) {
-    for line in &REFUSED {
-        assert!(rt; is_refused(rt.alloc(), line) == Some(true));
-    }
+    are_refused(&rt, rt.alloc(), &REFUSED);
 }
 
 /// Whether the words of a line are this command; none where memory is wanting.
