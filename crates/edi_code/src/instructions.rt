@@ -14,13 +14,13 @@ ghost use Rattle.edi_code.specs.Scope.{IsScope, blocks_in, entry_in};
 ghost use Rattle.edi_code.specs.Writable.{OperatorIsWritable};
 
 use crate::pieces::{is_address, is_set, slot_offset};
-use crate::scope::Scope;
+use crate::scope::{Appended, Behind, Scope};
 use edi_target::{Op, write_op};
 use edi_unit::{Callee, Operator, Parameter, Shape, TypeTable, type_words};
-use std::alloc::{AllocError, Global};
+use std::alloc::Global;
 
 // Appends an instruction.
-pub(crate) fn put(alloc: Global, op: &Op<'_>, out: &mut Vec<u16>) -> Result<(), AllocError>
+pub(crate) fn put(alloc: Global, op: &Op<'_>, out: &mut Vec<u16>) -> Appended
     requires allowed { IsWhole op.now }
     ensures emits { OnOk result (Emits out.old.items out.new.items (code_of_op op.now)) }
 {
@@ -28,13 +28,7 @@ pub(crate) fn put(alloc: Global, op: &Op<'_>, out: &mut Vec<u16>) -> Result<(), 
 }
 
 // Appends an instruction of so many words, which stands at `at`; gives the address behind it.
-pub(crate) fn put_at(
-    alloc: Global,
-    op: &Op<'_>,
-    at: u32,
-    long: u32,
-    out: &mut Vec<u16>,
-) -> Result<u32, AllocError>
+pub(crate) fn put_at(alloc: Global, op: &Op<'_>, at: u32, long: u32, out: &mut Vec<u16>) -> Behind
     requires allowed { IsWhole op.now }
     requires long { long ≡ code_length (code_of_op op.now) }
     requires room { at + long < 2 ^ 32 }
@@ -46,11 +40,7 @@ pub(crate) fn put_at(
 }
 
 // Appends an instruction where there is one.
-pub(crate) fn put_any(
-    alloc: Global,
-    op: Option<Op<'_>>,
-    out: &mut Vec<u16>,
-) -> Result<(), AllocError>
+pub(crate) fn put_any(alloc: Global, op: Option<Op<'_>>, out: &mut Vec<u16>) -> Appended
     requires allowed { IfSome op IsWhole }
     ensures emits { OnOk result (Emits out.old.items out.new.items (code_of_option op.entry)) }
 {
@@ -171,18 +161,15 @@ pub(crate) fn element(types: &TypeTable, of: u32, line: u16) -> Option<Op<'stati
 
 // ---- variables and callees
 
-// Appends the address of what stands at an offset in the frame `levels` steps out.
-fn put_address(
-    alloc: Global,
-    levels: u32,
-    offset: u16,
-    out: &mut Vec<u16>,
-) -> Result<(), AllocError>
+// Appends the address of what a variable keeps in the frame `levels` steps out.
+fn put_address(scope: &Scope<'_>, levels: u32, variable: u32, out: &mut Vec<u16>) -> Appended
+    requires scope { IsScope scope.now }
     requires levels { levels ≤ greatest_levels }
-    ensures emits { OnOk result (Emits out.old.items out.new.items (address levels offset ∷ [])) }
+    ensures emits { OnOk result (Emits out.old.items out.new.items (address levels (in_scope.slot_offset scope.now levels variable) ∷ [])) }
 {
+    let offset = slot_offset(scope, levels, variable);
     put(
-        alloc,
+        scope.alloc,
         &Op::Address {
             level: levels as u16,
             offset,
@@ -198,18 +185,13 @@ pub(crate) fn emit_variable(
     variable: u32,
     found: Option<Parameter>,
     out: &mut Vec<u16>,
-) -> Result<(), AllocError>
+) -> Appended
     requires scope { IsScope scope.now }
     requires levels { levels ≤ greatest_levels }
     ensures emits { OnOk result (Emits out.old.items out.new.items
         (pieces.variable_code levels (in_scope.slot_offset scope.now levels variable) found)) }
 {
-    put_address(
-        scope.alloc,
-        levels,
-        slot_offset(scope, levels, variable),
-        out,
-    )?;
+    put_address(scope, levels, variable, out)?;
     if is_address(found) {
         return put(scope.alloc, &Op::Load { count: 1 }, out);
     }
@@ -247,11 +229,7 @@ pub(crate) fn call(scope: &Scope<'_>, callee: Callee, line: u16) -> Op<'static>
 }
 
 // Appends a procedure that is passed on.
-pub(crate) fn emit_procedure(
-    scope: &Scope<'_>,
-    callee: Callee,
-    out: &mut Vec<u16>,
-) -> Result<(), AllocError>
+pub(crate) fn emit_procedure(scope: &Scope<'_>, callee: Callee, out: &mut Vec<u16>) -> Appended
     requires scope { IsScope scope.now }
     requires writable { CalleeIsWritable scope.now callee }
     ensures emits { OnOk result (Emits out.old.items out.new.items (in_scope.procedure_code scope.now callee)) }
@@ -269,12 +247,7 @@ pub(crate) fn emit_procedure(
             )
         }
         Callee::Formal { levels, variable } => {
-            put_address(
-                scope.alloc,
-                levels,
-                slot_offset(scope, levels, variable),
-                out,
-            )?;
+            put_address(scope, levels, variable, out)?;
             put(scope.alloc, &Op::Load { count: 3 }, out)
         }
     }

@@ -9,10 +9,10 @@ ghost use Rattle.edi_code.specs.Emits.{Emits};
 ghost use Rattle.edi_code.specs.Scope.{clause_kind_of};
 
 use crate::instructions::put;
-use crate::scope::Closing;
+use crate::scope::{Appended, Closing};
 use edi_target::Op;
 use edi_unit::Operator;
-use std::alloc::{AllocError, Global};
+use std::alloc::Global;
 
 // Sets the target of the jump that begins at this index of the words.
 pub(crate) fn aim(out: &mut Vec<u16>, start: usize, target: u32)
@@ -45,11 +45,7 @@ pub(crate) fn decide(out: &mut Vec<u16>, operator: Operator, start: usize, behin
 }
 
 // Appends a jump without its target, and puts its index behind the others.
-pub(crate) fn open_jump(
-    alloc: Global,
-    starts: &mut Vec<usize>,
-    out: &mut Vec<u16>,
-) -> Result<(), AllocError>
+pub(crate) fn open_jump(alloc: Global, starts: &mut Vec<usize>, out: &mut Vec<u16>) -> Appended
     ensures emits { OnOk result (Emits out.old.items out.new.items (jump 0 ∷ [])) }
     ensures opens { OnOk result (starts.new.items ≡ starts.old.items ++ length out.old.items ∷ []) }
 {

@@ -16,7 +16,7 @@ ghost use Rattle.edi_code.specs.Writable.{AreEntries, AreWritable, IsRoomy, IsWr
 
 use crate::instructions::put;
 use crate::pieces::{declared_words, parameters_words, result_words};
-use crate::scope::Scope;
+use crate::scope::{Appended, Scope};
 use crate::statement_lengths::block_words;
 use crate::statements::emit_acts;
 use edi_target::{Code, CodeFault, Op};
@@ -78,12 +78,7 @@ fn is_branch(kind: BlockKind) -> bool
 }
 
 // The code of a branch, which stands at `at`.
-fn emit_branch(
-    body: &Acts,
-    scope: &Scope<'_>,
-    at: u32,
-    out: &mut Vec<u16>,
-) -> Result<(), AllocError>
+fn emit_branch(body: &Acts, scope: &Scope<'_>, at: u32, out: &mut Vec<u16>) -> Appended
     requires ready { Ready scope.now at (acts_length scope.now (acts_of body.now)) (ActsAreWritable scope.now (acts_of body.now)) }
     ensures emits { OnOk result (Emits out.old.items out.new.items (acts_code scope.now at (acts_of body.now) ++ exit ∷ [])) }
 {
@@ -92,12 +87,7 @@ fn emit_branch(
 }
 
 // The code of a procedure, a function or the program, which stands at `at`.
-fn emit_procedure(
-    block: &Block,
-    scope: &Scope<'_>,
-    at: u32,
-    out: &mut Vec<u16>,
-) -> Result<(), AllocError>
+fn emit_procedure(block: &Block, scope: &Scope<'_>, at: u32, out: &mut Vec<u16>) -> Appended
     requires ready { Ready scope.now (at + 6) (acts_length scope.now (block_of block.now).body) (ActsAreWritable scope.now (block_of block.now).body) }
     requires frame { IsRoomy (types_in scope.now) (block_of block.now) }
     ensures emits { OnOk result (Emits out.old.items out.new.items
@@ -110,7 +100,7 @@ fn emit_procedure(
 }
 
 // The code of the block of a scope.
-fn emit_block(scope: &Scope<'_>, out: &mut Vec<u16>) -> Result<(), AllocError>
+fn emit_block(scope: &Scope<'_>, out: &mut Vec<u16>) -> Appended
     requires scope { IsScope scope.now }
     requires known { scope.now.block < length (blocks_in scope.now) }
     requires writable { ActsAreWritable scope.now (block_at (blocks_in scope.now) scope.now.block).body }
@@ -133,7 +123,7 @@ fn emit_blocks(
     blocks: &[Block],
     entries: &[u32],
     out: &mut Vec<u16>,
-) -> Result<(), AllocError>
+) -> Appended
     requires writable { AreWritable types.now (map block_of blocks.now) }
     requires entries { AreEntries types.now (map block_of blocks.now) entries.now }
     ensures emits { OnOk result (Emits out.old.items out.new.items (blocks_code types.now (map block_of blocks.now) (length blocks.now))) }

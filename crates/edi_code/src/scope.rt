@@ -3,6 +3,9 @@
 use edi_unit::{Block, TypeTable};
 use std::alloc::{AllocError, Global};
 
+/// That a code was appended. The only error is want of memory.
+pub(crate) type Appended = Result<(), AllocError>;
+
 /// The address behind a code that was appended. The only error is want of memory.
 pub(crate) type Behind = Result<u32, AllocError>;
 

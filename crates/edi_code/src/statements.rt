@@ -19,7 +19,7 @@ use crate::instructions::{again, entry_of, put, put_at};
 use crate::jumps::{aim, aim_all, open_jump, target_of};
 use crate::pieces::close_length;
 use crate::quiet::is_quiet;
-use crate::scope::{Behind, Closing, Scope};
+use crate::scope::{Appended, Behind, Closing, Scope};
 use edi_target::Op;
 use edi_unit::{Act, Acts, Clause, Clauses, Numbers, Place, Value, place_type, type_words};
 use std::alloc::{AllocError, Global};
@@ -40,7 +40,7 @@ fn emit_act(act: &Act, scope: &Scope<'_>, at: u32, out: &mut Vec<u16>) -> Behind
         Act::Halt(line) => put_at(scope.alloc, &Op::Halt { line: *line }, at, 2, out),
         Act::If(clauses) => emit_clauses(clauses, scope, at, Closing::Once, out),
         Act::While(clauses) => emit_clauses(clauses, scope, at, Closing::Repeated, out),
-        Act::When(clauses, line) => emit_await(clauses, scope, at, *line, out),
+        Act::When(clauses, line) => emit_when(clauses, scope, at, *line, out),
         Act::Cobegin(branches, line) => {
             emit_cobegin(branches, scope, *line, out)?;
             Ok(at + 3 + 3 * branches.len() as u32)
@@ -71,13 +71,7 @@ fn emit_assign(
 
 // The code of a `when`.
 #[cycle(statements)]
-fn emit_await(
-    clauses: &Clauses,
-    scope: &Scope<'_>,
-    at: u32,
-    line: u16,
-    out: &mut Vec<u16>,
-) -> Behind
+fn emit_when(clauses: &Clauses, scope: &Scope<'_>, at: u32, line: u16, out: &mut Vec<u16>) -> Behind
     requires ready { Ready scope.now at (in_scope.act_length scope.now (when_act (clauses_of clauses.now) line))
         (ClausesAreWritable scope.now (clauses_of clauses.now)) }
     ensures emits { OnOk result (Emits out.old.items out.new.items (in_scope.act_code scope.now at (when_act (clauses_of clauses.now) line))) }
@@ -106,12 +100,7 @@ fn branch_words(branches: &Numbers, scope: &Scope<'_>) -> Result<Vec<u16>, Alloc
 }
 
 // The code of a `cobegin`.
-fn emit_cobegin(
-    branches: &Numbers,
-    scope: &Scope<'_>,
-    line: u16,
-    out: &mut Vec<u16>,
-) -> Result<(), AllocError>
+fn emit_cobegin(branches: &Numbers, scope: &Scope<'_>, line: u16, out: &mut Vec<u16>) -> Appended
     requires scope { IsScope scope.now }
     requires writable { ActIsWritable scope.now (cobegin (list_items branches.now) line) }
     ensures emits { OnOk result (Emits out.old.items out.new.items (in_scope.act_code scope.now 0 (cobegin (list_items branches.now) line))) }
@@ -187,7 +176,7 @@ fn emit_close(
     last: bool,
     starts: &mut Vec<usize>,
     out: &mut Vec<u16>,
-) -> Result<(), AllocError>
+) -> Appended
     ensures closes { OnOk result ((clauses : Clauses) → last ≡ is_end clauses →
         Opens (clause_kind_of closing) top starts.old.items starts.new.items out.old.items out.new.items (λ target. close_code (clause_kind_of closing) target clauses)) }
 {

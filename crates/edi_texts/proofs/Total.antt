@@ -1,5 +1,5 @@
 -- Each text has a first fault or a unit.
-use Rattle.std.proofs.Common.{◌≡◌, ◌⊎◌, ℕ, zero, suc, ◌+◌, List, [], ◌∷◌, ◌++◌, length, Bool, true, false, Option, Some, Result, Ok, Err, refl, sym, ap}
+use Rattle.std.proofs.Common.{◌≡◌, ◌⊎◌, ℕ, zero, suc, ◌+◌, List, [], ◌∷◌, ◌++◌, length, Bool, true, false, Option, Result, Ok, Err, refl, sym, ap}
 use Rattle.std.proofs.Common.{subst, ◌∙◌, inl, inr, if◌then◌else◌}
 use Rattle.edi_lex.specs.declared.symbol.Mark.{Mark}
 use Rattle.edi_lex.specs.declared.fault.LexFault.{LexFault}
@@ -16,6 +16,7 @@ use Rattle.edi_grammar.proofs.Start.{first_fault}
 use Rattle.edi_derivation.specs.Faults.{IsMisplaced, IsTheTree}
 use Rattle.edi_derivation.proofs.Programs.{elements_spelled, marks_of, program_of_text}
 use Rattle.edi_derivation.proofs.Firsts.{misplaced, too_deep_at, whole_tree}
+use Rattle.edi_syntax.proofs.Stopping.{same_marks}
 use Rattle.edi_syntax.specs.Refusal.{is_outside, line_of}
 use Rattle.edi_syntax.specs.declared.fault.SyntaxFault.TheVariants as syntax
 use Rattle.edi_static.specs.Judged.{Judged, gives, faults}
@@ -74,20 +75,6 @@ lexically lex.TooLong t = inl (Lexical, kind.TextTooLong, 0, refl)
 lexically lex.NoMemory t = absurd t
 
 -- ---- the syntax fault, or the tree
-
-same_marks : (marks rest : List Mark) → to_end marks ≡ to_end rest → marks ≡ rest
-same_marks [] [] e = refl
-same_marks [] (m ∷ rest) e = cc
-same_marks (m ∷ marks) [] e = cc
-same_marks (m ∷ marks) (r ∷ rest) e =
-    let heads : Some m ∷ to_end marks ≡ Some r ∷ to_end rest = e in
-    let same : m ≡ r = cc in
-    let less : to_end marks ≡ to_end rest = cc in
-    ap (λ l. m ∷ l) (same_marks marks rest less) ∙ ap (λ m. m ∷ rest) same
-
-append_nil : {A : Type 0} (xs : List A) → xs ++ [] ≡ xs
-append_nil [] = refl
-append_nil (x ∷ xs) = ap (λ l. x ∷ l) (append_nil xs)
 
 -- marks that are read to their end are those of a tree
 tree_of : (marks : List Mark) → Stops edison 64 start (to_end marks) complete [] → (tree : Program) × IsTheTree marks tree

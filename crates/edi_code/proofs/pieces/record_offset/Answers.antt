@@ -10,13 +10,8 @@ loop-before-preserved c =
 
 pub overflow_add-words : goal.overflow_add-words
 overflow_add-words c =
-    omega (
-      arith,
-      c.loop-before.invariant,
-      c.field_words-words.ensures.small,
-      field_small c.args.types.now c.args.of c.loop-before.before c.requires.table
-          c.requires.known,
-    )
+    let small = field_small c.args.types.now c.args.of c.loop-before.before c.requires.table c.requires.known in
+    omega (arith, c.loop-before.invariant, c.field_words-words.ensures.small, small)
 
 pub overflow_cast-result : goal.overflow_cast-result
 overflow_cast-result c =

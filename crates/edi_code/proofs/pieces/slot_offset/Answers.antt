@@ -12,19 +12,12 @@ loop-before-preserved c =
 
 pub overflow_add-words : goal.overflow_add-words
 overflow_add-words c =
-    omega (
-      arith,
-      c.loop-before.invariant,
-      c.words_at-words.ensures.small,
-      offset_small (types_in c.args.scope.now) (blocks_in c.args.scope.now)
-          c.outer-home.result c.loop-before.before c.requires.scope.frames,
-    )
+    let scope = c.args.scope.now in
+    let small = offset_small (types_in scope) (blocks_in scope) c.outer-home.result c.loop-before.before c.requires.scope.frames in
+    omega (arith, c.loop-before.invariant, c.words_at-words.ensures.small, small)
 
 pub overflow_cast-result : goal.overflow_cast-result
 overflow_cast-result c =
-    omega (
-      arith,
-      c.loop-before.invariant,
-      offset_small (types_in c.args.scope.now) (blocks_in c.args.scope.now) c.outer-home.result c.loop-before.before
-          c.requires.scope.frames,
-    )
+    let scope = c.args.scope.now in
+    let small = offset_small (types_in scope) (blocks_in scope) c.outer-home.result c.loop-before.before c.requires.scope.frames in
+    omega (arith, c.loop-before.invariant, small)

@@ -99,8 +99,8 @@ emit_guarded-returns-clause-emits t c =
     ∙ ap (λ k. instruction.false_ (c.args.at + clause_length s (plain_clause e body) + c.args.more) ∷ acts_code s (k + 3) body) c.in_ok-list.ensures.behind)
     (refl {a = clause_code s c.args.at (c.args.at + clause_length s (plain_clause e body) + c.args.more) (plain_clause e body)})
 
-pub emit_await-returns-clause-emits : goal.emit_await-returns-clause-emits
-emit_await-returns-clause-emits t c =
+pub emit_when-returns-clause-emits : goal.emit_when-returns-clause-emits
+emit_when-returns-clause-emits t c =
     let s = c.args.scope.now in
     let clauses_in = clauses_of c.args.clauses.now in
     both _ _ _ _ _ _ _ c.in_ok-put.ensures.emits (emits_then _ _ _ _ _ c.in_ok-behind.ensures.emits c.in_ok-put-2.ensures.emits)
