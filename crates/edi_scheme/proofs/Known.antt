@@ -1,35 +1,29 @@
 -- What a unit that fits names: types of at least one word and at most 65,535, and blocks that need at least five.
 use Rattle.std.proofs.Common.{◌≡◌, ℕ, zero, suc, ◌+◌, ◌<◌, ◌≤◌, ℤ, pos, negsuc, ◌+ℤ◌, ◌-ℤ◌, ◌≤ℤ◌, true, false, List, [], ◌∷◌, ◌++◌, length, map, All, Option}
-use Rattle.std.proofs.Common.{Some, None, IsTrue, IfSome, refl, sym, ap, ◌∙◌, arith, replicate, sum_by, slice_get, option_map, option_to_list}
-use Rattle.std.specs.Prelude.{unwrap_or}
+use Rattle.std.proofs.Common.{Some, None, IsTrue, IfSome, refl, sym, ap, ◌∙◌, arith, replicate, sum_by, option_map, option_to_list}
 use Rattle.std.proofs.lemmas.Bool.{false≢true}
 use Rattle.std.proofs.lemmas.List.{length-replicate}
 use Rattle.std.proofs.lemmas.List.Sums.{sum_by-cons, sum_by-append}
 use Rattle.std.proofs.Math.Nat.{le-mul_of_pos_right}
 use Rattle.edi_unit.specs.declared.expressions.Operator.{Operator}
-use Rattle.edi_unit.specs.declared.expressions.Operator.TheVariants as op
 use Rattle.edi_unit.specs.declared.expressions.Callee.{Callee}
 use Rattle.edi_unit.specs.declared.expressions.Callee.TheVariants as callee
-use Rattle.edi_unit.specs.declared.units.Parameter.{Parameter}
 use Rattle.edi_unit.specs.declared.units.Parameter.TheVariants as slot
-use Rattle.edi_unit.specs.Types.{Shape, int, char, bool, enumeration, record_of, array_of, set_of, shape_at, int_type, is_ordinal_of, natural, element_count}
-use Rattle.edi_unit.specs.Types.{shape_size, size, fields_of, named_types, is_set_shape, greatest_size, IsTypeTable, HasOrderedBounds}
+use Rattle.edi_unit.specs.Types.{Shape, int, char, bool, enumeration, record_of, array_of, set_of, shape_at, is_ordinal_of, natural, element_count}
+use Rattle.edi_unit.specs.Types.{shape_size, size, named_types, is_set_shape, greatest_size, IsTypeTable, HasOrderedBounds}
 use Rattle.edi_unit.specs.Tree.{Expression, constant, load, not_of, sign_of, chain, make, convert, apply_of, Expressions, no_expression, expression_then}
 use Rattle.edi_unit.specs.Tree.{link, Links, no_link, link_then, Place, place, Part, field, index, Parts, no_part, part_then, Block}
-use Rattle.edi_unit.specs.Need.{block_at, outer, slots, slot_at, slot_type, slot_result, slot_words, element_type, part_type, parts_type, operator_type}
-use Rattle.edi_unit.specs.Need.{links_type, callee_result, place_type, expression_type, variable_words}
+use Rattle.edi_unit.specs.Need.{block_at, outer, slots, slot_at, slot_type, slot_words, part_type, parts_type, operator_type, links_type, callee_result}
+use Rattle.edi_unit.specs.Need.{place_type, expression_type, variable_words}
 use Rattle.edi_unit.specs.Fits.{ShapeFits, Heading, is_variable, CalleeFits, HaveTypes, MakesValue, ExpressionFits, PlaceFits, SlotIsKnown, BlockFits}
+pub use Rattle.edi_unit.proofs.Known.{all_some}
+use Rattle.edi_unit.proofs.Known as unit
 use Rattle.edi_unit.proofs.Tables.{size-is, size-small, length-before}
 use Rattle.edi_target.specs.Op.{is_integer}
 use Rattle.edi_scheme.specs.Pieces.{constant_words, result_words}
 use Rattle.edi_scheme.specs.Laws.{HasPart, HaveParts}
 
 -- ---- lists
-
-pub all_some : {X : Type 0} (P : X → Type 0) (xs : List X) (v : ℕ) → All P xs → IfSome (slice_get xs v) P
-all_some P [] v all = tt
-all_some P (x ∷ xs) zero all = all 0 x (omega arith)
-all_some P (x ∷ xs) (suc v) all = all_some P xs v (λ k d h. all (suc k) d (omega arith))
 
 -- a sum of positive numbers is at least their number
 at_least_one : (f : ℕ → ℕ) (ts : List ℕ) → All (λ t. 1 ≤ f t) ts → length ts ≤ sum_by f ts
@@ -88,9 +82,6 @@ module _ (types : List Shape) where
 -- ---- types
 
 module _ (types : List Shape) (table : IsTypeTable types) (parts : HaveParts types) where
-  standard_known : (t : ℕ) → t ≤ 2 → t < length types
-  standard_known t h = let three = table.three in omega (arith, h, three)
-
   -- a type names earlier types
   named_before : (t : ℕ) → t < length types → All (λ u. u < t) (named_types (shape_at types t))
   named_before t h = λ k d i.
@@ -126,43 +117,8 @@ module _ (types : List Shape) (table : IsTypeTable types) (parts : HaveParts typ
   pub size_positive : (t : ℕ) → t < length types → 1 ≤ size types t
   size_positive t h = positive_below (suc t) t (omega arith) h
 
-  element_known : (s : Shape) → All (λ u. u < length types) (named_types s) → element_type s < length types
-  element_known int h = standard_known 0 (omega arith)
-  element_known char h = standard_known 0 (omega arith)
-  element_known bool h = standard_known 0 (omega arith)
-  element_known (enumeration n) h = standard_known 0 (omega arith)
-  element_known (record_of fs) h = standard_known 0 (omega arith)
-  element_known (array_of i lo hi e) h = h 1 0 (omega arith)
-  element_known (set_of t) h = standard_known 0 (omega arith)
-
-  found_known : (o : Option ℕ) → IfSome o (λ u. u < length types) → unwrap_or o int_type < length types
-  found_known None h = standard_known 0 (omega arith)
-  found_known (Some t) h = h
-
-  field_known : (s : Shape) (n : ℕ) → All (λ u. u < length types) (named_types s) → unwrap_or (slice_get (fields_of s) n) int_type < length types
-  field_known int n h = standard_known 0 (omega arith)
-  field_known char n h = standard_known 0 (omega arith)
-  field_known bool n h = standard_known 0 (omega arith)
-  field_known (enumeration k) n h = standard_known 0 (omega arith)
-  field_known (record_of fs) n h = found_known (slice_get fs n) (all_some (λ u. u < length types) fs n h)
-  field_known (array_of i lo hi e) n h = standard_known 0 (omega arith)
-  field_known (set_of t) n h = standard_known 0 (omega arith)
-
   pub operator_known : (o : Operator) (t : ℕ) → t < length types → operator_type o t < length types
-  operator_known op.Equal t h = standard_known 2 (omega arith)
-  operator_known op.NotEqual t h = standard_known 2 (omega arith)
-  operator_known op.Less t h = standard_known 2 (omega arith)
-  operator_known op.LessOrEqual t h = standard_known 2 (omega arith)
-  operator_known op.Greater t h = standard_known 2 (omega arith)
-  operator_known op.GreaterOrEqual t h = standard_known 2 (omega arith)
-  operator_known op.In t h = standard_known 2 (omega arith)
-  operator_known op.Plus t h = h
-  operator_known op.Minus t h = h
-  operator_known op.Times t h = h
-  operator_known op.Div t h = h
-  operator_known op.Mod t h = h
-  operator_known op.And t h = h
-  operator_known op.Or t h = h
+  operator_known o t h = unit.operator_known types table.three o t h
 
   -- ---- expressions of a block
 
@@ -180,38 +136,20 @@ module _ (types : List Shape) (table : IsTypeTable types) (parts : HaveParts typ
     slot_known levels v =
         all_some (SlotIsKnown types) (slots (block_at blocks (outer blocks b levels))) v (each _ (outer_inside levels b inside)).known
 
-    type_known : (o : Option Parameter) → IsTrue (is_variable o) → IfSome o (SlotIsKnown types) → slot_type o < length types
-    type_known None h k = absurd (false≢true h)
-    type_known (Some (slot.Value t)) h k = k
-    type_known (Some (slot.Var t)) h k = k
-    type_known (Some (slot.Formal r)) h k = absurd (false≢true h)
-
-    formal_known : (o : Option Parameter) → IfSome o (SlotIsKnown types) → IfSome (slot_result o) (λ t. t < length types)
-    formal_known None k = tt
-    formal_known (Some (slot.Value t)) k = tt
-    formal_known (Some (slot.Var t)) k = tt
-    formal_known (Some (slot.Formal None)) k = tt
-    formal_known (Some (slot.Formal (Some t))) k = k
-
-    first_known : (r : Option ℕ) (rest : List Parameter) → All (SlotIsKnown types) (map slot.Value (option_to_list r) ++ rest)
-        → IfSome r (λ t. t < length types)
-    first_known None rest k = tt
-    first_known (Some t) rest k = k 0 (slot.Value t) (omega arith)
-
     result_known : (c : Callee) → CalleeFits blocks b c → IfSome (callee_result blocks b c) (λ t. t < length types)
-    result_known (callee.Block levels n) h = first_known (block_at blocks n).result _ (each n h.1).known
-    result_known (callee.Formal levels v) h = formal_known (slot_at blocks b levels v) (slot_known levels v)
+    result_known (callee.Block levels n) h = unit.first_known types (block_at blocks n).result _ (each n h.1).known
+    result_known (callee.Formal levels v) h = unit.formal_known types (slot_at blocks b levels v) (slot_known levels v)
 
     pub part_known : (t : ℕ) (p : Part) → t < length types → part_type types t p < length types
-    part_known t (field n) h = field_known (shape_at types t) n (names_known t h)
-    part_known t (index e line) h = element_known (shape_at types t) (names_known t h)
+    part_known t (field n) h = unit.field_known types table.three (shape_at types t) n (names_known t h)
+    part_known t (index e line) h = unit.element_known types table.three (shape_at types t) (names_known t h)
 
     parts_known : (t : ℕ) (ps : Parts) → t < length types → parts_type types t ps < length types
     parts_known t no_part h = h
     parts_known t (part_then p ps) h = parts_known (part_type types t p) ps (part_known t p h)
 
     pub root_known : (levels v : ℕ) → IsTrue (is_variable (slot_at blocks b levels v)) → slot_type (slot_at blocks b levels v) < length types
-    root_known levels v h = type_known (slot_at blocks b levels v) h (slot_known levels v)
+    root_known levels v h = unit.type_known types (slot_at blocks b levels v) h (slot_known levels v)
 
     pub place_known : (p : Place) → PlaceFits types blocks headings b p → place_type types blocks b p < length types
     place_known (place levels v ps) h = parts_known (slot_type (slot_at blocks b levels v)) ps (root_known levels v h.1)
@@ -223,12 +161,12 @@ module _ (types : List Shape) (table : IsTypeTable types) (parts : HaveParts typ
     pub expression_known : (e : Expression) → ExpressionFits types blocks headings b e → expression_type types blocks b e < length types
     expression_known (constant t n) h = h.0
     expression_known (load p) h = place_known p h
-    expression_known (not_of e) h = standard_known 2 (omega arith)
-    expression_known (sign_of e line) h = standard_known 0 (omega arith)
+    expression_known (not_of e) h = unit.standard_known types table.three 2 (omega arith)
+    expression_known (sign_of e line) h = unit.standard_known types table.three 0 (omega arith)
     expression_known (chain e ls) h = links_known (expression_type types blocks b e) ls (expression_known e h.1)
     expression_known (make t es line) h = h.0
     expression_known (convert t e line) h = h.0
-    expression_known (apply_of c xs line) h = found_known (callee_result blocks b c) (result_known c h.0)
+    expression_known (apply_of c xs line) h = unit.found_known types table.three (callee_result blocks b c) (result_known c h.0)
 
     -- ---- the parts of a record or an array
 

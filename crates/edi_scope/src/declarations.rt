@@ -13,7 +13,7 @@ use std::alloc::{AllocError, Global};
 use std::collections::BTreeMap;
 
 /// One declaration of a name: how many scopes stand round its scope, and what the name means there.
-#[derive(Clone, Copy, Debug)]
+#[derive(Clone, Copy)]
 pub(crate) struct Declaration {
     pub(crate) depth: usize,
     pub(crate) entity: Entity,
@@ -21,7 +21,7 @@ pub(crate) struct Declaration {
 
 /// For each spelling the list of its declarations, the innermost last. A spelling is looked up in
 /// logarithmic time, however many are declared.
-#[derive(Debug, Drop)]
+#[derive(Drop)]
 pub(crate) struct Declarations {
     lists: BTreeMap<Vec<u8>, Vec<Declaration>>,
 }

@@ -18,14 +18,14 @@ const CHAR: u32 = 1;
 const BOOL: u32 = 2;
 
 /// A name that a scope declares.
-#[derive(Debug, Drop)]
+#[derive(Drop)]
 struct Named {
     name: Vec<u8>,
     entity: Entity,
 }
 
 /// An open scope: whether it is that of a module, and its names in the order of their declaration.
-#[derive(Debug, Drop)]
+#[derive(Drop)]
 struct OpenScope {
     is_module: bool,
     names: Vec<Named>,
@@ -35,7 +35,7 @@ struct OpenScope {
 ///
 /// Contracts see the list of the scopes, the innermost first. A name is looked up in logarithmic
 /// time, however many are declared.
-#[derive(Debug, Drop)]
+#[derive(Drop)]
 pub struct Scopes {
     declarations: Declarations,
     /// The outermost first.

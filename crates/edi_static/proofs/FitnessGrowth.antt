@@ -1,8 +1,8 @@
 -- What fits in a block goes on to fit, with the same types and heights, where types, blocks and variables are added.
-use Rattle.std.proofs.Common.{◌≡◌, ℕ, zero, suc, ◌+◌, ◌<◌, ◌≤◌, max, Bool, true, false, ◌||◌, ◌==◌, if◌then◌else◌, List, [], ◌∷◌, ◌++◌, length, map, All}
-use Rattle.std.proofs.Common.{Option, Some, None, IsSome, IsTrue, IfSome, unwrap_or, refl, sym, ap, ◌∙◌, subst, arith, append_assoc, length-append}
+use Rattle.std.proofs.Common.{◌≡◌, ℕ, zero, suc, ◌+◌, ◌<◌, ◌≤◌, max, true, false, ◌||◌, ◌==◌, if◌then◌else◌, List, [], ◌∷◌, ◌++◌, length, map, All, Option}
+use Rattle.std.proofs.Common.{Some, None, IsSome, IsTrue, IfSome, unwrap_or, refl, sym, ap, ◌∙◌, subst, arith, append_assoc, length-append}
 use Rattle.std.proofs.lemmas.List.{map-append}
-use Rattle.std.specs.Prelude.{slice_get, option_to_list, get_or, take}
+use Rattle.std.specs.Prelude.{slice_get, option_to_list, get_or}
 use Rattle.std.specs.Option.{option_map_or}
 use Rattle.std.proofs.lemmas.Bool.{false≢true}
 use Rattle.std.proofs.Math.ListN.{get_or-append}
@@ -12,21 +12,20 @@ use Rattle.edi_unit.specs.declared.expressions.Callee.{Callee}
 use Rattle.edi_unit.specs.declared.expressions.Callee.TheVariants as callee
 use Rattle.edi_unit.specs.declared.units.Parameter.{Parameter}
 use Rattle.edi_unit.specs.declared.units.Parameter.TheVariants as slot
-use Rattle.edi_unit.specs.Types.{Shape, int, char, bool, enumeration, record_of, array_of, set_of, shape_at, int_type, bool_type, fields_of, field_type}
-use Rattle.edi_unit.specs.Types.{part_types, named_types, is_elementary, is_elementary_shape, is_ordinal_of, is_set_shape, size, AreDeclared}
+use Rattle.edi_unit.specs.Types.{Shape, int, char, bool, enumeration, record_of, array_of, set_of, shape_at, int_type, fields_of, part_types, is_elementary}
+use Rattle.edi_unit.specs.Types.{is_elementary_shape, is_ordinal_of, is_set_shape, size, AreDeclared}
 use Rattle.edi_unit.specs.Tree.{Expression, constant, load, not_of, sign_of, chain, make, convert, apply_of, Expressions, no_expression, expression_then}
 use Rattle.edi_unit.specs.Tree.{link, Links, no_link, link_then, Place, place, Part, field, index, Parts, no_part, part_then, by_value, by_variable}
-use Rattle.edi_unit.specs.Tree.{by_procedure, Arguments, no_argument, argument_then, Act, skip, assign, call, halt, if_act, while_act, when_act, cobegin}
-use Rattle.edi_unit.specs.Tree.{Acts, no_act, act_then, Clause, clause, Clauses, no_clause, clause_then, Block}
+use Rattle.edi_unit.specs.Tree.{by_procedure, Arguments, no_argument, argument_then, Block}
 use Rattle.edi_unit.specs.Need.{block_at, outer, slots, slot_at, slot_type, slot_result, element_type, part_type, parts_type, operator_type, links_type}
-use Rattle.edi_unit.specs.Need.{left_words, callee_result, place_type, expression_type, result_words, argument_words, expression_height, members_height}
-use Rattle.edi_unit.specs.Need.{compound_height, links_height, place_height, part_height, parts_height, argument_height, arguments_height, act_height}
-use Rattle.edi_unit.specs.Need.{acts_height, clause_height, clauses_height}
+use Rattle.edi_unit.specs.Need.{left_words, callee_result, place_type, expression_type, expression_height, members_height, compound_height, links_height}
+use Rattle.edi_unit.specs.Need.{place_height, part_height, parts_height, arguments_height}
 use Rattle.edi_unit.specs.Fits.{is_called, Heading, heading, heading_formals, Formals, no_formal, value_then, variable_then, procedure_then, formals_from}
-use Rattle.edi_unit.specs.Fits.{first_parameter, block_heading, callee_heading, is_variable, is_procedure, CalleeFits, OperatorFits, HasLink, IsIndexedBy}
-use Rattle.edi_unit.specs.Fits.{HaveTypes, AllHaveType, MakesValue, ExpressionFits, ExpressionsFit, LinksFit, PlaceFits, PartFits, PartsFit, ArgumentsFit}
-use Rattle.edi_unit.specs.Fits.{BranchFits, ActFits, ActsFit, ClauseFits, ClausesFit, SlotIsKnown}
-use Rattle.edi_unit.proofs.Tables.{size-before, length-before}
+use Rattle.edi_unit.specs.Fits.{first_parameter, callee_heading, is_variable, is_procedure, CalleeFits, OperatorFits, IsIndexedBy, HaveTypes, AllHaveType}
+use Rattle.edi_unit.specs.Fits.{MakesValue, ExpressionFits, ExpressionsFit, LinksFit, PlaceFits, PartFits, PartsFit, ArgumentsFit, SlotIsKnown}
+use Rattle.edi_unit.proofs.Known.{all_some, standard_known, element_known, found_known, field_known, operator_known, type_known, formal_known, first_known}
+use Rattle.edi_unit.proofs.Known.{names_known}
+use Rattle.edi_unit.proofs.Tables.{size-before}
 
 -- ---- lists
 
@@ -34,11 +33,6 @@ pub get_more : {X : Type 0} (xs ys : List X) (v : ℕ) → IsSome (slice_get xs 
 get_more [] ys v h = absurd (false≢true h)
 get_more (x ∷ xs) ys zero h = refl
 get_more (x ∷ xs) ys (suc v) h = get_more xs ys v h
-
-pub all_some : {X : Type 0} (P : X → Type 0) (xs : List X) (v : ℕ) → All P xs → IfSome (slice_get xs v) P
-all_some P [] v all = tt
-all_some P (x ∷ xs) zero all = all 0 x (omega arith)
-all_some P (x ∷ xs) (suc v) all = all_some P xs v (λ k d h. all (suc k) d (omega arith))
 
 pub two : (f : ℕ → ℕ → ℕ) {i j k l : ℕ} → i ≡ j → k ≡ l → f i k ≡ f j l
 two f {i} {j} {k} {l} d e = ap (λ n. f n k) d ∙ ap (f j) e
@@ -99,37 +93,6 @@ module _ (types more : List Shape) (blocks later : List Block) (headings next : 
     elementary_same : (s t : ℕ) → s ≡ t → t < length types → IsTrue (is_elementary types t) → IsTrue (is_elementary (types ++ more) s)
     elementary_same s t e h k = ap (is_elementary (types ++ more)) e ∙ ap is_elementary_shape (shape_same t h) ∙ k
 
-    standard_known : (t : ℕ) → t ≤ 2 → t < length types
-    standard_known t h = let three = g.three in omega (arith, h, three)
-
-    names_known : (t : ℕ) → t < length types → All (λ u. u < length types) (named_types (shape_at types t))
-    names_known t h = λ k d i.
-        let below = (g.declared t h).known k d i in
-        let long = length-before types t h in
-        omega (arith, below, long, h)
-
-    element_known : (s : Shape) → All (λ u. u < length types) (named_types s) → element_type s < length types
-    element_known int h = standard_known 0 (omega arith)
-    element_known char h = standard_known 0 (omega arith)
-    element_known bool h = standard_known 0 (omega arith)
-    element_known (enumeration n) h = standard_known 0 (omega arith)
-    element_known (record_of fs) h = standard_known 0 (omega arith)
-    element_known (array_of i lo hi e) h = h 1 0 (omega arith)
-    element_known (set_of t) h = standard_known 0 (omega arith)
-
-    found_known : (o : Option ℕ) → IfSome o (λ u. u < length types) → unwrap_or o int_type < length types
-    found_known None h = standard_known 0 (omega arith)
-    found_known (Some t) h = h
-
-    field_known : (s : Shape) (n : ℕ) → All (λ u. u < length types) (named_types s) → unwrap_or (slice_get (fields_of s) n) int_type < length types
-    field_known int n h = standard_known 0 (omega arith)
-    field_known char n h = standard_known 0 (omega arith)
-    field_known bool n h = standard_known 0 (omega arith)
-    field_known (enumeration k) n h = standard_known 0 (omega arith)
-    field_known (record_of fs) n h = found_known (slice_get fs n) (all_some (λ u. u < length types) fs n h)
-    field_known (array_of i lo hi e) n h = standard_known 0 (omega arith)
-    field_known (set_of t) n h = standard_known 0 (omega arith)
-
     -- ---- blocks and variables
 
     pub outer_inside : (levels n : ℕ) → n < length blocks → outer blocks n levels < length blocks
@@ -154,23 +117,6 @@ module _ (types more : List Shape) (blocks later : List Block) (headings next : 
         all_some (SlotIsKnown types) (slots (block_at blocks (outer blocks b levels))) v
         (g.known (outer blocks b levels) (outer_inside levels b g.inside))
 
-    type_known : (o : Option Parameter) → IsTrue (is_variable o) → IfSome o (SlotIsKnown types) → slot_type o < length types
-    type_known None h k = absurd (false≢true h)
-    type_known (Some (slot.Value t)) h k = k
-    type_known (Some (slot.Var t)) h k = k
-    type_known (Some (slot.Formal r)) h k = absurd (false≢true h)
-
-    formal_known : (o : Option Parameter) → IfSome o (SlotIsKnown types) → IfSome (slot_result o) (λ t. t < length types)
-    formal_known None k = tt
-    formal_known (Some (slot.Value t)) k = tt
-    formal_known (Some (slot.Var t)) k = tt
-    formal_known (Some (slot.Formal None)) k = tt
-    formal_known (Some (slot.Formal (Some t))) k = k
-
-    first_known : (r : Option ℕ) (rest : List Parameter) → All (SlotIsKnown types) (map slot.Value (option_to_list r) ++ rest) → IfSome r (λ t. t < length types)
-    first_known None rest k = tt
-    first_known (Some t) rest k = k 0 (slot.Value t) (omega arith)
-
     -- ---- callees
 
     pub callee_fits : (c : Callee) → CalleeFits blocks b c → CalleeFits later b c
@@ -190,8 +136,8 @@ module _ (types more : List Shape) (blocks later : List Block) (headings next : 
     result_same (callee.Formal levels v) h = ap slot_result (slot_same levels v (some_procedure (slot_at blocks b levels v) h.1))
 
     result_known : (c : Callee) → CalleeFits blocks b c → IfSome (callee_result blocks b c) (λ t. t < length types)
-    result_known (callee.Block levels n) h = first_known (block_at blocks n).result _ (g.known n h.1)
-    result_known (callee.Formal levels v) h = formal_known (slot_at blocks b levels v) (slot_known levels v)
+    result_known (callee.Block levels n) h = first_known types (block_at blocks n).result _ (g.known n h.1)
+    result_known (callee.Formal levels v) h = formal_known types (slot_at blocks b levels v) (slot_known levels v)
 
     words_same : (r : Option ℕ) → IfSome r (λ t. t < length types) → option_map_or (size (types ++ more)) r 0 ≡ option_map_or (size types) r 0
     words_same None h = refl
@@ -224,22 +170,6 @@ module _ (types more : List Shape) (blocks later : List Block) (headings next : 
     operator_same op.Mod s t i j h = h
     operator_same op.And s t i j h = h
     operator_same op.Or s t i j h = h
-
-    operator_known : (o : Operator) (t : ℕ) → t < length types → operator_type o t < length types
-    operator_known op.Equal t h = standard_known 2 (omega arith)
-    operator_known op.NotEqual t h = standard_known 2 (omega arith)
-    operator_known op.Less t h = standard_known 2 (omega arith)
-    operator_known op.LessOrEqual t h = standard_known 2 (omega arith)
-    operator_known op.Greater t h = standard_known 2 (omega arith)
-    operator_known op.GreaterOrEqual t h = standard_known 2 (omega arith)
-    operator_known op.In t h = standard_known 2 (omega arith)
-    operator_known op.Plus t h = h
-    operator_known op.Minus t h = h
-    operator_known op.Times t h = h
-    operator_known op.Div t h = h
-    operator_known op.Mod t h = h
-    operator_known op.And t h = h
-    operator_known op.Or t h = h
 
     left_same : (o : Operator) (t : ℕ) → t < length types → left_words (types ++ more) o t ≡ left_words types o t
     left_same op.Equal t h = size_same t t refl h
@@ -322,10 +252,10 @@ module _ (types more : List Shape) (blocks later : List Block) (headings next : 
           record { of = s.of; known = s.known; height = two max s.height (size_same _ _ s.of s.known); fits = s.fits }
       expression_same (not_of e) h =
           let s = expression_same e h.1 in
-          record { of = refl; known = standard_known 2 (omega arith); height = s.height; fits = (s.of ∙ h.0, s.fits) }
+          record { of = refl; known = standard_known types g.three 2 (omega arith); height = s.height; fits = (s.of ∙ h.0, s.fits) }
       expression_same (sign_of e line) h =
           let s = expression_same e h.1 in
-          record { of = refl; known = standard_known 0 (omega arith); height = s.height; fits = (s.of ∙ h.0, s.fits) }
+          record { of = refl; known = standard_known types g.three 0 (omega arith); height = s.height; fits = (s.of ∙ h.0, s.fits) }
       expression_same (chain e ls) h =
           let s = expression_same e h.1 in
           let l = links_same (expression_type types blocks b e) ls s.known h.2 in
@@ -361,7 +291,7 @@ module _ (types more : List Shape) (blocks later : List Block) (headings next : 
           let s = arguments_same xs (heading_formals (callee_heading headings blocks b c)) h.2 in
           record {
             of = ap (λ r. unwrap_or r int_type) (result_same c h.0);
-            known = found_known (callee_result blocks b c) (result_known c h.0);
+            known = found_known types g.three (callee_result blocks b c) (result_known c h.0);
             height =
                 two max (s.height 0)
                 (ap (λ r. option_map_or (size (types ++ more)) r 0) (result_same c h.0) ∙ words_same (callee_result blocks b c) (result_known c h.0));
@@ -401,7 +331,7 @@ module _ (types more : List Shape) (blocks later : List Block) (headings next : 
       links_same t no_link i h = record { known = i; height = refl; fits = tt }
       links_same t (link_then (link o e line) ls) i h =
           let s = expression_same e h.1 in
-          let l = links_same (operator_type o t) ls (operator_known o t i) h.2 in
+          let l = links_same (operator_type o t) ls (operator_known types g.three o t i) h.2 in
           record {
             known = l.known;
             height = two max (two (λ m n. m + n) (left_same o t i) s.height) l.height;
@@ -411,7 +341,7 @@ module _ (types more : List Shape) (blocks later : List Block) (headings next : 
       pub place_same : (p : Place) → PlaceFits types blocks headings b p → SamePlace p
       place_same (place levels v ps) h =
           let same = slot_same levels v (some_variable (slot_at blocks b levels v) h.1) in
-          let s = parts_same (slot_type (slot_at blocks b levels v)) ps (type_known (slot_at blocks b levels v) h.1 (slot_known levels v)) h.2 in
+          let s = parts_same (slot_type (slot_at blocks b levels v)) ps (type_known types (slot_at blocks b levels v) h.1 (slot_known levels v)) h.2 in
           record {
             of = ap (λ o. parts_type (types ++ more) (slot_type o) ps) same ∙ s.of;
             known = s.known;
@@ -427,7 +357,7 @@ module _ (types more : List Shape) (blocks later : List Block) (headings next : 
       part_same t (field n) i h =
           record {
             of = ap (λ s. unwrap_or (slice_get (fields_of s) n) int_type) (shape_same t i);
-            known = field_known (shape_at types t) n (names_known t i);
+            known = field_known types g.three (shape_at types t) n (names_known types g.declared t i);
             height = refl;
             fits = subst (λ s. IsSome (slice_get (fields_of s) n)) (sym (shape_same t i)) h;
           }
@@ -435,7 +365,7 @@ module _ (types more : List Shape) (blocks later : List Block) (headings next : 
           let s = expression_same e h.1 in
           record {
             of = ap element_type (shape_same t i);
-            known = element_known (shape_at types t) (names_known t i);
+            known = element_known types g.three (shape_at types t) (names_known types g.declared t i);
             height = ap (λ n. 1 + n) s.height;
             fits = (
               subst (λ x. IsIndexedBy x (expression_type (types ++ more) later b e)) (sym (shape_same t i))

@@ -1,5 +1,6 @@
 pub mod Entries
 pub mod Tables
+pub mod Known
 pub mod ZeroValues
 pub mod Limits
 pub mod Example

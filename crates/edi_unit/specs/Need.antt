@@ -218,6 +218,6 @@ need types blocks n =
 abbrev pub too_large : ℕ
 too_large = 65536
 
--- a number, told apart from larger ones up to 65,535
+-- a number up to 65,535, and 65,536 in place of any larger one
 abbrev pub limited : ℕ → ℕ
 limited n = min n too_large

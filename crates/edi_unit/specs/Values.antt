@@ -161,7 +161,7 @@ abbrev pub with_ordinal : List ℕ → ℤ → Option (List ℕ)
 with_ordinal set (pos n) = if (nat_lt n 128) then Some (with_member set n) else None
 with_ordinal set (negsuc n) = None
 
--- the place of the element at an index, counted from 0, or none where the index is outside the bounds
+-- which element of an array an index means, counted from 0, or none where the index is outside the bounds
 abbrev pub element_at : ℤ → ℤ → Value → Option ℕ
 element_at lo hi v =
     if int_le lo (ordinal_of v) && int_le (ordinal_of v) hi then Some (natural (ordinal_of v -ℤ lo)) else None

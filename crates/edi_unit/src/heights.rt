@@ -1,5 +1,5 @@
 //! The words of memory that the evaluation of a construct takes above its frame, and the words that a block needs. A number
-//! of words above 65,535 counts as 65,536, so that it is told apart without overflow however long a construct is.
+//! of words above 65,535 counts as 65,536, so that it is known without overflow however long a construct is.
 
 ghost use Rattle.std.specs.Prelude.{◌≡◌, ◌+◌, ◌≤◌, map, sum_by};
 ghost use Rattle.edi_unit.specs.Lists.{list_items};

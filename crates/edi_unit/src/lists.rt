@@ -22,6 +22,37 @@ pub struct List<T> {
     items: Vec<T>,
 }
 
+// What only reads asks for no `Drop` of the items: whoever reads a tree need not prove how its parts are dropped.
+impl<T> List<T> {
+    /// The number of items.
+    pub fn len(&self) -> usize
+        ensures exact { result ≡ length (list_items self.now) }
+    {
+        self.items.len()
+    }
+
+    /// Whether there is no item.
+    pub fn is_empty(&self) -> bool
+        ensures exact { result ≡ (length (list_items self.now) == 0) }
+    {
+        self.items.is_empty()
+    }
+
+    /// The item at index `i`, counted from 0, or `None` where there is none.
+    pub fn get(&self, i: usize) -> Option<&T>
+        ensures exact { option_copied result ≡ slice_get (list_items self.now) i }
+    {
+        self.items.get(i)
+    }
+
+    /// The items in their order.
+    pub fn items(&self) -> &[T]
+        ensures exact { result.now ≡ list_items self.now }
+    {
+        &self.items
+    }
+}
+
 impl<T: Drop> List<T> {
     /// The empty list. It takes no memory.
     pub fn new(alloc: Global) -> List<T>
@@ -47,34 +78,6 @@ impl<T: Drop> List<T> {
         let _ = alloc;
         self.items.push(item)?;
         Ok(())
-    }
-
-    /// The number of items.
-    pub fn len(&self) -> usize
-        ensures exact { result ≡ length (list_items self.now) }
-    {
-        self.items.len()
-    }
-
-    /// Whether there is no item.
-    pub fn is_empty(&self) -> bool
-        ensures exact { result ≡ (length (list_items self.now) == 0) }
-    {
-        self.items.is_empty()
-    }
-
-    /// The item at place `i`, counted from 0, or `None` where there is no such place.
-    pub fn get(&self, i: usize) -> Option<&T>
-        ensures exact { option_copied result ≡ slice_get (list_items self.now) i }
-    {
-        self.items.get(i)
-    }
-
-    /// The items in their order.
-    pub fn items(&self) -> &[T]
-        ensures exact { result.now ≡ list_items self.now }
-    {
-        &self.items
     }
 
     /// The items in their order, as a vector. It takes no memory.

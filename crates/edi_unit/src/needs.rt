@@ -133,7 +133,7 @@ fn block_words(types: &TypeTable, block: &Block) -> u32
 }
 
 /// The words of memory that one instance of block `block` needs: 5, those of its result, its parameters and its variables,
-/// and the greatest number that its statements take above them. A need above 65,535 is told as 65,536.
+/// and the greatest number that its statements take above them. A need above 65,535 is given as 65,536.
 pub fn need(types: &TypeTable, blocks: &[Block], block: u32) -> u32
     ensures exact { result ≡ limited (spec.need types.now (map block_of blocks.now) block) }
 {

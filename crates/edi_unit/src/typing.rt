@@ -68,18 +68,18 @@ fn up(blocks: &[Block], block: u32) -> u32
 fn slot_of(block: &Block, variable: u32) -> Option<Parameter>
     ensures exact { result ≡ slice_get (slots (block_of block.now)) variable }
 {
-    let mut place = variable as usize;
+    let mut index = variable as usize;
     if let Some(of) = block.result {
-        if place == 0 {
+        if index == 0 {
             return Some(Parameter::Value(of));
         }
-        place -= 1;
+        index -= 1;
     }
-    if place < block.parameters.len() {
-        return block.parameters.get(place).copied();
+    if index < block.parameters.len() {
+        return block.parameters.get(index).copied();
     }
-    let place = place - block.parameters.len();
-    block.variables.get(place).map(|of| Parameter::Value(*of))
+    let index = index - block.parameters.len();
+    block.variables.get(index).map(|of| Parameter::Value(*of))
 }
 
 /// A variable of the block `levels` steps out of block `block`, as the parameter that it is or as a value of its type;
