@@ -84,21 +84,18 @@ pub record Adds (ns xs : List (List ℕ)) (a b : List Scope) : Type 0 where
   pub within : (n : List ℕ) → is_among xs n ≡ true → is_among ns n ≡ true
   pub long : length b ≡ length a
 
+no_exports : (m : Bool) → exports m [] ≡ []
+no_exports true = refl
+no_exports false = refl
+
 pub none : (m : Bool) (a : List Scope) → Adds [] (exports m []) a a
-none true a = record {
+none m a = subst (λ xs. Adds [] xs a a) (sym (no_exports m)) (record {
   inner = λ n h. left_or (has a n) false h;
   round = λ n h. left_or (has (outside a) n) false h;
   farther = refl;
   within = λ n h. h;
   long = refl;
-}
-none false a = record {
-  inner = λ n h. left_or (has a n) false h;
-  round = λ n h. left_or (has (outside a) n) false h;
-  farther = refl;
-  within = λ n h. h;
-  long = refl;
-}
+})
 
 step : (a b x y z : Bool) → (b || y) ≡ true → (b ≡ true → (a || x) ≡ true) → (x ≡ true → z ≡ true) → (y ≡ true → z ≡ true) → (a || z) ≡ true
 step a b x y z h k l r = by (either b y h)

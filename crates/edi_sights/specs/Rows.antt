@@ -3,27 +3,17 @@ use Rattle.std.specs.Prelude.{◌≡◌, ℕ, pos, [], ◌∷◌, Option, Some, 
 use Prim.Native.String.{String}
 use Rattle.edi_tree.specs.declared.constants.Constant.TheVariants as constant
 use Rattle.edi_tree.specs.Tree.{Program, program, no_global, Declarations, procedure, Heading, heading, no_params, params, no_param, next_param, value_param}
-use Rattle.edi_tree.specs.Tree.{var_param, group, Group, no_name, no_group, record_decl, var_list, Item, item_declaration, module_declaration, module_with}
-use Rattle.edi_tree.specs.Tree.{Members, item_member, exported_member, module_member, no_member, next_member, type_item, var_item, procedure_item, pre_item}
-use Rattle.edi_tree.specs.Tree.{post_item, no_declaration, next_declaration, StatementList, list, no_statement, next_statement, Statement, skip}
-use Rattle.edi_tree.specs.Tree.{when_statement, if_statement, while_statement, cobegin, Branch, branch, no_branch, next_branch, conditions, condition}
-use Rattle.edi_tree.specs.Tree.{no_else, next_else}
+use Rattle.edi_tree.specs.Tree.{var_param, group, Group, no_name, no_group, record_decl, var_list, Item, module_declaration, module_with, Members}
+use Rattle.edi_tree.specs.Tree.{item_member, exported_member, module_member, no_member, next_member, type_item, var_item, procedure_item, pre_item, post_item}
+use Rattle.edi_tree.specs.Tree.{no_declaration, next_declaration, StatementList, Statement, skip, when_statement, if_statement, while_statement, cobegin}
+use Rattle.edi_tree.specs.Tree.{Branch, branch, no_branch, next_branch, conditions, condition, no_else, next_else}
 use Rattle.edi_unit.specs.Types.{size}
-use Rattle.edi_static.specs.Written.{id, only, named}
+use Rattle.edi_static.specs.Written.{id, only, named, one, two, three, then}
 use Rattle.edi_sights.specs.declared.answer.Sight.{Sight}
 use Rattle.edi_sights.specs.declared.answer.Sighted.{Sighted}
 use Rattle.edi_sights.specs.Sights.{sights_of}
 
 -- ---- writing programs down
-
-abbrev one : Statement → StatementList
-one s = list s no_statement
-
-abbrev two : Statement → Statement → StatementList
-two s t = list s (next_statement t no_statement)
-
-abbrev three : Statement → Statement → Statement → StatementList
-three s t u = list s (next_statement t (next_statement u no_statement))
 
 -- `when true do .. end`
 abbrev awaits_on : (line : ℕ) → StatementList → Statement
@@ -49,9 +39,6 @@ procedure_of h ds s = procedure_item (procedure h ds s 9)
 
 abbrev plain : String → Heading
 plain name = heading (id name 1) no_params None
-
-abbrev then : Item → Declarations → Declarations
-then i ds = next_declaration (item_declaration i) ds
 
 abbrev module_then : Members → StatementList → Declarations → Declarations
 module_then ms s ds = next_declaration (module_declaration (module_with ms s)) ds

@@ -6,14 +6,14 @@ use Rattle.edi_tree.specs.declared.expressions.Sign.TheVariants as sign
 use Rattle.edi_tree.specs.declared.expressions.Addition.TheVariants as addition
 use Rattle.edi_tree.specs.declared.expressions.Multiplication.TheVariants as multiplication
 use Rattle.edi_tree.specs.declared.expressions.Root.TheVariants as root
-use Rattle.edi_tree.specs.Tree.{Program, no_name, next_name, no_const_decl, const_list, group, no_group, next_group, enum_decl, record_decl, array_decl}
-use Rattle.edi_tree.specs.Tree.{set_decl, var_list, heading, no_params, params, no_param, next_param, value_param, var_param, procedure_param, expr}
+use Rattle.edi_tree.specs.Tree.{Program, StatementList, no_name, next_name, no_const_decl, const_list, group, no_group, next_group, enum_decl, record_decl}
+use Rattle.edi_tree.specs.Tree.{array_decl, set_decl, var_list, heading, params, no_param, next_param, value_param, var_param, procedure_param, expr}
 use Rattle.edi_tree.specs.Tree.{no_comparison, compared, no_expr, next_expr, simple, addend, no_addend, next_addend, term, multiplier, no_multiplier}
 use Rattle.edi_tree.specs.Tree.{next_multiplier, numeral, string, not_factor, parenthesized, call_factor, variable_factor, args, variable, field, index}
 use Rattle.edi_tree.specs.Tree.{no_selector, next_selector, list, no_statement, next_statement, skip, assignment, call, while_statement, when_statement}
-use Rattle.edi_tree.specs.Tree.{cobegin, conditions, condition, no_else, branch, no_branch, next_branch, procedure, type_item, var_item, procedure_item}
-use Rattle.edi_tree.specs.Tree.{pre_item, post_item, module_with, item_member, exported_member, module_member, no_member, next_member, item_declaration}
-use Rattle.edi_tree.specs.Tree.{module_declaration, no_declaration, next_declaration, const_global, type_global, no_global, next_global, program}
+use Rattle.edi_tree.specs.Tree.{cobegin, conditions, condition, no_else, branch, no_branch, next_branch, procedure, type_item, var_item, pre_item, post_item}
+use Rattle.edi_tree.specs.Tree.{module_with, item_member, exported_member, module_member, no_member, next_member, module_declaration, no_declaration}
+use Rattle.edi_tree.specs.Tree.{next_declaration, const_global, type_global, no_global, next_global, program}
 use Rattle.edi_unit.specs.declared.expressions.Operator.{Operator}
 use Rattle.edi_unit.specs.declared.expressions.Operator.TheVariants as op
 use Rattle.edi_unit.specs.declared.expressions.Callee.TheVariants as callee
@@ -26,7 +26,8 @@ use Rattle.edi_unit.specs.Tree as unit
 use Rattle.edi_static.specs.Judged.{gives}
 use Rattle.edi_static.specs.Operators.{takes}
 use Rattle.edi_static.specs.Programs.{resolve_tree}
-use Rattle.edi_static.specs.Written.{id, single, sole, only, named}
+use Rattle.edi_static.specs.Written.{id, single, sole, only, named, call_with, grouped, main, one, plain, procedure_of, returns, sets, taking, then, two}
+use Rattle.edi_static.specs.Written.{variable_of}
 
 -- ---- writing units down
 
@@ -47,8 +48,8 @@ value_at levels v = unit.load (variable_at levels v)
 abbrev number : ℕ → unit.Expression
 number n = unit.constant 0 (pos n)
 
-abbrev two : unit.Expression → Operator → unit.Expression → ℕ → unit.Expression
-two a o b line = unit.chain a (unit.link_then (unit.link o b line) unit.no_link)
+abbrev joined : unit.Expression → Operator → unit.Expression → ℕ → unit.Expression
+joined a o b line = unit.chain a (unit.link_then (unit.link o b line) unit.no_link)
 
 abbrev one_clause : unit.Expression → unit.Act → unit.Clauses
 one_clause e a = unit.clause_then (unit.clause e (acts_of (a ∷ []))) unit.no_clause
@@ -60,21 +61,17 @@ one_clause e a = unit.clause_then (unit.clause e (acts_of (a ∷ []))) unit.no_c
 --     var hidden: char
 --     * proc show begin display(hidden) end
 --   begin hidden := 'm' end
---   begin show end
-abbrev module_that_shows : Program
-module_that_shows =
-    program no_global (procedure (heading (id "main" 1) (params (procedure_param (heading (id "display" 1) (params
-    (value_param (group (id "value" 1) no_name (id "char" 1))) no_param) None)) no_param) None) (next_declaration
-    (module_declaration (module_with (next_member (item_member (var_item (var_list (group (id "hidden" 3) no_name (id "char"
-    3)) no_group))) (next_member (exported_member (procedure_item (procedure (heading (id "show" 4) no_params None)
-    no_declaration (list (call (id "display" 4) (Some (args (only (named (id "hidden" 4))) no_expr))) no_statement) 4)))
-    no_member)) (list (assignment (variable (root.Name (id "hidden" 5)) no_selector) 5 (only (string (record {
-      text = codes
-          "m";
-      line = 5;
-    })))) no_statement))) no_declaration) (list (call (id "show" 6) None) no_statement) 6)
+-- and behind it the program's statements, on line 6
+abbrev pub behind_module : StatementList → Program
+behind_module s =
+    program no_global (procedure (taking (id "main" 1) (procedure_param (taking (id "display" 1) (value_param (grouped
+    (id "value" 1) (id "char" 1))) None)) None) (next_declaration (module_declaration (module_with (next_member
+    (item_member (variable_of (id "hidden" 3) (id "char" 3))) (next_member (exported_member (procedure_of (plain (id
+    "show" 4)) no_declaration (one (call_with (id "display" 4) (only (named (id "hidden" 4))))) 4)) no_member)) (one
+    (sets (id "hidden" 5) 5 (only (string (record { text = codes "m"; line = 5 }))))))) no_declaration) s 6)
 
-pub row_module : resolve_tree module_that_shows ≡ gives (record {
+--   begin show end
+pub row_module : resolve_tree (behind_module (one (call (id "show" 6) None))) ≡ gives (record {
   types = standard_types;
   blocks =
       -- the variable of the module is the second of the program; the module's statement comes before the program's own
@@ -113,40 +110,37 @@ row_module = refl
 --   end end
 abbrev program_with_branches : Program
 program_with_branches =
-    program (next_global (const_global (const_list (record { name = (id "max" 1); constant = (constant.Numeral (pos 3)) })
-    no_const_decl)) (next_global (type_global (enum_decl (id "color" 2) (id "red" 2) (next_name (id "green" 2) no_name)))
-    (next_global (type_global (record_decl (id "pair" 3) (group (id "tag" 3) no_name (id "color" 3)) (next_group (group (id
-    "count" 3) no_name (id "int" 3)) no_group))) (next_global (type_global (array_decl (id "row" 4) 4 (constant.Numeral (pos
-    1)) (constant.Name (id "max" 4) None) (id "pair" 4))) (next_global (type_global (set_decl (id "colors" 5) (id "color" 5)))
-    no_global))))) (procedure (heading (id "main" 6) (params (procedure_param (heading (id "write" 6) (params (value_param
-    (group (id "c" 6) no_name (id "char" 6))) no_param) None)) no_param) None) (next_declaration (item_declaration (pre_item
-    (heading (id "f" 7) (params (value_param (group (id "n" 7) no_name (id "int" 7))) (next_param (procedure_param (heading
-    (id "act" 7) (params (var_param (group (id "k" 7) no_name (id "int" 7))) no_param) None)) no_param)) (Some (id "bool"
-    7))))) (next_declaration (item_declaration (var_item (var_list (group (id "table" 8) no_name (id "row" 8)) (next_group
-    (group (id "i" 8) no_name (id "int" 8)) no_group)))) (next_declaration (item_declaration (procedure_item (procedure
-    (heading (id "step" 9) (params (var_param (group (id "k" 9) no_name (id "int" 9))) no_param) None) no_declaration (list
-    (assignment (variable (root.Name (id "k" 9)) no_selector) 9 (expr (simple None (single (named (id "k" 9))) (next_addend
-    (addend addition.Plus 9 (single (numeral (pos 1)))) no_addend)) no_comparison)) no_statement) 9))) (next_declaration
-    (item_declaration (post_item (procedure (heading (id "f" 10) (params (value_param (group (id "m" 10) no_name (id "int"
-    10))) (next_param (procedure_param (heading (id "act" 10) (params (var_param (group (id "k" 10) no_name (id "int" 10)))
-    no_param) None)) no_param)) (Some (id "bool" 10))) (next_declaration (item_declaration (var_item (var_list (group (id
-    "seen" 11) no_name (id "colors" 11)) no_group))) no_declaration) (list (assignment (variable (root.Name (id "seen" 12))
-    no_selector) 12 (only (call_factor (id "colors" 12) (args (only (named (id "red" 12))) no_expr)))) (next_statement (call
-    (id "act" 13) (Some (args (only (variable_factor (variable (root.Name (id "table" 13)) (next_selector (index 13 (only
-    (named (id "m" 13)))) (next_selector (field 13 (id "count" 13)) no_selector))))) no_expr))) (next_statement (assignment
-    (variable (root.Val (id "f" 14)) no_selector) 14 (expr (simple None (term (parenthesized (expr (sole (variable_factor
-    (variable (root.Name (id "table" 14)) (next_selector (index 14 (only (numeral (pos 1)))) (next_selector (field 14 (id
-    "tag" 14)) no_selector))))) (compared relation.In 14 (sole (named (id "seen" 14)))))) (next_multiplier (multiplier
-    multiplication.And 14 (not_factor 14 (parenthesized (expr (sole (named (id "m" 14))) (compared relation.Less 14 (simple
-    (Some (sign.Minus 14)) (single (numeral (pos 1))) no_addend)))))) no_multiplier)) no_addend) no_comparison))
-    no_statement))) 15))) no_declaration)))) (list (assignment (variable (root.Name (id "table" 16)) (next_selector (index 16
-    (only (numeral (pos 2)))) no_selector)) 16 (only (call_factor (id "pair" 16) (args (only (named (id "green" 16)))
-    (next_expr (only (numeral (pos 4))) no_expr))))) (next_statement (cobegin 17 (branch (constant.Numeral (pos 1)) 17 (list
-    (when_statement 17 (conditions (condition (only (call_factor (id "f" 17) (args (only (numeral (pos 2))) (next_expr (only
-    (named (id "step" 17))) no_expr)))) 17 (list (assignment (variable (root.Name (id "i" 17)) no_selector) 17 (only (named
-    (id "max" 17)))) no_statement)) no_else)) no_statement)) (next_branch 18 (branch (constant.Numeral (pos 2)) 18 (list
-    (while_statement (conditions (condition (expr (sole (named (id "i" 18))) (compared relation.Equal 18 (sole (numeral (pos
-    0))))) 18 (list skip no_statement)) no_else)) no_statement)) (no_branch 19))) no_statement)) 19)
+    program (next_global (const_global (const_list (record { name = id "max" 1; constant = constant.Numeral (pos 3) })
+    no_const_decl)) (next_global (type_global (enum_decl (id "color" 2) (id "red" 2) (next_name (id "green" 2)
+    no_name))) (next_global (type_global (record_decl (id "pair" 3) (grouped (id "tag" 3) (id "color" 3)) (next_group
+    (grouped (id "count" 3) (id "int" 3)) no_group))) (next_global (type_global (array_decl (id "row" 4) 4
+    (constant.Numeral (pos 1)) (constant.Name (id "max" 4) None) (id "pair" 4))) (next_global (type_global (set_decl
+    (id "colors" 5) (id "color" 5))) no_global))))) (procedure (taking (id "main" 6) (procedure_param (taking (id
+    "write" 6) (value_param (grouped (id "c" 6) (id "char" 6))) None)) None) (then (pre_item (heading (id "f" 7)
+    (params (value_param (grouped (id "n" 7) (id "int" 7))) (next_param (procedure_param (taking (id "act" 7)
+    (var_param (grouped (id "k" 7) (id "int" 7))) None)) no_param)) (Some (id "bool" 7)))) (then (var_item (var_list
+    (grouped (id "table" 8) (id "row" 8)) (next_group (grouped (id "i" 8) (id "int" 8)) no_group))) (then
+    (procedure_of (taking (id "step" 9) (var_param (grouped (id "k" 9) (id "int" 9))) None) no_declaration (one (sets
+    (id "k" 9) 9 (expr (simple None (single (named (id "k" 9))) (next_addend (addend addition.Plus 9 (single (numeral
+    (pos 1)))) no_addend)) no_comparison))) 9) (then (post_item (procedure (heading (id "f" 10) (params (value_param
+    (grouped (id "m" 10) (id "int" 10))) (next_param (procedure_param (taking (id "act" 10) (var_param (grouped (id
+    "k" 10) (id "int" 10))) None)) no_param)) (Some (id "bool" 10))) (then (variable_of (id "seen" 11) (id "colors"
+    11)) no_declaration) (list (sets (id "seen" 12) 12 (only (call_factor (id "colors" 12) (args (only (named (id
+    "red" 12))) no_expr)))) (next_statement (call_with (id "act" 13) (only (variable_factor (variable (root.Name (id
+    "table" 13)) (next_selector (index 13 (only (named (id "m" 13)))) (next_selector (field 13 (id "count" 13))
+    no_selector)))))) (next_statement (returns (id "f" 14) 14 (expr (simple None (term (parenthesized (expr (sole
+    (variable_factor (variable (root.Name (id "table" 14)) (next_selector (index 14 (only (numeral (pos 1))))
+    (next_selector (field 14 (id "tag" 14)) no_selector))))) (compared relation.In 14 (sole (named (id "seen" 14))))))
+    (next_multiplier (multiplier multiplication.And 14 (not_factor 14 (parenthesized (expr (sole (named (id "m" 14)))
+    (compared relation.Less 14 (simple (Some (sign.Minus 14)) (single (numeral (pos 1))) no_addend))))))
+    no_multiplier)) no_addend) no_comparison)) no_statement))) 15)) no_declaration)))) (two (assignment (variable
+    (root.Name (id "table" 16)) (next_selector (index 16 (only (numeral (pos 2)))) no_selector)) 16 (only (call_factor
+    (id "pair" 16) (args (only (named (id "green" 16))) (next_expr (only (numeral (pos 4))) no_expr))))) (cobegin 17
+    (branch (constant.Numeral (pos 1)) 17 (one (when_statement 17 (conditions (condition (only (call_factor (id "f"
+    17) (args (only (numeral (pos 2))) (next_expr (only (named (id "step" 17))) no_expr)))) 17 (one (sets (id "i" 17)
+    17 (only (named (id "max" 17)))))) no_else)))) (next_branch 18 (branch (constant.Numeral (pos 2)) 18 (one
+    (while_statement (conditions (condition (expr (sole (named (id "i" 18))) (compared relation.Equal 18 (sole
+    (numeral (pos 0))))) 18 (one skip)) no_else)))) (no_branch 19)))) 19)
 
 -- the program, the function at its `pre`, the procedure, and the branches: each by the place of its first symbol
 pub row_branches : resolve_tree program_with_branches ≡ gives (record {
@@ -162,13 +156,13 @@ pub row_branches : resolve_tree program_with_branches ≡ gives (record {
       (unit.argument_then (unit.by_variable (unit.place 1 1
       (unit.part_then (unit.index (value_at 0 1) 13) (unit.part_then (unit.field 1) unit.no_part)))) unit.no_argument) 13 ∷
       unit.assign (variable_at 0 0)
-      (two
-      (two
+      (joined
+      (joined
       (unit.load (unit.place 1 1 (unit.part_then (unit.index (number 1) 14) (unit.part_then (unit.field 0) unit.no_part))))
       op.In (value_at 0 3) 14)
-      op.And (unit.not_of (two (value_at 0 1) op.Less (unit.sign_of (number 1) 14) 14)) 14) ∷ [])
+      op.And (unit.not_of (joined (value_at 0 1) op.Less (unit.sign_of (number 1) 14) 14)) 14) ∷ [])
       ∷ block block_kind.Procedure 0 None (slot.Var 0 ∷ []) [] 9 (
-      unit.assign (variable_at 0 0) (two (value_at 0 0) op.Plus (number 1) 9) ∷ [])
+      unit.assign (variable_at 0 0) (joined (value_at 0 0) op.Plus (number 1) 9) ∷ [])
       ∷ block block_kind.Branch 0 None [] [] 9 (
       unit.when_act (one_clause
       (unit.apply_of (callee.Block 1 1)
@@ -176,7 +170,7 @@ pub row_branches : resolve_tree program_with_branches ≡ gives (record {
       (unit.argument_then (unit.by_procedure (callee.Block 1 2)) unit.no_argument)) 17)
       (unit.assign (variable_at 1 2) (number 3))) 17 ∷ [])
       ∷ block block_kind.Branch 0 None [] [] 7 (
-      unit.while_act (one_clause (two (value_at 1 2) op.Equal (number 0) 18) unit.skip) ∷ [])
+      unit.while_act (one_clause (joined (value_at 1 2) op.Equal (number 0) 18) unit.skip) ∷ [])
       ∷ [];
   program = 0;
   calls = 8 ∷ [];
@@ -195,31 +189,28 @@ row_branches = refl
 --   begin t := a < b; t := a <= b; t := a > b; t := a >= b; t := a in c; a := -a * b; a := +a - int(t); c := c end
 abbrev program_of_operators : Program
 program_of_operators =
-    program no_global (procedure (heading (id "main" 1) no_params None) (next_declaration (item_declaration (type_item
-    (set_decl (id "s" 2) (id "int" 2)))) (next_declaration (item_declaration (var_item (var_list (group (id "a" 3) (next_name
-    (id "b" 3) no_name) (id "int" 3)) (next_group (group (id "t" 3) no_name (id "bool" 3)) (next_group (group (id "c" 3)
-    no_name (id "s" 3)) no_group))))) (next_declaration (module_declaration (module_with (next_member (module_member
-    (module_with no_member (list (assignment (variable (root.Name (id "a" 5)) no_selector) 5 (expr (simple None (single (named
-    (id "a" 5))) (next_addend (addend addition.Plus 5 (single (named (id "b" 5)))) (next_addend (addend addition.Minus 5 (term
-    (named (id "a" 5)) (next_multiplier (multiplier multiplication.Star 5 (named (id "b" 5))) (next_multiplier (multiplier
+    main (then (type_item (set_decl (id "s" 2) (id "int" 2))) (then (var_item (var_list (group (id "a" 3) (next_name
+    (id "b" 3) no_name) (id "int" 3)) (next_group (grouped (id "t" 3) (id "bool" 3)) (next_group (grouped (id "c" 3)
+    (id "s" 3)) no_group)))) (next_declaration (module_declaration (module_with (next_member (module_member
+    (module_with no_member (one (sets (id "a" 5) 5 (expr (simple None (single (named (id "a" 5))) (next_addend (addend
+    addition.Plus 5 (single (named (id "b" 5)))) (next_addend (addend addition.Minus 5 (term (named (id "a" 5))
+    (next_multiplier (multiplier multiplication.Star 5 (named (id "b" 5))) (next_multiplier (multiplier
     multiplication.Div 5 (named (id "a" 5))) (next_multiplier (multiplier multiplication.Mod 5 (named (id "b" 5)))
-    no_multiplier))))) no_addend))) no_comparison)) no_statement))) no_member) (list (assignment (variable (root.Name (id "t"
-    6)) no_selector) 6 (expr (simple None (single (parenthesized (expr (sole (named (id "a" 6))) (compared relation.Equal 6
-    (sole (named (id "b" 6))))))) (next_addend (addend addition.Or 6 (single (parenthesized (expr (sole (named (id "a" 6)))
-    (compared relation.NotEqual 6 (sole (named (id "b" 6)))))))) no_addend)) no_comparison)) no_statement))) no_declaration)))
-    (list (assignment (variable (root.Name (id "t" 7)) no_selector) 7 (expr (sole (named (id "a" 7))) (compared relation.Less
-    7 (sole (named (id "b" 7)))))) (next_statement (assignment (variable (root.Name (id "t" 7)) no_selector) 7 (expr (sole
-    (named (id "a" 7))) (compared relation.AtMost 7 (sole (named (id "b" 7)))))) (next_statement (assignment (variable
-    (root.Name (id "t" 7)) no_selector) 7 (expr (sole (named (id "a" 7))) (compared relation.Greater 7 (sole (named (id "b"
-    7)))))) (next_statement (assignment (variable (root.Name (id "t" 7)) no_selector) 7 (expr (sole (named (id "a" 7)))
-    (compared relation.AtLeast 7 (sole (named (id "b" 7)))))) (next_statement (assignment (variable (root.Name (id "t" 7))
-    no_selector) 7 (expr (sole (named (id "a" 7))) (compared relation.In 7 (sole (named (id "c" 7)))))) (next_statement
-    (assignment (variable (root.Name (id "a" 7)) no_selector) 7 (expr (simple (Some (sign.Minus 7)) (term (named (id "a" 7))
-    (next_multiplier (multiplier multiplication.Star 7 (named (id "b" 7))) no_multiplier)) no_addend) no_comparison))
-    (next_statement (assignment (variable (root.Name (id "a" 7)) no_selector) 7 (expr (simple (Some (sign.Plus 7)) (single
-    (named (id "a" 7))) (next_addend (addend addition.Minus 7 (single (call_factor (id "int" 7) (args (only (named (id "t"
-    7))) no_expr)))) no_addend)) no_comparison)) (next_statement (assignment (variable (root.Name (id "c" 7)) no_selector) 7
-    (only (named (id "c" 7)))) no_statement)))))))) 7)
+    no_multiplier))))) no_addend))) no_comparison))))) no_member) (one (sets (id "t" 6) 6 (expr (simple None (single
+    (parenthesized (expr (sole (named (id "a" 6))) (compared relation.Equal 6 (sole (named (id "b" 6)))))))
+    (next_addend (addend addition.Or 6 (single (parenthesized (expr (sole (named (id "a" 6))) (compared
+    relation.NotEqual 6 (sole (named (id "b" 6)))))))) no_addend)) no_comparison))))) no_declaration))) (list (sets
+    (id "t" 7) 7 (expr (sole (named (id "a" 7))) (compared relation.Less 7 (sole (named (id "b" 7))))))
+    (next_statement (sets (id "t" 7) 7 (expr (sole (named (id "a" 7))) (compared relation.AtMost 7 (sole (named (id
+    "b" 7)))))) (next_statement (sets (id "t" 7) 7 (expr (sole (named (id "a" 7))) (compared relation.Greater 7 (sole
+    (named (id "b" 7)))))) (next_statement (sets (id "t" 7) 7 (expr (sole (named (id "a" 7))) (compared
+    relation.AtLeast 7 (sole (named (id "b" 7)))))) (next_statement (sets (id "t" 7) 7 (expr (sole (named (id "a" 7)))
+    (compared relation.In 7 (sole (named (id "c" 7)))))) (next_statement (sets (id "a" 7) 7 (expr (simple (Some
+    (sign.Minus 7)) (term (named (id "a" 7)) (next_multiplier (multiplier multiplication.Star 7 (named (id "b" 7)))
+    no_multiplier)) no_addend) no_comparison)) (next_statement (sets (id "a" 7) 7 (expr (simple (Some (sign.Plus 7))
+    (single (named (id "a" 7))) (next_addend (addend addition.Minus 7 (single (call_factor (id "int" 7) (args (only
+    (named (id "t" 7))) no_expr)))) no_addend)) no_comparison)) (next_statement (sets (id "c" 7) 7 (only (named (id
+    "c" 7)))) no_statement)))))))) 7
 
 -- the statement of the inner module comes first, then that of the module round it
 pub row_operators : resolve_tree program_of_operators ≡ gives (record {
@@ -237,14 +228,14 @@ pub row_operators : resolve_tree program_of_operators ≡ gives (record {
       unit.no_link)))) 5)
       unit.no_link))) ∷
       unit.assign (variable_at 0 2)
-      (two (two (value_at 0 0) op.Equal (value_at 0 1) 6) op.Or (two (value_at 0 0) op.NotEqual (value_at 0 1) 6) 6) ∷
-      unit.assign (variable_at 0 2) (two (value_at 0 0) op.Less (value_at 0 1) 7) ∷
-      unit.assign (variable_at 0 2) (two (value_at 0 0) op.LessOrEqual (value_at 0 1) 7) ∷
-      unit.assign (variable_at 0 2) (two (value_at 0 0) op.Greater (value_at 0 1) 7) ∷
-      unit.assign (variable_at 0 2) (two (value_at 0 0) op.GreaterOrEqual (value_at 0 1) 7) ∷
-      unit.assign (variable_at 0 2) (two (value_at 0 0) op.In (value_at 0 3) 7) ∷
-      unit.assign (variable_at 0 0) (unit.sign_of (two (value_at 0 0) op.Times (value_at 0 1) 7) 7) ∷
-      unit.assign (variable_at 0 0) (two (value_at 0 0) op.Minus (unit.convert 0 (value_at 0 2) 7) 7) ∷
+      (joined (joined (value_at 0 0) op.Equal (value_at 0 1) 6) op.Or (joined (value_at 0 0) op.NotEqual (value_at 0 1) 6) 6) ∷
+      unit.assign (variable_at 0 2) (joined (value_at 0 0) op.Less (value_at 0 1) 7) ∷
+      unit.assign (variable_at 0 2) (joined (value_at 0 0) op.LessOrEqual (value_at 0 1) 7) ∷
+      unit.assign (variable_at 0 2) (joined (value_at 0 0) op.Greater (value_at 0 1) 7) ∷
+      unit.assign (variable_at 0 2) (joined (value_at 0 0) op.GreaterOrEqual (value_at 0 1) 7) ∷
+      unit.assign (variable_at 0 2) (joined (value_at 0 0) op.In (value_at 0 3) 7) ∷
+      unit.assign (variable_at 0 0) (unit.sign_of (joined (value_at 0 0) op.Times (value_at 0 1) 7) 7) ∷
+      unit.assign (variable_at 0 0) (joined (value_at 0 0) op.Minus (unit.convert 0 (value_at 0 2) 7) 7) ∷
       unit.assign (variable_at 0 3) (value_at 0 3) ∷ [])
       ∷ [];
   program = 0;
@@ -262,21 +253,20 @@ row_operators = refl
 --   begin skip end
 abbrev program_with_calls : Program
 program_with_calls =
-    program (next_global (type_global (array_decl (id "name" 1) 1 (constant.Numeral (pos 1)) (constant.Numeral (pos 12)) (id
-    "char" 1))) no_global) (procedure (heading (id "main" 2) (params (procedure_param (heading (id "accept" 2) (params
-    (var_param (group (id "a" 2) no_name (id "char" 2))) no_param) None)) (next_param (procedure_param (heading (id "display"
-    2) (params (value_param (group (id "a" 2) no_name (id "char" 2))) no_param) None)) (next_param (procedure_param (heading
-    (id "print" 2) (params (value_param (group (id "a" 2) no_name (id "char" 2))) no_param) None)) (next_param
-    (procedure_param (heading (id "find" 3) (params (value_param (group (id "a" 3) no_name (id "name" 3))) (next_param
-    (var_param (group (id "b" 3) no_name (id "bool" 3))) no_param)) None)) (next_param (procedure_param (heading (id "more" 3)
-    (params (var_param (group (id "a" 3) no_name (id "bool" 3))) no_param) None)) (next_param (procedure_param (heading (id
-    "read" 3) (params (var_param (group (id "a" 3) no_name (id "char" 3))) no_param) None)) (next_param (procedure_param
-    (heading (id "fresh" 3) no_params None)) (next_param (procedure_param (heading (id "write" 4) (params (value_param (group
-    (id "a" 4) no_name (id "char" 4))) no_param) None)) (next_param (procedure_param (heading (id "close" 4) (params
-    (value_param (group (id "a" 4) no_name (id "name" 4))) (next_param (var_param (group (id "b" 4) no_name (id "bool" 4)))
-    no_param)) None)) (next_param (procedure_param (heading (id "remove" 4) (params (value_param (group (id "a" 4) no_name (id
-    "name" 4))) (next_param (var_param (group (id "b" 4) no_name (id "bool" 4))) no_param)) None)) no_param)))))))))) None)
-    no_declaration (list skip no_statement) 5)
+    program (next_global (type_global (array_decl (id "name" 1) 1 (constant.Numeral (pos 1)) (constant.Numeral (pos
+    12)) (id "char" 1))) no_global) (procedure (heading (id "main" 2) (params (procedure_param (taking (id "accept" 2)
+    (var_param (grouped (id "a" 2) (id "char" 2))) None)) (next_param (procedure_param (taking (id "display" 2)
+    (value_param (grouped (id "a" 2) (id "char" 2))) None)) (next_param (procedure_param (taking (id "print" 2)
+    (value_param (grouped (id "a" 2) (id "char" 2))) None)) (next_param (procedure_param (heading (id "find" 3)
+    (params (value_param (grouped (id "a" 3) (id "name" 3))) (next_param (var_param (grouped (id "b" 3) (id "bool"
+    3))) no_param)) None)) (next_param (procedure_param (taking (id "more" 3) (var_param (grouped (id "a" 3) (id
+    "bool" 3))) None)) (next_param (procedure_param (taking (id "read" 3) (var_param (grouped (id "a" 3) (id "char"
+    3))) None)) (next_param (procedure_param (plain (id "fresh" 3))) (next_param (procedure_param (taking (id "write"
+    4) (value_param (grouped (id "a" 4) (id "char" 4))) None)) (next_param (procedure_param (heading (id "close" 4)
+    (params (value_param (grouped (id "a" 4) (id "name" 4))) (next_param (var_param (grouped (id "b" 4) (id "bool"
+    4))) no_param)) None)) (next_param (procedure_param (heading (id "remove" 4) (params (value_param (grouped (id "a"
+    4) (id "name" 4))) (next_param (var_param (grouped (id "b" 4) (id "bool" 4))) no_param)) None)) no_param))))))))))
+    None) no_declaration (one skip) 5)
 
 pub row_calls : resolve_tree program_with_calls ≡ gives (record {
   types = standard_types ++ array_of 0 (pos 1) (pos 12) 1 ∷ [];
