@@ -14,7 +14,7 @@ use Rattle.edi_unit.specs.declared.units.BlockKind.TheVariants as block_kind
 use Rattle.edi_unit.specs.Types.{Shape}
 use Rattle.edi_unit.specs.Tree.{Block, ProgramUnit}
 use Rattle.edi_unit.specs.Fits.{heading_result, heading_formals}
-use Rattle.edi_static.specs.Judged.{◌>>=◌}
+use Rattle.edi_static.specs.Judged.{Judged, ◌>>=◌}
 use Rattle.edi_static.specs.Environment.{Environment, at_first, declare, enter, here, begun_block, parameters_of}
 use Rattle.edi_static.specs.Types.{const_list, type_decl, var_list}
 use Rattle.edi_static.specs.Headings.{Headed, round, own_name, heading_parts}
@@ -24,7 +24,7 @@ use Rattle.edi_static.specs.Declarations.{begin_procedure, begin_post, procedure
 use Rattle.edi_static.specs.Programs.{program_heading, global_decl, global_decls, program_procedure, resolve_tree, Resolved}
 use Rattle.edi_static.proofs.Judging.{Gives, bind, behind, weaker}
 use Rattle.edi_scheme.specs.Laws.{HasPart}
-use Rattle.edi_nesting.proofs.Declared.{Keeping, const_list_kept, type_decl_kept, var_kept, heading_kept, round_kept, outside_round_kept}
+use Rattle.edi_static.proofs.Declared.{Keeping, const_list_kept, type_decl_kept, var_kept, heading_kept, round_kept, outside_round_kept}
 use Rattle.edi_codable.proofs.Front.{weight, Lined, Front, tree_lined, const_list_front, type_decl_front, var_list_front, heading_front}
 use Rattle.edi_codable.proofs.Most.{total}
 use Rattle.edi_codable.proofs.Bodies.{BodyLines, Counted, typed, varied, push_total, Good, ActsDone, moved, close_good, add_good, list_good}
@@ -54,7 +54,7 @@ counts n m more = record {
   arrayed = λ of lower upper element. tt;
   set = λ of. tt;
   typed = more;
-  varied = varied n;
+  varied = λ types blocks m block body need h. varied n types blocks m block body h;
 }
 
 abbrev counting : ℕ → Keeping
@@ -134,27 +134,33 @@ module _ (budget : ℕ) where
     lined = g.lined;
   }
 
+  -- the words of an environment
+  abbrev words_in : Environment → ℕ
+  words_in env = total env.blocks + 8 * length env.types
+
+  -- behind constants, a type or variables, which leave at most so many words
+  stretch_good : (n most : ℕ) (env : Environment) (a more : List Spelled) (m : Judged Environment) → There a env → Front n a more →
+      most ≤ words_in env + 8 * n → Gives (CountedAt most) m → Gives (There more) m
+  stretch_good n most env a more m g f fits h =
+      weaker (CountedAt most) (There more) m (λ e k. kept n env e a more g f (more_words most (words_in env + 8 * n) e fits k)) h
+
   const_good : (m : Bool) (cs : text.ConstList) (more : List Spelled) (env : Environment) → There (const_list_then cs more) env
       → Gives (There more) (const_list m cs env)
   const_good m cs more env g =
-      let n : ℕ = total env.blocks + 8 * length env.types in
-      weaker (CountedAt n) (There more) (const_list m cs env) (λ e k. kept 0 env e _ more g (const_list_front cs more) (more_words n (n + 0) e (omega arith) k))
-      (const_list_kept (counting n) m cs env (counted env _ g))
+      stretch_good 0 (words_in env) env (const_list_then cs more) more (const_list m cs env) g (const_list_front cs more) (omega arith)
+      (const_list_kept (counting (words_in env)) m cs env (counted env _ g))
 
   type_good : (m : Bool) (t : text.TypeDecl) (more : List Spelled) (env : Environment) → There (type_decl_then t more) env
       → Gives (There more) (type_decl m t env)
   type_good m t more env g =
-      let n : ℕ = total env.blocks + 8 * length env.types in
-      weaker (CountedAt (n + 8)) (There more) (type_decl m t env)
-      (λ e k. kept 1 env e _ more g (type_decl_front t more) (more_words (n + 8) (n + 8 * 1) e (omega arith) k))
-      (type_decl_kept (counting n) m t env (counted env _ g))
+      stretch_good 1 (words_in env + 8) env (type_decl_then t more) more (type_decl m t env) g (type_decl_front t more) (omega arith)
+      (type_decl_kept (counting (words_in env)) m t env (counted env _ g))
 
   var_good : (m : Bool) (vs : text.VarList) (more : List Spelled) (env : Environment) → There (var_list_then vs more) env
       → Gives (There more) (var_list m vs env)
   var_good m vs more env g =
-      let n : ℕ = total env.blocks + 8 * length env.types in
-      weaker (CountedAt n) (There more) (var_list m vs env) (λ e k. kept 0 env e _ more g (var_list_front vs more) (more_words n (n + 0) e (omega arith) k))
-      (var_kept (counting n) m vs env (counted env _ g))
+      stretch_good 0 (words_in env) env (var_list_then vs more) more (var_list m vs env) g (var_list_front vs more) (omega arith)
+      (var_kept (counting (words_in env)) m vs env (counted env _ g))
 
   mutual
     rest_good : (block : ℕ) (p : text.Procedure) (more : List Spelled) (env : Environment) → There (rest_then p more) env

@@ -1,4 +1,3 @@
 pub mod Parts
 pub mod Expressions
-pub mod Declared
 pub mod Blocks

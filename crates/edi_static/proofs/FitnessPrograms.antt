@@ -1,49 +1,45 @@
 -- The resolved unit of a program fits.
-use Rattle.std.proofs.Common.{◌≡◌, ◌≢◌, ℕ, zero, suc, ◌+◌, ◌<◌, ◌≤◌, ◌^◌, max, Bool, true, false, ◌||◌, ◌==◌, List, [], ◌∷◌, ◌++◌, length, map, get_or, All}
-use Rattle.std.proofs.Common.{Option, Some, None, IsTrue, refl, sym, ap, subst, ◌∙◌, arith, length-append, append-nil, inl, inr}
-use Rattle.std.specs.Prelude.{option_to_list}
+use Rattle.std.proofs.Common.{◌≡◌, ◌≢◌, ℕ, zero, suc, ◌+◌, ◌<◌, ◌≤◌, ◌^◌, true, false, ◌||◌, ◌==◌, List, [], ◌∷◌, ◌++◌, length, map, get_or, All, None, refl}
+use Rattle.std.proofs.Common.{sym, ap, subst, ◌∙◌, arith, length-append, append-nil, inl, inr}
+use Rattle.std.specs.Prelude.{option_to_list, slice_set}
 use Rattle.std.proofs.lemmas.Bool.{false≢true, cases_eq}
 use Rattle.std.proofs.Math.Dec.{eqb-zero-suc}
-use Rattle.edi_scope.specs.declared.entity.Entity.{Entity}
 use Rattle.edi_scope.specs.declared.entity.Entity.TheVariants as entity
 use Rattle.edi_scope.specs.Scope.{Scope, standard, with_name}
 use Rattle.edi_tree.specs.declared.names.Name.{Name}
-use Rattle.edi_tree.specs.Depth.{heading_depth, list_depth, declarations_depth, procedure_depth, depth}
+use Rattle.edi_tree.specs.Depth.{list_depth, procedure_depth, depth}
 use Rattle.edi_tree.specs.Tree as text
 use Rattle.edi_unit.specs.declared.units.BlockKind.TheVariants as block_kind
 use Rattle.edi_unit.specs.declared.units.Parameter.TheVariants as slot
-use Rattle.edi_unit.specs.Types.{Shape, shape_at, fields_of, standard_types}
+use Rattle.edi_unit.specs.Types.{shape_at, fields_of, standard_types}
 use Rattle.edi_unit.specs.Tree.{Block, ProgramUnit}
-use Rattle.edi_unit.specs.Need.{block_at, slots}
+use Rattle.edi_unit.specs.Need.{block_at}
 use Rattle.edi_unit.specs.Fits.{Heading, heading_result, heading_formals, first_parameter, is_called, greatest_levels, ActsFit, ShapeFits, SlotIsKnown, Fits}
 use Rattle.edi_unit.proofs.Example.{standard_table}
 use Rattle.edi_static.specs.InRange.{GlobalInRange, GlobalsInRange, ProcedureInRange, ProgramInRange}
-use Rattle.edi_static.specs.Judged.{Judged, gives, faults, ◌>>=◌}
+use Rattle.edi_static.specs.Judged.{Judged, gives, ◌>>=◌}
 use Rattle.edi_static.specs.Environment.{Environment, at_first, declare, enter, here, begun_block, with_block, heading_at, parameters_of}
 use Rattle.edi_static.specs.Headings.{Headed, round, own_name, heading_parts}
 use Rattle.edi_static.specs.Statements.{statement_list}
 use Rattle.edi_static.specs.Declarations.{with_heading, all_completed, enter_block, heading_of, procedure_rest, declarations}
 use Rattle.edi_static.specs.Programs.{program_heading, global_decl, global_decls, program_procedure, resolve_tree}
 use Rattle.edi_static.specs.Laws.{UnitsFit}
-use Rattle.edi_static.specs.Proper.{NamesFit, ScopesFit}
-use Rattle.edi_static.proofs.Judging.{Gives, bind}
-use Rattle.edi_static.proofs.Fitness.{is_round, Names, EntitySits, StandsIn, IsChain, Sits}
+use Rattle.edi_static.specs.Proper.{NamesFit}
+use Rattle.edi_static.proofs.Judging.{Gives, bind, also}
+use Rattle.edi_static.proofs.Fitness.{is_round, Names, StandsIn, IsChain, Sits}
 use Rattle.edi_static.proofs.FitnessOnward.{Closed, BegunFits, Tidy, is_begun, is_open, Onward, onward_same, with_name_fits}
 use Rattle.edi_static.proofs.FitnessTypes.{go_on, const_list_onward, type_decl_onward}
 use Rattle.edi_static.proofs.FitnessVariables.{Ready}
 use Rattle.edi_static.proofs.FitnessHeadings.{Given, headed_env, Heads, heading_heads, declare_is}
-use Rattle.edi_static.proofs.FitnessBlocks.{placed_sits, shapes_sit, BlockBegins, block_sits, new_block, new_heading}
+use Rattle.edi_static.proofs.FitnessChanges.{placed_sits}
+use Rattle.edi_static.proofs.FitnessBlocks.{shapes_sit, BlockBegins, block_sits, new_block, new_heading}
 use Rattle.edi_static.proofs.FitnessStatements.{Does, list_does, scopes_wider}
 use Rattle.edi_static.proofs.FitnessBeginnings.{scope_given, types_known}
 use Rattle.edi_static.proofs.FitnessProcedures.{Ends, no_begun, completed, ends}
 use Rattle.edi_static.proofs.FitnessWalk.{Declares, declarations_onward}
-use Rattle.edi_static.proofs.FitnessGlobals.{globals_keep}
+use Rattle.edi_static.proofs.Declared.{Keeping, globals_kept}
 use Rattle.edi_static.proofs.FitnessSystem.{AreCalls, GivesCalls, heading_calls, are_calls_later}
 use Rattle.edi_static.proofs.FitnessUnits.{NeedsSo, unit_fits}
-
-with_both : {A : Type 0} (P Q : A → Type 0) (m : Judged A) → Gives P m → Gives Q m → Gives (λ a. P a × Q a) m
-with_both P Q (gives a) h k = (h, k)
-with_both P Q (faults why line) h k = tt
 
 -- ---- before a program
 
@@ -261,7 +257,7 @@ heading_fits : (p : text.Procedure) (env : Environment) → Sits env → env.blo
     → ProcedureInRange p → Gives UnitFits (program_procedure p env)
 heading_fits p env s bare out deep h =
     bind (λ headed. Heads env 0 headed × GivesCalls (heading_of p) headed) UnitFits (heading_parts 0 (heading_of p) env) (behind_heading p)
-    (with_both (Heads env 0) (GivesCalls (heading_of p)) (heading_parts 0 (heading_of p) env)
+    (also (Heads env 0) (GivesCalls (heading_of p)) (heading_parts 0 (heading_of p) env)
     (heading_heads 0 (heading_of p) env (types_known env s)) (heading_calls (heading_of p) env))
     (λ headed k.
     let g = k.0 in
@@ -274,11 +270,25 @@ heading_fits p env s bare out deep h =
     subst (λ e. Gives UnitFits (behind_name p headed.asks e)) (sym is)
     (named_fits p env s bare out deep h g.scope g.more headed.asks g.names g.known (k.1 env.types)))))
 
+-- constants and types begin no block
+abbrev no_block_begun : Keeping
+no_block_begun = record {
+  Is = λ types blocks. blocks ≡ [];
+  Becomes = λ types blocks. blocks ≡ [];
+  Fine = λ shape. Unit {0};
+  enumerated = λ n. tt;
+  filled = λ parts some. tt;
+  arrayed = λ of lower upper element. tt;
+  set = λ of. tt;
+  typed = λ types blocks shape fine h. h;
+  varied = λ types blocks n block body need h. subst (λ bs. slice_set bs n block ≡ []) (sym h) refl;
+}
+
 pub resolved_fits : (tree : text.Program) → depth tree ≤ greatest_levels → ProgramInRange tree → Gives UnitFits (resolve_tree tree)
 resolved_fits (text.program gs p) deep h =
     bind (λ e. Onward false (enter false at_first) e × (e.blocks ≡ [])) UnitFits (global_decls gs (enter false at_first)) (program_procedure p)
-    (with_both (Onward false (enter false at_first)) (λ e. e.blocks ≡ []) (global_decls gs (enter false at_first))
-    (globals_onward gs (enter false at_first) start_sits h.0) (globals_keep (λ bs. bs ≡ []) gs (enter false at_first) refl))
+    (also (Onward false (enter false at_first)) (λ e. e.blocks ≡ []) (global_decls gs (enter false at_first))
+    (globals_onward gs (enter false at_first) start_sits h.0) (globals_kept no_block_begun (λ types blocks k. k) gs (enter false at_first) refl))
     (λ e k. let o = k.0 in heading_fits p e o.sits k.1 o.around (omega (arith, deep)) h.1)
 
 pub units_fit : UnitsFit

@@ -6,6 +6,8 @@ pub mod Behind
 pub mod Fields
 pub mod Spellings
 pub mod Lengths
+pub mod Declared
+pub mod Lasting
 pub mod Needs
 pub mod Refusing
 pub mod Fitness
@@ -31,5 +33,4 @@ pub mod FitnessWalk
 pub mod FitnessScopes
 pub mod FitnessSystem
 pub mod FitnessUnits
-pub mod FitnessGlobals
 pub mod FitnessPrograms

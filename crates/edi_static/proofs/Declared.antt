@@ -1,6 +1,8 @@
 -- What constants, types, variables and headings keep of the types and blocks that are known: whatever is kept by a block that
--- changes but for its body is kept by each of them but types, and a type adds a shape; of a record it has one part at the least.
-use Rattle.std.proofs.Common.{◌≡◌, ℕ, suc, ◌≤◌, ℤ, Bool, true, false, List, [], ◌∷◌, ◌++◌, length, Option, nat_lt, nat_le, is_some, ◌||◌, ◌&&◌, ◌==◌, refl, arith}
+-- changes but for its body and its need is kept by each of them but types, and a type adds a shape; of a record it has one part
+-- at the least.
+use Rattle.std.proofs.Common.{◌≡◌, ℕ, suc, ◌≤◌, ℤ, Bool, true, false, List, [], ◌∷◌, ◌++◌, length, Option, nat_lt, nat_le, is_some, ◌||◌, ◌&&◌, ◌==◌, refl}
+use Rattle.std.proofs.Common.{arith}
 use Rattle.std.specs.Prelude.{int_le, not, slice_set}
 use Rattle.std.specs.List.{list_any}
 use Rattle.std.specs.Str.{bytes_eq}
@@ -18,12 +20,13 @@ use Rattle.edi_unit.specs.Fits.{heading, Formals}
 use Rattle.edi_static.specs.declared.faults.StaticKind.TheVariants as kind
 use Rattle.edi_static.specs.Judged.{gives, must}
 use Rattle.edi_static.specs.Environment.{Environment, type_named, declare, give_outside, here, with_variable}
-use Rattle.edi_static.specs.Types.{constant, const_decl, const_decls, const_list, most_constants, names_count, enum_constants, enum_decl, Fields}
-use Rattle.edi_static.specs.Types.{field_named, fields_named, fields_of_group, fields_of_groups, no_fields, declare_type, array_decl, set_decl, type_decl}
-use Rattle.edi_static.specs.Types.{variable_decl, variables_named, variables_of_groups, var_list}
+use Rattle.edi_static.specs.Types.{constant, const_decl, const_decls, const_list, most_constants, names_count, enum_constants, enum_decl, Fields, field_named}
+use Rattle.edi_static.specs.Types.{fields_named, fields_of_group, fields_of_groups, no_fields, declare_type, array_decl, set_decl, type_decl, variable_decl}
+use Rattle.edi_static.specs.Types.{variables_named, variables_of_groups, var_list}
 use Rattle.edi_static.specs.Headings.{Listed, Headed, leave, round, own_name, params_named, param_group, procedure_named, result_named, with_result}
 use Rattle.edi_static.specs.Headings.{heading_parts, parameters, more_parameters, parameter}
-use Rattle.edi_static.proofs.Judging.{Gives, bind, behind, choose, ruled}
+use Rattle.edi_static.specs.Programs.{global_decl, global_decls}
+use Rattle.edi_static.proofs.Judging.{Gives, bind, behind, choose, ruled, weaker}
 
 -- ---- records
 
@@ -65,8 +68,8 @@ pub record Keeping : Type 1 where
   pub arrayed : (of : ℕ) (lower upper : ℤ) (element : ℕ) → Fine (array_of of lower upper element)
   pub set : (of : ℕ) → Fine (set_of of)
   pub typed : (types : List Shape) (blocks : List Block) (shape : Shape) → Fine shape → Is types blocks → Becomes (types ++ shape ∷ []) blocks
-  pub varied : (types : List Shape) (blocks : List Block) (n : ℕ) (block : Block) → block.body ≡ (block_at blocks n).body → Is types blocks
-      → Is types (slice_set blocks n block)
+  pub varied : (types : List Shape) (blocks : List Block) (n : ℕ) (block : Block) → block.body ≡ (block_at blocks n).body
+      → block.need ≡ (block_at blocks n).need → Is types blocks → Is types (slice_set blocks n block)
 
 module _ (keep : Keeping) where
   abbrev pub Kept : Environment → Type 0
@@ -146,7 +149,7 @@ module _ (keep : Keeping) where
 
   variable_kept : (m : Bool) (of : ℕ) (name : Name) (env : Environment) → Kept env → Gives Kept (variable_decl m of name env)
   variable_kept m of name env h =
-      bind Kept Kept _ _ (declare_kept m name _ env h) (λ e k. keep.varied e.types e.blocks (here e) (with_variable of (block_at e.blocks (here e))) refl k)
+      bind Kept Kept _ _ (declare_kept m name _ env h) (λ e k. keep.varied e.types e.blocks (here e) (with_variable of (block_at e.blocks (here e))) refl refl k)
 
   named_kept : (m : Bool) (of : ℕ) (ns : text.Names) (env : Environment) → Kept env → Gives Kept (variables_named m of ns env)
   named_kept m of text.no_name env h = h
@@ -210,3 +213,17 @@ module _ (keep : Keeping) where
 
   pub outside_round_kept : (name : Name) (means : Entity) (env : Environment) → Kept env → Gives Kept (round (give_outside name means) env)
   outside_round_kept name means env h = bind Kept Kept (give_outside name means (leave env)) _ (outside_kept name means (leave env) h) (λ e s. s)
+
+  -- ---- globals
+
+  global_kept : ((types : List Shape) (blocks : List Block) → keep.Becomes types blocks → keep.Is types blocks) → (g : text.Global) (env : Environment)
+      → Kept env → Gives Kept (global_decl g env)
+  global_kept settled (text.const_global cs) env h = const_list_kept false cs env h
+  global_kept settled (text.type_global t) env h =
+      weaker Grown Kept (type_decl false t env) (λ e k. settled e.types e.blocks k) (type_decl_kept false t env h)
+
+  -- where it is kept by one more type too
+  pub globals_kept : ((types : List Shape) (blocks : List Block) → keep.Becomes types blocks → keep.Is types blocks) → (gs : text.Globals)
+      (env : Environment) → Kept env → Gives Kept (global_decls gs env)
+  globals_kept settled text.no_global env h = h
+  globals_kept settled (text.next_global g gs) env h = bind Kept Kept _ _ (global_kept settled g env h) (λ e k. globals_kept settled gs e k)
