@@ -35,7 +35,7 @@ use Rattle.edi_static.proofs.FitnessGrowth.{get_more, some_variable, some_proced
 use Rattle.edi_static.proofs.FitnessLater.{Later, later_then, names_later, chain_later}
 use Rattle.edi_static.proofs.FitnessOnward.{BegunFits, AllBegun, begun_later, Tidy, is_open, is_begun, closed_later, Onward, declare_onward, declare_means}
 use Rattle.edi_static.proofs.FitnessOnward.{exported_fits, with_name_keeps, exported_length, new_gives}
-use Rattle.edi_static.proofs.FitnessChanges.{scopes_sit, scopes_later_same}
+use Rattle.edi_static.proofs.FitnessChanges.{scopes_sit}
 use Rattle.edi_static.proofs.FitnessVariables.{Ready, here_inside, here_round}
 use Rattle.edi_static.proofs.FitnessHeadings.{Given, TypeKnown, TypesKnown, headed_env, Heads, heading_heads}
 use Rattle.edi_static.proofs.FitnessBlocks.{shapes_later, shapes_sit, BlockBegins, block_later, block_sits, new_block, new_heading}
@@ -331,7 +331,7 @@ module _ (env : Environment) (scope : Scope) (more : List Heading) (asks : Headi
         names = inner_names;
         sits = scopes_sit (exported name.text means env.scopes) shaped t
             (exported_fits (EntitySits shaped) name.text means env.scopes (f.there, f.called, round_it) t.names);
-        later = later_then env shaped (given_out name means shaped) (shapes_later more env) (scopes_later_same (exported name.text means env.scopes) shaped);
+        later = shapes_later more env;
         around = refl;
         begun = refl;
         outermost = λ e. absurd (false≢true (sym e));

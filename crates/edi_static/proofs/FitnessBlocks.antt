@@ -1,84 +1,36 @@
 -- Blocks that begin and that end, and places that are entered and left.
-use Rattle.std.proofs.Common.{◌≡◌, ◌≢◌, ℕ, zero, suc, ◌+◌, ◌<◌, ◌≤◌, Bool, true, false, nat_le, List, [], ◌∷◌, ◌++◌, length, get_or, set, All, is_some, refl}
-use Rattle.std.proofs.Common.{sym, ap, ◌∙◌, subst, arith, inl, inr, length-append}
+use Rattle.std.proofs.Common.{◌≡◌, ◌≢◌, ℕ, ◌+◌, ◌<◌, ◌≤◌, nat_le, List, [], ◌∷◌, ◌++◌, length, get_or, set, All, is_some, refl, sym, ap, ◌∙◌, subst, arith}
+use Rattle.std.proofs.Common.{inl, inr, length-append}
 use Rattle.std.proofs.lemmas.Bool.{cases_eq}
 use Rattle.std.proofs.lemmas.List.{append-nil, length-set, get_or-set_same, get_or-set_other}
 use Rattle.std.proofs.Math.ListN.{get_or-append}
 use Rattle.std.proofs.Math.Seq.{get_or-append_seam}
-use Rattle.edi_scope.specs.Scope.{Scope}
 use Rattle.edi_unit.specs.declared.units.BlockKind.{BlockKind}
 use Rattle.edi_unit.specs.declared.units.BlockKind.TheVariants as block_kind
 use Rattle.edi_unit.specs.Types.{Shape, greatest_size}
 use Rattle.edi_unit.specs.Tree.{Acts, no_act, Block}
 use Rattle.edi_unit.specs.Need.{no_block, block_at, slots, need}
-use Rattle.edi_unit.specs.Fits.{Heading, heading_result, heading_formals, KindFits, ActsFit, SlotIsKnown, greatest_levels}
+use Rattle.edi_unit.specs.Fits.{Heading, heading_result, heading_formals, KindFits, ActsFit, SlotIsKnown}
 use Rattle.edi_static.specs.declared.faults.StaticKind.TheVariants as kind
-use Rattle.edi_static.specs.Judged.{Judged, gives}
-use Rattle.edi_static.specs.Environment.{Begun, Environment, no_heading, heading_at, parameters_of, with_block, set_block}
+use Rattle.edi_static.specs.Environment.{Environment, no_heading, heading_at, parameters_of, with_block, set_block}
 use Rattle.edi_static.specs.Statements.{with_statements, add_statements, with_need, close_block}
-use Rattle.edi_static.specs.Proper.{ScopesFit}
 use Rattle.edi_static.proofs.Judging.{Gives, ruled, weaker}
-use Rattle.edi_static.proofs.Fitness.{headings_of, Names, IsChain, BlockStands, Sits}
+use Rattle.edi_static.proofs.Fitness.{headings_of, BlockStands, Sits}
 use Rattle.edi_static.proofs.FitnessGrowth.{BlockGrows}
 use Rattle.edi_static.proofs.FitnessActs.{appended_fit}
-use Rattle.edi_static.proofs.FitnessLater.{Later, same_block, later_same, later_then, stand_later, need_later, scopes_later, chain_later}
-use Rattle.edi_static.proofs.FitnessChanges.{set_later, set_sits}
+use Rattle.edi_static.proofs.FitnessLater.{Later, types_stay, same_block, later_then, stand_later, need_later}
+use Rattle.edi_static.proofs.FitnessChanges.{blocks_sit, set_later, set_sits}
 use Rattle.edi_static.proofs.FitnessOnward.{Closed}
-
--- ---- another place
-
-pub placed_sits : (scopes : List Scope) (around : List ℕ) (begun : List Begun) (env : Environment) → Sits env → IsChain env.blocks around
-    → length around ≤ greatest_levels →
-    ScopesFit (Names env.types env.blocks env.headings env.shapes around) scopes → Sits (record env { scopes = scopes; around = around; begun = begun })
-placed_sits scopes around begun env s chain near names = record {
-  table = s.table;
-  shapes = s.shapes;
-  field_lists = s.field_lists;
-  fields = s.fields;
-  as_many = s.as_many;
-  stand = s.stand;
-  chain = chain;
-  near = near;
-  names = names;
-}
-
-pub placed_later : (scopes : List Scope) (around : List ℕ) (begun : List Begun) (env next : Environment) → Later env next
-    → Later env (record next { scopes = scopes; around = around; begun = begun })
-placed_later scopes around begun env next l = record {
-  more = l.more;
-  types = l.types;
-  longer = l.longer;
-  each = l.each;
-  headings = l.headings;
-  longer_shapes = l.longer_shapes;
-  shapes = l.shapes;
-}
 
 -- ---- more headings of procedure parameters
 
 pub shapes_later : (more : List Heading) (env : Environment) → Later env (record env { shapes = env.shapes ++ more })
-shapes_later more env = record {
-  more = [];
-  types = sym (append-nil env.types);
-  longer = omega arith;
-  each = λ n h. same_block (block_at env.blocks n);
-  headings = λ n h. refl;
-  longer_shapes = omega (arith, length-append env.shapes more);
-  shapes = λ s h. get_or-append env.shapes more no_heading s h;
-}
+shapes_later more env =
+    types_stay env (record env { shapes = env.shapes ++ more }) refl (omega arith) (λ n h. same_block (block_at env.blocks n)) (λ n h. refl)
+    (omega (arith, length-append env.shapes more)) (λ s h. get_or-append env.shapes more no_heading s h)
 
 pub shapes_sit : (more : List Heading) (env : Environment) → Sits env → Sits (record env { shapes = env.shapes ++ more })
-shapes_sit more env s = record {
-  table = s.table;
-  shapes = s.shapes;
-  field_lists = s.field_lists;
-  fields = s.fields;
-  as_many = s.as_many;
-  stand = s.stand;
-  chain = s.chain;
-  near = s.near;
-  names = scopes_later env (record env { shapes = env.shapes ++ more }) s (shapes_later more env) env.around s.chain env.scopes s.names;
-}
+shapes_sit more env s = blocks_sit env.blocks env.headings (env.shapes ++ more) env s (shapes_later more env) s.as_many s.stand
 
 -- ---- a block that begins
 
@@ -94,15 +46,11 @@ pub record BlockBegins (types : List Shape) (n : ℕ) (block : Block) (asks : He
 
 module _ (block : Block) (asks : Heading) (env : Environment) (s : Sits env) where
   pub block_later : Later env (with_block block asks env)
-  block_later = record {
-    more = [];
-    types = sym (append-nil env.types);
-    longer = omega (arith, length-append env.blocks (block ∷ []));
-    each = λ n h. subst (BlockGrows (block_at env.blocks n)) (sym (get_or-append env.blocks (block ∷ []) no_block n h)) (same_block (block_at env.blocks n));
-    headings = λ n h. let many = s.as_many in get_or-append env.headings (asks ∷ []) no_heading n (omega (arith, h, many));
-    longer_shapes = omega arith;
-    shapes = λ s h. refl;
-  }
+  block_later =
+      types_stay env (with_block block asks env) refl (omega (arith, length-append env.blocks (block ∷ [])))
+      (λ n h. subst (BlockGrows (block_at env.blocks n)) (sym (get_or-append env.blocks (block ∷ []) no_block n h)) (same_block (block_at env.blocks n)))
+      (λ n h. let many = s.as_many in get_or-append env.headings (asks ∷ []) no_heading n (omega (arith, h, many)))
+      (omega arith) (λ s h. refl)
 
   pub new_block : block_at (env.blocks ++ block ∷ []) (length env.blocks) ≡ block
   new_block = get_or-append_seam env.blocks block [] no_block
@@ -125,23 +73,16 @@ module _ (block : Block) (asks : Heading) (env : Environment) (s : Sits env) whe
   }
 
   pub block_sits : BlockBegins env.types (length env.blocks) block asks → Sits (with_block block asks env)
-  block_sits b = record {
-    table = s.table;
-    shapes = s.shapes;
-    field_lists = s.field_lists;
-    fields = s.fields;
-    as_many = length-append env.headings (asks ∷ []) ∙ ap (λ n. n + 1) s.as_many ∙ sym (length-append env.blocks (block ∷ []));
-    stand = λ n h.
-        elim (cases_eq n (length env.blocks)) [
-          | inl e ↦ subst (BlockStands env.types (env.blocks ++ block ∷ []) (env.headings ++ asks ∷ [])) (sym e) (new_stands b)
-          | inr other ↦
-              let before : n < length env.blocks = omega (arith, h, other, length-append env.blocks (block ∷ [])) in
-              stand_later env (with_block block asks env) s block_later n before (get_or-append env.blocks (block ∷ []) no_block n before)
-        ];
-    chain = chain_later env (with_block block asks env) s block_later env.around s.chain;
-    near = s.near;
-    names = scopes_later env (with_block block asks env) s block_later env.around s.chain env.scopes s.names;
-  }
+  block_sits b =
+      blocks_sit (env.blocks ++ block ∷ []) (env.headings ++ asks ∷ []) env.shapes env s block_later
+      (length-append env.headings (asks ∷ []) ∙ ap (λ n. n + 1) s.as_many ∙ sym (length-append env.blocks (block ∷ [])))
+      (λ n h.
+      elim (cases_eq n (length env.blocks)) [
+        | inl e ↦ subst (BlockStands env.types (env.blocks ++ block ∷ []) (env.headings ++ asks ∷ [])) (sym e) (new_stands b)
+        | inr other ↦
+            let before : n < length env.blocks = omega (arith, h, other, length-append env.blocks (block ∷ [])) in
+            stand_later env (with_block block asks env) s block_later n before (get_or-append env.blocks (block ∷ []) no_block n before)
+      ])
 
 -- ---- a block that is changed or ends
 

@@ -1,63 +1,68 @@
 -- What the single changes of an environment keep.
-use Rattle.std.proofs.Common.{◌≡◌, ◌≢◌, ℕ, zero, suc, ◌+◌, ◌<◌, ◌≤◌, Bool, true, false, nat_lt, List, [], ◌∷◌, ◌++◌, length, get_or, set, map, All, take}
-use Rattle.std.proofs.Common.{drop, Some, None, IsTrue, refl, sym, ap, ◌∙◌, subst, arith, inl, inr, length-append}
+use Rattle.std.proofs.Common.{◌≡◌, ◌≢◌, ℕ, ◌+◌, ◌<◌, ◌≤◌, Bool, true, false, nat_lt, List, [], ◌∷◌, ◌++◌, length, get_or, set, All, take, IsTrue, refl, sym}
+use Rattle.std.proofs.Common.{ap, ◌∙◌, subst, arith, inl, inr, length-append}
 use Rattle.std.proofs.lemmas.Bool.{cases_eq}
-use Rattle.std.proofs.lemmas.List.{append-nil, length-set, get_or-set_same, get_or-set_other, take-append-le, get_or_past}
+use Rattle.std.proofs.lemmas.List.{length-set, get_or-set_same, get_or-set_other, take-append-le, get_or_past}
 use Rattle.std.proofs.Math.ListN.{get_or-append}
 use Rattle.std.proofs.Math.Seq.{get_or-append_seam}
-use Rattle.edi_scope.specs.declared.entity.Entity.{Entity}
 use Rattle.edi_scope.specs.Scope.{Scope}
-use Rattle.edi_unit.specs.declared.units.Parameter.TheVariants as slot
 use Rattle.edi_unit.specs.Types.{Shape, int, char, bool, enumeration, record_of, array_of, set_of, shape_at, fields_of, named_types, is_ordinal_of}
 use Rattle.edi_unit.specs.Types.{IsDeclarable}
 use Rattle.edi_unit.specs.Tree.{Block}
 use Rattle.edi_unit.specs.Need.{no_block, block_at, slots}
-use Rattle.edi_unit.specs.Fits.{ShapeFits, ShapesFit, KindFits, ActsFit, SlotIsKnown, Heading}
+use Rattle.edi_unit.specs.Fits.{ShapeFits, ShapesFit, KindFits, ActsFit, SlotIsKnown, Heading, greatest_levels}
 use Rattle.edi_unit.proofs.Tables.{declared-push, length-before}
-use Rattle.edi_static.specs.Environment.{Environment, with_type, with_shape, set_block}
+use Rattle.edi_static.specs.Environment.{Begun, Environment, with_type, set_block}
 use Rattle.edi_static.specs.Proper.{ScopesFit}
-use Rattle.edi_static.proofs.Fitness.{headings_of, EntitySits, BlockStands, IsTable, Sits}
+use Rattle.edi_static.proofs.Fitness.{headings_of, Names, EntitySits, IsChain, BlockStands, IsTable, Sits}
 use Rattle.edi_static.proofs.FitnessGrowth.{BlockGrows}
-use Rattle.edi_static.proofs.FitnessLater.{Later, same_block, stand_grown, stand_later, acts_later, slots_later, scopes_later, chain_later}
+use Rattle.edi_static.proofs.FitnessLater.{Later, types_stay, same_block, stand_grown, stand_later, acts_later, scopes_later, chain_later}
 
--- ---- scopes
+-- ---- another place
 
-pub scopes_sit : (scopes : List Scope) (env : Environment) → Sits env → ScopesFit (EntitySits env) scopes → Sits (record env { scopes = scopes })
-scopes_sit scopes env s h = record {
+pub placed_sits : (scopes : List Scope) (around : List ℕ) (begun : List Begun) (env : Environment) → Sits env → IsChain env.blocks around
+    → length around ≤ greatest_levels →
+    ScopesFit (Names env.types env.blocks env.headings env.shapes around) scopes → Sits (record env { scopes = scopes; around = around; begun = begun })
+placed_sits scopes around begun env s chain near names = record {
   table = s.table;
   shapes = s.shapes;
   field_lists = s.field_lists;
   fields = s.fields;
   as_many = s.as_many;
   stand = s.stand;
-  chain = s.chain;
-  near = s.near;
-  names = h;
+  chain = chain;
+  near = near;
+  names = names;
 }
 
-pub scopes_later_same : (scopes : List Scope) (env : Environment) → Later env (record env { scopes = scopes })
-scopes_later_same scopes env = record {
-  more = [];
-  types = sym (append-nil env.types);
-  longer = omega arith;
-  each = λ n h. same_block (block_at env.blocks n);
-  headings = λ n h. refl;
-  longer_shapes = omega arith;
-  shapes = λ s h. refl;
-}
+pub scopes_sit : (scopes : List Scope) (env : Environment) → Sits env → ScopesFit (EntitySits env) scopes → Sits (record env { scopes = scopes })
+scopes_sit scopes env s h = placed_sits scopes env.around env.begun env s s.chain s.near h
+
+-- ---- blocks and headings are changed
+
+pub blocks_sit : (blocks : List Block) (headings shapes : List Heading) (env : Environment) → Sits env →
+    Later env (record env { blocks = blocks; headings = headings; shapes = shapes }) → length headings ≡ length blocks →
+    ((n : ℕ) → n < length blocks → BlockStands env.types blocks headings n) → Sits (record env { blocks = blocks; headings = headings; shapes = shapes })
+blocks_sit blocks headings shapes env s l many stand =
+    let next : Environment = record env { blocks = blocks; headings = headings; shapes = shapes } in
+    record {
+      table = s.table;
+      shapes = s.shapes;
+      field_lists = s.field_lists;
+      fields = s.fields;
+      as_many = many;
+      stand = stand;
+      chain = chain_later env next s l env.around s.chain;
+      near = s.near;
+      names = scopes_later env next s l env.around s.chain env.scopes s.names;
+    }
 
 -- ---- a block is changed
 
 pub set_later : (n : ℕ) (b : Block) (env : Environment) → n < length env.blocks → BlockGrows (block_at env.blocks n) b → Later env (set_block n b env)
-set_later n b env h g = record {
-  more = [];
-  types = sym (append-nil env.types);
-  longer = let same = length-set env.blocks n b in omega (arith, same);
-  each = each;
-  headings = λ n h. refl;
-  longer_shapes = omega arith;
-  shapes = λ s h. refl;
-}
+set_later n b env h g =
+    let same = length-set env.blocks n b in
+    types_stay env (set_block n b env) refl (omega (arith, same)) each (λ n h. refl) (omega arith) (λ s h. refl)
   where
     each : (k : ℕ) → k < length env.blocks → BlockGrows (block_at env.blocks k) (block_at (set env.blocks n b) k)
     each k i =
@@ -74,17 +79,7 @@ pub set_sits : (n : ℕ) (b : Block) (env : Environment) → Sits env → n < le
 set_sits n b env s h g kind known body =
     let next : Environment = set_block n b env in
     let l : Later env next = set_later n b env h g in
-    record {
-      table = s.table;
-      shapes = s.shapes;
-      field_lists = s.field_lists;
-      fields = s.fields;
-      as_many = s.as_many ∙ sym (length-set env.blocks n b);
-      stand = stand next l;
-      chain = chain_later env next s l env.around s.chain;
-      near = s.near;
-      names = scopes_later env next s l env.around s.chain env.scopes s.names;
-    }
+    blocks_sit (set env.blocks n b) env.headings env.shapes env s l (s.as_many ∙ sym (length-set env.blocks n b)) (stand next l)
   where
     stand : (next : Environment) → Later env (set_block n b env) → (k : ℕ) → k < length (set env.blocks n b) → BlockStands env.types (set env.blocks n b)
         env.headings k

@@ -1,8 +1,8 @@
 -- One environment behind another, and what still holds there.
-use Rattle.std.proofs.Common.{◌≡◌, ℕ, zero, suc, ◌+◌, ◌<◌, ◌≤◌, Bool, true, false, ◌||◌, ◌==◌, List, [], ◌∷◌, ◌++◌, length, get_or, map, All, Option, Some}
-use Rattle.std.proofs.Common.{None, IsTrue, IsSome, refl, sym, ap, ◌∙◌, subst, arith, inl, inr, append_assoc, length-append}
+use Rattle.std.proofs.Common.{◌≡◌, ℕ, zero, suc, ◌+◌, ◌<◌, ◌≤◌, Bool, true, false, ◌||◌, ◌==◌, List, [], ◌∷◌, ◌++◌, length, get_or, map, All, IsTrue, IsSome}
+use Rattle.std.proofs.Common.{refl, sym, ap, ◌∙◌, subst, arith, append_assoc, length-append}
 use Rattle.std.specs.Prelude.{slice_get, sum_by}
-use Rattle.std.proofs.lemmas.Bool.{false≢true, cases_eq, eqb-true}
+use Rattle.std.proofs.lemmas.Bool.{false≢true, eqb-true}
 use Rattle.std.proofs.lemmas.List.{append-nil}
 use Rattle.std.proofs.Math.ListN.{get_or-append}
 use Rattle.edi_scope.specs.declared.entity.Entity.{Entity}
@@ -10,9 +10,7 @@ use Rattle.edi_scope.specs.declared.entity.Entity.TheVariants as entity
 use Rattle.edi_scope.specs.Scope.{Scope}
 use Rattle.edi_unit.specs.declared.units.Parameter.{Parameter}
 use Rattle.edi_unit.specs.declared.units.Parameter.TheVariants as slot
-use Rattle.edi_unit.specs.declared.units.BlockKind.{BlockKind}
-use Rattle.edi_unit.specs.declared.units.BlockKind.TheVariants as block_kind
-use Rattle.edi_unit.specs.Types.{Shape, int, shape_at, is_ordinal_of, greatest_size}
+use Rattle.edi_unit.specs.Types.{Shape, int, shape_at, is_ordinal_of}
 use Rattle.edi_unit.specs.Tree.{Block, Acts}
 use Rattle.edi_unit.specs.Need.{block_at, slots, slot_type, slot_result, slot_words, acts_height, need}
 use Rattle.edi_unit.specs.Fits.{Heading, heading_result, heading_formals, is_variable, is_procedure, is_called, ActsFit, SlotIsKnown, KindFits}
@@ -23,15 +21,29 @@ use Rattle.edi_static.proofs.Fitness.{variable_heading, headings_of, is_round, s
 use Rattle.edi_static.proofs.FitnessGrowth.{BlockGrows, Steady, get_more, slots_grow, some_variable, some_procedure}
 use Rattle.edi_static.proofs.FitnessActs.{acts_same, words_same, slots_known}
 
+-- what constructs add to
+pub record Stock : Type 0 where
+  pub types : List Shape
+  pub blocks : List Block
+  pub headings : List Heading
+  pub shapes : List Heading
+
+abbrev pub stock : Environment → Stock
+stock env = record { types = env.types; blocks = env.blocks; headings = env.headings; shapes = env.shapes }
+
 -- types, blocks and headings are only added, and blocks only grow
-pub record Later (env next : Environment) : Type 0 where
+pub record StockGrows (old new : Stock) : Type 0 where
   pub more : List Shape
-  pub types : next.types ≡ env.types ++ more
-  pub longer : length env.blocks ≤ length next.blocks
-  pub each : (n : ℕ) → n < length env.blocks → BlockGrows (block_at env.blocks n) (block_at next.blocks n)
-  pub headings : (n : ℕ) → n < length env.blocks → heading_at next.headings n ≡ heading_at env.headings n
-  pub longer_shapes : length env.shapes ≤ length next.shapes
-  pub shapes : (s : ℕ) → s < length env.shapes → heading_at next.shapes s ≡ heading_at env.shapes s
+  pub types : new.types ≡ old.types ++ more
+  pub longer : length old.blocks ≤ length new.blocks
+  pub each : (n : ℕ) → n < length old.blocks → BlockGrows (block_at old.blocks n) (block_at new.blocks n)
+  pub headings : (n : ℕ) → n < length old.blocks → heading_at new.headings n ≡ heading_at old.headings n
+  pub longer_shapes : length old.shapes ≤ length new.shapes
+  pub shapes : (s : ℕ) → s < length old.shapes → heading_at new.shapes s ≡ heading_at old.shapes s
+
+-- One environment behind another: scopes, and the blocks that are open, may be others.
+abbrev pub Later : Environment → Environment → Type 0
+Later env next = StockGrows (stock env) (stock next)
 
 pub same_block : (b : Block) → BlockGrows b b
 same_block b = record { kind = refl; up = refl; result = refl; parameters = refl; more = []; variables = sym (append-nil b.variables) }
@@ -46,16 +58,23 @@ grows_then a b c g h = record {
   variables = h.variables ∙ ap (λ vs. vs ++ h.more) g.variables ∙ append_assoc a.variables g.more h.more;
 }
 
-pub later_same : (env : Environment) → Later env env
-later_same env = record {
+-- of one with the same types
+pub types_stay : (env next : Environment) → next.types ≡ env.types → length env.blocks ≤ length next.blocks →
+    ((n : ℕ) → n < length env.blocks → BlockGrows (block_at env.blocks n) (block_at next.blocks n)) →
+    ((n : ℕ) → n < length env.blocks → heading_at next.headings n ≡ heading_at env.headings n) → length env.shapes ≤ length next.shapes →
+    ((s : ℕ) → s < length env.shapes → heading_at next.shapes s ≡ heading_at env.shapes s) → Later env next
+types_stay env next same longer each headings longer_shapes shapes = record {
   more = [];
-  types = sym (append-nil env.types);
-  longer = omega arith;
-  each = λ n h. same_block (block_at env.blocks n);
-  headings = λ n h. refl;
-  longer_shapes = omega arith;
-  shapes = λ s h. refl;
+  types = same ∙ sym (append-nil env.types);
+  longer = longer;
+  each = each;
+  headings = headings;
+  longer_shapes = longer_shapes;
+  shapes = shapes;
 }
+
+pub later_same : (env : Environment) → Later env env
+later_same env = types_stay env env refl (omega arith) (λ n h. same_block (block_at env.blocks n)) (λ n h. refl) (omega arith) (λ s h. refl)
 
 pub later_then : (a b c : Environment) → Later a b → Later b c → Later a c
 later_then a b c g h =

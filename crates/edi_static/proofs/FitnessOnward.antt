@@ -22,7 +22,7 @@ use Rattle.edi_static.proofs.Judging.{Gives}
 use Rattle.edi_static.proofs.Fitness.{headings_of, EntitySits, is_round, Sits}
 use Rattle.edi_static.proofs.FitnessGrowth.{BlockGrows}
 use Rattle.edi_static.proofs.FitnessLater.{Later, later_same, later_then, need_later}
-use Rattle.edi_static.proofs.FitnessChanges.{scopes_sit, scopes_later_same, set_later, set_sits, type_later, type_sits}
+use Rattle.edi_static.proofs.FitnessChanges.{scopes_sit, set_later, set_sits, type_later, type_sits}
 
 -- ---- blocks whose need is told
 
@@ -104,19 +104,25 @@ onward_then export a b c g h = record {
   scopes = h.scopes ∙ g.scopes;
 }
 
-pub onward_same : (export : Bool) (env : Environment) → Sits env → Onward export env env
-onward_same export env s = record {
-  sits = s;
-  later = later_same env;
-  around = refl;
-  outer = λ e. refl;
-  farther = refl;
-  kept = λ name e k. k;
-  kept_outside = λ name e k. k;
-  begun = λ k. k;
-  tidy = λ b further k. k;
-  scopes = refl;
+-- where no name is declared
+pub scopes_stay : (export : Bool) (env next : Environment) → Sits next → Later env next → next.around ≡ env.around → next.scopes ≡ env.scopes →
+    (AllBegun env → AllBegun next) → (AllBegun env → (further : ℕ → Bool) → Tidy (is_open further env) env → Tidy (is_open further next) next) →
+    Onward export env next
+scopes_stay export env next sits later around same begun tidy = record {
+  sits = sits;
+  later = later;
+  around = around;
+  outer = λ e. ap outside same;
+  farther = ap (λ ss. outside (outside ss)) same;
+  kept = λ name e k. ap (λ ss. declared ss name) same ∙ k;
+  kept_outside = λ name e k. ap (λ ss. declared (outside ss) name) same ∙ k;
+  begun = begun;
+  tidy = tidy;
+  scopes = ap length same;
 }
+
+pub onward_same : (export : Bool) (env : Environment) → Sits env → Onward export env env
+onward_same export env s = scopes_stay export env env s (later_same env) refl refl (λ k. k) (λ b further k. k)
 
 pub onward_any : (export : Bool) (a b : Environment) → Onward false a b → Onward export a b
 onward_any export a b g = record {
@@ -238,13 +244,13 @@ declare_onward export name means env s h =
     kept_with export name.text means env.scopes fresh in
     record {
       sits = scopes_sit scopes env s (scopes_with_fit export (EntitySits env) name.text means env.scopes h s.names);
-      later = scopes_later_same scopes env;
+      later = later_same env;
       around = refl;
       outer = outer_with export name.text means env.scopes;
       farther = farther_with export name.text means env.scopes;
       kept = kept;
       kept_outside = kept_outside_with export name.text means env.scopes fresh_outside;
-      begun = λ k. begun_later env (record env { scopes = scopes }) (scopes_later_same scopes env) refl kept env.begun k;
+      begun = λ k. begun_later env (record env { scopes = scopes }) (later_same env) refl kept env.begun k;
       tidy = λ b further k. k;
       scopes = same_length export name.text means env.scopes;
     })
@@ -254,18 +260,11 @@ declare_onward export name means env s h =
 pub type_onward : (export : Bool) (shape : Shape) (names : List (List ℕ)) (env : Environment) → Sits env → IsDeclarable env.types shape
     → ShapeFits env.types shape →
     length names ≤ length (fields_of shape) → Onward export env (with_type shape names env)
-type_onward export shape names env s new fits fields = record {
-  sits = type_sits shape names env s new fits fields;
-  later = type_later shape names env;
-  around = refl;
-  outer = λ e. refl;
-  farther = refl;
-  kept = λ x e k. k;
-  kept_outside = λ x e k. k;
-  begun = λ k. k;
-  scopes = refl;
-  tidy = λ b further k n h o. closed_later env (with_type shape names env) s (type_later shape names env) n h refl (k n h o);
-}
+type_onward export shape names env s new fits fields =
+    let next : Environment = with_type shape names env in
+    let l : Later env next = type_later shape names env in
+    scopes_stay export env next (type_sits shape names env s new fits fields) l refl refl (λ k. k)
+    (λ b further k n h o. closed_later env next s l n h refl (k n h o))
 
 -- a block round the place is open
 opened : (further : Bool) (n : ℕ) (r b : Bool) → r ≡ true → (further || (r || b)) ≡ false → ⊥
@@ -278,19 +277,10 @@ pub set_onward : (export : Bool) (at : ℕ) (b : Block) (env : Environment) → 
     KindFits b.kind at b → All (SlotIsKnown env.types) (slots b) → ActsFit env.types env.blocks (headings_of env.headings) at b.body
     → Onward export env (set_block at b env)
 set_onward export at b env s inside round g kind known body =
-    let l : Later env (set_block at b env) = set_later at b env inside g in
-    record {
-      sits = set_sits at b env s inside g kind known body;
-      later = l;
-      around = refl;
-      outer = λ e. refl;
-      farther = refl;
-      kept = λ x e k. k;
-      kept_outside = λ x e k. k;
-      begun = λ k. begun_later env (set_block at b env) l refl (λ x e i. i) env.begun k;
-      tidy = λ b further k. tidy l further k;
-      scopes = refl;
-    }
+    let next : Environment = set_block at b env in
+    let l : Later env next = set_later at b env inside g in
+    scopes_stay export env next (set_sits at b env s inside g kind known body) l refl refl
+    (λ k. begun_later env next l refl (λ x e i. i) env.begun k) (λ begun further k. tidy l further k)
   where
     tidy : Later env (set_block at b env) → (further : ℕ → Bool) → Tidy (is_open further env) env → Tidy (is_open further env) (set_block at b env)
     tidy l further k n h o =

@@ -35,7 +35,8 @@ use Rattle.edi_static.proofs.FitnessOnward.{Closed, BegunFits, AllBegun, begun_l
 use Rattle.edi_static.proofs.FitnessOnward.{onward_same, onward_any}
 use Rattle.edi_static.proofs.FitnessTypes.{go_on, const_list_onward, type_decl_onward}
 use Rattle.edi_static.proofs.FitnessVariables.{Ready, ready_later, here_inside, here_round, var_onward}
-use Rattle.edi_static.proofs.FitnessBlocks.{placed_sits, placed_later, Changes, more_change, Closes, block_closes}
+use Rattle.edi_static.proofs.FitnessChanges.{placed_sits}
+use Rattle.edi_static.proofs.FitnessBlocks.{Changes, more_change, Closes, block_closes}
 use Rattle.edi_static.proofs.FitnessStatements.{Steps, steps_onward, Does, list_does, here_same, scopes_wider, stands_here}
 use Rattle.edi_static.proofs.FitnessBeginnings.{Entered, begin_entered, post_entered}
 

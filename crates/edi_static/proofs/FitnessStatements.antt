@@ -37,7 +37,8 @@ use Rattle.edi_static.proofs.FitnessExpressions.{expression_fits, place_fits, ar
 use Rattle.edi_static.proofs.FitnessLater.{Later, later_same, later_then, acts_later, chain_later, scopes_later}
 use Rattle.edi_static.proofs.FitnessOnward.{Onward, Closed, Tidy, is_open, is_begun, BegunFits, AllBegun, begun_later, closed_later}
 use Rattle.edi_static.proofs.FitnessVariables.{here_inside}
-use Rattle.edi_static.proofs.FitnessBlocks.{placed_sits, placed_later, BlockBegins, block_later, block_sits, new_block, Closes, block_closes}
+use Rattle.edi_static.proofs.FitnessChanges.{placed_sits}
+use Rattle.edi_static.proofs.FitnessBlocks.{BlockBegins, block_later, block_sits, new_block, Closes, block_closes}
 
 -- ---- from one statement to the next
 
@@ -235,8 +236,7 @@ module _ (env : Environment) (s : Sits env) (inside : 0 < length env.around) whe
   branch_block = begun_block block_kind.Branch (here env) None []
 
   entered_later : Later env (enter_branch env)
-  entered_later = placed_later env.scopes (length env.blocks ∷ env.around) env.begun env (branch_env env)
-      (block_later (begun_block block_kind.Branch (here env) None []) no_heading env s)
+  entered_later = block_later (begun_block block_kind.Branch (here env) None []) no_heading env s
 
   entered_sits : suc (length env.around) ≤ greatest_levels → Sits (enter_branch env)
   entered_sits near =
@@ -280,7 +280,7 @@ left before done s inside h after k =
             placed_sits after.scopes before.around after.begun after c.sits (chain_later before after s l before.around s.chain) s.near
             (subst (ScopesFit (Names after.types after.blocks after.headings after.shapes before.around)) (sym scopes)
             (scopes_later before after s l before.around s.chain before.scopes s.names));
-        later = placed_later after.scopes before.around after.begun before after l;
+        later = l;
         around = refl;
         scopes = scopes;
         begun = c.begun ∙ h.steps.begun;

@@ -99,30 +99,34 @@ choose_row P false is k o h j = j
 named_so : (title name : List ℕ) → bytes_eq title name ≡ true → name ≡ title
 named_so title name e = sym ((bytes_eq-Decides title name).0 e)
 
+-- a row of the table of calls whose heading is this one
+plain_row : (types : List Shape) (asks : Heading) (name : List ℕ) (row : Heading) (n : ℕ) (o : Option ℕ) →
+    (heading_formals asks ≡ heading_formals row → IsCall types n (heading_formals asks)) → heading_result row ≡ None → IfSome o (IsNamed types asks name)
+    → IfSome (if bytes_eq (title_of n) name then (if same_heading asks row then Some n else None) else o) (IsNamed types asks name)
+plain_row types asks name row n o call none rest =
+    choose_row (IsNamed types asks name) (bytes_eq (title_of n) name) (same_heading asks row) n o
+    (λ f i. let e = same_heading_is asks row i in (call (ap heading_formals e), ap heading_result e ∙ none, named_so (title_of n) name f)) rest
+
+-- a row of a call with a title
+titled_row : (types : List Shape) (asks : Heading) (name : List ℕ) (n : ℕ) (o : Option ℕ) → ((t : ℕ) → IsTitle types t →
+    heading_formals asks ≡ value_then t (variable_then bool_type no_formal) → IsCall types n (heading_formals asks)) → IfSome o (IsNamed types asks name)
+    → IfSome (if bytes_eq (title_of n) name then (if is_titled types asks then Some n else None) else o) (IsNamed types asks name)
+titled_row types asks name n o call rest =
+    choose_row (IsNamed types asks name) (bytes_eq (title_of n) name) (is_titled types asks) n o
+    (λ f i. let t = titled types asks i in (call t.0 t.1 (ap heading_formals t.2), ap heading_result t.2, named_so (title_of n) name f)) rest
+
 number_fits : (types : List Shape) (asks : Heading) (name : List ℕ) → IfSome (number_of_call (system_calls types asks) name) (IsNamed types asks name)
 number_fits types asks name =
-    let P : ℕ → Type 0 = IsNamed types asks name in
-    choose_row P (bytes_eq (codes "accept") name) (same_heading asks gives_char) 1 _
-    (λ f i. let e = same_heading_is asks gives_char i in (accept refl (ap heading_formals e), ap heading_result e, named_so (codes "accept") name f))
-    (choose_row P (bytes_eq (codes "display") name) (same_heading asks takes_char) 2 _
-    (λ f i. let e = same_heading_is asks takes_char i in (display refl (ap heading_formals e), ap heading_result e, named_so (codes "display") name f))
-    (choose_row P (bytes_eq (codes "print") name) (same_heading asks takes_char) 3 _
-    (λ f i. let e = same_heading_is asks takes_char i in (print refl (ap heading_formals e), ap heading_result e, named_so (codes "print") name f))
-    (choose_row P (bytes_eq (codes "find") name) (is_titled types asks) 4 _
-    (λ f i. let t = titled types asks i in (find t.0 refl t.1 (ap heading_formals t.2), ap heading_result t.2, named_so (codes "find") name f))
-    (choose_row P (bytes_eq (codes "more") name) (same_heading asks gives_bool) 5 _
-    (λ f i. let e = same_heading_is asks gives_bool i in (more refl (ap heading_formals e), ap heading_result e, named_so (codes "more") name f))
-    (choose_row P (bytes_eq (codes "read") name) (same_heading asks gives_char) 6 _
-    (λ f i. let e = same_heading_is asks gives_char i in (read refl (ap heading_formals e), ap heading_result e, named_so (codes "read") name f))
-    (choose_row P (bytes_eq (codes "fresh") name) (same_heading asks no_heading) 7 _
-    (λ f i. let e = same_heading_is asks no_heading i in (fresh refl (ap heading_formals e), ap heading_result e, named_so (codes "fresh") name f))
-    (choose_row P (bytes_eq (codes "write") name) (same_heading asks takes_char) 8 _
-    (λ f i. let e = same_heading_is asks takes_char i in (write refl (ap heading_formals e), ap heading_result e, named_so (codes "write") name f))
-    (choose_row P (bytes_eq (codes "close") name) (is_titled types asks) 9 _
-    (λ f i. let t = titled types asks i in (close t.0 refl t.1 (ap heading_formals t.2), ap heading_result t.2, named_so (codes "close") name f))
-    (choose_row P (bytes_eq (codes "remove") name) (is_titled types asks) 10 None
-    (λ f i. let t = titled types asks i in (remove t.0 refl t.1 (ap heading_formals t.2), ap heading_result t.2, named_so (codes "remove") name f))
-    tt)))))))))
+    plain_row types asks name gives_char 1 _ (accept refl) refl
+    (plain_row types asks name takes_char 2 _ (display refl) refl
+    (plain_row types asks name takes_char 3 _ (print refl) refl
+    (titled_row types asks name 4 _ (λ t is. find t refl is)
+    (plain_row types asks name gives_bool 5 _ (more refl) refl
+    (plain_row types asks name gives_char 6 _ (read refl) refl
+    (plain_row types asks name no_heading 7 _ (fresh refl) refl
+    (plain_row types asks name takes_char 8 _ (write refl) refl
+    (titled_row types asks name 9 _ (λ t is. close t refl is)
+    (titled_row types asks name 10 None (λ t is. remove t refl is) tt)))))))))
 
 call_with_fits : (P : ℕ → Type 0) (name : Name) (o : Option ℕ) → IfSome o P → Gives P (call_with name o)
 call_with_fits P name None h = tt

@@ -1,9 +1,9 @@
 -- Declarations, procedures and modules keep what holds of an environment.
-use Rattle.std.proofs.Common.{◌≡◌, ◌≢◌, ℕ, zero, suc, ◌+◌, ◌<◌, ◌≤◌, max, Bool, true, false, not, cond, ◌||◌, ◌==◌, List, [], ◌∷◌, ◌++◌, length, get_or}
-use Rattle.std.proofs.Common.{filter, All, Option, Some, None, IsTrue, refl, sym, ap, ◌∙◌, subst, arith, inl, inr}
+use Rattle.std.proofs.Common.{◌≡◌, ◌≢◌, ℕ, suc, ◌+◌, ◌<◌, ◌≤◌, Bool, true, false, not, cond, ◌||◌, ◌==◌, List, [], ◌∷◌, ◌++◌, length, get_or, filter, All}
+use Rattle.std.proofs.Common.{Option, Some, refl, sym, ap, ◌∙◌, subst, arith, inl, inr}
 use Rattle.std.specs.List.{list_any}
 use Rattle.std.specs.Str.{bytes_eq}
-use Rattle.std.proofs.lemmas.Bool.{false≢true, cases_eq, eqb-true}
+use Rattle.std.proofs.lemmas.Bool.{false≢true, cases_eq}
 use Rattle.std.proofs.lemmas.Bool.Decides.{Decides-eqb}
 use Rattle.std.proofs.lemmas.List.Elements.{All-push, All-filter}
 use Rattle.std.proofs.lemmas.List.Folds.{list_any-append}
@@ -13,46 +13,31 @@ use Rattle.edi_scope.specs.declared.entity.Entity.TheVariants as entity
 use Rattle.edi_scope.specs.Scope.{Scope, declared, outside, entered}
 use Rattle.edi_tree.specs.declared.names.Name.{Name}
 use Rattle.edi_tree.specs.Tree as text
-use Rattle.edi_tree.specs.Depth.{heading_depth, list_depth, procedure_depth, item_depth, module_depth, member_depth, members_depth, declaration_depth}
-use Rattle.edi_tree.specs.Depth.{declarations_depth}
+use Rattle.edi_tree.specs.Depth.{list_depth, procedure_depth, item_depth, module_depth, member_depth, members_depth, declaration_depth, declarations_depth}
 use Rattle.edi_unit.specs.Tree.{Acts, Block}
-use Rattle.edi_unit.specs.Need.{block_at}
-use Rattle.edi_unit.specs.Fits.{is_called, ActsFit, greatest_levels}
-use Rattle.edi_static.specs.Judged.{Judged, gives, faults, ◌>>=◌}
+use Rattle.edi_unit.specs.Fits.{ActsFit, greatest_levels}
+use Rattle.edi_static.specs.Judged.{Judged, ◌>>=◌}
 use Rattle.edi_static.specs.Environment.{Begun, Environment, here, enter}
 use Rattle.edi_static.specs.Headings.{leave, own_name}
 use Rattle.edi_static.specs.Statements.{After, add_statements, close_block, statement_list}
-use Rattle.edi_static.specs.Declarations.{begun_named, without_begun, all_completed, enter_block, leave_to, leave_module, heading_of, procedure_name}
-use Rattle.edi_static.specs.Declarations.{block_of, begin_procedure, begin_post, pre_decl, procedure_rest, item, module_decl, members, member, declarations}
-use Rattle.edi_static.specs.Declarations.{declaration}
+use Rattle.edi_static.specs.Declarations.{begun_named, without_begun, all_completed, leave_to, leave_module, heading_of, procedure_name, block_of}
+use Rattle.edi_static.specs.Declarations.{begin_procedure, begin_post, procedure_rest, item, module_decl, members, member, declarations, declaration}
 use Rattle.edi_static.specs.InRange.{ProcedureInRange, ItemInRange, ModuleInRange, MemberInRange, MembersInRange, DeclarationInRange, DeclarationsInRange}
 use Rattle.edi_static.specs.Proper.{ScopesFit}
-use Rattle.edi_static.proofs.Judging.{Gives, bind, behind, weaker}
+use Rattle.edi_static.proofs.Judging.{Gives, bind, weaker}
 use Rattle.edi_static.proofs.Proper.{outside_fit}
-use Rattle.edi_static.proofs.Fitness.{headings_of, is_round, Names, EntitySits, IsChain, Sits}
-use Rattle.edi_static.proofs.FitnessLater.{Later, later_same, later_then, chain_later, scopes_later}
-use Rattle.edi_static.proofs.FitnessOnward.{Closed, BegunFits, AllBegun, begun_later, Tidy, is_open, is_begun, closed_later, Onward, onward_then}
-use Rattle.edi_static.proofs.FitnessOnward.{onward_same, onward_any}
+use Rattle.edi_static.proofs.Fitness.{headings_of, is_round, Names, EntitySits, Sits}
+use Rattle.edi_static.proofs.FitnessLater.{Later, later_then, chain_later, scopes_later}
+use Rattle.edi_static.proofs.FitnessChanges.{placed_sits}
+use Rattle.edi_static.proofs.FitnessOnward.{Closed, BegunFits, AllBegun, begun_later, Tidy, is_open, is_begun, closed_later, Onward, onward_same, onward_any}
 use Rattle.edi_static.proofs.FitnessTypes.{go_on, const_list_onward, type_decl_onward}
 use Rattle.edi_static.proofs.FitnessVariables.{Ready, ready_later, here_inside, here_round, var_onward}
-use Rattle.edi_static.proofs.FitnessBlocks.{placed_sits, placed_later, Changes, more_change, Closes, block_closes}
-use Rattle.edi_static.proofs.FitnessStatements.{Steps, steps_onward, Does, list_does, here_same, scopes_wider, stands_here}
+use Rattle.edi_static.proofs.FitnessBlocks.{Changes, more_change}
+use Rattle.edi_static.proofs.FitnessStatements.{steps_onward, Does, list_does}
 use Rattle.edi_static.proofs.FitnessBeginnings.{Entered, begin_entered, post_entered}
 use Rattle.edi_static.proofs.FitnessProcedures.{inside_of, inner_sits, inner_ready, no_begun, completed, Ends, apart, together, differs, ends}
 
 -- ---- after a procedure
-
-from_placed : (scopes : List Scope) (around : List ℕ) (begun : List Begun) (env next : Environment)
-    → Later (record env { scopes = scopes; around = around; begun = begun }) next → Later env next
-from_placed scopes around begun env next l = record {
-  more = l.more;
-  types = l.types;
-  longer = l.longer;
-  each = l.each;
-  headings = l.headings;
-  longer_shapes = l.longer_shapes;
-  shapes = l.shapes;
-}
 
 -- the blocks that are open outside, where a procedure ends
 abbrev still : (ℕ → Bool) → Environment → ℕ → ℕ → Bool
@@ -87,10 +72,10 @@ module _ (n : ℕ) (export : Bool) (name : Name) (env next : Environment) (s : S
       let outer : Environment = e.outer in
       let inside : Environment = inside_of outer e.scope n in
       let t = e.sits in
-      let l : Later outer after = from_placed (e.scope ∷ outer.scopes) (n ∷ outer.around) [] outer after k.later in
+      let l : Later outer after = k.later in
       let all_later : Later env after = later_then env outer after e.later l in
       let final : Environment = leave_to env begun after in
-      let final_later : Later env final = placed_later (outside after.scopes) env.around begun env after all_later in
+      let final_later : Later env final = all_later in
       let scopes : outside after.scopes ≡ outer.scopes = k.outermost in
       let kept : (x : List ℕ) (y : Entity) → declared env.scopes x ≡ Some y → declared (outside after.scopes) x ≡ Some y =
       λ x y i. ap (λ ss. declared ss x) scopes ∙ e.kept x y i in
@@ -146,7 +131,7 @@ whole_onward export name env next e =
     let one : Begun = new_begun name env in
     let t = e.sits in
     let final : Environment = record outer { begun = env.begun ++ one ∷ [] } in
-    let l : Later env final = placed_later outer.scopes outer.around (env.begun ++ one ∷ []) env outer e.later in
+    let l : Later env final = e.later in
     record {
       sits = placed_sits outer.scopes outer.around (env.begun ++ one ∷ []) outer t t.chain t.near t.names;
       later = l;
@@ -266,9 +251,9 @@ module_left env now done d o does none =
     more_change n done.what done.env p.sits (omega (arith, there, longer, wider))
     (subst (λ b. ActsFit done.env.types done.env.blocks (headings_of done.env.headings) b done.what) at does.fits) in
     let all_later : Later env after =
-    from_placed (entered true env.scopes) env.around [] env after (later_then inner now after l (later_then now done.env after q c.later)) in
+    later_then inner now after l (later_then now done.env after q c.later) in
     let final : Environment = leave_module env done in
-    let final_later : Later env final = placed_later (outside done.env.scopes) env.around env.begun env after all_later in
+    let final_later : Later env final = all_later in
     let around : done.env.around ≡ env.around = p.around ∙ o.around in
     let scopes : outside (outside done.env.scopes) ≡ outside env.scopes = ap (λ ss. outside (outside ss)) st.scopes ∙ o.farther in
     let kept : (x : List ℕ) (y : Entity) → declared env.scopes x ≡ Some y → declared (outside done.env.scopes) x ≡ Some y =

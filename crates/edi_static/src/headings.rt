@@ -125,8 +125,9 @@ fn same_formals(one: &List<Formal>, other: &List<Formal>) -> bool
     true
 }
 
+/// Whether two parameters ask for the same.
 #[cycle(same)]
-fn same_formal(one: &Formal, other: &Formal) -> bool
+pub fn same_formal(one: &Formal, other: &Formal) -> bool
     ensures exact { result ≡ same_one (formal_of one.now) (formal_of other.now) }
 {
     match (one, other) {

@@ -25,7 +25,7 @@ pub use fits::{
 };
 pub use headings::{
     Asked, Formal, asked_formals, asked_result, copy_asked, heading_with, kept_parameters,
-    no_asked, parameters_of, plain_formal, procedure_formal, push_formal, same_asked,
+    no_asked, parameters_of, plain_formal, procedure_formal, push_formal, same_asked, same_formal,
 };
 pub use known::{Begun, Known, add, boxed, fault, must, number, put};
 pub use operands::{
