@@ -26,7 +26,7 @@ use Rattle.edi_static.proofs.Proper.{around_proper}
 use Rattle.edi_sema.specs.Frames.{kinds, frame, BegunFit, EnvironmentStands, Comes, HeadingBegins}
 use Rattle.edi_sema.specs.Splits.{block_named, completes_block, post_block, with_begun}
 use Rattle.edi_sema.proofs.Framed.{FramedHeaded, heading_framed, declare_framed}
-use Rattle.edi_sema.proofs.Staying.{outside_kinds, as_many_scopes, begun_grown}
+use Rattle.edi_sema.proofs.Staying.{outside_kinds, as_many_scopes, begun_grown, given}
 use Rattle.edi_sema.proofs.Opening.{Inner, begins}
 
 pub heading_seen : (x : code_heading.Heading) → heading_of x ≡ text.heading (out-Heading x).name (params_of (out-Heading x).params) (out-Heading x).result
@@ -45,7 +45,7 @@ pub inner_answer : {B : Type 0} (env after : Environment) (r : Result B StaticFa
 inner_answer env after (Ok b) m e g p = begins env after (subst (Gives (Inner env)) e g) p
 inner_answer env after (Err f) m e g p = tt
 
-pub begin_stated : (m : Bool) (h : text.Heading) (name : Name) (env : Environment) (headed : Headed) (kind : BlockKind) (n : ℕ) → n ≡ length env.blocks
+begin_stated : (m : Bool) (h : text.Heading) (name : Name) (env : Environment) (headed : Headed) (kind : BlockKind) (n : ℕ) → n ≡ length env.blocks
     → name ≡ own_name h →
     heading_parts n h env ≡ gives headed → kind ≡ kind_of (heading_result headed.asks) →
     begin_procedure m h env ≡ round (declare m name (entity.Procedure n)) (with_heading kind headed)
@@ -55,6 +55,15 @@ begin_stated m h name env headed kind n e i stated k =
     ∙ (ap (λ j. j >>= λ headed. round (declare m (own_name h) (entity.Procedure n)) (with_heading (kind_of (heading_result headed.asks)) headed)) stated
     ∙ (ap (λ k. round (declare m (own_name h) (entity.Procedure n)) (with_heading k headed)) (sym k)
     ∙ ap (λ name. round (declare m name (entity.Procedure n)) (with_heading kind headed)) (sym i)))
+
+-- a procedure that begins is answered by what its parts are answered
+pub begin_answered : {B : Type 0} (m : Bool) (h : text.Heading) (name : Name) (env after : Environment) (headed : Headed) (kind : BlockKind) (n : ℕ)
+    (r : Result B StaticFault) → gives (length env.blocks) ≡ gives n → name ≡ own_name h → heading_parts n h env ≡ gives headed →
+    kind ≡ kind_of (heading_result headed.asks) →
+    JudgedAnswers (λ _. after) r (round (declare m name (entity.Procedure n)) (with_heading kind headed)) → JudgedAnswers (λ _. after) r (begin_procedure m h env)
+begin_answered m h name env after headed kind n r e i stated k answered =
+    let number : n ≡ length env.blocks = sym (given (length env.blocks) n e) in
+    subst (JudgedAnswers (λ _. after) r) (sym (begin_stated m h name env headed kind n number i stated k)) answered
 
 -- ---- split procedures
 
@@ -75,16 +84,23 @@ found_block None env = refl
 found_block (Some b) env = refl
 
 -- a `post` of a procedure that is begun has the block of its `pre`
-pub post_fits : (env : Environment) (hs : List Heading) (found : Option ℕ) (name : List ℕ) (n k : ℕ) → BegunFit env.headings env.begun → hs ≡ env.headings →
+block_fits : (env : Environment) (hs : List Heading) (found : Option ℕ) (name : List ℕ) (n k : ℕ) → BegunFit env.headings env.begun → hs ≡ env.headings →
     found ≡ block_named env.begun name → n ≡ unwrap_or found k → IfSome found (λ b. n < length hs)
-post_fits env hs None name n k h e f i = tt
-post_fits env hs (Some b) name n k h e f i =
+block_fits env hs None name n k h e f i = tt
+block_fits env hs (Some b) name n k h e f i =
     subst (λ hs. n < length hs) (sym e) (subst (λ n. n < length env.headings) (sym i) (begun_fits env.headings env.begun name b h (sym f)))
 
+pub post_fits : (h : text.Heading) (name : List ℕ) (env : Environment) (headed : Headed) (found : Option ℕ) (n : ℕ) → BegunFit env.headings env.begun →
+    found ≡ block_named env.begun name → gives (unwrap_or found (length env.blocks)) ≡ gives n → heading_parts n h env ≡ gives headed →
+    IfSome found (λ b. n < length headed.env.headings)
+post_fits h name env headed found n begun f e stated =
+    block_fits env headed.env.headings found name n (length env.blocks) begun (headings_kept n h env headed stated) f
+    (sym (given (unwrap_or found (length env.blocks)) n e))
+
 pub post_number : (h : text.Heading) (name : Name) (env : Environment) (found : Option ℕ) (n : ℕ) → name ≡ own_name h →
-    found ≡ block_named env.begun name.text → n ≡ unwrap_or found (length env.blocks) → n ≡ post_block h env
+    found ≡ block_named env.begun name.text → gives (unwrap_or found (length env.blocks)) ≡ gives n → n ≡ post_block h env
 post_number h name env found n i f e =
-    e ∙ (ap (λ found. unwrap_or found (length env.blocks)) (f ∙ ap (λ name. block_named env.begun name.text) i)
+    sym (given (unwrap_or found (length env.blocks)) n e) ∙ (ap (λ found. unwrap_or found (length env.blocks)) (f ∙ ap (λ name. block_named env.begun name.text) i)
     ∙ found_block (begun_named env.begun (own_name h).text) env)
 
 completes_same : (found : Option Begun) (name : Name) (headed : Headed) → completes found name headed ≡ completes_block (option_map (λ b. b.block) found) name
@@ -92,8 +108,8 @@ completes_same : (found : Option Begun) (name : Name) (headed : Headed) → comp
 completes_same None name headed = refl
 completes_same (Some b) name headed = refl
 
-pub post_stated : (m : Bool) (h : text.Heading) (name : Name) (env : Environment) (headed : Headed) (found : Option ℕ) (n : ℕ) → name ≡ own_name h →
-    found ≡ block_named env.begun name.text → n ≡ unwrap_or found (length env.blocks) → heading_parts n h env ≡ gives headed →
+post_stated : (m : Bool) (h : text.Heading) (name : Name) (env : Environment) (headed : Headed) (found : Option ℕ) (n : ℕ) → name ≡ own_name h →
+    found ≡ block_named env.begun name.text → gives (unwrap_or found (length env.blocks)) ≡ gives n → heading_parts n h env ≡ gives headed →
     begin_post m h env ≡ (completes_block found name headed.env headed.asks >>= λ _. post_export m name n headed.env)
 post_stated m h name env headed found n i f e stated =
     let b : block_of env (begun_named env.begun (own_name h).text) ≡ n = sym (post_number h name env found n i f e) in
@@ -103,6 +119,14 @@ post_stated m h name env headed found n i f e stated =
     ∙ (ap (λ j. j >>= λ _. post_export m (own_name h) n headed.env) (completes_same (begun_named env.begun (own_name h).text) (own_name h) headed
     ∙ ap (λ found. completes_block found (own_name h) headed.env headed.asks) (sym (f ∙ ap (λ name. block_named env.begun name.text) i)))
     ∙ ap (λ name. completes_block found name headed.env headed.asks >>= λ _. post_export m name n headed.env) (sym i)))
+
+pub post_answered : {B : Type 0} (m : Bool) (h : text.Heading) (name : Name) (env after : Environment) (headed : Headed) (found : Option ℕ) (n : ℕ)
+    (r : Result B StaticFault) → name ≡ own_name h → found ≡ block_named env.begun name.text → gives (unwrap_or found (length env.blocks)) ≡ gives n →
+    heading_parts n h env ≡ gives headed →
+    JudgedAnswers (λ _. after) r (completes_block found name headed.env headed.asks >>= λ _. post_export m name n headed.env) →
+    JudgedAnswers (λ _. after) r (begin_post m h env)
+post_answered m h name env after headed found n r i f e stated answered =
+    subst (JudgedAnswers (λ _. after) r) (sym (post_stated m h name env headed found n i f e stated)) answered
 
 -- ---- a `pre` alone
 

@@ -8,6 +8,7 @@ pub mod Opening
 pub mod Begun
 pub mod Completing
 pub mod Answered
+pub mod Declaring
 pub mod Bounded
 pub mod RangesParts
 pub mod Ranges

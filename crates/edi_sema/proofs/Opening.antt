@@ -1,7 +1,9 @@
 -- The begin and the end of procedures and modules.
-use Rattle.std.proofs.Common.{◌≡◌, ℕ, ◌<◌, ◌≤◌, Bool, true, false, List, [], ◌∷◌, ◌++◌, length, drop, take, slice_index_or, is_some, refl, ap, sym, ◌∙◌}
+use Rattle.std.proofs.Common.{◌≡◌, ℕ, ◌<◌, ◌≤◌, Bool, true, false, List, [], ◌∷◌, ◌++◌, length, drop, take, slice_index_or, is_some, not, refl, ap, sym, ◌∙◌}
 use Rattle.std.proofs.Common.{subst, arith}
+use Rattle.std.specs.Str.{bytes_eq}
 use Rattle.std.proofs.lemmas.List.{length-append}
+use Rattle.std.proofs.lemmas.List.Elements.{All-filter}
 use Rattle.edi_scope.specs.declared.entity.Entity.{Entity}
 use Rattle.edi_scope.specs.declared.entity.Entity.TheVariants as entity
 use Rattle.edi_scope.specs.Scope.{Scope, declared, outside}
@@ -132,7 +134,7 @@ rest_stated block h ds s end env b c begun e hb hc stated closed =
     ∙ (ap (λ around. gives (record (leave c) { around = around; begun = env.begun })) (sym (ap (drop 1) (body_around block env b c hb hc)))
     ∙ ap (λ begun. gives (record (leave c) { around = drop 1 c.around; begun = begun })) (sym e)))
 
-pub procedure_comes : (env inside after : Environment) → EnvironmentStands env → HeadingBegins env inside → Leaves inside after → Comes env after
+procedure_comes : (env inside after : Environment) → EnvironmentStands env → HeadingBegins env inside → Leaves inside after → Comes env after
 procedure_comes env inside after s h k =
     let ks : kinds after.scopes ≡ kinds env.scopes = k.kinds_outside ∙ (outside_kinds inside.scopes ∙ ap (drop 1) h.kinds_inside) in
     record {
@@ -163,7 +165,7 @@ procedure_item_stated m p n env inside stated e h =
     ∙ left_to env inside h inside.begun h.begun_same (procedure_rest n p inside))
 
 -- a split procedure is completed
-pub completed_comes : (env after : Environment) (name : List ℕ) → Comes env after → BegunFit after.headings (without_begun name after.begun) →
+completed_comes : (env after : Environment) (name : List ℕ) → Comes env after → BegunFit after.headings (without_begun name after.begun) →
     Comes env (with_begun (without_begun name after.begun) after)
 completed_comes env after name h k = record {
   same_setting = h.same_setting;
@@ -174,6 +176,13 @@ completed_comes env after name h k = record {
     begun_fit = k;
   };
 }
+
+pub post_comes : (env inside after closed : Environment) (name : List ℕ) → EnvironmentStands env → HeadingBegins env inside → Leaves inside after →
+    closed ≡ with_begun (without_begun name after.begun) after → Comes env closed
+post_comes env inside after closed name s h k is =
+    let c : Comes env after = procedure_comes env inside after s h k in
+    subst (Comes env) (sym is) (completed_comes env after name c
+    (All-filter (λ b. not (bytes_eq b.name.text name)) (λ b. b.block < length after.headings) after.begun c.stands.begun_fit))
 
 posted : (env inside : Environment) → HeadingBegins env inside → (name : List ℕ) (begun : List Begun) → begun ≡ env.begun → (m : Judged Environment) →
     (m >>= λ after. gives (leave_to env (without_begun name env.begun) after))

@@ -1,6 +1,6 @@
 //! The rules on a program's heading: its parameters are calls of the system.
 
-ghost use Rattle.std.specs.Prelude.{◌≡◌, ◌&&◌, ◌==◌, length, map, Option, Some, None};
+ghost use Rattle.std.specs.Prelude.{◌≡◌, ◌&&◌, ◌==◌, ◌∷◌, [], length, map, Option, Some, None};
 ghost use Rattle.edi_tree.specs.View.{param_of, heading_of, more_params};
 ghost use Rattle.edi_unit.specs.Lists.{list_items};
 ghost use Rattle.edi_unit.specs.Types.{shape_at};
@@ -14,20 +14,12 @@ ghost use Rattle.edi_static.specs.Views as view;
 ghost use Rattle.edi_static.specs.Views.{asked_of, formal_of, same_one};
 ghost use Rattle.edi_sema.specs.Calls.{takes_title, number_if, file_calls, asked_by, param_call};
 
-use edi_static::{Asked, Formal, Known, StaticFault, StaticKind, add, fault, no_asked};
+use edi_static::{
+    Asked, Formal, Known, StaticFault, StaticKind, add, fault, no_asked, plain_formal, same_formal,
+};
 use edi_tree::{Heading, Name, Param};
 use edi_unit::{BOOL, CHAR, CallList, INT, List, Shape};
 use std::alloc::Global;
-
-/// Whether a parameter is a value of this type.
-fn is_value(formal: &Formal, of: u32) -> bool
-    ensures exact { result ≡ same_one (formal_of formal.now) (view.value of) }
-{
-    match formal {
-        Formal::Value(t) => *t == of,
-        _ => false,
-    }
-}
 
 /// Whether a parameter is a variable of this type.
 fn is_variable(formal: &Formal, of: u32) -> bool
@@ -63,9 +55,9 @@ fn is_bare(asked: &Asked) -> bool
     formals_of(asked).is_empty()
 }
 
-/// A value of a type.
-fn takes(asked: &Asked, of: u32) -> bool
-    ensures exact { result ≡ same_heading (asked_of asked.now) (heading (value_then of no_formal) None) }
+/// This parameter alone, and no result.
+fn asks_only(asked: &Asked, formal: &Formal) -> bool
+    ensures exact { result ≡ same_heading (asked_of asked.now) (heading (view.formals (formal_of formal.now ∷ [])) None) }
 {
     let formals = formals_of(asked);
     if formals.len() != 1 {
@@ -74,21 +66,21 @@ fn takes(asked: &Asked, of: u32) -> bool
     if !is_procedure(asked) {
         return false;
     }
-    is_value(&formals[0], of)
+    same_formal(&formals[0], formal)
+}
+
+/// A value of a type.
+fn takes(asked: &Asked, of: u32) -> bool
+    ensures exact { result ≡ same_heading (asked_of asked.now) (heading (value_then of no_formal) None) }
+{
+    asks_only(asked, &plain_formal(false, of))
 }
 
 /// A variable of a type.
 fn gives(asked: &Asked, of: u32) -> bool
     ensures exact { result ≡ same_heading (asked_of asked.now) (heading (variable_then of no_formal) None) }
 {
-    let formals = formals_of(asked);
-    if formals.len() != 1 {
-        return false;
-    }
-    if !is_procedure(asked) {
-        return false;
-    }
-    is_variable(&formals[0], of)
+    asks_only(asked, &plain_formal(true, of))
 }
 
 /// A title is passed as an array of 12 characters.

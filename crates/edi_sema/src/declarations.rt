@@ -9,10 +9,9 @@ ghost use Rattle.edi_static.specs.Views.{environment};
 ghost use Rattle.edi_sema.specs.Frames.{Comes, Leaves, EnvironmentStands};
 ghost use Rattle.edi_sema.specs.Bodies.{whole_procedure};
 
-use crate::blocks::leave_around;
 use crate::openings::{
-    close_scope, constants, declared_type, finish_block, finish_module, open_block, open_module,
-    variables,
+    close_scope, constants, declared_type, finish_block, finish_module, leave_block, open_block,
+    open_module, variables,
 };
 use crate::procedures::{begin_post, begin_procedure, completed, pre_decl};
 use edi_static::{Known, StaticFault};
@@ -37,8 +36,7 @@ pub(crate) fn procedure_rest(
         declare(known, alloc, declaration)?;
     }
     finish_block(known, alloc, block, &procedure.list, procedure.end)?;
-    leave_around(known);
-    close_scope(known, begun);
+    leave_block(known, begun);
     Ok(())
 }
 

@@ -14,8 +14,8 @@ mod statements;
 pub use blocks::{enter_around, leave_around};
 pub use edi_static::{StaticFault, StaticKind};
 pub use openings::{
-    close_scope, constants, declared_type, finish_block, finish_module, open_block, open_module,
-    variables,
+    close_scope, constants, declared_type, finish_block, finish_module, leave_block, open_block,
+    open_module, variables,
 };
 pub use procedures::{begin_post, begin_procedure, completed, pre_decl};
 pub use programs::{before_program, begin_program, declare_globals, resolve};

@@ -12,10 +12,11 @@ ghost use Rattle.edi_static.specs.Answers.{JudgedAnswers};
 ghost use Rattle.edi_static.specs.Proper.{Proper};
 ghost use Rattle.edi_static.specs.Views.{begun_of, environment};
 ghost use Rattle.edi_sema.specs.Frames.{Comes, EnvironmentStands};
+ghost use Rattle.edi_sema.specs.Blocks.{outside_block};
 ghost use Rattle.edi_sema.specs.Splits.{with_begun};
 ghost use Rattle.edi_sema.specs.Bodies.{finished, finished_module, inside_module};
 
-use crate::blocks::{add_statements, close_block, enter_around};
+use crate::blocks::{add_statements, close_block, enter_around, leave_around};
 use crate::procedures::all_completed;
 use crate::statements::statement_list;
 use edi_static::{Begun, Known, StaticFault, const_list, type_decl, var_list};
@@ -106,6 +107,17 @@ pub fn close_scope(known: &mut Known, begun: Vec<Begun>)
 {
     known.begun = begun;
     known.leave();
+}
+
+/// Leaves the innermost block, whose scope is closed with it. These procedures are begun round it.
+pub fn leave_block(known: &mut Known, begun: Vec<Begun>)
+    requires depth { 1 < length known.old.scopes }
+    requires proper { Proper (environment known.old) }
+    ensures exact { environment known.new ≡ headings.leave (with_begun (map begun_of begun.items) (outside_block (environment known.old))) }
+    ensures proper { Proper (environment known.new) }
+{
+    leave_around(known);
+    close_scope(known, begun);
 }
 
 /// The statements of a procedure, and the symbol that closes it.

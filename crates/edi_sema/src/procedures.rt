@@ -61,6 +61,13 @@ pub(crate) fn begin_block_of(
     Ok(block)
 }
 
+/// The number of the next block.
+fn next_block(known: &Known) -> Result<u32, StaticFault>
+    ensures exact { JudgedAnswers (λ n. n) result (gives (length (environment known.now).blocks)) }
+{
+    number(known.blocks.len())
+}
+
 /// A procedure that begins: its block is there and its name is declared.
 pub fn begin_procedure(
     known: &mut Known,
@@ -74,13 +81,13 @@ pub fn begin_procedure(
     ensures number { IfOk result (λ block. block ≡ length (environment known.old).blocks) }
     ensures begins { OnOk result (HeadingBegins (environment known.old) (environment known.new)) }
 {
-    let block = number(known.blocks.len())?;
+    let block = next_block(known)?;
     let asked = heading_parts(known, alloc, block, heading)?;
     let kind = kind_of(&asked);
     begin_block_of(known, alloc, export, kind, &heading.name, block, asked)
 }
 
-/// The block of the procedure of this name that is begun, if there is one.
+/// The block of the procedure of this name among these, if there is one.
 fn begun_named(begun: &[Begun], name: &[u8]) -> Option<u32>
     ensures exact { result ≡ block_named (map begun_of begun.now) name.now }
 {
@@ -90,6 +97,13 @@ fn begun_named(begun: &[Begun], name: &[u8]) -> Option<u32>
         }
     }
     None
+}
+
+/// The block of the procedure of this name that is begun, if there is one.
+fn begun_block(known: &Known, name: &Name) -> Option<u32>
+    ensures exact { result ≡ block_named (environment known.now).begun name.now.text }
+{
+    begun_named(known.begun.as_slice(), name.text.as_slice())
 }
 
 /// Whether the heading of a block has this shape; an unknown block asks nothing.
@@ -162,7 +176,7 @@ fn block_of(known: &Known, found: Option<u32>) -> Result<u32, StaticFault>
 {
     match found {
         Some(block) => Ok(block),
-        None => number(known.blocks.len()),
+        None => next_block(known),
     }
 }
 
@@ -179,7 +193,7 @@ pub fn begin_post(
     ensures number { IfOk result (λ block. block ≡ post_block (heading_of heading.now) (environment known.old)) }
     ensures begins { OnOk result (HeadingBegins (environment known.old) (environment known.new)) }
 {
-    let found = begun_named(known.begun.as_slice(), heading.name.text.as_slice());
+    let found = begun_block(known, &heading.name);
     let block = block_of(known, found)?;
     let asked = heading_parts(known, alloc, block, heading)?;
     complete(known, alloc, export, &heading.name, found, block, &asked)

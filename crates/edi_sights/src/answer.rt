@@ -26,7 +26,7 @@ pub struct Sight {
 }
 
 /// The `when`s of a line, in the order of the text. Contracts see them as a list.
-#[derive(Debug, Drop)]
+#[derive(Drop)]
 pub struct Sights {
     sights: Vec<Sight>,
 }

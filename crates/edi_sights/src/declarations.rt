@@ -17,7 +17,7 @@ use crate::awaits::{Await, Met, small};
 use crate::statements::list_met;
 use edi_sema::{
     StaticFault, begin_post, begin_procedure, close_scope, completed, constants, declared_type,
-    finish_block, finish_module, leave_around, open_block, open_module, pre_decl, variables,
+    finish_block, finish_module, leave_block, open_block, open_module, pre_decl, variables,
 };
 use edi_static::Known;
 use edi_tree::{Declaration, Item, List, Member, Module, Procedure};
@@ -123,8 +123,7 @@ pub(crate) fn procedure_met(
         name,
         awaits,
     )?;
-    leave_around(known);
-    close_scope(known, begun);
+    leave_block(known, begun);
     Ok(())
 }
 

@@ -1,32 +1,11 @@
-use Rattle.std.proofs.Common.{sym, ◌∙◌}
+use Rattle.std.proofs.Common.{◌∙◌, ap}
 use Rattle.std.specs.Prelude.{None}
-use Rattle.edi_unit.specs.Fits.{heading, no_formal, value_then}
-use Rattle.edi_static.specs.Views.{value, asked_of, formal_of, same_one}
-use Rattle.edi_sema.proofs.Shapes.{one_stated, not_one, with_result, with_no_result}
+use Rattle.edi_unit.specs.Fits.{heading}
+use Rattle.edi_static.specs.Environment.{same_heading}
+use Rattle.edi_static.specs.Views.{asked_of}
 use Rattle.edi_sema.proofs.calls.takes.Goals as goal
 
-pub returns-then-formals-ne1 : goal.returns-then-formals-ne1
-returns-then-formals-ne1 c =
-    record {
-      exact = sym (not_one (asked_of c.args.asked.now) c.formals_of-formals.result.now (value c.args.of) c.formals_of-formals.ensures.exact
-          c.if-formals-ne1.true);
-    }
-
-pub returns-then-not-is_procedure : goal.returns-then-not-is_procedure
-returns-then-not-is_procedure c =
-    record {
-      exact = sym (with_result (asked_of c.args.asked.now) (heading (value_then c.args.of no_formal) None)
-          (sym c.is_procedure.ensures.exact ∙ c.if-not-is_procedure.true));
-    }
-
 pub returns : goal.returns
-returns c =
-    let h = asked_of c.args.asked.now in
-    let x = c.index-formals-0.result in
-    record {
-      exact =
-          c.is_value.ensures.exact
-          ∙ sym (with_no_result (same_one (formal_of x) (value c.args.of)) h (sym c.is_procedure.ensures.exact ∙ c.if-not-is_procedure.false))
-          ∙ sym (one_stated h c.formals_of-formals.result.now x (value c.args.of) c.formals_of-formals.ensures.exact c.if-formals-ne1.false
-          c.index-formals-0.is);
-    }
+returns c = record {
+  exact = c.asks_only.ensures.exact ∙ ap (λ fs. same_heading (asked_of c.args.asked.now) (heading fs None)) c.plain_formal.ensures.exact;
+}
