@@ -40,7 +40,7 @@ pub record IsScope (s : Scope) : Type 0 where
   pub entries : AreEntries (types_in s) (blocks_in s) s.entries.now
 
 -- a construct can be written in a scope, where it stands at an address and has so many words
-pub record Ready (s : Scope) (at long : ℕ) (Writable : Type 0) : Type 0 where
+pub record MayBeWritten (s : Scope) (at long : ℕ) (Writable : Type 0) : Type 0 where
   pub scope : IsScope s
   pub writable : Writable
   pub room : at + long < 2 ^ 32

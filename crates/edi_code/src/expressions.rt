@@ -9,7 +9,7 @@ ghost use Rattle.edi_scheme.specs.Pieces.{code_length};
 ghost use Rattle.edi_code.specs.Emits.{Emits, IsWhole, code_of_option};
 ghost use Rattle.edi_code.specs.InScope as in_scope;
 ghost use Rattle.edi_code.specs.InScope.{ExpressionIsWritable, ExpressionsAreWritable, LinkIsWritable, LinksAreWritable};
-ghost use Rattle.edi_code.specs.Scope.{Ready};
+ghost use Rattle.edi_code.specs.Scope.{MayBeWritten};
 
 pub(crate) mod places;
 
@@ -25,7 +25,7 @@ use edi_unit::{Link, Links, Operator, Value, Values, expression_type, operator_t
 // The code of an expression, which stands at `at`. This and each function below gives the address behind what it appends.
 #[cycle(emitted)]
 pub(crate) fn emit_value(value: &Value, scope: &Scope<'_>, at: u32, out: &mut Vec<u16>) -> Behind
-    requires ready { Ready scope.now at (in_scope.expression_length scope.now (expression_of value.now))
+    requires may { MayBeWritten scope.now at (in_scope.expression_length scope.now (expression_of value.now))
         (ExpressionIsWritable scope.now (expression_of value.now)) }
     ensures emits { OnOk result (Emits out.old.items out.new.items (in_scope.expression_code scope.now at (expression_of value.now))) }
     ensures behind { IfOk result (λ behind. behind ≡ at + in_scope.expression_length scope.now (expression_of value.now)) }
@@ -68,7 +68,7 @@ pub(crate) fn emit_operand(
     long: u32,
     out: &mut Vec<u16>,
 ) -> Behind
-    requires ready { Ready scope.now at (in_scope.expression_length scope.now (expression_of value.now) + long)
+    requires may { MayBeWritten scope.now at (in_scope.expression_length scope.now (expression_of value.now) + long)
         (ExpressionIsWritable scope.now (expression_of value.now)) }
     requires allowed { IfSome op IsWhole }
     requires long { long ≡ code_length (code_of_option op) }
@@ -91,7 +91,7 @@ fn emit_make(
     line: u16,
     out: &mut Vec<u16>,
 ) -> Behind
-    requires ready { Ready scope.now at (in_scope.expression_length scope.now (make of (expressions_of parts.now) line))
+    requires may { MayBeWritten scope.now at (in_scope.expression_length scope.now (make of (expressions_of parts.now) line))
         (ExpressionIsWritable scope.now (make of (expressions_of parts.now) line)) }
     ensures emits { OnOk result (Emits out.old.items out.new.items (in_scope.expression_code scope.now at (make of (expressions_of parts.now) line))) }
     ensures behind { IfOk result (λ behind. behind ≡ at + in_scope.expression_length scope.now (make of (expressions_of parts.now) line)) }
@@ -110,7 +110,7 @@ fn emit_make(
 // The code of one expression after another.
 #[cycle(emitted)]
 fn emit_values(values: &Values, scope: &Scope<'_>, at: u32, out: &mut Vec<u16>) -> Behind
-    requires ready { Ready scope.now at (in_scope.expressions_length scope.now (expressions_of values.now))
+    requires may { MayBeWritten scope.now at (in_scope.expressions_length scope.now (expressions_of values.now))
         (ExpressionsAreWritable scope.now (expressions_of values.now)) }
     ensures emits { OnOk result (Emits out.old.items out.new.items (in_scope.expressions_code scope.now at (expressions_of values.now))) }
     ensures behind { IfOk result (λ behind. behind ≡ at + in_scope.expressions_length scope.now (expressions_of values.now)) }
@@ -131,7 +131,7 @@ fn emit_members(
     line: u16,
     out: &mut Vec<u16>,
 ) -> Behind
-    requires ready { Ready scope.now at (in_scope.members_length scope.now (expressions_of members.now))
+    requires may { MayBeWritten scope.now at (in_scope.members_length scope.now (expressions_of members.now))
         (ExpressionsAreWritable scope.now (expressions_of members.now)) }
     ensures emits { OnOk result (Emits out.old.items out.new.items (in_scope.members_code scope.now at line (expressions_of members.now))) }
     ensures behind { IfOk result (λ behind. behind ≡ at + in_scope.members_length scope.now (expressions_of members.now)) }
@@ -150,7 +150,8 @@ fn emit_members(
 // The code of operators with their right operands, behind a left operand of type `left`.
 #[cycle(emitted)]
 fn emit_links(links: &Links, scope: &Scope<'_>, at: u32, left: u32, out: &mut Vec<u16>) -> Behind
-    requires ready { Ready scope.now at (in_scope.links_length scope.now left (links_of links.now)) (LinksAreWritable scope.now left (links_of links.now)) }
+    requires may { MayBeWritten scope.now at (in_scope.links_length scope.now left (links_of links.now))
+        (LinksAreWritable scope.now left (links_of links.now)) }
     ensures emits { OnOk result (Emits out.old.items out.new.items (in_scope.links_code scope.now at left (links_of links.now))) }
     ensures behind { IfOk result (λ behind. behind ≡ at + in_scope.links_length scope.now left (links_of links.now)) }
 {
@@ -166,7 +167,7 @@ fn emit_links(links: &Links, scope: &Scope<'_>, at: u32, left: u32, out: &mut Ve
 // The code of an operator with its right operand, behind a left operand of type `left`.
 #[cycle(emitted)]
 fn emit_link(link: &Link, scope: &Scope<'_>, at: u32, left: u32, out: &mut Vec<u16>) -> Behind
-    requires ready { Ready scope.now at (in_scope.link_length scope.now left (link_of link.now)) (LinkIsWritable scope.now left (link_of link.now)) }
+    requires may { MayBeWritten scope.now at (in_scope.link_length scope.now left (link_of link.now)) (LinkIsWritable scope.now left (link_of link.now)) }
     ensures emits { IfOk result (λ behind. Emits out.old.items out.new.items (in_scope.link_code scope.now at left (link_of link.now))) }
     ensures behind { IfOk result (λ behind. behind ≡ at + in_scope.link_length scope.now left (link_of link.now)) }
 {
@@ -183,7 +184,7 @@ fn emit_right(
     line: u16,
     out: &mut Vec<u16>,
 ) -> Behind
-    requires ready { Ready scope.now at (in_scope.link_length scope.now left (plain_link operator (expression_of right.now) line))
+    requires may { MayBeWritten scope.now at (in_scope.link_length scope.now left (plain_link operator (expression_of right.now) line))
         (LinkIsWritable scope.now left (plain_link operator (expression_of right.now) line)) }
     ensures emits { IfOk result (λ behind. Emits out.old.items out.new.items
         (in_scope.link_code scope.now at left (plain_link operator (expression_of right.now) line))) }

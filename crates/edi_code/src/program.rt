@@ -11,7 +11,7 @@ ghost use Rattle.edi_scheme.specs.Pieces as pieces;
 ghost use Rattle.edi_scheme.specs.Code.{block_code, blocks_code, code_of, entry};
 ghost use Rattle.edi_code.specs.Emits.{Emits, IsWhole, code_of_op};
 ghost use Rattle.edi_code.specs.InScope.{ActsAreWritable, acts_code, acts_length};
-ghost use Rattle.edi_code.specs.Scope.{IsScope, Ready, blocks_in, entry_in, types_in};
+ghost use Rattle.edi_code.specs.Scope.{IsScope, MayBeWritten, blocks_in, entry_in, types_in};
 ghost use Rattle.edi_code.specs.Writable.{AreEntries, AreWritable, IsRoomy, IsWritable};
 
 use crate::instructions::put;
@@ -79,7 +79,7 @@ fn is_branch(kind: BlockKind) -> bool
 
 // The code of a branch, which stands at `at`.
 fn emit_branch(body: &Acts, scope: &Scope<'_>, at: u32, out: &mut Vec<u16>) -> Appended
-    requires ready { Ready scope.now at (acts_length scope.now (acts_of body.now)) (ActsAreWritable scope.now (acts_of body.now)) }
+    requires may { MayBeWritten scope.now at (acts_length scope.now (acts_of body.now)) (ActsAreWritable scope.now (acts_of body.now)) }
     ensures emits { OnOk result (Emits out.old.items out.new.items (acts_code scope.now at (acts_of body.now) ++ exit ∷ [])) }
 {
     emit_acts(body, scope, at, out)?;
@@ -88,7 +88,7 @@ fn emit_branch(body: &Acts, scope: &Scope<'_>, at: u32, out: &mut Vec<u16>) -> A
 
 // The code of a procedure, a function or the program, which stands at `at`.
 fn emit_procedure(block: &Block, scope: &Scope<'_>, at: u32, out: &mut Vec<u16>) -> Appended
-    requires ready { Ready scope.now (at + 6) (acts_length scope.now (block_of block.now).body) (ActsAreWritable scope.now (block_of block.now).body) }
+    requires may { MayBeWritten scope.now (at + 6) (acts_length scope.now (block_of block.now).body) (ActsAreWritable scope.now (block_of block.now).body) }
     requires frame { IsRoomy (types_in scope.now) (block_of block.now) }
     ensures emits { OnOk result (Emits out.old.items out.new.items
         (pieces.entry_of (types_in scope.now) (block_of block.now)

@@ -11,7 +11,7 @@ ghost use Rattle.edi_code.specs.Aimed.{Opens, target_of};
 ghost use Rattle.edi_code.specs.Emits.{Emits};
 ghost use Rattle.edi_code.specs.InScope as in_scope;
 ghost use Rattle.edi_code.specs.InScope.{ActIsWritable, ActsAreWritable, ClauseIsWritable, ClausesAreWritable};
-ghost use Rattle.edi_code.specs.Scope.{IsScope, Ready, blocks_in, clause_kind_of, is_end};
+ghost use Rattle.edi_code.specs.Scope.{IsScope, MayBeWritten, blocks_in, clause_kind_of, is_end};
 
 use crate::expressions::emit_value;
 use crate::expressions::places::{emit_call, emit_place};
@@ -27,7 +27,7 @@ use std::alloc::{AllocError, Global};
 // The code of a statement, which stands at `at`.
 #[cycle(statements)]
 fn emit_act(act: &Act, scope: &Scope<'_>, at: u32, out: &mut Vec<u16>) -> Behind
-    requires ready { Ready scope.now at (in_scope.act_length scope.now (act_of act.now)) (ActIsWritable scope.now (act_of act.now)) }
+    requires may { MayBeWritten scope.now at (in_scope.act_length scope.now (act_of act.now)) (ActIsWritable scope.now (act_of act.now)) }
     ensures emits { OnOk result (Emits out.old.items out.new.items (in_scope.act_code scope.now at (act_of act.now))) }
     ensures behind { IfOk result (λ behind. behind ≡ at + in_scope.act_length scope.now (act_of act.now)) }
 {
@@ -56,7 +56,7 @@ fn emit_assign(
     at: u32,
     out: &mut Vec<u16>,
 ) -> Behind
-    requires ready { Ready scope.now at (in_scope.act_length scope.now (assign (place_of place.now) (expression_of value.now)))
+    requires may { MayBeWritten scope.now at (in_scope.act_length scope.now (assign (place_of place.now) (expression_of value.now)))
         (ActIsWritable scope.now (assign (place_of place.now) (expression_of value.now))) }
     ensures emits { OnOk result (Emits out.old.items out.new.items (in_scope.act_code scope.now at (assign (place_of place.now) (expression_of value.now)))) }
     ensures behind { IfOk result (λ behind. behind ≡ at + in_scope.act_length scope.now (assign (place_of place.now) (expression_of value.now))) }
@@ -72,7 +72,7 @@ fn emit_assign(
 // The code of a `when`.
 #[cycle(statements)]
 fn emit_when(clauses: &Clauses, scope: &Scope<'_>, at: u32, line: u16, out: &mut Vec<u16>) -> Behind
-    requires ready { Ready scope.now at (in_scope.act_length scope.now (when_act (clauses_of clauses.now) line))
+    requires may { MayBeWritten scope.now at (in_scope.act_length scope.now (when_act (clauses_of clauses.now) line))
         (ClausesAreWritable scope.now (clauses_of clauses.now)) }
     ensures emits { OnOk result (Emits out.old.items out.new.items (in_scope.act_code scope.now at (when_act (clauses_of clauses.now) line))) }
     ensures behind { IfOk result (λ behind. behind ≡ at + in_scope.act_length scope.now (when_act (clauses_of clauses.now) line)) }
@@ -119,7 +119,7 @@ fn emit_cobegin(branches: &Numbers, scope: &Scope<'_>, line: u16, out: &mut Vec<
 /// Appends the code of statements, the first of which stands at `at`. The only error is want of memory.
 #[cycle(statements)]
 pub fn emit_acts(acts: &Acts, scope: &Scope<'_>, at: u32, out: &mut Vec<u16>) -> Behind
-    requires ready { Ready scope.now at (in_scope.acts_length scope.now (acts_of acts.now)) (ActsAreWritable scope.now (acts_of acts.now)) }
+    requires may { MayBeWritten scope.now at (in_scope.acts_length scope.now (acts_of acts.now)) (ActsAreWritable scope.now (acts_of acts.now)) }
     ensures emits { OnOk result (Emits out.old.items out.new.items (in_scope.acts_code scope.now at (acts_of acts.now))) }
     ensures behind { IfOk result (λ behind. behind ≡ at + in_scope.acts_length scope.now (acts_of acts.now)) }
 {
@@ -133,7 +133,7 @@ pub fn emit_acts(acts: &Acts, scope: &Scope<'_>, at: u32, out: &mut Vec<u16>) ->
 // The code of a clause; where its condition is false the program goes on behind the words, `more` of them, that close its list.
 #[cycle(statements)]
 fn emit_clause(clause: &Clause, scope: &Scope<'_>, at: u32, more: u32, out: &mut Vec<u16>) -> Behind
-    requires ready { Ready scope.now at (in_scope.clause_length scope.now (clause_of clause.now)) (ClauseIsWritable scope.now (clause_of clause.now)) }
+    requires may { MayBeWritten scope.now at (in_scope.clause_length scope.now (clause_of clause.now)) (ClauseIsWritable scope.now (clause_of clause.now)) }
     ensures emits { OnOk result (at + in_scope.clause_length scope.now (clause_of clause.now) + more < 2 ^ 32 → Emits out.old.items out.new.items
         (in_scope.clause_code scope.now at (at + in_scope.clause_length scope.now (clause_of clause.now) + more) (clause_of clause.now))) }
     ensures behind { IfOk result (λ behind. behind ≡ at + in_scope.clause_length scope.now (clause_of clause.now)) }
@@ -151,7 +151,7 @@ fn emit_guarded(
     more: u32,
     out: &mut Vec<u16>,
 ) -> Behind
-    requires ready { Ready scope.now at (in_scope.clause_length scope.now (plain_clause (expression_of condition.now) (acts_of body.now)))
+    requires may { MayBeWritten scope.now at (in_scope.clause_length scope.now (plain_clause (expression_of condition.now) (acts_of body.now)))
         (ClauseIsWritable scope.now (plain_clause (expression_of condition.now) (acts_of body.now))) }
     ensures emits { OnOk result (at + in_scope.clause_length scope.now (plain_clause (expression_of condition.now) (acts_of body.now)) + more < 2 ^ 32
         → Emits out.old.items out.new.items (in_scope.clause_code scope.now at
@@ -205,7 +205,7 @@ fn emit_open_clauses(
     starts: &mut Vec<usize>,
     out: &mut Vec<u16>,
 ) -> Behind
-    requires ready { Ready scope.now at (in_scope.clauses_length scope.now (clause_kind_of closing) (clauses_of clauses.now))
+    requires may { MayBeWritten scope.now at (in_scope.clauses_length scope.now (clause_kind_of closing) (clauses_of clauses.now))
         (ClausesAreWritable scope.now (clauses_of clauses.now)) }
     ensures opens { OnOk result (Opens (clause_kind_of closing) at starts.old.items starts.new.items out.old.items out.new.items
         (λ target. in_scope.clauses_code scope.now (clause_kind_of closing) target at (clauses_of clauses.now))) }
@@ -232,7 +232,7 @@ fn emit_clauses(
     closing: Closing,
     out: &mut Vec<u16>,
 ) -> Behind
-    requires ready { Ready scope.now at (in_scope.clauses_length scope.now (clause_kind_of closing) (clauses_of clauses.now))
+    requires may { MayBeWritten scope.now at (in_scope.clauses_length scope.now (clause_kind_of closing) (clauses_of clauses.now))
         (ClausesAreWritable scope.now (clauses_of clauses.now)) }
     requires room { target_of (clause_kind_of closing) at (in_scope.clauses_length scope.now (clause_kind_of closing) (clauses_of clauses.now)) < 2 ^ 32 }
     ensures emits { OnOk result (Emits out.old.items out.new.items (in_scope.clauses_code scope.now (clause_kind_of closing)

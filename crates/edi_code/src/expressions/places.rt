@@ -9,7 +9,7 @@ ghost use Rattle.edi_code.specs.Emits.{Emits};
 ghost use Rattle.edi_code.specs.InScope as in_scope;
 ghost use Rattle.edi_code.specs.InScope.{ArgumentIsWritable, ArgumentsAreWritable, CalleeIsWritable, ExpressionIsWritable};
 ghost use Rattle.edi_code.specs.InScope.{PartIsWritable, PartsAreWritable, PlaceIsWritable};
-ghost use Rattle.edi_code.specs.Scope.{Ready};
+ghost use Rattle.edi_code.specs.Scope.{MayBeWritten};
 
 use crate::expressions::{emit_operand, emit_value};
 use crate::instructions::{call, element, emit_procedure, emit_variable, put, put_at};
@@ -25,7 +25,7 @@ use edi_unit::{
 // The code of the value of a variable.
 #[cycle(emitted)]
 pub(crate) fn emit_load(place: &Place, scope: &Scope<'_>, at: u32, out: &mut Vec<u16>) -> Behind
-    requires ready { Ready scope.now at (in_scope.expression_length scope.now (load (place_of place.now)))
+    requires may { MayBeWritten scope.now at (in_scope.expression_length scope.now (load (place_of place.now)))
         (ExpressionIsWritable scope.now (load (place_of place.now))) }
     ensures emits { OnOk result (Emits out.old.items out.new.items (in_scope.expression_code scope.now at (load (place_of place.now)))) }
     ensures behind { IfOk result (λ behind. behind ≡ at + in_scope.expression_length scope.now (load (place_of place.now))) }
@@ -40,7 +40,7 @@ pub(crate) fn emit_load(place: &Place, scope: &Scope<'_>, at: u32, out: &mut Vec
 // The code of a place, which leaves its address.
 #[cycle(emitted)]
 pub(crate) fn emit_place(place: &Place, scope: &Scope<'_>, at: u32, out: &mut Vec<u16>) -> Behind
-    requires ready { Ready scope.now at (in_scope.place_length scope.now (place_of place.now)) (PlaceIsWritable scope.now (place_of place.now)) }
+    requires may { MayBeWritten scope.now at (in_scope.place_length scope.now (place_of place.now)) (PlaceIsWritable scope.now (place_of place.now)) }
     ensures emits { OnOk result (Emits out.old.items out.new.items (in_scope.place_code scope.now at (place_of place.now))) }
     ensures behind { IfOk result (λ behind. behind ≡ at + in_scope.place_length scope.now (place_of place.now)) }
 {
@@ -53,7 +53,7 @@ pub(crate) fn emit_place(place: &Place, scope: &Scope<'_>, at: u32, out: &mut Ve
 // The code of the steps to a part of a variable of type `root`.
 #[cycle(emitted)]
 fn emit_parts(parts: &Parts, scope: &Scope<'_>, at: u32, root: u32, out: &mut Vec<u16>) -> Behind
-    requires ready { Ready scope.now at (in_scope.parts_length scope.now root (parts_of parts.now)) (PartsAreWritable scope.now (parts_of parts.now)) }
+    requires may { MayBeWritten scope.now at (in_scope.parts_length scope.now root (parts_of parts.now)) (PartsAreWritable scope.now (parts_of parts.now)) }
     ensures emits { OnOk result (Emits out.old.items out.new.items (in_scope.parts_code scope.now at root (parts_of parts.now))) }
     ensures behind { IfOk result (λ behind. behind ≡ at + in_scope.parts_length scope.now root (parts_of parts.now)) }
 {
@@ -69,7 +69,7 @@ fn emit_parts(parts: &Parts, scope: &Scope<'_>, at: u32, root: u32, out: &mut Ve
 // The code of one step, from a variable of type `of`.
 #[cycle(emitted)]
 fn emit_part(part: &Part, scope: &Scope<'_>, at: u32, of: u32, out: &mut Vec<u16>) -> Behind
-    requires ready { Ready scope.now at (in_scope.part_length scope.now of (part_of part.now)) (PartIsWritable scope.now (part_of part.now)) }
+    requires may { MayBeWritten scope.now at (in_scope.part_length scope.now of (part_of part.now)) (PartIsWritable scope.now (part_of part.now)) }
     ensures emits { OnOk result (Emits out.old.items out.new.items (in_scope.part_code scope.now at of (part_of part.now))) }
     ensures behind { IfOk result (λ behind. behind ≡ at + in_scope.part_length scope.now of (part_of part.now)) }
 {
@@ -98,7 +98,7 @@ pub(crate) fn emit_call(
     line: u16,
     out: &mut Vec<u16>,
 ) -> Behind
-    requires ready { Ready scope.now at (in_scope.arguments_length scope.now (arguments_of arguments.now) + scheme.call_length callee)
+    requires may { MayBeWritten scope.now at (in_scope.arguments_length scope.now (arguments_of arguments.now) + scheme.call_length callee)
         (ArgumentsAreWritable scope.now (arguments_of arguments.now)) }
     requires callee { CalleeIsWritable scope.now callee }
     ensures emits { OnOk result (Emits out.old.items out.new.items
@@ -113,7 +113,7 @@ pub(crate) fn emit_call(
 // The code of an argument.
 #[cycle(emitted)]
 fn emit_argument(argument: &Argument, scope: &Scope<'_>, at: u32, out: &mut Vec<u16>) -> Behind
-    requires ready { Ready scope.now at (in_scope.argument_length scope.now (argument_of argument.now))
+    requires may { MayBeWritten scope.now at (in_scope.argument_length scope.now (argument_of argument.now))
         (ArgumentIsWritable scope.now (argument_of argument.now)) }
     ensures emits { OnOk result (Emits out.old.items out.new.items (in_scope.argument_code scope.now at (argument_of argument.now))) }
     ensures behind { IfOk result (λ behind. behind ≡ at + in_scope.argument_length scope.now (argument_of argument.now)) }
@@ -131,7 +131,7 @@ fn emit_argument(argument: &Argument, scope: &Scope<'_>, at: u32, out: &mut Vec<
 // The code of the arguments of a call.
 #[cycle(emitted)]
 fn emit_arguments(arguments: &Arguments, scope: &Scope<'_>, at: u32, out: &mut Vec<u16>) -> Behind
-    requires ready { Ready scope.now at (in_scope.arguments_length scope.now (arguments_of arguments.now))
+    requires may { MayBeWritten scope.now at (in_scope.arguments_length scope.now (arguments_of arguments.now))
         (ArgumentsAreWritable scope.now (arguments_of arguments.now)) }
     ensures emits { OnOk result (Emits out.old.items out.new.items (in_scope.arguments_code scope.now at (arguments_of arguments.now))) }
     ensures behind { IfOk result (λ behind. behind ≡ at + in_scope.arguments_length scope.now (arguments_of arguments.now)) }

@@ -38,7 +38,7 @@ emit_open_clauses-overflow_add-here t c =
     let step = clause_at c.args.scope.now kind _ _ _ _ _ _ (λ l. c.args.at + words_in c.args.scope.now kind l)
     (drop_item _ _ _ c.loop-clause-test.true c.clause-item.is) c.loop-clause.invariant.behind c.loop-clause-test.true (c.close_length-more.ensures.exact 0)
     c.loop-clause.invariant.room in
-    omega (arith, step.room _ c.items-clause-items.ensures.exact c.requires.ready.room, c.in_ok-ends.ensures.behind)
+    omega (arith, step.room _ c.items-clause-items.ensures.exact c.requires.may.room, c.in_ok-ends.ensures.behind)
 
 pub emit_open_clauses-loop-clause-preserved : goal.emit_open_clauses-loop-clause-preserved
 emit_open_clauses-loop-clause-preserved t c =
@@ -57,7 +57,7 @@ emit_open_clauses-loop-clause-preserved t c =
     c.loop-clause.invariant.opens in
     let step = clause_at s kind items c.loop-clause.clause-index c.loop-clause.behind here more c.clause-item.result (λ l. c.args.at + words_in s kind l) cut
     c.loop-clause.invariant.behind c.loop-clause-test.true (c.close_length-more.ensures.exact 0) c.loop-clause.invariant.room in
-    let room = step.room (list_items c.args.clauses.now) c.items-clause-items.ensures.exact c.requires.ready.room in
+    let room = step.room (list_items c.args.clauses.now) c.items-clause-items.ensures.exact c.requires.may.room in
     let emits = subst (λ k. Emits c.loop-clause.out.items c.emit_clause.new.out.items (clause_code s here (k + more) x)) (sym c.in_ok-ends.ensures.behind)
     (c.in_ok-ends.ensures.emits (omega (arith, room))) in
     record {
@@ -71,9 +71,9 @@ emit_open_clauses-loop-clause-preserved t c =
 pub emit_guarded-emit_acts-requires : goal.emit_guarded-emit_acts-requires
 emit_guarded-emit_acts-requires t c =
     let s = c.args.scope.now in
-    let writable : ActsAreWritable s (acts_of c.args.body.now) = c.requires.ready.writable.1 in
+    let writable : ActsAreWritable s (acts_of c.args.body.now) = c.requires.may.writable.1 in
     let room : c.in_ok-list.list + 3 + acts_length s (acts_of c.args.body.now) < 2 ^ 32 = omega
-    (arith, c.requires.ready.room, c.in_ok-list.ensures.behind) in
+    (arith, c.requires.may.room, c.in_ok-list.ensures.behind) in
     search (rules, writable, room)
 
 pub emit_guarded-aim-requires : goal.emit_guarded-aim-requires
