@@ -3,26 +3,4 @@
 #![tactic(auto)]
 
 #[cfg(test)]
-mod calls;
-#[cfg(test)]
-mod judging;
-#[cfg(test)]
-mod limits;
-#[cfg(test)]
-mod names;
-#[cfg(test)]
-mod needs;
-#[cfg(test)]
-mod programs;
-#[cfg(test)]
-mod scopes;
-#[cfg(test)]
-mod sights;
-#[cfg(test)]
-mod sound;
-#[cfg(test)]
-mod tables;
-#[cfg(test)]
-mod types;
-#[cfg(test)]
-mod values;
+mod rows;

@@ -1,10 +1,9 @@
 //! Texts that break a rule on calls or constructors.
 
-use crate::judging::are_refused;
 use edi_sema::StaticKind;
 
 /// Texts, with the rule that each breaks first and the line.
-const CASES: [(&str, StaticKind, u16); 30] = [
+pub(crate) const CASES: [(&str, StaticKind, u16); 30] = [
     (
         "proc main proc f: int begin val f := 1 end begin\nf end",
         StaticKind::Call,
@@ -148,8 +147,3 @@ const CASES: [(&str, StaticKind, u16); 30] = [
         2,
     ),
 ];
-
-#[test]
-fn faults_of_calls(rt: HostRuntime) {
-    are_refused(&rt, rt.alloc(), &CASES);
-}

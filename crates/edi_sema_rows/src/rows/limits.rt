@@ -1,6 +1,6 @@
 //! Enumerations with as many constants as there can be, and with one more.
 
-use crate::judging::{is_sound, refused};
+use crate::rows::judging::{is_sound, refused};
 use edi_sema::StaticKind;
 use std::alloc::{AllocError, Global};
 use std::process::Abort;

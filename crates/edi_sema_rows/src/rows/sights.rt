@@ -1,6 +1,6 @@
 //! Texts, with the sights of a line and a name.
 
-use crate::judging::tree_of;
+use crate::rows::judging::tree_of;
 use edi_sema::resolve;
 use edi_sights::{Sight, Sighted, Sights, sights};
 use std::alloc::Global;

@@ -1,10 +1,9 @@
 //! Texts that break a rule on names.
 
-use crate::judging::are_refused;
 use edi_sema::StaticKind;
 
 /// Texts, with the rule that each breaks first and the line.
-const CASES: [(&str, StaticKind, u16); 33] = [
+pub(crate) const CASES: [(&str, StaticKind, u16); 33] = [
     (
         "proc main(proc display(value: char))\nmodule\nvar hidden: char\n* proc show begin display(hidden) end\nbegin hidden := 'm' end\nbegin show; display(hidden) end",
         StaticKind::Undeclared,
@@ -167,8 +166,3 @@ const CASES: [(&str, StaticKind, u16); 33] = [
         4,
     ),
 ];
-
-#[test]
-fn faults_of_names(rt: HostRuntime) {
-    are_refused(&rt, rt.alloc(), &CASES);
-}

@@ -1,6 +1,6 @@
 //! Texts that keep the rules.
 
-use crate::judging::is_sound;
+use crate::rows::judging::is_sound;
 use std::alloc::Global;
 use std::process::Abort;
 

@@ -1,10 +1,9 @@
 //! Texts that break a rule on parts, operators, needs or the heading of a program.
 
-use crate::judging::are_refused;
 use edi_sema::StaticKind;
 
 /// Texts, with the rule that each breaks first and the line.
-const CASES: [(&str, StaticKind, u16); 33] = [
+pub(crate) const CASES: [(&str, StaticKind, u16); 33] = [
     (
         "proc main var x: int begin x\n.f := 1 end",
         StaticKind::Types,
@@ -167,8 +166,3 @@ const CASES: [(&str, StaticKind, u16); 33] = [
         2,
     ),
 ];
-
-#[test]
-fn faults_of_programs(rt: HostRuntime) {
-    are_refused(&rt, rt.alloc(), &CASES);
-}

@@ -1,10 +1,9 @@
 //! Texts that break a rule on constants, types, headings or statements.
 
-use crate::judging::are_refused;
 use edi_sema::StaticKind;
 
 /// Texts, with the rule that each breaks first and the line.
-const CASES: [(&str, StaticKind, u16); 31] = [
+pub(crate) const CASES: [(&str, StaticKind, u16); 31] = [
     (
         "proc main\nconst c =\nint(1)\nbegin skip end",
         StaticKind::Kind,
@@ -161,8 +160,3 @@ const CASES: [(&str, StaticKind, u16); 31] = [
         2,
     ),
 ];
-
-#[test]
-fn faults_of_types(rt: HostRuntime) {
-    are_refused(&rt, rt.alloc(), &CASES);
-}
