@@ -1,5 +1,5 @@
 -- One more at the end of a list, and the loops that read one.
-use Rattle.std.proofs.Common.{◌≡◌, ℕ, List, [], ◌∷◌, ◌++◌, false, Some, refl, sym, ap, ◌∙◌}
+use Rattle.std.proofs.Common.{◌≡◌, ◌≤◌, ℕ, List, [], ◌∷◌, ◌++◌, length, false, Some, refl, sym, ap, ◌∙◌}
 use Rattle.edi_lex.specs.declared.symbol.Symbol.{Symbol}
 use Rattle.edi_lex.specs.declared.symbol.Mark.{Mark}
 use Rattle.edi_tree.specs.Spelled.{just}
@@ -56,3 +56,10 @@ repeated k j one all none next items more x e rule go passes = written (over_par
 pub repeated_halts : {n : ℕ} {f : List Element → List Element} {p q : List Mark} {e : Stop} (k j : Sort)
     → rule_at edison k (front q) ≡ Some (part j ∷ part k ∷ []) → Goes k n f (part k ∷ []) p q → HaltsAt j n q e → HaltsAt k n p e
 repeated_halts k j rule go none = halts (into (part j ∷ part k ∷ []) go rule) refl none
+
+-- What a loop keeps that reads the items of k: they are the elements that f puts in front, and stand between p and q.
+abbrev pub Repeats : Sort → ℕ → (List Element → List Element) → List Mark → List Mark → Type 0
+Repeats k n f p q = record {
+  goes : Goes k n f (part k ∷ []) p q;
+  shorter : length q ≤ length p;
+}

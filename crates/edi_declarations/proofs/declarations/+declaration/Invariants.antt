@@ -1,9 +1,8 @@
-use Rattle.std.proofs.Common.{◌≤◌, ◌+◌, ◌-◌, ◌*◌, length, map, [], ◌∷◌}
+use Rattle.std.proofs.Common.{◌+◌, ◌-◌, ◌*◌, length, map}
 use Rattle.edi_tree.specs.View as view
 use Rattle.edi_tree.specs.Levels as elements
-use Rattle.edi_grammar.specs.Grammar.{part}
 use Rattle.edi_grammar.specs.Rules as g
-use Rattle.edi_phrases.specs.Parses.{Goes}
+use Rattle.edi_phrases.proofs.Pushes.{Repeats}
 use Rattle.edi_declarations.proofs.declarations.+declaration.Given as goal
 
 abbrev pub decreases-parse_procedure : goal.decreases-parse_procedure
@@ -34,20 +33,13 @@ abbrev pub decreases-parse_declarations : goal.decreases-parse_declarations
 decreases-parse_declarations l = (64 - l.level) * 8 + 4
 
 abbrev pub invariant-parse_members-loop-alloc : goal.invariant-parse_members-loop-alloc
-invariant-parse_members-loop-alloc l = record {
-  goes : Goes g.Members l.fn.level (elements.members_elements (view.members (map view.member_of l.members.items))) (part g.Members ∷ []) l.marks l.rest;
-  shorter : length l.rest ≤ length l.marks;
-}
+invariant-parse_members-loop-alloc l = Repeats g.Members l.fn.level (elements.members_elements (view.members (map view.member_of l.members.items))) l.marks l.rest
 
 abbrev pub decreases-parse_members-loop-alloc : goal.decreases-parse_members-loop-alloc
 decreases-parse_members-loop-alloc l = length l.rest
 
 abbrev pub invariant-parse_declarations-loop-alloc : goal.invariant-parse_declarations-loop-alloc
-invariant-parse_declarations-loop-alloc l = record {
-  goes : Goes g.Declarations l.fn.level (elements.declarations_elements (view.declarations (map view.declaration_of l.declarations.items)))
-      (part g.Declarations ∷ []) l.marks l.rest;
-  shorter : length l.rest ≤ length l.marks;
-}
+invariant-parse_declarations-loop-alloc l = Repeats g.Declarations l.fn.level (elements.declarations_elements (view.declarations (map view.declaration_of l.declarations.items))) l.marks l.rest
 
 abbrev pub decreases-parse_declarations-loop-alloc : goal.decreases-parse_declarations-loop-alloc
 decreases-parse_declarations-loop-alloc l = length l.rest

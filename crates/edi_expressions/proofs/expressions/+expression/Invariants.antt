@@ -1,9 +1,8 @@
-use Rattle.std.proofs.Common.{◌≤◌, ◌+◌, ◌-◌, ◌*◌, length, map, [], ◌∷◌}
+use Rattle.std.proofs.Common.{◌+◌, ◌-◌, ◌*◌, length, map}
 use Rattle.edi_tree.specs.View as view
 use Rattle.edi_tree.specs.Levels as elements
-use Rattle.edi_grammar.specs.Grammar.{part}
 use Rattle.edi_grammar.specs.Rules as g
-use Rattle.edi_phrases.specs.Parses.{Goes}
+use Rattle.edi_phrases.proofs.Pushes.{Repeats}
 use Rattle.edi_expressions.proofs.expressions.+expression.Given as goal
 
 abbrev pub decreases-parse_index : goal.decreases-parse_index
@@ -55,39 +54,25 @@ abbrev pub decreases-parse_exprs : goal.decreases-parse_exprs
 decreases-parse_exprs l = (64 - l.level) * 16 + 11
 
 abbrev pub invariant-parse_exprs-loop-behind_comma : goal.invariant-parse_exprs-loop-behind_comma
-invariant-parse_exprs-loop-behind_comma l = record {
-  goes : Goes g.Exprs l.fn.level (elements.exprs_elements (view.exprs (map view.expr_of l.exprs.items))) (part g.Exprs ∷ []) l.marks l.rest;
-  shorter : length l.rest ≤ length l.marks;
-}
+invariant-parse_exprs-loop-behind_comma l = Repeats g.Exprs l.fn.level (elements.exprs_elements (view.exprs (map view.expr_of l.exprs.items))) l.marks l.rest
 
 abbrev pub decreases-parse_exprs-loop-behind_comma : goal.decreases-parse_exprs-loop-behind_comma
 decreases-parse_exprs-loop-behind_comma l = length l.rest
 
 abbrev pub invariant-parse_multipliers-loop-operator : goal.invariant-parse_multipliers-loop-operator
-invariant-parse_multipliers-loop-operator l = record {
-  goes : Goes g.Multipliers l.fn.level (elements.multipliers_elements (view.multipliers (map view.multiplier_of l.multipliers.items)))
-      (part g.Multipliers ∷ []) l.marks l.rest;
-  shorter : length l.rest ≤ length l.marks;
-}
+invariant-parse_multipliers-loop-operator l = Repeats g.Multipliers l.fn.level (elements.multipliers_elements (view.multipliers (map view.multiplier_of l.multipliers.items))) l.marks l.rest
 
 abbrev pub decreases-parse_multipliers-loop-operator : goal.decreases-parse_multipliers-loop-operator
 decreases-parse_multipliers-loop-operator l = length l.rest
 
 abbrev pub invariant-parse_addends-loop-operator : goal.invariant-parse_addends-loop-operator
-invariant-parse_addends-loop-operator l = record {
-  goes : Goes g.Addends l.fn.level (elements.addends_elements (view.addends (map view.addend_of l.addends.items))) (part g.Addends ∷ []) l.marks l.rest;
-  shorter : length l.rest ≤ length l.marks;
-}
+invariant-parse_addends-loop-operator l = Repeats g.Addends l.fn.level (elements.addends_elements (view.addends (map view.addend_of l.addends.items))) l.marks l.rest
 
 abbrev pub decreases-parse_addends-loop-operator : goal.decreases-parse_addends-loop-operator
 decreases-parse_addends-loop-operator l = length l.rest
 
 abbrev pub invariant-parse_selectors-loop-alloc : goal.invariant-parse_selectors-loop-alloc
-invariant-parse_selectors-loop-alloc l = record {
-  goes : Goes g.Selectors l.fn.level (elements.selectors_elements (view.selectors (map view.selector_of l.selectors.items))) (part g.Selectors ∷ []) l.marks
-      l.rest;
-  shorter : length l.rest ≤ length l.marks;
-}
+invariant-parse_selectors-loop-alloc l = Repeats g.Selectors l.fn.level (elements.selectors_elements (view.selectors (map view.selector_of l.selectors.items))) l.marks l.rest
 
 abbrev pub decreases-parse_selectors-loop-alloc : goal.decreases-parse_selectors-loop-alloc
 decreases-parse_selectors-loop-alloc l = length l.rest

@@ -1,16 +1,12 @@
-use Rattle.std.proofs.Common.{◌≤◌, length, [], ◌∷◌}
+use Rattle.std.proofs.Common.{length}
 use Rattle.edi_tree.specs.View.{const_decls}
 use Rattle.edi_tree.specs.Levels.{const_decls_elements}
-use Rattle.edi_grammar.specs.Grammar.{part}
 use Rattle.edi_grammar.specs.Rules as g
-use Rattle.edi_phrases.specs.Parses.{Goes}
+use Rattle.edi_phrases.proofs.Pushes.{Repeats}
 use Rattle.edi_phrases.proofs.constants.parse_const_decls.Given as goal
 
 abbrev pub invariant-loop-behind_semicolon : goal.invariant-loop-behind_semicolon
-invariant-loop-behind_semicolon l = record {
-  goes : Goes g.ConstDecls l.fn.level (const_decls_elements (const_decls l.decls.items)) (part g.ConstDecls ∷ []) l.marks l.rest;
-  shorter : length l.rest ≤ length l.marks;
-}
+invariant-loop-behind_semicolon l = Repeats g.ConstDecls l.fn.level (const_decls_elements (const_decls l.decls.items)) l.marks l.rest
 
 abbrev pub decreases-loop-behind_semicolon : goal.decreases-loop-behind_semicolon
 decreases-loop-behind_semicolon l = length l.rest

@@ -8,6 +8,7 @@ use Rattle.edi_grammar.specs.Rules as g
 use Rattle.edi_phrases.specs.Parses.{Goes}
 use Rattle.edi_statements.specs.Lines.{front_line}
 use Rattle.edi_statements.proofs.Branches.{also_branches, last_end}
+use Rattle.edi_phrases.proofs.Pushes.{Repeats}
 use Rattle.edi_statements.proofs.statements.+statement.Given as goal
 
 abbrev pub decreases-parse_guarded : goal.decreases-parse_guarded
@@ -38,20 +39,13 @@ abbrev pub decreases-parse_conditions : goal.decreases-parse_conditions
 decreases-parse_conditions l = (64 - l.level) * 16 + 6
 
 abbrev pub invariant-parse_else-loop-behind_else : goal.invariant-parse_else-loop-behind_else
-invariant-parse_else-loop-behind_else l = record {
-  goes : Goes g.Else l.fn.level (elements.else_elements (view.else_list (map view.condition_of l.conditions.items))) (part g.Else ∷ []) l.marks l.rest;
-  shorter : length l.rest ≤ length l.marks;
-}
+invariant-parse_else-loop-behind_else l = Repeats g.Else l.fn.level (elements.else_elements (view.else_list (map view.condition_of l.conditions.items))) l.marks l.rest
 
 abbrev pub decreases-parse_else-loop-behind_else : goal.decreases-parse_else-loop-behind_else
 decreases-parse_else-loop-behind_else l = length l.rest
 
 abbrev pub invariant-parse_statements-loop-behind_semicolon : goal.invariant-parse_statements-loop-behind_semicolon
-invariant-parse_statements-loop-behind_semicolon l = record {
-  goes : Goes g.Statements l.fn.level (elements.statements_elements (view.statements (map view.statement_of l.statements.items))) (part g.Statements ∷ [])
-      l.marks l.rest;
-  shorter : length l.rest ≤ length l.marks;
-}
+invariant-parse_statements-loop-behind_semicolon l = Repeats g.Statements l.fn.level (elements.statements_elements (view.statements (map view.statement_of l.statements.items))) l.marks l.rest
 
 abbrev pub decreases-parse_statements-loop-behind_semicolon : goal.decreases-parse_statements-loop-behind_semicolon
 decreases-parse_statements-loop-behind_semicolon l = length l.rest
