@@ -271,27 +271,21 @@ module _ (t u : Table) (n : Naming) (m k : Machine) (p : ℕ) (a : mach.Activity
         ap (λ q. notified without_p q (find without_p.activities q)) its_parent
         ∙ ap (notified without_p (n.name parent)) (stands_between.found parent parent_live)
 
+    -- before the end the parent awaited its children, one more than now
+    awaited : (s : Standing) → (process_at removed.between parent).standing ≡ s → Awaits s (children_of t parent)
+    awaited s e = subst (λ s. Awaits s (children_of t parent))
+        (sym (ap (λ y. y.standing) (freed_there t removed.between p at.table at.taken removed.put parent)) ∙ e) (at.stands.awaits parent birth.lives)
+
+    one_more : children_of t parent ≡ suc (children_of removed.between parent)
+    one_more = deaths.one_child_less t removed.between n m without_p p ending
+
     -- the parent waits
     waits : (s : Standing) → (process_at removed.between parent).standing ≡ s → Notifies s parent removed.between u →
         Exited u n (map n.name (ready_slots removed.between)) (map n.name (ready_slots u))
         (one_less without_p (n.name parent) (entry_of (process_at removed.between parent) (n.forks parent))
         (standing_of (process_at removed.between parent).standing))
-    waits standing.Ready e notifies = absurd (omega (arith, none standing.Ready e, more))
-      where
-        none : (s : Standing) → (process_at removed.between parent).standing ≡ s → Awaits s (children_of t parent)
-        none s e = subst (λ s. Awaits s (children_of t parent))
-            (sym (ap (λ y. y.standing) (freed_there t removed.between p at.table at.taken removed.put parent)) ∙ e) (at.stands.awaits parent birth.lives)
-
-        more : children_of t parent ≡ suc (children_of removed.between parent)
-        more = deaths.one_child_less t removed.between n m without_p p ending
-    waits standing.AtWhen e notifies = absurd (omega (arith, none standing.AtWhen e, more))
-      where
-        none : (s : Standing) → (process_at removed.between parent).standing ≡ s → Awaits s (children_of t parent)
-        none s e = subst (λ s. Awaits s (children_of t parent))
-            (sym (ap (λ y. y.standing) (freed_there t removed.between p at.table at.taken removed.put parent)) ∙ e) (at.stands.awaits parent birth.lives)
-
-        more : children_of t parent ≡ suc (children_of removed.between parent)
-        more = deaths.one_child_less t removed.between n m without_p p ending
+    waits standing.Ready e notifies = absurd (omega (arith, awaited standing.Ready e, one_more))
+    waits standing.AtWhen e notifies = absurd (omega (arith, awaited standing.AtWhen e, one_more))
     waits (standing.Waiting w) e notifies =
         notifies_one removed.between u n without_p parent w
         (record {
@@ -301,16 +295,9 @@ module _ (t u : Table) (n : Naming) (m k : Machine) (p : ℕ) (a : mach.Activity
           unmarked = removed.put.marked ∙ unmarked;
           none = refl;
           waiting = e;
-          few = omega (arith, none (standing.Waiting w) e, more);
+          few = omega (arith, awaited (standing.Waiting w) e, one_more);
         })
-        (w - 1) (omega (arith, none (standing.Waiting w) e, more)) notifies
-      where
-        none : (s : Standing) → (process_at removed.between parent).standing ≡ s → Awaits s (children_of t parent)
-        none s e = subst (λ s. Awaits s (children_of t parent))
-            (sym (ap (λ y. y.standing) (freed_there t removed.between p at.table at.taken removed.put parent)) ∙ e) (at.stands.awaits parent birth.lives)
-
-        more : children_of t parent ≡ suc (children_of removed.between parent)
-        more = deaths.one_child_less t removed.between n m without_p p ending
+        (w - 1) (omega (arith, awaited (standing.Waiting w) e, one_more)) notifies
 
     pub exits : Exited u n (map n.name (ready_slots t)) (map n.name (ready_slots u)) (exited k (n.name p) r)
     exits =

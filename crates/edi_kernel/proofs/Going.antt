@@ -78,30 +78,13 @@ stretches_same words store live live' left first a b old new pause now c e f h =
 -- the process goes on as its entry says
 runs : (m : Machine) (store : List ℕ) (s : State) (left : ℕ) (process : Process) (forks : ℕ) → m.memory ≡ store → m.system ≡ s → m.turns ≡ left →
     running_of m (entry_of process forks) ≡ running_in store (resumed process) s left
-runs m store s left process forks e f g = by_standing process.standing refl
+runs m store s left process forks e f g = alike process.standing
   where
-    by_standing : (x : Standing) → process.standing ≡ x → running_of m (entry_of process forks) ≡ running_in store (resumed process) s left
-    by_standing standing.Ready h =
-        ap (λ y. running_of m (entry_of (record process { standing = y }) forks)) h
-        ∙ same ∙ sym (ap (λ y. running_in store (resumed (record process { standing = y })) s left) h)
-      where
-        same : running_of m (entry_of (record process { standing = standing.Ready }) forks) ≡ running_in store
-            (resumed (record process { standing = standing.Ready })) s left
-        same = cc
-    by_standing standing.AtWhen h =
-        ap (λ y. running_of m (entry_of (record process { standing = y }) forks)) h
-        ∙ same ∙ sym (ap (λ y. running_in store (resumed (record process { standing = y })) s left) h)
-      where
-        same : running_of m (entry_of (record process { standing = standing.AtWhen }) forks) ≡ running_in store
-            (resumed (record process { standing = standing.AtWhen })) s left
-        same = cc
-    by_standing (standing.Waiting n) h =
-        ap (λ y. running_of m (entry_of (record process { standing = y }) forks)) h
-        ∙ same ∙ sym (ap (λ y. running_in store (resumed (record process { standing = y })) s left) h)
-      where
-        same : running_of m (entry_of (record process { standing = standing.Waiting n }) forks) ≡ running_in store
-            (resumed (record process { standing = standing.Waiting n })) s left
-        same = cc
+    alike : (x : Standing) → running_of m (entry_of (record process { standing = x }) forks) ≡ running_in store
+        (resumed (record process { standing = x })) s left
+    alike standing.Ready = cc
+    alike standing.AtWhen = cc
+    alike (standing.Waiting n) = cc
 
 -- the first process has the first slot
 first_is : (t : Table) (n : Naming) (m : Machine) (slot : ℕ) → TableIsMachine t n m → is_live t slot ≡ true → (slot == 0) ≡ is_first (n.name slot)

@@ -74,6 +74,7 @@ put_table t u l p x s put rooted lt parent ordered going = record {
   sound = put.sound;
   wide = ap length put.processes ∙ length-set t.processes p x ∙ s.wide;
   marked_wide = ap length put.marked ∙ s.marked_wide;
+  clear = λ none. put.marked ∙ s.clear (sym put.marks ∙ none);
   parents = λ i. elim (cases_eq i p) [
     | inl e ↦ subst (λ y. y.parent < 32) (sym (here i e)) parent
     | inr ne ↦ subst (λ y. y.parent < 32) (sym (put_there t u l p x put i ne)) (s.parents i)
@@ -103,6 +104,7 @@ written_table t p x s lt parent ordered none = record {
   sound = s.sound;
   wide = length-set t.processes p x ∙ s.wide;
   marked_wide = s.marked_wide;
+  clear = s.clear;
   parents = λ i. elim (cases_eq i p) [
     | inl e ↦ subst (λ y. y.parent < 32) (sym (here i e)) parent
     | inr ne ↦ subst (λ y. y.parent < 32) (sym (at_set_other t.processes p i x ne)) (s.parents i)
@@ -126,6 +128,7 @@ withdrawn_table t u p s w = record {
   sound = w.sound;
   wide = ap length w.processes ∙ s.wide;
   marked_wide = ap length w.marked ∙ s.marked_wide;
+  clear = λ none. w.marked ∙ s.clear (sym w.marks ∙ none);
   parents = λ i. subst (λ xs. (slice_index_or xs i no_process).parent < 32) (sym w.processes) (s.parents i);
   ordered = λ i b. subst (λ xs. IsOrdered (slice_index_or xs i no_process).activity) (sym w.processes) (s.ordered i b);
   root = ap is_free_home (w.homes 0) ∙ taken (0 == p) (home_of t.lists 0) s.root;

@@ -1,9 +1,7 @@
 -- The process that arrived stands last among the ready ones, with the activity that the kernel tells.
-use Rattle.std.proofs.Common.{◌≡◌, ℕ, ◌<◌, ◌==◌, inl, inr, Bool, true, false, List, [], ◌∷◌, ◌++◌, length, Option, Some, None, refl, sym, ◌∙◌, ap, arith}
+use Rattle.std.proofs.Common.{◌≡◌, ℕ, ◌<◌, inl, inr, Bool, true, false, List, [], ◌∷◌, ◌++◌, Option, Some, None, refl, sym, ◌∙◌, ap, arith}
 use Rattle.std.proofs.Common.{subst, slice_index_or, get_or-set_same, if◌then◌else◌}
-use Rattle.std.specs.Prelude.{⊤}
 use Rattle.edi_machine.specs.declared.activity.Activity.{Activity}
-use Rattle.edi_ring.specs.Lists.{IsSound}
 use Rattle.edi_kernel.specs.declared.ends.Ending.{Ending}
 use Rattle.edi_kernel.specs.declared.ends.Ending.TheVariants as ending
 use Rattle.edi_kernel.specs.declared.ends.StintEnd.{StintEnd}
@@ -13,7 +11,7 @@ use Rattle.edi_kernel.specs.declared.table.Table.{Table}
 use Rattle.edi_kernel.specs.declared.state.KernelState.{KernelState}
 use Rattle.edi_kernel.specs.Table.{PutsProcess, at_its_when, no_process, process_at, ready_slots, unmarked}
 use Rattle.edi_kernel.specs.TableIsMachine.{IsTable}
-use Rattle.edi_kernel.specs.Kernel.{StandsLast, StandsAfter, StandsAtEnd, attempt_end, ended_by}
+use Rattle.edi_kernel.specs.Kernel.{StandsLast, StandsAfter, StandsAtEnd, ended_by}
 use Rattle.edi_kernel.specs.Runs.{EndsUnready}
 use Rattle.edi_kernel.proofs.Lists.{put_list}
 

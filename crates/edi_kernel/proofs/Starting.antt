@@ -62,6 +62,7 @@ module _ (t : Table) (a : code.Activity) (f : FirstAlone t a) where
     sound = f.sound;
     wide = ap length f.processes;
     marked_wide = ap length f.marked;
+    clear = λ none. f.marked;
     parents = λ i. omega (arith, parent_none i);
     ordered = λ i h. subst (λ y. IsOrdered y.activity) (sym (process_is i h)) o;
     root = ap is_free_home (f.homes 0);

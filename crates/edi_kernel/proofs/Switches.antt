@@ -5,7 +5,7 @@ use Rattle.std.specs.Prelude.{◌==◌}
 use Rattle.std.proofs.lemmas.Bool.{cases_eq}
 use Rattle.std.proofs.lemmas.List.{length_push}
 use Rattle.edi_calls.specs.Names.{Name, same}
-use Rattle.edi_calls.specs.Ready.{has, all_marked, freed}
+use Rattle.edi_calls.specs.Ready.{has, all_marked}
 use Rattle.edi_calls.proofs.Tables.{same-refl, find-with_at-same, find-with_at-other}
 use Rattle.edi_target.specs.Mach as mach
 use Rattle.edi_target.specs.Mach.{Machine, Running, Stepped, went, activity_of, back, awaits, one_less, notified, exited}
@@ -48,7 +48,16 @@ follows_marks m k p f ms xs a h = record { found = h.found; forked = h.forked; o
 -- ---- marks
 
 pub unmarked_table : (t : Table) → IsTable t → IsTable (unmarked t)
-unmarked_table t s = record { sound = s.sound; wide = s.wide; marked_wide = refl; parents = s.parents; ordered = s.ordered; root = s.root; waiting = s.waiting }
+unmarked_table t s = record {
+  sound = s.sound;
+  wide = s.wide;
+  marked_wide = refl;
+  parents = s.parents;
+  ordered = s.ordered;
+  clear = λ none. refl;
+  root = s.root;
+  waiting = s.waiting;
+}
 
 pub unmarked_taken : (t : Table) (p : ℕ) → IsTaken t p → IsTaken (unmarked t) p
 unmarked_taken t p k = record { inside = k.inside; homeless = k.homeless; going = k.going; counted = sym (none_marked (unmarked t) (p ∷ ready_slots t) refl) }
@@ -76,9 +85,14 @@ marked_table t p s = record {
   marked_wide = length-set t.marked p true ∙ s.marked_wide;
   parents = s.parents;
   ordered = s.ordered;
+  clear = λ none. absurd (some (marked_at t p) refl none);
   root = s.root;
   waiting = s.waiting;
 }
+  where
+    some : (b : Bool) → marked_at t p ≡ b → (if b then t.marks else t.marks + 1) ≡ 0 → ⊥
+    some true is none = let no : false ≡ true = sym (ap (λ ms. slice_index_or ms p false) (s.clear none) ∙ unmarked_at 32 p) ∙ is in absurd (cc)
+    some false is none = omega (arith, none)
 
 mark_there : (t : Table) (p i : ℕ) → (i ≡ p → ⊥) → marked_at (marked_with t p) i ≡ marked_at t i
 mark_there t p i ne = get_or-set_other t.marked p i true false ne

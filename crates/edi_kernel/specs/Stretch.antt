@@ -1,4 +1,4 @@
--- Words of contracts. What a taken process does until it gives up its turn at the kernel: a stretch of steps of the one activity.
+-- Words of contracts. What a taken process does until it gives way: a stretch of steps of the one activity.
 use Rattle.std.specs.Prelude.{◌≡◌, ℕ, zero, suc, ◌+◌, ◌-◌, ◌<◌, ◌≤◌, ◌⊎◌, Bool, true, false, ◌&&◌, nat_eq, List, length, Option, Some, None, ⊤}
 use Rattle.edi_told.specs.Faults.{CountRose}
 use Rattle.edi_calls.specs.declared.ends.Outside.{Outside}

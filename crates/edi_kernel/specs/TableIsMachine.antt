@@ -10,7 +10,7 @@ use Rattle.edi_kernel.specs.declared.table.Standing.{Standing}
 use Rattle.edi_kernel.specs.declared.table.Standing.TheVariants as standing
 use Rattle.edi_kernel.specs.declared.table.Process.{Process}
 use Rattle.edi_kernel.specs.declared.table.Table.{Table}
-use Rattle.edi_kernel.specs.Table.{process_at, marked_at, ready_slots, free_slots, is_live, is_free_home, is_waiting}
+use Rattle.edi_kernel.specs.Table.{process_at, marked_at, no_marks, ready_slots, free_slots, is_live, is_free_home, is_waiting}
 
 -- ---- what every table keeps
 
@@ -20,6 +20,8 @@ pub record IsTable (t : Table) : Type 0 where
   pub marked_wide : length t.marked ≡ 32
   pub parents : (slot : ℕ) → (process_at t slot).parent < 32
   pub ordered : (slot : ℕ) → slot < 32 → IsOrdered (process_at t slot).activity
+  -- where nobody is counted as marked, no slot is
+  pub clear : t.marks ≡ 0 → t.marked ≡ no_marks
   -- the first slot is never free
   pub root : is_free_home (home_of t.lists 0) ≡ false
   -- who waits is in no list

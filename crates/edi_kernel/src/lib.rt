@@ -106,7 +106,7 @@ impl Kernel {
         self.state.table.ready()
     }
 
-    /// The process that is taken goes on until it gives up its turn, the run ends, or `turns_left` turns are used up and
+    /// The process that is taken goes on until it gives way, the run ends, or `turns_left` turns are used up and
     /// another is due. The first stint after the start takes the turn of the program's entry first.
     ///
     /// The end is that of the machine's definition, from each machine that the kernel is, where the state of the system

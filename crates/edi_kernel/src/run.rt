@@ -203,7 +203,7 @@ impl KernelState {
         }
     }
 
-    /// The taken process goes on until it gives up its turn, the run ends, or `turns_left` turns are used up and another
+    /// The taken process goes on until it gives way, the run ends, or `turns_left` turns are used up and another
     /// is due. The first stint after the start takes the turn of the program's entry first.
     pub(crate) fn stint<C: Calls>(
         &mut self,
@@ -229,8 +229,8 @@ impl KernelState {
     {
         let used_before = self.used;
         let entry = entry_turns(self.entering);
-        self.arrived = None;
         if turns_left < entry {
+            self.arrived = None;
             return StintEnd::Over {
                 used: 0,
                 ending: Ending::Turns,

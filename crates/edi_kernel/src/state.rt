@@ -70,6 +70,7 @@ fn attempt_end(all_marked: bool, used: u64) -> StintEnd
 
 impl KernelState {
     /// The process waits for its children, which begin.
+    #[inline(never)]
     fn fork(&mut self, code: &Code, at: u32, slot: usize, activity: &Activity)
         requires table { IsTable self.old.table }
         requires taken { IsTaken self.old.table slot }
@@ -90,67 +91,71 @@ impl KernelState {
     }
 
     /// Handles a turn of the process at `slot` at which it paused.
+    #[inline(always)]
     fn handle_turn(
         &mut self,
         code: &Code,
         slot: usize,
-        activity: &Activity,
+        activity: Activity,
         kind: TurnKind,
         used: u64,
     ) -> StintEnd
         requires table { IsTable self.old.table }
         requires taken { IsTaken self.old.table slot }
-        requires ordered { IsOrdered activity.now }
+        requires ordered { IsOrdered activity }
         requires allowed { Allows (Some (Pause.At kind)) code.now.words (32 - length (free_slots self.old.table)) (slot == 0)
-            (local_of self.old.store activity.now) }
+            (local_of self.old.store activity) }
         requires marks { self.old.table.marks < 64 }
-        requires arrived { self.old.arrived ≡ None }
         ensures standing { StandsAfter result (Some slot) (ready_slots self.old.table) self.new.table self.new.arrived }
-        ensures exact { HandlesTurn kind code.now.words slot used activity.now self.old self.new result }
+        ensures exact { HandlesTurn kind code.now.words slot used activity self.old self.new result }
         ensures taken { self.new.taken ≡ self.old.taken }
         ensures entering { self.new.entering ≡ self.old.entering }
         ensures turns { self.new.used ≡ self.old.used }
     {
         match kind {
             TurnKind::Again(true) => {
-                self.arrived = Some(*activity);
-                let all_marked = self.table.attempt(slot, *activity);
+                self.arrived = Some(activity);
+                let all_marked = self.table.attempt(slot, activity);
                 attempt_end(all_marked, used)
             }
             TurnKind::Fork(at) => {
-                self.fork(code, at, slot, activity);
+                self.arrived = None;
+                // A copy: lent to no function that is not inlined, the activity stays in registers.
+                let parent = activity;
+                self.fork(code, at, slot, &parent);
                 StintEnd::Forked { used }
             }
             TurnKind::Exit => {
+                self.arrived = None;
                 self.table.leave(slot);
                 StintEnd::Exited { used }
             }
             _ => {
-                self.arrived = Some(*activity);
-                self.table.arrive(slot, *activity);
+                self.arrived = Some(activity);
+                self.table.arrive(slot, activity);
                 StintEnd::Arrived { used }
             }
         }
     }
 
     /// Handles the pause of the process at `slot`, which has this activity, after so many turns.
+    #[inline(always)]
     fn handle(
         &mut self,
         code: &Code,
         slot: usize,
-        activity: &Activity,
+        activity: Activity,
         pause: Pause,
         used: u64,
     ) -> StintEnd
         requires table { IsTable self.old.table }
         requires taken { IsTaken self.old.table slot }
-        requires ordered { IsOrdered activity.now }
-        requires allowed { Allows (Some pause) code.now.words (32 - length (free_slots self.old.table)) (slot == 0) (local_of self.old.store activity.now) }
+        requires ordered { IsOrdered activity }
+        requires allowed { Allows (Some pause) code.now.words (32 - length (free_slots self.old.table)) (slot == 0) (local_of self.old.store activity) }
         requires marks { self.old.table.marks < 64 }
-        requires arrived { self.old.arrived ≡ None }
         requires standstill { is_standstill pause ≡ false }
         ensures standing { StandsAfter result (Some slot) (ready_slots self.old.table) self.new.table self.new.arrived }
-        ensures exact { Handles pause code.now.words slot used activity.now self.old self.new result }
+        ensures exact { Handles pause code.now.words slot used activity self.old self.new result }
         ensures taken { self.new.taken ≡ self.old.taken }
         ensures entering { self.new.entering ≡ self.old.entering }
         ensures turns { self.new.used ≡ self.old.used }
@@ -158,6 +163,7 @@ impl KernelState {
         match pause {
             Pause::At(kind) => self.handle_turn(code, slot, activity, kind, used),
             Pause::Over(ending) => {
+                self.arrived = None;
                 self.table.unmark();
                 StintEnd::Over { used, ending }
             }
@@ -165,6 +171,7 @@ impl KernelState {
     }
 
     /// The process at `slot`, which is taken, goes on until it pauses.
+    #[inline(always)]
     fn walk<C: Calls>(
         &mut self,
         code: &Code,
@@ -199,7 +206,7 @@ impl KernelState {
         (pause, progress)
     }
 
-    /// The taken process goes on until it gives up its turn, the run ends, or `left` turns are used up and another is
+    /// The taken process goes on until it gives way, the run ends, or `left` turns are used up and another is
     /// due.
     pub(crate) fn go<C: Calls>(&mut self, code: &Code, calls: &mut C, left: u64) -> StintEnd
         requires kernel { IsKernel self.old }
@@ -220,8 +227,7 @@ impl KernelState {
         let slot = self.taken.unwrap();
         let (pause, progress) = self.walk(code, calls, slot, left);
         self.taken = None;
-        self.arrived = None;
         self.table.unmark_if(progress.cleared);
-        self.handle(code, slot, &progress.activity, pause, left - progress.left)
+        self.handle(code, slot, progress.activity, pause, left - progress.left)
     }
 }

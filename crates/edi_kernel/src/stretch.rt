@@ -1,4 +1,4 @@
-//! What a taken process does until it gives up its turn at the kernel.
+//! What a taken process does until it gives way.
 
 ghost use Rattle.std.specs.Prelude.{◌≡◌, ◌≤◌, None, Some, ℕ, false, length};
 ghost use Rattle.edi_told.specs.Told.{WhereTold};

@@ -17,6 +17,7 @@ ghost use Rattle.edi_kernel.specs.Table.{
   is_waiting,
   marked_with,
   marks_with,
+  no_marks,
   process_at,
   ready_slots,
   resumed,
@@ -119,30 +120,37 @@ impl Table {
     }
 
     /// The activity with which the process at this slot goes on: in its critical phase, where it stands at its `when`.
+    #[inline(always)]
     pub(crate) fn resume(&self, slot: usize) -> Activity
         requires { slot < 32 }
         ensures { result ≡ resumed (process_at self.now slot) }
     {
-        let process = self.processes[slot];
-        match process.standing {
+        let activity = self.processes[slot].activity;
+        match self.processes[slot].standing {
             Standing::AtWhen => Activity {
                 held: 1,
-                ..process.activity
+                ..activity
             },
-            _ => process.activity,
+            _ => activity,
         }
     }
 
-    /// Takes all marks away.
+    /// Takes all marks away. Most often there are none, and nothing is written.
+    #[inline(always)]
     pub(crate) fn unmark(&mut self)
+        requires { self.old.marks ≡ 0 → self.old.marked ≡ no_marks }
         ensures { self.new ≡ unmarked self.old }
     {
-        self.marked = [false; 32];
-        self.marks = 0;
+        if self.marks > 0 {
+            self.marked = [false; 32];
+            self.marks = 0;
+        }
     }
 
     /// Takes all marks away, if that is asked.
+    #[inline(always)]
     pub(crate) fn unmark_if(&mut self, asked: bool)
+        requires { self.old.marks ≡ 0 → self.old.marked ≡ no_marks }
         ensures { self.new ≡ (if asked then unmarked self.old else self.old) }
     {
         if asked {
@@ -163,6 +171,7 @@ impl Table {
     }
 
     /// Puts the slot, which is in no list, at the back of a list, and this process at the slot.
+    #[inline(always)]
     fn put(&mut self, list: usize, slot: usize, process: Process)
         requires list { list < 2 }
         requires slot { slot < 32 }
@@ -183,7 +192,8 @@ impl Table {
     }
 
     /// The process stands at its `when`, with this activity, and is the last of the ready ones.
-    pub(crate) fn stand(&mut self, slot: usize, activity: Activity)
+    #[inline(always)]
+    fn stand(&mut self, slot: usize, activity: Activity)
         requires slot { slot < 32 }
         requires homeless { home_of self.old.lists slot ≡ None }
         ensures { PutsProcess 0 slot (at_its_when (process_at self.old slot) activity) self.old self.new }
@@ -197,9 +207,11 @@ impl Table {
     }
 
     /// The process has arrived at a `when`.
+    #[inline(always)]
     pub(crate) fn arrive(&mut self, slot: usize, activity: Activity)
         requires slot { slot < 32 }
         requires homeless { home_of self.old.lists slot ≡ None }
+        requires clear { self.old.marks ≡ 0 → self.old.marked ≡ no_marks }
         ensures { PutsProcess 0 slot (at_its_when (process_at self.old slot) activity) (unmarked self.old) self.new }
     {
         self.unmark();
@@ -207,6 +219,7 @@ impl Table {
     }
 
     /// The process stands at its `when` after an attempt that marks it. Tells whether all that are ready are marked.
+    #[inline(always)]
     pub(crate) fn attempt(&mut self, slot: usize, activity: Activity) -> bool
         requires slot { slot < 32 }
         requires homeless { home_of self.old.lists slot ≡ None }
@@ -239,9 +252,7 @@ impl Table {
         ensures slot { result < 32 }
         ensures taken { Withdraws result self.old self.new }
     {
-        let slot = self.lists.front(FREE).unwrap();
-        self.withdraw(slot);
-        slot
+        self.lists.take_front(FREE)
     }
 
     /// A child of the process at `parent` begins with this activity, at a free slot, of which there is one. It is the
@@ -301,6 +312,7 @@ impl Table {
         requires going { is_waiting (process_at self.old slot).standing ≡ false }
         requires parent { (process_at self.old slot).parent < 32 }
         requires waiting { (q : ℕ) → is_waiting (process_at self.old q).standing ≡ true → home_of self.old.lists q ≡ None }
+        requires clear { self.old.marks ≡ 0 → self.old.marked ≡ no_marks }
         ensures { Removed slot (unmarked self.old) self.new }
     {
         self.unmark();
@@ -308,6 +320,7 @@ impl Table {
     }
 
     /// Takes the ready process at this index of the ready list, counted from 0 at the front.
+    #[inline(always)]
     pub(crate) fn next(&mut self, at: usize) -> usize
         requires sound { IsSound 32 2 self.old.lists }
         requires at { at < length (ready_slots self.old) }
@@ -315,6 +328,9 @@ impl Table {
         ensures slot { result < 32 }
         ensures taken { Withdraws result self.old self.new }
     {
+        if at == 0 {
+            return self.lists.take_front(READY);
+        }
         let slot = self.lists.nth(READY, at).unwrap();
         self.withdraw(slot);
         slot

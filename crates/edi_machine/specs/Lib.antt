@@ -1,4 +1,5 @@
 pub mod Activities
 pub mod Numbers
+pub mod Operators
 pub mod Starts
 pub mod Steps

@@ -2,11 +2,12 @@
 
 ghost use Rattle.std.specs.Prelude.{◌≡◌, ◌+◌, ◌-◌, ◌<◌, ◌≤◌, ◌∷◌, [], nat_eq, MatchOption};
 ghost use Rattle.std.specs.Option.{option_map};
-ghost use Rattle.edi_word.specs.Words.{signed, unsigned, word_add, word_sub, word_mul, word_div, word_modulo};
+ghost use Rattle.edi_word.specs.Words.{signed, unsigned, on_words, word_sub};
 ghost use Rattle.edi_target.specs.Memory.{word};
 ghost use Rattle.edi_target.specs.Effect.{Local, in_range, pop_word, push, to, truth};
 ghost use Rattle.edi_target.specs.Perform.{arithmetic};
 ghost use Rattle.edi_machine.specs.Activities.{IsOrdered, local_of};
+ghost use Rattle.edi_machine.specs.Operators.{integer_by};
 ghost use Rattle.edi_machine.specs.Steps.{Gives};
 
 use crate::activity::Activity;
@@ -14,6 +15,30 @@ use crate::ends::StepEnd;
 use crate::frame::{push_at, top_two_words, top_word};
 use edi_calls::Cause;
 use edi_store::Store;
+
+/// What is made of two integers.
+#[derive(Clone, Copy)]
+pub enum Operator {
+    Add,
+    Sub,
+    Mul,
+    Div,
+    Mod,
+}
+
+// The integer that the operator makes of two, where it has one of a word.
+#[inline(always)]
+fn result_of(operator: Operator, x: i16, y: i16) -> Option<i16>
+    ensures { result ≡ integer_by operator x y }
+{
+    match operator {
+        Operator::Add => edi_word::add(x, y),
+        Operator::Sub => edi_word::sub(x, y),
+        Operator::Mul => edi_word::mul(x, y),
+        Operator::Div => edi_word::div(x, y),
+        Operator::Mod => edi_word::modulo(x, y),
+    }
+}
 
 /// 1 for true and 0 for false.
 pub fn truth_word(b: bool) -> u16
@@ -62,68 +87,22 @@ fn put_result(
     }
 }
 
-/// ADD.
-pub fn sum(store: &mut Store, activity: &mut Activity, line: u16, next: u32) -> StepEnd
-    requires ordered { IsOrdered activity.old }
-    ensures exact { let l = local_of store.old activity.old in
-        Gives (arithmetic word_add line next l) result l (local_of store.new activity.new) }
-    ensures ordered { IsOrdered activity.new }
-{
-    match top_two_integers(store, activity) {
-        Some((x, y)) => put_result(store, activity, edi_word::add(x, y), line, next),
-        None => StepEnd::Bad(activity.pc),
-    }
-}
-
-/// SUB.
+/// ADD, SUB, MUL, DIV and MOD.
 #[inline(always)]
-pub fn difference(store: &mut Store, activity: &mut Activity, line: u16, next: u32) -> StepEnd
+pub fn calculate(
+    store: &mut Store,
+    activity: &mut Activity,
+    operator: Operator,
+    line: u16,
+    next: u32,
+) -> StepEnd
     requires ordered { IsOrdered activity.old }
     ensures exact { let l = local_of store.old activity.old in
-        Gives (arithmetic word_sub line next l) result l (local_of store.new activity.new) }
+        Gives (arithmetic (on_words (integer_by operator)) line next l) result l (local_of store.new activity.new) }
     ensures ordered { IsOrdered activity.new }
 {
     match top_two_integers(store, activity) {
-        Some((x, y)) => put_result(store, activity, edi_word::sub(x, y), line, next),
-        None => StepEnd::Bad(activity.pc),
-    }
-}
-
-/// MUL.
-pub fn product(store: &mut Store, activity: &mut Activity, line: u16, next: u32) -> StepEnd
-    requires ordered { IsOrdered activity.old }
-    ensures exact { let l = local_of store.old activity.old in
-        Gives (arithmetic word_mul line next l) result l (local_of store.new activity.new) }
-    ensures ordered { IsOrdered activity.new }
-{
-    match top_two_integers(store, activity) {
-        Some((x, y)) => put_result(store, activity, edi_word::mul(x, y), line, next),
-        None => StepEnd::Bad(activity.pc),
-    }
-}
-
-/// DIV.
-pub fn quotient(store: &mut Store, activity: &mut Activity, line: u16, next: u32) -> StepEnd
-    requires ordered { IsOrdered activity.old }
-    ensures exact { let l = local_of store.old activity.old in
-        Gives (arithmetic word_div line next l) result l (local_of store.new activity.new) }
-    ensures ordered { IsOrdered activity.new }
-{
-    match top_two_integers(store, activity) {
-        Some((x, y)) => put_result(store, activity, edi_word::div(x, y), line, next),
-        None => StepEnd::Bad(activity.pc),
-    }
-}
-
-/// MOD.
-pub fn remainder(store: &mut Store, activity: &mut Activity, line: u16, next: u32) -> StepEnd
-    requires ordered { IsOrdered activity.old }
-    ensures exact { let l = local_of store.old activity.old in
-        Gives (arithmetic word_modulo line next l) result l (local_of store.new activity.new) }
-    ensures ordered { IsOrdered activity.new }
-{
-    match top_two_integers(store, activity) {
-        Some((x, y)) => put_result(store, activity, edi_word::modulo(x, y), line, next),
+        Some((x, y)) => put_result(store, activity, result_of(operator, x, y), line, next),
         None => StepEnd::Bad(activity.pc),
     }
 }

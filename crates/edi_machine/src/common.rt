@@ -7,13 +7,13 @@ ghost use Rattle.edi_machine.specs.Numbers.{effect_by};
 ghost use Rattle.edi_machine.specs.Steps.{Stepped, effect_of};
 
 use crate::activity::Activity;
-use crate::arithmetic::{difference, negation, other_truth, product, quotient, remainder, sum};
-use crate::comparisons::{are_equal, are_not_equal, is_above, is_at_least, is_at_most, is_below};
+use crate::arithmetic::{Operator, calculate, negation, other_truth};
+use crate::comparisons::{Order, compare, compare_values};
 use crate::constants::{check, constant, element_address, field_address, frame_address};
 use crate::ends::StepEnd;
 use crate::instruction::code_address;
 use crate::procedures::{call, leave_block};
-use crate::rare::execute_seldom;
+use crate::rare::execute_rare_on_copy;
 use crate::variables::{keep, load};
 use crate::{jumps, processes};
 use edi_calls::Calls;
@@ -93,23 +93,23 @@ fn execute_by<C: Calls>(
             _ => StepEnd::Bad(at)
         },
         9 => match *operands {
-            [line, ..] => sum(store, activity, line, at + 2),
+            [line, ..] => calculate(store, activity, Operator::Add, line, at + 2),
             _ => StepEnd::Bad(at)
         },
         10 => match *operands {
-            [line, ..] => difference(store, activity, line, at + 2),
+            [line, ..] => calculate(store, activity, Operator::Sub, line, at + 2),
             _ => StepEnd::Bad(at)
         },
         11 => match *operands {
-            [line, ..] => product(store, activity, line, at + 2),
+            [line, ..] => calculate(store, activity, Operator::Mul, line, at + 2),
             _ => StepEnd::Bad(at)
         },
         12 => match *operands {
-            [line, ..] => quotient(store, activity, line, at + 2),
+            [line, ..] => calculate(store, activity, Operator::Div, line, at + 2),
             _ => StepEnd::Bad(at)
         },
         13 => match *operands {
-            [line, ..] => remainder(store, activity, line, at + 2),
+            [line, ..] => calculate(store, activity, Operator::Mod, line, at + 2),
             _ => StepEnd::Bad(at)
         },
         14 => match *operands {
@@ -119,7 +119,7 @@ fn execute_by<C: Calls>(
         15 => other_truth(store, activity, at + 1),
         16 => match *operands {
             [count, ..] => if count >= 1 {
-                are_equal(store, activity, count, at + 2)
+                compare_values(store, activity, count, true, at + 2)
             } else {
                 StepEnd::Bad(at)
             },
@@ -127,16 +127,16 @@ fn execute_by<C: Calls>(
         },
         17 => match *operands {
             [count, ..] => if count >= 1 {
-                are_not_equal(store, activity, count, at + 2)
+                compare_values(store, activity, count, false, at + 2)
             } else {
                 StepEnd::Bad(at)
             },
             _ => StepEnd::Bad(at)
         },
-        18 => is_below(store, activity, at + 1),
-        19 => is_at_most(store, activity, at + 1),
-        20 => is_above(store, activity, at + 1),
-        21 => is_at_least(store, activity, at + 1),
+        18 => compare(store, activity, Order::Below, at + 1),
+        19 => compare(store, activity, Order::AtMost, at + 1),
+        20 => compare(store, activity, Order::Above, at + 1),
+        21 => compare(store, activity, Order::AtLeast, at + 1),
         27 => match *operands {
             [low, high, line, ..] => check(
                 store,
@@ -207,7 +207,7 @@ fn execute_by<C: Calls>(
             _ => StepEnd::Bad(at)
         },
         2 | 3 | 22 | 23 | 24 | 25 | 26 | 35 | 36 | 38 | 40 | 42 | 43 => {
-            execute_seldom(store, activity, words, live, first, number, operands, calls)
+            execute_rare_on_copy(store, activity, words, live, first, number, operands, calls)
         }
         0 | 33 => StepEnd::Bad(at),
         _ => StepEnd::Bad(at),

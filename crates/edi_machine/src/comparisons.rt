@@ -1,11 +1,12 @@
 //! Comparisons.
 
-ghost use Rattle.std.specs.Prelude.{◌≡◌, ◌+◌, ◌-◌, ◌<◌, ◌≤◌, not, int_lt, int_le, MatchOption};
+ghost use Rattle.std.specs.Prelude.{◌≡◌, ◌+◌, ◌-◌, ◌<◌, ◌≤◌, not, if◌then◌else◌, MatchOption};
 ghost use Rattle.std.specs.Str.{bytes_eq};
 ghost use Rattle.edi_store.specs.Memory.{words_at};
 ghost use Rattle.edi_target.specs.Effect.{Local};
 ghost use Rattle.edi_target.specs.Perform.{comparison, equality};
 ghost use Rattle.edi_machine.specs.Activities.{IsOrdered, local_of};
+ghost use Rattle.edi_machine.specs.Operators.{same_as, stands_in};
 ghost use Rattle.edi_machine.specs.Steps.{Gives};
 
 use crate::activity::Activity;
@@ -14,30 +15,34 @@ use crate::ends::StepEnd;
 use crate::frame::push_at;
 use edi_store::Store;
 
-/// LT.
-pub fn is_below(store: &mut Store, activity: &mut Activity, next: u32) -> StepEnd
-    requires ordered { IsOrdered activity.old }
-    ensures exact { let l = local_of store.old activity.old in
-        Gives (comparison int_lt next l) result l (local_of store.new activity.new) }
-    ensures ordered { IsOrdered activity.new }
+/// An order in which two integers may stand.
+#[derive(Clone, Copy)]
+pub enum Order {
+    Below,
+    AtMost,
+    Above,
+    AtLeast,
+}
+
+// Whether two integers stand in this order.
+#[inline(always)]
+fn stand_in(order: Order, x: i16, y: i16) -> bool
+    ensures { result ≡ stands_in order x y }
 {
-    match top_two_integers(store, activity) {
-        Some((x, y)) => push_at(
-            store,
-            activity,
-            activity.top - 1 - 1,
-            truth_word(x < y),
-            next,
-        ),
-        None => StepEnd::Bad(activity.pc),
+    match order {
+        Order::Below => x < y,
+        Order::AtMost => x <= y,
+        Order::Above => x > y,
+        Order::AtLeast => x >= y,
     }
 }
 
-/// LE.
-pub fn is_at_most(store: &mut Store, activity: &mut Activity, next: u32) -> StepEnd
+/// LT, LE, GT and GE.
+#[inline(always)]
+pub fn compare(store: &mut Store, activity: &mut Activity, order: Order, next: u32) -> StepEnd
     requires ordered { IsOrdered activity.old }
     ensures exact { let l = local_of store.old activity.old in
-        Gives (comparison int_le next l) result l (local_of store.new activity.new) }
+        Gives (comparison (stands_in order) next l) result l (local_of store.new activity.new) }
     ensures ordered { IsOrdered activity.new }
 {
     match top_two_integers(store, activity) {
@@ -45,45 +50,7 @@ pub fn is_at_most(store: &mut Store, activity: &mut Activity, next: u32) -> Step
             store,
             activity,
             activity.top - 1 - 1,
-            truth_word(x <= y),
-            next,
-        ),
-        None => StepEnd::Bad(activity.pc),
-    }
-}
-
-/// GT.
-pub fn is_above(store: &mut Store, activity: &mut Activity, next: u32) -> StepEnd
-    requires ordered { IsOrdered activity.old }
-    ensures exact { let l = local_of store.old activity.old in
-        Gives (comparison (λ x y. int_lt y x) next l) result l (local_of store.new activity.new) }
-    ensures ordered { IsOrdered activity.new }
-{
-    match top_two_integers(store, activity) {
-        Some((x, y)) => push_at(
-            store,
-            activity,
-            activity.top - 1 - 1,
-            truth_word(x > y),
-            next,
-        ),
-        None => StepEnd::Bad(activity.pc),
-    }
-}
-
-/// GE.
-pub fn is_at_least(store: &mut Store, activity: &mut Activity, next: u32) -> StepEnd
-    requires ordered { IsOrdered activity.old }
-    ensures exact { let l = local_of store.old activity.old in
-        Gives (comparison (λ x y. int_le y x) next l) result l (local_of store.new activity.new) }
-    ensures ordered { IsOrdered activity.new }
-{
-    match top_two_integers(store, activity) {
-        Some((x, y)) => push_at(
-            store,
-            activity,
-            activity.top - 1 - 1,
-            truth_word(x >= y),
+            truth_word(stand_in(order, x, y)),
             next,
         ),
         None => StepEnd::Bad(activity.pc),
@@ -107,31 +74,25 @@ fn top_two_are_equal(store: &Store, activity: Activity, count: u16) -> Option<bo
     Some(store.equal(at - count, at, count))
 }
 
-/// EQ.
-pub fn are_equal(store: &mut Store, activity: &mut Activity, count: u16, next: u32) -> StepEnd
-    requires ordered { IsOrdered activity.old }
-    ensures exact { let l = local_of store.old activity.old in
-        Gives (equality bytes_eq count next l) result l (local_of store.new activity.new) }
-    ensures ordered { IsOrdered activity.new }
+// Whether two values are as they are wanted, equal or different, where `same` tells whether they are equal.
+fn is_wanted(same: bool, wanted: bool) -> bool
+    ensures { result ≡ (if wanted then same else not same) }
 {
-    let size = u32::from(count);
-    match top_two_are_equal(store, *activity, count) {
-        Some(same) => push_at(
-            store,
-            activity,
-            activity.top - size - size,
-            truth_word(same),
-            next,
-        ),
-        None => StepEnd::Bad(activity.pc),
-    }
+    if wanted { same } else { !same }
 }
 
-/// NE.
-pub fn are_not_equal(store: &mut Store, activity: &mut Activity, count: u16, next: u32) -> StepEnd
+/// EQ, where equal values are wanted, and NE.
+#[inline(always)]
+pub fn compare_values(
+    store: &mut Store,
+    activity: &mut Activity,
+    count: u16,
+    wanted: bool,
+    next: u32,
+) -> StepEnd
     requires ordered { IsOrdered activity.old }
     ensures exact { let l = local_of store.old activity.old in
-        Gives (equality (λ xs ys. not (bytes_eq xs ys)) count next l) result l (local_of store.new activity.new) }
+        Gives (equality (same_as wanted) count next l) result l (local_of store.new activity.new) }
     ensures ordered { IsOrdered activity.new }
 {
     let size = u32::from(count);
@@ -140,7 +101,7 @@ pub fn are_not_equal(store: &mut Store, activity: &mut Activity, count: u16, nex
             store,
             activity,
             activity.top - size - size,
-            truth_word(!same),
+            truth_word(is_wanted(same, wanted)),
             next,
         ),
         None => StepEnd::Bad(activity.pc),

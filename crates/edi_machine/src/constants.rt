@@ -90,8 +90,8 @@ pub fn field_address(store: &mut Store, activity: &mut Activity, offset: u16, ne
     }
 }
 
-// The place of an index among those from `low` on.
-fn place_of(index: i16, low: i16) -> u32
+// An index, counted from `low`.
+fn from_low(index: i16, low: i16) -> u32
     requires { low ≤ℤ index }
     ensures exact { result ≡ nat_abs (index -ℤ low) }
     ensures small { result < 2 ^ 16 }
@@ -121,7 +121,7 @@ pub fn element_address(
     if index < low || index > high {
         return StepEnd::Fail(Cause::Range, line);
     }
-    let address = u32::from(x) + place_of(index, low) * u32::from(size);
+    let address = u32::from(x) + from_low(index, low) * u32::from(size);
     push_address_at(store, activity, activity.top - 1 - 1, address, next)
 }
 

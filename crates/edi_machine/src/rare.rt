@@ -13,6 +13,7 @@ use crate::activity::Activity;
 use crate::constants::{descriptor, text, zeros};
 use crate::ends::StepEnd;
 use crate::instruction::code_address;
+use crate::sets::SetOperator;
 use crate::system::call_described;
 use crate::{processes, sets};
 use edi_calls::{Calls, Cause};
@@ -88,9 +89,9 @@ fn execute_rare<C: Calls>(
             },
             _ => StepEnd::Bad(at)
         },
-        22 => sets::union(store, activity, at + 1),
-        23 => sets::difference(store, activity, at + 1),
-        24 => sets::intersection(store, activity, at + 1),
+        22 => sets::combine(store, activity, SetOperator::Union, at + 1),
+        23 => sets::combine(store, activity, SetOperator::Minus, at + 1),
+        24 => sets::combine(store, activity, SetOperator::Meet, at + 1),
         25 => sets::is_member(store, activity, at + 1),
         26 => match *operands {
             [line, ..] => sets::join(store, activity, line, at + 2),
@@ -151,7 +152,7 @@ fn execute_rare<C: Calls>(
 /// Executes the instruction of this number and these operands on a copy of the activity: the caller's own is lent to no function that
 /// is not inlined, and so may stay in registers.
 #[inline(always)]
-pub fn execute_seldom<C: Calls>(
+pub fn execute_rare_on_copy<C: Calls>(
     store: &mut Store,
     activity: &mut Activity,
     words: &[u16],

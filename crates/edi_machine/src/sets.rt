@@ -1,12 +1,13 @@
 //! Sets.
 
 ghost use Rattle.std.specs.Prelude.{◌≡◌, ◌+◌, ◌-◌, ◌<◌, ◌≤◌, ◌^◌, ◌∷◌, [], ◌&&◌, nat_lt, length, MatchOption};
-ghost use Rattle.edi_word.specs.Sets.{AreSetWords, word_has, words_union, words_minus, words_meet, words_with};
+ghost use Rattle.edi_word.specs.Sets.{AreSetWords, word_has, words_with};
 ghost use Rattle.edi_store.specs.Memory.{words_at};
 ghost use Rattle.edi_target.specs.Memory.{word};
 ghost use Rattle.edi_target.specs.Effect.{Local, pop, pop_word, push, to, truth};
 ghost use Rattle.edi_target.specs.Perform.{on_sets, joined};
 ghost use Rattle.edi_machine.specs.Activities.{IsOrdered, local_of};
+ghost use Rattle.edi_machine.specs.Operators.{set_by};
 ghost use Rattle.edi_machine.specs.Steps.{Gives};
 
 use crate::activity::Activity;
@@ -28,24 +29,40 @@ fn set_at(store: &Store, at: u32) -> [u16; 8]
     array::from_fn(|k| store.get((at as usize + k) as u16))
 }
 
-// UNION of the words of two sets.
-#[tactic(auto, using(crate::proofs::SetWords::union_words))]
-fn union_words(one: [u16; 8], other: [u16; 8]) -> [u16; 8]
-    requires one { AreSetWords one }
-    requires other { AreSetWords other }
-    ensures { result ≡ words_union one other }
-{
-    Members::from_words(one)
-        .union(&Members::from_words(other))
-        .words()
+/// What is made of two sets.
+#[derive(Clone, Copy)]
+pub enum SetOperator {
+    Union,
+    Minus,
+    Meet,
 }
 
-/// UNION.
+// The words of what the operator makes of two sets.
+#[tactic(auto, using(crate::proofs::SetWords::union_words, crate::proofs::SetWords::minus_words, crate::proofs::SetWords::meet_words))]
+fn set_words(operator: SetOperator, one: [u16; 8], other: [u16; 8]) -> [u16; 8]
+    requires one { AreSetWords one }
+    requires other { AreSetWords other }
+    ensures { result ≡ set_by operator one other }
+{
+    let (one, other) = (Members::from_words(one), Members::from_words(other));
+    match operator {
+        SetOperator::Union => one.union(&other).words(),
+        SetOperator::Minus => one.minus(&other).words(),
+        SetOperator::Meet => one.meet(&other).words(),
+    }
+}
+
+/// UNION, MINUS and MEET.
 #[inline(never)]
-pub fn union(store: &mut Store, activity: &mut Activity, next: u32) -> StepEnd
+pub fn combine(
+    store: &mut Store,
+    activity: &mut Activity,
+    operator: SetOperator,
+    next: u32,
+) -> StepEnd
     requires ordered { IsOrdered activity.old }
     ensures exact { let l = local_of store.old activity.old in
-        Gives (on_sets words_union next l) result l (local_of store.new activity.new) }
+        Gives (on_sets (set_by operator) next l) result l (local_of store.new activity.new) }
     ensures ordered { IsOrdered activity.new }
 {
     if activity.top - activity.base < 21 {
@@ -53,65 +70,7 @@ pub fn union(store: &mut Store, activity: &mut Activity, next: u32) -> StepEnd
     }
     let one = set_at(store, activity.top - 8 - 8);
     let other = set_at(store, activity.top - 8);
-    let words = union_words(one, other);
-    push_words_at(store, activity, activity.top - 8 - 8, &words, next)
-}
-
-// MINUS of the words of two sets.
-#[tactic(auto, using(crate::proofs::SetWords::minus_words))]
-fn minus_words(one: [u16; 8], other: [u16; 8]) -> [u16; 8]
-    requires one { AreSetWords one }
-    requires other { AreSetWords other }
-    ensures { result ≡ words_minus one other }
-{
-    Members::from_words(one)
-        .minus(&Members::from_words(other))
-        .words()
-}
-
-/// MINUS.
-#[inline(never)]
-pub fn difference(store: &mut Store, activity: &mut Activity, next: u32) -> StepEnd
-    requires ordered { IsOrdered activity.old }
-    ensures exact { let l = local_of store.old activity.old in
-        Gives (on_sets words_minus next l) result l (local_of store.new activity.new) }
-    ensures ordered { IsOrdered activity.new }
-{
-    if activity.top - activity.base < 21 {
-        return StepEnd::Bad(activity.pc);
-    }
-    let one = set_at(store, activity.top - 8 - 8);
-    let other = set_at(store, activity.top - 8);
-    let words = minus_words(one, other);
-    push_words_at(store, activity, activity.top - 8 - 8, &words, next)
-}
-
-// MEET of the words of two sets.
-#[tactic(auto, using(crate::proofs::SetWords::meet_words))]
-fn meet_words(one: [u16; 8], other: [u16; 8]) -> [u16; 8]
-    requires one { AreSetWords one }
-    requires other { AreSetWords other }
-    ensures { result ≡ words_meet one other }
-{
-    Members::from_words(one)
-        .meet(&Members::from_words(other))
-        .words()
-}
-
-/// MEET.
-#[inline(never)]
-pub fn intersection(store: &mut Store, activity: &mut Activity, next: u32) -> StepEnd
-    requires ordered { IsOrdered activity.old }
-    ensures exact { let l = local_of store.old activity.old in
-        Gives (on_sets words_meet next l) result l (local_of store.new activity.new) }
-    ensures ordered { IsOrdered activity.new }
-{
-    if activity.top - activity.base < 21 {
-        return StepEnd::Bad(activity.pc);
-    }
-    let one = set_at(store, activity.top - 8 - 8);
-    let other = set_at(store, activity.top - 8);
-    let words = meet_words(one, other);
+    let words = set_words(operator, one, other);
     push_words_at(store, activity, activity.top - 8 - 8, &words, next)
 }
 

@@ -88,7 +88,7 @@ struct Start {
     address: u32,
 }
 
-// The branch at a place, from the words of all, three of each.
+// Branch `i`, counted from 0, from the words of all, three of each.
 #[tactic(auto, using(edi_target::proofs::Branches::branch_count, edi_target::proofs::Branches::branch_at))]
 fn branch_of(branches: &[u16], i: u32) -> Start
     requires { i < length (branches_of branches.now) }

@@ -1,12 +1,13 @@
 -- What a call leaves behind, as its clauses say it.
-use Rattle.std.proofs.Common.{◌≡◌, ℕ, zero, suc, ◌+◌, ◌-◌, ◌<◌, ◌≤◌, inl, inr, cond, List, [], ◌∷◌, ◌++◌, length, refl, sym, ◌∙◌, ap, arith, subst, eqb}
+use Rattle.std.proofs.Common.{◌≡◌, ℕ, zero, suc, ◌+◌, ◌<◌, ◌≤◌, inl, inr, cond, List, [], ◌∷◌, ◌++◌, length, refl, sym, ◌∙◌, ap, arith, subst, eqb}
 use Rattle.std.proofs.Common.{eq-eqb, get_or, set, get_or-set_same, get_or-set_other, length-set, add-one}
 use Rattle.std.specs.Prelude.{Option, Some, None, IsSome, slice_get}
 use Rattle.std.proofs.lemmas.Bool.{cases_eq, ne_eqb}
 use Rattle.std.proofs.lemmas.List.{length_push}
 use Rattle.edi_ring.specs.declared.Ends.{Ends}
 use Rattle.edi_ring.specs.Lists.{list_at, home_of, appended, without, IsSound}
-use Rattle.edi_ring.specs.Links.{lists_in, redirected, redirected_end, IsLinked, IsAmong, no_ends}
+use Rattle.edi_ring.specs.Links.{lists_in, redirected, redirected_end, shortened, step, IsLinked, IsAmong, no_ends}
+use Rattle.edi_ring.proofs.Chain.{before_first}
 use Rattle.edi_ring.proofs.Arrays.{IsLinked-view, IsLinked-again, lists_in-IsLinked, first-Stands, next-slice_get}
 use Rattle.edi_ring.proofs.Homes.{IsSound-IsLinked, home_of-IsLinked, length-le-nodes}
 use Rattle.edi_ring.proofs.Moves as moves
@@ -149,12 +150,7 @@ module _ (nodes count : ℕ) (next prev home : List (Option ℕ)) (ends : List E
           (moves.following_in next prev home ends lists linked nodes wide_next wide_prev wide_home list node its_home c k)
 
       pub take_leaves : Leaves nodes count (redirected next preceding following) (redirected prev following preceding) (set home node None)
-          (set ends list (record {
-            first = redirected_end here.first preceding following;
-            last = redirected_end here.last following preceding;
-            len = here.len - 1;
-          }))
-          (without lists node) (λ q. cond (eqb q node) None (home_of lists q))
+          (set ends list (shortened here preceding following)) (without lists node) (λ q. cond (eqb q node) None (home_of lists q))
       take_leaves =
           leaves nodes count _ _ _ _ _ _
           (moves.IsLinked-take next prev home ends lists linked nodes wide_next wide_prev wide_home list node its_home)
@@ -167,6 +163,46 @@ module _ (nodes count : ℕ) (next prev home : List (Option ℕ)) (ends : List E
       some_there =
           let counted = (linked.stands list (let lt = is_list in omega (arith, many))).counted in
           let some = some_among node (list_at lists list) (linked.among_list list node its_home) in omega arith
+
+  -- the first node of a list
+  module _ (list node : ℕ) (is_list : list < count) (first : slice_get (list_at lists list) 0 ≡ Some node) where
+    abbrev front : Ends
+    front = get_or ends list no_ends
+
+    abbrev behind : Option ℕ
+    behind = get_or next node None
+
+    pub front_home : get_or home node None ≡ Some list
+    front_home = linked.homes list node (among_at (list_at lists list) 0 node first)
+
+    front_listed : IsSome (home_of lists node)
+    front_listed = rw (home_is node ∙ front_home) refl
+
+    pub front_within : node < nodes
+    front_within = index_within list 0 node first
+
+    pub behind_within : (c : ℕ) → behind ≡ Some c → c < nodes
+    behind_within = following_within node front_within front_listed list front_home
+
+    pub front_there : 1 ≤ front.len
+    front_there = some_there node front_within front_listed list front_home
+
+    none_before : get_or prev node None ≡ None
+    none_before =
+        before_first (step next front.first) (step prev front.last) None (list_at lists list) node (linked.stands list (omega (arith, many))).runs first
+
+    pub front_leaves : Leaves nodes count next (redirected prev behind None) (set home node None) (set ends list (shortened front None behind))
+        (without lists node) (λ q. cond (eqb q node) None (home_of lists q))
+    front_leaves =
+        subst
+        (λ (o : Option ℕ). Leaves nodes count (redirected next o behind) (redirected prev behind o) (set home node None)
+        (set ends list (shortened front o behind)) (without lists node) (λ q. cond (eqb q node) None (home_of lists q)))
+        none_before (take_leaves node front_within front_listed list front_home)
+
+-- a list that is not empty has a first node
+pub some_first : (xs : List ℕ) → 0 < length xs → IsSome (slice_get xs 0)
+some_first [] lt = absurd (omega (arith, lt))
+some_first (x ∷ xs) lt = refl
 
 -- a node taken out and put at the back of the same list is where it was
 pub homes_again : (was mid now : ℕ → Option ℕ) (list node : ℕ) → was node ≡ Some list → ((q : ℕ) → mid q ≡ cond (eqb q node) None (was q))

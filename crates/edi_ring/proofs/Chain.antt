@@ -1,7 +1,7 @@
 -- A chain of nodes between its two ends: what one node more or less at a place makes of it.
 use Rattle.std.proofs.Common.{◌≡◌, ℕ, ◌+◌, ◌⊎◌, inl, inr, not, List, [], ◌∷◌, ◌++◌, length, refl, sym, ◌∙◌, ap, arith, eqb, eq-eqb, subst}
 use Rattle.std.proofs.lemmas.Bool.{ne_eqb, cases_eq}
-use Rattle.std.specs.Prelude.{Option, Some, None, filter}
+use Rattle.std.specs.Prelude.{Option, Some, None, filter, slice_get}
 use Rattle.edi_ring.specs.Links.{Runs, IsAmong, NoneTwice}
 
 -- places that no node here has behave as before
@@ -17,6 +17,11 @@ pub prev_of : (f g : Option ℕ → Option ℕ) (b : Option ℕ) (xs : List ℕ)
 prev_of f g b [] n r i = absurd i
 prev_of f g b (x ∷ xs) n r (inl e) = inl (cc)
 prev_of f g b (x ∷ xs) n r (inr i) = elim (prev_of f g (Some x) xs n r.2 i) [ inl h ↦ inr (x, h, inl refl) | inr h ↦ inr (h.0, h.1, inr h.2) ]
+
+-- before the first node of the chain
+pub before_first : (f g : Option ℕ → Option ℕ) (b : Option ℕ) (xs : List ℕ) (n : ℕ) → Runs f g b xs → slice_get xs 0 ≡ Some n → g (Some n) ≡ b
+before_first f g b [] n r e = let end : None ≡ Some n = e in absurd (cc)
+before_first f g b (x ∷ xs) n r e = let same : x ≡ n = cc in subst (λ (y : ℕ). g (Some y) ≡ b) same r.1
 
 -- what stands after a node of the chain
 pub next_of : (f g : Option ℕ → Option ℕ) (b : Option ℕ) (xs : List ℕ) (n a : ℕ) → Runs f g b xs → IsAmong n xs → f (Some n) ≡ Some a → IsAmong a xs

@@ -4,7 +4,7 @@
 ghost use Rattle.std.specs.Prelude.{◌≡◌, ℕ, ◌+◌, ◌<◌, ◌≤◌, ◌==◌, if◌then◌else◌, [], length, replicate, IsSome, IfSome, slice_get};
 ghost use Rattle.std.specs.Option.{ForSome};
 ghost use Rattle.edi_ring.specs.Lists.{list_at, home_of, appended, without, IsSound};
-ghost use Rattle.edi_ring.specs.Links.{redirected, redirected_end};
+ghost use Rattle.edi_ring.specs.Links.{redirected, redirected_end, shortened};
 
 use std::marker::Model;
 
@@ -43,6 +43,27 @@ fn redirect<const N: usize>(
         Some(node) => links[node] = target,
         None => *end = target,
     }
+}
+
+// Leads the links of a list past the one node of it that stands between these two, and counts one less.
+#[inline(always)]
+fn lead_past<const N: usize>(
+    next: &mut [Option<usize>; N],
+    prev: &mut [Option<usize>; N],
+    ends: &mut Ends,
+    before: Option<usize>,
+    after: Option<usize>,
+)
+    requires before_in_range { ForSome before (λ node. node < N) }
+    requires after_in_range { ForSome after (λ node. node < N) }
+    requires some { 0 < ends.old.len }
+    ensures next { next.new ≡ redirected next.old before after }
+    ensures prev { prev.new ≡ redirected prev.old after before }
+    ensures ends { ends.new ≡ shortened ends.old before after }
+{
+    redirect(next, &mut ends.first, before, after);
+    redirect(prev, &mut ends.last, after, before);
+    ends.len -= 1;
 }
 
 impl<const N: usize, const M: usize> Model for Lists<N, M> {
@@ -84,14 +105,14 @@ impl<const N: usize, const M: usize> Lists<N, M> {
         ensures homes { (q : ℕ) → home_of self.new q ≡ (if q == node then Some list else home_of self.old q) }
         ensures sound { IsSound N M self.new }
     {
-        let mut ends = self.ends[list];
+        let ends = &mut self.ends[list];
+        let last = ends.last;
         self.next[node] = None;
-        self.prev[node] = ends.last;
+        self.prev[node] = last;
         self.home[node] = Some(list);
-        redirect(&mut self.next, &mut ends.first, ends.last, Some(node));
+        redirect(&mut self.next, &mut ends.first, last, Some(node));
         ends.last = Some(node);
         ends.len += 1;
-        self.ends[list] = ends;
     }
 
     /// Removes the node, which is in a list, from there.
@@ -103,13 +124,37 @@ impl<const N: usize, const M: usize> Lists<N, M> {
         ensures sound { IsSound N M self.new }
     {
         let list = self.home[node].unwrap();
-        let mut ends = self.ends[list];
         let (before, after) = (self.prev[node], self.next[node]);
-        redirect(&mut self.next, &mut ends.first, before, after);
-        redirect(&mut self.prev, &mut ends.last, after, before);
-        ends.len -= 1;
-        self.ends[list] = ends;
+        lead_past(
+            &mut self.next,
+            &mut self.prev,
+            &mut self.ends[list],
+            before,
+            after,
+        );
         self.home[node] = None;
+    }
+
+    /// Removes the first node of the list, which has one, from there.
+    pub fn take_front(&mut self, list: usize) -> usize
+        requires list_in_range { list < M }
+        requires some { 0 < length (list_at self.old list) }
+        ensures was { slice_get (list_at self.old list) 0 ≡ Some result }
+        ensures exact { self.new ≡ without self.old result }
+        ensures homes { (q : ℕ) → home_of self.new q ≡ (if q == result then None else home_of self.old q) }
+        ensures sound { IsSound N M self.new }
+    {
+        let node = self.ends[list].first.unwrap();
+        let after = self.next[node];
+        lead_past(
+            &mut self.next,
+            &mut self.prev,
+            &mut self.ends[list],
+            None,
+            after,
+        );
+        self.home[node] = None;
+        node
     }
 
     /// Makes the node, which is in a list, the last of that list.
@@ -134,8 +179,8 @@ impl<const N: usize, const M: usize> Lists<N, M> {
         self.ends[list].first
     }
 
-    /// The node at place `i` of the list, counted from 0 at the front; `None` exactly where the
-    /// list has no such place. It goes from node to node, so it takes as many steps as `i`.
+    /// The node at index `i` of the list, counted from 0 at the front; `None` exactly where the
+    /// list has no node there. It goes from node to node, so it takes as many steps as `i`.
     pub fn nth(&self, list: usize, i: usize) -> Option<usize>
         requires { list < M }
         ensures exact { result ≡ slice_get (list_at self.now list) i }

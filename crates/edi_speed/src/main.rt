@@ -1,7 +1,7 @@
 //! How fast the kernel runs: `time edi_speed sums` runs 180 million instructions of sums (20 million turns), `calls` 20 million
 //! calls with their returns in a loop (60 million turns), `matrix` 100 million instructions of products of matrices (3 million
 //! turns), `copies` 40 million copies of ten words (20 million turns), `pair` two processes that hand values on to one another
-//! (20 million turns), and `processes` 50 million instructions of 31 processes, each of which gives up its turn at a `when`
+//! (20 million turns), and `processes` 50 million instructions of 31 processes, each of which gives way at a `when`
 //! (20 million turns). `chosen-pair` and `chosen-processes` are the last two with choices of a seed. Without a word it runs each
 //! for a short time. `bench/run` shows the times beside those of a plain interpreter in C.
 #![tactic(auto)]
@@ -42,7 +42,7 @@ const COPIES: [u16; 29] = [
     33, 60, 0, 0, 20, 0, 4, 0, 5, 4, 0, 15, 7, 10, 8, 10, 4, 0, 15, 4, 0, 5, 7, 10, 8, 10, 32, 0, 6,
 ];
 
-/// Two branches that share a place: one puts a value there when it is empty, and the other takes it from there when it is full.
+/// Two branches that share a variable: one puts a value there when it is empty, and the other takes it from there when it is full.
 const PAIR: [u16; 90] = [
     33, 20, 0, 0, 3, 0, 42, 2, 1, 12, 0, 18, 12, 0, 53, 37, 0, 0, 39, 1, 4, 1, 5, 7, 1, 15, 29, 0,
     47, 4, 1, 6, 1, 7, 8, 1, 4, 1, 5, 1, 1, 8, 1, 41, 28, 0, 50, 44, 0, 20, 32, 0, 18, 39, 1, 4, 1,

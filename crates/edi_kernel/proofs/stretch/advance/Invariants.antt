@@ -1,4 +1,4 @@
-use Rattle.std.proofs.Common.{◌≡◌, ℕ, ◌+◌, ◌-◌, ◌*◌, ◌≤◌, length, None}
+use Rattle.std.proofs.Common.{◌+◌, ◌-◌, ◌*◌, ◌≤◌, length, None}
 use Rattle.edi_told.specs.Told.{WhereTold}
 use Rattle.edi_machine.specs.Activities.{IsOrdered}
 use Rattle.edi_kernel.specs.Stretch.{running_in, CallsLast, Reaches}

@@ -18,57 +18,41 @@ offset_bounds-self-inside-list g c =
     c.requires.listed _ c.unwrap-list.ensures in
     search rules
 
-pub redirect-requires : goal.redirect-requires
-redirect-requires g c = (
+pub lead_past-requires : goal.lead_past-requires
+lead_past-requires g c = (
   search rules,
-  calls.preceding_within _ _ _ _ _ _ _ c.self.invariant c.self.view_is c.self.told c.self.told2 c.self.told3 c.self.told4 _ c.requires.node_in_range
-      c.requires.listed _ c.unwrap-list.ensures,
+  (
+    calls.preceding_within _ _ _ _ _ _ _ c.self.invariant c.self.view_is c.self.told c.self.told2 c.self.told3 c.self.told4 _ c.requires.node_in_range
+        c.requires.listed _ c.unwrap-list.ensures,
+    (
+      calls.following_within _ _ _ _ _ _ _ c.self.invariant c.self.view_is c.self.told c.self.told2 c.self.told3 c.self.told4 _ c.requires.node_in_range
+          c.requires.listed _ c.unwrap-list.ensures,
+      calls.some_there _ _ _ _ _ _ _ c.self.invariant c.self.view_is c.self.told c.self.told2 c.self.told3 c.self.told4 _ c.requires.node_in_range
+          c.requires.listed _ c.unwrap-list.ensures,
+    ),
+  ),
 )
-
-pub redirect-requires-2 : goal.redirect-requires-2
-redirect-requires-2 g c = (
-  search rules,
-  calls.following_within _ _ _ _ _ _ _ c.self.invariant c.self.view_is c.self.told c.self.told2 c.self.told3 c.self.told4 _ c.requires.node_in_range
-      c.requires.listed _ c.unwrap-list.ensures,
-)
-
-pub overflow_sub-ends : goal.overflow_sub-ends
-overflow_sub-ends g c =
-    calls.some_there _ _ _ _ _ _ _ c.self.invariant c.self.view_is c.self.told c.self.told2 c.self.told3 c.self.told4 _ c.requires.node_in_range
-    c.requires.listed _ c.unwrap-list.ensures
-
-pub bounds-self-inside-list-2 : goal.bounds-self-inside-list-2
-bounds-self-inside-list-2 g c =
-    calls.is_list _ _ _ _ _ _ _ c.self.invariant c.self.view_is c.self.told c.self.told2 c.self.told3 c.self.told4 _ c.requires.node_in_range
-    c.requires.listed _ c.unwrap-list.ensures
-
-pub offset_bounds-self-inside-list-2 : goal.offset_bounds-self-inside-list-2
-offset_bounds-self-inside-list-2 g c =
-    let lt =
-    calls.is_list _ _ _ _ _ _ _ c.self.invariant c.self.view_is c.self.told c.self.told2 c.self.told3 c.self.told4 _ c.requires.node_in_range
-    c.requires.listed _ c.unwrap-list.ensures in
-    search rules
 
 pub invariant_of-self : goal.invariant_of-self
 invariant_of-self g c =
-    rw (c.redirect.ensures.links, c.redirect.ensures.end, c.redirect-2.ensures.links, c.redirect-2.ensures.end)
+    rw (c.lead_past.ensures.next, c.lead_past.ensures.prev, c.lead_past.ensures.ends)
     (calls.take_leaves _ _ _ _ _ _ _ c.self.invariant c.self.view_is c.self.told c.self.told2 c.self.told3 c.self.told4 _ c.requires.node_in_range
     c.requires.listed _ c.unwrap-list.ensures).still_linked
 
 pub returns-clause-exact : goal.returns-clause-exact
 returns-clause-exact g c =
-    rw (c.redirect.ensures.links, c.redirect.ensures.end, c.redirect-2.ensures.end)
+    rw (c.lead_past.ensures.next, c.lead_past.ensures.ends)
     (calls.take_leaves _ _ _ _ _ _ _ c.self.invariant c.self.view_is c.self.told c.self.told2 c.self.told3 c.self.told4 _ c.requires.node_in_range
     c.requires.listed _ c.unwrap-list.ensures).exact
 
 pub returns-clause-homes : goal.returns-clause-homes
 returns-clause-homes g c =
-    rw (c.redirect.ensures.links, c.redirect.ensures.end, c.redirect-2.ensures.end)
+    rw (c.lead_past.ensures.next, c.lead_past.ensures.ends)
     (calls.take_leaves _ _ _ _ _ _ _ c.self.invariant c.self.view_is c.self.told c.self.told2 c.self.told3 c.self.told4 _ c.requires.node_in_range
     c.requires.listed _ c.unwrap-list.ensures).homes_are
 
 pub returns-clause-sound : goal.returns-clause-sound
 returns-clause-sound g c =
-    rw (c.redirect.ensures.links, c.redirect.ensures.end, c.redirect-2.ensures.end)
+    rw (c.lead_past.ensures.next, c.lead_past.ensures.ends)
     (calls.take_leaves _ _ _ _ _ _ _ c.self.invariant c.self.view_is c.self.told c.self.told2 c.self.told3 c.self.told4 _ c.requires.node_in_range
     c.requires.listed _ c.unwrap-list.ensures).sound

@@ -1,11 +1,15 @@
 -- A stint of the kernel is one of the machine.
-use Rattle.std.proofs.Common.{ap, None, sym, ◌∙◌}
+use Rattle.std.proofs.Common.{◌≡◌, ap, None, subst, sym, ◌∙◌}
 use Rattle.edi_told.proofs.Told.{WhereTold-map}
 use Rattle.edi_kernel.specs.declared.state.KernelState.{KernelState}
 use Rattle.edi_kernel.proofs.Going.{mid_of, few_marks, stays_kernel, goes_all}
-use Rattle.edi_kernel.specs.Table.{ready_slots}
+use Rattle.edi_kernel.specs.Table.{no_marks, ready_slots}
 use Rattle.edi_kernel.proofs.Placing.{ready_if, stands_same}
 use Rattle.edi_kernel.proofs.state.KernelState.go.Goals as goal
+
+pub unmark_if-requires : goal.unmark_if-requires
+unmark_if-requires g c =
+    subst (λ (k : KernelState). k.table.marks ≡ 0 → k.table.marked ≡ no_marks) (sym c.walk-pause.ensures.same) c.requires.kernel.table.clear
 
 pub handle-requires-clause-taken : goal.handle-requires-clause-taken
 handle-requires-clause-taken g c =
@@ -21,7 +25,7 @@ handle-requires-clause-marks g c =
 pub returns-clause-exact : goal.returns-clause-exact
 returns-clause-exact g c =
     WhereTold-map _ _ _ _
-    (goes_all c.args.code.now.words c.args.self.now (record c.walk-pause.new.self { table = c.unmark_if.new.self; taken = None; arrived = None })
+    (goes_all c.args.code.now.words c.args.self.now (record c.walk-pause.new.self { table = c.unmark_if.new.self; taken = None })
     c.handle.new.self c.unwrap-slot.result c.args.left c.walk-pause.result.1.left
     c.walk-pause.result.1.activity c.walk-pause.result.1.cleared c.walk-pause.result.0 c.handle.result _ c.requires.kernel c.unwrap-slot.ensures
     (mid_of c.args.self.now c.walk-pause.new.self c.unmark_if.new.self c.unwrap-slot.result c.walk-pause.result.1.cleared c.requires.kernel
@@ -31,7 +35,7 @@ returns-clause-exact g c =
 
 pub returns-clause-kernel : goal.returns-clause-kernel
 returns-clause-kernel g c =
-    stays_kernel c.args.code.now.words c.args.self.now (record c.walk-pause.new.self { table = c.unmark_if.new.self; taken = None; arrived = None })
+    stays_kernel c.args.code.now.words c.args.self.now (record c.walk-pause.new.self { table = c.unmark_if.new.self; taken = None })
     c.handle.new.self c.unwrap-slot.result c.args.left c.walk-pause.result.1.left
     c.walk-pause.result.1.activity c.walk-pause.result.1.cleared c.walk-pause.result.0 c.handle.result _ c.requires.kernel c.unwrap-slot.ensures
     (mid_of c.args.self.now c.walk-pause.new.self c.unmark_if.new.self c.unwrap-slot.result c.walk-pause.result.1.cleared c.requires.kernel

@@ -1,4 +1,4 @@
-use Rattle.std.proofs.Common.{◌≡◌, ℕ, ◌+◌, ◌-◌, ◌^◌, ◌<◌, ◌≤◌, None}
+use Rattle.std.proofs.Common.{◌≡◌, ◌+◌, ◌-◌, ◌^◌, ◌<◌, ◌≤◌, None}
 use Rattle.std.specs.Prelude.{IsSome}
 use Rattle.edi_told.specs.Told.{WhereTold}
 use Rattle.edi_kernel.specs.Kernel.{IsKernel}

@@ -1,17 +1,10 @@
--- The slot is in the list of the free ones.
-use Rattle.std.proofs.Common.{◌∙◌, sym, arith}
-use Rattle.edi_kernel.proofs.Slots.{listed, listed_below, some_home}
+-- The slot was in the list of the free ones.
+use Rattle.std.proofs.Common.{arith}
+use Rattle.edi_kernel.proofs.Slots.{listed, listed_below}
 use Rattle.edi_kernel.proofs.table.Table.take_free.Goals as goal
 
-pub withdraw-requires-clause-slot : goal.withdraw-requires-clause-slot
-withdraw-requires-clause-slot c = listed_below _ 1 _ _ c.requires.sound (sym c.front.ensures.exact ∙ c.unwrap-slot.ensures)
-
-pub withdraw-requires-clause-listed : goal.withdraw-requires-clause-listed
-withdraw-requires-clause-listed c = some_home c.args.self.now.lists c.unwrap-slot.result 1
-    (listed _ 1 _ _ c.requires.sound (omega arith) (sym c.front.ensures.exact ∙ c.unwrap-slot.ensures))
-
 pub returns-clause-was : goal.returns-clause-was
-returns-clause-was c = listed _ 1 _ _ c.requires.sound (omega arith) (sym c.front.ensures.exact ∙ c.unwrap-slot.ensures)
+returns-clause-was c = listed _ 1 _ _ c.requires.sound (omega arith) c.take_front.ensures.was
 
 pub returns-clause-slot : goal.returns-clause-slot
-returns-clause-slot c = listed_below _ 1 _ _ c.requires.sound (sym c.front.ensures.exact ∙ c.unwrap-slot.ensures)
+returns-clause-slot c = listed_below _ 1 _ _ c.requires.sound c.take_front.ensures.was
