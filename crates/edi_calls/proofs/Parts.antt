@@ -1,27 +1,18 @@
 -- Each answered call changes one part of the state at most, so a torn state is whole.
-use Rattle.std.proofs.Common.{◌≡◌, ℕ, Bool, true, false, List, [], ◌∷◌, length, Option, Some, None, refl, sym, ◌∙◌, subst, ◌⊎◌, inl, inr}
-use Rattle.std.specs.Prelude.{if◌then◌else◌, ⊤, slice_index, slice_get, nat_lt, ◌==◌}
-use Rattle.std.specs.Option.{option_map_or}
+use Rattle.std.proofs.Common.{◌≡◌, ℕ, List, [], ◌∷◌, length, Option, Some, None, refl, sym, ◌∙◌, ◌⊎◌, inl, inr}
+use Rattle.std.specs.Prelude.{slice_index, slice_get, nat_lt, ◌==◌}
 use Rattle.edi_calls.specs.State.{Found, State, title_of, most_bytes}
 use Rattle.edi_calls.specs.Calls as calls
-use Rattle.edi_calls.specs.Calls.{CallResult, answered, no_file, file_limit, call}
+use Rattle.edi_calls.specs.Calls.{CallResult, call}
 use Rattle.edi_calls.specs.Ends.{IsTorn}
 use Rattle.edi_calls.specs.Laws.{ChangesOnePart, only_input, only_shown, only_printed, only_slots, EachCallChangesOnePart, IsSameOutside, TornIsBeforeOrBehind}
-use Rattle.edi_calls.proofs.Lasting.{each_call_goes_on_all}
+use Rattle.edi_calls.proofs.Lasting.{IfAnswered, by_test, by_option, answer_is, each_call_goes_on_all}
+
+abbrev Changing : State → List ℕ → State → Type 0
+Changing s words after = ChangesOnePart s after
 
 abbrev Changes : State → CallResult → Type 0
-Changes s (answered words after) = ChangesOnePart s after
-Changes s no_file = ⊤
-Changes s file_limit = ⊤
-
-by_test : (s : State) (b : Bool) (x y : CallResult) → Changes s x → Changes s y → Changes s (if b then x else y)
-by_test s true x y p q = p
-by_test s false x y p q = q
-
-by_option : {A : Type 0} (s : State) (f : A → CallResult) (o : Option A) (x : CallResult)
-    → ((a : A) → Changes s (f a)) → Changes s x → Changes s (option_map_or f o x)
-by_option s f None x p q = q
-by_option s f (Some a) x p q = p a
+Changes s result = IfAnswered (Changing s) result
 
 accepts : (input : List ℕ) (s : State) → Changes s (calls.accept_from input s)
 accepts [] s = only_slots refl refl refl
@@ -41,45 +32,39 @@ reads (Some found) s = nexts (slice_get (calls.found_bytes s found) found.positi
 
 writes : (buffer : Option (List ℕ)) (word : ℕ) (s : State) → Changes s (calls.write_to buffer word s)
 writes None word s = tt
-writes (Some bytes) word s = by_test s (nat_lt (length bytes) most_bytes) _ _ (only_slots refl refl refl) tt
+writes (Some bytes) word s = by_test (Changing s) (nat_lt (length bytes) most_bytes) _ _ (only_slots refl refl refl) tt
 
 closes_as : (bytes title : List ℕ) (s : State) → Changes s (calls.close_as bytes title s)
 closes_as bytes title s =
-    by_option s _ (calls.room_for s title (length bytes)) _ (λ index. only_slots refl refl refl) (only_slots refl refl refl)
+    by_option (Changing s) _ (calls.room_for s title (length bytes)) _ (λ index. only_slots refl refl refl) (only_slots refl refl refl)
 
 closes : (buffer : Option (List ℕ)) (words : List ℕ) (s : State) → Changes s (calls.close_of buffer words s)
 closes None words s = tt
-closes (Some bytes) words s = by_option s _ (title_of words) _ (λ title. closes_as bytes title s) (only_slots refl refl refl)
+closes (Some bytes) words s = by_option (Changing s) _ (title_of words) _ (λ title. closes_as bytes title s) (only_slots refl refl refl)
 
 removes_as : (title : List ℕ) (s : State) → Changes s (calls.remove_as title s)
 removes_as title s =
-    by_option s _ (calls.open_slot s.slots title) _ (λ index. only_slots refl refl refl) (only_slots refl refl refl)
+    by_option (Changing s) _ (calls.open_slot s.slots title) _ (λ index. only_slots refl refl refl) (only_slots refl refl refl)
 
 removes : (words : List ℕ) (s : State) → Changes s (calls.remove words s)
-removes words s = by_option s _ (title_of words) _ (λ title. removes_as title s) (only_slots refl refl refl)
+removes words s = by_option (Changing s) _ (title_of words) _ (λ title. removes_as title s) (only_slots refl refl refl)
 
 changes : (number : ℕ) (words : List ℕ) (s : State) → Changes s (call number words s)
 changes number words s =
-    by_test s (number == 1) _ _ (accepts s.input s)
-    (by_test s (number == 2) _ _ (only_shown refl refl refl)
-    (by_test s (number == 3) _ _ (only_printed refl refl refl)
-    (by_test s (number == 4) _ _ (only_slots refl refl refl)
-    (by_test s (number == 5) _ _ (mores s.found s)
-    (by_test s (number == 6) _ _ (reads s.found s)
-    (by_test s (number == 7) _ _ (only_slots refl refl refl)
-    (by_test s (number == 8) _ _ (writes s.buffer (slice_index words 0) s)
-    (by_test s (number == 9) _ _ (closes s.buffer words s)
-    (by_test s (number == 10) _ _ (removes words s) (only_slots refl refl refl))))))))))
-
-answered_changes : (s : State) (result : CallResult) (answer : List ℕ) (after : State) → Changes s result
-    → result ≡ answered answer after → ChangesOnePart s after
-answered_changes s (answered words next) answer after one is = let same : next ≡ after = cc in subst (λ t. ChangesOnePart s t) same one
-answered_changes s no_file answer after one is = absurd (cc)
-answered_changes s file_limit answer after one is = absurd (cc)
+    by_test (Changing s) (number == 1) _ _ (accepts s.input s)
+    (by_test (Changing s) (number == 2) _ _ (only_shown refl refl refl)
+    (by_test (Changing s) (number == 3) _ _ (only_printed refl refl refl)
+    (by_test (Changing s) (number == 4) _ _ (only_slots refl refl refl)
+    (by_test (Changing s) (number == 5) _ _ (mores s.found s)
+    (by_test (Changing s) (number == 6) _ _ (reads s.found s)
+    (by_test (Changing s) (number == 7) _ _ (only_slots refl refl refl)
+    (by_test (Changing s) (number == 8) _ _ (writes s.buffer (slice_index words 0) s)
+    (by_test (Changing s) (number == 9) _ _ (closes s.buffer words s)
+    (by_test (Changing s) (number == 10) _ _ (removes words s) (only_slots refl refl refl))))))))))
 
 pub each_call_changes_one_part_all : EachCallChangesOnePart
 each_call_changes_one_part_all number words answer before after is =
-    answered_changes before (call number words before) answer after (changes number words before) is
+    answer_is (Changing before) (call number words before) answer after (changes number words before) is
 
 -- ---- a torn state
 
