@@ -1,6 +1,6 @@
 -- How `demo` came to its status, whatever the drive and the input are.
-use Rattle.std.proofs.Common.{◌≡◌, ◌∙◌, ◌+◌, arith, ℕ, Bool, false, List, [], ◌++◌}
-use Rattle.std.proofs.Common.{Option, Some, None, Ok, Err, map, refl, sym, ap, subst, inl}
+use Rattle.std.proofs.Common.{◌≡◌, ◌∙◌, arith, ℕ, Bool, false, List, [], ◌++◌}
+use Rattle.std.proofs.Common.{Option, Some, None, Err, map, refl, sym, ap, subst, inl}
 use Rattle.std.specs.Prelude.{⊤}
 use Rattle.edi_told.specs.Told.{WhereTold}
 use Rattle.edi_host.specs.Blocks.{block_of}

@@ -7,19 +7,16 @@ use Rattle.edi_calls.specs.Outcome.{Ending}
 use Rattle.edi_catalog.specs.Taken.{IsOfCount}
 use Rattle.edi_host.specs.Files.{Contents}
 use Rattle.edi_image.specs.declared.faults.MountFault.{MountFault}
-use Rattle.edi_texts.specs.declared.refusal.Refusal.{Refusal}
-use Rattle.edi_texts.specs.declared.refusal.Refusal.TheVariants.{At, NoMemory}
 use Rattle.edi_trace.specs.Drawn.{Drawn}
 use Rattle.edi_statuses.specs.declared.status.Status.{Status}
 use Rattle.edi_statuses.specs.declared.status.Status.TheVariants as status
-use Rattle.edi_statuses.specs.EachObject.{FitsCount, MayBeImage, is_before_drive}
+use Rattle.edi_statuses.specs.EachObject.{MayBeImage, is_before_drive}
 use Rattle.edi_statuses.specs.Executions.{status_of}
 use Rattle.edi_statuses.specs.Showing.{ShowsFar}
-use Rattle.edi_steps.specs.Loaded.{LoadStep}
 use Rattle.edi_steps.specs.NotMounted.{mount_status}
 use Rattle.edi_steps.specs.OnFiles.{RecordStep}
 use Rattle.edi_steps.proofs.Unmounted.{unmounted_behind, unmounted_fits}
-use Rattle.edi_run_commands.specs.CodeRan.{object_status, refusal_status}
+use Rattle.edi_run_commands.specs.CodeRan.{object_status}
 use Rattle.edi_run_commands.specs.OnMounted.{DriveAsked}
 
 -- another status that is the same
@@ -61,13 +58,3 @@ pub shown_behind : (s : Status) (front all : List ℕ) → ShowsFar s front all 
 shown_behind status.Ok front all far = refl
 shown_behind status.OutputFault front all far = refl
 shown_behind s front all far = absurd far
-
--- ---- steps before
-
-pub refusal_fits : (refusal : Refusal) (count : ℕ) → FitsCount (refusal_status refusal) count
-refusal_fits NoMemory count = tt
-refusal_fits (At pass kind line) count = tt
-
-pub load_fits : (bytes : List ℕ) (s : Status) (count : ℕ) → LoadStep bytes (Err s) → FitsCount s count
-load_fits bytes status.NoMemory count h = tt
-load_fits bytes s count h = subst (λ x. FitsCount x count) (sym h.1) tt

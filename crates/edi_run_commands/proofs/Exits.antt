@@ -108,16 +108,16 @@ came there asks steps program choices bound name s t due before after kernel sam
 
 module _ {U X : Type 0} (third : List ℕ → AfterStep U → Type 0) (make : List ℕ → U → X) (program : X → Runnable) (name : List ℕ) (from : ChoicesFrom)
     (bound : ℕ) (record_file : Option (List ℕ)) (before : Outside) (kernel : Lent) where
-  abbrev steps : Outside → AfterStep (X × Choices) → Type 0
+  abbrev pub steps : Outside → AfterStep (X × Choices) → Type 0
   steps o = StepsBy third make name from o
 
-  abbrev file_there : Outside → Type 0
+  abbrev pub file_there : Outside → Type 0
   file_there o = IsSomeFile o name
 
-  abbrev asks : Outside → Type 0
+  abbrev pub asks : Outside → Type 0
   asks o = AsksBy third name from o
 
-  abbrev CameTo : Status → Bool → Outside → Type 0
+  abbrev pub CameTo : Status → Bool → Outside → Type 0
   CameTo s due after = RunCame file_there asks steps (λ a. program a.0) (λ a. a.1) bound record_file s due before after kernel
 
   abbrev MeansAt : Status → Option Contents → Type 0

@@ -9,7 +9,6 @@ pub mod Exits
 pub mod Left
 pub mod Meaning
 pub mod Mounting
-pub mod OfCodeFiles
-pub mod OfTexts
+pub mod OfFiles
 pub mod Shown
 pub mod Told

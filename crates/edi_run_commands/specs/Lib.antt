@@ -1,4 +1,5 @@
 pub mod CodeRan
 pub mod Demonstrated
+pub mod FileSteps
 pub mod OnMounted
 pub mod RunMeans

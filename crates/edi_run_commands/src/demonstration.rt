@@ -15,7 +15,7 @@ ghost use Rattle.edi_statuses.specs.Showing.{ShowsBytes};
 ghost use Rattle.edi_run_commands.specs.Demonstrated.{CameAlone, DemoStep, HasCauseAlone, RanAlone, is_ok};
 
 use crate::code::run_code;
-use crate::texts::refusal_status;
+use crate::files::refusal_status;
 use arrayvec::ArrayString;
 use edi_compile::compile;
 use edi_host::{Files, Sink, SteadyDrive, SteadySource};

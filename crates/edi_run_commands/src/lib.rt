@@ -2,10 +2,8 @@
 #![tactic(auto)]
 
 mod code;
-mod codefile;
 mod demonstration;
-mod texts;
+mod files;
 
-pub use codefile::exec;
 pub use demonstration::demonstrate;
-pub use texts::run;
+pub use files::{exec, run};

@@ -26,9 +26,9 @@ fetch_stopped items o name limit s h = inr (inr h)
 pub fetched_there : (o : Outside) (name all : List ℕ) → Fetches o name (goes all) → IsSomeFile o name
 fetched_there o name all f = go o.files f
   where
-    go : (files : Option Contents) → IfSome files (λ held. map.get held name ≡ Some all) → IfSome files (λ held. IsSome (map.get held name))
+    go : (files : Option Contents) → IfSome files (λ contents. map.get contents name ≡ Some all) → IfSome files (λ contents. IsSome (map.get contents name))
     go None h = tt
-    go (Some held) h = subst IsSome (sym h) refl
+    go (Some contents) h = subst IsSome (sym h) refl
 
 -- the status of a step on files says nothing of the drive
 pub fetch_fits : {V : Type 0} (items : V → List ℕ) (o : Outside) (name : List ℕ) (limit : ℕ) (s : Status) (count : ℕ)
