@@ -10,6 +10,7 @@ use Rattle.edi_host.specs.Files.{Contents}
 use Rattle.edi_calls.specs.State as calls
 use Rattle.edi_image.specs.declared.faults.MountFault.{MountFault}
 use Rattle.edi_image.specs.declared.faults.MountFault.TheVariants as mount
+use Rattle.edi_migrate.proofs.Limited.{first_bytes_decide}
 use Rattle.edi_migrate.specs.Limit.{FirstBytesDecide, most_fetched}
 use Rattle.edi_migrate.specs.Migrated.{MigrateAnswers, MigrateLeaves, is_image_fault}
 use Rattle.edi_migrate.specs.OldImage.{old_fault_of, old_slots_of}
@@ -22,6 +23,7 @@ use Rattle.edi_statuses.specs.Outside.{Lent, Outside, seen, still_told}
 use Rattle.edi_statuses.specs.Steps.{Fetches, IsBrokenRule, goes}
 use Rattle.edi_statuses.specs.Commands.{AreMigrated, OldSteps}
 use Rattle.edi_statuses.specs.Means.{IsOpen, Means}
+use Rattle.edi_steps.specs.OnFiles.{files_only}
 use Rattle.edi_disk_commands.specs.OnDisk.{MeansOnDisk, RestStays}
 use Rattle.edi_statuses.proofs.Told.{still, told_so}
 use Rattle.edi_disk_commands.proofs.Meant.{Same, changes_drive, meant, not_begun, nothing, only_blocks}
@@ -127,9 +129,12 @@ module _ (decide : FirstBytesDecide) (count : ℕ) (least : 64 ≤ count) (file 
     }
     go end.NoMemory a l = nothing before after kernel rest m.files l
 
-pub migrated_means : (decide : FirstBytesDecide) (e : MigrateEnd) (count : ℕ) → 64 ≤ count → (file bytes : List ℕ) (old new : Option Contents)
-    (was now : Option (List (List ℕ)))
-    → Migrates e count file bytes old new was now → MeansOnDisk (newdisk count (Some file)) (status_migrated e) old new was now
-migrated_means decide e count least file bytes old new was now h =
-    meant (Migrates e count file bytes) (newdisk count (Some file)) (status_migrated e) old new was now h
-    (λ before after kernel rest m. migrates_means decide count least file bytes before after kernel rest e m)
+-- the first bytes of the file, which were fetched, are read as an old image
+pub migrated_means : (e : MigrateEnd) (count : ℕ) → 64 ≤ count → (file bytes items : List ℕ) (old new : Option Contents) (was now : Option (List (List ℕ)))
+    → (all : List ℕ) × Fetches (files_only (still_told old new)) file (goes all) × (items ≡ take most_fetched all) → bytes ≡ items → Same old new
+    → MigrateAnswers e count (calls.blocks_taken (old_slots_of (blocks_of bytes))) (blocks_of bytes)
+    → WhereTold was now (MigrateLeaves e count (blocks_of bytes)) → MeansOnDisk (newdisk count (Some file)) (status_migrated e) old new was now
+migrated_means e count least file bytes items old new was now fetched is files answers leaves =
+    meant (Migrates e count file bytes) (newdisk count (Some file)) (status_migrated e) old new was now
+    (record { all = fetched.0; fetched = fetched.1; front = is ∙ fetched.2; files = files; answers = answers; leaves = leaves })
+    (λ before after kernel rest m. migrates_means first_bytes_decide count least file bytes before after kernel rest e m)

@@ -1,5 +1,6 @@
 -- From the steps of `put` to what its status means.
 use Rattle.std.proofs.Common.{◌≡◌, ◌⊎◌, inl, inr, ◌∙◌, ℕ, ◌<◌, ◌≤◌, true, false, List, [], length, take, Option, Some, None, refl, sym, ap, subst, arith}
+use Rattle.std.proofs.Common.{Err, Global, Vec}
 use Rattle.std.specs.Prelude.{IfSome, min, nat_le}
 use Rattle.std.proofs.lemmas.List.{take_all, length-take}
 use Rattle.std.proofs.lemmas.Bool.{le-leb}
@@ -13,13 +14,14 @@ use Rattle.edi_words.specs.Words.{put}
 use Rattle.edi_statuses.specs.declared.status.Status.{Status}
 use Rattle.edi_statuses.specs.declared.status.Status.TheVariants as status
 use Rattle.edi_statuses.specs.Outside.{IsNoFile, IsSomeFile, Lent, Outside, seen, still_told}
-use Rattle.edi_statuses.specs.Steps.{Fetches, Mounts, goes}
-use Rattle.edi_statuses.specs.Commands.{ArePut, PutSteps, is_full}
+use Rattle.edi_statuses.specs.Steps.{AfterStep, Fetches, Mounts, Ready, goes, stops, ◌>>=◌}
+use Rattle.edi_statuses.specs.Commands.{ArePut, HasPlace, PutSteps, is_full}
 use Rattle.edi_statuses.specs.Means.{ArePutInPart, Means}
-use Rattle.edi_steps.specs.OnFiles.{files_only}
+use Rattle.edi_steps.specs.OnFiles.{FetchStep, files_only}
+use Rattle.edi_steps.proofs.OnFilesLemmas.{fetch_stopped}
 use Rattle.edi_disk_commands.specs.OnDisk.{MeansOnDisk, RestStays}
 use Rattle.edi_disk_commands.specs.OnDrive.{IsOfPut, PutsOn}
-use Rattle.edi_statuses.proofs.Told.{first_told, still, told_so}
+use Rattle.edi_statuses.proofs.Told.{first_told, itself, still, told_so}
 use Rattle.edi_disk_commands.proofs.Meant.{Same, changes_drive, meant, not_begun, nothing, one_told, only_blocks}
 
 -- ---- no file
@@ -30,6 +32,15 @@ pub record NotFetched (s : Status) (file : List ℕ) (old new : Option Contents)
       ⊎ ((s ≡ status.Absent) × IsNoFile (files_only (still_told old new)) file))
   pub files : Same old new
   pub blocks : Same was now
+
+-- nor was the drive asked
+pub unfetched : (s : Status) (file : List ℕ) (limit : ℕ) (old new : Option Contents) (was : Option (List (List ℕ)))
+    → FetchStep (λ (v : Vec ℕ Global). v.items) (files_only (still_told old new)) file limit (Err s) → Same old new → NotFetched s file old new was was
+unfetched s file limit old new was h same = record {
+  why = fetch_stopped (λ (v : Vec ℕ Global). v.items) (files_only (still_told old new)) file limit s h;
+  files = same;
+  blocks = itself was;
+}
 
 pub not_put : (s : Status) (file title : List ℕ) (old new : Option Contents) (was now : Option (List (List ℕ)))
     → NotFetched s file old new was now → MeansOnDisk (put file title) s old new was now
@@ -114,24 +125,18 @@ module _ (file title bytes : List ℕ) (before after : Outside) (kernel : Lent) 
       → Mounts (seen before after) (goes tt)
   mounted P so told = first_told P (λ blocks. mount_fault_of blocks ≡ None) before.blocks after.blocks so told
 
+  -- what comes behind the file and its length
+  behind : (r : AfterStep (List ℕ)) → (Mounts (seen before after) >>= λ done. HasPlace (seen before after) title (length bytes) >>= λ room. Ready bytes) r
+      → PutSteps (seen before after) file title r
+  behind r h = inr (bytes, fetched, inr (tt, fits_whole bytes short, h))
+
   -- the file has its place
   steps : (P : List (List ℕ) → List (List ℕ) → Type 0) → ((x y : List (List ℕ)) → P x y → mount_fault_of x ≡ None)
       → ((x y : List (List ℕ)) → P x y → is_full x title (length bytes) ≡ false) → WhereTold before.blocks after.blocks P
       → PutSteps (seen before after) file title (goes bytes)
   steps P valid room told =
-      inr (
-        bytes,
-        fetched,
-        inr (
-          tt,
-          fits_whole bytes short,
-          inr (
-            tt,
-            mounted P valid told,
-            inr (tt, first_told P (λ blocks. is_full blocks title (length bytes) ≡ false) before.blocks after.blocks room told, refl),
-          ),
-        ),
-      )
+      let place = first_told P (λ blocks. is_full blocks title (length bytes) ≡ false) before.blocks after.blocks room told in
+      behind (goes bytes) (inr (tt, mounted P valid told, inr (tt, place, refl)))
 
   no_change : (P : List (List ℕ) → List (List ℕ) → Type 0) → ((x y : List (List ℕ)) → P x y → y ≡ x) → WhereTold before.blocks after.blocks P
       → Same before.blocks after.blocks
@@ -150,43 +155,17 @@ module _ (file title bytes : List ℕ) (before after : Outside) (kernel : Lent) 
         ),
       )
   put_means status.DiskFull of_ told =
+      let full = first_told (PutsOn status.DiskFull title bytes) (λ blocks. is_full blocks title (length bytes) ≡ true) before.blocks after.blocks
+      (λ x y p. p.1) told in
       inl (
-        inr (
-          bytes,
-          fetched,
-          inr (
-            tt,
-            fits_whole bytes short,
-            inr (
-              tt,
-              mounted (PutsOn status.DiskFull title bytes) (λ x y p. p.0) told,
-              inl (
-                refl,
-                first_told (PutsOn status.DiskFull title bytes) (λ blocks. is_full blocks title (length bytes) ≡ true) before.blocks after.blocks
-                    (λ x y p. p.1) told,
-              ),
-            ),
-          ),
-        ),
+        behind (stops status.DiskFull) (inr (tt, mounted (PutsOn status.DiskFull title bytes) (λ x y p. p.0) told, inl (refl, full))),
         nothing before after kernel rest has.files (no_change (PutsOn status.DiskFull title bytes) (λ x y p. p.2) told),
       )
   put_means (status.BadImage broken) of_ told =
+      let bad = first_told (PutsOn (status.BadImage broken) title bytes) (λ blocks. mount_fault_of blocks ≡ Some broken) before.blocks after.blocks
+      (λ x y p. p.0) told in
       inl (
-        inr (
-          bytes,
-          fetched,
-          inr (
-            tt,
-            fits_whole bytes short,
-            inl (
-              broken,
-              refl,
-              first_told (PutsOn (status.BadImage broken) title bytes) (λ blocks. mount_fault_of blocks ≡ Some broken) before.blocks
-                  after.blocks (λ x y p. p.0) told,
-              of_,
-            ),
-          ),
-        ),
+        behind (stops (status.BadImage broken)) (inl (broken, refl, bad, of_)),
         nothing before after kernel rest has.files (no_change (PutsOn (status.BadImage broken) title bytes) (λ x y p. p.1) told),
       )
   put_means status.NoMemory of_ told = nothing before after kernel rest has.files told

@@ -11,11 +11,18 @@ is_now c = (0, omega arith, refl)
 pub is_past : (next x : State) (c : Course) → Contains (states_of c) x → Contains (states_of (becomes next c)) x
 is_past next x c there = Contains-append_right (next ∷ []) (states_of c) x there
 
+-- What each of two ways to put bytes does: in the end all are there, each first part is there once, and so it is from another state
+-- with the same contents.
+pub record Appends (f : List ℕ → Course → Course) (more : State → List ℕ → State) : Type 0 where
+  pub in_the_end : (bytes : List ℕ) (c : Course) → (f bytes c).now ≡ more c.now bytes
+  pub on_the_way : (k : ℕ) (bytes : List ℕ) (c : Course) → Contains (states_of (f bytes c)) (more c.now (take k bytes))
+  pub behind : (part : List ℕ) (now x y : State) → fresh x ≡ fresh now → y ≡ more x part → fresh y ≡ fresh (more now part)
+
 module _ (f : List ℕ → Course → Course) (more : State → List ℕ → State) (none : (s : State) → more s [] ≡ s)
     (two : (s : State) (xs ys : List ℕ) → more (more s xs) ys ≡ more s (xs ++ ys)) (opens : (s : State) (xs : List ℕ) → fresh (more s xs) ≡ more (fresh s) xs)
     (nil : (c : Course) → f [] c ≡ c) (cons : (b : ℕ) (bs : List ℕ) (c : Course) → f (b ∷ bs) c ≡ f bs (becomes (more c.now (b ∷ [])) c)) where
   -- in the end all of them are there
-  pub in_the_end : (bytes : List ℕ) (c : Course) → (f bytes c).now ≡ more c.now bytes
+  in_the_end : (bytes : List ℕ) (c : Course) → (f bytes c).now ≡ more c.now bytes
   in_the_end [] c = ap (λ d. d.now) (nil c) ∙ sym (none c.now)
   in_the_end (b ∷ bytes) c =
       ap (λ d. d.now) (cons b bytes c) ∙ in_the_end bytes (becomes (more c.now (b ∷ [])) c) ∙ two c.now (b ∷ []) bytes
@@ -28,7 +35,7 @@ module _ (f : List ℕ → Course → Course) (more : State → List ℕ → Sta
       (stays_there bytes (becomes (more c.now (b ∷ [])) c) x (is_past (more c.now (b ∷ [])) x c there))
 
   -- and each first part is there once
-  pub on_the_way : (k : ℕ) (bytes : List ℕ) (c : Course) → Contains (states_of (f bytes c)) (more c.now (take k bytes))
+  on_the_way : (k : ℕ) (bytes : List ℕ) (c : Course) → Contains (states_of (f bytes c)) (more c.now (take k bytes))
   on_the_way zero bytes c = subst (Contains (states_of (f bytes c))) (sym (none c.now)) (stays_there bytes c c.now (is_now c))
   on_the_way (suc k) [] c = subst (Contains (states_of (f [] c))) (sym (none c.now)) (stays_there [] c c.now (is_now c))
   on_the_way (suc k) (b ∷ bytes) c =
@@ -36,9 +43,12 @@ module _ (f : List ℕ → Course → Course) (more : State → List ℕ → Sta
       (subst (Contains (states_of (f bytes (becomes (more c.now (b ∷ [])) c)))) (two c.now (b ∷ []) (take k bytes))
       (on_the_way k bytes (becomes (more c.now (b ∷ [])) c)))
 
-  -- the same of another state with the same contents, which took a first part
-  pub behind_part : (part : List ℕ) (now x y : State) → fresh x ≡ fresh now → y ≡ more x part → fresh y ≡ fresh (more now part)
-  behind_part part now x y alike is = ap fresh is ∙ opens x part ∙ ap (λ s. more s part) alike ∙ sym (opens now part)
+  appends : Appends f more
+  appends = record {
+    in_the_end = in_the_end;
+    on_the_way = on_the_way;
+    behind = λ part now x y alike is. ap fresh is ∙ opens x part ∙ ap (λ s. more s part) alike ∙ sym (opens now part);
+  }
 
 -- ---- the terminal
 
@@ -51,14 +61,8 @@ shown_none s = ap (λ xs. record s { shown = xs }) (append-nil s.shown)
 shown_two : (s : State) (xs ys : List ℕ) → more_shown (more_shown s xs) ys ≡ more_shown s (xs ++ ys)
 shown_two s xs ys = ap (λ zs. record s { shown = zs }) (append_assoc s.shown xs ys)
 
-pub shown_in_the_end : (bytes : List ℕ) (c : Course) → (shows bytes c).now ≡ more_shown c.now bytes
-shown_in_the_end = in_the_end shows more_shown shown_none shown_two (λ s xs. refl) (λ c. refl) (λ b bs c. refl)
-
-pub shown_on_the_way : (k : ℕ) (bytes : List ℕ) (c : Course) → Contains (states_of (shows bytes c)) (more_shown c.now (take k bytes))
-shown_on_the_way = on_the_way shows more_shown shown_none shown_two (λ s xs. refl) (λ c. refl) (λ b bs c. refl)
-
-pub behind_shown : (part : List ℕ) (now x y : State) → fresh x ≡ fresh now → y ≡ more_shown x part → fresh y ≡ fresh (more_shown now part)
-behind_shown = behind_part shows more_shown shown_none shown_two (λ s xs. refl) (λ c. refl) (λ b bs c. refl)
+pub shows_append : Appends shows more_shown
+shows_append = appends shows more_shown shown_none shown_two (λ s xs. refl) (λ c. refl) (λ b bs c. refl)
 
 -- ---- the printer
 
@@ -71,11 +75,5 @@ printed_none s = ap (λ xs. record s { printed = xs }) (append-nil s.printed)
 printed_two : (s : State) (xs ys : List ℕ) → more_printed (more_printed s xs) ys ≡ more_printed s (xs ++ ys)
 printed_two s xs ys = ap (λ zs. record s { printed = zs }) (append_assoc s.printed xs ys)
 
-pub printed_in_the_end : (bytes : List ℕ) (c : Course) → (prints bytes c).now ≡ more_printed c.now bytes
-printed_in_the_end = in_the_end prints more_printed printed_none printed_two (λ s xs. refl) (λ c. refl) (λ b bs c. refl)
-
-pub printed_on_the_way : (k : ℕ) (bytes : List ℕ) (c : Course) → Contains (states_of (prints bytes c)) (more_printed c.now (take k bytes))
-printed_on_the_way = on_the_way prints more_printed printed_none printed_two (λ s xs. refl) (λ c. refl) (λ b bs c. refl)
-
-pub behind_printed : (part : List ℕ) (now x y : State) → fresh x ≡ fresh now → y ≡ more_printed x part → fresh y ≡ fresh (more_printed now part)
-behind_printed = behind_part prints more_printed printed_none printed_two (λ s xs. refl) (λ c. refl) (λ b bs c. refl)
+pub prints_append : Appends prints more_printed
+prints_append = appends prints more_printed printed_none printed_two (λ s xs. refl) (λ c. refl) (λ b bs c. refl)

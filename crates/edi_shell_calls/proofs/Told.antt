@@ -19,18 +19,17 @@ use Rattle.edi_catalog.specs.Mounted.{files_of}
 use Rattle.edi_system.specs.AsCalls.{IsDueFrom, IsDueSince, KeepsDue}
 use Rattle.edi_system.specs.InState as InState
 use Rattle.edi_system.specs.InState.{ReadsWhole, StateAnswer}
-use Rattle.edi_system.specs.Parts.{due_after, line_end, ShowsMore, PrintsMore, TakesByte}
+use Rattle.edi_system.specs.Parts.{IsPart, due_after, line_end, ShowsMore, PrintsMore, TakesByte}
 use Rattle.edi_system.specs.State.{IsReady, all_told, catalog_in, drive_in, due_in, input_in, printer_in, state_of, state_with, terminal_in}
 use Rattle.edi_system.specs.declared.system.System.{System}
 use Rattle.edi_session.specs.declared.end.SessionEnd.{SessionEnd}
-use Rattle.edi_session.specs.Course.{states_of}
+use Rattle.edi_session.specs.Course.{Course, prints, shows, states_of}
 use Rattle.edi_session.specs.Files.{file_in}
 use Rattle.edi_session.specs.Shell.{Shell, state_in, shown_by, printed_by, on_fresh_line, shown_in, took_byte}
 use Rattle.edi_session.specs.Texts as texts
 use Rattle.edi_shell_calls.specs.OnSystem.{HasState, StandsAt, taken_by, put_by, read_by, page_by, page_size}
 use Rattle.edi_shell_calls.specs.Standing.{Answers, At, HasRead, Leads, ReadsFile, ReadsPage, StandsIn, Takes, with_slots}
-use Rattle.edi_shell_calls.proofs.Steps.{is_now, is_past, more_shown, more_printed, shown_in_the_end, shown_on_the_way, behind_shown, printed_in_the_end}
-use Rattle.edi_shell_calls.proofs.Steps.{printed_on_the_way, behind_printed}
+use Rattle.edi_shell_calls.proofs.Steps.{Appends, is_now, is_past, more_printed, more_shown, prints_append, shows_append}
 
 -- ---- options
 
@@ -252,19 +251,23 @@ module _ {D S T P : Type 0} (contents : D → Option (List (List ℕ))) (left : 
       whole_part : (piece : List ℕ) (taken : ℕ) → taken ≡ length piece → take taken piece ≡ piece
       whole_part piece taken e = take_all taken piece (omega (arith, e))
 
+      -- a first part of a piece was put, by one of the two ways
+      put_so : (f : List ℕ → Course → Course) (more : State → List ℕ → State) → Appends f more → (done : Bool) (fault : SessionEnd) (piece : List ℕ)
+          (taken : ℕ) (x y : State) → told new ≡ Some y → fresh x ≡ fresh (state_in s) → y ≡ more x (take taken piece) → IsPart done piece taken
+          → Leads at stands (put_by done fault) (record s { system = f piece s.system }) new
+      put_so f more a true fault piece taken x y is alike now part =
+          stands_at new (record s { system = f piece s.system }) y s.shown_before is
+          (a.behind (take taken piece) (state_in s) x y alike now ∙ ap (λ bytes. fresh (more (state_in s) bytes)) (whole_part piece taken (part.all refl))
+          ∙ ap fresh (sym (a.in_the_end piece s.system))) due refl
+      put_so f more a false fault piece taken x y is alike now part =
+          stands_in new (record s { system = f piece s.system }) y (more (state_in s) (take taken piece)) is
+          (a.behind (take taken piece) (state_in s) x y alike now) (a.on_the_way taken piece s.system)
+
       pub shows_by : (done : Bool) (fault : SessionEnd) (piece : List ℕ) → WhereTold (told old) (told new) (ShowsMore done piece)
           → Leads at stands (put_by done fault) (shown_by piece s) new
-      shows_by true fault piece so =
-          let p = pair (ShowsMore true piece) so in
-          stands_at new (shown_by piece s) p.after s.shown_before p.is
-          (behind_shown (take p.so.taken piece) (state_in s) p.before p.after p.alike p.so.now
-          ∙ ap (λ part. fresh (more_shown (state_in s) part)) (whole_part piece p.so.taken (p.so.part.all refl))
-          ∙ ap fresh (sym (shown_in_the_end piece s.system))) due refl
-      shows_by false fault piece so =
-          let p = pair (ShowsMore false piece) so in
-          stands_in new (shown_by piece s) p.after (more_shown (state_in s) (take p.so.taken piece)) p.is
-          (behind_shown (take p.so.taken piece) (state_in s) p.before p.after p.alike p.so.now)
-          (shown_on_the_way p.so.taken piece s.system)
+      shows_by done fault piece so =
+          let p = pair (ShowsMore done piece) so in
+          put_so shows more_shown shows_append done fault piece p.so.taken p.before p.after p.is p.alike p.so.now p.so.part
 
       pub shows_as : (done : Bool) (fault : SessionEnd) (piece : List ℕ) (result : Result (Unit {0}) SessionEnd) → result ≡ put_by done fault
           → WhereTold (told old) (told new) (ShowsMore done piece) → Leads at stands result (shown_by piece s) new
@@ -272,17 +275,9 @@ module _ {D S T P : Type 0} (contents : D → Option (List (List ℕ))) (left : 
 
       pub prints_by : (done : Bool) (fault : SessionEnd) (piece : List ℕ) → WhereTold (told old) (told new) (PrintsMore done piece)
           → Leads at stands (put_by done fault) (printed_by piece s) new
-      prints_by true fault piece so =
-          let p = pair (PrintsMore true piece) so in
-          stands_at new (printed_by piece s) p.after s.shown_before p.is
-          (behind_printed (take p.so.taken piece) (state_in s) p.before p.after p.alike p.so.now
-          ∙ ap (λ part. fresh (more_printed (state_in s) part)) (whole_part piece p.so.taken (p.so.part.all refl))
-          ∙ ap fresh (sym (printed_in_the_end piece s.system))) due refl
-      prints_by false fault piece so =
-          let p = pair (PrintsMore false piece) so in
-          stands_in new (printed_by piece s) p.after (more_printed (state_in s) (take p.so.taken piece)) p.is
-          (behind_printed (take p.so.taken piece) (state_in s) p.before p.after p.alike p.so.now)
-          (printed_on_the_way p.so.taken piece s.system)
+      prints_by done fault piece so =
+          let p = pair (PrintsMore done piece) so in
+          put_so prints more_printed prints_append done fault piece p.so.taken p.before p.after p.is p.alike p.so.now p.so.part
 
       pub prints_as : (done : Bool) (fault : SessionEnd) (piece : List ℕ) (result : Result (Unit {0}) SessionEnd) → result ≡ put_by done fault
           → WhereTold (told old) (told new) (PrintsMore done piece) → Leads at stands result (printed_by piece s) new

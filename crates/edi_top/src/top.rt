@@ -1,4 +1,4 @@
-//! The call that command_does all that the program command_does.
+//! The call that does all that the program does.
 
 ghost use Rattle.std.specs.Prelude.{◌≡◌, ◌⊎◌, ◌≤◌, ℕ, List, None, Some, false, true, map, option_map};
 ghost use Rattle.std.specs.String.{string_bytes};

@@ -1,25 +1,18 @@
-use Rattle.std.proofs.Common.{◌∙◌, Vec, ℕ, Global}
-use Rattle.edi_migrate.proofs.Limited.{first_bytes_decide}
+-- The exits of `newdisk --from`.
+use Rattle.std.proofs.Common.{Vec, ℕ, Global}
 use Rattle.edi_migrate.specs.declared.migrating.MigrateEnd.TheVariants as end
 use Rattle.edi_statuses.specs.Outside.{still_told}
 use Rattle.edi_steps.specs.OnFiles.{files_only}
-use Rattle.edi_steps.proofs.OnFilesLemmas.{fetch_stopped}
-use Rattle.edi_statuses.proofs.Told.{itself}
 use Rattle.edi_disk_commands.proofs.NewMeans.{counts_kept}
 use Rattle.edi_disk_commands.proofs.OldMeans.{migrated_means, not_taken}
+use Rattle.edi_disk_commands.proofs.PutMeans.{unfetched}
 use Rattle.edi_disk_commands.proofs.new_disks.new_disk_from.Goals as goal
 
 pub returns-in-Err-clause-means : goal.returns-in-Err-clause-means
 returns-in-Err-clause-means g c =
-    not_taken c.in-Err.status c.args.blocks c.args.file.now (g.F.Files.contents c.args.files.now) (g.F.Files.contents c.fetch.new.files)
-    (g.D.Drive.contents c.args.drive.now) (g.D.Drive.contents c.args.drive.now)
-    (record {
-      why =
-          fetch_stopped (λ (v : Vec ℕ Global). v.items) (files_only (still_told (g.F.Files.contents c.args.files.now) (g.F.Files.contents c.fetch.new.files)))
-          c.args.file.now 2097664 c.in-Err.status c.in-Err.ensures.fetched;
-      files = c.in-Err.ensures.unchanged;
-      blocks = itself (g.D.Drive.contents c.args.drive.now);
-    })
+    not_taken c.in-Err.status c.args.blocks c.args.file.now _ _ _ _
+    (unfetched c.in-Err.status c.args.file.now 2097664 (g.F.Files.contents c.args.files.now) (g.F.Files.contents c.fetch.new.files)
+    (g.D.Drive.contents c.args.drive.now) c.in-Err.ensures.fetched c.in-Err.ensures.unchanged)
 
 pub returns-in-Err-clause-size : goal.returns-in-Err-clause-size
 returns-in-Err-clause-size g c =
@@ -28,58 +21,20 @@ returns-in-Err-clause-size g c =
 
 pub returns-in-Ok-migrate-clause-means : goal.returns-in-Ok-migrate-clause-means
 returns-in-Ok-migrate-clause-means g c =
-    let f = c.in-Ok.ensures.fetched in
-    migrated_means first_bytes_decide end.Ok c.args.blocks c.requires.least c.args.file.now c.deref.result.now (g.F.Files.contents c.args.files.now)
-    (g.F.Files.contents c.fetch.new.files) (g.D.Drive.contents c.args.drive.now) (g.D.Drive.contents c.migrate.new.drive)
-    (record {
-      all = f.0;
-      fetched = f.1;
-      front = c.deref.ensures.value ∙ f.2;
-      files = c.in-Ok.ensures.unchanged;
-      answers = c.in-Ok-migrate.ensures.answers;
-      leaves = c.in-Ok-migrate.ensures.leaves;
-    })
+    migrated_means end.Ok c.args.blocks c.requires.least c.args.file.now _ _ _ _ _ _ c.in-Ok.ensures.fetched c.deref.ensures.value
+    c.in-Ok.ensures.unchanged c.in-Ok-migrate.ensures.answers c.in-Ok-migrate.ensures.leaves
 
 pub returns-in-Image-clause-means : goal.returns-in-Image-clause-means
 returns-in-Image-clause-means g c =
-    let f = c.in-Ok.ensures.fetched in
-    migrated_means first_bytes_decide (end.Image c.in-Image.broken) c.args.blocks c.requires.least c.args.file.now c.deref.result.now
-    (g.F.Files.contents c.args.files.now)
-    (g.F.Files.contents c.fetch.new.files) (g.D.Drive.contents c.args.drive.now) (g.D.Drive.contents c.migrate.new.drive)
-    (record {
-      all = f.0;
-      fetched = f.1;
-      front = c.deref.ensures.value ∙ f.2;
-      files = c.in-Ok.ensures.unchanged;
-      answers = c.in-Image.ensures.answers;
-      leaves = c.in-Image.ensures.leaves;
-    })
+    migrated_means (end.Image c.in-Image.broken) c.args.blocks c.requires.least c.args.file.now _ _ _ _ _ _ c.in-Ok.ensures.fetched
+    c.deref.ensures.value c.in-Ok.ensures.unchanged c.in-Image.ensures.answers c.in-Image.ensures.leaves
 
 pub returns-in-Full-clause-means : goal.returns-in-Full-clause-means
 returns-in-Full-clause-means g c =
-    let f = c.in-Ok.ensures.fetched in
-    migrated_means first_bytes_decide (end.Full c.in-Full.wanted c.in-Full.free) c.args.blocks c.requires.least c.args.file.now c.deref.result.now
-    (g.F.Files.contents c.args.files.now)
-    (g.F.Files.contents c.fetch.new.files) (g.D.Drive.contents c.args.drive.now) (g.D.Drive.contents c.migrate.new.drive)
-    (record {
-      all = f.0;
-      fetched = f.1;
-      front = c.deref.ensures.value ∙ f.2;
-      files = c.in-Ok.ensures.unchanged;
-      answers = c.in-Full.ensures.answers;
-      leaves = c.in-Full.ensures.leaves;
-    })
+    migrated_means (end.Full c.in-Full.wanted c.in-Full.free) c.args.blocks c.requires.least c.args.file.now _ _ _ _ _ _ c.in-Ok.ensures.fetched
+    c.deref.ensures.value c.in-Ok.ensures.unchanged c.in-Full.ensures.answers c.in-Full.ensures.leaves
 
 pub returns-in-Fault-clause-means : goal.returns-in-Fault-clause-means
 returns-in-Fault-clause-means g c =
-    let f = c.in-Ok.ensures.fetched in
-    migrated_means first_bytes_decide end.Fault c.args.blocks c.requires.least c.args.file.now c.deref.result.now (g.F.Files.contents c.args.files.now)
-    (g.F.Files.contents c.fetch.new.files) (g.D.Drive.contents c.args.drive.now) (g.D.Drive.contents c.migrate.new.drive)
-    (record {
-      all = f.0;
-      fetched = f.1;
-      front = c.deref.ensures.value ∙ f.2;
-      files = c.in-Ok.ensures.unchanged;
-      answers = c.in-Fault.ensures.answers;
-      leaves = c.in-Fault.ensures.leaves;
-    })
+    migrated_means end.Fault c.args.blocks c.requires.least c.args.file.now _ _ _ _ _ _ c.in-Ok.ensures.fetched c.deref.ensures.value
+    c.in-Ok.ensures.unchanged c.in-Fault.ensures.answers c.in-Fault.ensures.leaves

@@ -2,25 +2,19 @@ use Rattle.std.proofs.Common.{◌∙◌, refl, subst, Vec, ℕ, Global, rules}
 use Rattle.edi_words.specs.Words.{put}
 use Rattle.edi_statuses.specs.Outside.{still_told}
 use Rattle.edi_steps.specs.OnFiles.{files_only}
-use Rattle.edi_steps.proofs.OnFilesLemmas.{fetch_fits, fetch_stopped}
+use Rattle.edi_steps.proofs.OnFilesLemmas.{fetch_fits}
 use Rattle.edi_disk_commands.specs.OnDisk.{MeansOnDisk}
 use Rattle.edi_statuses.proofs.EachLeft.{keeps_same}
 use Rattle.edi_statuses.proofs.Told.{itself, told_so}
 use Rattle.edi_disk_commands.proofs.Counted.{asked, put_valid}
-use Rattle.edi_disk_commands.proofs.PutMeans.{has_put, not_fit, not_put}
+use Rattle.edi_disk_commands.proofs.PutMeans.{has_put, not_fit, not_put, unfetched}
 use Rattle.edi_disk_commands.proofs.puts.put.Goals as goal
 
 pub returns-in-Err-clause-means : goal.returns-in-Err-clause-means
 returns-in-Err-clause-means g c =
-    not_put c.in-Err.status c.args.file.now c.args.title.now (g.F.Files.contents c.args.files.now) (g.F.Files.contents c.fetch.new.files)
-    (g.D.Drive.contents c.args.drive.now) (g.D.Drive.contents c.args.drive.now)
-    (record {
-      why =
-          fetch_stopped (λ (v : Vec ℕ Global). v.items) (files_only (still_told (g.F.Files.contents c.args.files.now) (g.F.Files.contents c.fetch.new.files)))
-          c.args.file.now 261121 c.in-Err.status c.in-Err.ensures.fetched;
-      files = c.in-Err.ensures.unchanged;
-      blocks = itself (g.D.Drive.contents c.args.drive.now);
-    })
+    not_put c.in-Err.status c.args.file.now c.args.title.now _ _ _ _
+    (unfetched c.in-Err.status c.args.file.now 261121 (g.F.Files.contents c.args.files.now) (g.F.Files.contents c.fetch.new.files)
+    (g.D.Drive.contents c.args.drive.now) c.in-Err.ensures.fetched c.in-Err.ensures.unchanged)
 
 pub returns-then-len-gt-MOST-clause-means : goal.returns-then-len-gt-MOST-clause-means
 returns-then-len-gt-MOST-clause-means g c =
