@@ -1,5 +1,5 @@
 -- The memory and the activities with which processes begin.
-use Rattle.std.proofs.Common.{◌≡◌, ℕ, zero, suc, ◌+◌, ◌*◌, ◌<◌, ◌≤◌, Bool, true, false, List, [], ◌∷◌, ◌++◌, Option, Some, None, length, take, drop, get_or}
+use Rattle.std.proofs.Common.{◌≡◌, ℕ, zero, suc, ◌+◌, ◌*◌, ◌<◌, ◌≤◌, true, false, List, [], ◌∷◌, ◌++◌, Option, Some, None, length, take, drop, get_or}
 use Rattle.std.proofs.Common.{refl, sym, ap, subst, ◌∙◌, arith, append-nil, length-take}
 use Rattle.std.specs.Prelude.{◌&&◌, slice_get}
 use Rattle.std.specs.List.{list_any, list_all}
@@ -7,18 +7,18 @@ use Rattle.std.proofs.lemmas.Bool.{leb-true, ltb-false, and_parts, or_parts}
 use Rattle.std.proofs.lemmas.List.{take_more, drop_all}
 use Rattle.edi_store.specs.Memory.{zero_words, written}
 use Rattle.edi_store.proofs.MemoryLaws.{length-zero_words}
-use Rattle.edi_target.specs.declared.code_fault.CodeFault.{CodeFault}
 use Rattle.edi_target.specs.Op as op
 use Rattle.edi_target.specs.Op.{Instruction, Branch, has_frame}
 use Rattle.edi_target.specs.Decode.{decode}
 use Rattle.edi_target.specs.Fetch.{fetch}
-use Rattle.edi_target.specs.Check.{CodeParts, IsSound, fields_fault, is_program, is_start, jump_fault, operation_fault, first_fault, or_else, parts_fault}
-use Rattle.edi_target.specs.Check.{starts_of, unless, words_fault}
+use Rattle.edi_target.specs.Check.{CodeParts, IsSound, fields_fault, is_program, is_start, jump_fault, operation_fault, first_fault, parts_fault}
+use Rattle.edi_target.specs.Check.{starts_of, words_fault}
 use Rattle.edi_target.specs.Perform.{exceeds}
 use Rattle.edi_target.specs.View.{instruction_of}
 use Rattle.edi_target.specs.declared.op.Op.{Op}
 use Rattle.edi_target.specs.declared.op.Op.TheVariants as code
 use Rattle.edi_target.specs.Mach.{descriptors}
+use Rattle.edi_target.proofs.Sound.{kept_by, none_of}
 use Rattle.edi_machine.proofs.Frames.{written_append}
 
 -- ---- the memory at the start
@@ -53,14 +53,6 @@ descriptor_more memory calls i here within =
     length_taken xs i here = omega (arith, length-take i xs)
 
 -- ---- the entry of a code
-
-none_of : (a b : Option CodeFault) → or_else a b ≡ None → (a ≡ None) × (b ≡ None)
-none_of None b e = (refl, e)
-none_of (Some f) b e = (e, cc)
-
-kept_by : (b : Bool) (f : CodeFault) → unless b f ≡ None → b ≡ true
-kept_by true f e = refl
-kept_by false f e = cc
 
 entry_kept : (words : List ℕ) (start count : ℕ) → words_fault true words start count ≡ None → is_program count (decode (drop start words)) ≡ true
 unfolding words_fault

@@ -1,7 +1,7 @@
 -- The first bytes of a code file decide whether it has a code.
 use Rattle.std.proofs.Common.{◌≡◌, ℕ, zero, suc, ◌+◌, ◌*◌, ◌<◌, ◌≤◌, Bool, true, false, ◌&&◌, nat_le, List, [], ◌∷◌, length, take, drop, Option, Some, None}
-use Rattle.std.proofs.Common.{refl, sym, subst, ap, ◌∙◌, arith, leb-true, leb-false, get_or}
-use Rattle.std.specs.Prelude.{◌==◌, ◌||◌, nat_lt, slice_index, ◌^◌, ◌/◌, ◌%◌}
+use Rattle.std.proofs.Common.{refl, sym, ap, ◌∙◌, arith, leb-true, leb-false}
+use Rattle.std.specs.Prelude.{◌==◌, ◌||◌, nat_lt, slice_index, ◌^◌, ◌/◌}
 use Rattle.std.proofs.lemmas.Bool.{le-leb, lt-leb}
 use Rattle.std.proofs.lemmas.List.{length-take-le, take_all, drop-take, get_or-take}
 use Rattle.edi_target.specs.Check.{unless, or_else, fields_fault, numbers_fault, words_fault}

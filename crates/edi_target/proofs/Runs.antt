@@ -1,12 +1,13 @@
 -- Every run ends, and in one way.
 use Rattle.std.proofs.Common.{◌≡◌, ℕ, zero, suc, ◌+◌, ◌-◌, ◌/◌, ◌<◌, ◌≤◌, ◌⊎◌, inl, inr, Bool, true, false, if◌then◌else◌, List, [], ◌∷◌, ◌++◌, length}
-use Rattle.std.proofs.Common.{Option, Some, None, refl, sym, subst, ap, ◌∙◌, ◌&&◌, eq-eqb, arith}
+use Rattle.std.proofs.Common.{Option, Some, None, refl, sym, subst, ap, ◌∙◌, arith}
 use Rattle.std.proofs.lemmas.Bool.{cases_lt}
 use Rattle.std.specs.Prelude.{⊤}
 use Rattle.edi_calls.specs.State.{State}
 use Rattle.edi_calls.specs.Calls.{CallResult, answered, no_file, file_limit, call}
 use Rattle.edi_calls.specs.Choice.{Choices}
-use Rattle.edi_calls.specs.Names.{Name, Table, same, find, with_at, without}
+use Rattle.edi_calls.specs.Names.{Name, find, with_at, without}
+use Rattle.edi_calls.proofs.Tables.{find-with_at-same}
 use Rattle.edi_calls.specs.Outcome as outcome
 use Rattle.edi_calls.specs.Outcome.{Ending, Outcome, outcome_of}
 use Rattle.edi_target.specs.Op.{Instruction, Branch}
@@ -22,18 +23,6 @@ use Rattle.edi_target.specs.Laws.{MovesUp, StandsBelow, EveryRunEnds, RunsAreDet
 use Rattle.edi_target.specs.Fetch as code
 use Rattle.edi_target.proofs.Progress.{each_moves_up}
 use Rattle.edi_target.proofs.Stands.{code_stands_below}
-
-same-refl : (p : Name) → same p p ≡ true
-same-refl [] = refl
-same-refl (x ∷ xs) = ap (λ b. b && same xs xs) (eq-eqb x x refl) ∙ same-refl xs
-
-find-with_at-same : {A : Type 0} (t : Table A) (p : Name) (a : A) → find (with_at t p a) p ≡ Some a
-find-with_at-same [] p a = ap (λ b. if b then Some a else None) (same-refl p)
-find-with_at-same (entry ∷ t) p a = go (same p entry.0) refl (find-with_at-same t p a)
-  where
-    go : (b : Bool) → same p entry.0 ≡ b → find (with_at t p a) p ≡ Some a → find (if b then (entry.0, a) ∷ t else entry ∷ with_at t p a) p ≡ Some a
-    go true e h = ap (λ b. if b then Some a else find t p) e
-    go false e h = ap (λ b. if b then Some entry.1 else find (with_at t p a) p) e ∙ h
 
 -- ---- a run of more instructions has the same end
 

@@ -7,11 +7,11 @@ use Rattle.edi_target.specs.declared.code_fault.CodeFault.{CodeFault}
 use Rattle.edi_target.specs.declared.code_fault.CodeFault.TheVariants as fault
 use Rattle.edi_target.proofs.Reading.{both_true}
 
-none_of : (a b : Option CodeFault) → or_else a b ≡ None → (a ≡ None) × (b ≡ None)
+pub none_of : (a b : Option CodeFault) → or_else a b ≡ None → (a ≡ None) × (b ≡ None)
 none_of None b e = (refl, e)
 none_of (Some f) b e = (e, cc)
 
-kept_by : (b : Bool) (f : CodeFault) → unless b f ≡ None → b ≡ true
+pub kept_by : (b : Bool) (f : CodeFault) → unless b f ≡ None → b ≡ true
 kept_by true f e = refl
 kept_by false f e = cc
 

@@ -3,7 +3,6 @@ use Rattle.std.proofs.Common.{◌≡◌, ℕ, zero, suc, ◌+◌, ◌-◌, ◌<�
 use Rattle.std.proofs.Common.{refl, sym, subst, ap, ◌∙◌, arith, eq-eqb}
 use Rattle.std.specs.Prelude.{◌==◌}
 use Rattle.std.proofs.lemmas.Bool.{eqb-true}
-use Rattle.std.proofs.lemmas.List.{length-drop}
 use Rattle.edi_target.specs.Op.{Instruction}
 use Rattle.edi_target.specs.Decode.{decode}
 use Rattle.edi_target.specs.Check.{Start, starts_from, starts_of, is_start}

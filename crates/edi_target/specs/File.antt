@@ -56,7 +56,7 @@ abbrev pub zeros_fault : ℕ → List ℕ → Option CodeFault
 zeros_fault at [] = None
 zeros_fault at (b ∷ bytes) = or_else (unless (b == 0) (fault.Header at b)) (zeros_fault (at + 1) bytes)
 
--- each field of the header in its turn
+-- each field of the header, one after another
 abbrev pub header_fault : List ℕ → Option CodeFault
 header_fault bytes =
     let parameters : ℕ = slice_index bytes 12 in

@@ -123,7 +123,7 @@ pub enum Op<'a> {
     Or {
         target: u32,
     },
-    /// Goes back, and gives up the turn.
+    /// Goes back, and gives way.
     Loop {
         target: u32,
     },
