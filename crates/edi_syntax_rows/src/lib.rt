@@ -2,20 +2,4 @@
 #![tactic(auto)]
 
 #[cfg(test)]
-mod faults;
-#[cfg(test)]
-mod lengths;
-#[cfg(test)]
-mod lists;
-#[cfg(test)]
-mod nests;
-#[cfg(test)]
-mod pieces;
-#[cfg(test)]
-mod printed;
-#[cfg(test)]
-mod printing;
-#[cfg(test)]
-mod symbol_faults;
-#[cfg(test)]
-mod symbols;
+mod rows;

@@ -1,5 +1,5 @@
 use Rattle.edi_syntax_rows.proofs.Bounded.{is_bounded, shallow}
-use Rattle.edi_syntax_rows.proofs.printing.program.Goals as goal
+use Rattle.edi_syntax_rows.proofs.rows.printing.program.Goals as goal
 
 pub invariant_of-result : goal.invariant_of-result
 invariant_of-result c = record {

@@ -1,6 +1,6 @@
 //! Levels, up to 64 and one beyond.
 
-use crate::faults::fault_in;
+use crate::rows::faults::fault_in;
 use edi_syntax::SyntaxFault;
 use std::alloc::Global;
 use std::process::Abort;

@@ -1,6 +1,6 @@
 //! Texts of the greatest length, and one beyond.
 
-use crate::pieces::fed;
+use crate::rows::pieces::fed;
 use edi_lex::{LexFault, Symbols, scan};
 use std::alloc::{AllocError, Global};
 use std::test::Fail;
