@@ -1,12 +1,10 @@
 -- The bodies of blocks nest no deeper than the levels of their text allow.
-use Rattle.std.proofs.Common.{◌≡◌, ℕ, ◌+◌, ◌*◌, ◌<◌, ◌≤◌, max, Bool, true, false, List, length, Option, Some, None, All, nat_lt, ◌==◌, refl, arith, subst}
-use Rattle.std.proofs.Common.{sym}
-use Rattle.std.proofs.lemmas.List.{get_or_past}
-use Rattle.std.proofs.lemmas.List.Elements.{All-set, All-get_or, All-push}
+use Rattle.std.proofs.Common.{ℕ, ◌+◌, ◌*◌, ◌<◌, ◌≤◌, max, List, length, Option, Some, None, All, nat_lt, ◌==◌, refl, arith, subst, sym}
+use Rattle.std.proofs.lemmas.List.Elements.{All-set, All-push}
 use Rattle.edi_tree.specs.Tree as text
 use Rattle.edi_tree.specs.Depth.{expr_depth, args_depth, optional_args_depth, variable_depth, depth}
 use Rattle.edi_unit.specs.Tree.{Act, Acts, no_act, act_then, Block}
-use Rattle.edi_unit.specs.Need.{no_block, block_at}
+use Rattle.edi_unit.specs.Need.{block_at}
 use Rattle.edi_unit.specs.Fits.{heading_formals}
 use Rattle.edi_static.specs.declared.faults.StaticKind.TheVariants as kind
 use Rattle.edi_static.specs.Environment.{Environment}
@@ -14,7 +12,7 @@ use Rattle.edi_static.specs.Fitting.{Use, constructs, calls, halts, neither}
 use Rattle.edi_static.specs.Expressions.{expression, variable_place, all_arguments, args_count}
 use Rattle.edi_static.specs.Statements.{procedure_called, acts_append, with_statements, assigned, called}
 use Rattle.edi_static.proofs.Judging.{Gives, bind, behind, ruled}
-use Rattle.edi_static.proofs.Declared.{Keeping}
+use Rattle.edi_static.proofs.Declared.{Keeping, of_blocks, block_or}
 use Rattle.edi_static.proofs.Lasting.{Said, Lasting, UnitLasts, unit_lasts}
 use Rattle.edi_nesting.specs.Nesting.{IsShallow, UnitsAreShallow, act_nesting, acts_nesting, clause_nesting, clauses_nesting}
 use Rattle.edi_nesting.proofs.Parts.{Within}
@@ -75,12 +73,8 @@ module _ (levels : ℕ) where
   abbrev Low : Block → Type 0
   Low = IsShallow (5 * levels + 1)
 
-  low_or : (bs : List Block) (n : ℕ) (inside : Bool) → nat_lt n (length bs) ≡ inside → All Low bs → Low (block_at bs n)
-  low_or bs n true e h = All-get_or Low bs n no_block (grind (arith, e)) h
-  low_or bs n false e h = subst Low (sym (get_or_past bs n no_block (grind (arith, e)))) (omega arith)
-
   at_low : (bs : List Block) (n : ℕ) → All Low bs → Low (block_at bs n)
-  at_low bs n h = low_or bs n (nat_lt n (length bs)) refl h
+  at_low bs n h = block_or Low bs n (nat_lt n (length bs)) refl (omega arith) h
 
   appended_low : (a s : Acts) → acts_nesting a ≤ 5 * levels + 1 → acts_nesting s ≤ 5 * levels + 1 → acts_nesting (acts_append a s) ≤ 5 * levels + 1
   appended_low no_act s h k = k
@@ -91,18 +85,8 @@ module _ (levels : ℕ) where
   added_low n d s bs less k h = appended_low (block_at bs n).body s (at_low bs n h) (omega (arith, less, k))
 
   abbrev low : Keeping
-  low = record {
-    Is = λ types blocks. All Low blocks;
-    Becomes = λ types blocks. All Low blocks;
-    Fine = λ shape. Unit {0};
-    enumerated = λ n. tt;
-    filled = λ parts some. tt;
-    arrayed = λ of lower upper element. tt;
-    set = λ of. tt;
-    typed = λ types blocks shape fine h. h;
-    varied = λ types blocks n block body need h.
-        All-set Low blocks n block (subst (λ s. acts_nesting s ≤ 5 * levels + 1) (sym body) (at_low blocks n h)) h;
-  }
+  low = of_blocks (All Low) (λ blocks n block body need h.
+      All-set Low blocks n block (subst (λ s. acts_nesting s ≤ 5 * levels + 1) (sym body) (at_low blocks n h)) h)
 
   abbrev low_lasts : Lasting levels
   low_lasts = record {

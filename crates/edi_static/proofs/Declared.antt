@@ -2,11 +2,12 @@
 -- changes but for its body and its need is kept by each of them but types, and a type adds a shape; of a record it has one part
 -- at the least.
 use Rattle.std.proofs.Common.{◌≡◌, ℕ, suc, ◌≤◌, ℤ, Bool, true, false, List, [], ◌∷◌, ◌++◌, length, Option, nat_lt, nat_le, is_some, ◌||◌, ◌&&◌, ◌==◌, refl}
-use Rattle.std.proofs.Common.{arith}
+use Rattle.std.proofs.Common.{arith, All, subst, sym}
 use Rattle.std.specs.Prelude.{int_le, not, slice_set}
 use Rattle.std.specs.List.{list_any}
 use Rattle.std.specs.Str.{bytes_eq}
-use Rattle.std.proofs.lemmas.List.{length-append}
+use Rattle.std.proofs.lemmas.List.{length-append, get_or_past}
+use Rattle.std.proofs.lemmas.List.Elements.{All-get_or}
 use Rattle.edi_scope.specs.declared.entity.Entity.{Entity}
 use Rattle.edi_scope.specs.Scope.{declared, outside}
 use Rattle.edi_tree.specs.declared.names.Name.{Name}
@@ -15,7 +16,7 @@ use Rattle.edi_tree.specs.declared.constants.ConstDecl.{ConstDecl}
 use Rattle.edi_tree.specs.Tree as text
 use Rattle.edi_unit.specs.Types.{Shape, enumeration, record_of, array_of, set_of, is_elementary, shape_size, size, greatest_size}
 use Rattle.edi_unit.specs.Tree.{Block}
-use Rattle.edi_unit.specs.Need.{block_at}
+use Rattle.edi_unit.specs.Need.{no_block, block_at}
 use Rattle.edi_unit.specs.Fits.{heading, Formals}
 use Rattle.edi_static.specs.declared.faults.StaticKind.TheVariants as kind
 use Rattle.edi_static.specs.Judged.{gives, must}
@@ -70,6 +71,26 @@ pub record Keeping : Type 1 where
   pub typed : (types : List Shape) (blocks : List Block) (shape : Shape) → Fine shape → Is types blocks → Becomes (types ++ shape ∷ []) blocks
   pub varied : (types : List Shape) (blocks : List Block) (n : ℕ) (block : Block) → block.body ≡ (block_at blocks n).body
       → block.need ≡ (block_at blocks n).need → Is types blocks → Is types (slice_set blocks n block)
+
+-- something that is said of the blocks alone
+abbrev pub of_blocks : (P : List Block → Type 0) → ((blocks : List Block) (n : ℕ) (block : Block) → block.body ≡ (block_at blocks n).body →
+    block.need ≡ (block_at blocks n).need → P blocks → P (slice_set blocks n block)) → Keeping
+of_blocks P varied = record {
+  Is = λ types blocks. P blocks;
+  Becomes = λ types blocks. P blocks;
+  Fine = λ shape. Unit {0};
+  enumerated = λ n. tt;
+  filled = λ parts some. tt;
+  arrayed = λ of lower upper element. tt;
+  set = λ of. tt;
+  typed = λ types blocks shape fine h. h;
+  varied = λ types. varied;
+}
+
+-- of the block at a number, where it holds of each block and of none
+pub block_or : (P : Block → Type 0) (bs : List Block) (n : ℕ) (inside : Bool) → nat_lt n (length bs) ≡ inside → P no_block → All P bs → P (block_at bs n)
+block_or P bs n true e none h = All-get_or P bs n no_block (grind (arith, e)) h
+block_or P bs n false e none h = subst P (sym (get_or_past bs n no_block (grind (arith, e)))) none
 
 module _ (keep : Keeping) where
   abbrev pub Kept : Environment → Type 0

@@ -37,7 +37,7 @@ use Rattle.edi_static.proofs.FitnessStatements.{Does, list_does, scopes_wider}
 use Rattle.edi_static.proofs.FitnessBeginnings.{scope_given, types_known}
 use Rattle.edi_static.proofs.FitnessProcedures.{Ends, no_begun, completed, ends}
 use Rattle.edi_static.proofs.FitnessWalk.{Declares, declarations_onward}
-use Rattle.edi_static.proofs.Declared.{Keeping, globals_kept}
+use Rattle.edi_static.proofs.Declared.{Keeping, of_blocks, globals_kept}
 use Rattle.edi_static.proofs.FitnessSystem.{AreCalls, GivesCalls, heading_calls, are_calls_later}
 use Rattle.edi_static.proofs.FitnessUnits.{NeedsSo, unit_fits}
 
@@ -272,17 +272,7 @@ heading_fits p env s bare out deep h =
 
 -- constants and types begin no block
 abbrev no_block_begun : Keeping
-no_block_begun = record {
-  Is = λ types blocks. blocks ≡ [];
-  Becomes = λ types blocks. blocks ≡ [];
-  Fine = λ shape. Unit {0};
-  enumerated = λ n. tt;
-  filled = λ parts some. tt;
-  arrayed = λ of lower upper element. tt;
-  set = λ of. tt;
-  typed = λ types blocks shape fine h. h;
-  varied = λ types blocks n block body need h. subst (λ bs. slice_set bs n block ≡ []) (sym h) refl;
-}
+no_block_begun = of_blocks (λ blocks. blocks ≡ []) (λ blocks n block body need h. subst (λ bs. slice_set bs n block ≡ []) (sym h) refl)
 
 pub resolved_fits : (tree : text.Program) → depth tree ≤ greatest_levels → ProgramInRange tree → Gives UnitFits (resolve_tree tree)
 resolved_fits (text.program gs p) deep h =
