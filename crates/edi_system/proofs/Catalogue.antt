@@ -67,15 +67,18 @@ refused_system before catalog failed r e u is none =
     ∙ ap (λ x. record before { failed = x }) (is ∙ none_failed r (not_fault r e) ∙ sym none)
 
 -- the same, where the answer was tested: the system is as it was, and the next call may be made
-pub refused_stays : {D S T P X : Type 0} (contents : D → Option (List (List ℕ))) (count : D → ℕ) (before : System D S T P) (catalog : Catalog D)
+pub refused_leaves : {D S T P X : Type 0} (contents : D → Option (List (List ℕ))) (count : D → ℕ) (before : System D S T P) (catalog : Catalog D)
     (failed : Option Outside) (r : Result X CatEnd) (refused : Bool) → refused ≡ is_refused r → refused ≡ true → Untouched r (catalog_in before) catalog
-    → failed ≡ failed_at r → IsReady contents count before
-    → Untouched r before (record before { catalog = catalog; failed = failed })
-    × IsReady contents count (record before { catalog = catalog; failed = failed })
-refused_stays contents count before catalog failed r refused asked answered u is ready =
-    let same : record before { catalog = catalog; failed = failed } ≡ before =
-    refused_system before catalog failed r (sym asked ∙ answered) u is ready.nothing_failed in
-    (untouched_if r before (record before { catalog = catalog; failed = failed }) (λ e. same), subst (IsReady contents count) (sym same) ready)
+    → failed ≡ failed_at r → IsReady contents count before → Untouched r before (record before { catalog = catalog; failed = failed })
+refused_leaves contents count before catalog failed r refused asked answered u is ready =
+    untouched_if r before (record before { catalog = catalog; failed = failed })
+    (λ e. refused_system before catalog failed r (sym asked ∙ answered) u is ready.nothing_failed)
+
+pub refused_ready : {D S T P X : Type 0} (contents : D → Option (List (List ℕ))) (count : D → ℕ) (before : System D S T P) (catalog : Catalog D)
+    (failed : Option Outside) (r : Result X CatEnd) (refused : Bool) → refused ≡ is_refused r → refused ≡ true → Untouched r (catalog_in before) catalog
+    → failed ≡ failed_at r → IsReady contents count before → IsReady contents count (record before { catalog = catalog; failed = failed })
+refused_ready contents count before catalog failed r refused asked answered u is ready =
+    subst (IsReady contents count) (sym (refused_system before catalog failed r (sym asked ∙ answered) u is ready.nothing_failed)) ready
 
 -- and where it was not refused
 pub untouched_else : {X C : Type 0} (r : Result X CatEnd) (refused : Bool) (before after : C) → refused ≡ is_refused r → refused ≡ false

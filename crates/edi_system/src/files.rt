@@ -1,4 +1,5 @@
 //! The calls of the catalogue, on a system.
+#![tactic(auto, using(crate::proofs::Catalogue::refused_leaves, crate::proofs::Catalogue::refused_ready, crate::proofs::Catalogue::untouched_else))]
 
 ghost use Rattle.std.specs.Prelude.{◌≡◌, ◌⊎◌, ◌≤◌, ◌<◌, ◌+◌, ◌-◌, ◌^◌, ◌↔◌, true, false, None, Some, Err, IfErr, IfOk, IfSome, OnOk, length, slice_index, slice_index_or};
 ghost use Rattle.std.specs.Option.{option_map};

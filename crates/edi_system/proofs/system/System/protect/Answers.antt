@@ -1,7 +1,6 @@
 use Rattle.std.proofs.Common.{◌∙◌, ap, refl, true}
 use Rattle.std.specs.Option.{option_map}
 use Rattle.edi_system.specs.State.{found_of}
-use Rattle.edi_system.proofs.Catalogue.{refused_stays, untouched_else}
 use Rattle.edi_system.proofs.Protecting.{index_stays, protects_ready}
 use Rattle.edi_calls.specs.State.{find_file}
 use Rattle.edi_catalog.specs.InSlots.{no_such}
@@ -9,20 +8,6 @@ use Rattle.edi_catalog.specs.Changes.{file_protected, slots_changed}
 use Rattle.edi_system.proofs.InState.{keeps_files}
 use Rattle.edi_system.proofs.Lasting.{told_changes}
 use Rattle.edi_system.proofs.system.System.protect.Goals as goal
-
-pub returns-then-is_refused-clause-untouched : goal.returns-then-is_refused-clause-untouched
-returns-then-is_refused-clause-untouched g c =
-    (refused_stays g.D.Drive.contents g.D.Drive.count c.args.self.now c.protect-answer.new.self _ _ _ c.is_refused.ensures c.if-is_refused.true
-    c.protect-answer.ensures.changes.untouched c.failed_at-self.ensures c.requires.ready).0
-
-pub returns-then-is_refused-clause-ready : goal.returns-then-is_refused-clause-ready
-returns-then-is_refused-clause-ready g c = λ _.
-    (refused_stays g.D.Drive.contents g.D.Drive.count c.args.self.now c.protect-answer.new.self _ _ _ c.is_refused.ensures c.if-is_refused.true
-    c.protect-answer.ensures.changes.untouched c.failed_at-self.ensures c.requires.ready).1
-
-pub returns-clause-untouched : goal.returns-clause-untouched
-returns-clause-untouched g c =
-    untouched_else _ _ c.args.self.now _ c.is_refused.ensures c.if-is_refused.false
 
 pub returns-clause-stays : goal.returns-clause-stays
 returns-clause-stays g c = (ap (option_map found_of) c.forget_page.ensures ∙ index_stays c.args.self.now.found, refl)

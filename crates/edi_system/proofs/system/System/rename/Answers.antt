@@ -1,4 +1,3 @@
-use Rattle.edi_system.proofs.Catalogue.{refused_stays, untouched_else}
 use Rattle.std.proofs.Common.{◌∙◌, inl, inr, refl, sym, None}
 use borrow.Rule.Reborrow.{re_v}
 use Rattle.edi_calls.specs.State.{find_file}
@@ -7,20 +6,6 @@ use Rattle.edi_catalog.specs.Changes.{file_renamed, slots_changed}
 use Rattle.edi_system.proofs.InState.{closes_files}
 use Rattle.edi_system.proofs.Lasting.{told_changes}
 use Rattle.edi_system.proofs.system.System.rename.Goals as goal
-
-pub returns-then-is_refused-clause-untouched : goal.returns-then-is_refused-clause-untouched
-returns-then-is_refused-clause-untouched g c =
-    (refused_stays g.D.Drive.contents g.D.Drive.count c.args.self.now c.rename-answer.new.self _ _ _ c.is_refused.ensures c.if-is_refused.true
-    c.rename-answer.ensures.changes.untouched c.failed_at-self.ensures c.requires.ready).0
-
-pub returns-then-is_refused-clause-ready : goal.returns-then-is_refused-clause-ready
-returns-then-is_refused-clause-ready g c = λ _.
-    (refused_stays g.D.Drive.contents g.D.Drive.count c.args.self.now c.rename-answer.new.self _ _ _ c.is_refused.ensures c.if-is_refused.true
-    c.rename-answer.ensures.changes.untouched c.failed_at-self.ensures c.requires.ready).1
-
-pub returns-clause-untouched : goal.returns-clause-untouched
-returns-clause-untouched g c =
-    untouched_else _ _ c.args.self.now _ c.is_refused.ensures c.if-is_refused.false
 
 pub returns-then-is_refused-clause-exact : goal.returns-then-is_refused-clause-exact
 returns-then-is_refused-clause-exact g c =

@@ -1,4 +1,3 @@
-use Rattle.edi_system.proofs.Catalogue.{refused_stays, untouched_else}
 use Rattle.std.proofs.Common.{◌∙◌, inl, inr, refl, sym, None, length}
 use borrow.Rule.Reborrow.{re_v}
 use Rattle.edi_catalog.specs.InSlots.{no_room}
@@ -6,20 +5,6 @@ use Rattle.edi_catalog.specs.Storing.{slots_stored}
 use Rattle.edi_system.proofs.InState.{closes_files}
 use Rattle.edi_system.proofs.Lasting.{told_stores}
 use Rattle.edi_system.proofs.system.System.store.Goals as goal
-
-pub returns-then-is_refused-clause-untouched : goal.returns-then-is_refused-clause-untouched
-returns-then-is_refused-clause-untouched g c =
-    (refused_stays g.D.Drive.contents g.D.Drive.count c.args.self.now c.store-answer.new.self _ _ _ c.is_refused.ensures c.if-is_refused.true
-    c.store-answer.ensures.changes.untouched c.failed_at-self.ensures c.requires.ready).0
-
-pub returns-then-is_refused-clause-ready : goal.returns-then-is_refused-clause-ready
-returns-then-is_refused-clause-ready g c = λ _.
-    (refused_stays g.D.Drive.contents g.D.Drive.count c.args.self.now c.store-answer.new.self _ _ _ c.is_refused.ensures c.if-is_refused.true
-    c.store-answer.ensures.changes.untouched c.failed_at-self.ensures c.requires.ready).1
-
-pub returns-clause-untouched : goal.returns-clause-untouched
-returns-clause-untouched g c =
-    untouched_else _ _ c.args.self.now _ c.is_refused.ensures c.if-is_refused.false
 
 pub returns-then-is_refused-clause-exact : goal.returns-then-is_refused-clause-exact
 returns-then-is_refused-clause-exact g c =
