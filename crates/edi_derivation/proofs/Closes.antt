@@ -10,7 +10,7 @@ use Rattle.edi_tree.specs.Levels.{list_elements, members_elements, more_params_e
 use Rattle.edi_tree.specs.Levels.{params_elements, procedure_elements, result_elements, selectors_elements, simple_elements, statement_elements}
 use Rattle.edi_tree.specs.Levels.{statements_elements, term_elements}
 use Rattle.edi_grammar.specs.Grammar as item
-use Rattle.edi_grammar.specs.Grammar.{Part, token, part, closing, plain, rule_no}
+use Rattle.edi_grammar.specs.Grammar.{Part, token, part, closing}
 use Rattle.edi_grammar.specs.Trees.{join, Builders, Built, Reads}
 use Rattle.edi_grammar.specs.Kind.{kind_at}
 use Rattle.edi_grammar.specs.Rules as g

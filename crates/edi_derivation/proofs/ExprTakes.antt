@@ -18,12 +18,8 @@ use Rattle.edi_tree.specs.Spelled.{on}
 use Rattle.edi_tree.specs.Levels.{Element, mark, level_end, word, addend_elements, addends_elements, args_elements, comparison_elements, expr_elements}
 use Rattle.edi_tree.specs.Levels.{exprs_elements, factor_elements, multiplier_elements, multipliers_elements, selector_elements, selectors_elements}
 use Rattle.edi_tree.specs.Levels.{sign_elements, simple_elements, term_elements}
-use Rattle.edi_grammar.specs.Grammar as item
-use Rattle.edi_grammar.specs.Grammar.{Part, token, part, closing, plain, rule_no}
-use Rattle.edi_grammar.specs.Kinds as kind
 use Rattle.edi_grammar.specs.Kind.{kind_of}
 use Rattle.edi_grammar.specs.Rules as g
-use Rattle.edi_grammar.specs.Rules.{Sort, rules}
 use Rattle.edi_derivation.specs.Parts.{with_args, selected, relation_elements, addition_elements, multiplication_elements}
 use Rattle.edi_derivation.specs.Fits.{Items, Fit}
 use Rattle.edi_derivation.proofs.Builds.{value_of, line_in, couple, factor_with}

@@ -11,7 +11,7 @@ use Rattle.edi_tree.specs.Levels.{Element, mark, level_end, marks_among, element
 use Rattle.edi_tree.specs.Depth.{depth}
 use Rattle.edi_tree.proofs.Greatest.{greatest_is_depth}
 use Rattle.edi_grammar.specs.Grammar as item
-use Rattle.edi_grammar.specs.Grammar.{Part, token, part, closing, plain, Derives, opened, ends_in}
+use Rattle.edi_grammar.specs.Grammar.{closing, plain, Derives, opened, ends_in}
 use Rattle.edi_grammar.specs.Parser.{complete, wrong, too_deep, Stops}
 use Rattle.edi_grammar.specs.Verdict.{Shallow}
 use Rattle.edi_grammar.specs.Kind.{kind_at}

@@ -1,5 +1,5 @@
 -- Declarations and programs: a tree whose elements fit is read.
-use Rattle.std.proofs.Common.{List, [], ◌∷◌, Some, refl, sym, ap, subst}
+use Rattle.std.proofs.Common.{List, ◌∷◌, Some, refl, sym, ap, subst}
 use Rattle.edi_lex.specs.declared.symbol.Symbol.TheVariants as is
 use Rattle.edi_tree.specs.Tree.{Procedure, procedure, Item, const_item, type_item, var_item, procedure_item, pre_item, post_item, Module, module_with}
 use Rattle.edi_tree.specs.Tree.{Member, item_member, exported_member, module_member, Members, no_member, next_member, Declaration, item_declaration}
@@ -7,12 +7,8 @@ use Rattle.edi_tree.specs.Tree.{module_declaration, Declarations, no_declaration
 use Rattle.edi_tree.specs.Tree.{next_global, Program, program}
 use Rattle.edi_tree.specs.Levels.{Element, level_end, word, kept, declaration_elements, declarations_elements, global_elements, globals_elements}
 use Rattle.edi_tree.specs.Levels.{item_elements, list_elements, member_elements, members_elements, module_elements, procedure_elements, program_elements}
-use Rattle.edi_grammar.specs.Grammar as item
-use Rattle.edi_grammar.specs.Grammar.{Part, token, part, closing, plain, rule_no}
-use Rattle.edi_grammar.specs.Kinds as kind
 use Rattle.edi_grammar.specs.Kind.{kind_of}
 use Rattle.edi_grammar.specs.Rules as g
-use Rattle.edi_grammar.specs.Rules.{Sort, rules}
 use Rattle.edi_derivation.specs.Fits.{Items, Fit}
 use Rattle.edi_derivation.proofs.Splits.{heading_split}
 use Rattle.edi_derivation.proofs.Reading.{done, past, past_end, past_part, takes, Takes}

@@ -10,12 +10,11 @@ use Rattle.edi_tree.specs.Spells.{IsOn, StandsAsMark, StandAsMarks, Spells, to_e
 use Rattle.edi_tree.specs.Levels.{Element, mark, level_end, marks_among, elements, opens, with_symbol, one_less, level_behind}
 use Rattle.edi_tree.proofs.Marks.{elements_marks}
 use Rattle.edi_grammar.specs.Grammar as item
-use Rattle.edi_grammar.specs.Grammar.{Part, token, part, closing, plain, Derives, opened, level}
+use Rattle.edi_grammar.specs.Grammar.{token, closing, plain, Derives, opened}
 use Rattle.edi_grammar.specs.Kinds as kind
 use Rattle.edi_grammar.specs.Kind.{kind_of, kind_at}
 use Rattle.edi_grammar.specs.Open.{open_behind}
 use Rattle.edi_grammar.specs.Rules as g
-use Rattle.edi_grammar.specs.Rules.{Sort}
 use Rattle.edi_grammar.specs.Edison.{edison, start}
 use Rattle.edi_grammar.proofs.EdisonIsFair.{fair}
 use Rattle.edi_grammar.proofs.Start.{good}

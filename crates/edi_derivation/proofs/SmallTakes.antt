@@ -1,5 +1,5 @@
 -- Constants, types, variables and headings: a tree whose elements fit is read, one line for each rule.
-use Rattle.std.proofs.Common.{ℤ, List, [], ◌∷◌, Option, Some, None, refl, sym, ap, ◌∙◌, subst}
+use Rattle.std.proofs.Common.{ℤ, List, ◌∷◌, Option, Some, None, refl, sym, ap, ◌∙◌, subst}
 use Rattle.edi_lex.specs.declared.symbol.Symbol.TheVariants as is
 use Rattle.edi_tree.specs.declared.names.Name.{Name}
 use Rattle.edi_tree.specs.declared.constants.Constant.{Constant}
@@ -11,12 +11,8 @@ use Rattle.edi_tree.specs.Tree.{params, MoreParams, no_param, next_param, Param,
 use Rattle.edi_tree.specs.Levels.{Element, level_end, word, named, const_decl_elements, const_decls_elements, const_list_elements, constant_elements}
 use Rattle.edi_tree.specs.Levels.{group_elements, groups_elements, more_params_elements, names_elements, param_elements, params_elements, result_elements}
 use Rattle.edi_tree.specs.Levels.{type_decl_elements, var_list_elements}
-use Rattle.edi_grammar.specs.Grammar as item
-use Rattle.edi_grammar.specs.Grammar.{Part, token, part, closing, plain, rule_no}
-use Rattle.edi_grammar.specs.Kinds as kind
 use Rattle.edi_grammar.specs.Kind.{kind_of}
 use Rattle.edi_grammar.specs.Rules as g
-use Rattle.edi_grammar.specs.Rules.{Sort, rules}
 use Rattle.edi_derivation.specs.Parts.{head_elements, code_elements}
 use Rattle.edi_derivation.specs.Fits.{Items, Fit}
 use Rattle.edi_derivation.proofs.Builds.{value_of, line_in, name_in}

@@ -10,7 +10,6 @@ use Rattle.edi_tree.specs.Spelled.{Spelled, on, just, name_mark, chars_mark, cha
 use Rattle.edi_tree.specs.Spells.{StandsAsMark}
 use Rattle.edi_tree.specs.Levels.{Element, mark}
 use Rattle.edi_grammar.specs.Grammar as item
-use Rattle.edi_grammar.specs.Grammar.{Part, token, part, closing, plain, rule_no}
 use Rattle.edi_grammar.specs.Kinds as kind
 use Rattle.edi_grammar.specs.Kind.{kind_of, kind_at, symbols_with, symbol_no}
 use Rattle.edi_derivation.specs.Fits.{Items, Fit}

@@ -1,5 +1,5 @@
 -- Statements: a tree whose elements fit is read.
-use Rattle.std.proofs.Common.{List, [], ◌∷◌, Some, None, refl, sym, ap, ◌∙◌, subst}
+use Rattle.std.proofs.Common.{List, ◌∷◌, Some, None, refl, sym, ap, ◌∙◌, subst}
 use Rattle.edi_lex.specs.declared.symbol.Symbol.TheVariants as is
 use Rattle.edi_tree.specs.declared.expressions.Root.TheVariants as root
 use Rattle.edi_tree.specs.Tree.{variable, StatementList, list, Statements, no_statement, next_statement, Statement, skip, assignment, call, if_statement}
@@ -7,12 +7,8 @@ use Rattle.edi_tree.specs.Tree.{while_statement, when_statement, cobegin, Condit
 use Rattle.edi_tree.specs.Tree.{branch, Branches, no_branch, next_branch}
 use Rattle.edi_tree.specs.Levels.{Element, level_end, word, kept, branch_elements, condition_elements, conditions_elements, else_elements, expr_elements}
 use Rattle.edi_tree.specs.Levels.{list_elements, statement_elements, statements_elements}
-use Rattle.edi_grammar.specs.Grammar as item
-use Rattle.edi_grammar.specs.Grammar.{Part, token, part, closing, plain, rule_no}
-use Rattle.edi_grammar.specs.Kinds as kind
 use Rattle.edi_grammar.specs.Kind.{kind_of}
 use Rattle.edi_grammar.specs.Rules as g
-use Rattle.edi_grammar.specs.Rules.{Sort, rules}
 use Rattle.edi_derivation.specs.Parts.{After, called, assigned, alone, after_elements, open_branches}
 use Rattle.edi_derivation.specs.Fits.{Items, Fit}
 use Rattle.edi_derivation.proofs.Builds.{name_in, statement_with}

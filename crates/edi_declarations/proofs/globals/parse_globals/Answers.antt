@@ -1,4 +1,4 @@
-use Rattle.std.proofs.Common.{rules, ◌∷◌, ◌∙◌, [], map, ap, refl, sym, arith}
+use Rattle.std.proofs.Common.{rules, ◌∙◌, [], map, ap, refl, sym, arith}
 use Rattle.std.proofs.lemmas.Result.{err_from_is_err_and}
 use Rattle.edi_tree.specs.Levels as elements
 use Rattle.edi_tree.specs.View as view

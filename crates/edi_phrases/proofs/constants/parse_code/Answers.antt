@@ -5,7 +5,7 @@ use Rattle.edi_lex.specs.declared.symbol.Symbol.TheVariants as is
 use Rattle.edi_tree.specs.Spelled.{just}
 use Rattle.edi_tree.specs.Levels as elements
 use Rattle.edi_grammar.specs.Grammar as item
-use Rattle.edi_grammar.specs.Grammar.{token, part}
+use Rattle.edi_grammar.specs.Grammar.{token}
 use Rattle.edi_grammar.specs.Parser.{rule_at}
 use Rattle.edi_grammar.specs.Kinds as kind
 use Rattle.edi_grammar.specs.Kind.{front}

@@ -1,4 +1,4 @@
-use Rattle.std.proofs.Common.{rules, ◌∷◌, [], ap, refl, sym, arith}
+use Rattle.std.proofs.Common.{rules, [], ap, refl, sym, arith}
 use Rattle.std.proofs.lemmas.Result.{err_from_is_err_and}
 use Rattle.std.proofs.lemmas.Bool.{ne_eqb}
 use Rattle.edi_lex.specs.declared.symbol.Symbol.TheVariants as is
