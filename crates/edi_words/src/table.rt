@@ -170,47 +170,161 @@ fn watched_run<'a>(
     Some((file, stops, out, options))
 }
 
+/// The command `run`.
+fn run<'a>(operands: &[&'a str], given: &Given<'_, 'a>) -> Option<Command<'a>>
+    ensures exact { option_map view result ≡ option_map (λ p. words.run p.0 p.1) (words.file_run (texts operands.now) (given_view given.now)) }
+    ensures range { IfSome result IsInRange }
+{
+    let (file, options) = file_run(operands, given)?;
+    Some(Command::Run { file, options })
+}
+
+/// The command `replay`.
+fn replay<'a>(operands: &[&'a str], given: &Given<'_, 'a>) -> Option<Command<'a>>
+    ensures exact { option_map view result ≡ option_map (λ p. words.replay p.0.0 p.0.1 p.1) (words.guided_run (texts operands.now) (given_view given.now)) }
+    ensures range { IfSome result IsInRange }
+{
+    let (file, choices, turns) = guided_run(operands, given)?;
+    Some(Command::Replay {
+        file,
+        choices,
+        turns,
+    })
+}
+
+/// The command `exec`.
+fn exec<'a>(operands: &[&'a str], given: &Given<'_, 'a>) -> Option<Command<'a>>
+    ensures exact { option_map view result ≡ option_map (λ p. words.exec p.0 p.1) (words.file_run (texts operands.now) (given_view given.now)) }
+    ensures range { IfSome result IsInRange }
+{
+    let (file, options) = file_run(operands, given)?;
+    Some(Command::Exec { file, options })
+}
+
+/// The command `boot`.
+fn boot<'a>(operands: &[&'a str], given: &Given<'_, 'a>) -> Option<Command<'a>>
+    ensures exact { option_map view result ≡ option_map words.boot (words.bare_run (texts operands.now) (given_view given.now)) }
+    ensures range { IfSome result IsInRange }
+{
+    let options = bare_run(operands, given)?;
+    Some(Command::Boot { options })
+}
+
+/// The command `compile`.
+fn compile<'a>(operands: &[&'a str], given: &Given<'_, 'a>) -> Option<Command<'a>>
+    ensures exact { option_map view result ≡ option_map (λ p. words.compile p.0 p.1) (words.only_files (texts operands.now) (given_view given.now)) }
+    ensures range { IfSome result IsInRange }
+{
+    let (file, out) = only_files(operands, given)?;
+    Some(Command::Compile { file, out })
+}
+
+/// The command `newdisk`.
+fn newdisk<'a>(operands: &[&'a str], given: &Given<'_, 'a>) -> Option<Command<'a>>
+    ensures exact { option_map view result ≡ option_map (λ p. words.newdisk p.0 p.1) (words.new_disk (texts operands.now) (given_view given.now)) }
+    ensures range { IfSome result IsInRange }
+{
+    let (blocks, old) = new_disk(operands, given)?;
+    Some(Command::NewDisk { blocks, old })
+}
+
+/// The command `put`.
+fn put<'a>(operands: &[&'a str], given: &Given<'_, 'a>) -> Option<Command<'a>>
+    ensures exact { option_map view result ≡ option_map (λ p. words.put p.0 p.1) (words.put_file (texts operands.now) (given_view given.now)) }
+    ensures range { IfSome result IsInRange }
+{
+    let (file, title) = put_file(operands, given)?;
+    Some(Command::Put { file, title })
+}
+
+/// The command `get`.
+fn get<'a>(operands: &[&'a str], given: &Given<'_, 'a>) -> Option<Command<'a>>
+    ensures exact { option_map view result ≡ option_map (λ p. words.get p.1 p.0) (words.get_file (texts operands.now) (given_view given.now)) }
+    ensures range { IfSome result IsInRange }
+{
+    let (file, title) = get_file(operands, given)?;
+    Some(Command::Get { title, file })
+}
+
+/// The command `list`.
+fn list<'a>(operands: &[&'a str], given: &Given<'_, 'a>) -> Option<Command<'a>>
+    ensures exact { option_map view result ≡ option_map words.list (words.only_file (texts operands.now) (given_view given.now)) }
+    ensures range { IfSome result IsInRange }
+{
+    let file = only_file(operands, given)?;
+    Some(Command::List { file })
+}
+
+/// The command `demo`.
+fn demo<'a>(operands: &[&'a str], given: &Given<'_, 'a>) -> Option<Command<'a>>
+    ensures exact { option_map view result ≡ option_map (λ p. words.demo p.0 p.1) (words.sized_run (texts operands.now) (given_view given.now)) }
+    ensures range { IfSome result IsInRange }
+{
+    let (n, options) = sized_run(operands, given)?;
+    Some(Command::Demo { n, options })
+}
+
+/// The command `check`.
+fn check<'a>(operands: &[&'a str], given: &Given<'_, 'a>) -> Option<Command<'a>>
+    ensures exact { option_map view result ≡ option_map words.check (words.only_file (texts operands.now) (given_view given.now)) }
+    ensures range { IfSome result IsInRange }
+{
+    let file = only_file(operands, given)?;
+    Some(Command::Check { file })
+}
+
+/// The command `walk`.
+fn walk<'a>(operands: &[&'a str], given: &Given<'_, 'a>) -> Option<Command<'a>>
+    ensures exact { option_map view result ≡ option_map (λ p. words.walk p.0.0 p.0.1 p.1) (words.guided_run (texts operands.now) (given_view given.now)) }
+    ensures range { IfSome result IsInRange }
+{
+    let (file, choices, turns) = guided_run(operands, given)?;
+    Some(Command::Walk {
+        file,
+        choices,
+        turns,
+    })
+}
+
+/// The command `watch`.
+fn watch<'a>(operands: &[&'a str], given: &Given<'_, 'a>) -> Option<Command<'a>>
+    ensures exact { option_map view result ≡ option_map (λ p. words.watch p.0.0 p.0.1 p.0.2 p.1) (words.watched_run (texts operands.now) (given_view given.now)) }
+    ensures range { IfSome result IsInRange }
+{
+    let (file, stops, out, options) = watched_run(operands, given)?;
+    Some(Command::Watch {
+        file,
+        stops,
+        out,
+        options,
+    })
+}
+
 /// The command of this name, of the disk, the tools and the debugger.
 fn named_more<'a>(name: &str, operands: &[&'a str], given: &Given<'_, 'a>) -> Option<Command<'a>>
     ensures exact { option_map view result ≡ words.named_more name.now (texts operands.now) (given_view given.now) }
     ensures range { IfSome result IsInRange }
 {
     if name == "put" {
-        let (file, title) = put_file(operands, given)?;
-        return Some(Command::Put { file, title });
+        return put(operands, given);
     }
     if name == "get" {
-        let (file, title) = get_file(operands, given)?;
-        return Some(Command::Get { title, file });
+        return get(operands, given);
     }
     if name == "list" {
-        let file = only_file(operands, given)?;
-        return Some(Command::List { file });
+        return list(operands, given);
     }
     if name == "demo" {
-        let (n, options) = sized_run(operands, given)?;
-        return Some(Command::Demo { n, options });
+        return demo(operands, given);
     }
     if name == "check" {
-        let file = only_file(operands, given)?;
-        return Some(Command::Check { file });
+        return check(operands, given);
     }
     if name == "walk" {
-        let (file, choices, turns) = guided_run(operands, given)?;
-        return Some(Command::Walk {
-            file,
-            choices,
-            turns,
-        });
+        return walk(operands, given);
     }
     if name == "watch" {
-        let (file, stops, out, options) = watched_run(operands, given)?;
-        return Some(Command::Watch {
-            file,
-            stops,
-            out,
-            options,
-        });
+        return watch(operands, given);
     }
     None
 }
@@ -221,32 +335,22 @@ fn named<'a>(name: &str, operands: &[&'a str], given: &Given<'_, 'a>) -> Option<
     ensures range { IfSome result IsInRange }
 {
     if name == "run" {
-        let (file, options) = file_run(operands, given)?;
-        return Some(Command::Run { file, options });
+        return run(operands, given);
     }
     if name == "replay" {
-        let (file, choices, turns) = guided_run(operands, given)?;
-        return Some(Command::Replay {
-            file,
-            choices,
-            turns,
-        });
+        return replay(operands, given);
     }
     if name == "exec" {
-        let (file, options) = file_run(operands, given)?;
-        return Some(Command::Exec { file, options });
+        return exec(operands, given);
     }
     if name == "boot" {
-        let options = bare_run(operands, given)?;
-        return Some(Command::Boot { options });
+        return boot(operands, given);
     }
     if name == "compile" {
-        let (file, out) = only_files(operands, given)?;
-        return Some(Command::Compile { file, out });
+        return compile(operands, given);
     }
     if name == "newdisk" {
-        let (blocks, old) = new_disk(operands, given)?;
-        return Some(Command::NewDisk { blocks, old });
+        return newdisk(operands, given);
     }
     named_more(name, operands, given)
 }
