@@ -36,40 +36,44 @@ abbrev pub Closes : (k : Sort) (rules : List (List (Part Sort))) → Builders (O
 Closes k [] b = Unit {0}
 Closes k (rule ∷ more) b = ((us : Ts rule) (items rest : Items) → Spans rule us items rest → Span k (b.0 us) items rest) × Closes k more b.1
 
+-- where the items end, what fits the rest fits
+at_end : {items rest : Items} (es : List Element) → items ≡ rest → Fit es rest → Fit es items
+at_end es same fit = subst (λ l. Fit es l) (sym same) fit
+
 pub closes : (k : Sort) → Closes k (rules k) (build k)
-closes g.Program = ((λ us items rest h es fit. h.1 (procedure_elements us.1.0 es) (h.2.1 es (subst (λ l. Fit es l) (sym h.2.2) fit))), tt)
+closes g.Program = ((λ us items rest h es fit. h.1 (procedure_elements us.1.0 es) (h.2.1 es (at_end es h.2.2 fit))), tt)
 closes g.Globals = (
-  (λ us items rest h es fit. h.1 (globals_elements us.1.0 es) (h.2.1 es (subst (λ l. Fit es l) (sym h.2.2) fit))),
-  ((λ us items rest h es fit. subst (λ l. Fit es l) (sym h) fit), tt),
+  (λ us items rest h es fit. h.1 (globals_elements us.1.0 es) (h.2.1 es (at_end es h.2.2 fit))),
+  ((λ us items rest h es fit. at_end es h fit), tt),
 )
 closes g.Global = (
-  (λ us items rest h es fit. h.1 es (subst (λ l. Fit es l) (sym h.2) fit)),
-  ((λ us items rest h es fit. h.1 es (subst (λ l. Fit es l) (sym h.2) fit)), tt),
+  (λ us items rest h es fit. h.1 es (at_end es h.2 fit)),
+  ((λ us items rest h es fit. h.1 es (at_end es h.2 fit)), tt),
 )
 closes g.ConstList = (
   (λ us items rest h es fit. put (just is.Const) (const_decl_elements us.1.0 (const_decls_elements us.1.1.0 es)) h.1
-      (word_at is.Const 9 (λ t c v. refl) us.0 h.2) (h.3.1 (const_decls_elements us.1.1.0 es) (h.3.2.1 es (subst (λ l. Fit es l) (sym h.3.2.2) fit)))),
+      (word_at is.Const 9 (λ t c v. refl) us.0 h.2) (h.3.1 (const_decls_elements us.1.1.0 es) (h.3.2.1 es (at_end es h.3.2.2 fit)))),
   tt,
 )
 closes g.ConstDecls = (
   (λ us items rest h es fit. put (just is.Semicolon) (const_decl_elements us.1.0 (const_decls_elements us.1.1.0 es)) h.1
       (word_at is.Semicolon 44 (λ t c v. refl) us.0 h.2)
-      (h.3.1 (const_decls_elements us.1.1.0 es) (h.3.2.1 es (subst (λ l. Fit es l) (sym h.3.2.2) fit)))),
-  ((λ us items rest h es fit. subst (λ l. Fit es l) (sym h) fit), tt),
+      (h.3.1 (const_decls_elements us.1.1.0 es) (h.3.2.1 es (at_end es h.3.2.2 fit)))),
+  ((λ us items rest h es fit. at_end es h fit), tt),
 )
 closes g.ConstDecl = (
   (λ us items rest h es fit. put (name_mark (name_in us.0)) (word is.Equal ∷ constant_elements us.1.1.0 es) h.1 (name_at us.0 h.2)
       (put (just is.Equal) (constant_elements us.1.1.0 es) h.3.1 (word_at is.Equal 32 (λ t c v. refl) us.1.0 h.3.2)
-      (h.3.3.1 es (subst (λ l. Fit es l) (sym h.3.3.2) fit)))),
+      (h.3.3.1 es (at_end es h.3.3.2 fit)))),
   tt,
 )
 closes g.Constant = (
-  (λ us items rest h es fit. put (just (is.Numeral (value_in us.0))) es h.1 (numeral_at us.0 h.2) (subst (λ l. Fit es l) (sym h.3) fit)),
+  (λ us items rest h es fit. put (just (is.Numeral (value_in us.0))) es h.1 (numeral_at us.0 h.2) (at_end es h.3 fit)),
   (
-    (λ us items rest h es fit. put (char_mark (char_in us.0)) es h.1 (char_at us.0 h.2) (subst (λ l. Fit es l) (sym h.3) fit)),
+    (λ us items rest h es fit. put (char_mark (char_in us.0)) es h.1 (char_at us.0 h.2) (at_end es h.3 fit)),
     (
       (λ us items rest h es fit. subst (λ l. Fit l items) (sym (constant_split (name_in us.0) us.1.0 es))
-          (put (name_mark (name_in us.0)) (code_elements us.1.0 es) h.1 (name_at us.0 h.2) (h.3.1 es (subst (λ l. Fit es l) (sym h.3.2) fit)))),
+          (put (name_mark (name_in us.0)) (code_elements us.1.0 es) h.1 (name_at us.0 h.2) (h.3.1 es (at_end es h.3.2 fit)))),
       tt,
     ),
   ),
@@ -78,8 +82,8 @@ closes g.Code = (
   (λ us items rest h es fit. put (just is.Open) (word (is.Numeral (value_in us.1.0)) ∷ word is.Close ∷ level_end ∷ es) h.1
       (word_at is.Open 46 (λ t c v. refl) us.0 h.2) (put (just (is.Numeral (value_in us.1.0))) (word is.Close ∷ level_end ∷ es) h.3.1
       (numeral_at us.1.0 h.3.2) (put (just is.Close) (level_end ∷ es) h.3.3.1 (word_at is.Close 47 (λ t c v. refl) us.1.1.0 h.3.3.2)
-      ((h.3.3.3.0, h.3.3.3.1, subst (λ l. Fit es l) (sym h.3.3.3.2) fit))))),
-  ((λ us items rest h es fit. subst (λ l. Fit es l) (sym h) fit), tt),
+      ((h.3.3.3.0, h.3.3.3.1, at_end es h.3.3.3.2 fit))))),
+  ((λ us items rest h es fit. at_end es h fit), tt),
 )
 closes g.TypeDecl = (
   (λ us items rest h es fit. put (just is.Enum) (named (name_in us.1.0) ∷ word is.Open ∷ named (name_in us.1.1.1.0)
@@ -90,7 +94,7 @@ closes g.TypeDecl = (
       (put (name_mark (name_in us.1.1.1.0)) (names_elements us.1.1.1.1.0 (word is.Close ∷ level_end ∷ es)) h.3.3.3.1 (name_at us.1.1.1.0 h.3.3.3.2)
       (h.3.3.3.3.1 (word is.Close ∷ level_end ∷ es) (put (just is.Close) (level_end ∷ es) h.3.3.3.3.2.1
       (word_at is.Close 47 (λ t c v. refl) us.1.1.1.1.1.0 h.3.3.3.3.2.2)
-      ((h.3.3.3.3.2.3.0, h.3.3.3.3.2.3.1, subst (λ l. Fit es l) (sym h.3.3.3.3.2.3.2) fit)))))))),
+      ((h.3.3.3.3.2.3.0, h.3.3.3.3.2.3.1, at_end es h.3.3.3.3.2.3.2 fit)))))))),
   (
     (λ us items rest h es fit. put (just is.Record) (named (name_in us.1.0) ∷ word is.Open
         ∷ group_elements us.1.1.1.0 (groups_elements us.1.1.1.1.0 (word is.Close ∷ level_end ∷ es))) h.1 (word_at is.Record 25 (λ t c v. refl) us.0 h.2)
@@ -100,7 +104,7 @@ closes g.TypeDecl = (
         (h.3.3.3.1 (groups_elements us.1.1.1.1.0 (word is.Close ∷ level_end ∷ es))
         (h.3.3.3.2.1 (word is.Close ∷ level_end ∷ es) (put (just is.Close) (level_end ∷ es) h.3.3.3.2.2.1
         (word_at is.Close 47 (λ t c v. refl) us.1.1.1.1.1.0 h.3.3.3.2.2.2)
-        ((h.3.3.3.2.2.3.0, h.3.3.3.2.2.3.1, subst (λ l. Fit es l) (sym h.3.3.3.2.2.3.2) fit)))))))),
+        ((h.3.3.3.2.2.3.0, h.3.3.3.2.2.3.1, at_end es h.3.3.3.2.2.3.2 fit)))))))),
     (
       (λ us items rest h es fit. put (just is.Array) (named (name_in us.1.0) ∷ kept is.OpenBracket (line_in us.1.1.0)
           ∷ constant_elements us.1.1.1.0 (word is.Colon ∷ constant_elements us.1.1.1.1.1.0
@@ -130,7 +134,7 @@ closes g.TypeDecl = (
                 (name_at us.1.1.1.1.1.1.1.1.0 h.3.3.3.2.3.2.3.2.3.2)
                 (put (just is.Close) (level_end ∷ es) h.3.3.3.2.3.2.3.2.3.3.1
                 (word_at is.Close 47 (λ t c v. refl) us.1.1.1.1.1.1.1.1.1.0 h.3.3.3.2.3.2.3.2.3.3.2)
-                ((h.3.3.3.2.3.2.3.2.3.3.3.0, h.3.3.3.2.3.2.3.2.3.3.3.1, subst (λ l. Fit es l) (sym h.3.3.3.2.3.2.3.2.3.3.3.2) fit)))),
+                ((h.3.3.3.2.3.2.3.2.3.3.3.0, h.3.3.3.2.3.2.3.2.3.3.3.1, at_end es h.3.3.3.2.3.2.3.2.3.3.3.2 fit)))),
           ))))))))),
       (
         (λ us items rest h es fit. put (just is.Set) (named (name_in us.1.0) ∷ word is.Open ∷ named (name_in us.1.1.1.0) ∷ word is.Close ∷ level_end
@@ -140,7 +144,7 @@ closes g.TypeDecl = (
             (word_at is.Open 46 (λ t c v. refl) us.1.1.0 h.3.3.2)
             (put (name_mark (name_in us.1.1.1.0)) (word is.Close ∷ level_end ∷ es) h.3.3.3.1 (name_at us.1.1.1.0 h.3.3.3.2)
             (put (just is.Close) (level_end ∷ es) h.3.3.3.3.1 (word_at is.Close 47 (λ t c v. refl) us.1.1.1.1.0 h.3.3.3.3.2)
-            ((h.3.3.3.3.3.0, h.3.3.3.3.3.1, subst (λ l. Fit es l) (sym h.3.3.3.3.3.2) fit))))))),
+            ((h.3.3.3.3.3.0, h.3.3.3.3.3.1, at_end es h.3.3.3.3.3.2 fit))))))),
         tt,
       ),
     ),
@@ -149,57 +153,57 @@ closes g.TypeDecl = (
 closes g.Names = (
   (λ us items rest h es fit. put (just is.Comma) (named (name_in us.1.0) ∷ names_elements us.1.1.0 es) h.1 (word_at is.Comma 43 (λ t c v. refl) us.0 h.2)
       (put (name_mark (name_in us.1.0)) (names_elements us.1.1.0 es) h.3.1 (name_at us.1.0 h.3.2)
-      (h.3.3.1 es (subst (λ l. Fit es l) (sym h.3.3.2) fit)))),
-  ((λ us items rest h es fit. subst (λ l. Fit es l) (sym h) fit), tt),
+      (h.3.3.1 es (at_end es h.3.3.2 fit)))),
+  ((λ us items rest h es fit. at_end es h fit), tt),
 )
 closes g.Group = (
   (λ us items rest h es fit. put (name_mark (name_in us.0)) (names_elements us.1.0 (word is.Colon ∷ named (name_in us.1.1.1.0) ∷ es)) h.1
       (name_at us.0 h.2) (h.3.1 (word is.Colon ∷ named (name_in us.1.1.1.0) ∷ es)
       (put (just is.Colon) (named (name_in us.1.1.1.0) ∷ es) h.3.2.1 (word_at is.Colon 41 (λ t c v. refl) us.1.1.0 h.3.2.2)
-      (put (name_mark (name_in us.1.1.1.0)) es h.3.2.3.1 (name_at us.1.1.1.0 h.3.2.3.2) (subst (λ l. Fit es l) (sym h.3.2.3.3) fit))))),
+      (put (name_mark (name_in us.1.1.1.0)) es h.3.2.3.1 (name_at us.1.1.1.0 h.3.2.3.2) (at_end es h.3.2.3.3 fit))))),
   tt,
 )
 closes g.Groups = (
   (λ us items rest h es fit. put (just is.Semicolon) (group_elements us.1.0 (groups_elements us.1.1.0 es)) h.1
-      (word_at is.Semicolon 44 (λ t c v. refl) us.0 h.2) (h.3.1 (groups_elements us.1.1.0 es) (h.3.2.1 es (subst (λ l. Fit es l) (sym h.3.2.2) fit)))),
-  ((λ us items rest h es fit. subst (λ l. Fit es l) (sym h) fit), tt),
+      (word_at is.Semicolon 44 (λ t c v. refl) us.0 h.2) (h.3.1 (groups_elements us.1.1.0 es) (h.3.2.1 es (at_end es h.3.2.2 fit)))),
+  ((λ us items rest h es fit. at_end es h fit), tt),
 )
 closes g.VarList = (
   (λ us items rest h es fit. put (just is.Var) (group_elements us.1.0 (groups_elements us.1.1.0 es)) h.1 (word_at is.Var 29 (λ t c v. refl) us.0 h.2)
-      (h.3.1 (groups_elements us.1.1.0 es) (h.3.2.1 es (subst (λ l. Fit es l) (sym h.3.2.2) fit)))),
+      (h.3.1 (groups_elements us.1.1.0 es) (h.3.2.1 es (at_end es h.3.2.2 fit)))),
   tt,
 )
 closes g.Head = (
   (λ us items rest h es fit. put (name_mark (name_in us.0)) (params_elements us.1.0 (result_elements us.1.1.0 es)) h.1 (name_at us.0 h.2)
-      (h.3.1 (result_elements us.1.1.0 es) (h.3.2.1 es (subst (λ l. Fit es l) (sym h.3.2.2) fit)))),
+      (h.3.1 (result_elements us.1.1.0 es) (h.3.2.1 es (at_end es h.3.2.2 fit)))),
   tt,
 )
 closes g.Params = (
   (λ us items rest h es fit. put (just is.Open) (param_elements us.1.0 (more_params_elements us.1.1.0 (word is.Close ∷ level_end ∷ es))) h.1
       (word_at is.Open 46 (λ t c v. refl) us.0 h.2) (h.3.1 (more_params_elements us.1.1.0 (word is.Close ∷ level_end ∷ es))
       (h.3.2.1 (word is.Close ∷ level_end ∷ es) (put (just is.Close) (level_end ∷ es) h.3.2.2.1
-      (word_at is.Close 47 (λ t c v. refl) us.1.1.1.0 h.3.2.2.2) ((h.3.2.2.3.0, h.3.2.2.3.1, subst (λ l. Fit es l) (sym h.3.2.2.3.2) fit)))))),
-  ((λ us items rest h es fit. subst (λ l. Fit es l) (sym h) fit), tt),
+      (word_at is.Close 47 (λ t c v. refl) us.1.1.1.0 h.3.2.2.2) ((h.3.2.2.3.0, h.3.2.2.3.1, at_end es h.3.2.2.3.2 fit)))))),
+  ((λ us items rest h es fit. at_end es h fit), tt),
 )
 closes g.MoreParams = (
   (λ us items rest h es fit. put (just is.Semicolon) (param_elements us.1.0 (more_params_elements us.1.1.0 es)) h.1
       (word_at is.Semicolon 44 (λ t c v. refl) us.0 h.2)
-      (h.3.1 (more_params_elements us.1.1.0 es) (h.3.2.1 es (subst (λ l. Fit es l) (sym h.3.2.2) fit)))),
-  ((λ us items rest h es fit. subst (λ l. Fit es l) (sym h) fit), tt),
+      (h.3.1 (more_params_elements us.1.1.0 es) (h.3.2.1 es (at_end es h.3.2.2 fit)))),
+  ((λ us items rest h es fit. at_end es h fit), tt),
 )
 closes g.Result = (
   (λ us items rest h es fit. put (just is.Colon) (named (name_in us.1.0) ∷ es) h.1 (word_at is.Colon 41 (λ t c v. refl) us.0 h.2)
-      (put (name_mark (name_in us.1.0)) es h.3.1 (name_at us.1.0 h.3.2) (subst (λ l. Fit es l) (sym h.3.3) fit))),
-  ((λ us items rest h es fit. subst (λ l. Fit es l) (sym h) fit), tt),
+      (put (name_mark (name_in us.1.0)) es h.3.1 (name_at us.1.0 h.3.2) (at_end es h.3.3 fit))),
+  ((λ us items rest h es fit. at_end es h fit), tt),
 )
 closes g.Param = (
   (λ us items rest h es fit. put (just is.Var) (group_elements us.1.0 es) h.1 (word_at is.Var 29 (λ t c v. refl) us.0 h.2)
-      (h.3.1 es (subst (λ l. Fit es l) (sym h.3.2) fit))),
+      (h.3.1 es (at_end es h.3.2 fit))),
   (
     (λ us items rest h es fit. subst (λ l. Fit (l) items) (sym (heading_split us.1.0 (level_end ∷ es)))
         (put (just is.Proc) (head_elements us.1.0 (level_end ∷ es)) h.1 (word_at is.Proc 24 (λ t c v. refl) us.0 h.2)
-        (h.3.1 (level_end ∷ es) ((h.3.2.0, h.3.2.1, subst (λ l. Fit es l) (sym h.3.2.2) fit))))),
-    ((λ us items rest h es fit. h.1 es (subst (λ l. Fit es l) (sym h.2) fit)), tt),
+        (h.3.1 (level_end ∷ es) ((h.3.2.0, h.3.2.1, at_end es h.3.2.2 fit))))),
+    ((λ us items rest h es fit. h.1 es (at_end es h.2 fit)), tt),
   ),
 )
 closes g.Procedure = (
@@ -215,24 +219,24 @@ closes g.Procedure = (
       (word_at is.Begin 7 (λ t c v. refl) us.1.1.1.0 h.3.2.2.2)
       (h.3.2.2.3.1 (kept is.End (line_in us.1.1.1.1.1.0) ∷ level_end ∷ es)
       (put (on is.End (line_in us.1.1.1.1.1.0)) (level_end ∷ es) h.3.2.2.3.2.1 (kept_at is.End 13 (λ t c v. refl) us.1.1.1.1.1.0 h.3.2.2.3.2.2)
-      ((h.3.2.2.3.2.3.0, h.3.2.2.3.2.3.1, subst (λ l. Fit es l) (sym h.3.2.2.3.2.3.2) fit))))))))),
+      ((h.3.2.2.3.2.3.0, h.3.2.2.3.2.3.1, at_end es h.3.2.2.3.2.3.2 fit))))))))),
   tt,
 )
 closes g.Item = (
-  (λ us items rest h es fit. h.1 es (subst (λ l. Fit es l) (sym h.2) fit)),
+  (λ us items rest h es fit. h.1 es (at_end es h.2 fit)),
   (
-    (λ us items rest h es fit. h.1 es (subst (λ l. Fit es l) (sym h.2) fit)),
+    (λ us items rest h es fit. h.1 es (at_end es h.2 fit)),
     (
-      (λ us items rest h es fit. h.1 es (subst (λ l. Fit es l) (sym h.2) fit)),
+      (λ us items rest h es fit. h.1 es (at_end es h.2 fit)),
       (
         (λ us items rest h es fit. subst (λ l. Fit (word is.Pre ∷ l) items) (sym (heading_split us.1.1.0 (level_end ∷ es)))
             (put (just is.Pre) (word is.Proc ∷ head_elements us.1.1.0 (level_end ∷ es)) h.1 (word_at is.Pre 23 (λ t c v. refl) us.0 h.2)
             (put (just is.Proc) (head_elements us.1.1.0 (level_end ∷ es)) h.3.1 (word_at is.Proc 24 (λ t c v. refl) us.1.0 h.3.2)
-            (h.3.3.1 (level_end ∷ es) ((h.3.3.2.0, h.3.3.2.1, subst (λ l. Fit es l) (sym h.3.3.2.2) fit)))))),
+            (h.3.3.1 (level_end ∷ es) ((h.3.3.2.0, h.3.3.2.1, at_end es h.3.3.2.2 fit)))))),
         (
           (λ us items rest h es fit. put (just is.Post) (procedure_elements us.1.0 es) h.1 (word_at is.Post 22 (λ t c v. refl) us.0 h.2)
-              (h.3.1 es (subst (λ l. Fit es l) (sym h.3.2) fit))),
-          ((λ us items rest h es fit. h.1 es (subst (λ l. Fit es l) (sym h.2) fit)), tt),
+              (h.3.1 es (at_end es h.3.2 fit))),
+          ((λ us items rest h es fit. h.1 es (at_end es h.2 fit)), tt),
         ),
       ),
     ),
@@ -244,41 +248,41 @@ closes g.Module = (
       (put (just is.Begin) (list_elements us.1.1.1.0 (word is.End ∷ level_end ∷ es)) h.3.2.1 (word_at is.Begin 7 (λ t c v. refl) us.1.1.0 h.3.2.2)
       (h.3.2.3.1 (word is.End ∷ level_end ∷ es) (put (just is.End) (level_end ∷ es) h.3.2.3.2.1
       (word_at is.End 13 (λ t c v. refl) us.1.1.1.1.0 h.3.2.3.2.2)
-      ((h.3.2.3.2.3.0, h.3.2.3.2.3.1, subst (λ l. Fit es l) (sym h.3.2.3.2.3.2) fit))))))),
+      ((h.3.2.3.2.3.0, h.3.2.3.2.3.1, at_end es h.3.2.3.2.3.2 fit))))))),
   tt,
 )
 closes g.Member = (
   (λ us items rest h es fit. put (just is.Star) (item_elements us.1.0 es) h.1 (word_at is.Star 40 (λ t c v. refl) us.0 h.2)
-      (h.3.1 es (subst (λ l. Fit es l) (sym h.3.2) fit))),
+      (h.3.1 es (at_end es h.3.2 fit))),
   (
-    (λ us items rest h es fit. h.1 es (subst (λ l. Fit es l) (sym h.2) fit)),
-    ((λ us items rest h es fit. h.1 es (subst (λ l. Fit es l) (sym h.2) fit)), tt),
+    (λ us items rest h es fit. h.1 es (at_end es h.2 fit)),
+    ((λ us items rest h es fit. h.1 es (at_end es h.2 fit)), tt),
   ),
 )
 closes g.Members = (
-  (λ us items rest h es fit. h.1 (members_elements us.1.0 es) (h.2.1 es (subst (λ l. Fit es l) (sym h.2.2) fit))),
-  ((λ us items rest h es fit. subst (λ l. Fit es l) (sym h) fit), tt),
+  (λ us items rest h es fit. h.1 (members_elements us.1.0 es) (h.2.1 es (at_end es h.2.2 fit))),
+  ((λ us items rest h es fit. at_end es h fit), tt),
 )
 closes g.Declaration = (
-  (λ us items rest h es fit. h.1 es (subst (λ l. Fit es l) (sym h.2) fit)),
-  ((λ us items rest h es fit. h.1 es (subst (λ l. Fit es l) (sym h.2) fit)), tt),
+  (λ us items rest h es fit. h.1 es (at_end es h.2 fit)),
+  ((λ us items rest h es fit. h.1 es (at_end es h.2 fit)), tt),
 )
 closes g.Declarations = (
-  (λ us items rest h es fit. h.1 (declarations_elements us.1.0 es) (h.2.1 es (subst (λ l. Fit es l) (sym h.2.2) fit))),
-  ((λ us items rest h es fit. subst (λ l. Fit es l) (sym h) fit), tt),
+  (λ us items rest h es fit. h.1 (declarations_elements us.1.0 es) (h.2.1 es (at_end es h.2.2 fit))),
+  ((λ us items rest h es fit. at_end es h fit), tt),
 )
-closes g.StatementList = ((λ us items rest h es fit. h.1 (statements_elements us.1.0 es) (h.2.1 es (subst (λ l. Fit es l) (sym h.2.2) fit))), tt)
+closes g.StatementList = ((λ us items rest h es fit. h.1 (statements_elements us.1.0 es) (h.2.1 es (at_end es h.2.2 fit))), tt)
 closes g.Statements = (
   (λ us items rest h es fit. put (just is.Semicolon) (statement_elements us.1.0 (statements_elements us.1.1.0 es)) h.1
       (word_at is.Semicolon 44 (λ t c v. refl) us.0 h.2)
-      (h.3.1 (statements_elements us.1.1.0 es) (h.3.2.1 es (subst (λ l. Fit es l) (sym h.3.2.2) fit)))),
-  ((λ us items rest h es fit. subst (λ l. Fit es l) (sym h) fit), tt),
+      (h.3.1 (statements_elements us.1.1.0 es) (h.3.2.1 es (at_end es h.3.2.2 fit)))),
+  ((λ us items rest h es fit. at_end es h fit), tt),
 )
 closes g.Statement = (
-  (λ us items rest h es fit. put (just is.Skip) es h.1 (word_at is.Skip 27 (λ t c v. refl) us.0 h.2) (subst (λ l. Fit es l) (sym h.3) fit)),
+  (λ us items rest h es fit. put (just is.Skip) es h.1 (word_at is.Skip 27 (λ t c v. refl) us.0 h.2) (at_end es h.3 fit)),
   (
     (λ us items rest h es fit. subst (λ l. Fit l items) (sym (statement_split (name_in us.0) us.1.0 es))
-        (put (name_mark (name_in us.0)) (after_elements us.1.0 es) h.1 (name_at us.0 h.2) (h.3.1 es (subst (λ l. Fit es l) (sym h.3.2) fit)))),
+        (put (name_mark (name_in us.0)) (after_elements us.1.0 es) h.1 (name_at us.0 h.2) (h.3.1 es (at_end es h.3.2 fit)))),
     (
       (λ us items rest h es fit. put (just is.Val) (named (name_in us.1.0)
           ∷ selectors_elements us.1.1.0 (kept is.Becomes (line_in us.1.1.1.0) ∷ expr_elements us.1.1.1.1.0 es)) h.1
@@ -286,28 +290,28 @@ closes g.Statement = (
           (selectors_elements us.1.1.0 (kept is.Becomes (line_in us.1.1.1.0) ∷ expr_elements us.1.1.1.1.0 es)) h.3.1 (name_at us.1.0 h.3.2)
           (h.3.3.1 (kept is.Becomes (line_in us.1.1.1.0) ∷ expr_elements us.1.1.1.1.0 es)
           (put (on is.Becomes (line_in us.1.1.1.0)) (expr_elements us.1.1.1.1.0 es) h.3.3.2.1
-          (kept_at is.Becomes 42 (λ t c v. refl) us.1.1.1.0 h.3.3.2.2) (h.3.3.2.3.1 es (subst (λ l. Fit es l) (sym h.3.3.2.3.2) fit)))))),
+          (kept_at is.Becomes 42 (λ t c v. refl) us.1.1.1.0 h.3.3.2.2) (h.3.3.2.3.1 es (at_end es h.3.3.2.3.2 fit)))))),
       (
         (λ us items rest h es fit. put (just is.If) (conditions_elements us.1.0 (word is.End ∷ level_end ∷ es)) h.1
             (word_at is.If 15 (λ t c v. refl) us.0 h.2) (h.3.1 (word is.End ∷ level_end ∷ es)
             (put (just is.End) (level_end ∷ es) h.3.2.1 (word_at is.End 13 (λ t c v. refl) us.1.1.0 h.3.2.2)
-            ((h.3.2.3.0, h.3.2.3.1, subst (λ l. Fit es l) (sym h.3.2.3.2) fit))))),
+            ((h.3.2.3.0, h.3.2.3.1, at_end es h.3.2.3.2 fit))))),
         (
           (λ us items rest h es fit. put (just is.While) (conditions_elements us.1.0 (word is.End ∷ level_end ∷ es)) h.1
               (word_at is.While 31 (λ t c v. refl) us.0 h.2) (h.3.1 (word is.End ∷ level_end ∷ es)
               (put (just is.End) (level_end ∷ es) h.3.2.1 (word_at is.End 13 (λ t c v. refl) us.1.1.0 h.3.2.2)
-              ((h.3.2.3.0, h.3.2.3.1, subst (λ l. Fit es l) (sym h.3.2.3.2) fit))))),
+              ((h.3.2.3.0, h.3.2.3.1, at_end es h.3.2.3.2 fit))))),
           (
             (λ us items rest h es fit. put (on is.When (line_in us.0)) (conditions_elements us.1.0 (word is.End ∷ level_end ∷ es)) h.1
                 (kept_at is.When 30 (λ t c v. refl) us.0 h.2) (h.3.1 (word is.End ∷ level_end ∷ es)
                 (put (just is.End) (level_end ∷ es) h.3.2.1 (word_at is.End 13 (λ t c v. refl) us.1.1.0 h.3.2.2)
-                ((h.3.2.3.0, h.3.2.3.1, subst (λ l. Fit es l) (sym h.3.2.3.2) fit))))),
+                ((h.3.2.3.0, h.3.2.3.1, at_end es h.3.2.3.2 fit))))),
             (
               (λ us items rest h es fit. subst (λ l. Fit (kept is.Cobegin (line_in us.0) ∷ branch_elements us.1.0 l) items)
                   (sym (branches_split us.1.1.0 es)) (put (on is.Cobegin (line_in us.0)) (branch_elements us.1.0 (open_branches us.1.1.0 (level_end ∷ es)))
                   h.1 (kept_at is.Cobegin 8 (λ t c v. refl) us.0 h.2)
                   (h.3.1 (open_branches us.1.1.0 (level_end ∷ es))
-                  (h.3.2.1 (level_end ∷ es) ((h.3.2.2.0, h.3.2.2.1, subst (λ l. Fit es l) (sym h.3.2.2.2) fit)))))),
+                  (h.3.2.1 (level_end ∷ es) ((h.3.2.2.0, h.3.2.2.1, at_end es h.3.2.2.2 fit)))))),
               tt,
             ),
           ),
@@ -317,93 +321,93 @@ closes g.Statement = (
   ),
 )
 closes g.After = (
-  (λ us items rest h es fit. h.1 es (subst (λ l. Fit es l) (sym h.2) fit)),
+  (λ us items rest h es fit. h.1 es (at_end es h.2 fit)),
   (
     (λ us items rest h es fit. h.1 (kept is.Becomes (line_in us.1.0) ∷ expr_elements us.1.1.0 es)
         (put (on is.Becomes (line_in us.1.0)) (expr_elements us.1.1.0 es) h.2.1 (kept_at is.Becomes 42 (λ t c v. refl) us.1.0 h.2.2)
-        (h.2.3.1 es (subst (λ l. Fit es l) (sym h.2.3.2) fit)))),
-    ((λ us items rest h es fit. subst (λ l. Fit es l) (sym h) fit), tt),
+        (h.2.3.1 es (at_end es h.2.3.2 fit)))),
+    ((λ us items rest h es fit. at_end es h fit), tt),
   ),
 )
 closes g.Args = (
   (λ us items rest h es fit. put (just is.Open) (expr_elements us.1.0 (exprs_elements us.1.1.0 (word is.Close ∷ level_end ∷ es))) h.1
       (word_at is.Open 46 (λ t c v. refl) us.0 h.2) (h.3.1 (exprs_elements us.1.1.0 (word is.Close ∷ level_end ∷ es))
       (h.3.2.1 (word is.Close ∷ level_end ∷ es) (put (just is.Close) (level_end ∷ es) h.3.2.2.1
-      (word_at is.Close 47 (λ t c v. refl) us.1.1.1.0 h.3.2.2.2) ((h.3.2.2.3.0, h.3.2.2.3.1, subst (λ l. Fit es l) (sym h.3.2.2.3.2) fit)))))),
+      (word_at is.Close 47 (λ t c v. refl) us.1.1.1.0 h.3.2.2.2) ((h.3.2.2.3.0, h.3.2.2.3.1, at_end es h.3.2.2.3.2 fit)))))),
   tt,
 )
 closes g.Exprs = (
   (λ us items rest h es fit. put (just is.Comma) (expr_elements us.1.0 (exprs_elements us.1.1.0 es)) h.1 (word_at is.Comma 43 (λ t c v. refl) us.0 h.2)
-      (h.3.1 (exprs_elements us.1.1.0 es) (h.3.2.1 es (subst (λ l. Fit es l) (sym h.3.2.2) fit)))),
-  ((λ us items rest h es fit. subst (λ l. Fit es l) (sym h) fit), tt),
+      (h.3.1 (exprs_elements us.1.1.0 es) (h.3.2.1 es (at_end es h.3.2.2 fit)))),
+  ((λ us items rest h es fit. at_end es h fit), tt),
 )
 closes g.Selectors = (
-  (λ us items rest h es fit. h.1 (selectors_elements us.1.0 es) (h.2.1 es (subst (λ l. Fit es l) (sym h.2.2) fit))),
-  ((λ us items rest h es fit. subst (λ l. Fit es l) (sym h) fit), tt),
+  (λ us items rest h es fit. h.1 (selectors_elements us.1.0 es) (h.2.1 es (at_end es h.2.2 fit))),
+  ((λ us items rest h es fit. at_end es h fit), tt),
 )
 closes g.Selector = (
   (λ us items rest h es fit. put (on is.Period (line_in us.0)) (named (name_in us.1.0) ∷ es) h.1 (kept_at is.Period 45 (λ t c v. refl) us.0 h.2)
-      (put (name_mark (name_in us.1.0)) es h.3.1 (name_at us.1.0 h.3.2) (subst (λ l. Fit es l) (sym h.3.3) fit))),
+      (put (name_mark (name_in us.1.0)) es h.3.1 (name_at us.1.0 h.3.2) (at_end es h.3.3 fit))),
   (
     (λ us items rest h es fit. put (on is.OpenBracket (line_in us.0)) (expr_elements us.1.0 (word is.CloseBracket ∷ level_end ∷ es)) h.1
         (kept_at is.OpenBracket 48 (λ t c v. refl) us.0 h.2)
         (h.3.1 (word is.CloseBracket ∷ level_end ∷ es) (put (just is.CloseBracket) (level_end ∷ es) h.3.2.1
-        (word_at is.CloseBracket 49 (λ t c v. refl) us.1.1.0 h.3.2.2) ((h.3.2.3.0, h.3.2.3.1, subst (λ l. Fit es l) (sym h.3.2.3.2) fit))))),
+        (word_at is.CloseBracket 49 (λ t c v. refl) us.1.1.0 h.3.2.2) ((h.3.2.3.0, h.3.2.3.1, at_end es h.3.2.3.2 fit))))),
     tt,
   ),
 )
-closes g.Conditions = ((λ us items rest h es fit. h.1 (else_elements us.1.0 es) (h.2.1 es (subst (λ l. Fit es l) (sym h.2.2) fit))), tt)
+closes g.Conditions = ((λ us items rest h es fit. h.1 (else_elements us.1.0 es) (h.2.1 es (at_end es h.2.2 fit))), tt)
 closes g.Condition = (
   (λ us items rest h es fit. h.1 (kept is.Do (line_in us.1.0) ∷ list_elements us.1.1.0 es)
       (put (on is.Do (line_in us.1.0)) (list_elements us.1.1.0 es) h.2.1 (kept_at is.Do 11 (λ t c v. refl) us.1.0 h.2.2)
-      (h.2.3.1 es (subst (λ l. Fit es l) (sym h.2.3.2) fit)))),
+      (h.2.3.1 es (at_end es h.2.3.2 fit)))),
   tt,
 )
 closes g.Else = (
   (λ us items rest h es fit. put (just is.Else) (condition_elements us.1.0 (else_elements us.1.1.0 es)) h.1 (word_at is.Else 12 (λ t c v. refl) us.0 h.2)
-      (h.3.1 (else_elements us.1.1.0 es) (h.3.2.1 es (subst (λ l. Fit es l) (sym h.3.2.2) fit)))),
-  ((λ us items rest h es fit. subst (λ l. Fit es l) (sym h) fit), tt),
+      (h.3.1 (else_elements us.1.1.0 es) (h.3.2.1 es (at_end es h.3.2.2 fit)))),
+  ((λ us items rest h es fit. at_end es h fit), tt),
 )
 closes g.Branch = (
   (λ us items rest h es fit. h.1 (kept is.Do (line_in us.1.0) ∷ list_elements us.1.1.0 es)
       (put (on is.Do (line_in us.1.0)) (list_elements us.1.1.0 es) h.2.1 (kept_at is.Do 11 (λ t c v. refl) us.1.0 h.2.2)
-      (h.2.3.1 es (subst (λ l. Fit es l) (sym h.2.3.2) fit)))),
+      (h.2.3.1 es (at_end es h.2.3.2 fit)))),
   tt,
 )
 closes g.Branches = (
   (λ us items rest h es fit. put (on is.Also (line_in us.0)) (branch_elements us.1.0 (open_branches us.1.1.0 es)) h.1
-      (kept_at is.Also 4 (λ t c v. refl) us.0 h.2) (h.3.1 (open_branches us.1.1.0 es) (h.3.2.1 es (subst (λ l. Fit es l) (sym h.3.2.2) fit)))),
+      (kept_at is.Also 4 (λ t c v. refl) us.0 h.2) (h.3.1 (open_branches us.1.1.0 es) (h.3.2.1 es (at_end es h.3.2.2 fit)))),
   (
-    (λ us items rest h es fit. put (on is.End (line_in us.0)) es h.1 (kept_at is.End 13 (λ t c v. refl) us.0 h.2) (subst (λ l. Fit es l) (sym h.3) fit)),
+    (λ us items rest h es fit. put (on is.End (line_in us.0)) es h.1 (kept_at is.End 13 (λ t c v. refl) us.0 h.2) (at_end es h.3 fit)),
     tt,
   ),
 )
-closes g.Expr = ((λ us items rest h es fit. h.1 (comparison_elements us.1.0 es) (h.2.1 es (subst (λ l. Fit es l) (sym h.2.2) fit))), tt)
+closes g.Expr = ((λ us items rest h es fit. h.1 (comparison_elements us.1.0 es) (h.2.1 es (at_end es h.2.2 fit))), tt)
 closes g.Comparison = (
-  (λ us items rest h es fit. h.1 (simple_elements us.1.0 es) (h.2.1 es (subst (λ l. Fit es l) (sym h.2.2) fit))),
-  ((λ us items rest h es fit. subst (λ l. Fit es l) (sym h) fit), tt),
+  (λ us items rest h es fit. h.1 (simple_elements us.1.0 es) (h.2.1 es (at_end es h.2.2 fit))),
+  ((λ us items rest h es fit. at_end es h fit), tt),
 )
 closes g.Relation = (
   (λ us items rest h es fit. put (on is.Equal (line_in us.0)) es h.1 (kept_at is.Equal 32 (λ t c v. refl) us.0 h.2)
-      (subst (λ l. Fit es l) (sym h.3) fit)),
+      (at_end es h.3 fit)),
   (
     (λ us items rest h es fit. put (on is.NotEqual (line_in us.0)) es h.1
-        (kept_at is.NotEqual 33 (λ t c v. refl) us.0 h.2) (subst (λ l. Fit es l) (sym h.3) fit)),
+        (kept_at is.NotEqual 33 (λ t c v. refl) us.0 h.2) (at_end es h.3 fit)),
     (
       (λ us items rest h es fit. put (on is.Less (line_in us.0)) es h.1 (kept_at is.Less 34 (λ t c v. refl) us.0 h.2)
-          (subst (λ l. Fit es l) (sym h.3) fit)),
+          (at_end es h.3 fit)),
       (
         (λ us items rest h es fit. put (on is.AtMost (line_in us.0)) es h.1
-            (kept_at is.AtMost 35 (λ t c v. refl) us.0 h.2) (subst (λ l. Fit es l) (sym h.3) fit)),
+            (kept_at is.AtMost 35 (λ t c v. refl) us.0 h.2) (at_end es h.3 fit)),
         (
           (λ us items rest h es fit. put (on is.Greater (line_in us.0)) es h.1 (kept_at is.Greater 36 (λ t c v. refl) us.0 h.2)
-              (subst (λ l. Fit es l) (sym h.3) fit)),
+              (at_end es h.3 fit)),
           (
             (λ us items rest h es fit. put (on is.AtLeast (line_in us.0)) es h.1
-                (kept_at is.AtLeast 37 (λ t c v. refl) us.0 h.2) (subst (λ l. Fit es l) (sym h.3) fit)),
+                (kept_at is.AtLeast 37 (λ t c v. refl) us.0 h.2) (at_end es h.3 fit)),
             (
               (λ us items rest h es fit. put (on is.In (line_in us.0)) es h.1 (kept_at is.In 16 (λ t c v. refl) us.0 h.2)
-                  (subst (λ l. Fit es l) (sym h.3) fit)),
+                  (at_end es h.3 fit)),
               tt,
             ),
           ),
@@ -414,76 +418,76 @@ closes g.Relation = (
 )
 closes g.Simple = (
   (λ us items rest h es fit. h.1 (term_elements us.1.0 (addends_elements us.1.1.0 es))
-      (h.2.1 (addends_elements us.1.1.0 es) (h.2.2.1 es (subst (λ l. Fit es l) (sym h.2.2.2) fit)))),
+      (h.2.1 (addends_elements us.1.1.0 es) (h.2.2.1 es (at_end es h.2.2.2 fit)))),
   tt,
 )
 closes g.Sign = (
-  (λ us items rest h es fit. put (on is.Plus (line_in us.0)) es h.1 (kept_at is.Plus 38 (λ t c v. refl) us.0 h.2) (subst (λ l. Fit es l) (sym h.3) fit)),
+  (λ us items rest h es fit. put (on is.Plus (line_in us.0)) es h.1 (kept_at is.Plus 38 (λ t c v. refl) us.0 h.2) (at_end es h.3 fit)),
   (
     (λ us items rest h es fit. put (on is.Minus (line_in us.0)) es h.1 (kept_at is.Minus 39 (λ t c v. refl) us.0 h.2)
-        (subst (λ l. Fit es l) (sym h.3) fit)),
-    ((λ us items rest h es fit. subst (λ l. Fit es l) (sym h) fit), tt),
+        (at_end es h.3 fit)),
+    ((λ us items rest h es fit. at_end es h fit), tt),
   ),
 )
 closes g.Addends = (
-  (λ us items rest h es fit. h.1 (addends_elements us.1.0 es) (h.2.1 es (subst (λ l. Fit es l) (sym h.2.2) fit))),
-  ((λ us items rest h es fit. subst (λ l. Fit es l) (sym h) fit), tt),
+  (λ us items rest h es fit. h.1 (addends_elements us.1.0 es) (h.2.1 es (at_end es h.2.2 fit))),
+  ((λ us items rest h es fit. at_end es h fit), tt),
 )
-closes g.Addend = ((λ us items rest h es fit. h.1 (term_elements us.1.0 es) (h.2.1 es (subst (λ l. Fit es l) (sym h.2.2) fit))), tt)
+closes g.Addend = ((λ us items rest h es fit. h.1 (term_elements us.1.0 es) (h.2.1 es (at_end es h.2.2 fit))), tt)
 closes g.Addition = (
-  (λ us items rest h es fit. put (on is.Plus (line_in us.0)) es h.1 (kept_at is.Plus 38 (λ t c v. refl) us.0 h.2) (subst (λ l. Fit es l) (sym h.3) fit)),
+  (λ us items rest h es fit. put (on is.Plus (line_in us.0)) es h.1 (kept_at is.Plus 38 (λ t c v. refl) us.0 h.2) (at_end es h.3 fit)),
   (
     (λ us items rest h es fit. put (on is.Minus (line_in us.0)) es h.1 (kept_at is.Minus 39 (λ t c v. refl) us.0 h.2)
-        (subst (λ l. Fit es l) (sym h.3) fit)),
+        (at_end es h.3 fit)),
     (
       (λ us items rest h es fit. put (on is.Or (line_in us.0)) es h.1
-          (kept_at is.Or 21 (λ t c v. refl) us.0 h.2) (subst (λ l. Fit es l) (sym h.3) fit)),
+          (kept_at is.Or 21 (λ t c v. refl) us.0 h.2) (at_end es h.3 fit)),
       tt,
     ),
   ),
 )
-closes g.Term = ((λ us items rest h es fit. h.1 (multipliers_elements us.1.0 es) (h.2.1 es (subst (λ l. Fit es l) (sym h.2.2) fit))), tt)
+closes g.Term = ((λ us items rest h es fit. h.1 (multipliers_elements us.1.0 es) (h.2.1 es (at_end es h.2.2 fit))), tt)
 closes g.Multipliers = (
-  (λ us items rest h es fit. h.1 (multipliers_elements us.1.0 es) (h.2.1 es (subst (λ l. Fit es l) (sym h.2.2) fit))),
-  ((λ us items rest h es fit. subst (λ l. Fit es l) (sym h) fit), tt),
+  (λ us items rest h es fit. h.1 (multipliers_elements us.1.0 es) (h.2.1 es (at_end es h.2.2 fit))),
+  ((λ us items rest h es fit. at_end es h fit), tt),
 )
-closes g.Multiplier = ((λ us items rest h es fit. h.1 (factor_elements us.1.0 es) (h.2.1 es (subst (λ l. Fit es l) (sym h.2.2) fit))), tt)
+closes g.Multiplier = ((λ us items rest h es fit. h.1 (factor_elements us.1.0 es) (h.2.1 es (at_end es h.2.2 fit))), tt)
 closes g.Multiplication = (
-  (λ us items rest h es fit. put (on is.Star (line_in us.0)) es h.1 (kept_at is.Star 40 (λ t c v. refl) us.0 h.2) (subst (λ l. Fit es l) (sym h.3) fit)),
+  (λ us items rest h es fit. put (on is.Star (line_in us.0)) es h.1 (kept_at is.Star 40 (λ t c v. refl) us.0 h.2) (at_end es h.3 fit)),
   (
-    (λ us items rest h es fit. put (on is.Div (line_in us.0)) es h.1 (kept_at is.Div 10 (λ t c v. refl) us.0 h.2) (subst (λ l. Fit es l) (sym h.3) fit)),
+    (λ us items rest h es fit. put (on is.Div (line_in us.0)) es h.1 (kept_at is.Div 10 (λ t c v. refl) us.0 h.2) (at_end es h.3 fit)),
     (
       (λ us items rest h es fit. put (on is.Mod (line_in us.0)) es h.1 (kept_at is.Mod 18 (λ t c v. refl) us.0 h.2)
-          (subst (λ l. Fit es l) (sym h.3) fit)),
+          (at_end es h.3 fit)),
       (
         (λ us items rest h es fit. put (on is.And (line_in us.0)) es h.1
-            (kept_at is.And 5 (λ t c v. refl) us.0 h.2) (subst (λ l. Fit es l) (sym h.3) fit)),
+            (kept_at is.And 5 (λ t c v. refl) us.0 h.2) (at_end es h.3 fit)),
         tt,
       ),
     ),
   ),
 )
 closes g.Factor = (
-  (λ us items rest h es fit. put (just (is.Numeral (value_in us.0))) es h.1 (numeral_at us.0 h.2) (subst (λ l. Fit es l) (sym h.3) fit)),
+  (λ us items rest h es fit. put (just (is.Numeral (value_in us.0))) es h.1 (numeral_at us.0 h.2) (at_end es h.3 fit)),
   (
-    (λ us items rest h es fit. put (chars_mark (chars_in us.0)) es h.1 (short_string_at us.0 h.2) (subst (λ l. Fit es l) (sym h.3) fit)),
+    (λ us items rest h es fit. put (chars_mark (chars_in us.0)) es h.1 (short_string_at us.0 h.2) (at_end es h.3 fit)),
     (
-      (λ us items rest h es fit. put (chars_mark (chars_in us.0)) es h.1 (long_string_at us.0 h.2) (subst (λ l. Fit es l) (sym h.3) fit)),
+      (λ us items rest h es fit. put (chars_mark (chars_in us.0)) es h.1 (long_string_at us.0 h.2) (at_end es h.3 fit)),
       (
         (λ us items rest h es fit. put (on is.Not (line_in us.0)) (factor_elements us.1.0 (level_end ∷ es)) h.1
-            (kept_at is.Not 20 (λ t c v. refl) us.0 h.2) (h.3.1 (level_end ∷ es) ((h.3.2.0, h.3.2.1, subst (λ l. Fit es l) (sym h.3.2.2) fit)))),
+            (kept_at is.Not 20 (λ t c v. refl) us.0 h.2) (h.3.1 (level_end ∷ es) ((h.3.2.0, h.3.2.1, at_end es h.3.2.2 fit)))),
         (
           (λ us items rest h es fit. put (just is.Open) (expr_elements us.1.0 (word is.Close ∷ level_end ∷ es)) h.1
               (word_at is.Open 46 (λ t c v. refl) us.0 h.2) (h.3.1 (word is.Close ∷ level_end ∷ es)
               (put (just is.Close) (level_end ∷ es) h.3.2.1 (word_at is.Close 47 (λ t c v. refl) us.1.1.0 h.3.2.2)
-              ((h.3.2.3.0, h.3.2.3.1, subst (λ l. Fit es l) (sym h.3.2.3.2) fit))))),
+              ((h.3.2.3.0, h.3.2.3.1, at_end es h.3.2.3.2 fit))))),
           (
             (λ us items rest h es fit. subst (λ l. Fit l items) (sym (factor_split (name_in us.0) us.1.0 es))
-                (put (name_mark (name_in us.0)) (behind_elements us.1.0 es) h.1 (name_at us.0 h.2) (h.3.1 es (subst (λ l. Fit es l) (sym h.3.2) fit)))),
+                (put (name_mark (name_in us.0)) (behind_elements us.1.0 es) h.1 (name_at us.0 h.2) (h.3.1 es (at_end es h.3.2 fit)))),
             (
               (λ us items rest h es fit. put (just is.Val) (named (name_in us.1.0) ∷ selectors_elements us.1.1.0 es) h.1
                   (word_at is.Val 28 (λ t c v. refl) us.0 h.2) (put (name_mark (name_in us.1.0)) (selectors_elements us.1.1.0 es) h.3.1 (name_at us.1.0 h.3.2)
-                  (h.3.3.1 es (subst (λ l. Fit es l) (sym h.3.3.2) fit)))),
+                  (h.3.3.1 es (at_end es h.3.3.2 fit)))),
               tt,
             ),
           ),
@@ -493,8 +497,8 @@ closes g.Factor = (
   ),
 )
 closes g.Behind = (
-  (λ us items rest h es fit. h.1 es (subst (λ l. Fit es l) (sym h.2) fit)),
-  ((λ us items rest h es fit. h.1 es (subst (λ l. Fit es l) (sym h.2) fit)), tt),
+  (λ us items rest h es fit. h.1 es (at_end es h.2 fit)),
+  ((λ us items rest h es fit. h.1 es (at_end es h.2 fit)), tt),
 )
 
 spans_split : (x y : List (Part Sort)) (us : Ts x) (ts : Ts y) (items rest : Items) → Spans (x ++ y) (join (Option Mark) Tree x y us ts) items rest
