@@ -3,14 +3,15 @@
 ghost use Rattle.std.specs.Prelude.{◌≡◌, ◌⊎◌, ◌≤◌, ◌<◌, ◌^◌, ◌+◌, true, false, length, Some, None, Err, IfSome, IfOk, MatchResult};
 ghost use Rattle.edi_calls.specs.State.{blocks_of};
 ghost use Rattle.edi_disk.specs.Shown.{drive_of};
-ghost use Rattle.edi_image.specs.Stored.{blocks_taken};
-ghost use Rattle.edi_catalog.specs.Files.{file_titled};
+ghost use Rattle.edi_image.specs.Stored.{blocks_taken, is_stored};
+ghost use Rattle.edi_catalog.specs.Files.{entry_of, file_titled};
+ghost use Rattle.edi_catalog.specs.Plan.{used_in, AreFree};
 ghost use Rattle.edi_catalog.specs.Mounted.{IsMounted, disk_of, files_of};
 ghost use Rattle.edi_catalog.specs.Writing.{is_protected};
 ghost use Rattle.edi_told.specs.Told.{WhereTold};
 ghost use Rattle.edi_image.specs.Image.{slots_of};
 ghost use Rattle.edi_catalog.specs.InSlots.{free_in, no_room, SlotsAnswer};
-ghost use Rattle.edi_catalog.specs.Storing.{slots_stored, StoreChanges, blocks_free, free_index, not_stored, index_for};
+ghost use Rattle.edi_catalog.specs.Storing.{slots_stored, StoreChanges, blocks_free, free_index, not_stored, index_for, stored_entry};
 
 use crate::catalog::Catalog;
 use crate::ends::CatEnd;
@@ -89,6 +90,19 @@ fn index_to_store(
 }
 
 impl<'d, 'c, D: Drive> Catalog<'d, 'c, D> {
+    // A new file of these bytes, laid in free blocks beside the files that are kept.
+    fn lay_kept(&self, title: &Title, kind: FileKind, bytes: &[u8]) -> StoredFile
+        requires mounted { IsMounted D.contents D.count self.now }
+        requires most { length bytes.now ≤ MOST_BYTES }
+        requires room { blocks_of (length bytes.now) + 33 + blocks_taken (files_of self.now) ≤ D.count (drive_of (disk_of self.now)) }
+        ensures entry { entry_of result ≡ stored_entry title.now kind (length bytes.now) }
+        ensures kept { is_stored (D.count (drive_of (disk_of self.now))) (Some result) ≡ true }
+        ensures free { AreFree (D.count (drive_of (disk_of self.now))) (files_of self.now) (used_in (Some result)) }
+    {
+        let count = self.disk.blocks();
+        lay_file(&self.room.files, count, title, kind, bytes.len() as u32)
+    }
+
     // Stores bytes in a slot, where nothing is against it.
     fn store_at(
         &mut self,
@@ -105,8 +119,7 @@ impl<'d, 'c, D: Drive> Catalog<'d, 'c, D> {
         requires room { blocks_of (length bytes.now) + 33 + blocks_taken (files_of self.old) ≤ D.count (drive_of (disk_of self.old)) }
         ensures changes { StoreChanges D.contents D.count D.faults result None title.now kind bytes.now self.old self.new }
     {
-        let count = self.disk.blocks();
-        let file = lay_file(&self.room.files, count, title, kind, bytes.len() as u32);
+        let file = self.lay_kept(title, kind, bytes);
         match write_kept(&mut self.disk, self.room, index, &file, bytes) {
             DiskEnd::Ok => {
                 self.room.files[index] = Some(file);

@@ -1,10 +1,8 @@
 use borrow.Rule.Reborrow.{re_v}
 use Rattle.std.specs.Vec.{with_item}
-use Rattle.std.proofs.Common.{◌≡◌, true, Some, refl, ap, set, sym, subst, arith}
+use Rattle.std.proofs.Common.{Some, refl, ap, set, sym, arith}
 use Rattle.edi_disk.specs.Shown.{drive_of}
 use Rattle.edi_catalog.specs.Mounted.{disk_of, files_of}
-use Rattle.edi_image.specs.Stored.{is_stored}
-use Rattle.edi_catalog.specs.Plan.{AreFree, used_in}
 use Rattle.edi_catalog.specs.declared.entry.Entry.{Entry}
 use Rattle.edi_catalog.proofs.StoredFiles.{changes_done, changes_failed, stores_from}
 use Rattle.edi_catalog.proofs.catalog.Catalog.store_at.Goals as goal
@@ -18,9 +16,9 @@ write_kept-requires-clause-disk g c = record {
 
 pub write_kept-requires-clause-file : goal.write_kept-requires-clause-file
 write_kept-requires-clause-file g c = record {
-  stored = subst (λ n. is_stored n (Some c.lay_file-file.result) ≡ true) c.blocks-count.ensures.count c.lay_file-file.ensures.kept;
-  different = c.lay_file-file.ensures.free.different;
-  size = sym (ap (λ (e : Entry). e.length) c.lay_file-file.ensures.entry);
+  stored = c.lay_kept-file.ensures.kept;
+  different = c.lay_kept-file.ensures.free.different;
+  size = sym (ap (λ (e : Entry). e.length) c.lay_kept-file.ensures.entry);
 }
 
 pub write_kept-requires-clause-many : goal.write_kept-requires-clause-many
@@ -33,18 +31,15 @@ returns-in-Ok g c = record {
       (record {
         disk = c.write_kept.new.disk;
         room = re_v
-            (record { files = with_item c.write_kept.new.room.files c.args.index (Some c.lay_file-file.result); entries = c.write_kept.new.room.entries })
+            (record { files = with_item c.write_kept.new.room.files c.args.index (Some c.lay_kept-file.result); entries = c.write_kept.new.room.entries })
             (re_v c.write_kept.new.room c.args.self.now.room);
       })
       c.args.title.now c.args.kind c.args.bytes.now
-      c.args.index c.lay_file-file.result c.requires.mounted
+      c.args.index c.lay_kept-file.result c.requires.mounted
       (stores_from (g.D.Drive.count (drive_of (disk_of c.args.self.now))) (files_of c.args.self.now) c.args.title.now c.args.kind c.args.bytes.now
-      c.args.index c.lay_file-file.result c.requires.within c.requires.mounted.stored
-      (subst (λ n. is_stored n (Some c.lay_file-file.result) ≡ true) c.blocks-count.ensures.count c.lay_file-file.ensures.kept)
-      (subst (λ fs. AreFree (g.D.Drive.count (drive_of (disk_of c.args.self.now))) fs (used_in (Some c.lay_file-file.result))) c.deref.ensures.value
-      (subst (λ n. AreFree n c.deref.result.now (used_in (Some c.lay_file-file.result))) c.blocks-count.ensures.count c.lay_file-file.ensures.free))
-      c.lay_file-file.ensures.entry c.requires.index c.requires.open)
-      c.in-Ok.ensures.writes refl (ap (λ files. set files c.args.index (Some c.lay_file-file.result)) c.in-Ok.ensures.files)
+      c.args.index c.lay_kept-file.result c.requires.within c.requires.mounted.stored
+      c.lay_kept-file.ensures.kept c.lay_kept-file.ensures.free c.lay_kept-file.ensures.entry c.requires.index c.requires.open)
+      c.in-Ok.ensures.writes refl (ap (λ files. set files c.args.index (Some c.lay_kept-file.result)) c.in-Ok.ensures.files)
       (c.requires.mounted.room (omega (arith, c.requires.room)))
       (c.in-Ok.ensures.kept refl) (c.in-Ok.ensures.entry_cached refl) (c.in-Ok.ensures.file_cached refl);
 }
@@ -53,12 +48,9 @@ pub returns-in-Fault : goal.returns-in-Fault
 returns-in-Fault g c = record {
   changes =
       changes_failed g.D.Drive.contents g.D.Drive.count g.D.Drive.faults g.met.D.Drive.counted c.args.self.now _ c.args.title.now c.args.kind c.args.bytes.now
-      c.args.index c.lay_file-file.result c.requires.mounted
+      c.args.index c.lay_kept-file.result c.requires.mounted
       (stores_from (g.D.Drive.count (drive_of (disk_of c.args.self.now))) (files_of c.args.self.now) c.args.title.now c.args.kind c.args.bytes.now
-      c.args.index c.lay_file-file.result c.requires.within c.requires.mounted.stored
-      (subst (λ n. is_stored n (Some c.lay_file-file.result) ≡ true) c.blocks-count.ensures.count c.lay_file-file.ensures.kept)
-      (subst (λ fs. AreFree (g.D.Drive.count (drive_of (disk_of c.args.self.now))) fs (used_in (Some c.lay_file-file.result))) c.deref.ensures.value
-      (subst (λ n. AreFree n c.deref.result.now (used_in (Some c.lay_file-file.result))) c.blocks-count.ensures.count c.lay_file-file.ensures.free))
-      c.lay_file-file.ensures.entry c.requires.index c.requires.open)
+      c.args.index c.lay_kept-file.result c.requires.within c.requires.mounted.stored
+      c.lay_kept-file.ensures.kept c.lay_kept-file.ensures.free c.lay_kept-file.ensures.entry c.requires.index c.requires.open)
       c.in-Fault.ensures.writes refl;
 }
