@@ -101,7 +101,7 @@ impl<'d, 'c, D: Drive> Catalog<'d, 'c, D> {
     }
 
     // Makes a file protected or not.
-    fn set_protected(&mut self, title: &Title, protected: bool) -> Result<(), CatEnd>
+    fn protect_kept(&mut self, title: &Title, protected: bool) -> Result<(), CatEnd>
         requires mounted { IsMounted D.contents D.count self.old }
         ensures changes { Changes D.contents D.count D.faults result (not_found (file_titled title.now (files_of self.old)))
             (kept_changed (kept_protected protected) title.now (files_of self.old)) (slots_changed (file_protected protected) title.now) self.old self.new }
@@ -111,6 +111,18 @@ impl<'d, 'c, D: Drive> Catalog<'d, 'c, D> {
         };
         let entry = record_protected(&self.room.files[index], protected);
         self.put_slot(index, entry)
+    }
+
+    // The same, told by the slots too.
+    fn set_protected(&mut self, title: &Title, protected: bool) -> Result<(), CatEnd>
+        requires mounted { IsMounted D.contents D.count self.old }
+        ensures changes { Changes D.contents D.count D.faults result (not_found (file_titled title.now (files_of self.old)))
+            (kept_changed (kept_protected protected) title.now (files_of self.old)) (slots_changed (file_protected protected) title.now) self.old self.new }
+        ensures exact { WhereTold (D.contents (drive_of (disk_of self.old))) (D.contents (drive_of (disk_of self.new)))
+            (λ old new. SlotsAnswer result (no_such (find_file (slots_of old) title.now)) (slots_of old)
+            (slots_changed (file_protected protected) title.now (slots_of old)) (slots_of new)) }
+    {
+        self.protect_kept(title, protected)
     }
 
     /// Protects the file with this title, which may be protected already. The one refusal is `NoSuch`.
