@@ -191,7 +191,7 @@ fn a_replaced_file_still_takes_its_blocks(rt: HostRuntime) {
 /// A file to be added, protected or not, with its bytes, and whether it is.
 type Added = (&'static str, FileKind, bool, &'static str, bool);
 
-/// Files of which the second takes no place of the first, which is protected.
+/// Files; the second has the title of the first, which is protected.
 const ADDED: [Added; 3] = [
     ("p", FileKind::Text, true, "kept", true),
     ("p", FileKind::Text, false, "", false),
