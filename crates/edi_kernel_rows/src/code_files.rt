@@ -18,12 +18,12 @@ const FILE: [u8; 62] = [
     0, 37, 0, 0, 0, 0, // 12: RETURN 0 0
 ];
 
-/// The file with other bytes at these places.
+/// The file with other bytes at these indices.
 fn changed(changes: &[(usize, u8)]) -> [u8; 62] {
     let mut file = FILE;
     for (at, byte) in changes {
-        if let Some(place) = file.get_mut(*at) {
-            *place = *byte;
+        if let Some(old) = file.get_mut(*at) {
+            *old = *byte;
         }
     }
     file

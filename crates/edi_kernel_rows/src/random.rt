@@ -25,19 +25,19 @@ fn next_number(number: u64) -> u64 {
         .wrapping_add(1_442_695_040_888_963_407)
 }
 
-/// The address of a place; those above the last are the last.
-fn slot(place: u16) -> u16 {
-    place.min(SLOTS).wrapping_mul(12).wrapping_add(6)
+/// The address of the slot of this index; those above the last are the last.
+fn slot(index: u16) -> u16 {
+    index.min(SLOTS).wrapping_mul(12).wrapping_add(6)
 }
 
-/// The operands of the instruction at this place, drawn by a number, and how many there are.
-fn operands(number: u16, place: u16, drawn: u16) -> ([u16; 8], u16) {
+/// The operands of the instruction in the slot of this index, drawn by a number, and how many there are.
+fn operands(number: u16, index: u16, drawn: u16) -> ([u16; 8], u16) {
     let small = drawn % 4;
-    let ahead = slot(place.wrapping_add(1).wrapping_add(small));
-    let back = slot(drawn.wrapping_mul(7) % place.wrapping_add(1).max(1));
+    let ahead = slot(index.wrapping_add(1).wrapping_add(small));
+    let back = slot(drawn.wrapping_mul(7) % index.wrapping_add(1).max(1));
     let exit = slot(SLOTS).wrapping_add(3);
     let procedure = slot(SLOTS).wrapping_add(4);
-    let line = place;
+    let line = index;
     match number {
         1 => ([drawn % 300, 0, 0, 0, 0, 0, 0, 0], 1),
         3 => ([small.wrapping_add(1), 0, 0, 0, 0, 0, 0, 0], 1),
@@ -63,23 +63,23 @@ fn operands(number: u16, place: u16, drawn: u16) -> ([u16; 8], u16) {
 
 /// Puts words from an address on, as far as there is room.
 fn put(words: &mut [u16], at: u16, from: &[u16]) {
-    for (place, word) in words.iter_mut().skip(usize::from(at)).zip(from) {
-        *place = *word;
+    for (old, word) in words.iter_mut().skip(usize::from(at)).zip(from) {
+        *old = *word;
     }
 }
 
-/// Puts the instruction at this place, drawn by a number, and a jump to the next behind it.
-fn put_slot(words: &mut [u16], place: u16, drawn: u16) {
+/// Puts the instruction in the slot of this index, drawn by a number, and a jump to the next behind it.
+fn put_slot(words: &mut [u16], index: u16, drawn: u16) {
     let number = NUMBERS.get(usize::from(drawn % 64)).copied().unwrap_or(1);
-    let (operands, count) = operands(number, place, drawn / 64);
-    let at = slot(place);
+    let (operands, count) = operands(number, index, drawn / 64);
+    let at = slot(index);
     let behind = at.wrapping_add(1).wrapping_add(count);
     put(words, at, &[number]);
     put(words, at.wrapping_add(1), &operands);
     put(
         words,
         behind,
-        &[28, 0, slot(place.wrapping_add(1)), 41, 41, 41, 41, 41],
+        &[28, 0, slot(index.wrapping_add(1)), 41, 41, 41, 41, 41],
     );
 }
 
@@ -93,9 +93,9 @@ fn random_words(alloc: Global, seed: u64) -> Result<Vec<u16>, AllocError> {
     let mut words = dones(alloc, 501)?;
     let mut number = seed;
     put(&mut words, 0, &[33, 40, 0, 0, 8, 0]);
-    for place in 0..SLOTS {
+    for index in 0..SLOTS {
         number = next_number(number);
-        put_slot(&mut words, place, (number >> 48) as u16);
+        put_slot(&mut words, index, (number >> 48) as u16);
     }
     let last = [37, 0, 0, 43, 33, 12, 0, 0, 2, 0, 1, 7, 37, 0, 0];
     put(&mut words, slot(SLOTS), &last);
