@@ -1,2 +1,2 @@
-mod Executing
+pub mod Executing
 pub mod Runs
