@@ -12,11 +12,35 @@ use Rattle.edi_scope.specs.declared.declarations.Declaration.{Declaration}
 use Rattle.edi_scope.specs.declared.declarations.Declarations.{Declarations}
 use Rattle.edi_scope.specs.Scope.{Scope, standard, meaning, declared, with_one, with_name, with_name_at, exported, outside, in_module}
 use Rattle.edi_scope.specs.Listed.{listed}
-use Rattle.edi_scope.specs.Standing.{here, standing, ScopesAreKept, EachOnce, HasOutermost}
+use Rattle.edi_scope.specs.Standing.{here, standing, ScopesAreKept, EachOnce, HasOutermost, without_newest}
 use Rattle.edi_scope.proofs.Standings.{Changed, changed, standing-with_name, standing-with_name_other, once-with_name}
 use Rattle.edi_scope.proofs.Views.{first, reverse-cons, turned}
 
 -- ---- what the changed scopes are
+
+pub none_out : (name : List ℕ) (entity : Entity) (scopes : List Scope) → with_name_at 0 name entity scopes ≡ with_name name entity scopes
+none_out name entity [] = refl
+none_out name entity (scope ∷ outer) = refl
+
+pub one_more_out : (name : List ℕ) (entity : Entity) (scopes : List Scope) → with_name_at 1 name entity scopes ≡ exported name entity scopes
+one_more_out name entity [] = refl
+one_more_out name entity (scope ∷ []) = refl
+one_more_out name entity (scope ∷ around ∷ outer) = refl
+
+pub in_both : (name : List ℕ) (entity : Entity) (scopes : List Scope) → with_name_at 1 name entity (with_name_at 0 name entity scopes) ≡ exported name entity
+    (with_name name entity scopes)
+in_both name entity [] = refl
+in_both name entity (scope ∷ []) = refl
+in_both name entity (scope ∷ around ∷ outer) = refl
+
+pub forgotten : (name : List ℕ) (entity : Entity) (scopes : List Scope) → without_newest (with_name_at 0 name entity scopes) ≡ scopes
+forgotten name entity [] = refl
+forgotten name entity (scope ∷ outer) = refl
+
+pub outside_same : (name : List ℕ) (entity : Entity) (scopes : List Scope) → declared (drop 1 (with_name_at 0 name entity scopes)) name ≡ declared
+    (drop 1 scopes) name
+outside_same name entity [] = refl
+outside_same name entity (scope ∷ outer) = refl
 
 pub one_out : (name : List ℕ) (entity : Entity) (scopes : List Scope) → with_name_at 1 name entity scopes ≡ take 1 scopes
     ++ with_name name entity (outside scopes)

@@ -2,7 +2,7 @@
 use Rattle.std.proofs.Common.{◌≡◌, ℕ, ◌+◌, ◌-◌, ◌<◌, ◌≤◌, zero, suc, Bool, true, false, cond, eqb, List, [], ◌∷◌, ◌++◌, Option, Some, None, length, drop}
 use Rattle.std.proofs.Common.{insert, remove, refl, sym, ap, subst, inl, inr, ◌⊎◌, ◌∙◌, ⊎_elim, arith, ◌||◌, is_some, IsTrue}
 use Rattle.std.proofs.lemmas.List.{append-nil, length-append}
-use Rattle.std.proofs.lemmas.List.Edits.{insert_end, insert-append_left, remove-append_right}
+use Rattle.std.proofs.lemmas.List.Edits.{insert_end, remove-append_right}
 use Rattle.std.proofs.lemmas.List.Folds.{list_any-append}
 use Rattle.std.proofs.lemmas.Bool.{cases_Bool}
 use Rattle.std.proofs.lemmas.Option.{same_Some}
@@ -13,7 +13,7 @@ use Rattle.std.specs.Cmp.Lexicographic.{bytes_decides, nat_list_eq_equiv}
 use Rattle.edi_scope.specs.declared.entity.Entity.{Entity}
 use Rattle.edi_scope.specs.declared.declarations.Declaration.{Declaration}
 use Rattle.edi_scope.specs.declared.declarations.Declarations.{Declarations}
-use Rattle.edi_scope.specs.Scope.{Scope, meaning, declared, visible, with_name, exported, in_module}
+use Rattle.edi_scope.specs.Scope.{Scope, meaning, declared, visible, with_name, in_module}
 use Rattle.edi_scope.specs.Listed.{listed}
 use Rattle.edi_scope.specs.Standing.{here, standing, ScopesAreKept, without_newest, newest, innermost_names, NoneTwice, EachOnce, HasOutermost}
 
@@ -61,7 +61,7 @@ is_here depth None = refl
 is_here depth (Some entity) = grind arith
 
 -- a scope has a name exactly where one of the name's declarations has its depth
-pub has_depth : (scopes : List Scope) (name : List ℕ) (outward depth : ℕ) → depth + outward + 1 ≡ length scopes
+has_depth : (scopes : List Scope) (name : List ℕ) (outward depth : ℕ) → depth + outward + 1 ≡ length scopes
     → list_any (is_at depth) (standing scopes name) ≡ is_some (declared (drop outward scopes) name)
 has_depth [] name outward depth e = absurd (omega arith)
 has_depth (scope ∷ outer) name zero depth e =
@@ -75,6 +75,11 @@ has_depth (scope ∷ outer) name (suc outward) depth e =
     list_any-append (is_at depth) (standing outer name) (here (length outer) (meaning scope.names name))
     ∙ ap (λ b. list_any (is_at depth) (standing outer name) || b) (not_here depth (length outer) (meaning scope.names name) apart)
     ∙ grind (arith, has_depth outer name outward depth (omega arith))
+
+-- so that is seen of the lists that are kept
+pub has_at : (old : Declarations) (scopes : List Scope) (name : List ℕ) (outward depth : ℕ) → ScopesAreKept old scopes → depth + outward + 1 ≡ length scopes
+    → list_any (is_at depth) (listed old name) ≡ is_some (declared (drop outward scopes) name)
+has_at old scopes name outward depth k e = ap (list_any (is_at depth)) (k.stands name) ∙ has_depth scopes name outward depth e
 
 -- a name is this one, or it is told apart from it
 known_apart : (name q : List ℕ) → (name ≡ q) ⊎ ((bytes_eq name q ≡ false) × (bytes_eq q name ≡ false))
@@ -104,16 +109,6 @@ changed old new a b name f h was here others q =
     (λ n. h q ∙ ap (λ v. cond v (f (old q)) (old q)) n.0 ∙ was q ∙ others q n.1)
     (known_apart name q)
 
-outermost-with_name : (scopes : List Scope) (name : List ℕ) (entity : Entity) → HasOutermost scopes → HasOutermost (with_name name entity scopes)
-outermost-with_name [] name entity h = h
-outermost-with_name (scope ∷ []) name entity h = h
-outermost-with_name (scope ∷ around ∷ outer) name entity h = h
-
-outermost-exported : (scopes : List Scope) (name : List ℕ) (entity : Entity) → HasOutermost scopes → HasOutermost (exported name entity scopes)
-outermost-exported [] name entity h = h
-outermost-exported (scope ∷ []) name entity h = h
-outermost-exported (scope ∷ around ∷ outer) name entity h = outermost-with_name (around ∷ outer) name entity h
-
 outermost-without_newest : (scopes : List Scope) → HasOutermost scopes → HasOutermost (without_newest scopes)
 outermost-without_newest [] h = h
 outermost-without_newest (scope ∷ []) h = h
@@ -123,11 +118,6 @@ pub once-with_name : (scopes : List Scope) (name : List ℕ) (entity : Entity) �
     → EachOnce (with_name name entity scopes)
 once-with_name [] name entity free h = h
 once-with_name (scope ∷ outer) name entity free h = ((free, h.0), h.1)
-
-once-exported : (scopes : List Scope) (name : List ℕ) (entity : Entity) → declared (drop 1 scopes) name ≡ None → EachOnce scopes
-    → EachOnce (exported name entity scopes)
-once-exported [] name entity free h = h
-once-exported (scope ∷ outer) name entity free h = (h.0, once-with_name outer name entity free h.1)
 
 once-shorter : (names : List (List ℕ × Entity)) → NoneTwice names → NoneTwice (drop 1 names)
 once-shorter [] h = h
@@ -158,63 +148,6 @@ pub standing-with_name_other : (scopes : List Scope) (name q : List ℕ) (entity
 standing-with_name_other [] name q entity n = refl
 standing-with_name_other (scope ∷ outer) name q entity n =
     ap (λ o. standing outer q ++ here (length outer) o) (sym (meaning-other name q entity scope.names n))
-
-pub kept-with_name : (old new : Declarations) (scopes : List Scope) (name : List ℕ) (entity : Entity) (depth at : ℕ) → ScopesAreKept old scopes
-    → Changed (listed old) (listed new) name (λ l. insert l at (record { depth = depth; entity = entity })) → declared scopes name ≡ None
-    → depth + 1 ≡ length scopes → at ≡ length (listed old name) → ScopesAreKept new (with_name name entity scopes)
-kept-with_name old new scopes name entity depth at k h free e f = record {
-  stands = changed (listed old) (listed new) (standing scopes) (standing (with_name name entity scopes)) name
-      (λ l. insert l at (record { depth = depth; entity = entity })) h k.stands
-      (standing-with_name scopes name entity depth at free e (f ∙ ap length (k.stands name))) (λ q n. standing-with_name_other scopes name q entity n);
-  once = once-with_name scopes name entity free k.once;
-  outermost = outermost-with_name scopes name entity k.outermost;
-}
-
-insert_before_last : {A : Type 0} (xs : List A) (x y : A) (at : ℕ) → at ≡ length xs → insert (xs ++ x ∷ []) at y ≡ (xs ++ y ∷ []) ++ x ∷ []
-insert_before_last xs x y at e =
-    insert-append_left xs (x ∷ []) at y (omega arith) ∙ ap (λ l. l ++ x ∷ []) (ap (λ n. insert xs n y) e ∙ insert_end xs y)
-
--- the scope round the innermost has got a name that the innermost has
-standing-exported : (scope around : Scope) (outer : List Scope) (name : List ℕ) (entity : Entity) (depth at : ℕ) (inner : Option Entity)
-    → meaning scope.names name ≡ inner → IsTrue (is_some inner) → meaning around.names name ≡ None → depth ≡ length outer
-    → at + 1 ≡ length (standing (scope ∷ around ∷ outer) name) → insert (standing (scope ∷ around ∷ outer) name) at (record { depth = depth; entity = entity })
-    ≡ standing (exported name entity (scope ∷ around ∷ outer)) name
-standing-exported scope around outer name entity depth at None has some free deep f = cc
-standing-exported scope around outer name entity depth at (Some inner) has some free deep f =
-    let D : Declaration = record { depth = depth; entity = entity } in
-    let x : Declaration = record { depth = length (around ∷ outer); entity = inner } in
-    let lists : standing (scope ∷ around ∷ outer) name ≡ standing outer name ++ x
-    ∷ [] = ap (λ o. standing (around ∷ outer) name ++ here (length (around ∷ outer)) o) has
-    ∙ ap (λ l. l ++ x ∷ []) (ap (λ o. standing outer name ++ here (length outer) o) free ∙ append-nil (standing outer name)) in
-    let end : at ≡ length (standing outer name) = omega (arith, ap length lists, length-append (standing outer name) (x ∷ [])) in
-    ap (λ l. insert l at D) lists
-    ∙ insert_before_last (standing outer name) x D at end
-    ∙ ap (λ n. (standing outer name ++ record { depth = n; entity = entity } ∷ []) ++ x ∷ []) deep
-    ∙ ap (λ o. (standing outer name ++ here (length outer) o) ++ x ∷ []) (sym (meaning-same name entity around.names))
-    ∙ ap (λ o. standing (with_name name entity (around ∷ outer)) name ++ here (length (around ∷ outer)) o) (sym has)
-
-standing-exported_other : (scopes : List Scope) (name q : List ℕ) (entity : Entity) → bytes_eq q name ≡ false → standing scopes q ≡ standing
-    (exported name entity scopes) q
-standing-exported_other [] name q entity n = refl
-standing-exported_other (scope ∷ []) name q entity n = refl
-standing-exported_other (scope ∷ around ∷ outer) name q entity n =
-    ap (λ l. l ++ here (length (around ∷ outer)) (meaning scope.names q)) (standing-with_name_other (around ∷ outer) name q entity n)
-
-pub kept-exported : (old new : Declarations) (scopes : List Scope) (name : List ℕ) (entity : Entity) (depth at : ℕ) → ScopesAreKept old scopes
-    → Changed (listed old) (listed new) name (λ l. insert l at (record { depth = depth; entity = entity })) → IsTrue (is_some (declared scopes name))
-    → declared (drop 1 scopes) name ≡ None → depth + 2 ≡ length scopes → at + 1 ≡ length (listed old name) → ScopesAreKept new (exported name entity scopes)
-kept-exported old new [] name entity depth at k h has free e f = absurd (omega arith)
-kept-exported old new (scope ∷ []) name entity depth at k h has free e f = absurd (omega arith)
-kept-exported old new (scope ∷ around ∷ outer) name entity depth at k h has free e f =
-    let scopes : List Scope = scope ∷ around ∷ outer in
-    record {
-      stands = changed (listed old) (listed new) (standing scopes) (standing (exported name entity scopes)) name
-          (λ l. insert l at (record { depth = depth; entity = entity })) h k.stands
-          (standing-exported scope around outer name entity depth at (meaning scope.names name) refl has free (omega arith) (f ∙ ap length (k.stands name)))
-          (λ q n. standing-exported_other scopes name q entity n);
-      once = once-exported scopes name entity free k.once;
-      outermost = outermost-exported scopes name entity k.outermost;
-    }
 
 remove_last : {A : Type 0} (xs : List A) (x : A) (at : ℕ) → at ≡ length xs → remove (xs ++ x ∷ []) at ≡ xs
 remove_last xs x at e =
@@ -303,17 +236,3 @@ kept-same old new scopes k same = record {
   once = k.once;
   outermost = k.outermost;
 }
-
-here-some : (xs : List Declaration) (depth : ℕ) (entity : Option Entity) → IsTrue (is_some entity) → 0 < length (xs ++ here depth entity)
-here-some xs depth None some = cc
-here-some xs depth (Some entity) some =
-    omega (arith, length-append xs (record { depth = depth; entity = entity } ∷ []))
-
-standing-declared : (scopes : List Scope) (name : List ℕ) → IsTrue (is_some (declared scopes name)) → 0 < length (standing scopes name)
-standing-declared [] name has = cc
-standing-declared (scope ∷ outer) name has = here-some (standing outer name) (length outer) (meaning scope.names name) has
-
--- a name of the innermost scope has a declaration
-pub listed-declared : (old : Declarations) (scopes : List Scope) (name : List ℕ) → ScopesAreKept old scopes → IsTrue (is_some (declared scopes name))
-    → 0 < length (listed old name)
-listed-declared old scopes name k has = subst (λ l. 0 < length l) (sym (k.stands name)) (standing-declared scopes name has)

@@ -1,15 +1,16 @@
 -- The scopes, which are kept with the outermost first, after a change of one of them.
-use Rattle.std.proofs.Common.{◌≡◌, ℕ, ◌+◌, ◌<◌, List, [], ◌∷◌, ◌++◌, Option, Some, None, length, get_or, set, map, reverse, drop, refl, sym, ap, ◌∙◌, arith}
-use Rattle.std.proofs.Common.{Vec, Bool}
-use Rattle.std.proofs.lemmas.List.{reverse-append, reverse-reverse, length-reverse, length-map, map-append, append-nil, get_or_at, set_at, set-append_left}
-use Rattle.std.proofs.lemmas.List.{get_or_append_left, get_or-set_same, set-set, set-get_or, map-set, get_or-map}
+use Rattle.std.proofs.Common.{◌≡◌, ℕ, ◌+◌, ◌-◌, ◌<◌, List, [], ◌∷◌, ◌++◌, Option, Some, None, length, get_or, set, map, reverse, drop, refl, sym, ap, ◌∙◌}
+use Rattle.std.proofs.Common.{arith, Vec, Bool}
+use Rattle.std.proofs.lemmas.List.{reverse-append, reverse-reverse, length-reverse, length-map, map-append, append-nil, get_or_at, set_at, get_or-set_same}
+use Rattle.std.proofs.lemmas.List.{set-set, set-get_or, map-set, get_or-map}
 use Rattle.std.specs.Option.{option_to_list}
 use Rattle.edi_scope.specs.declared.entity.Entity.{Entity}
 use Rattle.edi_scope.specs.declared.scopes.Named.{Named}
-use Rattle.edi_scope.specs.Scope.{Scope, standard, with_one, with_name, exported}
+use Rattle.edi_scope.specs.Scope.{Scope, standard, with_one}
 use Rattle.std.specs.Global.{Global}
 use Rattle.edi_scope.specs.declared.scopes.OpenScope.{OpenScope}
-use Rattle.edi_scope.specs.Standing.{scopes_of, scope_of, kept, name_of, innermost_names, without_one, without_newest}
+use Rattle.edi_scope.specs.Standing.{scopes_of, scope_of, kept, name_of, newest, innermost_names, without_one, without_newest, HasOutermost}
+use Rattle.edi_scope.proofs.Standings.{some_scope}
 
 pub reverse-cons : {A : Type 0} (x : A) (xs : List A) → reverse (x ∷ xs) ≡ reverse xs ++ x ∷ []
 reverse-cons x xs = reverse-append (x ∷ []) xs
@@ -25,50 +26,16 @@ module _ (f : Scope → Scope) where
       ∙ set_at (reverse outer) scope [] (f scope) at len
       ∙ sym (reverse-cons (f scope) outer)
 
-  -- and one of the last but one is one of the second
-  second : (scope around : Scope) (outer : List Scope) (at : ℕ) → at ≡ length outer → set (reverse (scope ∷ around ∷ outer)) at
-      (f (get_or (reverse (scope ∷ around ∷ outer)) at standard)) ≡ reverse (scope ∷ f around ∷ outer)
-  second scope around outer at e =
-      let within : at < length (reverse (around ∷ outer)) = rw length-reverse (omega arith) in
-      ap (λ xs. set xs at (f (get_or xs at standard))) (reverse-cons scope (around ∷ outer))
-      ∙ ap (λ x. set (reverse (around ∷ outer) ++ scope ∷ []) at (f x)) (get_or_append_left (reverse (around ∷ outer)) (scope ∷ []) standard at within)
-      ∙ set-append_left (reverse (around ∷ outer)) (scope ∷ []) at (f (get_or (reverse (around ∷ outer)) at standard)) within
-      ∙ ap (λ xs. xs ++ scope ∷ []) (first around outer at e)
-      ∙ sym (reverse-cons scope (f around ∷ outer))
-
 -- a change that is stated of kept scopes, from what holds of them in reverse
 pub turned : (f : Scope → Scope) (g : List Scope → List Scope) (old new : List Scope) (at : ℕ) → new ≡ set old at (f (get_or old at standard))
     → set (reverse (reverse old)) at (f (get_or (reverse (reverse old)) at standard)) ≡ reverse (g (reverse old)) → reverse new ≡ g (reverse old)
 turned f g old new at e h =
     ap reverse (e ∙ ap (λ xs. set xs at (f (get_or xs at standard))) (sym (reverse-reverse old)) ∙ h) ∙ reverse-reverse (g (reverse old))
 
-with_name-kept : (n : List ℕ) (x : Entity) (scopes : List Scope) (at : ℕ) → at + 1 ≡ length scopes
-    → set (reverse scopes) at (with_one n x (get_or (reverse scopes) at standard)) ≡ reverse (with_name n x scopes)
-with_name-kept n x [] at e = absurd (omega arith)
-with_name-kept n x (scope ∷ outer) at e = first (with_one n x) scope outer at (omega arith)
-
-exported-kept : (n : List ℕ) (x : Entity) (scopes : List Scope) (at : ℕ) → at + 2 ≡ length scopes
-    → set (reverse scopes) at (with_one n x (get_or (reverse scopes) at standard)) ≡ reverse (exported n x scopes)
-exported-kept n x [] at e = absurd (omega arith)
-exported-kept n x (scope ∷ []) at e = absurd (omega arith)
-exported-kept n x (scope ∷ around ∷ outer) at e = second (with_one n x) scope around outer at (omega arith)
-
 without_newest-kept : (scopes : List Scope) (at : ℕ) → at + 1 ≡ length scopes → set (reverse scopes) at (without_one (get_or (reverse scopes) at standard))
     ≡ reverse (without_newest scopes)
 without_newest-kept [] at e = absurd (omega arith)
 without_newest-kept (scope ∷ outer) at e = first without_one scope outer at (omega arith)
-
--- the innermost scope has got a name
-pub view-with_name : (n : List ℕ) (x : Entity) (old new : List Scope) (at : ℕ) → new ≡ set old at (with_one n x (get_or old at standard))
-    → at + 1 ≡ length old → reverse new ≡ with_name n x (reverse old)
-view-with_name n x old new at h e =
-    turned (with_one n x) (with_name n x) old new at h (with_name-kept n x (reverse old) at (e ∙ sym (length-reverse old)))
-
--- the scope round it has got a name
-pub view-exported : (n : List ℕ) (x : Entity) (old new : List Scope) (at : ℕ) → new ≡ set old at (with_one n x (get_or old at standard)) → at + 2 ≡ length old
-    → reverse new ≡ exported n x (reverse old)
-view-exported n x old new at h e =
-    turned (with_one n x) (exported n x) old new at h (exported-kept n x (reverse old) at (e ∙ sym (length-reverse old)))
 
 -- the innermost scope has lost its newest name
 pub view-without_newest : (old new : List Scope) (at : ℕ) → new ≡ set old at (without_one (get_or old at standard)) → at + 1 ≡ length old
@@ -83,7 +50,7 @@ innermost-first (scope ∷ outer) at e =
     ap (λ xs. (get_or xs at standard).names) (reverse-cons scope outer) ∙ ap (λ s. s.names) (get_or_at (reverse outer) scope [] standard at len)
 
 -- the last kept scope is the innermost
-pub innermost-kept : (old : List Scope) (at : ℕ) → at + 1 ≡ length old → (get_or old at standard).names ≡ innermost_names (reverse old)
+innermost-kept : (old : List Scope) (at : ℕ) → at + 1 ≡ length old → (get_or old at standard).names ≡ innermost_names (reverse old)
 innermost-kept old at e =
     ap (λ xs. (get_or xs at standard).names) (sym (reverse-reverse old)) ∙ innermost-first (reverse old) at (e ∙ sym (length-reverse old))
 
@@ -138,3 +105,11 @@ scope_with is_module names = record { is_module = is_module; names = names }
 pub empty-from_length : {A : Type 0} (xs : List A) → length xs ≡ 0 → xs ≡ []
 empty-from_length [] e = refl
 empty-from_length (x ∷ xs) e = absurd (omega arith)
+
+-- there is an innermost scope, which is the last that is kept
+pub innermost_last : (scopes : Vec OpenScope Global) → HasOutermost (scopes_of scopes) → (n : ℕ) → n ≡ scopes.len → n - 1 + 1 ≡ length (kept scopes)
+innermost_last scopes h n e = omega (arith, e, some_scope (scopes_of scopes) h, length-scopes_of scopes, length-kept scopes)
+
+pub innermost_newest : (scopes : Vec OpenScope Global) (at : ℕ) (named : List ℕ × Entity) → at + 1 ≡ length (kept scopes)
+    → Some named ≡ newest (get_or (kept scopes) at standard).names → Some named ≡ newest (innermost_names (scopes_of scopes))
+innermost_newest scopes at named e h = h ∙ ap newest (innermost-kept (kept scopes) at e)

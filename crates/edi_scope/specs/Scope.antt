@@ -60,20 +60,10 @@ with_name_at steps name entity [] = []
 with_name_at zero name entity (scope ∷ outer) = with_one name entity scope ∷ outer
 with_name_at (suc steps) name entity (scope ∷ outer) = scope ∷ with_name_at steps name entity outer
 
--- the constants and types that are numbered before any declaration
-abbrev pub int_type : ℕ
-int_type = 0
-
-abbrev pub char_type : ℕ
-char_type = 1
-
-abbrev pub bool_type : ℕ
-bool_type = 2
-
--- the scope of the standard names
+-- the scope of the standard names: the types `int`, `char` and `bool` have the numbers 0, 1 and 2
 abbrev pub standard : Scope
 standard = record {
   is_module = false;
-  names = (codes "int", Types int_type) ∷ (codes "char", Types char_type) ∷ (codes "bool", Types bool_type)
-      ∷ (codes "false", Constant bool_type (pos 0)) ∷ (codes "true", Constant bool_type (pos 1)) ∷ (codes "halt", Halt) ∷ [];
+  names = (codes "int", Types 0) ∷ (codes "char", Types 1) ∷ (codes "bool", Types 2)
+      ∷ (codes "false", Constant 2 (pos 0)) ∷ (codes "true", Constant 2 (pos 1)) ∷ (codes "halt", Halt) ∷ [];
 }

@@ -62,12 +62,12 @@ impl Scopes {
         ensures exact { IfOk result (λ scopes. scopes ≡ standard ∷ []) }
     {
         let mut scopes = Scopes::without_names(alloc)?;
-        scopes.add(alloc, b"halt", Entity::Halt)?;
-        scopes.add(alloc, b"true", truth(1))?;
-        scopes.add(alloc, b"false", truth(0))?;
-        scopes.add(alloc, b"bool", Entity::Types(BOOL))?;
-        scopes.add(alloc, b"char", Entity::Types(CHAR))?;
-        scopes.add(alloc, b"int", Entity::Types(INT))?;
+        scopes.add_at(alloc, 0, b"halt", Entity::Halt)?;
+        scopes.add_at(alloc, 0, b"true", truth(1))?;
+        scopes.add_at(alloc, 0, b"false", truth(0))?;
+        scopes.add_at(alloc, 0, b"bool", Entity::Types(BOOL))?;
+        scopes.add_at(alloc, 0, b"char", Entity::Types(CHAR))?;
+        scopes.add_at(alloc, 0, b"int", Entity::Types(INT))?;
         Ok(scopes)
     }
 
@@ -111,13 +111,34 @@ impl Scopes {
             (is_some (declared self.old name.now) || (exported && is_some (declared (outside self.old) name.now))) }
         ensures err { OnErr result (self.new ≡ self.old) }
     {
-        if self.has(name) || exported && self.has_outside(name) {
+        if self.has(name) {
             return Err(ScopeFault::Ambiguous);
         }
-        if self.add(alloc, name, entity).is_err() {
-            return Err(ScopeFault::NoMemory);
+        if exported {
+            return self.declare_exported(alloc, name, entity);
         }
-        if exported && self.give_outside(alloc, name, entity).is_err() {
+        self.add_at(alloc, 0, name, entity)?;
+        Ok(())
+    }
+
+    /// Declares the name, which the innermost scope has not, there and in the scope round it.
+    fn declare_exported(
+        &mut self,
+        alloc: Global,
+        name: &[u8],
+        entity: Entity,
+    ) -> Result<(), ScopeFault>
+        requires free { declared self.old name.now ≡ None }
+        requires module { IsTrue (in_module self.old) }
+        ensures ok { OnOk result (self.new ≡ exported_name name.now entity (with_name name.now entity self.old)) }
+        ensures ambiguous { (result ≡ Err ScopeFault.Ambiguous) ↔ IsTrue (is_some (declared (outside self.old) name.now)) }
+        ensures err { OnErr result (self.new ≡ self.old) }
+    {
+        if self.has_outside(name) {
+            return Err(ScopeFault::Ambiguous);
+        }
+        self.add_at(alloc, 0, name, entity)?;
+        if self.add_at(alloc, 1, name, entity).is_err() {
             let _more = self.forget_newest();
             return Err(ScopeFault::NoMemory);
         }
@@ -142,7 +163,7 @@ impl Scopes {
         let Some(entity) = self.look(name) else {
             unreachable!()
         };
-        self.give_outside(alloc, name, entity)?;
+        self.add_at(alloc, 1, name, entity)?;
         Ok(())
     }
 
@@ -247,6 +268,7 @@ impl Scopes {
     /// Whether the innermost scope has the name.
     fn has(&self, name: &[u8]) -> bool
         ensures exact { result ≡ is_some (declared self.now name.now) }
+        ensures some { 0 < length self.now }
     {
         self.declarations.is_at(name, self.scopes.len() - 1)
     }
@@ -255,44 +277,9 @@ impl Scopes {
     fn has_outside(&self, name: &[u8]) -> bool
         requires { IsTrue (in_module self.now) }
         ensures exact { result ≡ is_some (declared (outside self.now) name.now) }
+        ensures round { 1 < length self.now }
     {
         self.declarations.is_at(name, self.scopes.len() - 2)
-    }
-
-    /// Declares the name, which the innermost scope has not, there.
-    fn add(&mut self, alloc: Global, name: &[u8], entity: Entity) -> Result<(), AllocError>
-        requires { declared self.old name.now ≡ None }
-        ensures ok { OnOk result (self.new ≡ with_name name.now entity self.old) }
-        ensures err { OnErr result (self.new ≡ self.old) }
-    {
-        let depth = self.scopes.len() - 1;
-        let last = self.declarations.of(name).len();
-        put_name(&mut self.scopes, alloc, depth, name, entity)?;
-        let declaration = Declaration { depth, entity };
-        if let Err(e) = self.declarations.insert(alloc, name, last, declaration) {
-            let _dropped = take_name(&mut self.scopes, depth);
-            return Err(e);
-        }
-        Ok(())
-    }
-
-    /// Declares a name of the innermost scope in the scope round it, which has it not.
-    fn give_outside(&mut self, alloc: Global, name: &[u8], entity: Entity) -> Result<(), AllocError>
-        requires inner { IsTrue (is_some (declared self.old name.now)) }
-        requires outer { declared (outside self.old) name.now ≡ None }
-        requires round { IsTrue (in_module self.old) }
-        ensures ok { OnOk result (self.new ≡ exported_name name.now entity self.old) }
-        ensures err { OnErr result (self.new ≡ self.old) }
-    {
-        let depth = self.scopes.len() - 2;
-        let last = self.declarations.of(name).len() - 1;
-        put_name(&mut self.scopes, alloc, depth, name, entity)?;
-        let declaration = Declaration { depth, entity };
-        if let Err(e) = self.declarations.insert(alloc, name, last, declaration) {
-            let _dropped = take_name(&mut self.scopes, depth);
-            return Err(e);
-        }
-        Ok(())
     }
 
     /// Whether the scope round the innermost has the name.

@@ -1,30 +1,24 @@
-use Rattle.std.proofs.Common.{◌≡◌, ℕ, ◌+◌, ◌-◌, ◌<◌, List, Some, length, remove, ap, sym, subst, ◌∙◌, arith}
+use Rattle.std.proofs.Common.{◌≡◌, ℕ, ◌+◌, ◌-◌, ◌<◌, List, length, remove, ap, sym, subst, ◌∙◌, arith}
 use Rattle.edi_scope.specs.Scope.{Scope}
 use Rattle.edi_scope.specs.Listed.{listed}
-use Rattle.edi_scope.specs.Standing.{scopes_of, kept, ScopesAreKept, name_of, newest, innermost_names, without_newest}
-use Rattle.edi_scope.proofs.Standings.{Changed, some_scope, listed-newest, kept-without_newest}
-use Rattle.edi_scope.proofs.Views.{length-kept, length-scopes_of, innermost-kept, view-without_newest}
+use Rattle.edi_scope.specs.Standing.{scopes_of, kept, ScopesAreKept, name_of, without_newest}
+use Rattle.edi_scope.proofs.Standings.{Changed, listed-newest, kept-without_newest}
+use Rattle.edi_scope.proofs.Views.{innermost_last, innermost_newest, view-without_newest}
 use Rattle.edi_scope.proofs.scopes.Scopes.forget_newest.Goals as goal
 
 pub overflow_sub-last : goal.overflow_sub-last
 overflow_sub-last c =
     let old : List Scope = scopes_of c.self.inside.scopes in
-    let some : 0 < length old = some_scope old c.self.invariant.outermost in
-    let deep : c.len-innermost.result - 1 + 1 ≡ length (kept c.self.inside.scopes) = omega
-    (arith, length-scopes_of c.self.inside.scopes, length-kept c.self.inside.scopes, c.len-innermost.ensures) in
-    let first : Some (name_of c.in-Some.named) ≡ newest (innermost_names old) = c.in-Some.ensures.newest
-    ∙ ap newest (innermost-kept (kept c.self.inside.scopes) (c.len-innermost.result - 1) deep) in
+    let deep = innermost_last c.self.inside.scopes c.self.invariant.outermost c.len-innermost.result (omega (arith, c.len-innermost.ensures)) in
+    let first = innermost_newest c.self.inside.scopes (c.len-innermost.result - 1) (name_of c.in-Some.named) deep c.in-Some.ensures.newest in
     subst (λ l. 0 < length l) (sym (c.of.ensures.exact ∙ ap (listed c.self.inside.declarations) c.as_slice-name.ensures.value))
     (listed-newest c.self.inside.declarations old c.in-Some.named.name.items c.in-Some.named.entity c.self.invariant first)
 
 pub remove-requires : goal.remove-requires
 remove-requires c =
     let old : List Scope = scopes_of c.self.inside.scopes in
-    let some : 0 < length old = some_scope old c.self.invariant.outermost in
-    let deep : c.len-innermost.result - 1 + 1 ≡ length (kept c.self.inside.scopes) = omega
-    (arith, length-scopes_of c.self.inside.scopes, length-kept c.self.inside.scopes, c.len-innermost.ensures) in
-    let first : Some (name_of c.in-Some.named) ≡ newest (innermost_names old) = c.in-Some.ensures.newest
-    ∙ ap newest (innermost-kept (kept c.self.inside.scopes) (c.len-innermost.result - 1) deep) in
+    let deep = innermost_last c.self.inside.scopes c.self.invariant.outermost c.len-innermost.result (omega (arith, c.len-innermost.ensures)) in
+    let first = innermost_newest c.self.inside.scopes (c.len-innermost.result - 1) (name_of c.in-Some.named) deep c.in-Some.ensures.newest in
     let has : 0 < length (listed c.self.inside.declarations c.as_slice-name.result.now) = subst (λ l. 0 < length (listed c.self.inside.declarations l))
     (sym c.as_slice-name.ensures.value) (listed-newest c.self.inside.declarations old c.in-Some.named.name.items c.in-Some.named.entity c.self.invariant
     first) in
@@ -34,11 +28,8 @@ pub invariant_of-self-2 : goal.invariant_of-self-2
 invariant_of-self-2 c =
     let old : List Scope = scopes_of c.self.inside.scopes in
     let name : List ℕ = c.in-Some.named.name.items in
-    let some : 0 < length old = some_scope old c.self.invariant.outermost in
-    let deep : c.len-innermost.result - 1 + 1 ≡ length (kept c.self.inside.scopes) = omega
-    (arith, length-scopes_of c.self.inside.scopes, length-kept c.self.inside.scopes, c.len-innermost.ensures) in
-    let first : Some (name_of c.in-Some.named) ≡ newest (innermost_names old) = c.in-Some.ensures.newest
-    ∙ ap newest (innermost-kept (kept c.self.inside.scopes) (c.len-innermost.result - 1) deep) in
+    let deep = innermost_last c.self.inside.scopes c.self.invariant.outermost c.len-innermost.result (omega (arith, c.len-innermost.ensures)) in
+    let first = innermost_newest c.self.inside.scopes (c.len-innermost.result - 1) (name_of c.in-Some.named) deep c.in-Some.ensures.newest in
     let list : c.of.result.now ≡ listed c.self.inside.declarations name = c.of.ensures.exact ∙ ap (listed c.self.inside.declarations)
     c.as_slice-name.ensures.value in
     let has : 0 < length (listed c.self.inside.declarations name) = listed-newest c.self.inside.declarations old name c.in-Some.named.entity c.self.invariant
@@ -55,8 +46,6 @@ invariant_of-self-2 c =
 
 pub returns-clause-exact : goal.returns-clause-exact
 returns-clause-exact c =
-    let some : 0 < length (scopes_of c.self.inside.scopes) = some_scope (scopes_of c.self.inside.scopes) c.self.invariant.outermost in
-    let deep : c.len-innermost.result - 1 + 1 ≡ length (kept c.self.inside.scopes) = omega
-    (arith, length-scopes_of c.self.inside.scopes, length-kept c.self.inside.scopes, c.len-innermost.ensures) in
+    let deep = innermost_last c.self.inside.scopes c.self.invariant.outermost c.len-innermost.result (omega (arith, c.len-innermost.ensures)) in
     view-without_newest (kept c.self.inside.scopes) (kept c.take_name.new.scopes) (c.len-innermost.result - 1) c.in-Some.ensures.exact deep
     ∙ ap without_newest c.self.view_is

@@ -1,8 +1,7 @@
-use Rattle.std.proofs.Common.{◌≡◌, ◌-◌, ◌<◌, length, drop, ap, sym, subst, ◌∙◌, arith, is_some, IsTrue, eqb}
-use Rattle.std.specs.List.{list_any}
+use Rattle.std.proofs.Common.{◌≡◌, ◌-◌, ◌<◌, length, drop, ap, sym, subst, ◌∙◌, arith, is_some, IsTrue}
 use Rattle.edi_scope.specs.Scope.{declared, in_module}
 use Rattle.edi_scope.specs.Standing.{scopes_of}
-use Rattle.edi_scope.proofs.Standings.{has_depth, round_module}
+use Rattle.edi_scope.proofs.Standings.{has_at, round_module}
 use Rattle.edi_scope.proofs.Views.{length-scopes_of}
 use Rattle.edi_scope.proofs.scopes.Scopes.has_outside.Goals as goal
 
@@ -13,7 +12,7 @@ returns c =
     let len : length (scopes_of c.self.inside.scopes) ≡ c.len.result = length-scopes_of c.self.inside.scopes ∙ omega (arith, c.len.ensures) in
     record {
       exact = c.is_at.ensures.exact
-          ∙ ap (list_any (λ d. eqb d.depth (c.len.result - 2))) (c.self.invariant.stands c.args.name.now)
-          ∙ has_depth (scopes_of c.self.inside.scopes) c.args.name.now 1 (c.len.result - 2) (omega arith)
+          ∙ has_at c.self.inside.declarations (scopes_of c.self.inside.scopes) c.args.name.now 1 (c.len.result - 2) c.self.invariant (omega arith)
           ∙ ap (λ s. is_some (declared (drop 1 s) c.args.name.now)) c.self.view_is;
+      round = subst (λ s. 1 < length s) c.self.view_is round;
     }
