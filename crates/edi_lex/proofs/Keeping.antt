@@ -1,13 +1,12 @@
 -- What the marks keep when one more is added.
 use Rattle.std.proofs.Common.{◌≡◌, ℕ, ◌+◌, ◌≤◌, Bool, true, false, ◌&&◌, cond, eqb, leb, List, [], ◌∷◌, ◌++◌, Option, None, Some, refl, ◌∙◌, arith}
 use Rattle.std.specs.Prelude.{unwrap_or}
-use Rattle.std.specs.Option.{option_or}
 use Rattle.std.specs.Str.{bytes_eq}
 use Rattle.std.specs.List.{list_all}
 use Rattle.std.proofs.lemmas.Bool.Decides.{nat_tests}
 use Rattle.std.proofs.lemmas.List.Folds.{list_all-append}
 use Rattle.std.proofs.lemmas.List.Sums.{sum_by-append}
-use Rattle.edi_lex.specs.Words.{symbol_beside, words_also_to_div, words_do_to_lib, words_mod_to_proc, words_record_to_while, word_of}
+use Rattle.edi_lex.specs.Words.{symbol_beside, word_symbols, word_of}
 use Rattle.edi_lex.specs.Specials.{special_of, special_pair}
 use Rattle.edi_lex.specs.Spelling.{is_name, is_spelled, are_spelled, word_or_name}
 use Rattle.edi_lex.specs.Order.{is_orderly, size_of, extent}
@@ -52,16 +51,8 @@ fixed_beside (row ∷ rows) name h =
     let parts = both (is_fixed (Some row.1)) (list_all (λ row. is_fixed (Some row.1)) rows) h in
     fixed_or (bytes_eq name row.0) row.1 (symbol_beside rows name) parts.0 (fixed_beside rows name parts.1)
 
-fixed_first : (o p : Option Symbol) → is_fixed o ≡ true → is_fixed p ≡ true → is_fixed (option_or o p) ≡ true
-fixed_first None p h k = k
-fixed_first (Some s) p h k = h
-
 word_fixed : (name : List ℕ) → is_fixed (word_of name) ≡ true
-word_fixed name =
-    fixed_first (symbol_beside words_also_to_div name) _ (fixed_beside words_also_to_div name refl) (
-    fixed_first (symbol_beside words_do_to_lib name) _ (fixed_beside words_do_to_lib name refl) (
-    fixed_first (symbol_beside words_mod_to_proc name) _ (fixed_beside words_mod_to_proc name refl)
-    (fixed_beside words_record_to_while name refl)))
+word_fixed name = fixed_beside word_symbols name refl
 
 fixed_word : (name : List ℕ) (o : Option Symbol) → is_name name ≡ true → word_of name ≡ o → is_fixed o ≡ true → is_fixed (Some (unwrap_or o (is.Name name)))
     ≡ true
@@ -74,10 +65,10 @@ word_or_name_fixed name h = fixed_word name (word_of name) h refl (word_fixed na
 
 pub special_fixed : (b : ℕ) → is_fixed (special_of b) ≡ true
 special_fixed b =
-    fixed_or (eqb b 58) _ _ refl (fixed_or (eqb b 59) _ _ refl (fixed_or (eqb b 60) _ _ refl (fixed_or (eqb b 61) _ _ refl (
-    fixed_or (eqb b 62) _ _ refl (fixed_or (eqb b 91) _ _ refl (fixed_or (eqb b 93) _ _ refl (
     fixed_or (eqb b 40) _ _ refl (fixed_or (eqb b 41) _ _ refl (fixed_or (eqb b 42) _ _ refl (fixed_or (eqb b 43) _ _ refl (
-    fixed_or (eqb b 44) _ _ refl (fixed_or (eqb b 45) _ _ refl (fixed_or (eqb b 46) _ _ refl refl)))))))))))))
+    fixed_or (eqb b 44) _ _ refl (fixed_or (eqb b 45) _ _ refl (fixed_or (eqb b 46) _ _ refl (
+    fixed_or (eqb b 58) _ _ refl (fixed_or (eqb b 59) _ _ refl (fixed_or (eqb b 60) _ _ refl (fixed_or (eqb b 61) _ _ refl (
+    fixed_or (eqb b 62) _ _ refl (fixed_or (eqb b 91) _ _ refl (fixed_or (eqb b 93) _ _ refl refl)))))))))))))
 
 fixed_both : (t : Bool) (o p : Option Symbol) → is_fixed o ≡ true → is_fixed p ≡ true → is_fixed (cond t o p) ≡ true
 fixed_both true o p h k = h

@@ -75,6 +75,16 @@ module _ (marks : List Mark) (line : ℕ) (spelled : are_spelled marks ≡ true)
   reaches u kept known now bytes rest up stated begun few =
       (ap (with_front marks) stated, record { spelled = spelled; orderly = is_orderly-grows 1 marks line now orderly up; begun = begun; few = few })
 
+  -- a byte more of a piece of which each byte is kept
+  stays : (u : Unfinished) (kept : List ℕ) (b bytes : ℕ) (rest : List ℕ) → line ≡ line + feeds_at b
+      → rest_of u (kept ++ b ∷ []) (line + feeds_at b) rest ≡ symbols_from ((kept ++ b ∷ []) ++ rest) 0 (line + feeds_at b)
+      → is_begun u (kept ++ b ∷ []) ≡ true → extent marks + pending u (kept ++ b ∷ []) ≤ bytes
+      → Leads (with_front marks (symbols_from (kept ++ b ∷ rest) 0 line)) (line + feeds_at b) bytes rest (Ok (cut marks u (kept ++ b ∷ [])))
+  stays u kept b bytes rest same whole begun few = reaches u (kept ++ b ∷ []) (symbols_from (kept ++ b ∷ rest) 0 line) (line + feeds_at b) bytes rest
+      (omega arith)
+      (ap (λ t. symbols_from t 0 line) (sym (append_assoc kept (b ∷ []) rest)) ∙ (ap (symbols_from ((kept ++ b ∷ []) ++ rest) 0) same ∙ sym whole))
+      begun few
+
   -- a symbol has ended
   adds : (s : Symbol) (known : Answer) (now bytes : ℕ) (rest : List ℕ) → now ≡ line → known ≡ marked s line (symbols_from rest 0 line) → is_spelled s ≡ true
       → extent marks + size_of s ≤ bytes → Leads (with_front marks known) now bytes rest (Ok (cut (marks ++ mark s line ∷ []) Nothing []))
@@ -193,29 +203,22 @@ next_leads marks Name kept b line bytes rest h =
     let here = symbols_from (kept ++ b ∷ rest) 0 line in
     let P : Effect → Type 0 = λ effect. Leads (with_front marks (symbols_from (kept ++ b ∷ rest) 0 line)) (line + feeds_at b) (bytes + 1) rest
     (after_next (cut marks Name kept) effect b line) in
-    by_test P (is_name_byte b) _ _ (λ p.
-    let same : line ≡ line + feeds_at b = omega (arith, no_feed is_name_byte refl b p) in
-    reaches marks line h.spelled h.orderly Name (kept ++ b ∷ []) here (line + feeds_at b) (bytes + 1) rest (omega arith)
-    (ap (λ t. symbols_from t 0 line) (sym (append_assoc kept (b ∷ []) rest)) ∙ ap (symbols_from ((kept ++ b ∷ []) ++ rest) 0) same)
+    by_test P (is_name_byte b) _ _ (λ p. stays marks line h.spelled h.orderly Name kept b (bytes + 1) rest (omega (arith, no_feed is_name_byte refl b p)) refl
     (is_name-push kept b h.begun p) (omega (arith, h.few)))
     (λ p.
     let word = word_or_name_fixed kept h.begun in
     then_first marks line h.spelled h.orderly (word_or_name kept) here b bytes rest (name_first kept (b ∷ rest) line h.begun (rw p refl))
     (fixed_spelled (word_or_name kept) word) (omega (arith, h.few, fixed_size (word_or_name kept) word)))
 next_leads marks Numeral kept b line bytes rest h =
-    let here = symbols_from (kept ++ b ∷ rest) 0 line in
     let P : Effect → Type 0 = λ effect. Leads (with_front marks (symbols_from (kept ++ b ∷ rest) 0 line)) (line + feeds_at b) (bytes + 1) rest
     (after_next (cut marks Numeral kept) effect b line) in
-    by_test P (is_digit b) _ _ (λ p.
-    let same : line ≡ line + feeds_at b = omega (arith, no_feed is_digit refl b p) in
-    reaches marks line h.spelled h.orderly Numeral (kept ++ b ∷ []) here (line + feeds_at b) (bytes + 1) rest (omega arith)
-    (ap (λ t. symbols_from t 0 line) (sym (append_assoc kept (b ∷ []) rest)) ∙ ap (symbols_from ((kept ++ b ∷ []) ++ rest) 0) same)
+    by_test P (is_digit b) _ _ (λ p. stays marks line h.spelled h.orderly Numeral kept b (bytes + 1) rest (omega (arith, no_feed is_digit refl b p)) refl
     (is_numeral-push kept b h.begun p) (omega (arith, h.few)))
     (λ p. elim (number_of kept) as (λ o. number_of kept ≡ o → Leads (with_front marks (symbols_from (kept ++ b ∷ rest) 0 line)) (line + feeds_at b)
     (bytes + 1) rest
     (after_first (symbol_or (cut marks Numeral kept) (numeral_of o) (BadNumeral line) line) b line)) [
       | None ↦ λ e. (ap (with_front marks) (numeral_above kept (b ∷ rest) line h.begun (rw p refl) e), tt)
-      | Some value ↦ λ e. then_first marks line h.spelled h.orderly (is.Numeral value) here b bytes rest
+      | Some value ↦ λ e. then_first marks line h.spelled h.orderly (is.Numeral value) (symbols_from (kept ++ b ∷ rest) 0 line) b bytes rest
           (numeral_first kept (b ∷ rest) line value h.begun (rw p refl) e) (number_spelled kept value e) (omega (arith, h.few))
     ] refl)
 next_leads marks Chars [] b line bytes rest h =

@@ -1,5 +1,5 @@
 -- Words of contracts. How many bytes of a text have to be fetched.
-use Rattle.std.specs.Prelude.{◌≡◌, ℕ, Bool, false, List, take}
+use Rattle.std.specs.Prelude.{◌≡◌, ℕ, false, List, take}
 use Rattle.edi_lex.specs.Symbols.{is_too_long, symbols_of}
 
 -- one more than a text may have

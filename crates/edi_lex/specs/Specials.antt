@@ -3,9 +3,9 @@ use Rattle.std.specs.Prelude.{ℕ, List, [], ◌∷◌, ◌==◌, Option, Some, 
 use Rattle.edi_lex.specs.declared.symbol.Symbol.{Symbol}
 use Rattle.edi_lex.specs.declared.symbol.Symbol.TheVariants as is
 
--- `( ) * + , - .`
-abbrev pub special_up_to_period : ℕ → Option Symbol
-special_up_to_period b =
+-- the special symbol of this one byte
+abbrev pub special_of : ℕ → Option Symbol
+special_of b =
     if b == 40 then Some is.Open else
     if b == 41 then Some is.Close else
     if b == 42 then Some is.Star else
@@ -13,11 +13,6 @@ special_up_to_period b =
     if b == 44 then Some is.Comma else
     if b == 45 then Some is.Minus else
     if b == 46 then Some is.Period else
-    None
-
--- the special symbol of this one byte: those above, and `: ; < = > [ ]`
-abbrev pub special_of : ℕ → Option Symbol
-special_of b =
     if b == 58 then Some is.Colon else
     if b == 59 then Some is.Semicolon else
     if b == 60 then Some is.Less else
@@ -25,7 +20,7 @@ special_of b =
     if b == 62 then Some is.Greater else
     if b == 91 then Some is.OpenBracket else
     if b == 93 then Some is.CloseBracket else
-    special_up_to_period b
+    None
 
 -- the special symbol of these two bytes: `<= >= :=` and `<>`
 abbrev pub special_pair : ℕ → ℕ → Option Symbol

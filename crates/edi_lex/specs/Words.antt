@@ -1,7 +1,6 @@
 -- Definition. The word symbols. All are reserved: none is a name.
 use Rattle.std.specs.Prelude.{ℕ, List, [], ◌∷◌, Option, Some, None, if◌then◌else◌, codes}
 use Rattle.std.specs.Str.{bytes_eq}
-use Rattle.std.specs.Option.{option_or}
 use Rattle.edi_lex.specs.declared.symbol.Symbol.{Symbol}
 use Rattle.edi_lex.specs.declared.symbol.Symbol.TheVariants as is
 
@@ -10,8 +9,8 @@ abbrev pub symbol_beside : List (List ℕ × Symbol) → List ℕ → Option Sym
 symbol_beside [] name = None
 symbol_beside (row ∷ rows) name = if bytes_eq name row.0 then Some row.1 else symbol_beside rows name
 
-abbrev pub words_also_to_div : List (List ℕ × Symbol)
-words_also_to_div =
+abbrev pub word_symbols : List (List ℕ × Symbol)
+word_symbols =
     (codes "also", is.Also) ∷
     (codes "and", is.And) ∷
     (codes "array", is.Array) ∷
@@ -19,10 +18,6 @@ words_also_to_div =
     (codes "cobegin", is.Cobegin) ∷
     (codes "const", is.Const) ∷
     (codes "div", is.Div) ∷
-    []
-
-abbrev pub words_do_to_lib : List (List ℕ × Symbol)
-words_do_to_lib =
     (codes "do", is.Do) ∷
     (codes "else", is.Else) ∷
     (codes "end", is.End) ∷
@@ -30,10 +25,6 @@ words_do_to_lib =
     (codes "if", is.If) ∷
     (codes "in", is.In) ∷
     (codes "lib", is.Lib) ∷
-    []
-
-abbrev pub words_mod_to_proc : List (List ℕ × Symbol)
-words_mod_to_proc =
     (codes "mod", is.Mod) ∷
     (codes "module", is.Module) ∷
     (codes "not", is.Not) ∷
@@ -41,10 +32,6 @@ words_mod_to_proc =
     (codes "post", is.Post) ∷
     (codes "pre", is.Pre) ∷
     (codes "proc", is.Proc) ∷
-    []
-
-abbrev pub words_record_to_while : List (List ℕ × Symbol)
-words_record_to_while =
     (codes "record", is.Record) ∷
     (codes "set", is.Set) ∷
     (codes "skip", is.Skip) ∷
@@ -56,8 +43,4 @@ words_record_to_while =
 
 -- the word symbol that is spelled so
 abbrev pub word_of : List ℕ → Option Symbol
-word_of name =
-    option_or (symbol_beside words_also_to_div name) (
-    option_or (symbol_beside words_do_to_lib name) (
-    option_or (symbol_beside words_mod_to_proc name) (
-    symbol_beside words_record_to_while name)))
+word_of name = symbol_beside word_symbols name

@@ -46,8 +46,9 @@ pub(crate) enum Effect {
     Fails(LexFault),
 }
 
-fn special_up_to_period(byte: u8) -> Option<Symbol>
-    ensures exact { result ≡ special.special_up_to_period byte }
+/// The special symbol of this one byte.
+pub(crate) fn special(byte: u8) -> Option<Symbol>
+    ensures exact { result ≡ special.special_of byte }
 {
     match byte {
         b'(' => Some(Symbol::Open),
@@ -57,15 +58,6 @@ fn special_up_to_period(byte: u8) -> Option<Symbol>
         b',' => Some(Symbol::Comma),
         b'-' => Some(Symbol::Minus),
         b'.' => Some(Symbol::Period),
-        _ => None,
-    }
-}
-
-/// The special symbol of this one byte.
-pub(crate) fn special(byte: u8) -> Option<Symbol>
-    ensures exact { result ≡ special.special_of byte }
-{
-    match byte {
         b':' => Some(Symbol::Colon),
         b';' => Some(Symbol::Semicolon),
         b'<' => Some(Symbol::Less),
@@ -73,7 +65,7 @@ pub(crate) fn special(byte: u8) -> Option<Symbol>
         b'>' => Some(Symbol::Greater),
         b'[' => Some(Symbol::OpenBracket),
         b']' => Some(Symbol::CloseBracket),
-        _ => special_up_to_period(byte),
+        _ => None,
     }
 }
 
