@@ -7,6 +7,7 @@ use Rattle.std.proofs.lemmas.Bool.{cases_eq}
 use Rattle.std.proofs.lemmas.List.{get_or-set_other, get_or-set_same, get_or_default}
 use Rattle.std.proofs.lemmas.Grind.{get_or-set_at}
 use Rattle.std.specs.Prelude.{Option}
+use Rattle.std.specs.Option.{ForSome}
 use Rattle.edi_image.specs.declared.faults.MountFault.{MountFault}
 use Rattle.edi_image.specs.declared.faults.MountFault.TheVariants as fault
 use Rattle.edi_image.specs.Rules.{is_in}
@@ -97,10 +98,10 @@ same_there : (slot : ℕ) (kept : List (List ℕ)) (there : List ℕ) → slot <
     → there ≡ get_or kept (slot / 8) []
 same_there slot kept there h many is = is ∙ get_or_default kept (slot / 8) there [] (kept_inside slot kept h many)
 
-pub kept_block : (slot : ℕ) (kept blocks : List (List ℕ)) (there : List ℕ) → slot < 256 → length kept ≡ 32 → there ≡ get_or kept (slot / 8) there
-    → AreEntries kept blocks → block_at blocks (1 + slot / 8) ≡ there
-kept_block slot kept blocks there h many is are =
-    sym (same_there slot kept there h many is ∙ are (slot / 8) (let few : slot / 8 < 32 = omega arith in few))
+pub kept_block : (slot : ℕ) (kept : List (List ℕ)) (there : List ℕ) (told : Option (List (List ℕ))) → slot < 256 → length kept ≡ 32
+    → there ≡ get_or kept (slot / 8) there → ForSome told (AreEntries kept) → ForSome told (λ blocks. block_at blocks (1 + slot / 8) ≡ there)
+kept_block slot kept there told h many is are = λ blocks e.
+    sym (same_there slot kept there h many is ∙ are blocks e (slot / 8) (let few : slot / 8 < 32 = omega arith in few))
 
 pub kept_now : (slot : ℕ) (kept : List (List ℕ)) (entry there now : List ℕ) → slot < 256 → length kept ≡ 32 → there ≡ get_or kept (slot / 8) there
     → now ≡ patched (64 * (slot % 8)) entry there

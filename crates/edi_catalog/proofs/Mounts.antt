@@ -84,6 +84,15 @@ found_of contents count faults a b P settled checks blocks e =
     let now : (shown contents a ≡ Some blocks) × P blocks = told_now (shown contents a) (shown contents b) P (checks.shows refl) blocks there in
     (settled ∙ now.0, now.1)
 
+-- so what follows from that is told of the drive, which has the blocks that it had
+pub told_found : {D : Type 0} (contents : D → Option (List (List ℕ))) (count faults : D → ℕ) (a b : Disk D) (P Q : List (List ℕ) → Type 0)
+    → contents (drive_of a) ≡ shown contents a → Checks contents count faults false a b P
+    → ((blocks : List (List ℕ)) → contents (drive_of a) ≡ Some blocks → P blocks → Q blocks)
+    → WhereTold (contents (drive_of a)) (contents (drive_of b)) (λ old new. (new ≡ old) × Q old)
+told_found contents count faults a b P Q settled checks so =
+    told_same_blocks (contents (drive_of a)) (contents (drive_of b)) Q
+    (λ blocks told. (let found = found_of contents count faults a b P settled checks blocks told in (found.0, so blocks found.0 found.1)))
+
 -- a fault of the image is that of the drive's blocks
 pub first_found : {D : Type 0} (contents : D → Option (List (List ℕ))) (count faults : D → ℕ) (e : MountFault) (a b : Disk D)
     → contents (drive_of a) ≡ shown contents a → Checks contents count faults (is_drive_fault e) a b (λ blocks. IsFirst e (mount_fault_of blocks))

@@ -1,9 +1,10 @@
 -- One check after another.
-use Rattle.std.proofs.Common.{◌≡◌, ℕ, ◌+◌, ◌-◌, ◌^◌, ◌≤◌, Bool, true, false, List, refl, sym, ◌∙◌, subst, min, arith}
+use Rattle.std.proofs.Common.{◌≡◌, ℕ, ◌+◌, ◌-◌, ◌^◌, ◌≤◌, Bool, true, false, List, length, refl, sym, ◌∙◌, subst, min, arith}
 use Rattle.std.specs.Prelude.{Option, Some, None, IfSome, ⊤}
 use Rattle.edi_told.specs.Told.{WhereTold}
 use Rattle.edi_disk.specs.declared.disk.Disk.{Disk}
 use Rattle.edi_disk.specs.Shown.{shown, drive_of, IsWorking}
+use Rattle.edi_disk.proofs.Calls.{shown_counted}
 use Rattle.edi_catalog.specs.Reads.{Checks}
 use Rattle.edi_image.proofs.Told.{told_then, told_map, told_same}
 
@@ -93,6 +94,14 @@ checks_with contents count faults broke a b P L l one =
     (λ old new p. (p.0.0, (p.0.1, p.1)))
     (told_with (shown contents a) (shown contents b) L (λ old new. (new ≡ old) × P old) l (one.shows e)))
     one
+
+-- their number is known
+pub checks_counted : {D : Type 0} (contents : D → Option (List (List ℕ))) (count faults : D → ℕ)
+    (counted : (drive : D) → IfSome (contents drive) (λ blocks. length blocks ≡ count drive)) (broke : Bool) (a b : Disk D) (P : List (List ℕ) → Type 0)
+    → Checks contents count faults broke a b P → Checks contents count faults broke a b (λ blocks. P blocks × (length blocks ≡ count (drive_of a)))
+checks_counted contents count faults counted broke a b P one =
+    checks_with contents count faults broke a b P (λ blocks. length blocks ≡ count (drive_of a))
+    (shown_counted contents count faults counted a.drive.now a.cache) one
 
 pub checks_as : {D : Type 0} (contents : D → Option (List (List ℕ))) (count faults : D → ℕ) (broke : Bool) (a b : Disk D)
     (P : List (List ℕ) → Type 0) → broke ≡ false → Checks contents count faults false a b P → Checks contents count faults broke a b P

@@ -1,7 +1,7 @@
 -- A store, from what it writes to what it leaves.
 use Rattle.std.proofs.Common.{◌≡◌, inl, inr, ℕ, ◌+◌, ◌-◌, ◌<◌, ◌≤◌, true, false, List, ◌++◌, length, set, replicate, refl, ap, sym, subst, ◌∙◌, arith}
 use Rattle.std.proofs.Common.{length-set, length-append, ◌*◌, ◌/◌, ◌%◌, [], get_or}
-use Rattle.std.specs.Prelude.{IfSome, Option, Some, None, Ok, Err}
+use Rattle.std.specs.Prelude.{IfSome, Option, Some, None, Result, Ok, Err}
 use Rattle.std.specs.List.{list_all}
 use Rattle.edi_told.specs.Told.{WhereTold}
 use Rattle.std.proofs.lemmas.List.{length-replicate}
@@ -11,6 +11,7 @@ use Rattle.edi_disk.specs.declared.disk.DiskEnd.{DiskEnd}
 use Rattle.edi_disk.specs.declared.disk.DiskEnd.TheVariants as disk
 use Rattle.edi_disk.specs.Shown.{drive_of}
 use Rattle.edi_disk.proofs.Writing as writing
+use Rattle.edi_catalog.specs.declared.ends.CatEnd.{CatEnd}
 use Rattle.edi_catalog.specs.declared.ends.CatEnd.TheVariants as cat
 use Rattle.edi_catalog.specs.declared.entry.Entry.{Entry}
 use Rattle.edi_catalog.specs.declared.catalog.Catalog.{Catalog}
@@ -62,6 +63,11 @@ file_is : (title : List ℕ) (kind : FileKind) (bytes : List ℕ) (file : Stored
 file_is title kind bytes file e =
     ap (λ (x : Entry). record { title = x.title; kind = x.kind; protected = x.protected; bytes = bytes }) e
 
+-- what a store answers, by the answer of the disk
+abbrev stored_as : DiskEnd → Result (Unit {0}) CatEnd
+stored_as disk.Ok = Ok tt
+stored_as disk.Fault = Err cat.Fault
+
 module _ (count : ℕ) (files : List (Option StoredFile)) (title : List ℕ) (kind : FileKind) (bytes : List ℕ) (slot : ℕ) (file : StoredFile)
     (stores : Stores count files title kind bytes slot file) (old : List (List ℕ)) (size : length old ≡ count) (kept : IsKeptOf old files) where
   -- the image after the entry is written
@@ -94,14 +100,12 @@ module _ (count : ℕ) (files : List (Option StoredFile)) (title : List ℕ) (ki
       free_same count files (used_in (Some file)) old new stores.laid.free only.as_many only.others in
       record { valid = (same_kept old new files kept same).valid; files = same_slots old new files kept same }
 
-  pub done_leaves : (new : List (List ℕ)) → NewLeaves disk.Ok slot file bytes old new → Leaves {X = Unit {0}} (Ok tt) (slots_of old)
-      (slots_stored title kind bytes (slots_of old)) old new
-  done_leaves new made = stored_now new made
-
-  pub fault_leaves : (new : List (List ℕ)) → NewLeaves disk.Fault slot file bytes old new → Leaves {X = Unit {0}} (Err cat.Fault) (slots_of old)
-      (slots_stored title kind bytes (slots_of old)) old new
-  fault_leaves new (inl only) = record { one = inl (before_still new only) }
-  fault_leaves new (inr made) = record { one = inr (stored_now new made) }
+  -- what it leaves
+  store_leaves : (end : DiskEnd) (new : List (List ℕ)) → NewLeaves end slot file bytes old new
+      → Leaves (stored_as end) (slots_of old) (slots_stored title kind bytes (slots_of old)) old new
+  store_leaves disk.Ok new made = stored_now new made
+  store_leaves disk.Fault new (inl only) = record { one = inl (before_still new only) }
+  store_leaves disk.Fault new (inr made) = record { one = inr (stored_now new made) }
 
 module _ {D : Type 0} (contents : D → Option (List (List ℕ))) (count faults : D → ℕ)
     (counted : (drive : D) → IfSome (contents drive) (λ blocks. length blocks ≡ count drive)) where
@@ -117,6 +121,17 @@ module _ {D : Type 0} (contents : D → Option (List (List ℕ))) (count faults 
       let old = writing.told (NewLeaves end slot file bytes) (contents (drive_of (disk_of one))) (contents (drive_of (disk_of other))) new writes.leaves
       there in
       (old.0, old.1, so old.0 new old.1 (writing.many contents count faults counted (drive_of (disk_of one)) old.0 old.1) old.2))
+
+  -- and what a store leaves of it
+  stored_leaves : (one other : Catalog D) (title : List ℕ) (kind : FileKind) (bytes : List ℕ) (slot : ℕ) (file : StoredFile) (end : DiskEnd)
+      → IsMounted contents count one → Stores (count (drive_of (disk_of one))) (files_of one) title kind bytes slot file
+      → WritesNew contents count faults end slot file bytes (disk_of one) (disk_of other)
+      → WhereTold (contents (drive_of (disk_of one))) (contents (drive_of (disk_of other)))
+      (λ old new. Leaves (stored_as end) (slots_of old) (slots_stored title kind bytes (slots_of old)) old new)
+  stored_leaves one other title kind bytes slot file end mounted stores writes =
+      stored_told one other end slot file bytes _ writes
+      (λ old new told many made. store_leaves (count (drive_of (disk_of one))) (files_of one) title kind bytes slot file stores old many
+      (mounted.image old told) end new made)
 
   pub store_mounted : (one other : Catalog D) (title : List ℕ) (kind : FileKind) (bytes : List ℕ) (slot : ℕ) (file : StoredFile)
       → IsMounted contents count one → Stores (count (drive_of (disk_of one))) (files_of one) title kind bytes slot file
@@ -183,10 +198,7 @@ module _ {D : Type 0} (contents : D → Option (List (List ℕ))) (count faults 
     mounted = inr (store_mounted one other title kind bytes slot file mounted stores writes now whole blocks_now used);
     entries_cached = inr (changed_cached slot (entry_blocks_of one) (entry_blocks_of other) _ (disk_of one) (disk_of other) blocks_now used);
     file_cached = λ at e. subst (λ f. IfSome f (λ it. FileCached it bytes (disk_of other))) (sym (there at e)) file_used;
-    leaves =
-        stored_told one other disk.Ok slot file bytes _ writes
-        (λ old new told many made. done_leaves (count (drive_of (disk_of one))) (files_of one) title kind bytes slot file stores old many
-        (mounted.image old told) new made);
+    leaves = stored_leaves one other title kind bytes slot file disk.Ok mounted stores writes;
     same_reference = writes.same_reference;
     same_room = lent;
     count_stays = writes.count_stays;
@@ -213,10 +225,7 @@ module _ {D : Type 0} (contents : D → Option (List (List ℕ))) (count faults 
     mounted = inl refl;
     entries_cached = inl refl;
     file_cached = tt;
-    leaves =
-        stored_told one other disk.Fault slot file bytes _ writes
-        (λ old new told many made. fault_leaves (count (drive_of (disk_of one))) (files_of one) title kind bytes slot file stores old many
-        (mounted.image old told) new made);
+    leaves = stored_leaves one other title kind bytes slot file disk.Fault mounted stores writes;
     same_reference = writes.same_reference;
     same_room = lent;
     count_stays = writes.count_stays;

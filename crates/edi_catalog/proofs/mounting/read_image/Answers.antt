@@ -1,22 +1,18 @@
-use Rattle.std.proofs.Common.{◌≡◌, ◌<◌, ◌∙◌, sym, subst, length}
-use Rattle.edi_disk.specs.Shown.{drive_of}
-use Rattle.edi_disk.proofs.Calls.{shown_counted}
+use Rattle.std.proofs.Common.{◌<◌, ◌∙◌, sym, subst, length}
 use Rattle.edi_image.specs.Finds.{IsFirst}
 use Rattle.edi_image.specs.Image.{mount_fault_of}
 use Rattle.edi_image.proofs.ImageRules.{image_goes_on, image_fails}
 use Rattle.edi_catalog.specs.Mounted.{AreEntries}
 use Rattle.edi_catalog.proofs.EntryBlocks.{no_image_fault}
 use Rattle.edi_catalog.proofs.StillCached.{still_cached}
-use Rattle.edi_catalog.proofs.Sequence.{checks_both, checks_map, checks_with, checks_then}
+use Rattle.edi_catalog.proofs.Sequence.{checks_both, checks_counted, checks_map, checks_then}
 use Rattle.edi_catalog.proofs.mounting.read_image.Goals as goal
 
 pub returns-in-Err-clause-checks : goal.returns-in-Err-clause-checks
 returns-in-Err-clause-checks g c =
     checks_map _ _ _ _ _ _ _ _
     (λ blocks p. image_fails c.in-Err.fault blocks (subst (λ n. 0 < n) (sym p.1) c.requires.some) p.0)
-    (checks_with _ _ _ _ _ _ _ (λ blocks. length blocks ≡ g.D.Drive.count (drive_of c.args.disk.now))
-    (shown_counted g.D.Drive.contents g.D.Drive.count g.D.Drive.faults g.met.D.Drive.counted c.args.disk.now.drive.now c.args.disk.now.cache)
-    c.in-Err.ensures.checks)
+    (checks_counted _ _ _ g.met.D.Drive.counted _ _ _ _ c.in-Err.ensures.checks)
 
 pub returns-in-Err-entry_blocks-clause-checks : goal.returns-in-Err-entry_blocks-clause-checks
 returns-in-Err-entry_blocks-clause-checks g c =
@@ -31,11 +27,7 @@ returns-in-Ok-read_slots-clause-checks g c =
     let some : 0 < length blocks = subst (λ n. 0 < n) (sym p.0.1) c.requires.some in
     let found = q (subst (λ es. AreEntries es blocks) (sym c.deref.ensures.value) p.1) in
     (sym (image_goes_on blocks some p.0.0.0) ∙ found.0, (found.1, p.1)))
-    (checks_both _ _ _ _ _ _ _ _
-    (checks_with _ _ _ _ _ _ _ (λ blocks. length blocks ≡ g.D.Drive.count (drive_of c.args.disk.now))
-    (shown_counted g.D.Drive.contents g.D.Drive.count g.D.Drive.faults g.met.D.Drive.counted c.args.disk.now.drive.now c.args.disk.now.cache)
-    c.in-Ok.ensures.checks)
-    c.in-Ok-entry_blocks.ensures.checks)
+    (checks_both _ _ _ _ _ _ _ _ (checks_counted _ _ _ g.met.D.Drive.counted _ _ _ _ c.in-Ok.ensures.checks) c.in-Ok-entry_blocks.ensures.checks)
     c.in-Ok-read_slots.ensures.checks
 
 pub returns-in-Err-read_slots-clause-checks : goal.returns-in-Err-read_slots-clause-checks
@@ -45,11 +37,7 @@ returns-in-Err-read_slots-clause-checks g c =
     let some : 0 < length blocks = subst (λ n. 0 < n) (sym p.0.1) c.requires.some in
     subst (IsFirst c.in-Err-read_slots.fault) (image_goes_on blocks some p.0.0.0)
     (q (subst (λ es. AreEntries es blocks) (sym c.deref.ensures.value) p.1)))
-    (checks_both _ _ _ _ _ _ _ _
-    (checks_with _ _ _ _ _ _ _ (λ blocks. length blocks ≡ g.D.Drive.count (drive_of c.args.disk.now))
-    (shown_counted g.D.Drive.contents g.D.Drive.count g.D.Drive.faults g.met.D.Drive.counted c.args.disk.now.drive.now c.args.disk.now.cache)
-    c.in-Ok.ensures.checks)
-    c.in-Ok-entry_blocks.ensures.checks)
+    (checks_both _ _ _ _ _ _ _ _ (checks_counted _ _ _ g.met.D.Drive.counted _ _ _ _ c.in-Ok.ensures.checks) c.in-Ok-entry_blocks.ensures.checks)
     c.in-Err-read_slots.ensures.checks
 
 pub returns-in-Ok-read_slots-clause-cached : goal.returns-in-Ok-read_slots-clause-cached

@@ -1,19 +1,14 @@
-use Rattle.std.proofs.Common.{◌<◌, ◌/◌, length, rules}
+use Rattle.std.proofs.Common.{rules}
 use Rattle.edi_image.specs.Bytes.{bytes_of_record}
 use Rattle.edi_catalog.proofs.EntryBlocks.{block_now, kept_block, kept_inside, kept_now}
 use Rattle.edi_catalog.proofs.StillCached.{entry_as}
 use Rattle.edi_catalog.proofs.putting.write_kept.Goals as goal
 
 pub index_mut-requires : goal.index_mut-requires
-index_mut-requires g c =
-    let inside : c.args.index / 8 < length c.args.room.now.entries.items =
-    kept_inside c.args.index c.args.room.now.entries.items c.requires.within c.requires.many in
-    search (rules, inside)
+index_mut-requires g c = search (rules, kept_inside c.args.index c.args.room.now.entries.items c.requires.within c.requires.many)
 
 pub write_new-requires-clause-kept : goal.write_new-requires-clause-kept
-write_new-requires-clause-kept g c = λ blocks told.
-    kept_block c.args.index c.args.room.now.entries.items blocks c.index_mut.result.now c.requires.within
-    c.requires.many c.index_mut.ensures.value (c.requires.kept blocks told)
+write_new-requires-clause-kept g c = kept_block c.args.index _ _ _ c.requires.within c.requires.many c.index_mut.ensures.value c.requires.kept
 
 pub returns-clause-kept : goal.returns-clause-kept
 returns-clause-kept g c = λ done.

@@ -6,7 +6,6 @@ use Rattle.edi_catalog.proofs.catalog.Catalog.delete.Goals as goal
 
 pub returns-clause-exact : goal.returns-clause-exact
 returns-clause-exact g c =
-    changes_in_slots _ _ _ g.met.D.Drive.counted g.met.D.Drive.sized c.delete_kept.result _ (λ slots. no_deletion (find_file slots c.args.title.now)) _ _
-    c.args.self.now c.delete_kept.new.self c.requires.mounted
+    changes_in_slots _ _ _ g.met.D.Drive.counted g.met.D.Drive.sized _ _ (λ slots. no_deletion (find_file slots c.args.title.now)) _ _ _ _ c.requires.mounted
     (λ blocks sized many kept. deletion_told blocks _ (files_of c.args.self.now) sized many c.requires.mounted.stored kept c.args.title.now)
     c.delete_kept.ensures.changes

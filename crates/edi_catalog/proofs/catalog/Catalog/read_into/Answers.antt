@@ -4,7 +4,7 @@ use Rattle.edi_catalog.specs.Mounted.{disk_of, files_of}
 use Rattle.edi_catalog.specs.Reads.{GivesBlocks}
 use Rattle.edi_disk.specs.Shown.{drive_of}
 use Rattle.edi_catalog.proofs.Apart.{pages_apart}
-use Rattle.edi_catalog.proofs.Mounts.{found_of, same_blocks, still_mounted, told_same_blocks}
+use Rattle.edi_catalog.proofs.Mounts.{same_blocks, still_mounted, told_found, told_same_blocks}
 use Rattle.edi_catalog.proofs.ReadBlocks.{entries_given}
 use Rattle.edi_catalog.proofs.Sizes.{titled_stored}
 use Rattle.edi_catalog.proofs.WholeFiles.{found_kept, titled_at}
@@ -36,16 +36,12 @@ returns-in-Ok-clause-mounted g c =
 
 pub returns-in-Ok-clause-reads : goal.returns-in-Ok-clause-reads
 returns-in-Ok-clause-reads g c =
-    told_same_blocks _ _ _
-    (λ blocks told.
-    (let found = found_of _ _ _ _ _ _ c.requires.mounted.settled c.in-Ok.ensures.checks blocks told in (
-      found.0,
-      found_kept blocks c.args.title.now (files_of c.args.self.now) c.in-Some-index.file c.in-Ok.count c.read_stored.new.into
-          (c.requires.mounted.image blocks found.0)
-          (titled_at c.args.title.now (files_of c.args.self.now) c.in-Some.index c.index.result.now c.in-Some-index.file (sym c.in-Some.ensures.exact)
-          c.in-Some.ensures.within c.index.ensures c.in-Some-index.is)
-          found.1,
-    )))
+    told_found _ _ _ _ _ _ _ c.requires.mounted.settled c.in-Ok.ensures.checks
+    (λ blocks told found. found_kept blocks c.args.title.now (files_of c.args.self.now) c.in-Some-index.file c.in-Ok.count c.read_stored.new.into
+    (c.requires.mounted.image blocks told)
+    (titled_at c.args.title.now (files_of c.args.self.now) c.in-Some.index c.index.result.now c.in-Some-index.file (sym c.in-Some.ensures.exact)
+    c.in-Some.ensures.within c.index.ensures c.in-Some-index.is)
+    found)
 
 pub returns-in-Ok-clause-gives : goal.returns-in-Ok-clause-gives
 returns-in-Ok-clause-gives g c =

@@ -6,7 +6,7 @@ use Rattle.edi_catalog.specs.Mounted.{disk_of, files_of}
 use Rattle.edi_image.proofs.Told.{told_map}
 use Rattle.edi_catalog.proofs.FileIndices.{page_is, page_kept, page_stands}
 use Rattle.edi_catalog.proofs.InSlots.{page_in_slots}
-use Rattle.edi_catalog.proofs.Mounts.{found_of, same_blocks, still_mounted, told_same_blocks}
+use Rattle.edi_catalog.proofs.Mounts.{same_blocks, still_mounted, told_found, told_same_blocks}
 use Rattle.edi_catalog.proofs.ReadBlocks.{page_given}
 use Rattle.edi_catalog.proofs.StillCached.{entries_stay}
 use Rattle.edi_catalog.proofs.catalog.Catalog.read_page.Goals as goal
@@ -26,14 +26,10 @@ returns-in-Ok-clause-mounted g c =
 
 pub returns-in-Ok-clause-reads : goal.returns-in-Ok-clause-reads
 returns-in-Ok-clause-reads g c =
-    told_same_blocks _ _ _
-    (λ blocks told.
-    (let found = found_of _ _ _ _ _ _ c.requires.mounted.settled c.in-Ok.ensures.checks blocks told in (
-      found.0,
-      page_is {X = Unit {0}} CatEnd tt (file_titled c.args.title.now (files_of c.args.self.now)) c.args.i c.in-Some.page c.in-Ok.bytes blocks
-          (page_kept c.args.title.now c.args.i c.in-Some.page _ _ c.deref.ensures.value c.in-Some.ensures)
-          (subst (λ n. block_at blocks n ≡ c.in-Ok.bytes) c.from.ensures found.1),
-    )))
+    told_found _ _ _ _ _ _ _ c.requires.mounted.settled c.in-Ok.ensures.checks
+    (λ blocks told found. page_is {X = Unit {0}} CatEnd tt (file_titled c.args.title.now (files_of c.args.self.now)) c.args.i c.in-Some.page c.in-Ok.bytes blocks
+    (page_kept c.args.title.now c.args.i c.in-Some.page _ _ c.deref.ensures.value c.in-Some.ensures)
+    (subst (λ n. block_at blocks n ≡ c.in-Ok.bytes) c.from.ensures found))
 
 pub returns-in-Ok-clause-gives : goal.returns-in-Ok-clause-gives
 returns-in-Ok-clause-gives g c =

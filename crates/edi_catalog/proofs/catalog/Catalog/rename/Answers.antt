@@ -6,7 +6,7 @@ use Rattle.edi_catalog.proofs.catalog.Catalog.rename.Goals as goal
 
 pub returns-clause-exact : goal.returns-clause-exact
 returns-clause-exact g c =
-    changes_in_slots _ _ _ g.met.D.Drive.counted g.met.D.Drive.sized c.rename_kept.result _
-    (λ slots. no_renaming (find_file slots c.args.from.now) (find_file slots c.args.to.now)) _ _ c.args.self.now c.rename_kept.new.self c.requires.mounted
+    changes_in_slots _ _ _ g.met.D.Drive.counted g.met.D.Drive.sized _ _
+    (λ slots. no_renaming (find_file slots c.args.from.now) (find_file slots c.args.to.now)) _ _ _ _ c.requires.mounted
     (λ blocks sized many kept. renaming_told blocks _ (files_of c.args.self.now) sized many c.requires.mounted.stored kept c.args.from.now c.args.to.now)
     c.rename_kept.ensures.changes

@@ -6,7 +6,6 @@ use Rattle.edi_catalog.proofs.catalog.Catalog.set_protected.Goals as goal
 
 pub returns-clause-exact : goal.returns-clause-exact
 returns-clause-exact g c =
-    changes_in_slots _ _ _ g.met.D.Drive.counted g.met.D.Drive.sized c.protect_kept.result _ (λ slots. no_such (find_file slots c.args.title.now)) _ _
-    c.args.self.now c.protect_kept.new.self c.requires.mounted
+    changes_in_slots _ _ _ g.met.D.Drive.counted g.met.D.Drive.sized _ _ (λ slots. no_such (find_file slots c.args.title.now)) _ _ _ _ c.requires.mounted
     (λ blocks sized many kept. such_told blocks _ (files_of c.args.self.now) sized many c.requires.mounted.stored kept c.args.title.now)
     c.protect_kept.ensures.changes
