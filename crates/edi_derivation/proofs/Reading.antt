@@ -1,6 +1,9 @@
 -- Steps of a reading, from its end.
-use Rattle.std.proofs.Common.{◌≡◌, ℕ, suc, List, [], ◌∷◌, ◌++◌, Option, Some}
+use Rattle.std.proofs.Common.{◌≡◌, ℕ, suc, List, [], ◌∷◌, ◌++◌, Option, Some, ap, subst}
+use Rattle.edi_lex.specs.declared.symbol.Symbol.{Symbol}
 use Rattle.edi_lex.specs.declared.symbol.Mark.{Mark}
+use Rattle.edi_tree.specs.Spelled.{on}
+use Rattle.edi_tree.specs.Spells.{StandsAsMark}
 use Rattle.edi_tree.specs.Levels.{Element}
 use Rattle.edi_grammar.specs.Grammar as item
 use Rattle.edi_grammar.specs.Grammar.{Part, token, part, closing}
@@ -68,3 +71,32 @@ past_part p r = record { rest = r.rest; fits = r.fits; go = λ later. p.go (r.go
 pub takes : (k : Sort) (i : ℕ) {rule : List (Part Sort)} {us : Ts rule} {es : List Element} {items : Items} {t : Tree k} → Along rule us es items
     → ((P : (x : List (Part Sort)) → Ts x → Type 0) → P rule us → Built (Option Mark) Tree k (rules k) (build k) i t P) → Takes k t es items
 takes k i {rule = rule} {us = us} r built = record { rest = r.rest; fits = r.fits; go = λ later. by_rule k i rule us built (r.go later) }
+
+-- by a rule that is one part
+pub takes_part : (k : Sort) (i : ℕ) {j : Sort} {u : Tree j} {es : List Element} {items : Items} {t : Tree k} → Takes j u es items
+    → ((P : (x : List (Part Sort)) → Ts x → Type 0) → P (part j ∷ []) (u, tt) → Built (Option Mark) Tree k (rules k) (build k) i t P) → Takes k t es items
+takes_part k i p built = takes k i (past_part p (done p.fits)) built
+
+-- by a rule that is two parts
+pub takes_parts : (k : Sort) (i : ℕ) {j l : Sort} {u : Tree j} {v : Tree l} {before es : List Element} {items : Items} {t : Tree k}
+    → Takes j u before items → ((rest : Items) → Fit before rest → Takes l v es rest)
+    → ((P : (x : List (Part Sort)) → Ts x → Type 0) → P (part j ∷ part l ∷ []) (u, (v, tt)) → Built (Option Mark) Tree k (rules k) (build k) i t P)
+    → Takes k t es items
+takes_parts k i p then built = let q = then p.rest p.fits in takes k i (past_part p (past_part q (done q.fits))) built
+
+-- by a rule that is a symbol and two parts
+pub takes_behind : (k : Sort) (i : ℕ) {a : ℕ} {j l : Sort} {u : Tree j} {v : Tree l} {before es : List Element} {items mid : Items} {m : Mark}
+    {t : Tree k} → items ≡ item.mark (Some m) ∷ mid → kind_of m.symbol ≡ a → Takes j u before mid → ((rest : Items) → Fit before rest → Takes l v es rest)
+    → ((P : (x : List (Part Sort)) → Ts x → Type 0) → P (token a ∷ part j ∷ part l ∷ []) (Some m, (u, (v, tt)))
+    → Built (Option Mark) Tree k (rules k) (build k) i t P)
+    → Takes k t es items
+takes_behind k i e is p then built = let q = then p.rest p.fits in takes k i (past e is (past_part p (past_part q (done q.fits)))) built
+
+-- by a rule that is one symbol, of which the line is kept
+pub takes_kept : (k : Sort) (i : ℕ) {s : Symbol} {line : ℕ} {es : List Element} {items mid : Items} {m : Mark} → items ≡ item.mark (Some m) ∷ mid
+    → StandsAsMark (on s line) m → Fit es mid → (tree : ℕ → Tree k)
+    → ((P : (x : List (Part Sort)) → Ts x → Type 0) → P (token (kind_of s) ∷ []) (Some m, tt)
+    → Built (Option Mark) Tree k (rules k) (build k) i (tree m.line) P)
+    → Takes k (tree line) es items
+takes_kept k i {es = es} {items = items} e stands fit tree built =
+    subst (λ line. Takes k (tree line) es items) stands.1 (takes k i (past e (ap kind_of stands.0) (done fit)) built)
