@@ -1,5 +1,6 @@
 -- What holds of an environment at each place of a sound program, and what it is for constructs to fit there.
-use Rattle.std.specs.Prelude.{◌≡◌, ℕ, zero, suc, ◌<◌, ◌≤◌, Bool, IsTrue, List, [], ◌∷◌, length, take, All, Option, Some, None, slice_get, slice_index_or, ◌==◌}
+use Rattle.std.specs.Prelude.{◌≡◌, ℕ, zero, suc, ◌<◌, ◌≤◌, Bool, IsTrue, List, [], ◌∷◌, length, take, All, Option, Some, None, slice_get, slice_index_or}
+use Rattle.std.specs.Prelude.{◌==◌}
 use Rattle.std.specs.List.{list_any}
 use Rattle.edi_scope.specs.declared.entity.Entity.{Entity}
 use Rattle.edi_scope.specs.declared.entity.Entity.TheVariants as entity
@@ -95,15 +96,23 @@ pub record IsTable (types : List Shape) : Type 0 where
   pub standard : take 3 types ≡ standard_types
   pub declared : AreDeclared types
 
+-- the types, each with the names of its fields, of which there are no more than fields
+pub record TypesSit (types : List Shape) (names : List (List (List ℕ))) : Type 0 where
+  pub table : IsTable types
+  pub shapes : ShapesFit types
+  pub field_lists : length names ≡ length types
+  pub fields : (t : ℕ) → length (slice_index_or names t []) ≤ length (fields_of (shape_at types t))
+
+-- the blocks round a place, from the inside out
+pub record Nested (blocks : List Block) (around : List ℕ) : Type 0 where
+  pub chain : IsChain blocks around
+  pub near : length around ≤ greatest_levels
+
 pub record Sits (env : Environment) : Type 0 where
-  pub table : IsTable env.types
-  pub shapes : ShapesFit env.types
-  pub field_lists : length env.fields ≡ length env.types
-  pub fields : (t : ℕ) → length (slice_index_or env.fields t []) ≤ length (fields_of (shape_at env.types t))
+  pub types : TypesSit env.types env.fields
   pub as_many : length env.headings ≡ length env.blocks
   pub stand : (n : ℕ) → n < length env.blocks → BlockStands env.types env.blocks env.headings n
-  pub chain : IsChain env.blocks env.around
-  pub near : length env.around ≤ greatest_levels
+  pub nested : Nested env.blocks env.around
   pub names : ScopesFit (EntitySits env) env.scopes
 
 -- ---- what constructs give

@@ -1,5 +1,5 @@
 -- Statements and whole blocks go on to fit, with the same height and need.
-use Rattle.std.proofs.Common.{◌≡◌, ℕ, suc, ◌+◌, ◌<◌, max, get_or, length-append, List, [], ◌∷◌, ◌++◌, length, All, Some, None, refl, sym, ap, ◌∙◌, subst, arith}
+use Rattle.std.proofs.Common.{◌≡◌, ℕ, suc, ◌+◌, max, get_or, length-append, List, [], ◌∷◌, ◌++◌, length, All, Some, None, refl, sym, ◌∙◌, subst, arith}
 use Rattle.std.specs.Prelude.{sum_by}
 use Rattle.std.proofs.lemmas.List.Sums.{sum_by-cons}
 use Rattle.edi_unit.specs.declared.units.Parameter.{Parameter}
@@ -7,28 +7,18 @@ use Rattle.edi_unit.specs.declared.units.Parameter.TheVariants as slot
 use Rattle.edi_unit.specs.Types.{Shape}
 use Rattle.edi_unit.specs.Tree.{Act, skip, assign, call, halt, if_act, while_act, when_act, cobegin, Acts, no_act, act_then, Clause, clause, Clauses}
 use Rattle.edi_unit.specs.Tree.{no_clause, clause_then, Block}
-use Rattle.edi_unit.specs.Need.{block_at, slots, slot_words, callee_result, act_height, acts_height, clause_height, clauses_height, need}
+use Rattle.edi_unit.specs.Need.{slot_words, act_height, acts_height, clause_height, clauses_height}
 use Rattle.edi_unit.specs.Fits.{Heading, heading_formals, callee_heading, BranchFits, ActFits, ActsFit, ArgumentsFit, ClauseFits, ClausesFit, SlotIsKnown}
 use Rattle.edi_static.specs.Statements.{acts_append}
 use Rattle.edi_static.proofs.FitnessGrowth.{Steady, expression_same, place_same, arguments_same, callee_fits, result_same, heading_same, size_same, two}
 
 module _ (types more : List Shape) (blocks later : List Block) (headings next : ℕ → ℕ → Heading) (b : ℕ) (g : Steady types more blocks later headings next b)
   where
-    pub record SameAct (a : Act) : Type 0 where
-      pub height : act_height (types ++ more) later b a ≡ act_height types blocks b a
-      pub fits : ActFits (types ++ more) later next b a
-
-    pub record SameActs (s : Acts) : Type 0 where
-      pub height : acts_height (types ++ more) later b s ≡ acts_height types blocks b s
-      pub fits : ActsFit (types ++ more) later next b s
-
-    pub record SameClause (c : Clause) : Type 0 where
-      pub height : clause_height (types ++ more) later b c ≡ clause_height types blocks b c
-      pub fits : ClauseFits (types ++ more) later next b c
-
-    pub record SameClauses (cs : Clauses) : Type 0 where
-      pub height : clauses_height (types ++ more) later b cs ≡ clauses_height types blocks b cs
-      pub fits : ClausesFit (types ++ more) later next b cs
+    -- a construct of this kind has the height that it had, and fits
+    pub record Same {A : Type 0} (height_of : List Shape → List Block → ℕ → A → ℕ)
+        (Fits : List Shape → List Block → (ℕ → ℕ → Heading) → ℕ → A → Type 0) (x : A) : Type 0 where
+      pub height : height_of (types ++ more) later b x ≡ height_of types blocks b x
+      pub fits : Fits (types ++ more) later next b x
 
     branch_same : (n : ℕ) → BranchFits types blocks headings b n → BranchFits (types ++ more) later next b n
     branch_same n h =
@@ -37,7 +27,7 @@ module _ (types more : List Shape) (blocks later : List Block) (headings next : 
         (omega (arith, h.0, longer), grows.kind ∙ h.1, grows.up ∙ h.2)
 
     mutual
-      act_same : (a : Act) → ActFits types blocks headings b a → SameAct a
+      act_same : (a : Act) → ActFits types blocks headings b a → Same act_height ActFits a
       act_same skip h = record { height = refl; fits = tt }
       act_same (assign p e) h =
           let q = place_same types more blocks later headings next b g p h.1 in
@@ -60,25 +50,21 @@ module _ (types more : List Shape) (blocks later : List Block) (headings next : 
       act_same (when_act cs line) h = let s = clauses_same cs h in record { height = s.height; fits = s.fits }
       act_same (cobegin bs line) h = record { height = refl; fits = (h.0, h.1, λ k d i. branch_same _ (h.2 k d i)) }
 
-      pub acts_same : (s : Acts) → ActsFit types blocks headings b s → SameActs s
+      pub acts_same : (s : Acts) → ActsFit types blocks headings b s → Same acts_height ActsFit s
       acts_same no_act h = record { height = refl; fits = tt }
       acts_same (act_then a s) h =
-          let one = act_same a h.0 in
-          let others = acts_same s h.1 in
-          record { height = two max one.height others.height; fits = (one.fits, others.fits) }
+          record { height = two max (act_same a h.0).height (acts_same s h.1).height; fits = ((act_same a h.0).fits, (acts_same s h.1).fits) }
 
-      clause_same : (c : Clause) → ClauseFits types blocks headings b c → SameClause c
+      clause_same : (c : Clause) → ClauseFits types blocks headings b c → Same clause_height ClauseFits c
       clause_same (clause e s) h =
           let x = expression_same types more blocks later headings next b g e h.1 in
           let ss = acts_same s h.2 in
           record { height = two max x.height ss.height; fits = (x.of ∙ h.0, x.fits, ss.fits) }
 
-      pub clauses_same : (cs : Clauses) → ClausesFit types blocks headings b cs → SameClauses cs
+      pub clauses_same : (cs : Clauses) → ClausesFit types blocks headings b cs → Same clauses_height ClausesFit cs
       clauses_same no_clause h = record { height = refl; fits = tt }
       clauses_same (clause_then c cs) h =
-          let one = clause_same c h.0 in
-          let others = clauses_same cs h.1 in
-          record { height = two max one.height others.height; fits = (one.fits, others.fits) }
+          record { height = two max (clause_same c h.0).height (clauses_same cs h.1).height; fits = ((clause_same c h.0).fits, (clauses_same cs h.1).fits) }
 
     slot_same : (p : Parameter) → SlotIsKnown types p → slot_words (types ++ more) p ≡ slot_words types p
     slot_same (slot.Value t) h = size_same types more blocks later headings next b g t t refl h

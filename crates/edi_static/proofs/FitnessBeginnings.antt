@@ -1,7 +1,6 @@
 -- Procedures that begin: their parameters are names in their own scope, and the block is open.
-use Rattle.std.proofs.Common.{◌≡◌, ◌≢◌, ℕ, zero, suc, ◌+◌, ◌<◌, ◌≤◌, Bool, true, false, ◌||◌, ◌&&◌, ◌==◌, if◌then◌else◌, nat_lt, List, [], ◌∷◌, ◌++◌, length}
-use Rattle.std.proofs.Common.{get_or, map, All, Option, Some, None, IsTrue, IsSome, IfSome, is_some, refl, sym, ap, ◌∙◌, subst, arith, inl, inr}
-use Rattle.std.proofs.Common.{length-append}
+use Rattle.std.proofs.Common.{◌≡◌, ◌≢◌, ℕ, suc, ◌+◌, ◌<◌, Bool, true, false, ◌||◌, if◌then◌else◌, List, [], ◌∷◌, ◌++◌, length, get_or, map, All, Option, Some}
+use Rattle.std.proofs.Common.{None, IsTrue, IsSome, IfSome, is_some, refl, sym, ap, ◌∙◌, subst, arith, inl, inr, length-append}
 use Rattle.std.specs.Prelude.{slice_get, option_to_list}
 use Rattle.std.specs.Str.{bytes_eq}
 use Rattle.std.proofs.lemmas.Bool.{false≢true, cases_eq}
@@ -15,26 +14,25 @@ use Rattle.edi_tree.specs.declared.names.Name.{Name}
 use Rattle.edi_tree.specs.Tree as text
 use Rattle.edi_unit.specs.declared.units.Parameter.{Parameter}
 use Rattle.edi_unit.specs.declared.units.Parameter.TheVariants as slot
-use Rattle.edi_unit.specs.declared.units.BlockKind.{BlockKind}
-use Rattle.edi_unit.specs.declared.units.BlockKind.TheVariants as block_kind
 use Rattle.edi_unit.specs.Types.{Shape}
 use Rattle.edi_unit.specs.Tree.{Block}
-use Rattle.edi_unit.specs.Need.{no_block, block_at, slots, slot_type, slot_result}
-use Rattle.edi_unit.specs.Fits.{Heading, heading, heading_result, heading_formals, first_parameter, is_variable, is_procedure, is_called, KindFits, SlotIsKnown}
+use Rattle.edi_unit.specs.Need.{no_block, block_at, slot_type, slot_result}
+use Rattle.edi_unit.specs.Fits.{Heading, heading, heading_result, heading_formals, first_parameter, is_variable, is_procedure, is_called, KindFits}
+use Rattle.edi_unit.specs.Fits.{SlotIsKnown}
 use Rattle.edi_static.specs.declared.faults.StaticKind.TheVariants as kind
 use Rattle.edi_static.specs.Judged.{Judged, gives, faults, ◌>>=◌}
 use Rattle.edi_static.specs.Environment.{Begun, Environment, here, declare, give_outside, begun_block, with_block, heading_at, same_heading, parameters_of}
-use Rattle.edi_static.specs.Headings.{Headed, leave, round, own_name, heading_parts}
+use Rattle.edi_static.specs.Headings.{Headed, round, own_name, heading_parts}
 use Rattle.edi_static.specs.Declarations.{kind_of, with_heading, begun_named, completes, post_export, block_of, begin_procedure, begin_post}
-use Rattle.edi_static.specs.Proper.{NamesFit, ScopesFit}
-use Rattle.edi_static.proofs.Judging.{Gives, bind, behind, ruled, weaker, also}
+use Rattle.edi_static.specs.Proper.{NamesFit}
+use Rattle.edi_static.proofs.Judging.{Gives, bind, behind, ruled, also}
 use Rattle.edi_static.proofs.Proper.{names_fit, scopes_fit}
 use Rattle.edi_static.proofs.Fitness.{asked_at, variable_heading, is_round, slot_of, Names, EntitySits, IsChain, Sits}
 use Rattle.edi_static.proofs.FitnessCalls.{same_heading_is}
 use Rattle.edi_static.proofs.FitnessGrowth.{get_more, some_variable, some_procedure}
-use Rattle.edi_static.proofs.FitnessLater.{Later, later_then, names_later, chain_later}
+use Rattle.edi_static.proofs.FitnessLater.{Later, later_then, names_later}
 use Rattle.edi_static.proofs.FitnessOnward.{BegunFits, AllBegun, begun_later, Tidy, is_open, is_begun, closed_later, Onward, declare_onward, declare_means}
-use Rattle.edi_static.proofs.FitnessOnward.{exported_fits, with_name_keeps, exported_length, new_gives}
+use Rattle.edi_static.proofs.FitnessOnward.{exported_fits, with_name_keeps, exported_length}
 use Rattle.edi_static.proofs.FitnessChanges.{scopes_sit}
 use Rattle.edi_static.proofs.FitnessVariables.{Ready, here_inside, here_round}
 use Rattle.edi_static.proofs.FitnessHeadings.{Given, TypeKnown, TypesKnown, headed_env, Heads, heading_heads}
@@ -115,11 +113,7 @@ pub record Entered (n : ℕ) (export : Bool) (name : Name) (env next : Environme
 
 entity_type : (env : Environment) (e : Entity) → EntitySits env e → TypeKnown env.types e
 entity_type env (entity.Types t) h = h
-entity_type env (entity.Constant of n) h = tt
-entity_type env (entity.Variable b v of) h = tt
-entity_type env (entity.Procedure b) h = tt
-entity_type env (entity.Formal b v shape) h = tt
-entity_type env entity.Halt h = tt
+entity_type env e h = tt
 
 pub types_known : (env : Environment) → Sits env → TypesKnown env
 types_known env s = scopes_fit (EntitySits env) (TypeKnown env.types) (entity_type env) env.scopes s.names
@@ -202,7 +196,7 @@ entered_at export name env scope more asks s r names known =
     let m = o.later in
     let longer = m.longer in
     let g = m.each n there in
-    let chain : IsChain next.blocks (n ∷ env.around) = stands_here next.blocks n env.around r.inside up there u.chain in
+    let chain : IsChain next.blocks (n ∷ env.around) = stands_here next.blocks n env.around r.inside up there u.nested.chain in
     let inner : NamesFit (Names next.types next.blocks next.headings next.shapes (n ∷ env.around)) scope.names =
     scope_given next.types next.blocks next.headings next.shapes n asks (n ∷ env.around) (here_round (n ∷ env.around) (omega arith))
     (new_heading block asks shaped t) (ap (λ b. b.parameters) new) (ap (λ b. b.result) new) scope.names names in

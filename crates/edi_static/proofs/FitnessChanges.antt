@@ -10,33 +10,28 @@ use Rattle.edi_unit.specs.Types.{Shape, int, char, bool, enumeration, record_of,
 use Rattle.edi_unit.specs.Types.{IsDeclarable}
 use Rattle.edi_unit.specs.Tree.{Block}
 use Rattle.edi_unit.specs.Need.{no_block, block_at, slots}
-use Rattle.edi_unit.specs.Fits.{ShapeFits, ShapesFit, KindFits, ActsFit, SlotIsKnown, Heading, greatest_levels}
+use Rattle.edi_unit.specs.Fits.{ShapeFits, ShapesFit, KindFits, ActsFit, SlotIsKnown, Heading}
 use Rattle.edi_unit.proofs.Tables.{declared-push, length-before}
 use Rattle.edi_static.specs.Environment.{Begun, Environment, with_type, set_block}
 use Rattle.edi_static.specs.Proper.{ScopesFit}
-use Rattle.edi_static.proofs.Fitness.{headings_of, Names, EntitySits, IsChain, BlockStands, IsTable, Sits}
+use Rattle.edi_static.proofs.Fitness.{headings_of, Names, EntitySits, BlockStands, IsTable, TypesSit, Nested, Sits}
 use Rattle.edi_static.proofs.FitnessGrowth.{BlockGrows}
-use Rattle.edi_static.proofs.FitnessLater.{Later, types_stay, same_block, stand_grown, stand_later, acts_later, scopes_later, chain_later}
+use Rattle.edi_static.proofs.FitnessLater.{Later, types_stay, same_block, stand_grown, stand_later, acts_later, scopes_later, nested_later}
 
 -- ---- another place
 
-pub placed_sits : (scopes : List Scope) (around : List ℕ) (begun : List Begun) (env : Environment) → Sits env → IsChain env.blocks around
-    → length around ≤ greatest_levels →
+pub placed_sits : (scopes : List Scope) (around : List ℕ) (begun : List Begun) (env : Environment) → Sits env → Nested env.blocks around →
     ScopesFit (Names env.types env.blocks env.headings env.shapes around) scopes → Sits (record env { scopes = scopes; around = around; begun = begun })
-placed_sits scopes around begun env s chain near names = record {
-  table = s.table;
-  shapes = s.shapes;
-  field_lists = s.field_lists;
-  fields = s.fields;
+placed_sits scopes around begun env s nested names = record {
+  types = s.types;
   as_many = s.as_many;
   stand = s.stand;
-  chain = chain;
-  near = near;
+  nested = nested;
   names = names;
 }
 
 pub scopes_sit : (scopes : List Scope) (env : Environment) → Sits env → ScopesFit (EntitySits env) scopes → Sits (record env { scopes = scopes })
-scopes_sit scopes env s h = placed_sits scopes env.around env.begun env s s.chain s.near h
+scopes_sit scopes env s h = placed_sits scopes env.around env.begun env s s.nested h
 
 -- ---- blocks and headings are changed
 
@@ -46,15 +41,11 @@ pub blocks_sit : (blocks : List Block) (headings shapes : List Heading) (env : E
 blocks_sit blocks headings shapes env s l many stand =
     let next : Environment = record env { blocks = blocks; headings = headings; shapes = shapes } in
     record {
-      table = s.table;
-      shapes = s.shapes;
-      field_lists = s.field_lists;
-      fields = s.fields;
+      types = s.types;
       as_many = many;
       stand = stand;
-      chain = chain_later env next s l env.around s.chain;
-      near = s.near;
-      names = scopes_later env next s l env.around s.chain env.scopes s.names;
+      nested = nested_later env next s l;
+      names = scopes_later env next s l env.around s.nested.chain env.scopes s.names;
     }
 
 -- ---- a block is changed
@@ -166,23 +157,29 @@ fields_longer fields types names s same all new t =
         (sym (get_or_past (fields ++ names ∷ []) t [] (omega (arith, past, same, length-append fields (names ∷ [])))))
         (omega arith)
 
+types_sit : (shape : Shape) (names : List (List ℕ)) (types : List Shape) (fields : List (List (List ℕ))) → TypesSit types fields
+    → IsDeclarable types shape → ShapeFits types shape →
+    length names ≤ length (fields_of shape) → TypesSit (types ++ shape ∷ []) (fields ++ names ∷ [])
+types_sit shape names types fields s new fits few = record {
+  table = record {
+    three = let three = s.table.three in omega (arith, three, length-append types (shape ∷ []));
+    standard = take-append-le 3 types (shape ∷ []) s.table.three ∙ s.table.standard;
+    declared = declared-push types shape s.table.declared new;
+  };
+  shapes = shapes_longer types shape s.table s.shapes new fits;
+  field_lists = length-append fields (names ∷ []) ∙ ap (λ n. n + 1) s.field_lists ∙ sym (length-append types (shape ∷ []));
+  fields = fields_longer fields types names shape s.field_lists s.fields few;
+}
+
 pub type_sits : (shape : Shape) (names : List (List ℕ)) (env : Environment) → Sits env → IsDeclarable env.types shape → ShapeFits env.types shape →
     length names ≤ length (fields_of shape) → Sits (with_type shape names env)
 type_sits shape names env s new fits fields =
     let next : Environment = with_type shape names env in
     let l : Later env next = type_later shape names env in
     record {
-      table = record {
-        three = let three = s.table.three in omega (arith, three, length-append env.types (shape ∷ []));
-        standard = take-append-le 3 env.types (shape ∷ []) s.table.three ∙ s.table.standard;
-        declared = declared-push env.types shape s.table.declared new;
-      };
-      shapes = shapes_longer env.types shape s.table s.shapes new fits;
-      field_lists = length-append env.fields (names ∷ []) ∙ ap (λ n. n + 1) s.field_lists ∙ sym (length-append env.types (shape ∷ []));
-      fields = fields_longer env.fields env.types names shape s.field_lists s.fields fields;
+      types = types_sit shape names env.types env.fields s.types new fits fields;
       as_many = s.as_many;
       stand = λ n h. stand_later env (with_type shape names env) s (type_later shape names env) n h refl;
-      chain = s.chain;
-      near = s.near;
-      names = scopes_later env (with_type shape names env) s (type_later shape names env) env.around s.chain env.scopes s.names;
+      nested = s.nested;
+      names = scopes_later env (with_type shape names env) s (type_later shape names env) env.around s.nested.chain env.scopes s.names;
     }

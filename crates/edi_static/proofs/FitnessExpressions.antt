@@ -18,7 +18,7 @@ use Rattle.edi_static.specs.Expressions.{selector, all_arguments}
 use Rattle.edi_static.proofs.Judging.{Gives, bind, ruled}
 use Rattle.edi_static.proofs.Fitness.{EntitySits, Sits, TypedFits, LocatedFits, UseFits}
 use Rattle.edi_static.proofs.FitnessNames.{look_up_sits}
-use Rattle.edi_static.proofs.FitnessOperators.{LinkedFits, ChainedFits, signed_fits, operated_fits, links_then, link_alone, with_links_fits}
+use Rattle.edi_static.proofs.FitnessOperators.{LinkedFits, ChainedFits, signed_fits, operated_fits, chain_fits, link_alone, with_links_fits}
 use Rattle.edi_static.proofs.FitnessMade.{TypedsFit, numeral_fits, single_fits, both_fit, element_fits, constructed_fits}
 use Rattle.edi_static.proofs.FitnessPlaces.{RootedFits, PartedFits, ReachedFits, rooted_fits, field_fits, element_of_fits, parts_then, located_fits}
 use Rattle.edi_static.proofs.FitnessPlaces.{loaded_fits}
@@ -48,9 +48,7 @@ mutual
   addends_fit : (env : Environment) → Sits env → (left : ℕ) (more : text.Addends) → AddendsInRange more → Gives (ChainedFits env left) (addends env left more)
   addends_fit env s left text.no_addend h = record { has_type = refl; fits = tt }
   addends_fit env s left (text.next_addend a more) h =
-      bind (LinkedFits env left) (ChainedFits env left) (addend env left a) _ (addend_fits env s left a h.0) (λ l k.
-      bind (ChainedFits env l.of) (ChainedFits env left) (addends env l.of more) _ (addends_fit env s l.of more h.1) (λ ls j.
-      links_then env left l ls k j))
+      chain_fits env left (addend env left a) (λ of. addends env of more) (addend_fits env s left a h.0) (λ of. addends_fit env s of more h.1)
 
   addend_fits : (env : Environment) → Sits env → (left : ℕ) (a : text.Addend) → AddendInRange a → Gives (LinkedFits env left) (addend env left a)
   addend_fits env s left (text.addend o line t) h =
@@ -66,9 +64,8 @@ mutual
       (multipliers env left more)
   multipliers_fit env s left text.no_multiplier h = record { has_type = refl; fits = tt }
   multipliers_fit env s left (text.next_multiplier m more) h =
-      bind (LinkedFits env left) (ChainedFits env left) (multiplier env left m) _ (multiplier_fits env s left m h.0) (λ l k.
-      bind (ChainedFits env l.of) (ChainedFits env left) (multipliers env l.of more) _ (multipliers_fit env s l.of more h.1) (λ ls j.
-      links_then env left l ls k j))
+      chain_fits env left (multiplier env left m) (λ of. multipliers env of more) (multiplier_fits env s left m h.0)
+      (λ of. multipliers_fit env s of more h.1)
 
   multiplier_fits : (env : Environment) → Sits env → (left : ℕ) (m : text.Multiplier) → MultiplierInRange m
       → Gives (LinkedFits env left) (multiplier env left m)
@@ -76,8 +73,8 @@ mutual
       bind (TypedFits env) (LinkedFits env left) (factor env f) _ (factor_fits env s f h) (λ v k. operated_fits env (multiplication_operator o) line left v k)
 
   factor_fits : (env : Environment) → Sits env → (f : text.Factor) → FactorInRange f → Gives (TypedFits env) (factor env f)
-  factor_fits env s (text.numeral n) h = numeral_fits env s.table n h
-  factor_fits env s (text.string x) h = single_fits env s.table x.line x.text h
+  factor_fits env s (text.numeral n) h = numeral_fits env s.types.table n h
+  factor_fits env s (text.string x) h = single_fits env s.types.table x.line x.text h
   factor_fits env s (text.not_factor line f) h =
       bind (TypedFits env) (TypedFits env) (factor env f) _ (factor_fits env s f h) (λ v k.
       ruled (TypedFits env) (v.of == bool_type) kind.Types line _ (λ e. record { has_type = refl; fits = (k.has_type ∙ eqb-true v.of bool_type e, k.fits) }))
@@ -91,7 +88,7 @@ mutual
       → Gives (TypedFits env) (applied env line u xs)
   applied_fits env s line (constructs of) (text.args e es) u h =
       bind (TypedsFit env) (TypedFits env) (element env (takes_strings (shape_at env.types of)) e (expression env e)) _
-      (element_fits env s.table (takes_strings (shape_at env.types of)) e (expression env e) h.0 (expression_fits env s e h.0)) (λ vs k.
+      (element_fits env s.types.table (takes_strings (shape_at env.types of)) e (expression env e) h.0 (expression_fits env s e h.0)) (λ vs k.
       bind (TypedsFit env) (TypedFits env) (more_elements env (takes_strings (shape_at env.types of)) es) _
       (elements_fit env s (takes_strings (shape_at env.types of)) es h.1) (λ ws j.
       constructed_fits env line of (vs ++ ws) u (both_fit env vs ws k j)))
@@ -111,7 +108,7 @@ mutual
   elements_fit env s strings text.no_expr h = tt
   elements_fit env s strings (text.next_expr e es) h =
       bind (TypedsFit env) (TypedsFit env) (element env strings e (expression env e)) _
-      (element_fits env s.table strings e (expression env e) h.0 (expression_fits env s e h.0)) (λ vs k.
+      (element_fits env s.types.table strings e (expression env e) h.0 (expression_fits env s e h.0)) (λ vs k.
       bind (TypedsFit env) (TypedsFit env) (more_elements env strings es) _ (elements_fit env s strings es h.1) (λ ws j. both_fit env vs ws k j))
 
   more_arguments_fit : (env : Environment) → Sits env → (line : ℕ) (es : text.Exprs) (fs : Formals) → ExprsInRange es → formals_count fs ≡ exprs_count es

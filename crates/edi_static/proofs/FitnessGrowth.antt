@@ -172,20 +172,9 @@ module _ (types more : List Shape) (blocks later : List Block) (headings next : 
     operator_same op.Or s t i j h = h
 
     left_same : (o : Operator) (t : ℕ) → t < length types → left_words (types ++ more) o t ≡ left_words types o t
-    left_same op.Equal t h = size_same t t refl h
-    left_same op.NotEqual t h = size_same t t refl h
-    left_same op.Less t h = size_same t t refl h
-    left_same op.LessOrEqual t h = size_same t t refl h
-    left_same op.Greater t h = size_same t t refl h
-    left_same op.GreaterOrEqual t h = size_same t t refl h
-    left_same op.In t h = size_same t t refl h
-    left_same op.Plus t h = size_same t t refl h
-    left_same op.Minus t h = size_same t t refl h
-    left_same op.Times t h = size_same t t refl h
-    left_same op.Div t h = size_same t t refl h
-    left_same op.Mod t h = size_same t t refl h
     left_same op.And t h = refl
     left_same op.Or t h = refl
+    left_same o t h = size_same t t refl h
 
     -- ---- expressions
 

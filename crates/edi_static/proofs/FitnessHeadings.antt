@@ -1,5 +1,5 @@
 -- A heading opens one scope, in which its parameters are; nothing else changes but the headings of procedure parameters.
-use Rattle.std.proofs.Common.{◌≡◌, ℕ, zero, suc, ◌+◌, ◌<◌, ◌≤◌, Bool, true, false, List, [], ◌∷◌, ◌++◌, length, get_or, map, All, Option, Some, None, IsTrue}
+use Rattle.std.proofs.Common.{◌≡◌, ℕ, zero, suc, ◌+◌, ◌<◌, Bool, true, false, List, [], ◌∷◌, ◌++◌, length, get_or, map, All, Option, Some, None, IsTrue}
 use Rattle.std.proofs.Common.{IsSome, IfSome, is_some, refl, sym, ap, ◌∙◌, subst, arith, append_assoc, length-append}
 use Rattle.std.specs.Prelude.{slice_get, option_to_list}
 use Rattle.std.proofs.lemmas.Bool.{false≢true}
@@ -12,19 +12,18 @@ use Rattle.edi_scope.specs.declared.entity.Entity.TheVariants as entity
 use Rattle.edi_scope.specs.Scope.{Scope, declared, outside, visible, with_one, with_name}
 use Rattle.edi_tree.specs.declared.names.Name.{Name}
 use Rattle.edi_tree.specs.Tree as text
-use Rattle.edi_unit.specs.declared.units.Parameter.{Parameter}
 use Rattle.edi_unit.specs.declared.units.Parameter.TheVariants as slot
 use Rattle.edi_unit.specs.Types.{Shape}
 use Rattle.edi_unit.specs.Need.{slot_type, slot_result}
 use Rattle.edi_unit.specs.Fits.{Heading, heading, heading_result, heading_formals, Formals, no_formal, value_then, variable_then, procedure_then}
 use Rattle.edi_unit.specs.Fits.{first_parameter, is_variable, is_procedure, SlotIsKnown}
 use Rattle.edi_static.specs.Judged.{Judged, gives, ◌>>=◌}
-use Rattle.edi_static.specs.Environment.{Environment, found, look_up, as_type, type_named, declare, enter, no_heading, heading_at, with_shape}
-use Rattle.edi_static.specs.Environment.{formals_append, formals_count, parameters_of}
-use Rattle.edi_static.specs.Headings.{Listed, Headed, leave, before_parameters, formal_one, next_parameter, param_named, params_named, param_group}
-use Rattle.edi_static.specs.Headings.{procedure_named, result_named, with_result, own_name, heading_parts, parameters, more_parameters, parameter}
+use Rattle.edi_static.specs.Environment.{Environment, found, look_up, as_type, type_named, declare, no_heading, heading_at, with_shape, formals_append}
+use Rattle.edi_static.specs.Environment.{formals_count, parameters_of}
+use Rattle.edi_static.specs.Headings.{Listed, Headed, before_parameters, formal_one, param_named, params_named, param_group, procedure_named, result_named}
+use Rattle.edi_static.specs.Headings.{with_result, own_name, heading_parts, parameters, more_parameters, parameter}
 use Rattle.edi_static.specs.Proper.{NamesFit, ScopesFit}
-use Rattle.edi_static.proofs.Judging.{Gives, bind, weaker}
+use Rattle.edi_static.proofs.Judging.{Gives, bind}
 use Rattle.edi_static.proofs.Proper.{names_fit, visible_fits}
 use Rattle.edi_static.proofs.Fitness.{asked_at}
 use Rattle.edi_static.proofs.FitnessGrowth.{get_more, some_variable, some_procedure}
@@ -141,20 +140,12 @@ TypeKnown types (entity.Formal b v shape) = Unit {0}
 TypeKnown types entity.Halt = Unit {0}
 
 given_type : (types : List Shape) (block before : ℕ) (fs : Formals) (shapes : List Heading) (e : Entity) → Given block before fs shapes e → TypeKnown types e
-given_type types block before fs shapes (entity.Variable b v of) h = tt
-given_type types block before fs shapes (entity.Formal b v shape) h = tt
-given_type types block before fs shapes (entity.Constant of n) h = tt
 given_type types block before fs shapes (entity.Types t) h = absurd h
-given_type types block before fs shapes (entity.Procedure b) h = tt
-given_type types block before fs shapes entity.Halt h = tt
+given_type types block before fs shapes e h = tt
 
 as_type_known : (types : List Shape) (line : ℕ) (e : Entity) → TypeKnown types e → Gives (λ t. t < length types) (as_type line e)
 as_type_known types line (entity.Types t) h = h
-as_type_known types line (entity.Constant of n) h = tt
-as_type_known types line (entity.Variable b v of) h = tt
-as_type_known types line (entity.Procedure b) h = tt
-as_type_known types line (entity.Formal b v shape) h = tt
-as_type_known types line entity.Halt h = tt
+as_type_known types line e h = tt
 
 found_known : (P : Entity → Type 0) (o : Option Entity) (name : Name) → IfSome o P → Gives P (found o name)
 found_known P None name h = tt
@@ -388,6 +379,10 @@ result_heads env block result l types h =
       known = with_function env.types l.formals r k.0 h.known;
     })
 
+list_on : (env : Environment) (block before : ℕ) (m : Judged Listed) (f : Listed → Judged Listed) → Gives (Lists env block before) m
+    → ((l : Listed) → Lists env block before l → Gives (Lists env block before) (f l)) → Gives (Lists env block before) (m >>= f)
+list_on env block before m f h k = bind (Lists env block before) (Lists env block before) m f h k
+
 mutual
   pub heading_heads : (block : ℕ) (h : text.Heading) (env : Environment) → TypesKnown env → Gives (Heads env block) (heading_parts block h env)
   heading_heads block (text.heading name ps r) env types =
@@ -406,15 +401,13 @@ mutual
       → Gives (Lists env block before) (parameters block before ps l)
   parameters_lists env block before text.no_params l types h = h
   parameters_lists env block before (text.params p ps) l types h =
-      bind (Lists env block before) (Lists env block before) _ _ (parameter_lists env block before p l types h)
-      (λ m k. more_lists env block before ps m types k)
+      list_on env block before _ _ (parameter_lists env block before p l types h) (λ m k. more_lists env block before ps m types k)
 
   more_lists : (env : Environment) (block before : ℕ) (ps : text.MoreParams) (l : Listed) → TypesKnown env → Lists env block before l
       → Gives (Lists env block before) (more_parameters block before ps l)
   more_lists env block before text.no_param l types h = h
   more_lists env block before (text.next_param p ps) l types h =
-      bind (Lists env block before) (Lists env block before) _ _ (parameter_lists env block before p l types h)
-      (λ m k. more_lists env block before ps m types k)
+      list_on env block before _ _ (parameter_lists env block before p l types h) (λ m k. more_lists env block before ps m types k)
 
   pub parameter_lists : (env : Environment) (block before : ℕ) (p : text.Param) (l : Listed) → TypesKnown env → Lists env block before l
       → Gives (Lists env block before) (parameter block before p l)

@@ -17,7 +17,7 @@ use Rattle.edi_unit.specs.Fits.{Heading, heading_result, heading_formals, is_var
 use Rattle.edi_static.specs.Environment.{Environment, heading_at, parameters_of}
 use Rattle.edi_static.specs.Proper.{ScopesFit}
 use Rattle.edi_static.proofs.Proper.{scopes_fit}
-use Rattle.edi_static.proofs.Fitness.{variable_heading, headings_of, is_round, slot_of, Names, StandsIn, IsChain, BlockStands, Sits}
+use Rattle.edi_static.proofs.Fitness.{variable_heading, headings_of, is_round, slot_of, Names, StandsIn, IsChain, Nested, BlockStands, Sits}
 use Rattle.edi_static.proofs.FitnessGrowth.{BlockGrows, Steady, get_more, slots_grow, some_variable, some_procedure}
 use Rattle.edi_static.proofs.FitnessActs.{acts_same, words_same, slots_known}
 
@@ -114,8 +114,8 @@ module _ (env next : Environment) (s : Sits env) (l : Later env next) where
 
   pub steady : (b : ℕ) → b < length env.blocks → Steady env.types l.more env.blocks next.blocks (headings_of env.headings) (headings_of next.headings) b
   steady b h = record {
-    three = s.table.three;
-    declared = s.table.declared;
+    three = s.types.table.three;
+    declared = s.types.table.declared;
     longer = l.longer;
     each = l.each;
     ups = ups;
@@ -190,6 +190,9 @@ module _ (env next : Environment) (s : Sits env) (l : Later env next) where
           → StandsIn next.blocks b around
       in_later b [] e h = tt
       in_later b (a ∷ around) e h = e ∙ h
+
+  pub nested_later : Nested next.blocks env.around
+  nested_later = record { chain = chain_later env.around s.nested.chain; near = s.nested.near }
 
   slot_later : (b v : ℕ) → b < length env.blocks → IsSome (slot_of env.blocks b v) → slot_of next.blocks b v ≡ slot_of env.blocks b v
   slot_later b v h is =

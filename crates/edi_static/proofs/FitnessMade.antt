@@ -166,12 +166,7 @@ constructed_fits env line of vs lt h =
 none_made : (env : Environment) (shape : Shape) → is_set_shape shape ≡ true → MakesValue env.types env.blocks (headings_of env.headings) (here env) shape
     unit.no_expression
 none_made env (set_of b) e = tt
-none_made env int e = never e
-none_made env char e = never e
-none_made env bool e = never e
-none_made env (enumeration n) e = never e
-none_made env (record_of fs) e = never e
-none_made env (array_of i lo hi x) e = never e
+none_made env other e = never e
 
 pub empty_fits : (env : Environment) (line of : ℕ) → of < length env.types → Gives (TypedFits env) (empty_set env line of)
 empty_fits env line of lt =

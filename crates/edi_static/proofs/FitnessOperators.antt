@@ -5,15 +5,16 @@ use Rattle.edi_tree.specs.declared.expressions.Sign.{Sign}
 use Rattle.edi_tree.specs.declared.expressions.Sign.TheVariants as sign
 use Rattle.edi_unit.specs.declared.expressions.Operator.{Operator}
 use Rattle.edi_unit.specs.declared.expressions.Operator.TheVariants as op
-use Rattle.edi_unit.specs.Types.{Shape, int, char, bool, enumeration, record_of, array_of, set_of, int_type, bool_type, shape_at, is_elementary, is_set_shape}
+use Rattle.edi_unit.specs.Types.{Shape, set_of, int_type, bool_type, shape_at, is_elementary, is_set_shape}
 use Rattle.edi_unit.specs.Tree.{Link, link, Links, no_link, link_then}
 use Rattle.edi_unit.specs.Need.{links_type}
 use Rattle.edi_unit.specs.Fits.{OperatorFits, LinksFit}
 use Rattle.edi_static.specs.declared.faults.StaticKind.TheVariants as kind
+use Rattle.edi_static.specs.Judged.{Judged, gives, ◌>>=◌}
 use Rattle.edi_static.specs.Environment.{Environment, here}
 use Rattle.edi_static.specs.Operators.{Typed, Linked, Chained, is_set_of, are_ints_or_sets, are_both, are_ordered, takes, signed, operated, chain_of}
 use Rattle.edi_static.specs.Operators.{with_links}
-use Rattle.edi_static.proofs.Judging.{Gives, ruled}
+use Rattle.edi_static.proofs.Judging.{Gives, bind, ruled}
 use Rattle.edi_static.proofs.Fitness.{headings_of, TypedFits}
 
 pub never : {A : Type 0} → false ≡ true → A
@@ -23,12 +24,7 @@ never e = absurd (cc)
 
 set_is : (shape : Shape) (t : ℕ) → is_set_of shape t ≡ true → shape ≡ set_of t
 set_is (set_of b) t e = ap set_of (eqb-true b t e)
-set_is int t e = never e
-set_is char t e = never e
-set_is bool t e = never e
-set_is (enumeration n) t e = never e
-set_is (record_of fs) t e = never e
-set_is (array_of i lo hi x) t e = never e
+set_is other t e = never e
 
 ordered : (types : List Shape) (s t : ℕ) → are_ordered types s t ≡ true → (s ≡ t) × IsTrue (is_elementary types s)
 ordered types s t e = let h = and_parts (s == t) (is_elementary types s) e in (eqb-true s t h.0, h.1)
@@ -94,12 +90,20 @@ then_fits : (env : Environment) (left t : ℕ) (l : Link) (ls : Links) → links
 then_fits env left t (link o e line) ls h f g =
     (f.0, f.1, subst (λ s. LinksFit env.types env.blocks (headings_of env.headings) (here env) s ls) (sym h) g)
 
-pub links_then : (env : Environment) (left : ℕ) (l : Linked) (ls : Chained) → LinkedFits env left l → ChainedFits env l.of ls
+links_then : (env : Environment) (left : ℕ) (l : Linked) (ls : Chained) → LinkedFits env left l → ChainedFits env l.of ls
     → ChainedFits env left (record { links = link_then l.what ls.links; of = ls.of })
 links_then env left l ls h k = record {
   has_type = then_type left l.of l.what ls.links h.has_type ∙ k.has_type;
   fits = then_fits env left l.of l.what ls.links h.has_type h.fits k.fits;
 }
+
+-- an operator with its right operand, and the chain behind it
+pub chain_fits : (env : Environment) (left : ℕ) (m : Judged Linked) (rest : ℕ → Judged Chained) → Gives (LinkedFits env left) m
+    → ((of : ℕ) → Gives (ChainedFits env of) (rest of)) → Gives (ChainedFits env left)
+    (m >>= λ l. rest l.of >>= λ ls. gives (record { links = link_then l.what ls.links; of = ls.of }))
+chain_fits env left m rest first more =
+    bind (LinkedFits env left) (ChainedFits env left) m _ first (λ l k.
+    bind (ChainedFits env l.of) (ChainedFits env left) (rest l.of) _ (more l.of) (λ ls j. links_then env left l ls k j))
 
 pub link_alone : (env : Environment) (left : ℕ) (l : Linked) → LinkedFits env left l
     → ChainedFits env left (record { links = link_then l.what no_link; of = l.of })

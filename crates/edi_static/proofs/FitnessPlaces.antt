@@ -12,7 +12,7 @@ use Rattle.edi_tree.specs.declared.names.Name.{Name}
 use Rattle.edi_tree.specs.declared.expressions.Root.{Root}
 use Rattle.edi_tree.specs.declared.expressions.Root.TheVariants as root
 use Rattle.edi_unit.specs.declared.units.Parameter.TheVariants as slot
-use Rattle.edi_unit.specs.Types.{Shape, int, char, bool, enumeration, record_of, array_of, set_of, shape_at, fields_of}
+use Rattle.edi_unit.specs.Types.{Shape, array_of, shape_at, fields_of}
 use Rattle.edi_unit.specs.Tree as unit
 use Rattle.edi_unit.specs.Tree.{Block}
 use Rattle.edi_unit.specs.Need.{block_at, outer, slots, slot_at, slot_type, part_type, parts_type}
@@ -30,10 +30,10 @@ use Rattle.edi_static.proofs.FitnessOperators.{never}
 -- ---- blocks round the place
 
 pub at_round : (env : Environment) → Sits env → (b : ℕ) → IsTrue (is_round b env.around) → outer env.blocks (here env) (steps_to b env.around) ≡ b
-at_round env s b inside = outer_round env.blocks env.around b s.chain inside
+at_round env s b inside = outer_round env.blocks env.around b s.nested.chain inside
 
 pub near_round : (env : Environment) → Sits env → (b : ℕ) → IsTrue (is_round b env.around) → steps_to b env.around ≤ greatest_levels
-near_round env s b inside = omega (arith, steps_near env.around b inside, s.near)
+near_round env s b inside = omega (arith, steps_near env.around b inside, s.nested.near)
 
 -- ---- variables
 
@@ -118,7 +118,7 @@ field_at_fits : (env : Environment) → Sits env → (of : ℕ) (name : Name) (o
 field_at_fits env s of name None h = tt
 field_at_fits env s of name (Some n) h = record {
   has_type = refl;
-  fits = field_known (fields_of (shape_at env.types of)) n (omega (arith, h, s.fields of));
+  fits = field_known (fields_of (shape_at env.types of)) n (omega (arith, h, s.types.fields of));
 }
 
 pub field_fits : (env : Environment) → Sits env → (line of : ℕ) (name : Name) → Gives (PartedFits env of) (field_of env line of name)
@@ -128,12 +128,7 @@ field_fits env s line of name =
 
 indexed : (shape : Shape) (t : ℕ) → is_indexed_by shape t ≡ true → IsIndexedBy shape t
 indexed (array_of i lo hi x) t e = eqb-true t i e
-indexed int t e = never e
-indexed char t e = never e
-indexed bool t e = never e
-indexed (enumeration n) t e = never e
-indexed (record_of fs) t e = never e
-indexed (set_of b) t e = never e
+indexed other t e = never e
 
 pub element_of_fits : (env : Environment) (line of : ℕ) (i : Typed) → TypedFits env i → Gives (PartedFits env of) (element_of env line of i)
 element_of_fits env line of i h =

@@ -1,44 +1,22 @@
 -- Procedures, modules and their members keep what holds of an environment, and each block that ends has told its need.
-use Rattle.std.proofs.Common.{◌≡◌, ◌≢◌, ℕ, zero, suc, ◌+◌, ◌<◌, ◌≤◌, max, Bool, true, false, not, ◌||◌, ◌==◌, List, [], ◌∷◌, ◌++◌, length, get_or, filter}
-use Rattle.std.proofs.Common.{All, Option, Some, None, IsTrue, refl, sym, ap, ◌∙◌, subst, arith, inl, inr}
-use Rattle.std.specs.List.{list_any}
-use Rattle.std.specs.Str.{bytes_eq}
-use Rattle.std.proofs.lemmas.Bool.{false≢true, cases_eq, eqb-true}
-use Rattle.std.proofs.lemmas.Bool.Decides.{Decides-eqb}
-use Rattle.std.proofs.lemmas.List.Elements.{All-push}
-use Rattle.std.proofs.lemmas.List.Folds.{list_any-append}
-use Rattle.std.proofs.lemmas.Slice.Eq.{bytes_eq-Decides}
-use Rattle.edi_scope.specs.declared.entity.Entity.{Entity}
-use Rattle.edi_scope.specs.declared.entity.Entity.TheVariants as entity
-use Rattle.edi_scope.specs.Scope.{Scope, declared, outside, entered}
+use Rattle.std.proofs.Common.{◌≡◌, ◌≢◌, ℕ, suc, ◌<◌, ◌≤◌, Bool, true, false, ◌||◌, ◌==◌, List, [], ◌∷◌, length, get_or, All, refl, sym, ap, ◌∙◌, subst, arith}
+use Rattle.std.proofs.lemmas.Bool.{false≢true, eqb-true}
+use Rattle.edi_scope.specs.Scope.{Scope, outside}
 use Rattle.edi_tree.specs.declared.names.Name.{Name}
-use Rattle.edi_tree.specs.Tree as text
-use Rattle.edi_tree.specs.Depth.{heading_depth, list_depth, procedure_depth, item_depth, module_depth, member_depth, members_depth, declaration_depth}
-use Rattle.edi_tree.specs.Depth.{declarations_depth}
 use Rattle.edi_unit.specs.Tree.{Acts}
-use Rattle.edi_unit.specs.Need.{block_at}
-use Rattle.edi_unit.specs.Fits.{is_called, ActsFit, greatest_levels}
-use Rattle.edi_static.specs.Judged.{Judged, gives, faults, ◌>>=◌}
-use Rattle.edi_static.specs.Environment.{Begun, Environment, here, enter}
-use Rattle.edi_static.specs.Headings.{leave, own_name}
-use Rattle.edi_static.specs.Statements.{After, add_statements, close_block, statement_list}
-use Rattle.edi_static.specs.Declarations.{begun_named, without_begun, all_completed, enter_block, leave_to, leave_module, heading_of, procedure_name}
-use Rattle.edi_static.specs.Declarations.{block_of, begin_procedure, begin_post, pre_decl, procedure_rest, item, module_decl, members, member, declarations}
-use Rattle.edi_static.specs.Declarations.{declaration}
-use Rattle.edi_static.specs.InRange.{ProcedureInRange, ItemInRange, ModuleInRange, MemberInRange, MembersInRange, DeclarationInRange, DeclarationsInRange}
-use Rattle.edi_static.specs.Proper.{ScopesFit}
-use Rattle.edi_static.proofs.Judging.{Gives, bind, behind, weaker}
-use Rattle.edi_static.proofs.Proper.{outside_fit}
-use Rattle.edi_static.proofs.Fitness.{headings_of, is_round, Names, EntitySits, IsChain, Sits}
-use Rattle.edi_static.proofs.FitnessLater.{Later, later_same, later_then, chain_later, scopes_later}
-use Rattle.edi_static.proofs.FitnessOnward.{Closed, BegunFits, AllBegun, begun_later, Tidy, is_open, is_begun, closed_later, Onward, onward_then}
-use Rattle.edi_static.proofs.FitnessOnward.{onward_same, onward_any}
-use Rattle.edi_static.proofs.FitnessTypes.{go_on, const_list_onward, type_decl_onward}
-use Rattle.edi_static.proofs.FitnessVariables.{Ready, ready_later, here_inside, here_round, var_onward}
+use Rattle.edi_unit.specs.Fits.{ActsFit, greatest_levels}
+use Rattle.edi_static.specs.Environment.{Begun, Environment, here}
+use Rattle.edi_static.specs.Statements.{After, close_block}
+use Rattle.edi_static.specs.Declarations.{all_completed}
+use Rattle.edi_static.proofs.Judging.{Gives, weaker}
+use Rattle.edi_static.proofs.Fitness.{headings_of, is_round, Sits}
+use Rattle.edi_static.proofs.FitnessLater.{Later, later_then}
+use Rattle.edi_static.proofs.FitnessOnward.{Closed, AllBegun, Tidy, is_open, is_begun, closed_later, Onward}
+use Rattle.edi_static.proofs.FitnessVariables.{Ready}
 use Rattle.edi_static.proofs.FitnessChanges.{placed_sits}
-use Rattle.edi_static.proofs.FitnessBlocks.{Changes, more_change, Closes, block_closes}
-use Rattle.edi_static.proofs.FitnessStatements.{Steps, steps_onward, Does, list_does, here_same, scopes_wider, stands_here}
-use Rattle.edi_static.proofs.FitnessBeginnings.{Entered, begin_entered, post_entered}
+use Rattle.edi_static.proofs.FitnessBlocks.{Closes, block_closes}
+use Rattle.edi_static.proofs.FitnessStatements.{steps_onward, Does, scopes_wider, stands_here}
+use Rattle.edi_static.proofs.FitnessBeginnings.{Entered}
 
 -- ---- inside a procedure
 
@@ -58,8 +36,10 @@ module _ (n : ℕ) (export : Bool) (name : Name) (env next : Environment) (r : R
       let outer : Environment = e.outer in
       let t = e.sits in
       placed_sits (e.scope ∷ outer.scopes) (n ∷ outer.around) [] outer t
-      (stands_here outer.blocks n outer.around outer_around (e.inside ∙ ap (λ a. get_or a 0 0) (sym e.around)) e.there t.chain)
-      (subst (λ a. suc (length a) ≤ greatest_levels) (sym e.around) near)
+      (record {
+        chain = stands_here outer.blocks n outer.around outer_around (e.inside ∙ ap (λ a. get_or a 0 0) (sym e.around)) e.there t.nested.chain;
+        near = subst (λ a. suc (length a) ≤ greatest_levels) (sym e.around) near;
+      })
       (e.names, scopes_wider outer.types outer.blocks outer.headings outer.shapes n outer.around outer.scopes t.names)
 
   pub inner_ready : Ready (inside_of e.outer e.scope n)

@@ -33,7 +33,8 @@ use Rattle.edi_static.proofs.FitnessVariables.{Ready}
 use Rattle.edi_static.proofs.FitnessHeadings.{Given, headed_env, Heads, heading_heads, declare_is}
 use Rattle.edi_static.proofs.FitnessChanges.{placed_sits}
 use Rattle.edi_static.proofs.FitnessBlocks.{shapes_sit, BlockBegins, block_sits, new_block, new_heading}
-use Rattle.edi_static.proofs.FitnessStatements.{Does, list_does, scopes_wider}
+use Rattle.edi_static.proofs.FitnessStatements.{Does, scopes_wider}
+use Rattle.edi_static.proofs.FitnessSequels.{list_does, onward_deep}
 use Rattle.edi_static.proofs.FitnessBeginnings.{scope_given, types_known}
 use Rattle.edi_static.proofs.FitnessProcedures.{Ends, no_begun, completed, ends}
 use Rattle.edi_static.proofs.FitnessWalk.{Declares, declarations_onward}
@@ -57,14 +58,15 @@ start_fields (suc (suc (suc t))) = omega arith
 
 start_sits : Sits (enter false at_first)
 start_sits = record {
-  table = record { three = standard_table.three; standard = standard_table.standard; declared = standard_table.declared };
-  shapes = standard_fits;
-  field_lists = refl;
-  fields = start_fields;
+  types = record {
+    table = record { three = standard_table.three; standard = standard_table.standard; declared = standard_table.declared };
+    shapes = standard_fits;
+    field_lists = refl;
+    fields = start_fields;
+  };
   as_many = refl;
   stand = λ n h. absurd (omega (arith, h));
-  chain = tt;
-  near = omega arith;
+  nested = record { chain = tt; near = omega arith };
   names =
       (tt, ((omega arith, (omega arith, (omega arith, ((omega arith, refl), ((omega arith, refl), (tt, tt)))))), tt));
 }
@@ -140,7 +142,7 @@ module _ (env : Environment) (s : Sits env) (bare : env.blocks ≡ []) (out : en
   alone = length-append env.blocks (program_block env asks ∷ []) ∙ ap (λ n. n + 1) first
 
   chained : IsChain (env.blocks ++ program_block env asks ∷ []) (0 ∷ env.around)
-  chained = (there, subst (StandsIn (env.blocks ++ program_block env asks ∷ []) 0) (sym out) tt, next_sits.chain)
+  chained = (there, subst (StandsIn (env.blocks ++ program_block env asks ∷ []) 0) (sym out) tt, next_sits.nested.chain)
 
   called : is_called (block_at (env.blocks ++ program_block env asks ∷ []) 0).kind ≡ true
   called = ap (λ b. is_called b.kind) at_block
@@ -150,7 +152,7 @@ module _ (env : Environment) (s : Sits env) (bare : env.blocks ≡ []) (out : en
       let far : length env.around ≡ 0 = ap length out in
       placed_sits (scope ∷ with_name name (entity.Procedure 0) env.scopes) (0 ∷ env.around) []
       (with_block (program_block env asks) asks (record env { shapes = env.shapes ++ more })) next_sits
-      chained (omega (arith, far)) (
+      (record { chain = chained; near = omega (arith, far) }) (
         scope_given env.types (env.blocks ++ program_block env asks ∷ []) (env.headings ++ asks ∷ []) (env.shapes ++ more) 0 asks (0 ∷ env.around) refl
             at_heading
             (ap (λ b. b.parameters) at_block) (ap (λ b. b.result) at_block) scope.names names,
@@ -180,8 +182,7 @@ program_ends (text.procedure h ds s end) next d there out deep i =
     bind (Onward false inner) (Ends 0 inner) (declarations ds inner) _ (declarations_onward ds inner d (omega (arith, deep, near)) i.0) (λ now o.
     bind (λ u. now.begun ≡ []) (Ends 0 inner) (all_completed now.begun) _ (completed now.begun) (λ u none.
     bind (Does ActsFit now) (Ends 0 inner) (statement_list s now) _
-    (list_does s now o.sits (subst (λ a. 0 < length a) (sym o.around) (omega arith))
-    (subst (λ a. length a + list_depth s ≤ greatest_levels) (sym o.around) (omega (arith, deep, near))) i.1)
+    (list_does s now (onward_deep false inner now o (omega arith) (list_depth s) (omega (arith, deep, near))) i.1)
     (λ done does. ends 0 end inner now done next.around refl o d.sits d.all none there does)))
 
 not_first : (m : ℕ) → m ≢ 0 → (0 == m) ≡ false

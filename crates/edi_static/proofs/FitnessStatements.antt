@@ -1,41 +1,33 @@
 -- Statements fit in the block in which they stand, and change no block but those of their branches.
-use Rattle.std.proofs.Common.{◌≡◌, ℕ, zero, suc, ◌+◌, ◌<◌, ◌≤◌, ◌^◌, max, Bool, true, false, not, ◌&&◌, ◌||◌, ◌==◌, nat_lt, List, [], ◌∷◌, ◌++◌, length}
-use Rattle.std.proofs.Common.{get_or, All, Option, Some, None, is_some, refl, sym, ap, ◌∙◌, subst, arith, inl, inr, length-append}
+use Rattle.std.proofs.Common.{◌≡◌, ℕ, zero, suc, ◌<◌, ◌≤◌, Bool, true, false, not, ◌&&◌, ◌||◌, ◌==◌, nat_lt, List, [], ◌∷◌, length, get_or, All, Option, Some}
+use Rattle.std.proofs.Common.{None, is_some, refl, sym, ap, ◌∙◌, subst, arith, inl, inr, length-append}
 use Rattle.std.proofs.lemmas.Bool.{false≢true, eqb-true, cases_eq, and_parts}
-use Rattle.std.proofs.lemmas.List.{append-nil}
 use Rattle.std.proofs.Math.ListN.{get_or-append}
 use Rattle.edi_scope.specs.declared.entity.Entity.{Entity}
 use Rattle.edi_scope.specs.declared.entity.Entity.TheVariants as entity
 use Rattle.edi_scope.specs.Scope.{Scope, declared, outside}
 use Rattle.edi_tree.specs.Tree as text
-use Rattle.edi_tree.specs.Depth.{list_depth, statements_depth, statement_depth, conditions_depth, condition_depth, else_depth, branch_depth, branches_depth}
 use Rattle.edi_unit.specs.declared.units.BlockKind.TheVariants as block_kind
-use Rattle.edi_unit.specs.Types.{Shape, bool_type, int_type}
+use Rattle.edi_unit.specs.Types.{Shape, bool_type}
 use Rattle.edi_unit.specs.Tree as unit
 use Rattle.edi_unit.specs.Tree.{Act, Acts, Block}
-use Rattle.edi_unit.specs.Need.{no_block, block_at, slots}
-use Rattle.edi_unit.specs.Fits.{Heading, heading_result, heading_formals, ActFits, ActsFit, ArgumentsFit, ClauseFits, ClausesFit, BranchFits, SlotIsKnown}
-use Rattle.edi_unit.specs.Fits.{greatest_levels}
+use Rattle.edi_unit.specs.Need.{no_block, block_at}
+use Rattle.edi_unit.specs.Fits.{Heading, heading_result, heading_formals, ActFits, ActsFit, ArgumentsFit, ClauseFits, ClausesFit, BranchFits, greatest_levels}
 use Rattle.edi_static.specs.declared.faults.StaticKind.TheVariants as kind
-use Rattle.edi_static.specs.Judged.{Judged, gives, ◌>>=◌, must}
-use Rattle.edi_static.specs.Environment.{Environment, here, look_up, no_heading, begun_block, with_block}
-use Rattle.edi_static.specs.Types.{Ordinal, constant}
+use Rattle.edi_static.specs.Environment.{Environment, here, no_heading, begun_block, with_block}
 use Rattle.edi_static.specs.Proper.{ScopesFit}
 use Rattle.edi_static.proofs.Proper.{scopes_fit}
 use Rattle.edi_static.specs.Operators.{Typed}
-use Rattle.edi_static.specs.Fitting.{Called, Use, constructs, calls, halts, neither, use_of, is_function, takes_so_many}
-use Rattle.edi_static.specs.Expressions.{Located, expression, variable_place, all_arguments, args_count}
-use Rattle.edi_static.specs.Statements.{After, procedure_called, called, assigned, close_block, enter_branch, leave_branch, statement_list, statements}
-use Rattle.edi_static.specs.Statements.{statement, conditions, elses, condition, branch, branches}
-use Rattle.edi_static.specs.InRange.{OptionalArgsInRange, branches_count, ListInRange, StatementsInRange, StatementInRange, ConditionsInRange}
-use Rattle.edi_static.specs.InRange.{ConditionInRange, ElseInRange, BranchInRange, BranchesInRange}
-use Rattle.edi_static.proofs.Judging.{Gives, bind, behind, ruled, weaker}
-use Rattle.edi_static.proofs.Fitness.{headings_of, is_round, Names, EntitySits, IsChain, Sits, TypedFits, LocatedFits, CalledFits, UseFits}
-use Rattle.edi_static.proofs.FitnessNames.{look_up_sits}
-use Rattle.edi_static.proofs.FitnessCalls.{use_fits, none_fit}
-use Rattle.edi_static.proofs.FitnessExpressions.{expression_fits, place_fits, arguments_fit}
-use Rattle.edi_static.proofs.FitnessLater.{Later, later_same, later_then, acts_later, chain_later, scopes_later}
-use Rattle.edi_static.proofs.FitnessOnward.{Onward, Closed, Tidy, is_open, is_begun, BegunFits, AllBegun, begun_later, closed_later}
+use Rattle.edi_static.specs.Fitting.{Use, constructs, calls, halts, neither, is_function, takes_so_many}
+use Rattle.edi_static.specs.Expressions.{all_arguments, args_count}
+use Rattle.edi_static.specs.Statements.{After, called, close_block, enter_branch, leave_branch}
+use Rattle.edi_static.specs.InRange.{OptionalArgsInRange}
+use Rattle.edi_static.proofs.Judging.{Gives, bind, ruled}
+use Rattle.edi_static.proofs.Fitness.{headings_of, is_round, Names, IsChain, Sits, TypedFits, UseFits}
+use Rattle.edi_static.proofs.FitnessCalls.{none_fit}
+use Rattle.edi_static.proofs.FitnessExpressions.{arguments_fit}
+use Rattle.edi_static.proofs.FitnessLater.{Later, later_same, later_then, acts_later, nested_later, scopes_later}
+use Rattle.edi_static.proofs.FitnessOnward.{Onward, Closed, Tidy, is_open, is_begun, BegunFits, begun_later, closed_later}
 use Rattle.edi_static.proofs.FitnessVariables.{here_inside}
 use Rattle.edi_static.proofs.FitnessChanges.{placed_sits}
 use Rattle.edi_static.proofs.FitnessBlocks.{BlockBegins, block_later, block_sits, new_block, Closes, block_closes}
@@ -51,7 +43,7 @@ pub record Steps (env next : Environment) : Type 0 where
   pub old : (n : ℕ) → n < length env.blocks → block_at next.blocks n ≡ block_at env.blocks n
   pub new : (n : ℕ) → n < length next.blocks → length env.blocks ≤ n → Closed next.types next.blocks n
 
-steps_same : (env : Environment) → Sits env → Steps env env
+pub steps_same : (env : Environment) → Sits env → Steps env env
 steps_same env s = record {
   sits = s;
   later = later_same env;
@@ -124,7 +116,7 @@ module _ (env : Environment) (at : here env < length env.blocks) where
       let longer = l.longer in
       acts_later one next g.sits h.later (here env) (omega (arith, at, longer)) s fits
 
-  sequel : (one : After Act) (others : After Acts) → Does ActFits env one → Does ActsFit one.env others
+  pub sequel : (one : After Act) (others : After Acts) → Does ActFits env one → Does ActsFit one.env others
       → Does ActsFit env (record { what = unit.act_then one.what others.what; env = others.env })
   sequel one others h k = record {
     steps = steps_then env one.env others.env h.steps k.steps;
@@ -134,7 +126,7 @@ module _ (env : Environment) (at : here env < length env.blocks) where
     );
   }
 
-  sequel_clauses : (one : After unit.Clause) (others : After unit.Clauses) → Does ClauseFits env one → Does ClausesFit one.env others →
+  pub sequel_clauses : (one : After unit.Clause) (others : After unit.Clauses) → Does ClauseFits env one → Does ClausesFit one.env others →
       Does ClausesFit env (record { what = unit.clause_then one.what others.what; env = others.env })
   sequel_clauses one others h k = record {
     steps = steps_then env one.env others.env h.steps k.steps;
@@ -145,7 +137,7 @@ module _ (env : Environment) (at : here env < length env.blocks) where
   }
 
   -- a condition before its statements
-  guarded : (c : Typed) (done : After Acts) → Sits env → TypedFits env c → c.of ≡ bool_type → Does ActsFit env done
+  pub guarded : (c : Typed) (done : After Acts) → Sits env → TypedFits env c → c.of ≡ bool_type → Does ActsFit env done
       → Does ClauseFits env (record { what = unit.clause c.what done.what; env = done.env })
   guarded c done s f is k =
       let first : Acts = unit.act_then (unit.if_act (unit.clause_then (unit.clause c.what unit.no_act) unit.no_clause)) unit.no_act in
@@ -158,10 +150,10 @@ no_result : (r : Option ℕ) → not (is_some r) ≡ true → r ≡ None
 no_result None h = refl
 no_result (Some t) h = absurd (false≢true h)
 
-abbrev ActSits : Environment → Act → Type 0
+abbrev pub ActSits : Environment → Act → Type 0
 ActSits env a = ActFits env.types env.blocks (headings_of env.headings) (here env) a
 
-called_fits : (env : Environment) → Sits env → (line : ℕ) (u : Use) (xs : Option text.Args) → UseFits env u → OptionalArgsInRange xs
+pub called_fits : (env : Environment) → Sits env → (line : ℕ) (u : Use) (xs : Option text.Args) → UseFits env u → OptionalArgsInRange xs
     → Gives (ActSits env) (called env line u xs)
 called_fits env s line (calls c) None h i =
     ruled (ActSits env) (not (is_function c.asks) && takes_so_many c.asks 0) kind.Call line _ (λ e.
@@ -238,21 +230,23 @@ module _ (env : Environment) (s : Sits env) (inside : 0 < length env.around) whe
   entered_later : Later env (enter_branch env)
   entered_later = block_later (begun_block block_kind.Branch (here env) None []) no_heading env s
 
-  entered_sits : suc (length env.around) ≤ greatest_levels → Sits (enter_branch env)
+  pub entered_sits : suc (length env.around) ≤ greatest_levels → Sits (enter_branch env)
   entered_sits near =
       let block : Block = begun_block block_kind.Branch (here env) None [] in
       let next : Environment = branch_env env in
       let t : Sits next = block_sits block no_heading env s (branch_begins env (here_inside env s inside)) in
       placed_sits env.scopes (length env.blocks ∷ env.around) env.begun next t
-      (stands_here next.blocks (length env.blocks) env.around inside (ap (λ b. b.up) (new_block block no_heading env s))
-      (omega (arith, length-append env.blocks (block ∷ []))) t.chain)
-      near
+      (record {
+        chain = stands_here next.blocks (length env.blocks) env.around inside (ap (λ b. b.up) (new_block block no_heading env s))
+            (omega (arith, length-append env.blocks (block ∷ []))) t.nested.chain;
+        near = near;
+      })
       (scopes_wider next.types next.blocks next.headings next.shapes (length env.blocks) env.around env.scopes t.names)
 
 -- what a branch leaves behind
-record Left (before : Environment) (one : After ℕ) : Type 0 where
-  steps : Steps before one.env
-  fits : BranchFits one.env.types one.env.blocks (headings_of one.env.headings) (here before) one.what
+pub record Left (before : Environment) (one : After ℕ) : Type 0 where
+  pub steps : Steps before one.env
+  pub fits : BranchFits one.env.types one.env.blocks (headings_of one.env.headings) (here before) one.what
 
 -- the block of a branch is behind the others
 longer_by_one : (before : Environment) → length (enter_branch before).blocks ≡ suc (length before.blocks)
@@ -277,9 +271,9 @@ left before done s inside h after k =
     record {
       steps = record {
         sits =
-            placed_sits after.scopes before.around after.begun after c.sits (chain_later before after s l before.around s.chain) s.near
+            placed_sits after.scopes before.around after.begun after c.sits (nested_later before after s l)
             (subst (ScopesFit (Names after.types after.blocks after.headings after.shapes before.around)) (sym scopes)
-            (scopes_later before after s l before.around s.chain before.scopes s.names));
+            (scopes_later before after s l before.around s.nested.chain before.scopes s.names));
         later = l;
         around = refl;
         scopes = scopes;
@@ -297,7 +291,7 @@ left before done s inside h after k =
       fits = (omega (arith, one, longer), grown.kind ∙ ap (λ b. b.kind) new, grown.up ∙ ap (λ b. b.up) new);
     }
 
-leave_left : (before : Environment) (line : ℕ) (done : After Acts) → Sits before → 0 < length before.around → Does ActsFit (enter_branch before) done
+pub leave_left : (before : Environment) (line : ℕ) (done : After Acts) → Sits before → 0 < length before.around → Does ActsFit (enter_branch before) done
     → Gives (Left before) (leave_branch before line done)
 leave_left before line done s inside h =
     let one = longer_by_one before in
@@ -308,10 +302,10 @@ leave_left before line done s inside h =
     (left before done s inside h)
 
 -- what all branches of a `cobegin` leave behind
-record Branched (before : Environment) (count : ℕ) (all : After (List ℕ)) : Type 0 where
-  steps : Steps before all.env
-  fits : All (BranchFits all.env.types all.env.blocks (headings_of all.env.headings) (here before)) all.what
-  many : length all.what ≡ suc count
+pub record Branched (before : Environment) (count : ℕ) (all : After (List ℕ)) : Type 0 where
+  pub steps : Steps before all.env
+  pub fits : All (BranchFits all.env.types all.env.blocks (headings_of all.env.headings) (here before)) all.what
+  pub many : length all.what ≡ suc count
 
 branch_later : (env next : Environment) → Later env next → (b n : ℕ) → BranchFits env.types env.blocks (headings_of env.headings) b n
     → BranchFits next.types next.blocks (headings_of next.headings) b n
@@ -320,14 +314,14 @@ branch_later env next l b n h =
     let g = l.each n h.0 in
     (omega (arith, h.0, longer), g.kind ∙ h.1, g.up ∙ h.2)
 
-one_branch : (before : Environment) (one : After ℕ) → Left before one → Branched before 0 (record { what = one.what ∷ []; env = one.env })
+pub one_branch : (before : Environment) (one : After ℕ) → Left before one → Branched before 0 (record { what = one.what ∷ []; env = one.env })
 one_branch before one k = record { steps = k.steps; fits = all; many = refl }
   where
     all : All (BranchFits one.env.types one.env.blocks (headings_of one.env.headings) (here before)) (one.what ∷ [])
     all zero d i = k.fits
     all (suc m) d i = absurd (omega (arith, i))
 
-more_branches : (before : Environment) (count : ℕ) (one : After ℕ) (others : After (List ℕ)) → Left before one → Branched one.env count others
+pub more_branches : (before : Environment) (count : ℕ) (one : After ℕ) (others : After (List ℕ)) → Left before one → Branched one.env count others
     → Branched before (suc count) (record { what = one.what ∷ others.what; env = others.env })
 more_branches before count one others k j = record {
   steps = steps_then before one.env others.env k.steps j.steps;
@@ -340,104 +334,3 @@ more_branches before count one others k j = record {
     all (suc m) d i =
         subst (λ b. BranchFits others.env.types others.env.blocks (headings_of others.env.headings) b (get_or others.what m d))
         (here_same before one.env k.steps.around) (j.fits m d (omega (arith, i)))
-
--- ---- statements
-
-mutual
-  pub list_does : (l : text.StatementList) (env : Environment) → Sits env → 0 < length env.around → length env.around + list_depth l ≤ greatest_levels
-      → ListInRange l → Gives (Does ActsFit env) (statement_list l env)
-  list_does (text.list s more) env t inside deep h =
-      bind (Does ActFits env) (Does ActsFit env) _ _ (statement_does s env t inside (omega (arith, deep)) h.0) (λ one k.
-      bind (Does ActsFit one.env) (Does ActsFit env) _ _
-      (statements_do more one.env k.steps.sits (subst (λ a. 0 < length a) (sym k.steps.around) inside)
-      (subst (λ a. length a + statements_depth more ≤ greatest_levels) (sym k.steps.around) (omega (arith, deep))) h.1)
-      (λ others j. sequel env (here_inside env t inside) one others k j))
-
-  statements_do : (ss : text.Statements) (env : Environment) → Sits env → 0 < length env.around → length env.around + statements_depth ss ≤ greatest_levels
-      → StatementsInRange ss → Gives (Does ActsFit env) (statements ss env)
-  statements_do text.no_statement env t inside deep h = record { steps = steps_same env t; fits = tt }
-  statements_do (text.next_statement s more) env t inside deep h =
-      bind (Does ActFits env) (Does ActsFit env) _ _ (statement_does s env t inside (omega (arith, deep)) h.0) (λ one k.
-      bind (Does ActsFit one.env) (Does ActsFit env) _ _
-      (statements_do more one.env k.steps.sits (subst (λ a. 0 < length a) (sym k.steps.around) inside)
-      (subst (λ a. length a + statements_depth more ≤ greatest_levels) (sym k.steps.around) (omega (arith, deep))) h.1)
-      (λ others j. sequel env (here_inside env t inside) one others k j))
-
-  statement_does : (s : text.Statement) (env : Environment) → Sits env → 0 < length env.around → length env.around + statement_depth s ≤ greatest_levels
-      → StatementInRange s → Gives (Does ActFits env) (statement s env)
-  statement_does text.skip env t inside deep h = record { steps = steps_same env t; fits = tt }
-  statement_does (text.assignment v line e) env t inside deep h =
-      bind (ActSits env) (Does ActFits env) (assigned env v line e) (λ a. gives (record { what = a; env = env }))
-      (bind (LocatedFits env) (ActSits env) (variable_place env v) _ (place_fits env t v h.0) (λ l k.
-      bind (TypedFits env) (ActSits env) (expression env e) _ (expression_fits env t e h.1) (λ x j.
-      ruled (ActSits env) (l.of == x.of) kind.Types line _ (λ same. (k.has_type ∙ eqb-true l.of x.of same ∙ sym j.has_type, k.fits, j.fits)))))
-      (λ a k. record { steps = steps_same env t; fits = k })
-  statement_does (text.call name xs) env t inside deep h =
-      bind (EntitySits env) (Does ActFits env) (look_up env name) _ (look_up_sits env t name) (λ means k.
-      bind (ActSits env) (Does ActFits env) (called env name.line (use_of env means) xs) (λ a. gives (record { what = a; env = env }))
-      (called_fits env t name.line (use_of env means) xs (use_fits env t means k) h)
-      (λ a j. record { steps = steps_same env t; fits = j }))
-  statement_does (text.if_statement cs) env t inside deep h =
-      bind (Does ClausesFit env) (Does ActFits env) _ _ (conditions_do cs env t inside (omega (arith, deep)) h)
-      (λ done k. record { steps = k.steps; fits = k.fits })
-  statement_does (text.while_statement cs) env t inside deep h =
-      bind (Does ClausesFit env) (Does ActFits env) _ _ (conditions_do cs env t inside (omega (arith, deep)) h)
-      (λ done k. record { steps = k.steps; fits = k.fits })
-  statement_does (text.when_statement line cs) env t inside deep h =
-      bind (Does ClausesFit env) (Does ActFits env) _ _ (conditions_do cs env t inside (omega (arith, deep)) h)
-      (λ done k. record { steps = k.steps; fits = k.fits })
-  statement_does (text.cobegin line b bs) env t inside deep h =
-      bind (Branched env (branches_count bs)) (Does ActFits env) _ _
-      (bind (Does ActsFit (enter_branch env)) (Branched env (branches_count bs)) _ _ (branch_does b env t inside (omega (arith, deep)) h.1) (λ one k.
-      branches_do bs env one t inside (omega (arith, deep)) h.2 k))
-      (λ done k. let many = k.many in record { steps = k.steps; fits = (omega (arith, many), omega (arith, many, h.0), k.fits) })
-
-  conditions_do : (cs : text.Conditions) (env : Environment) → Sits env → 0 < length env.around → length env.around + conditions_depth cs ≤ greatest_levels
-      → ConditionsInRange cs → Gives (Does ClausesFit env) (conditions cs env)
-  conditions_do (text.conditions c more) env t inside deep h =
-      bind (Does ClauseFits env) (Does ClausesFit env) _ _ (condition_does c env t inside (omega (arith, deep)) h.0) (λ one k.
-      bind (Does ClausesFit one.env) (Does ClausesFit env) _ _
-      (elses_do more one.env k.steps.sits (subst (λ a. 0 < length a) (sym k.steps.around) inside)
-      (subst (λ a. length a + else_depth more ≤ greatest_levels) (sym k.steps.around) (omega (arith, deep))) h.1)
-      (λ others j. sequel_clauses env (here_inside env t inside) one others k j))
-
-  elses_do : (cs : text.Else) (env : Environment) → Sits env → 0 < length env.around → length env.around + else_depth cs ≤ greatest_levels → ElseInRange cs
-      → Gives (Does ClausesFit env) (elses cs env)
-  elses_do text.no_else env t inside deep h = record { steps = steps_same env t; fits = tt }
-  elses_do (text.next_else c more) env t inside deep h =
-      bind (Does ClauseFits env) (Does ClausesFit env) _ _ (condition_does c env t inside (omega (arith, deep)) h.0) (λ one k.
-      bind (Does ClausesFit one.env) (Does ClausesFit env) _ _
-      (elses_do more one.env k.steps.sits (subst (λ a. 0 < length a) (sym k.steps.around) inside)
-      (subst (λ a. length a + else_depth more ≤ greatest_levels) (sym k.steps.around) (omega (arith, deep))) h.1)
-      (λ others j. sequel_clauses env (here_inside env t inside) one others k j))
-
-  condition_does : (c : text.Condition) (env : Environment) → Sits env → 0 < length env.around → length env.around + condition_depth c ≤ greatest_levels
-      → ConditionInRange c → Gives (Does ClauseFits env) (condition c env)
-  condition_does (text.condition e line s) env t inside deep h =
-      bind (TypedFits env) (Does ClauseFits env) (expression env e) _ (expression_fits env t e h.0) (λ c k.
-      ruled (Does ClauseFits env) (c.of == bool_type) kind.Types line _ (λ is.
-      bind (Does ActsFit env) (Does ClauseFits env) (statement_list s env) _ (list_does s env t inside (omega (arith, deep)) h.1)
-      (λ done j. guarded env (here_inside env t inside) c done t k (eqb-true c.of bool_type is) j)))
-
-  branch_does : (b : text.Branch) (env : Environment) → Sits env → 0 < length env.around → suc (length env.around) + branch_depth b ≤ greatest_levels
-      → BranchInRange b → Gives (Does ActsFit (enter_branch env)) (branch b env)
-  branch_does (text.branch c line s) env t inside deep h =
-      behind (Does ActsFit (enter_branch env)) (constant env c) _ (λ k.
-      ruled (Does ActsFit (enter_branch env)) (k.of == int_type) kind.Types line _ (λ is.
-      list_does s (enter_branch env) (entered_sits env t inside (omega (arith, deep))) (omega arith) (omega (arith, deep)) h.1))
-
-  branches_do : (bs : text.Branches) (before : Environment) (done : After Acts) → Sits before → 0 < length before.around → suc (length before.around) +
-      branches_depth bs ≤ greatest_levels → BranchesInRange bs →
-      Does ActsFit (enter_branch before) done → Gives (Branched before (branches_count bs)) (branches bs before done)
-  branches_do (text.no_branch end) before done t inside deep h k =
-      bind (Left before) (Branched before 0) _ _ (leave_left before end done t inside k) (one_branch before)
-  branches_do (text.next_branch also b bs) before done t inside deep h k =
-      bind (Left before) (Branched before (suc (branches_count bs))) _ _ (leave_left before also done t inside k) (λ one j.
-      let nearer : 0 < length one.env.around = subst (λ a. 0 < length a) (sym j.steps.around) inside in
-      bind (Branched one.env (branches_count bs)) (Branched before (suc (branches_count bs))) _ _
-      (bind (Does ActsFit (enter_branch one.env)) (Branched one.env (branches_count bs)) _ _
-      (branch_does b one.env j.steps.sits nearer (subst (λ a. suc (length a) + branch_depth b ≤ greatest_levels) (sym j.steps.around) (omega (arith, deep)))
-      h.0)
-      (λ next i. branches_do bs one.env next j.steps.sits nearer
-      (subst (λ a. suc (length a) + branches_depth bs ≤ greatest_levels) (sym j.steps.around) (omega (arith, deep))) h.1 i))
-      (λ others i. more_branches before (branches_count bs) one others j i))

@@ -1,8 +1,6 @@
 -- Constants, types and variables keep what holds of an environment.
-use Rattle.std.proofs.Common.{◌≡◌, ℕ, zero, suc, ◌+◌, ◌<◌, ◌≤◌, ℤ, pos, ◌≤ℤ◌, int_le, Bool, true, false, not, ◌||◌, ◌&&◌, ◌==◌, nat_lt, nat_le}
-use Rattle.std.proofs.Common.{if◌then◌else◌, List, [], ◌∷◌, ◌++◌, length, get_or, map, All, Option, Some, None, IsTrue, is_some, refl, sym, ap, ◌∙◌, subst}
-use Rattle.std.proofs.Common.{arith, length-append}
-use Rattle.std.specs.Prelude.{slice_get}
+use Rattle.std.proofs.Common.{◌≡◌, ℕ, zero, suc, ◌+◌, ◌<◌, ◌≤◌, ℤ, pos, int_le, Bool, true, false, not, ◌&&◌, ◌==◌, nat_lt, nat_le, List, [], ◌∷◌, length}
+use Rattle.std.proofs.Common.{get_or, All, Some, None, IsTrue, refl, sym, ap, ◌∙◌, subst, arith, length-append}
 use Rattle.std.specs.List.{list_any}
 use Rattle.std.specs.Str.{bytes_eq}
 use Rattle.std.proofs.lemmas.Bool.{false≢true, eqb-true}
@@ -11,7 +9,6 @@ use Rattle.std.proofs.Math.ListN.{get_or-append}
 use Rattle.std.proofs.Math.Seq.{get_or-append_seam}
 use Rattle.edi_scope.specs.declared.entity.Entity.{Entity}
 use Rattle.edi_scope.specs.declared.entity.Entity.TheVariants as entity
-use Rattle.edi_scope.specs.Scope.{declared, outside}
 use Rattle.edi_tree.specs.declared.names.Name.{Name}
 use Rattle.edi_tree.specs.declared.constants.Constant.{Constant}
 use Rattle.edi_tree.specs.declared.constants.Constant.TheVariants as code
@@ -21,20 +18,18 @@ use Rattle.edi_unit.specs.Types.{Shape, int, char, bool, enumeration, record_of,
 use Rattle.edi_unit.specs.Types.{is_elementary_shape, standard_types, named_types, ordinal_types, HasOrderedBounds, shape_size, size, greatest_size}
 use Rattle.edi_unit.specs.Types.{fields_of, IsDeclarable, int_type, char_type}
 use Rattle.edi_unit.specs.Fits.{ShapeFits}
-use Rattle.edi_static.specs.declared.faults.StaticKind.{StaticKind}
 use Rattle.edi_static.specs.declared.faults.StaticKind.TheVariants as kind
 use Rattle.edi_static.specs.Judged.{Judged, gives, faults, ◌>>=◌, must}
 use Rattle.edi_static.specs.Environment.{Environment, look_up, as_type, type_named, declare, with_type}
 use Rattle.edi_static.specs.Types.{Ordinal, constant, as_constant, as_character, const_decl, const_decls, const_list, most_constants, names_count}
-use Rattle.edi_static.specs.Types.{enum_constant, enum_constants, enum_decl, Fields, no_fields, with_field, field_named, fields_named, fields_of_group}
-use Rattle.edi_static.specs.Types.{fields_of_groups, declare_type, array_decl, set_decl, type_decl}
+use Rattle.edi_static.specs.Types.{enum_constants, enum_decl, Fields, no_fields, field_named, fields_named, fields_of_groups, declare_type, array_decl}
+use Rattle.edi_static.specs.Types.{set_decl, type_decl}
 use Rattle.edi_static.specs.InRange.{ConstantInRange, ConstDeclsInRange, ConstListInRange, TypeDeclInRange}
 use Rattle.edi_static.proofs.Judging.{Gives, bind, behind, ruled, weaker}
 use Rattle.edi_static.proofs.Steps.{typed_declare, typed_enum}
 use Rattle.edi_static.proofs.Fitness.{EntitySits, Sits}
 use Rattle.edi_static.proofs.FitnessNames.{look_up_sits}
 use Rattle.edi_static.proofs.FitnessMade.{standard_shape}
-use Rattle.edi_static.proofs.FitnessLater.{names_later}
 use Rattle.edi_static.proofs.FitnessOnward.{Onward, onward_then, onward_same, declare_onward, type_onward}
 
 -- one construct behind another
@@ -63,8 +58,8 @@ as_constant_sits env line entity.Halt h = tt
 standard_sits : (env : Environment) → Sits env → (t : ℕ) → t < 3 → (n : ℤ) → is_ordinal_of (shape_at standard_types t) n ≡ true
     → EntitySits env (entity.Constant t n)
 standard_sits env s t lt n h =
-    let three = s.table.three in
-    (omega (arith, lt, three), subst (λ x. IsTrue (is_ordinal_of x n)) (sym (standard_shape env.types s.table t lt)) h)
+    let three = s.types.table.three in
+    (omega (arith, lt, three), subst (λ x. IsTrue (is_ordinal_of x n)) (sym (standard_shape env.types s.types.table t lt)) h)
 
 as_character_sits : (env : Environment) → Sits env → (line : ℕ) (n : ℤ) (e : Entity) → int_le (pos 0) n ≡ true → Gives (OrdinalSits env) (as_character line n e)
 as_character_sits env s line n (entity.Types t) low =
@@ -96,11 +91,7 @@ const_list_onward m (text.const_list d ds) env s h = go_on m env _ _ (const_onwa
 
 as_type_sits : (env : Environment) (line : ℕ) (e : Entity) → EntitySits env e → Gives (λ t. t < length env.types) (as_type line e)
 as_type_sits env line (entity.Types t) h = h
-as_type_sits env line (entity.Constant of n) h = tt
-as_type_sits env line (entity.Variable b v of) h = tt
-as_type_sits env line (entity.Procedure b) h = tt
-as_type_sits env line (entity.Formal b v shape) h = tt
-as_type_sits env line entity.Halt h = tt
+as_type_sits env line e h = tt
 
 pub type_sits_named : (env : Environment) → Sits env → (name : Name) → Gives (λ t. t < length env.types) (type_named env name)
 type_sits_named env s name = bind (EntitySits env) (λ t. t < length env.types) _ _ (look_up_sits env s name) (as_type_sits env name.line)

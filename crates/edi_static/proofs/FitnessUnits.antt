@@ -45,8 +45,8 @@ pub unit_fits : (env : Environment) (calls : List ℕ) → Sits env → ((n : �
     → AreCalls env.types (heading_at env.headings 0) calls → Fits (record { types = env.types; blocks = env.blocks; program = 0; calls = calls })
 unit_fits env calls s closed some short named = record {
   headings = headings_of env.headings;
-  table = record { three = s.table.three; standard = s.table.standard; declared = s.table.declared; bounded = short };
-  shapes = s.shapes;
+  table = record { three = s.types.table.three; standard = s.types.table.standard; declared = s.types.table.declared; bounded = short };
+  shapes = s.types.shapes;
   first = refl;
   some = some;
   fits_blocks = λ n lt. block_fits env.types env.blocks env.headings n (s.stand n lt) (closed n lt);

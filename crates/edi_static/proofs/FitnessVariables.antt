@@ -39,7 +39,7 @@ in_chain blocks [] h c = absurd (omega (arith, h))
 in_chain blocks (b ∷ around) h c = c.0
 
 pub here_inside : (env : Environment) → Sits env → 0 < length env.around → here env < length env.blocks
-here_inside env s h = in_chain env.blocks env.around h s.chain
+here_inside env s h = in_chain env.blocks env.around h s.nested.chain
 
 pub here_round : (around : List ℕ) → 0 < length around → is_round (get_or around 0 0) around ≡ true
 here_round [] h = absurd (omega (arith, h))

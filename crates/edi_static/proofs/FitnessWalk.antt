@@ -27,13 +27,14 @@ use Rattle.edi_static.specs.Proper.{ScopesFit}
 use Rattle.edi_static.proofs.Judging.{Gives, bind, weaker}
 use Rattle.edi_static.proofs.Proper.{outside_fit}
 use Rattle.edi_static.proofs.Fitness.{headings_of, is_round, Names, EntitySits, Sits}
-use Rattle.edi_static.proofs.FitnessLater.{Later, later_then, chain_later, scopes_later}
+use Rattle.edi_static.proofs.FitnessLater.{Later, later_then, nested_later, scopes_later}
 use Rattle.edi_static.proofs.FitnessChanges.{placed_sits}
 use Rattle.edi_static.proofs.FitnessOnward.{Closed, BegunFits, AllBegun, begun_later, Tidy, is_open, is_begun, closed_later, Onward, onward_same, onward_any}
 use Rattle.edi_static.proofs.FitnessTypes.{go_on, const_list_onward, type_decl_onward}
 use Rattle.edi_static.proofs.FitnessVariables.{Ready, ready_later, here_inside, here_round, var_onward}
 use Rattle.edi_static.proofs.FitnessBlocks.{Changes, more_change}
-use Rattle.edi_static.proofs.FitnessStatements.{steps_onward, Does, list_does}
+use Rattle.edi_static.proofs.FitnessStatements.{steps_onward, Does}
+use Rattle.edi_static.proofs.FitnessSequels.{list_does, onward_deep}
 use Rattle.edi_static.proofs.FitnessBeginnings.{Entered, begin_entered, post_entered}
 use Rattle.edi_static.proofs.FitnessProcedures.{inside_of, inner_sits, inner_ready, no_begun, completed, Ends, apart, together, differs, ends}
 
@@ -81,10 +82,10 @@ module _ (n : ℕ) (export : Bool) (name : Name) (env next : Environment) (s : S
       λ x y i. ap (λ ss. declared ss x) scopes ∙ e.kept x y i in
       record {
         sits =
-            placed_sits (outside after.scopes) env.around begun after k.sits (chain_later env after s all_later env.around s.chain) s.near
+            placed_sits (outside after.scopes) env.around begun after k.sits (nested_later env after s all_later)
             (subst (ScopesFit (Names after.types after.blocks after.headings after.shapes env.around)) (sym scopes)
             (subst (λ a. ScopesFit (Names after.types after.blocks after.headings after.shapes a) outer.scopes) e.around
-            (scopes_later outer after t l outer.around t.chain outer.scopes t.names)));
+            (scopes_later outer after t l outer.around t.nested.chain outer.scopes t.names)));
         later = final_later;
         around = refl;
         outer = λ m. ap outside scopes ∙ e.outermost m;
@@ -133,7 +134,7 @@ whole_onward export name env next e =
     let final : Environment = record outer { begun = env.begun ++ one ∷ [] } in
     let l : Later env final = e.later in
     record {
-      sits = placed_sits outer.scopes outer.around (env.begun ++ one ∷ []) outer t t.chain t.near t.names;
+      sits = placed_sits outer.scopes outer.around (env.begun ++ one ∷ []) outer t t.nested t.names;
       later = l;
       around = e.around;
       outer = e.outermost;
@@ -220,7 +221,7 @@ module_declares env d =
     let s = d.sits in
     let r = d.ready in
     record {
-      sits = placed_sits (entered true env.scopes) env.around [] env s s.chain s.near (tt, s.names);
+      sits = placed_sits (entered true env.scopes) env.around [] env s s.nested (tt, s.names);
       ready = record { inside = r.inside; called = r.called; scoped = omega arith };
       all = no_begun (BegunFits (entered true env.scopes) env.blocks (here env));
     }
@@ -261,7 +262,7 @@ module_left env now done d o does none =
     let u = c.sits in
     record {
       sits =
-          placed_sits (outside done.env.scopes) env.around env.begun after u (chain_later env after s all_later env.around s.chain) s.near
+          placed_sits (outside done.env.scopes) env.around env.begun after u (nested_later env after s all_later)
           (subst (λ a. ScopesFit (Names after.types after.blocks after.headings after.shapes a) (outside done.env.scopes)) around
           (outside_fit (EntitySits after) done.env.scopes u.names));
       later = final_later;
@@ -322,8 +323,7 @@ mutual
       (declarations_onward ds inner d (omega (arith, deep, near)) i.0) (λ now o.
       bind (λ u. now.begun ≡ []) (λ after. Onward m env (leave_to env begun after)) (all_completed now.begun) _ (completed now.begun) (λ u none.
       bind (Does ActsFit now) (λ after. Onward m env (leave_to env begun after)) (statement_list s now) _
-      (list_does s now o.sits (subst (λ a. 0 < length a) (sym o.around) (omega arith))
-      (subst (λ a. length a + list_depth s ≤ greatest_levels) (sym o.around) (omega (arith, deep, near))) i.1)
+      (list_does s now (onward_deep false inner now o (omega arith) (list_depth s) (omega (arith, deep, near))) i.1)
       (λ done does.
       weaker (Ends n inner) (λ after. Onward m env (leave_to env begun after)) (close_block n done.what end done.env)
       (λ after k. left_onward n m name env next t r e begun fewer shut after k)
@@ -367,8 +367,7 @@ mutual
       bind (λ u. now.begun ≡ []) (Onward false env) (all_completed now.begun) _ (completed now.begun) (λ u none.
       bind (Does ActsFit now) (Onward false env) (statement_list s now) _
       (let r = d.ready in
-      list_does s now o.sits (subst (λ a. 0 < length a) (sym o.around) r.inside)
-      (subst (λ a. length a + list_depth s ≤ greatest_levels) (sym o.around) (omega (arith, deep))) h.1)
+      list_does s now (onward_deep true inner now o r.inside (list_depth s) (omega (arith, deep))) h.1)
       (λ done does. module_left env now done d o does none)))
 
   members_onward : (ms : text.Members) (env : Environment) → Declares env → length env.around + members_depth ms ≤ greatest_levels → MembersInRange ms

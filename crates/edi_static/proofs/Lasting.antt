@@ -155,35 +155,44 @@ module _ (levels : ℕ) (lasting : Lasting levels) where
 
   -- ---- statements
 
-  -- a first part, and the rest of a list
-  acts_joined : (a b : ℕ) (one : Judged (After Act)) (rest : After Act → Judged (After Acts)) → Gives (ActDone a) one
-      → ((first : After Act) → Lasts first.env → Gives (ActsDone b) (rest first))
-      → Gives (ActsDone (max a b)) (one >>= λ first. rest first >>= λ others. gives (record { what = unit.act_then first.what others.what; env = others.env }))
-  acts_joined a b one rest h more =
-      bind (ActDone a) (ActsDone (max a b)) one _ h (λ first k.
-      bind (ActsDone b) (ActsDone (max a b)) (rest first) _ (more first k.0)
-      (λ others j. (j.0, lasting.said.acts a b first.what others.what k.1 j.1)))
+  abbrev Held : {A : Type 0} → (A → Type 0) → After A → Type 0
+  Held P done = Lasts done.env × P done.what
 
-  clauses_joined : (a b : ℕ) (one : Judged (After Clause)) (rest : After Clause → Judged (After Clauses)) → Gives (ClauseDone a) one
-      → ((first : After Clause) → Lasts first.env → Gives (ClausesDone b) (rest first)) → Gives (ClausesDone (max a b))
-      (one >>= λ first. rest first >>= λ others. gives (record { what = unit.clause_then first.what others.what; env = others.env }))
-  clauses_joined a b one rest h more =
-      bind (ClauseDone a) (ClausesDone (max a b)) one _ h (λ first k.
-      bind (ClausesDone b) (ClausesDone (max a b)) (rest first) _ (more first k.0)
-      (λ others j. (j.0, lasting.said.clauses a b first.what others.what k.1 j.1)))
+  -- a first part, and the rest of a list
+  joined : {A B : Type 0} (One : A → Type 0) (Others Every : B → Type 0) (put : A → B → B) → ((x : A) (xs : B) → One x → Others xs → Every (put x xs)) →
+      (m : Judged (After A)) (rest : Environment → Judged (After B)) → Gives (Held One) m
+      → ((env : Environment) → Lasts env → Gives (Held Others) (rest env))
+      → Gives (Held Every)
+      (m >>= λ first. rest first.env >>= λ others. gives (record { what = put first.what others.what; env = others.env }))
+  joined One Others Every put both m rest h sequels =
+      bind (Held One) (Held Every) m _ h (λ first k.
+      bind (Held Others) (Held Every) (rest first.env) _ (sequels first.env k.0)
+      (λ others j. (j.0, both first.what others.what k.1 j.1)))
+
+  acts_joined : (s : text.Statement) (more : text.Statements) (env : Environment) → Gives (ActDone (statement_depth s)) (statement s env)
+      → ((env : Environment) → Lasts env → Gives (ActsDone (statements_depth more)) (statements more env))
+      → Gives (ActsDone (list_depth (text.list s more))) (statement_list (text.list s more) env)
+  acts_joined s more env =
+      joined (lasting.said.OfAct (statement_depth s)) (lasting.said.OfActs (statements_depth more)) (lasting.said.OfActs (list_depth (text.list s more)))
+      unit.act_then (lasting.said.acts (statement_depth s) (statements_depth more)) (statement s env) (statements more)
+
+  clauses_joined : (c : text.Condition) (more : text.Else) (env : Environment) → Gives (ClauseDone (condition_depth c)) (condition c env)
+      → ((env : Environment) → Lasts env → Gives (ClausesDone (else_depth more)) (elses more env))
+      → Gives (ClausesDone (conditions_depth (text.conditions c more))) (conditions (text.conditions c more) env)
+  clauses_joined c more env =
+      joined (lasting.said.OfClause (condition_depth c)) (lasting.said.OfClauses (else_depth more)) (lasting.said.OfClauses (conditions_depth
+      (text.conditions c more))) unit.clause_then (lasting.said.clauses (condition_depth c) (else_depth more)) (condition c env) (elses more)
 
   mutual
     list_lasts : (s : text.StatementList) (env : Environment) → list_depth s < levels → Lasts env → Gives (ActsDone (list_depth s)) (statement_list s env)
     list_lasts (text.list s more) env less h =
-        acts_joined (statement_depth s) (statements_depth more) (statement s env) (λ one. statements more one.env)
-        (statement_lasts s env (omega (arith, less)) h) (λ one k. statements_last more one.env (omega (arith, less)) k)
+        acts_joined s more env (statement_lasts s env (omega (arith, less)) h) (λ e k. statements_last more e (omega (arith, less)) k)
 
     statements_last : (s : text.Statements) (env : Environment) → statements_depth s < levels → Lasts env → Gives (ActsDone (statements_depth s))
         (statements s env)
     statements_last text.no_statement env less h = (h, lasting.said.no_acts)
     statements_last (text.next_statement s more) env less h =
-        acts_joined (statement_depth s) (statements_depth more) (statement s env) (λ one. statements more one.env)
-        (statement_lasts s env (omega (arith, less)) h) (λ one k. statements_last more one.env (omega (arith, less)) k)
+        acts_joined s more env (statement_lasts s env (omega (arith, less)) h) (λ e k. statements_last more e (omega (arith, less)) k)
 
     statement_lasts : (s : text.Statement) (env : Environment) → statement_depth s < levels → Lasts env → Gives (ActDone (statement_depth s))
         (statement s env)
@@ -217,14 +226,12 @@ module _ (levels : ℕ) (lasting : Lasting levels) where
     conditions_last : (cs : text.Conditions) (env : Environment) → conditions_depth cs < levels → Lasts env → Gives (ClausesDone (conditions_depth cs))
         (conditions cs env)
     conditions_last (text.conditions c more) env less h =
-        clauses_joined (condition_depth c) (else_depth more) (condition c env) (λ one. elses more one.env)
-        (condition_lasts c env (omega (arith, less)) h) (λ one k. elses_last more one.env (omega (arith, less)) k)
+        clauses_joined c more env (condition_lasts c env (omega (arith, less)) h) (λ e k. elses_last more e (omega (arith, less)) k)
 
     elses_last : (cs : text.Else) (env : Environment) → else_depth cs < levels → Lasts env → Gives (ClausesDone (else_depth cs)) (elses cs env)
     elses_last text.no_else env less h = (h, lasting.said.no_clauses)
     elses_last (text.next_else c more) env less h =
-        clauses_joined (condition_depth c) (else_depth more) (condition c env) (λ one. elses more one.env)
-        (condition_lasts c env (omega (arith, less)) h) (λ one k. elses_last more one.env (omega (arith, less)) k)
+        clauses_joined c more env (condition_lasts c env (omega (arith, less)) h) (λ e k. elses_last more e (omega (arith, less)) k)
 
     condition_lasts : (c : text.Condition) (env : Environment) → condition_depth c < levels → Lasts env → Gives (ClauseDone (condition_depth c))
         (condition c env)

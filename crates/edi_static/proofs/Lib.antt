@@ -27,6 +27,7 @@ pub mod FitnessVariables
 pub mod FitnessHeadings
 pub mod FitnessBlocks
 pub mod FitnessStatements
+pub mod FitnessSequels
 pub mod FitnessBeginnings
 pub mod FitnessProcedures
 pub mod FitnessWalk

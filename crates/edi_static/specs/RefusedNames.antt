@@ -4,17 +4,16 @@ use Rattle.std.specs.Prelude.{◌≡◌, pos, Some, None, codes, refl}
 use Rattle.edi_tree.specs.declared.constants.Constant.TheVariants as constant
 use Rattle.edi_tree.specs.declared.expressions.Root.TheVariants as root
 use Rattle.edi_tree.specs.Tree.{no_name, next_name, no_const_decl, next_const_decl, const_list, group, no_group, next_group, enum_decl, record_decl, heading}
-use Rattle.edi_tree.specs.Tree.{no_params, params, no_param, next_param, value_param, no_expr, numeral, string, call_factor, args, variable, field}
-use Rattle.edi_tree.specs.Tree.{no_selector, next_selector, skip, assignment, call, procedure, const_item, type_item, pre_item, post_item, module_with}
-use Rattle.edi_tree.specs.Tree.{item_member, exported_member, no_member, next_member, module_declaration, no_declaration, next_declaration, const_global}
-use Rattle.edi_tree.specs.Tree.{no_global, next_global, program}
+use Rattle.edi_tree.specs.Tree.{no_params, params, no_param, next_param, no_expr, string, call_factor, args, variable, field, no_selector, next_selector}
+use Rattle.edi_tree.specs.Tree.{skip, assignment, call, procedure, const_item, type_item, pre_item, module_with, item_member, exported_member, no_member}
+use Rattle.edi_tree.specs.Tree.{next_member, module_declaration, no_declaration, next_declaration, const_global, no_global, next_global, program}
 use Rattle.edi_unit.specs.Types.{size}
 use Rattle.edi_static.specs.declared.faults.StaticKind.TheVariants as kind
 use Rattle.edi_static.specs.Judged.{faults}
 use Rattle.edi_static.specs.Programs.{resolve_tree}
 use Rattle.edi_static.specs.Accepted.{behind_module}
-use Rattle.edi_static.specs.Written.{id, only, named, call_with, grouped, main, one, plain, procedure_of, record_of_one, returns, sets, taking, then, two}
-use Rattle.edi_static.specs.Written.{variable_of}
+use Rattle.edi_static.specs.Written.{id, only, named, literal, sets, returns, call_with, one, two, grouped, variable_of, record_of_one, constant_named}
+use Rattle.edi_static.specs.Written.{with_variable, value_named, plain, taking, procedure_of, post_of, then, main}
 
 -- ---- used names
 
@@ -37,8 +36,7 @@ row_used_before = refl
 
 -- proc main / var x: int / begin x := / addr end
 pub row_left_out : resolve_tree
-    (main (then (variable_of (id "x" 2) (id "int" 2)) no_declaration) (one (sets (id "x" 3) 3 (only (named (id "addr"
-    4))))) 4)
+    (with_variable (id "x" 2) (id "int" 2) (one (sets (id "x" 3) 3 (only (named (id "addr" 4))))) 4)
     ≡ faults kind.NotInProfile 4
 row_left_out = refl
 
@@ -47,7 +45,7 @@ row_left_out = refl
 pub row_left_out_field : resolve_tree
     (main (then (record_of_one (id "r" 2) (id "f" 2) (id "int" 2)) (then (variable_of (id "v" 3) (id "r" 3))
     no_declaration)) (one (assignment (variable (root.Name (id "v" 4)) (next_selector (field 4 (id "addr" 5))
-    no_selector)) 5 (only (numeral (pos 1))))) 5)
+    no_selector)) 5 (literal 1))) 5)
     ≡ faults kind.Undeclared 5
 unfolding size
 row_left_out_field = refl
@@ -83,9 +81,8 @@ row_field_twice = refl
 
 -- proc main / proc p(a: int; / a: char) begin skip end / begin skip end
 pub row_parameter_twice : resolve_tree
-    (main (then (procedure_of (heading (id "p" 2) (params (value_param (grouped (id "a" 2) (id "int" 2))) (next_param
-    (value_param (grouped (id "a" 3) (id "char" 3))) no_param)) None) no_declaration (one skip) 3) no_declaration)
-    (one skip) 4)
+    (main (then (procedure_of (heading (id "p" 2) (params (value_named (id "a" 2) (id "int" 2)) (next_param
+    (value_named (id "a" 3) (id "char" 3)) no_param)) None) no_declaration (one skip) 3) no_declaration) (one skip) 4)
     ≡ faults kind.Ambiguous 3
 row_parameter_twice = refl
 
@@ -102,9 +99,8 @@ row_exported_twice = refl
 -- an exported name stays in its module too:
 -- proc main module * const b = 1 const / b = 2 begin skip end begin skip end
 pub row_exported_stays : resolve_tree
-    (main (next_declaration (module_declaration (module_with (next_member (exported_member (const_item (const_list
-    (record { name = id "b" 1; constant = constant.Numeral (pos 1) }) no_const_decl))) (next_member (item_member
-    (const_item (const_list (record { name = id "b" 2; constant = constant.Numeral (pos 2) }) no_const_decl)))
+    (main (next_declaration (module_declaration (module_with (next_member (exported_member (constant_named (id "b" 1)
+    (constant.Numeral (pos 1)))) (next_member (item_member (constant_named (id "b" 2) (constant.Numeral (pos 2))))
     no_member)) (one skip))) no_declaration) (one skip) 2)
     ≡ faults kind.Ambiguous 2
 row_exported_stays = refl
@@ -114,7 +110,7 @@ pub row_unexported_twice : resolve_tree
     (main (then (variable_of (id "a" 2) (id "int" 2)) (next_declaration (module_declaration (module_with (next_member
     (item_member (const_item (const_list (record { name = id "b" 3; constant = constant.Numeral (pos 1) })
     (next_const_decl (record { name = id "a" 4; constant = constant.Name (id "true" 4) None }) no_const_decl))))
-    no_member) (one (sets (id "a" 4) 4 (only (numeral (pos 1))))))) no_declaration)) (one skip) 5)
+    no_member) (one (sets (id "a" 4) 4 (literal 1))))) no_declaration)) (one skip) 5)
     ≡ faults kind.Kind 4
 row_unexported_twice = refl
 
@@ -122,8 +118,8 @@ row_unexported_twice = refl
 -- proc main / module * pre proc p / * post proc / p begin skip end begin skip end / begin skip end
 pub row_both_exported : resolve_tree
     (main (next_declaration (module_declaration (module_with (next_member (exported_member (pre_item (plain (id "p"
-    2)))) (next_member (exported_member (post_item (procedure (plain (id "p" 4)) no_declaration (one skip) 4)))
-    no_member)) (one skip))) no_declaration) (one skip) 5)
+    2)))) (next_member (exported_member (post_of (plain (id "p" 4)) no_declaration (one skip) 4)) no_member)) (one
+    skip))) no_declaration) (one skip) 5)
     ≡ faults kind.Ambiguous 4
 row_both_exported = refl
 
@@ -131,16 +127,16 @@ row_both_exported = refl
 -- proc main / module pre proc p * post proc p begin skip end begin skip end / begin p; / x end
 pub row_post_exported : resolve_tree
     (main (next_declaration (module_declaration (module_with (next_member (item_member (pre_item (plain (id "p" 2))))
-    (next_member (exported_member (post_item (procedure (plain (id "p" 2)) no_declaration (one skip) 2))) no_member))
-    (one skip))) no_declaration) (two (call (id "p" 3) None) (call (id "x" 4) None)) 4)
+    (next_member (exported_member (post_of (plain (id "p" 2)) no_declaration (one skip) 2)) no_member)) (one skip)))
+    no_declaration) (two (call (id "p" 3) None) (call (id "x" 4) None)) 4)
     ≡ faults kind.Undeclared 4
 row_post_exported = refl
 
 -- proc main / module * pre proc p post proc p begin skip end begin skip end / begin p; / x end
 pub row_pre_exported : resolve_tree
     (main (next_declaration (module_declaration (module_with (next_member (exported_member (pre_item (plain (id "p"
-    2)))) (next_member (item_member (post_item (procedure (plain (id "p" 2)) no_declaration (one skip) 2)))
-    no_member)) (one skip))) no_declaration) (two (call (id "p" 3) None) (call (id "x" 4) None)) 4)
+    2)))) (next_member (item_member (post_of (plain (id "p" 2)) no_declaration (one skip) 2)) no_member)) (one skip)))
+    no_declaration) (two (call (id "p" 3) None) (call (id "x" 4) None)) 4)
     ≡ faults kind.Undeclared 4
 row_pre_exported = refl
 
@@ -165,15 +161,15 @@ row_enum_in_itself = refl
 -- proc main proc p begin skip end proc / p(a: / b) begin skip end begin skip end
 pub row_own_name_last : resolve_tree
     (main (then (procedure_of (plain (id "p" 1)) no_declaration (one skip) 1) (then (procedure_of (taking (id "p" 2)
-    (value_param (grouped (id "a" 2) (id "b" 3))) None) no_declaration (one skip) 3) no_declaration)) (one skip) 3)
+    (value_named (id "a" 2) (id "b" 3)) None) no_declaration (one skip) 3) no_declaration)) (one skip) 3)
     ≡ faults kind.Undeclared 3
 row_own_name_last = refl
 
 -- a procedure has one scope for its parameters and its declarations:
 -- proc main proc p(a: int) var / a: int begin skip end begin skip end
 pub row_parameter_as_local : resolve_tree
-    (main (then (procedure_of (taking (id "p" 1) (value_param (grouped (id "a" 1) (id "int" 1))) None) (then
-    (variable_of (id "a" 2) (id "int" 2)) no_declaration) (one skip) 2) no_declaration) (one skip) 2)
+    (main (then (procedure_of (taking (id "p" 1) (value_named (id "a" 1) (id "int" 1)) None) (then (variable_of (id
+    "a" 2) (id "int" 2)) no_declaration) (one skip) 2) no_declaration) (one skip) 2)
     ≡ faults kind.Ambiguous 2
 row_parameter_as_local = refl
 
@@ -192,53 +188,49 @@ row_program_declares_itself = refl
 
 -- proc main / const c = 1 / var x: c / begin skip end
 pub row_no_type : resolve_tree
-    (main (then (const_item (const_list (record { name = id "c" 2; constant = constant.Numeral (pos 1) })
-    no_const_decl)) (then (variable_of (id "x" 3) (id "c" 3)) no_declaration)) (one skip) 4)
+    (main (then (constant_named (id "c" 2) (constant.Numeral (pos 1))) (then (variable_of (id "x" 3) (id "c" 3))
+    no_declaration)) (one skip) 4)
     ≡ faults kind.Kind 3
 row_no_type = refl
 
 -- proc main / var x: int / const c = / x / begin skip end
 pub row_no_constant : resolve_tree
-    (main (then (variable_of (id "x" 2) (id "int" 2)) (then (const_item (const_list (record {
-      name = id "c" 3;
-      constant = constant.Name (id "x" 4) None;
-    }) no_const_decl)) no_declaration)) (one skip) 5)
+    (main (then (variable_of (id "x" 2) (id "int" 2)) (then (constant_named (id "c" 3) (constant.Name (id "x" 4)
+    None)) no_declaration)) (one skip) 5)
     ≡ faults kind.Kind 4
 row_no_constant = refl
 
 -- proc main / const c = 1 / begin / c := 1 end
 pub row_no_variable : resolve_tree
-    (main (then (const_item (const_list (record { name = id "c" 2; constant = constant.Numeral (pos 1) })
-    no_const_decl)) no_declaration) (one (sets (id "c" 4) 4 (only (numeral (pos 1))))) 4)
+    (main (then (constant_named (id "c" 2) (constant.Numeral (pos 1))) no_declaration) (one (sets (id "c" 4) 4
+    (literal 1))) 4)
     ≡ faults kind.Kind 4
 row_no_variable = refl
 
 -- proc main / var x: int / begin / x end
-pub row_no_procedure : resolve_tree
-    (main (then (variable_of (id "x" 2) (id "int" 2)) no_declaration) (one (call (id "x" 4) None)) 4)
-    ≡ faults kind.Kind 4
+pub row_no_procedure : resolve_tree (with_variable (id "x" 2) (id "int" 2) (one (call (id "x" 4) None)) 4) ≡ faults kind.Kind 4
 row_no_procedure = refl
 
 -- the name before arguments is judged before them:
 -- proc main / var x: int / begin x := / x(y) end
 pub row_nothing_to_apply : resolve_tree
-    (main (then (variable_of (id "x" 2) (id "int" 2)) no_declaration) (one (sets (id "x" 3) 3 (only (call_factor (id
-    "x" 4) (args (only (named (id "y" 4))) no_expr))))) 4)
+    (with_variable (id "x" 2) (id "int" 2) (one (sets (id "x" 3) 3 (only (call_factor (id "x" 4) (args (only (named
+    (id "y" 4))) no_expr))))) 4)
     ≡ faults kind.Kind 4
 row_nothing_to_apply = refl
 
 -- proc main / proc f: int begin val f := 1 end / begin val / f := 2 end
 pub row_val_outside : resolve_tree
     (main (then (procedure_of (heading (id "f" 2) no_params (Some (id "int" 2))) no_declaration (one (returns (id "f"
-    2) 2 (only (numeral (pos 1))))) 2) no_declaration) (one (returns (id "f" 4) 4 (only (numeral (pos 2))))) 4)
+    2) 2 (literal 1))) 2) no_declaration) (one (returns (id "f" 4) 4 (literal 2))) 4)
     ≡ faults kind.Kind 4
 unfolding size
 row_val_outside = refl
 
 -- proc main / proc f begin val / f := 1 end / begin f end
 pub row_val_of_procedure : resolve_tree
-    (main (then (procedure_of (plain (id "f" 2)) no_declaration (one (returns (id "f" 3) 3 (only (numeral (pos 1)))))
-    3) no_declaration) (one (call (id "f" 4) None)) 4)
+    (main (then (procedure_of (plain (id "f" 2)) no_declaration (one (returns (id "f" 3) 3 (literal 1))) 3)
+    no_declaration) (one (call (id "f" 4) None)) 4)
     ≡ faults kind.Kind 3
 row_val_of_procedure = refl
 
@@ -246,8 +238,8 @@ row_val_of_procedure = refl
 -- proc main / var x: int / proc f: char proc g begin / val f := 1 end begin g end / begin x := f end
 pub row_val_inside : resolve_tree
     (main (then (variable_of (id "x" 2) (id "int" 2)) (then (procedure_of (heading (id "f" 3) no_params (Some (id
-    "char" 3))) (then (procedure_of (plain (id "g" 3)) no_declaration (one (returns (id "f" 4) 4 (only (numeral (pos
-    1))))) 4) no_declaration) (one (call (id "g" 4) None)) 4) no_declaration)) (one (sets (id "x" 5) 5 (only (named
-    (id "f" 5))))) 5)
+    "char" 3))) (then (procedure_of (plain (id "g" 3)) no_declaration (one (returns (id "f" 4) 4 (literal 1))) 4)
+    no_declaration) (one (call (id "g" 4) None)) 4) no_declaration)) (one (sets (id "x" 5) 5 (only (named (id "f"
+    5))))) 5)
     ≡ faults kind.Types 4
 row_val_inside = refl

@@ -1,7 +1,9 @@
 -- Helper. Writing trees down.
-use Rattle.std.specs.Prelude.{ℕ, Option, None, Some, codes}
+use Rattle.std.specs.Prelude.{ℕ, pos, Option, None, Some, codes}
 use Prim.Native.String.{String}
 use Rattle.edi_tree.specs.declared.names.Name.{Name}
+use Rattle.edi_tree.specs.declared.constants.Constant.{Constant}
+use Rattle.edi_tree.specs.declared.constants.Constant.TheVariants as constant
 use Rattle.edi_tree.specs.declared.expressions.Root.TheVariants as root
 use Rattle.edi_tree.specs.Tree as text
 
@@ -21,6 +23,9 @@ only f = text.expr (sole f) text.no_comparison
 
 abbrev pub named : Name → text.Factor
 named name = text.variable_factor (text.variable (root.Name name) text.no_selector)
+
+abbrev pub literal : ℕ → text.Expr
+literal n = only (text.numeral (pos n))
 
 -- `name := e`
 abbrev pub sets : Name → (line : ℕ) → text.Expr → text.Statement
@@ -56,6 +61,25 @@ variable_of name of = text.var_item (text.var_list (grouped name of) text.no_gro
 abbrev pub record_of_one : Name → (field of : Name) → text.Item
 record_of_one name field of = text.type_item (text.record_decl name (grouped field of) text.no_group)
 
+-- `const name = value`
+abbrev pub constant_named : Name → (value : Constant) → text.Item
+constant_named name value = text.const_item (text.const_list (record { name = name; constant = value }) text.no_const_decl)
+
+-- `array name [low:high] (of)`
+abbrev pub array_named : Name → (line low high : ℕ) → (of : Name) → text.Item
+array_named name line low high of = text.type_item (text.array_decl name line (constant.Numeral (pos low)) (constant.Numeral (pos high)) of)
+
+-- `set name (of)`
+abbrev pub set_named : Name → (of : Name) → text.Item
+set_named name of = text.type_item (text.set_decl name of)
+
+-- parameters: `name: of`, and `var name: of`
+abbrev pub value_named : Name → (of : Name) → text.Param
+value_named name of = text.value_param (grouped name of)
+
+abbrev pub variable_named : Name → (of : Name) → text.Param
+variable_named name of = text.var_param (grouped name of)
+
 -- `proc name`
 abbrev pub plain : Name → text.Heading
 plain name = text.heading name text.no_params None
@@ -68,9 +92,17 @@ taking name p result = text.heading name (text.params p text.no_param) result
 abbrev pub procedure_of : text.Heading → text.Declarations → text.StatementList → (line : ℕ) → text.Item
 procedure_of h ds s line = text.procedure_item (text.procedure h ds s line)
 
+-- `post proc .. begin .. end`, with its `end` on this line
+abbrev pub post_of : text.Heading → text.Declarations → text.StatementList → (line : ℕ) → text.Item
+post_of h ds s line = text.post_item (text.procedure h ds s line)
+
 abbrev pub then : text.Item → text.Declarations → text.Declarations
 then i ds = text.next_declaration (text.item_declaration i) ds
 
 -- `proc main .. begin .. end`, with its `end` on this line
 abbrev pub main : text.Declarations → text.StatementList → (line : ℕ) → text.Program
 main ds s line = text.program text.no_global (text.procedure (plain (id "main" 1)) ds s line)
+
+-- `proc main var name: of begin .. end`
+abbrev pub with_variable : Name → (of : Name) → text.StatementList → (line : ℕ) → text.Program
+with_variable name of s line = main (then (variable_of name of) text.no_declaration) s line
