@@ -12,8 +12,8 @@ use Rattle.edi_static.specs.Environment.{Environment, declare}
 use Rattle.edi_static.specs.Headings.{round, own_name, heading_parts}
 use Rattle.edi_static.specs.Declarations.{with_heading, procedure_rest}
 use Rattle.edi_static.specs.Programs.{program_heading, program_procedure}
+use Rattle.edi_values.proofs.Behind.{bind_bind, bind_same}
 use Rattle.edi_sema.specs.Whole.{Heads, begun_program, program_unit}
-use Rattle.edi_sema.proofs.Walked.{assoc, same_behind}
 
 -- a fault is that of a construct; or there was no memory
 abbrev pub Faulted : {A : Type 0} → StaticFault → Judged A → Type 0
@@ -34,9 +34,9 @@ on_ok (Err f) p = tt
 chain : {A B C D E : Type 0} (m : Judged A) (f : A → Judged B) (g : A → B → Judged C) (pair : B → C → D) (k : D → Judged E) →
     (m >>= λ a. f a >>= λ b. g a b >>= λ c. k (pair b c)) ≡ ((m >>= λ a. f a >>= λ b. g a b >>= λ c. gives (pair b c)) >>= k)
 chain m f g pair k =
-    same_behind m _ _ (λ a. same_behind (f a) _ _ (λ b. sym (assoc (g a b) (λ c. gives (pair b c)) k))
-    ∙ sym (assoc (f a) (λ b. g a b >>= λ c. gives (pair b c)) k))
-    ∙ sym (assoc m (λ a. f a >>= λ b. g a b >>= λ c. gives (pair b c)) k)
+    bind_same m _ _ (λ a. bind_same (f a) _ _ (λ b. sym (bind_bind (g a b) (λ c. gives (pair b c)) k))
+    ∙ sym (bind_bind (f a) (λ b. g a b >>= λ c. gives (pair b c)) k))
+    ∙ sym (bind_bind m (λ a. f a >>= λ b. g a b >>= λ c. gives (pair b c)) k)
 
 -- a program by its heading and the rest of its procedure
 pub program_is : (h : text.Heading) (ds : text.Declarations) (s : text.StatementList) (end : ℕ) (env : Environment) →

@@ -119,12 +119,16 @@ pub then_mark : {n : ℕ} {P : Type 0} {s : Spelled} {a b : List Spelled} → Pa
 then_mark x = record { part = x.part; behind_it = rest x.behind_it; fewer = omega (arith, x.fewer) }
 
 -- two parts, one behind the other
-pub two : {n m : ℕ} {P Q : Type 0} {a b c : List Spelled} → Passed n P a b → Passed m Q b c → Passed n (P × Q) a c
-two x y = record { part = (x.part, y.part); behind_it = y.behind_it; fewer = omega (arith, x.fewer, y.fewer) }
+pub in_turn : {n m : ℕ} {P Q : Type 0} {a b c : List Spelled} → Passed n P a b → (Bounded b → Passed m Q b c) → Passed n (P × Q) a c
+in_turn x next =
+    let y = next x.behind_it in
+    record { part = (x.part, y.part); behind_it = y.behind_it; fewer = omega (arith, x.fewer, y.fewer) }
 
 -- a part behind another of which nothing is said
-pub over : {n m : ℕ} {P Q : Type 0} {a b c : List Spelled} → Passed n P a b → Passed m Q b c → Passed m Q a c
-over x y = record { part = y.part; behind_it = y.behind_it; fewer = omega (arith, x.fewer, y.fewer) }
+pub past : {n m : ℕ} {P Q : Type 0} {a b c : List Spelled} → Passed n P a b → (Bounded b → Passed m Q b c) → Passed m Q a c
+past x next =
+    let y = next x.behind_it in
+    record { part = y.part; behind_it = y.behind_it; fewer = omega (arith, x.fewer, y.fewer) }
 
 pub loose : {n : ℕ} {P : Type 0} {a b : List Spelled} → Passed n P a b → Passed 0 P a b
 loose x = record { part = x.part; behind_it = x.behind_it; fewer = omega (arith, x.fewer) }

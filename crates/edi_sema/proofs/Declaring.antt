@@ -6,7 +6,7 @@ use Rattle.edi_tree.specs.declared.declarations.Procedure as code_procedure
 use Rattle.edi_tree.specs.Sequences.{items_of}
 use Rattle.edi_tree.specs.View.{declaration_of, declarations, declarations_of, heading_of, list_of, procedure_of}
 use Rattle.edi_static.specs.declared.faults.StaticFault.{StaticFault}
-use Rattle.edi_static.specs.Judged.{gives, ◌>>=◌}
+use Rattle.edi_static.specs.Judged.{Judged, gives, ◌>>=◌}
 use Rattle.edi_static.specs.Environment.{Begun, Environment}
 use Rattle.edi_static.specs.Headings.{leave}
 use Rattle.edi_static.specs.Declarations as spec
@@ -20,6 +20,10 @@ use Rattle.edi_sema.proofs.Answered.{Faulted, part_faults}
 use Rattle.edi_sema.proofs.Opening.{rest_stated, rest_leaves, rest_faults, end_faults}
 use Rattle.edi_sema.proofs.Seen.{procedure_seen}
 use Rattle.edi_sema.proofs.Staying.{given}
+
+-- what is left of a list is judged where its loop stands as the whole list is where the loop began
+abbrev pub Remains : {X : Type 0} → (List X → Environment → Judged Environment) → (rest all : List X) → (now first : Environment) → Type 0
+Remains judge rest all now first = judge rest now ≡ judge all first
 
 -- A place behind some declarations of a procedure: these are left, and judged there as all of them are at the first.
 pub record Declaring (block : ℕ) (env now : Environment) (p : code_procedure.Procedure) (rest : List Declaration) : Type 0 where

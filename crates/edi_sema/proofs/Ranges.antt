@@ -15,7 +15,7 @@ use Rattle.edi_tree.specs.Spells.{IsBounded}
 use Rattle.edi_static.specs.InRange.{branches_count, ListInRange, StatementsInRange, StatementInRange, ConditionsInRange, ConditionInRange, ElseInRange}
 use Rattle.edi_static.specs.InRange.{BranchInRange, BranchesInRange, ProcedureInRange, ItemInRange, ModuleInRange, MemberInRange, MembersInRange}
 use Rattle.edi_static.specs.InRange.{DeclarationInRange, DeclarationsInRange, GlobalInRange, GlobalsInRange, ProgramInRange}
-use Rattle.edi_sema.proofs.Bounded.{Bounded, rest, tree_bounded, Passed, nothing, mark, then_mark, two, over, loose}
+use Rattle.edi_sema.proofs.Bounded.{Bounded, rest, tree_bounded, Passed, nothing, mark, then_mark, in_turn, past, loose}
 use Rattle.edi_sema.proofs.RangesParts.{constant_passed, const_list_passed, type_decl_passed, var_list_passed, heading_passed, expr_passed, variable_passed}
 use Rattle.edi_sema.proofs.RangesParts.{optional_args_passed}
 
@@ -38,15 +38,12 @@ cobegin_of n h x y = record {
 
 mutual
   list_passed : (x : StatementList) (more : List Spelled) → Bounded (list_then x more) → Passed 1 (ListInRange x) (list_then x more) more
-  list_passed (list s ss) more h =
-      let x = statement_passed s (statements_then ss more) h in
-      two x (statements_passed ss more x.behind_it)
+  list_passed (list s ss) more h = in_turn (statement_passed s (statements_then ss more) h) (λ b. statements_passed ss more b)
 
   statements_passed : (x : Statements) (more : List Spelled) → Bounded (statements_then x more) → Passed 0 (StatementsInRange x) (statements_then x more) more
   statements_passed no_statement more h = nothing h
   statements_passed (next_statement s ss) more h =
-      let x = statement_passed s (statements_then ss more) (rest h) in
-      loose (mark (two x (statements_passed ss more x.behind_it)))
+      loose (mark (in_turn (statement_passed s (statements_then ss more) (rest h)) (λ b. statements_passed ss more b)))
 
   statement_passed : (x : Statement) (more : List Spelled) → Bounded (statement_then x more) → Passed 1 (StatementInRange x) (statement_then x more) more
   statement_passed skip more h = mark (nothing (rest h))
@@ -63,20 +60,14 @@ mutual
       cobegin_of (branches_count bs) h x (branches_passed bs more x.behind_it)
 
   conditions_passed : (x : Conditions) (more : List Spelled) → Bounded (conditions_then x more) → Passed 0 (ConditionsInRange x) (conditions_then x more) more
-  conditions_passed (conditions c cs) more h =
-      let x = condition_passed c (else_then cs more) h in
-      two x (else_passed cs more x.behind_it)
+  conditions_passed (conditions c cs) more h = in_turn (condition_passed c (else_then cs more) h) (λ b. else_passed cs more b)
 
   condition_passed : (x : Condition) (more : List Spelled) → Bounded (condition_then x more) → Passed 0 (ConditionInRange x) (condition_then x more) more
-  condition_passed (condition e line l) more h =
-      let x = then_mark (expr_passed e (on is.Do line ∷ list_then l more) h) in
-      two x (list_passed l more x.behind_it)
+  condition_passed (condition e line l) more h = in_turn (then_mark (expr_passed e (on is.Do line ∷ list_then l more) h)) (λ b. list_passed l more b)
 
   else_passed : (x : Else) (more : List Spelled) → Bounded (else_then x more) → Passed 0 (ElseInRange x) (else_then x more) more
   else_passed no_else more h = nothing h
-  else_passed (next_else c cs) more h =
-      let x = condition_passed c (else_then cs more) (rest h) in
-      loose (mark (two x (else_passed cs more x.behind_it)))
+  else_passed (next_else c cs) more h = loose (mark (in_turn (condition_passed c (else_then cs more) (rest h)) (λ b. else_passed cs more b)))
 
   branch_passed : (x : Branch) (more : List Spelled) → Bounded (branch_then x more) → Passed 3 (BranchInRange x) (branch_then x more) more
   branch_passed (branch c line l) more h =
@@ -96,9 +87,8 @@ mutual
   procedure_passed : (x : Procedure) (more : List Spelled) → Bounded (procedure_then x more) → Passed 0 (ProcedureInRange x) (procedure_then x more) more
   procedure_passed (procedure head ds l end) more h =
       let behind = just is.Begin ∷ list_then l (on is.End end ∷ more) in
-      let first = heading_passed head (declarations_then ds behind) h in
-      let x = then_mark (declarations_passed ds behind first.behind_it) in
-      over first (two x (then_mark (list_passed l (on is.End end ∷ more) x.behind_it)))
+      past (heading_passed head (declarations_then ds behind) h) (λ b.
+      in_turn (then_mark (declarations_passed ds behind b)) (λ c. then_mark (list_passed l (on is.End end ∷ more) c)))
 
   item_passed : (x : Item) (more : List Spelled) → Bounded (item_then x more) → Passed 0 (ItemInRange x) (item_then x more) more
   item_passed (const_item l) more h = const_list_passed l more h
@@ -110,8 +100,8 @@ mutual
 
   module_passed : (x : Module) (more : List Spelled) → Bounded (module_then x more) → Passed 0 (ModuleInRange x) (module_then x more) more
   module_passed (module_with ms l) more h =
-      let x = then_mark (members_passed ms (just is.Begin ∷ list_then l (just is.End ∷ more)) (rest h)) in
-      loose (mark (two x (then_mark (list_passed l (just is.End ∷ more) x.behind_it))))
+      loose (mark (in_turn (then_mark (members_passed ms (just is.Begin ∷ list_then l (just is.End ∷ more)) (rest h))) (λ b.
+      then_mark (list_passed l (just is.End ∷ more) b))))
 
   member_passed : (x : Member) (more : List Spelled) → Bounded (member_then x more) → Passed 0 (MemberInRange x) (member_then x more) more
   member_passed (item_member i) more h = item_passed i more h
@@ -120,9 +110,7 @@ mutual
 
   members_passed : (x : Members) (more : List Spelled) → Bounded (members_then x more) → Passed 0 (MembersInRange x) (members_then x more) more
   members_passed no_member more h = nothing h
-  members_passed (next_member m ms) more h =
-      let x = member_passed m (members_then ms more) h in
-      two x (members_passed ms more x.behind_it)
+  members_passed (next_member m ms) more h = in_turn (member_passed m (members_then ms more) h) (λ b. members_passed ms more b)
 
   declaration_passed : (x : Declaration) (more : List Spelled) → Bounded (declaration_then x more) → Passed 0 (DeclarationInRange x) (declaration_then x more)
       more
@@ -132,9 +120,7 @@ mutual
   declarations_passed : (x : Declarations) (more : List Spelled) → Bounded (declarations_then x more) → Passed 0 (DeclarationsInRange x)
       (declarations_then x more) more
   declarations_passed no_declaration more h = nothing h
-  declarations_passed (next_declaration d ds) more h =
-      let x = declaration_passed d (declarations_then ds more) h in
-      two x (declarations_passed ds more x.behind_it)
+  declarations_passed (next_declaration d ds) more h = in_turn (declaration_passed d (declarations_then ds more) h) (λ b. declarations_passed ds more b)
 
 -- ---- programs
 
@@ -144,14 +130,10 @@ global_passed (type_global d) more h = type_decl_passed d more h
 
 globals_passed : (x : Globals) (more : List Spelled) → Bounded (globals_then x more) → Passed 0 (GlobalsInRange x) (globals_then x more) more
 globals_passed no_global more h = nothing h
-globals_passed (next_global g gs) more h =
-    let x = global_passed g (globals_then gs more) h in
-    two x (globals_passed gs more x.behind_it)
+globals_passed (next_global g gs) more h = in_turn (global_passed g (globals_then gs more) h) (λ b. globals_passed gs more b)
 
 program_passed : (x : Program) (more : List Spelled) → Bounded (program_then x more) → Passed 0 (ProgramInRange x) (program_then x more) more
-program_passed (program gs p) more h =
-    let x = globals_passed gs (procedure_then p more) h in
-    two x (procedure_passed p more x.behind_it)
+program_passed (program gs p) more h = in_turn (globals_passed gs (procedure_then p more) h) (λ b. procedure_passed p more b)
 
 pub bounded_in_range : (tree : Program) → ∥ IsBounded tree ∥₁ → ProgramInRange tree
 bounded_in_range tree is_bounded = (program_passed tree [] (tree_bounded tree is_bounded)).part

@@ -24,8 +24,8 @@ use Rattle.edi_tree.specs.Spelled.{selectors_then, optional_args_then}
 use Rattle.edi_static.specs.InRange.{ConstantInRange, ConstDeclsInRange, ConstListInRange, TypeDeclInRange, ExprInRange, ComparisonInRange, ExprsInRange}
 use Rattle.edi_static.specs.InRange.{SimpleInRange, AddendInRange, AddendsInRange, TermInRange, MultiplierInRange, MultipliersInRange, FactorInRange}
 use Rattle.edi_static.specs.InRange.{ArgsInRange, VariableInRange, SelectorInRange, SelectorsInRange, OptionalArgsInRange}
-use Rattle.edi_sema.proofs.Bounded.{numeral_in_range, numeral_not_negative, string_in_range, Bounded, first_of, rest, Passed, nothing, mark, then_mark, two}
-use Rattle.edi_sema.proofs.Bounded.{over, loose}
+use Rattle.edi_sema.proofs.Bounded.{numeral_in_range, numeral_not_negative, string_in_range, Bounded, first_of, rest, Passed, nothing, mark, then_mark}
+use Rattle.edi_sema.proofs.Bounded.{in_turn, past, loose}
 
 -- ---- names, constants, types, variables
 
@@ -52,40 +52,33 @@ const_decl_passed d more h = mark (mark (constant_passed d.constant more (rest (
 const_decls_passed : (x : ConstDecls) (more : List Spelled) → Bounded (const_decls_then x more) → Passed 0 (ConstDeclsInRange x) (const_decls_then x more) more
 const_decls_passed no_const_decl more h = nothing h
 const_decls_passed (next_const_decl d ds) more h =
-    let x = const_decl_passed d (const_decls_then ds more) (rest h) in
-    loose (mark (two x (const_decls_passed ds more x.behind_it)))
+    loose (mark (in_turn (const_decl_passed d (const_decls_then ds more) (rest h)) (λ b. const_decls_passed ds more b)))
 
 pub const_list_passed : (x : ConstList) (more : List Spelled) → Bounded (const_list_then x more) → Passed 0 (ConstListInRange x) (const_list_then x more) more
 const_list_passed (const_list d ds) more h =
-    let x = const_decl_passed d (const_decls_then ds more) (rest h) in
-    loose (mark (two x (const_decls_passed ds more x.behind_it)))
+    loose (mark (in_turn (const_decl_passed d (const_decls_then ds more) (rest h)) (λ b. const_decls_passed ds more b)))
 
 group_passed : (x : Group) (more : List Spelled) → Bounded (group_then x more) → Passed 0 (Unit {0}) (group_then x more) more
-group_passed (group n ns t) more h =
-    loose (mark (then_mark (then_mark (names_passed ns (just is.Colon ∷ name_mark t ∷ more) (rest h)))))
+group_passed (group n ns t) more h = loose (mark (then_mark (then_mark (names_passed ns (just is.Colon ∷ name_mark t ∷ more) (rest h)))))
 
 groups_passed : (x : Groups) (more : List Spelled) → Bounded (groups_then x more) → Passed 0 (Unit {0}) (groups_then x more) more
 groups_passed no_group more h = nothing h
-groups_passed (next_group g gs) more h =
-    let x = group_passed g (groups_then gs more) (rest h) in
-    loose (mark (over x (groups_passed gs more x.behind_it)))
+groups_passed (next_group g gs) more h = loose (mark (past (group_passed g (groups_then gs more) (rest h)) (λ b. groups_passed gs more b)))
 
 pub type_decl_passed : (x : TypeDecl) (more : List Spelled) → Bounded (type_decl_then x more) → Passed 0 (TypeDeclInRange x) (type_decl_then x more) more
 type_decl_passed (enum_decl n m ms) more h =
     loose (mark (mark (mark (mark (then_mark (names_passed ms (just is.Close ∷ more) (rest (rest (rest (rest h))))))))))
 type_decl_passed (record_decl n g gs) more h =
-    let x = group_passed g (groups_then gs (just is.Close ∷ more)) (rest (rest (rest h))) in
-    loose (mark (mark (mark (over x (then_mark (groups_passed gs (just is.Close ∷ more) x.behind_it))))))
+    loose (mark (mark (mark (past (group_passed g (groups_then gs (just is.Close ∷ more)) (rest (rest (rest h)))) (λ b.
+    then_mark (groups_passed gs (just is.Close ∷ more) b))))))
 type_decl_passed (array_decl n line lower upper e) more h =
     let last = just is.CloseBracket ∷ just is.Open ∷ name_mark e ∷ just is.Close ∷ more in
-    let x = then_mark (constant_passed lower (just is.Colon ∷ constant_then upper last) (rest (rest (rest h)))) in
-    loose (mark (mark (mark (two x (then_mark (then_mark (then_mark (then_mark (constant_passed upper last x.behind_it)))))))))
+    loose (mark (mark (mark (in_turn (then_mark (constant_passed lower (just is.Colon ∷ constant_then upper last) (rest (rest (rest h))))) (λ b.
+    then_mark (then_mark (then_mark (then_mark (constant_passed upper last b)))))))))
 type_decl_passed (set_decl n b) more h = loose (mark (mark (mark (mark (mark (nothing (rest (rest (rest (rest (rest h)))))))))))
 
 pub var_list_passed : (x : VarList) (more : List Spelled) → Bounded (var_list_then x more) → Passed 0 (Unit {0}) (var_list_then x more) more
-var_list_passed (var_list g gs) more h =
-    let x = group_passed g (groups_then gs more) (rest h) in
-    loose (mark (over x (groups_passed gs more x.behind_it)))
+var_list_passed (var_list g gs) more h = loose (mark (past (group_passed g (groups_then gs more) (rest h)) (λ b. groups_passed gs more b)))
 
 -- ---- headings
 
@@ -95,21 +88,17 @@ result_passed (Some n) more h = loose (mark (mark (nothing (rest (rest h)))))
 
 mutual
   pub heading_passed : (x : Heading) (more : List Spelled) → Bounded (heading_then x more) → Passed 0 (Unit {0}) (heading_then x more) more
-  heading_passed (heading n ps r) more h =
-      let x = params_passed ps (result_then r more) (rest (rest h)) in
-      loose (mark (mark (over x (result_passed r more x.behind_it))))
+  heading_passed (heading n ps r) more h = loose (mark (mark (past (params_passed ps (result_then r more) (rest (rest h))) (λ b. result_passed r more b))))
 
   params_passed : (x : Params) (more : List Spelled) → Bounded (params_then x more) → Passed 0 (Unit {0}) (params_then x more) more
   params_passed no_params more h = nothing h
   params_passed (params p ps) more h =
-      let x = param_passed p (more_params_then ps (just is.Close ∷ more)) (rest h) in
-      loose (mark (over x (then_mark (more_params_passed ps (just is.Close ∷ more) x.behind_it))))
+      loose (mark (past (param_passed p (more_params_then ps (just is.Close ∷ more)) (rest h)) (λ b. then_mark (more_params_passed ps (just is.Close ∷
+      more) b))))
 
   more_params_passed : (x : MoreParams) (more : List Spelled) → Bounded (more_params_then x more) → Passed 0 (Unit {0}) (more_params_then x more) more
   more_params_passed no_param more h = nothing h
-  more_params_passed (next_param p ps) more h =
-      let x = param_passed p (more_params_then ps more) (rest h) in
-      loose (mark (over x (more_params_passed ps more x.behind_it)))
+  more_params_passed (next_param p ps) more h = loose (mark (past (param_passed p (more_params_then ps more) (rest h)) (λ b. more_params_passed ps more b)))
 
   param_passed : (x : Param) (more : List Spelled) → Bounded (param_then x more) → Passed 0 (Unit {0}) (param_then x more) more
   param_passed (value_param g) more h = group_passed g more h
@@ -129,9 +118,7 @@ root_passed (root.Val n) more h = mark (mark (nothing (rest (rest h))))
 
 mutual
   pub expr_passed : (x : Expr) (more : List Spelled) → Bounded (expr_then x more) → Passed 0 (ExprInRange x) (expr_then x more) more
-  expr_passed (expr s c) more h =
-      let x = simple_passed s (comparison_then c more) h in
-      two x (comparison_passed c more x.behind_it)
+  expr_passed (expr s c) more h = in_turn (simple_passed s (comparison_then c more) h) (λ b. comparison_passed c more b)
 
   comparison_passed : (x : Comparison) (more : List Spelled) → Bounded (comparison_then x more) → Passed 0 (ComparisonInRange x) (comparison_then x more) more
   comparison_passed no_comparison more h = nothing h
@@ -139,29 +126,22 @@ mutual
 
   exprs_passed : (x : Exprs) (more : List Spelled) → Bounded (exprs_then x more) → Passed 0 (ExprsInRange x) (exprs_then x more) more
   exprs_passed no_expr more h = nothing h
-  exprs_passed (next_expr e es) more h =
-      let x = expr_passed e (exprs_then es more) (rest h) in
-      loose (mark (two x (exprs_passed es more x.behind_it)))
+  exprs_passed (next_expr e es) more h = loose (mark (in_turn (expr_passed e (exprs_then es more) (rest h)) (λ b. exprs_passed es more b)))
 
   simple_passed : (x : Simple) (more : List Spelled) → Bounded (simple_then x more) → Passed 0 (SimpleInRange x) (simple_then x more) more
   simple_passed (simple s t ts) more h =
-      let first = sign_passed s (term_then t (addends_then ts more)) h in
-      let x = term_passed t (addends_then ts more) first.behind_it in
-      over first (two x (addends_passed ts more x.behind_it))
+      past (sign_passed s (term_then t (addends_then ts more)) h) (λ b.
+      in_turn (term_passed t (addends_then ts more) b) (λ c. addends_passed ts more c))
 
   addend_passed : (x : Addend) (more : List Spelled) → Bounded (addend_then x more) → Passed 0 (AddendInRange x) (addend_then x more) more
   addend_passed (addend o line t) more h = loose (mark (term_passed t more (rest h)))
 
   addends_passed : (x : Addends) (more : List Spelled) → Bounded (addends_then x more) → Passed 0 (AddendsInRange x) (addends_then x more) more
   addends_passed no_addend more h = nothing h
-  addends_passed (next_addend t ts) more h =
-      let x = addend_passed t (addends_then ts more) h in
-      two x (addends_passed ts more x.behind_it)
+  addends_passed (next_addend t ts) more h = in_turn (addend_passed t (addends_then ts more) h) (λ b. addends_passed ts more b)
 
   term_passed : (x : Term) (more : List Spelled) → Bounded (term_then x more) → Passed 0 (TermInRange x) (term_then x more) more
-  term_passed (term f fs) more h =
-      let x = factor_passed f (multipliers_then fs more) h in
-      two x (multipliers_passed fs more x.behind_it)
+  term_passed (term f fs) more h = in_turn (factor_passed f (multipliers_then fs more) h) (λ b. multipliers_passed fs more b)
 
   multiplier_passed : (x : Multiplier) (more : List Spelled) → Bounded (multiplier_then x more) → Passed 0 (MultiplierInRange x) (multiplier_then x more) more
   multiplier_passed (multiplier o line f) more h = loose (mark (factor_passed f more (rest h)))
@@ -169,9 +149,7 @@ mutual
   multipliers_passed : (x : Multipliers) (more : List Spelled) → Bounded (multipliers_then x more) → Passed 0 (MultipliersInRange x) (multipliers_then x more)
       more
   multipliers_passed no_multiplier more h = nothing h
-  multipliers_passed (next_multiplier f fs) more h =
-      let x = multiplier_passed f (multipliers_then fs more) h in
-      two x (multipliers_passed fs more x.behind_it)
+  multipliers_passed (next_multiplier f fs) more h = in_turn (multiplier_passed f (multipliers_then fs more) h) (λ b. multipliers_passed fs more b)
 
   factor_passed : (x : Factor) (more : List Spelled) → Bounded (factor_then x more) → Passed 0 (FactorInRange x) (factor_then x more) more
   factor_passed (numeral v) more h = loose (one h (numeral_in_range v (first_of (just (is.Numeral v)) more h)))
@@ -183,13 +161,10 @@ mutual
 
   pub args_passed : (x : Args) (more : List Spelled) → Bounded (args_then x more) → Passed 0 (ArgsInRange x) (args_then x more) more
   args_passed (args e es) more h =
-      let x = expr_passed e (exprs_then es (just is.Close ∷ more)) (rest h) in
-      loose (mark (two x (then_mark (exprs_passed es (just is.Close ∷ more) x.behind_it))))
+      loose (mark (in_turn (expr_passed e (exprs_then es (just is.Close ∷ more)) (rest h)) (λ b. then_mark (exprs_passed es (just is.Close ∷ more) b))))
 
   pub variable_passed : (x : Variable) (more : List Spelled) → Bounded (variable_then x more) → Passed 0 (VariableInRange x) (variable_then x more) more
-  variable_passed (variable r ss) more h =
-      let first = root_passed r (selectors_then ss more) h in
-      over first (selectors_passed ss more first.behind_it)
+  variable_passed (variable r ss) more h = past (root_passed r (selectors_then ss more) h) (λ b. selectors_passed ss more b)
 
   selector_passed : (x : Selector) (more : List Spelled) → Bounded (selector_then x more) → Passed 0 (SelectorInRange x) (selector_then x more) more
   selector_passed (field line n) more h = loose (mark (mark (nothing (rest (rest h)))))
@@ -197,9 +172,7 @@ mutual
 
   selectors_passed : (x : Selectors) (more : List Spelled) → Bounded (selectors_then x more) → Passed 0 (SelectorsInRange x) (selectors_then x more) more
   selectors_passed no_selector more h = nothing h
-  selectors_passed (next_selector s ss) more h =
-      let x = selector_passed s (selectors_then ss more) h in
-      two x (selectors_passed ss more x.behind_it)
+  selectors_passed (next_selector s ss) more h = in_turn (selector_passed s (selectors_then ss more) h) (λ b. selectors_passed ss more b)
 
 pub optional_args_passed : (x : Option Args) (more : List Spelled) → Bounded (optional_args_then x more) → Passed 0 (OptionalArgsInRange x)
     (optional_args_then x more) more

@@ -36,12 +36,7 @@ only_one : (f g : One) → same_formals (formals (f ∷ [])) (formals (g ∷ [])
 only_one (value s) (value t) = and_true (s == t)
 only_one (variable s) (variable t) = and_true (s == t)
 only_one (procedure g) (procedure h) = and_true (same_heading g h)
-only_one (value s) (variable t) = refl
-only_one (value s) (procedure t) = refl
-only_one (variable s) (value t) = refl
-only_one (variable s) (procedure t) = refl
-only_one (procedure s) (value t) = refl
-only_one (procedure s) (variable t) = refl
+only_one f g = refl
 
 in_one : (h : Heading) (f g : One) → formals (f ∷ []) ≡ heading_formals h → same_heading h (heading (formals (g ∷ [])) None)
     ≡ (same_one f g && same_result (heading_result h) None)

@@ -10,19 +10,14 @@ use Rattle.edi_static.specs.declared.faults.StaticKind.{StaticKind}
 use Rattle.edi_static.specs.Judged.{Judged, gives, faults, ◌>>=◌}
 use Rattle.edi_static.specs.Environment.{Environment}
 use Rattle.edi_static.specs.Statements.{After, statement_list, statements, statement, conditions, elses, condition, branch, branches, leave_branch}
+use Rattle.edi_values.proofs.Behind.{bind_same}
 use Rattle.edi_sema.specs.Walks.{walk, behind_these, seen_as, closed_branch, statements_walk, conditions_walk}
 
--- ---- a monad
-
-pub assoc : {A B C : Type 0} (m : Judged A) (f : A → Judged B) (g : B → Judged C) → ((m >>= f) >>= g) ≡ (m >>= λ a. f a >>= g)
-assoc (gives a) f g = refl
-assoc (faults why line) f g = refl
-
-pub same_behind : {A B : Type 0} (m : Judged A) (f g : A → Judged B) → ((a : A) → f a ≡ g a) → (m >>= f) ≡ (m >>= g)
-same_behind (gives a) f g h = h a
-same_behind (faults why line) f g h = refl
-
 -- ---- loops
+
+-- what stands behind the constructs that have become these is judged as it was behind those at the start
+abbrev pub WalksOn : {X Y : Type 0} → (X → Environment → Judged (After Y)) → (ys begun : List Y) → (rest all : List X) → (now first : Environment) → Type 0
+WalksOn step ys begun rest all now first = behind_these ys (walk step rest now) ≡ behind_these begun (walk step all first)
 
 behind_both : {Y : Type 0} (ys : List Y) (y : Y) (m : Judged (After (List Y))) → behind_these ys (behind_these (y ∷ []) m) ≡ behind_these (ys ++ y ∷ []) m
 behind_both ys y (gives done) = ap (λ zs. gives (record { what = zs; env = done.env })) (sym (append_assoc ys (y ∷ []) done.what))
@@ -83,53 +78,47 @@ pub first_faults : {X Y : Type 0} (step : X → Environment → Judged (After Y)
 first_faults step x xs env why line e =
     ap (λ m. m >>= λ one. walk step xs one.env >>= λ others. gives (record { what = one.what ∷ others.what; env = others.env })) e
 
--- ---- lists of statements
+-- ---- a first construct put in front of a list
 
-abbrev act_before : unit.Act → After unit.Acts → Judged (After unit.Acts)
-act_before a others = gives (record { what = unit.act_then a others.what; env = others.env })
+abbrev before : {Y L : Type 0} → (Y → L → L) → Y → After L → Judged (After L)
+before put y others = gives (record { what = put y others.what; env = others.env })
 
-act_first : (a : unit.Act) (m : Judged (After (List unit.Act))) →
-    (seen_as acts m >>= act_before a) ≡ seen_as acts (m >>= λ others. gives (record { what = a ∷ others.what; env = others.env }))
-act_first a (gives others) = refl
-act_first a (faults why line) = refl
+module _ {X Y L : Type 0} (view : List Y → L) (put : Y → L → L) (same : (y : Y) (ys : List Y) → put y (view ys) ≡ view (y ∷ ys))
+    (step : X → Environment → Judged (After Y))
+  where
+    put_first : (y : Y) (m : Judged (After (List Y))) →
+        (seen_as view m >>= before put y) ≡ seen_as view (m >>= λ others. gives (record { what = y ∷ others.what; env = others.env }))
+    put_first y (gives others) = ap (λ l. after l others.env) (same y others.what)
+      where
+        after : L → Environment → Judged (After L)
+        after l env = gives (record { what = l; env = env })
+    put_first y (faults why line) = refl
 
-act_step : (ss : List text.Statement) → ((env : Environment) → statements (tree.statements ss) env ≡ statements_walk ss env) → (m : Judged (After unit.Act)) →
-    (m >>= λ one. statements (tree.statements ss) one.env >>= act_before one.what)
-    ≡ seen_as acts (m >>= λ one. walk statement ss one.env >>= λ others. gives (record { what = one.what ∷ others.what; env = others.env }))
-act_step ss h (gives one) = ap (λ r. r >>= act_before one.what) (h one.env) ∙ act_first one.what (walk statement ss one.env)
-act_step ss h (faults why line) = refl
+    put_step : (xs : List X) (rest : Environment → Judged (After L)) → ((env : Environment) → rest env ≡ seen_as view (walk step xs env)) →
+        (m : Judged (After Y)) →
+        (m >>= λ one. rest one.env >>= before put one.what)
+        ≡ seen_as view (m >>= λ one. walk step xs one.env >>= λ others. gives (record { what = one.what ∷ others.what; env = others.env }))
+    put_step xs rest h (gives one) = ap (λ r. r >>= before put one.what) (h one.env) ∙ put_first one.what (walk step xs one.env)
+    put_step xs rest h (faults why line) = refl
+
+-- ---- lists of statements, and conditions
 
 statements_are : (ss : List text.Statement) (env : Environment) → statements (tree.statements ss) env ≡ statements_walk ss env
 statements_are [] env = refl
-statements_are (s ∷ ss) env = act_step ss (statements_are ss) (statement s env)
+statements_are (s ∷ ss) env =
+    put_step acts unit.act_then (λ a as'. refl) statement ss (statements (tree.statements ss)) (statements_are ss) (statement s env)
 
 pub list_is : (s : text.Statement) (ss : List text.Statement) (env : Environment) → statement_list (text.list s (tree.statements ss)) env ≡ statements_walk
     (s ∷ ss) env
-list_is s ss env = act_step ss (statements_are ss) (statement s env)
-
--- ---- conditions
-
-abbrev clause_before : unit.Clause → After unit.Clauses → Judged (After unit.Clauses)
-clause_before c others = gives (record { what = unit.clause_then c others.what; env = others.env })
-
-clause_first : (c : unit.Clause) (m : Judged (After (List unit.Clause))) →
-    (seen_as clauses m >>= clause_before c) ≡ seen_as clauses (m >>= λ others. gives (record { what = c ∷ others.what; env = others.env }))
-clause_first c (gives others) = refl
-clause_first c (faults why line) = refl
-
-clause_step : (cs : List text.Condition) → ((env : Environment) → elses (else_list cs) env ≡ conditions_walk cs env) → (m : Judged (After unit.Clause)) →
-    (m >>= λ one. elses (else_list cs) one.env >>= clause_before one.what)
-    ≡ seen_as clauses (m >>= λ one. walk condition cs one.env >>= λ others. gives (record { what = one.what ∷ others.what; env = others.env }))
-clause_step cs h (gives one) = ap (λ r. r >>= clause_before one.what) (h one.env) ∙ clause_first one.what (walk condition cs one.env)
-clause_step cs h (faults why line) = refl
+list_is s ss env = statements_are (s ∷ ss) env
 
 elses_are : (cs : List text.Condition) (env : Environment) → elses (else_list cs) env ≡ conditions_walk cs env
 elses_are [] env = refl
-elses_are (c ∷ cs) env = clause_step cs (elses_are cs) (condition c env)
+elses_are (c ∷ cs) env = put_step clauses unit.clause_then (λ c cs. refl) condition cs (elses (else_list cs)) (elses_are cs) (condition c env)
 
 pub conditions_are : (c : text.Condition) (cs : List text.Condition) (env : Environment) → conditions (text.conditions c (else_list cs)) env ≡ conditions_walk
     (c ∷ cs) env
-conditions_are c cs env = clause_step cs (elses_are cs) (condition c env)
+conditions_are c cs env = elses_are (c ∷ cs) env
 
 -- ---- branches
 
@@ -153,7 +142,7 @@ branches_are b [] env =
     closed_first (branch b.opened env) env b.end (λ one. gives (record { what = one.what ∷ []; env = one.env })) ∙ single (closed_branch b env)
 branches_are b (next ∷ bs) env =
     closed_first (branch b.opened env) env b.end (λ one. branch next.opened one.env >>= branches (tree.branches next.end bs) one.env >>= number_before one.what)
-    ∙ same_behind (closed_branch b env) _ _ (λ one. ap (λ m. m >>= number_before one.what) (branches_are next bs one.env))
+    ∙ bind_same (closed_branch b env) _ _ (λ one. ap (λ m. m >>= number_before one.what) (branches_are next bs one.env))
 
 pub cobegin_is : (line : ℕ) (b : ClosedBranch) (bs : List ClosedBranch) (env : Environment) →
     statement (text.cobegin line b.opened (tree.branches b.end bs)) env

@@ -1,11 +1,11 @@
 -- Words of contracts. The parts of a system call's heading.
-use Rattle.std.specs.Prelude.{ℕ, Bool, false, if◌then◌else◌, List, [], ◌∷◌, ◌++◌, Option, Some, None, codes}
+use Rattle.std.specs.Prelude.{ℕ, Bool, false, if◌then◌else◌, List, ◌++◌, Option, Some, None, drop}
 use Rattle.edi_tree.specs.Tree as text
 use Rattle.edi_unit.specs.Types.{Shape, shape_at}
 use Rattle.edi_unit.specs.Fits.{Heading}
 use Rattle.edi_static.specs.declared.faults.StaticKind.TheVariants as kind
-use Rattle.edi_static.specs.Environment.{same_heading, no_heading}
-use Rattle.edi_static.specs.Programs.{is_title_shape, is_titled, takes_char, system_calls, number_of_call, call_with}
+use Rattle.edi_static.specs.Environment.{no_heading}
+use Rattle.edi_static.specs.Programs.{is_title_shape, system_calls, number_of_call, call_with}
 use Rattle.edi_static.specs.Judged.{Judged, gives, faults, ◌>>=◌}
 use Rattle.edi_static.specs.Views.{One, value, procedure}
 
@@ -18,14 +18,9 @@ takes_title types _ = false
 abbrev pub number_if : Bool → ℕ → Option ℕ
 number_if holds n = if holds then Some n else None
 
--- the last of the system's calls
+-- the last four of the system's calls
 abbrev pub file_calls : List Shape → Heading → List (List ℕ × ℕ × Bool)
-file_calls types asks =
-    (codes "fresh", 7, same_heading asks no_heading) ∷
-    (codes "write", 8, same_heading asks takes_char) ∷
-    (codes "close", 9, is_titled types asks) ∷
-    (codes "remove", 10, is_titled types asks) ∷
-    []
+file_calls types asks = drop 6 (system_calls types asks)
 
 -- what a parameter asks of a call, where it is a procedure
 abbrev pub asked_by : One → Heading

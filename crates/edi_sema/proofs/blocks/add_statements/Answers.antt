@@ -8,12 +8,12 @@ use Rattle.edi_sema.proofs.blocks.add_statements.Goals as goal
 
 pub returns-in_ok-found : goal.returns-in_ok-found
 returns-in_ok-found c =
-    let blocks = c.args.known.now.blocks in
-    let lt : c.args.block < length blocks.items = omega (arith, c.in-Some.ensures.variant.0 refl, blocks.ok.0) in
+    let lt : c.args.block < length c.args.known.now.blocks.items = omega (arith, c.in-Some.ensures.variant.0 refl, c.args.known.now.blocks.ok.0) in
     record {
       exact =
           ap (λ bs. gives (record (environment c.args.known.now) { blocks = bs }))
-          (sym (block_changed blocks.items c.args.block c.in-Some.found.now _ (with_statements (acts_of c.args.acts)) lt c.in-Some.ensures.value
+          (sym (block_changed c.args.known.now.blocks.items c.args.block c.in-Some.found.now _ (with_statements (acts_of c.args.acts)) lt
+          c.in-Some.ensures.value
           (ap (λ s. record (block_of c.in-Some.found.now) { body = s })
           (c.in_ok-found.ensures.ok ∙ ap (λ s. acts_append (acts_of s) (acts_of c.args.acts)) c.replace-body.ensures.value))));
     }

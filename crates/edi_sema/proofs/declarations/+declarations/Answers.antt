@@ -27,39 +27,26 @@ procedure_rest-returns-in_err-declare-clause-exact t c =
 
 pub procedure_rest-returns-in_err-finish_block-clause-exact : goal.procedure_rest-returns-in_err-finish_block-clause-exact
 procedure_rest-returns-in_err-finish_block-clause-exact t c =
-    let env = environment c.args.known.now in
-    let now = environment c.loop-declaration.known in
-    let items = c.items-declaration-items.result.now in
-    let rest = drop c.loop-declaration.declaration-index items in
-    let h = declaring c.args.block env (environment c.open_block.new.known) now c.args.procedure.now items rest c.in_ok-begun.ensures.exact
-    c.items-declaration-items.ensures.exact c.loop-declaration.invariant.comes c.loop-declaration.invariant.left in
+    let h = declaring c.args.block (environment c.args.known.now) (environment c.open_block.new.known) (environment c.loop-declaration.known)
+    c.args.procedure.now c.items-declaration-items.result.now (drop c.loop-declaration.declaration-index c.items-declaration-items.result.now)
+    c.in_ok-begun.ensures.exact c.items-declaration-items.ensures.exact c.loop-declaration.invariant.comes c.loop-declaration.invariant.left in
     let q = err_from_is_err_and c.from_residual-in_err-finish_block.result c.from_residual-in_err-finish_block.ensures.1 in
-    rw (q.1, q.2) (finish_faults c.args.block env now c.args.procedure.now rest h c.in_err-finish_block.field-0.0
-    (drop_of_length-le items c.loop-declaration-test.false) c.in_err-finish_block.ensures.exact)
+    rw (q.1, q.2) (finish_faults _ _ _ _ _ h c.in_err-finish_block.field-0.0
+    (drop_of_length-le c.items-declaration-items.result.now c.loop-declaration-test.false) c.in_err-finish_block.ensures.exact)
 
-pub procedure_rest-returns-clause-exact : goal.procedure_rest-returns-clause-exact
-procedure_rest-returns-clause-exact t c =
-    let env = environment c.args.known.now in
-    let now = environment c.loop-declaration.known in
-    let items = c.items-declaration-items.result.now in
-    let rest = drop c.loop-declaration.declaration-index items in
-    let h = declaring c.args.block env (environment c.open_block.new.known) now c.args.procedure.now items rest c.in_ok-begun.ensures.exact
-    c.items-declaration-items.ensures.exact c.loop-declaration.invariant.comes c.loop-declaration.invariant.left in
-    procedure_given c.args.block env now c.args.procedure.now rest h (environment c.finish_block.new.known) (environment c.leave_block.new.known)
-    (map begun_of c.in_ok-begun.begun.items) c.in_ok-begun.ensures.begun c.in_ok-finish_block.ensures.comes c.leave_block.ensures.exact
-    (drop_of_length-le items c.loop-declaration-test.false) c.in_ok-finish_block.ensures.exact
-
-pub procedure_rest-returns-clause-leaves : goal.procedure_rest-returns-clause-leaves
-procedure_rest-returns-clause-leaves t c =
-    let env = environment c.args.known.now in
-    let now = environment c.loop-declaration.known in
-    let items = c.items-declaration-items.result.now in
-    let rest = drop c.loop-declaration.declaration-index items in
-    let h = declaring c.args.block env (environment c.open_block.new.known) now c.args.procedure.now items rest c.in_ok-begun.ensures.exact
-    c.items-declaration-items.ensures.exact c.loop-declaration.invariant.comes c.loop-declaration.invariant.left in
-    procedure_leaves c.args.block env now c.args.procedure.now rest h (environment c.finish_block.new.known) (environment c.leave_block.new.known)
-    (map begun_of c.in_ok-begun.begun.items) c.in_ok-begun.ensures.begun c.in_ok-finish_block.ensures.comes c.leave_block.ensures.exact
-    c.leave_block.ensures.proper
+pub procedure_rest-returns : goal.procedure_rest-returns
+procedure_rest-returns t c =
+    let h = declaring c.args.block (environment c.args.known.now) (environment c.open_block.new.known) (environment c.loop-declaration.known)
+    c.args.procedure.now c.items-declaration-items.result.now (drop c.loop-declaration.declaration-index c.items-declaration-items.result.now)
+    c.in_ok-begun.ensures.exact c.items-declaration-items.ensures.exact c.loop-declaration.invariant.comes c.loop-declaration.invariant.left in
+    record {
+      exact = procedure_given _ _ _ _ _ h (environment c.finish_block.new.known) (environment c.leave_block.new.known) (map begun_of c.in_ok-begun.begun.items)
+          c.in_ok-begun.ensures.begun c.in_ok-finish_block.ensures.comes c.leave_block.ensures.exact
+          (drop_of_length-le c.items-declaration-items.result.now c.loop-declaration-test.false) c.in_ok-finish_block.ensures.exact;
+      leaves = procedure_leaves _ _ _ _ _ h (environment c.finish_block.new.known) (environment c.leave_block.new.known)
+          (map begun_of c.in_ok-begun.begun.items) c.in_ok-begun.ensures.begun c.in_ok-finish_block.ensures.comes c.leave_block.ensures.exact
+          c.leave_block.ensures.proper;
+    }
 
 pub item-returns-in_ok-procedure_rest-in-Post-clause-comes : goal.item-returns-in_ok-procedure_rest-in-Post-clause-comes
 item-returns-in_ok-procedure_rest-in-Post-clause-comes t c =

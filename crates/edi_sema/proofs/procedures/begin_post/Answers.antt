@@ -2,9 +2,8 @@ use Rattle.std.proofs.Common.{◌≡◌, sym, ◌∙◌}
 use Rattle.std.proofs.lemmas.Result.{IfOk-weaker}
 use Rattle.edi_tree.specs.declared.headings.Param.TheViews.{out-Heading}
 use Rattle.edi_tree.specs.View.{heading_of}
-use Rattle.edi_static.specs.Headings.{Headed}
 use Rattle.edi_static.specs.Declarations.{begin_post}
-use Rattle.edi_static.specs.Views.{environment, asked_of}
+use Rattle.edi_static.specs.Views.{environment, headed_of}
 use Rattle.edi_sema.specs.Splits.{post_block}
 use Rattle.edi_sema.proofs.Begun.{post_answered, post_fits, post_number, inner_answer, name_seen}
 use Rattle.edi_sema.proofs.Opening.{post_inner}
@@ -12,15 +11,15 @@ use Rattle.edi_sema.proofs.procedures.begin_post.Goals as goal
 
 pub complete-requires-clause-fits : goal.complete-requires-clause-fits
 complete-requires-clause-fits c =
-    let headed : Headed = record { env = environment c.heading_parts.new.known; asks = asked_of c.in_ok-asked.asked } in
-    post_fits (heading_of c.args.heading.now) (out-Heading c.args.heading.now).name.text (environment c.args.known.now) headed c.begun_block-found.result
+    post_fits (heading_of c.args.heading.now) (out-Heading c.args.heading.now).name.text (environment c.args.known.now) (headed_of
+    c.heading_parts.new.known c.in_ok-asked.asked) c.begun_block-found.result
     c.in_ok-block.block c.requires.stands.begun_fit c.begun_block-found.ensures.exact c.in_ok-block.ensures.exact c.in_ok-asked.ensures.exact
 
 pub returns-clause-exact : goal.returns-clause-exact
 returns-clause-exact c =
-    let headed : Headed = record { env = environment c.heading_parts.new.known; asks = asked_of c.in_ok-asked.asked } in
     post_answered c.args.export (heading_of c.args.heading.now) (out-Heading c.args.heading.now).name (environment c.args.known.now)
-    (environment c.complete.new.known) headed c.begun_block-found.result c.in_ok-block.block c.complete.result (sym (name_seen c.args.heading.now))
+    (environment c.complete.new.known) (headed_of c.heading_parts.new.known c.in_ok-asked.asked) c.begun_block-found.result c.in_ok-block.block
+    c.complete.result (sym (name_seen c.args.heading.now))
     c.begun_block-found.ensures.exact c.in_ok-block.ensures.exact c.in_ok-asked.ensures.exact c.complete.ensures.exact
 
 pub returns-clause-number : goal.returns-clause-number
@@ -33,9 +32,9 @@ returns-clause-number c =
 pub returns-clause-begins : goal.returns-clause-begins
 returns-clause-begins c =
     let env = environment c.args.known.now in
-    let headed : Headed = record { env = environment c.heading_parts.new.known; asks = asked_of c.in_ok-asked.asked } in
     inner_answer env (environment c.complete.new.known) c.complete.result (begin_post c.args.export (heading_of c.args.heading.now) env)
-    (post_answered c.args.export (heading_of c.args.heading.now) (out-Heading c.args.heading.now).name env (environment c.complete.new.known) headed
+    (post_answered c.args.export (heading_of c.args.heading.now) (out-Heading c.args.heading.now).name env (environment c.complete.new.known) (headed_of
+    c.heading_parts.new.known c.in_ok-asked.asked)
     c.begun_block-found.result c.in_ok-block.block c.complete.result (sym (name_seen c.args.heading.now)) c.begun_block-found.ensures.exact
     c.in_ok-block.ensures.exact c.in_ok-asked.ensures.exact c.complete.ensures.exact)
     (post_inner c.args.export (heading_of c.args.heading.now) env) c.complete.ensures.proper

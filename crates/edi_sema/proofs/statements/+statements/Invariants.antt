@@ -6,29 +6,27 @@ use Rattle.edi_unit.specs.View.{act_of, clause_of}
 use Rattle.edi_static.specs.Statements.{statement, condition}
 use Rattle.edi_static.specs.Views.{environment}
 use Rattle.edi_sema.specs.Frames.{Stays}
-use Rattle.edi_sema.specs.Walks.{walk, behind_these, closed_branch}
+use Rattle.edi_sema.specs.Walks.{closed_branch}
+use Rattle.edi_sema.proofs.Walked.{WalksOn}
 use Rattle.edi_sema.proofs.statements.+statements.Given as goal
 
 abbrev pub invariant-statement_list-loop-one : goal.invariant-statement_list-loop-one
 invariant-statement_list-loop-one l = record {
   stays : Stays (environment l.fn.known) (environment l.known);
-  left :
-      behind_these (map act_of (list_items l.acts)) (walk statement (map statement_of (drop l.one-index l.one-items)) (environment l.known))
-      ≡ behind_these (map act_of (list_items l.initial.acts)) (walk statement (map statement_of l.one-items) (environment l.initial.known));
+  left : WalksOn statement (map act_of (list_items l.acts)) (map act_of (list_items l.initial.acts)) (map statement_of (drop l.one-index l.one-items))
+      (map statement_of l.one-items) (environment l.known) (environment l.initial.known);
 }
 
 abbrev pub invariant-conditions-loop-one : goal.invariant-conditions-loop-one
 invariant-conditions-loop-one l = record {
   stays : Stays (environment l.fn.known) (environment l.known);
-  left :
-      behind_these (map clause_of (list_items l.clauses)) (walk condition (map condition_of (drop l.one-index l.one-items)) (environment l.known))
-      ≡ behind_these (map clause_of (list_items l.initial.clauses)) (walk condition (map condition_of l.one-items) (environment l.initial.known));
+  left : WalksOn condition (map clause_of (list_items l.clauses)) (map clause_of (list_items l.initial.clauses))
+      (map condition_of (drop l.one-index l.one-items)) (map condition_of l.one-items) (environment l.known) (environment l.initial.known);
 }
 
 abbrev pub invariant-cobegin-loop-one : goal.invariant-cobegin-loop-one
 invariant-cobegin-loop-one l = record {
   stays : Stays (environment l.fn.known) (environment l.known);
-  left :
-      behind_these (list_items l.blocks) (walk closed_branch (map branch_of (drop l.one-index l.one-items)) (environment l.known))
-      ≡ behind_these (list_items l.initial.blocks) (walk closed_branch (map branch_of l.one-items) (environment l.initial.known));
+  left : WalksOn closed_branch (list_items l.blocks) (list_items l.initial.blocks) (map branch_of (drop l.one-index l.one-items)) (map branch_of l.one-items)
+      (environment l.known) (environment l.initial.known);
 }
