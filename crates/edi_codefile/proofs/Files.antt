@@ -123,7 +123,7 @@ nineteen c l =
 -- what the bytes of a code without fault say, one fact a field
 pub record IsFileOf (bytes : List ℕ) (c : CodeParts) : Type 0 where
   pub long : length bytes ≡ 32 + 2 * length c.words
-  pub mark : short_at bytes 0 ≡ 60693
+  pub signature : short_at bytes 0 ≡ 60693
   pub version : short_at bytes 2 ≡ 2
   pub count : number_at bytes 4 ≡ length c.words
   pub start : number_at bytes 8 ≡ c.entry
@@ -143,7 +143,7 @@ file_of c w s l =
     record {
       long = let behind : length (calls ++ (zeros ++ words)) ≡ 19 + 2 * length c.words = ap length joined ∙ length-append (calls ++ zeros) words
           ∙ omega (arith, nine, length-bytes_of_words c.words) in omega (arith, behind);
-      mark = refl;
+      signature = refl;
       version = refl;
       count = number-number_bytes (length c.words) w;
       start = number-number_bytes c.entry s;
@@ -178,7 +178,7 @@ header_of bytes c f fields =
     ap (λ (n : ℕ). zeros_fault (13 + n) (drop (13 + n) (take 32 bytes))) f.parameters
     ∙ ap (zeros_fault (13 + length c.calls)) f.zeros
     ∙ zeros_fault-replicate (19 - length c.calls) (13 + length c.calls) in
-    or_none _ _ (kept (short_at bytes 0 == 60693) _ (ap (λ (n : ℕ). n == 60693) f.mark))
+    or_none _ _ (kept (short_at bytes 0 == 60693) _ (ap (λ (n : ℕ). n == 60693) f.signature))
     (or_none _ _ (kept (short_at bytes 2 == 1 || short_at bytes 2 == 2) _ (ap (λ (n : ℕ). n == 1 || n == 2) f.version)) (or_none _ _ same zeros))
 
 size_of : (bytes : List ℕ) (c : CodeParts) → IsFileOf bytes c → size_fault bytes ≡ None

@@ -11,8 +11,8 @@ use edi_target::CodeFault;
 /// The bytes of the header.
 pub const HEADER: usize = 32;
 
-/// What every file begins with.
-pub const MARK: u16 = 0xED15;
+/// The signature with which every file begins.
+pub const SIGNATURE: u16 = 0xED15;
 
 /// The version that is written.
 pub const VERSION: u16 = 2;
@@ -31,7 +31,7 @@ pub fn header_fault(bytes: &[u8]) -> Option<CodeFault>
     requires { HEADER ≤ length bytes.now }
     ensures { result ≡ header_fault bytes.now }
 {
-    if short_at(bytes, 0) != MARK {
+    if short_at(bytes, 0) != SIGNATURE {
         return Some(header_at(bytes, 0));
     }
     if !matches!(short_at(bytes, 2), 1 | VERSION) {

@@ -9,7 +9,7 @@ use crate::words::put_words;
 use edi_target::Code;
 use std::alloc::{AllocError, Global};
 
-/// The first bytes of every file that is written: the mark, and version 2.
+/// The first bytes of every file that is written: the signature, and version 2.
 const START: [u8; 4] = [0xED, 0x15, 0, 2];
 
 /// Bytes that follow the call numbers.
@@ -30,7 +30,7 @@ pub fn pack(alloc: Global, code: &Code) -> Result<Vec<u8>, AllocError>
     Ok(bytes)
 }
 
-// Puts the mark, the version, the number of words and the address of the entry behind the others.
+// Puts the signature, the version, the number of words and the address of the entry behind the others.
 fn put_start(bytes: &mut Vec<u8>, count: u32, entry: u32) -> Result<(), AllocError>
     ensures { OnOk result (bytes.new.items ≡ bytes.old.items ++ (237 ∷ 21 ∷ 0 ∷ 2 ∷ (number_bytes count ++ number_bytes entry))) }
 {
