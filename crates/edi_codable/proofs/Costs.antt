@@ -117,19 +117,11 @@ alone_fine env name more h = behind (Fine (name_mark name ∷ more) more) (look_
 name_first : (e : text.Expr) (name : Name) (more : List Spelled) → name_alone e ≡ Some name → expr_then e more ≡ name_mark name ∷ more
 name_first (text.expr (text.simple None (text.term (text.variable_factor (text.variable (root.Name n) text.no_selector)) text.no_multiplier) text.no_addend)
     text.no_comparison) name more e = grind (arith, e)
-name_first (text.expr (text.simple None (text.term (text.variable_factor (text.variable (root.Name n) (text.next_selector s ss))) text.no_multiplier)
-    text.no_addend) text.no_comparison) name more e = absurd (cc)
-name_first (text.expr (text.simple None (text.term (text.variable_factor (text.variable (root.Val n) ss)) text.no_multiplier) text.no_addend)
-    text.no_comparison) name more e = absurd (cc)
-name_first (text.expr (text.simple None (text.term (text.numeral n) text.no_multiplier) text.no_addend) text.no_comparison) name more e = absurd (cc)
-name_first (text.expr (text.simple None (text.term (text.string s) text.no_multiplier) text.no_addend) text.no_comparison) name more e = absurd (cc)
-name_first (text.expr (text.simple None (text.term (text.not_factor l f) text.no_multiplier) text.no_addend) text.no_comparison) name more e = absurd (cc)
-name_first (text.expr (text.simple None (text.term (text.parenthesized x) text.no_multiplier) text.no_addend) text.no_comparison) name more e = absurd (cc)
-name_first (text.expr (text.simple None (text.term (text.call_factor n xs) text.no_multiplier) text.no_addend) text.no_comparison) name more e = absurd (cc)
 name_first (text.expr (text.simple None (text.term f text.no_multiplier) text.no_addend) (text.compared r l s)) name more e = absurd (cc)
 name_first (text.expr (text.simple None (text.term f text.no_multiplier) (text.next_addend a as')) c) name more e = absurd (cc)
 name_first (text.expr (text.simple None (text.term f (text.next_multiplier m ms)) as') c) name more e = absurd (cc)
 name_first (text.expr (text.simple (Some s) t as') c) name more e = absurd (cc)
+name_first x name more e = absurd (cc)
 
 -- a string alone, and its line
 record IsString (e : text.Expr) (cs : List ℕ) (more : List Spelled) : Type 0 where
@@ -139,15 +131,11 @@ record IsString (e : text.Expr) (cs : List ℕ) (more : List Spelled) : Type 0 w
 string_first : (e : text.Expr) (cs : List ℕ) (more : List Spelled) → string_alone e ≡ Some cs → IsString e cs more
 string_first (text.expr (text.simple None (text.term (text.string s) text.no_multiplier) text.no_addend) text.no_comparison) cs more e =
     record { line = s.line; first = grind (arith, e) }
-string_first (text.expr (text.simple None (text.term (text.variable_factor v) text.no_multiplier) text.no_addend) text.no_comparison) cs more e = absurd (cc)
-string_first (text.expr (text.simple None (text.term (text.numeral n) text.no_multiplier) text.no_addend) text.no_comparison) cs more e = absurd (cc)
-string_first (text.expr (text.simple None (text.term (text.not_factor l f) text.no_multiplier) text.no_addend) text.no_comparison) cs more e = absurd (cc)
-string_first (text.expr (text.simple None (text.term (text.parenthesized x) text.no_multiplier) text.no_addend) text.no_comparison) cs more e = absurd (cc)
-string_first (text.expr (text.simple None (text.term (text.call_factor n xs) text.no_multiplier) text.no_addend) text.no_comparison) cs more e = absurd (cc)
 string_first (text.expr (text.simple None (text.term f text.no_multiplier) text.no_addend) (text.compared r l s)) cs more e = absurd (cc)
 string_first (text.expr (text.simple None (text.term f text.no_multiplier) (text.next_addend a as')) c) cs more e = absurd (cc)
 string_first (text.expr (text.simple None (text.term f (text.next_multiplier m ms)) as') c) cs more e = absurd (cc)
 string_first (text.expr (text.simple (Some s) t as') c) cs more e = absurd (cc)
+string_first x cs more e = absurd (cc)
 
 -- ---- constructors
 

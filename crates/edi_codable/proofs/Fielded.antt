@@ -1,9 +1,11 @@
 -- Each record that a program declares has a field.
 use Rattle.std.proofs.Common.{◌≡◌, ℕ, zero, suc, ◌+◌, ◌<◌, Bool, true, false, List, [], ◌∷◌, ◌++◌, length, nat_lt, refl, arith, subst, sym}
+use Rattle.std.specs.Prelude.{slice_set}
 use Rattle.std.proofs.lemmas.List.{length-append, get_or_append_left, get_or_push}
 use Rattle.edi_tree.specs.Depth.{depth}
 use Rattle.edi_unit.specs.Types.{Shape, standard_types, shape_at, int}
 use Rattle.edi_unit.specs.Tree.{Block}
+use Rattle.edi_unit.specs.Need.{block_at}
 use Rattle.edi_static.proofs.Judging.{Gives}
 use Rattle.edi_static.proofs.Declared.{Keeping}
 use Rattle.edi_static.proofs.Lasting.{Lasting, nothing_said, UnitLasts, unit_lasts}
@@ -31,18 +33,26 @@ standard (suc zero) less = tt
 standard (suc (suc zero)) less = tt
 standard (suc (suc (suc t))) less = absurd (omega (arith, less))
 
-abbrev having : Keeping
-having = record {
-  Is = Have;
-  Becomes = Have;
+-- what is kept of types and blocks, where each type that is added has a part if it is a record
+abbrev pub with_parts : (Is Becomes : List Shape → List Block → Type 0)
+    → ((types : List Shape) (blocks : List Block) (shape : Shape) → HasPart shape → Is types blocks → Becomes (types ++ shape ∷ []) blocks)
+    → ((types : List Shape) (blocks : List Block) (n : ℕ) (block : Block) → block.body ≡ (block_at blocks n).body
+    → block.need ≡ (block_at blocks n).need → Is types blocks → Is types (slice_set blocks n block))
+    → Keeping
+with_parts Is Becomes typed varied = record {
+  Is = Is;
+  Becomes = Becomes;
   Fine = HasPart;
   enumerated = λ n. tt;
   filled = λ parts some. some;
   arrayed = λ of lower upper element. tt;
   set = λ of. tt;
   typed = typed;
-  varied = λ types blocks n block body need h. h;
+  varied = varied;
 }
+
+abbrev having : Keeping
+having = with_parts Have Have typed (λ types blocks n block body need h. h)
 
 abbrev parts_last : (levels : ℕ) → Lasting levels
 parts_last levels = record {

@@ -1,26 +1,26 @@
 -- How long the code of each construct is at most, whatever its types and variables are.
 use Rattle.std.proofs.Common.{◌≡◌, ℕ, zero, suc, ◌+◌, ◌*◌, ◌<◌, ◌≤◌, Bool, true, false, if◌then◌else◌, List, [], ◌∷◌, length, Option, Some, None, refl, arith}
-use Rattle.std.specs.Option.{option_map}
+use Rattle.std.specs.Prelude.{IfSome}
 use Rattle.edi_unit.specs.declared.expressions.Operator.{Operator}
 use Rattle.edi_unit.specs.declared.expressions.Operator.TheVariants as op
 use Rattle.edi_unit.specs.declared.expressions.Callee.{Callee}
 use Rattle.edi_unit.specs.declared.expressions.Callee.TheVariants as callee
 use Rattle.edi_unit.specs.declared.units.Parameter.{Parameter}
 use Rattle.edi_unit.specs.declared.units.Parameter.TheVariants as slot
-use Rattle.edi_unit.specs.Types.{Shape, int, char, bool, enumeration, record_of, array_of, set_of, shape_at, is_set_shape}
+use Rattle.edi_unit.specs.Types.{Shape, int, array_of, shape_at, is_set_shape}
 use Rattle.edi_unit.specs.Tree.{Expression, constant, load, not_of, sign_of, chain, make, convert, apply_of, Expressions, no_expression, expression_then}
 use Rattle.edi_unit.specs.Tree.{Link, link, Links, no_link, link_then, Place, place, Part, field, index, Parts, no_part, part_then, Argument, by_value}
 use Rattle.edi_unit.specs.Tree.{by_variable, by_procedure, Arguments, no_argument, argument_then, Act, skip, assign, call, halt, if_act, while_act, when_act}
 use Rattle.edi_unit.specs.Tree.{cobegin, Acts, no_act, act_then, Clause, clause, Clauses, no_clause, clause_then, Block}
 use Rattle.edi_unit.specs.Need.{block_at, slot_at, slot_type, part_type, operator_type, expression_type}
 use Rattle.edi_target.specs.Op as instruction
-use Rattle.edi_target.specs.Op.{Instruction, word_of_integer}
 use Rattle.edi_scheme.specs.Pieces.{code_length, is_branch, variable_code, element_code, operation, decision, check_code, constant_words, row_length}
 use Rattle.edi_scheme.specs.Pieces.{ClauseKind, once, repeated, released, close_code}
 use Rattle.edi_scheme.specs.Lengths.{call_length, procedure_length, expression_length, expressions_length, members_length, links_length, place_length}
 use Rattle.edi_scheme.specs.Lengths.{parts_length, part_length, argument_length, arguments_length, act_length, acts_length, clause_length, clauses_length}
 use Rattle.edi_scheme.specs.Lengths.{block_length}
 use Rattle.edi_scheme.specs.Code.{entry}
+use Rattle.edi_scheme.proofs.Known.{count_of, constants_count}
 
 abbrev mutual
   pub expression_most : Expression → ℕ
@@ -95,13 +95,6 @@ total (b ∷ bs) = acts_most b.body + 9 + total bs
 -- ---- single instructions
 
 operator_most : (types : List Shape) (t : ℕ) (o : Operator) (line : ℕ) → code_length (decision o 0) + code_length (operation types t o line) ≤ 3
-operator_most types t op.Equal line = omega arith
-operator_most types t op.NotEqual line = omega arith
-operator_most types t op.Less line = omega arith
-operator_most types t op.LessOrEqual line = omega arith
-operator_most types t op.Greater line = omega arith
-operator_most types t op.GreaterOrEqual line = omega arith
-operator_most types t op.In line = omega arith
 operator_most types t op.Plus line = omega (arith, go (is_set_shape (shape_at types t))) where
   go : (test : Bool) → code_length (if test then instruction.union ∷ [] else instruction.add line ∷ []) ≤ 2
   go true = omega arith
@@ -114,28 +107,15 @@ operator_most types t op.Times line = omega (arith, go (is_set_shape (shape_at t
   go : (test : Bool) → code_length (if test then instruction.meet ∷ [] else instruction.mul line ∷ []) ≤ 2
   go true = omega arith
   go false = omega arith
-operator_most types t op.Div line = omega arith
-operator_most types t op.Mod line = omega arith
-operator_most types t op.And line = omega arith
-operator_most types t op.Or line = omega arith
+operator_most types t o line = omega arith
 
 check_most : (s : Shape) (line : ℕ) → code_length (check_code s line) ≤ 4
 check_most int line = omega arith
-check_most char line = omega arith
-check_most bool line = omega arith
-check_most (enumeration n) line = omega arith
-check_most (record_of fs) line = omega arith
-check_most (array_of i lo hi e) line = omega arith
-check_most (set_of b) line = omega arith
+check_most s line = omega arith
 
 element_most : (types : List Shape) (s : Shape) (line : ℕ) → code_length (element_code types s line) ≤ 5
-element_most types int line = omega arith
-element_most types char line = omega arith
-element_most types bool line = omega arith
-element_most types (enumeration n) line = omega arith
-element_most types (record_of fs) line = omega arith
 element_most types (array_of i lo hi e) line = omega arith
-element_most types (set_of b) line = omega arith
+element_most types s line = omega arith
 
 variable_most : (levels : ℕ) (v : Option Parameter) → code_length (variable_code levels 0 v) ≤ 5
 variable_most levels None = omega arith
@@ -159,28 +139,13 @@ close_most released cs = omega arith
 
 -- ---- constants in a row
 
-abbrev Counted : Option (List ℕ) → ℕ → Type 0
-Counted None n = Unit {0}
-Counted (Some ws) n = length ws ≤ n
+count_most : (es : Expressions) → count_of es ≤ elements_most es
+count_most no_expression = omega arith
+count_most (expression_then e es) = omega (arith, count_most es)
 
-counted_more : (o : Option (List ℕ)) (w n m : ℕ) → suc n ≤ m → Counted o n → Counted (option_map (λ ws. w ∷ ws) o) m
-counted_more None w n m less h = tt
-counted_more (Some ws) w n m less h = omega (arith, less, h)
-
-words_counted : (es : Expressions) → Counted (constant_words es) (elements_most es)
-words_counted no_expression = omega arith
-words_counted (expression_then (constant t n) es) = counted_more (constant_words es) (word_of_integer n) (elements_most es) _ (omega arith) (words_counted es)
-words_counted (expression_then (load p) es) = tt
-words_counted (expression_then (not_of e) es) = tt
-words_counted (expression_then (sign_of e line) es) = tt
-words_counted (expression_then (chain e ls) es) = tt
-words_counted (expression_then (make t fs line) es) = tt
-words_counted (expression_then (convert t e line) es) = tt
-words_counted (expression_then (apply_of c xs line) es) = tt
-
-row_most : (o : Option (List ℕ)) (long n : ℕ) → Counted o n → long ≤ n → row_length o long ≤ 2 + n
-row_most None long n h k = omega (arith, k)
-row_most (Some ws) long n h k = omega (arith, h)
+row_most : (o : Option (List ℕ)) (long count n : ℕ) → IfSome o (λ ws. length ws ≡ count) → count ≤ n → long ≤ n → row_length o long ≤ 2 + n
+row_most None long count n h few k = omega (arith, k)
+row_most (Some ws) long count n h few k = omega (arith, h, few)
 
 made_most : (test : Bool) (a b n : ℕ) → a ≤ n → b ≤ n → (if test then a else b) ≤ n
 made_most true a b n h k = h
@@ -200,7 +165,8 @@ module _ (types : List Shape) (blocks : List Block) (b : ℕ) where
         made_most (is_set_shape (shape_at types t)) (2 + members_length types blocks b es)
         (row_length (constant_words es) (expressions_length types blocks b es)) (2 + elements_most es)
         (omega (arith, members_fit es))
-        (row_most (constant_words es) (expressions_length types blocks b es) (elements_most es) (words_counted es) (expressions_fit es))
+        (row_most (constant_words es) (expressions_length types blocks b es) (count_of es) (elements_most es) (constants_count es) (count_most es)
+        (expressions_fit es))
     expression_fits (convert t e line) = omega (arith, expression_fits e, check_most (shape_at types t) line)
     expression_fits (apply_of c xs line) = omega (arith, arguments_fit xs, call_most c)
 

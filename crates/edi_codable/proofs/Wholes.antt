@@ -25,6 +25,7 @@ use Rattle.edi_static.specs.Programs.{program_heading, global_decl, global_decls
 use Rattle.edi_static.proofs.Judging.{Gives, bind, behind, weaker}
 use Rattle.edi_scheme.specs.Laws.{HasPart}
 use Rattle.edi_static.proofs.Declared.{Keeping, const_list_kept, type_decl_kept, var_kept, heading_kept, round_kept, outside_round_kept}
+use Rattle.edi_codable.proofs.Fielded.{with_parts}
 use Rattle.edi_codable.proofs.Front.{weight, Lined, Front, tree_lined, const_list_front, type_decl_front, var_list_front, heading_front}
 use Rattle.edi_codable.proofs.Most.{total}
 use Rattle.edi_codable.proofs.Bodies.{BodyLines, Counted, typed, varied, push_total, Good, ActsDone, moved, close_good, add_good, list_good}
@@ -45,17 +46,7 @@ longer n types blocks shape part h =
 -- the words that are counted, where each type and each variable may take some
 abbrev counts : (n m : ℕ) → ((types : List Shape) (blocks : List Block) (shape : Shape) → HasPart shape → Counted n types blocks
     → Counted m (types ++ shape ∷ []) blocks) → Keeping
-counts n m more = record {
-  Is = Counted n;
-  Becomes = Counted m;
-  Fine = HasPart;
-  enumerated = λ count. tt;
-  filled = λ parts some. some;
-  arrayed = λ of lower upper element. tt;
-  set = λ of. tt;
-  typed = more;
-  varied = λ types blocks m block body need h. varied n types blocks m block body h;
-}
+counts n m more = with_parts (Counted n) (Counted m) more (λ types blocks m block body need h. varied n types blocks m block body h)
 
 abbrev counting : ℕ → Keeping
 counting n = counts n (n + 8) (typed n)

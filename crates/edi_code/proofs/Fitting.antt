@@ -34,12 +34,6 @@ module _ (types : List Shape) (table : IsTypeTable types) (parts : HaveParts typ
   place_known : (p : Place) → PlaceFits types blocks headings b p → place_type types blocks b p < length types
   place_known = known.place_known types table parts blocks headings each b inside
 
-  abbrev count : Expressions → ℕ
-  count = known.count_of types table parts blocks headings each b inside
-
-  constants_count : (es : Expressions) → IfSome (constant_words es) (λ ws. length ws ≡ count es)
-  constants_count = known.constants_count types table parts blocks headings each b inside
-
   row_writable : (ws : Option (List ℕ)) (n : ℕ) → 1 ≤ n → n ≤ greatest_size → IfSome ws (λ ws. length ws ≡ n) → RowIsWritable ws
   row_writable None n some few h = tt
   row_writable (Some ws) n some few h = (omega (arith, some, h), omega (arith, few, h))
@@ -62,7 +56,7 @@ module _ (types : List Shape) (table : IsTypeTable types) (parts : HaveParts typ
     expression_writable (make t es line) h = (
       λ q.
           let n = known.parts_count types table parts blocks headings each b inside t es h.0 q h.1 in
-          row_writable (constant_words es) (count es) n.0 n.1 (constants_count es),
+          row_writable (constant_words es) (known.count_of es) n.0 n.1 (known.constants_count es),
       expressions_writable es h.2,
     )
     expression_writable (convert t e line) h = expression_writable e h.3

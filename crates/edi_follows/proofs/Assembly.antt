@@ -11,27 +11,13 @@ use Rattle.edi_meaning.specs.Step.{Processes}
 use Rattle.edi_meaning.specs.Select as selection
 use Rattle.edi_meaning.specs.Select.{Selected, finished, unfinished, stepped_first, marked, is_standstill, select}
 use Rattle.edi_meaning.proofs.Sound.{EachTaken, each_next}
-use Rattle.edi_meaning.proofs.Selections.{stepped_before}
+use Rattle.edi_meaning.proofs.Selections.{same_ending, same_system, same_turns, same_drawn, stepped_before}
 use Rattle.edi_target.specs.Mach as target
 use Rattle.edi_target.specs.Mach.{Machine}
 use Rattle.edi_target.specs.Moments.{news_at, history_on, history_after, history}
 use Rattle.edi_spots.specs.Coded.{Coded}
 use Rattle.edi_spots.specs.Related.{Related, Kept, MayStep}
 use Rattle.edi_spots.specs.Lands.{step, Passes, EndsSo, LandsNext, LandsTested, Lands, Taken, StepClaim, StepsCohere, QueueAfter, StepsQueue}
-
--- ---- ends of selections
-
-same_ending : {a b : Ending} {x y : Traced} {m n c d : ℕ} {o q : List Name} → finished a x m c o ≡ finished b y n d q → a ≡ b
-same_ending e = cc
-
-same_system : {a b : Ending} {x y : Traced} {m n c d : ℕ} {o q : List Name} → finished a x m c o ≡ finished b y n d q → x ≡ y
-same_system e = cc
-
-same_turns : {a b : Ending} {x y : Traced} {m n c d : ℕ} {o q : List Name} → finished a x m c o ≡ finished b y n d q → m ≡ n
-same_turns e = cc
-
-same_drawn : {a b : Ending} {x y : Traced} {m n c d : ℕ} {o q : List Name} → finished a x m c o ≡ finished b y n d q → c ≡ d
-same_drawn e = cc
 
 module _ (g : Coded) (choices : Choices) where
   abbrev Run : ℕ → Machine → Name → List Name → ℕ → target.MachineRun

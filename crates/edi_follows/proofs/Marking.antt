@@ -52,8 +52,7 @@ module _ (p : Name) (others : List Name) where
 
   one_less_marks : (m : Machine) (q : Name) (a : Activity) (s : Standing) → StepMarks (one_less m q a s)
   one_less_marks m q a ready = tt
-  one_less_marks m q a at_when = tt
-  one_less_marks m q a (waiting n) = tt
+  one_less_marks m q a s = tt
 
   told_marks : (m : Machine) (q : Name) (a : Option Activity) → StepMarks (notified m q a)
   told_marks m q None = tt

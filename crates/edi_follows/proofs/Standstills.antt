@@ -17,7 +17,7 @@ use Rattle.edi_meaning.specs.Step.{Processes}
 use Rattle.edi_meaning.proofs.Branching.{StateGood, step_good, start_good}
 use Rattle.edi_meaning.proofs.Kernel.{After}
 use Rattle.edi_meaning.proofs.NeverBad.{selection_is_never_bad}
-use Rattle.edi_meaning.proofs.Selections.{stepped_before}
+use Rattle.edi_meaning.proofs.Selections.{same_ending, same_drawn, stepped_before}
 use Rattle.edi_meaning.proofs.Someone.{someone}
 use Rattle.edi_meaning.proofs.Sound.{EachTaken, each_next}
 use Rattle.edi_target.specs.Mach as target
@@ -70,12 +70,6 @@ module _ (fetched : ℕ → Option (Instruction × ℕ)) where
           (ap (target.after_step choices (target.run fetched choices 0) h.name h.others drawn) h.ends))
 
 -- ---- beside a selection that stands still
-
-same_ending : {a b : Ending} {x y : Traced} {m n c d : ℕ} {o q : List Name} → finished a x m c o ≡ finished b y n d q → a ≡ b
-same_ending e = cc
-
-same_drawn : {a b : Ending} {x y : Traced} {m n c d : ℕ} {o q : List Name} → finished a x m c o ≡ finished b y n d q → c ≡ d
-same_drawn e = cc
 
 abbrev none : ℕ → Type 0
 none a = ⊥

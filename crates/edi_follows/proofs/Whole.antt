@@ -20,7 +20,7 @@ use Rattle.edi_kernels.proofs.Going.{goes_claim, arrives_claim, again_claim}
 use Rattle.edi_kernels.proofs.Forked.{fork_claim}
 use Rattle.edi_kernels.proofs.Leaving.{leave_claim}
 use Rattle.edi_kernels.proofs.Meaning.{steps_cohere, steps_queue}
-use Rattle.edi_follows.specs.Theorem.{SameOutcome, SameMoments, CodeEndsAsMeant, CodeIsNeverBad, CodeIsPrivate, CodeStandsByMarks}
+use Rattle.edi_follows.specs.Theorem.{SameOutcome, SameMoments, CodeIsPrivate}
 use Rattle.edi_follows.proofs.Coding as coding
 use Rattle.edi_follows.proofs.Start.{start_claim}
 
@@ -38,16 +38,13 @@ local : (g : Coded) → LocalClaim g
 local g = local_claim g (constructs g) (instructed g) (λ s. called_claim g values_are_long zero_is_zeros s (system_does g s)) (returned_claim g)
 
 -- and among others
-steps : (g : Coded) → StepClaim g
+pub steps : (g : Coded) → StepClaim g
 steps g = step_claim g (local g) (goes_claim g) (arrives_claim g) (again_claim g) (fork_claim g) (leave_claim g) (ends_claim g) steps_cohere
 
-starts : (g : Coded) → StartClaim g
+pub starts : (g : Coded) → StartClaim g
 starts g = start_claim g values_are_long zero_is_zeros
 
--- ---- the theorem
-
-pub code_ends : CodeEndsAsMeant
-code_ends = coding.code_ends_as_meant steps starts steps_cohere steps_queue
+-- ---- what is cited of the theorem by the compiler's laws
 
 pub same_outcomes : SameOutcome
 same_outcomes = coding.same_outcome steps starts steps_cohere steps_queue
@@ -57,9 +54,3 @@ same_moments = coding.same_moments steps starts steps_cohere steps_queue
 
 pub code_private : CodeIsPrivate
 code_private = coding.code_is_private steps starts steps_cohere steps_queue
-
-pub never_bad : CodeIsNeverBad
-never_bad = coding.code_is_never_bad steps starts steps_cohere steps_queue
-
-pub by_marks : CodeStandsByMarks
-by_marks = coding.code_stands_by_marks steps starts steps_cohere steps_queue

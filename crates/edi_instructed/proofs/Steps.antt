@@ -22,7 +22,8 @@ use Rattle.edi_spots.specs.Scene.{Scene, Outer, alone, base_of, Stands, After, D
 use Rattle.edi_spots.specs.Claims.{Pushed}
 use Rattle.edi_spots.specs.Instructions.{effect, PushesThen, PopsPushes, PopsPushesValue, GoesThen, FailsAt, StepsTurn, IsOnward, TurnMoves}
 use Rattle.edi_spots.specs.Instructions.{TurnStops, OperandsStay, AbleThen, AbleAbove}
-use Rattle.edi_spots.proofs.Doing.{moves_by, moves_goes, gets_one, gets_then, stops_then, stops_by, stops_fails, after_then, after_lower, stands_after, give}
+use Rattle.edi_spots.proofs.Doing.{moves_by, moves_goes, gets_one, gets_then, stops_then, stops_by, stops_fails, after_then, after_lower, stands_after}
+use Rattle.edi_spots.proofs.Doing.{turn_before, give}
 use Rattle.edi_spots.proofs.Free.{beside, written_free, outer_kept}
 
 module _ (g : Coded) (s : Scene) where
@@ -88,15 +89,7 @@ module _ (g : Coded) (s : Scene) where
       cleared = true;
       walked = gets_then g.fetched s.count (is_first s.name) (Outer s) (alone s F m pc top held w) (alone s F m there up held (record w { turns = n }))
           (alone s F x.is.memory x.is.to x.is.up held v) true x.is.cleared h x.is.walked;
-      after = record {
-        shaped = x.is.after.shaped;
-        mirrors = x.is.after.mirrors;
-        typed = x.is.after.typed;
-        long = x.is.after.long;
-        untouched = x.is.after.untouched;
-        turns = omega (arith, x.is.after.turns, e);
-        clears = λ c. omega (arith, x.is.after.turns, e);
-      };
+      after = turn_before g s F w v m x.is.memory t n x.is.cleared e x.is.after;
       above = x.is.above;
       within = x.is.within;
       post = x.is.post;

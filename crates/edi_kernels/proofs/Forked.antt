@@ -39,6 +39,7 @@ use Rattle.edi_spots.specs.Related.{Lives, size_in, activity, Related}
 use Rattle.edi_spots.specs.Lands.{step, Keeps, Switches, EndsSo, Lands, Taken, Outside, Stepping, scene, taken_as, ForkClaim}
 use Rattle.edi_kernels.proofs.Lifting.{length-names, Before}
 use Rattle.edi_spots.proofs.Places.{tail_free, start_within}
+use Rattle.edi_spots.proofs.Doing.{stretch_turned}
 use Rattle.edi_kernels.proofs.Kernels.{activity_here, size_here, in_outer, before_here, stepped, words_there, adds_there, step_after_sound}
 use Rattle.edi_kernels.proofs.Settled.{Written, related_on}
 use Rattle.edi_kernels.proofs.Going.{may_go_on, theirs}
@@ -200,17 +201,7 @@ module _ (g : Coded) (bs : List ℕ) (line : ℕ) (ws : List Work) (w : World) (
     s0 = source.back s p q' w'
 
     stretch' : Stretch g (scene g s t p q x r) s.world.store w' t.memory h.memory
-    stretch' = record {
-      others = h.stretch.others;
-      some = h.stretch.some;
-      room = h.stretch.room;
-      fine = h.stretch.fine;
-      mirrors = h.stretch.mirrors;
-      typed =
-          h.stretch.typed;
-      long = h.stretch.long;
-      outside = h.stretch.outside;
-    }
+    stretch' = stretch_turned g (scene g s t p q x r) s.world.store w t.memory h.memory n h.stretch
 
     mine : target.activity_of next_local f (target.waiting (length bs)) ≡ activity g r.first G p q' h.next
     mine = λ i. record (target.activity_of next_local f (target.waiting (length bs))) { last = r.first p + size_here g s t p q x r i }

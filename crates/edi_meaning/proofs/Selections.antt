@@ -18,6 +18,20 @@ use Rattle.edi_meaning.specs.Select.{select_from_start}
 use Rattle.edi_meaning.specs.Laws.{EverySelectionEnds, SelectionsAreDetermined, RecordReplays}
 use Rattle.edi_meaning.proofs.Work.{Falls, standing_size, work_size, step_falls}
 
+-- ---- ends of selections
+
+pub same_ending : {a b : Ending} {x y : Traced} {m n c d : ℕ} {o q : List Name} → finished a x m c o ≡ finished b y n d q → a ≡ b
+same_ending h = cc
+
+pub same_system : {a b : Ending} {x y : Traced} {m n c d : ℕ} {o q : List Name} → finished a x m c o ≡ finished b y n d q → x ≡ y
+same_system h = cc
+
+pub same_turns : {a b : Ending} {x y : Traced} {m n c d : ℕ} {o q : List Name} → finished a x m c o ≡ finished b y n d q → m ≡ n
+same_turns h = cc
+
+pub same_drawn : {a b : Ending} {x y : Traced} {m n c d : ℕ} {o q : List Name} → finished a x m c o ≡ finished b y n d q → c ≡ d
+same_drawn h = cc
+
 -- the rest of a selection, after a step
 abbrev More : Type 0
 More = Processes → List Name → Name → List Name → ℕ → Selected
@@ -123,9 +137,6 @@ pub stepped_before : (p : Name) (r : Selected) (ending : Ending) (end : Traced) 
 stepped_before p unfinished ending end turns d order h = absurd (cc)
 stepped_before p (finished x y z v rest) ending end turns d order h = (rest, (cc), (cc))
 
-same_drawn : (x ending : Ending) (y end : Traced) (z turns v d : ℕ) (o order : List Name) → finished x y z v o ≡ finished ending end turns d order → v ≡ d
-same_drawn x ending y end z turns v d o order h = cc
-
 module _ (unit : ProgramUnit) (ending : Ending) (end : Traced) (turns d : ℕ) where
   abbrev End : List Name → Selected
   End order = finished ending end turns d order
@@ -135,7 +146,7 @@ module _ (unit : ProgramUnit) (ending : Ending) (end : Traced) (turns d : ℕ) w
     queue_drawn : (queue : List Name) (more : Name → List Name → ℕ → Selected) (s : Processes) (drawn : ℕ) (order : List Name) →
         ((p : Name) (others : List Name) (x : ℕ) → more p others x ≡ End order → x ≤ d) → go_on (take_next choices drawn queue) more s drawn ≡ End order
         → drawn ≤ d
-    queue_drawn [] more s drawn order ih h = omega (arith, same_drawn _ _ _ _ _ _ _ _ _ _ h)
+    queue_drawn [] more s drawn order ih h = omega (arith, same_drawn h)
     queue_drawn (p ∷ []) more s drawn order ih h = ih p [] drawn h
     queue_drawn (p ∷ q ∷ ready) more s drawn order ih h = omega (arith, ih _ _ (drawn + 1) h)
 
@@ -148,13 +159,13 @@ module _ (unit : ProgramUnit) (ending : Ending) (end : Traced) (turns d : ℕ) w
         (order : List Name) →
         ((p : Name) (others : List Name) (x : ℕ) → more p others x ≡ End order → x ≤ d) →
         (if b then finished outcome.standstill s.world.system s.world.turns drawn [] else after_next choices more s p others drawn next) ≡ End order → drawn ≤ d
-    tested_drawn true next more s p others drawn order ih h = omega (arith, same_drawn _ _ _ _ _ _ _ _ _ _ h)
+    tested_drawn true next more s p others drawn order ih h = omega (arith, same_drawn h)
     tested_drawn false next more s p others drawn order ih h = next_drawn next more s p others drawn order ih h
 
     stepped_drawn : (x : Stepped) (more : More) (p : Name) (others marks : List Name) (drawn : ℕ) (order : List Name) →
         ((s : Processes) (marks : List Name) (p : Name) (others : List Name) (x : ℕ) → more s marks p others x ≡ End order → x ≤ d) →
         after_step choices more p others marks drawn x ≡ End order → drawn ≤ d
-    stepped_drawn (ended e system t) more p others marks drawn order ih h = omega (arith, same_drawn _ _ _ _ _ _ _ _ _ _ h)
+    stepped_drawn (ended e system t) more p others marks drawn order ih h = omega (arith, same_drawn h)
     stepped_drawn (went s next quiet) more p others marks drawn order ih h =
         tested_drawn (is_standstill quiet (marked quiet p marks) (p ∷ others)) next (more s (marked quiet p marks)) s p others drawn order
         (ih s (marked quiet p marks)) h

@@ -168,10 +168,6 @@ program_with_procedure =
     ∷ block_of kind.Procedure 0 None [] [] 5 (skip ∷ [])
     ∷ [])
 
-pub row_with_procedure : selected program_with_procedure [] ≡ (49 ∷ [], outcome.done, 8, 0)
-unfolding zero_value
-row_with_procedure = refl
-
 -- HEAD proc p(n: int) begin if n = 1 do p(2) else true do display('x') end end begin p(1) end: the second instance of p
 -- is called from the first, and means the variables of the program all the same
 abbrev pub program_that_recurs : ProgramUnit
@@ -183,9 +179,10 @@ program_that_recurs =
     (call (callee.Block 1 1) (argument_then (by_value (number (pos 2))) no_argument) 1 ∷ []) true_value (display 1 (pos 120) ∷ [])) ∷ [])
     ∷ [])
 
-pub row_recurs : selected program_that_recurs [] ≡ (120 ∷ [], outcome.done, 6, 0)
+pub row_instances :
+    (selected program_with_procedure [] ≡ (49 ∷ [], outcome.done, 8, 0)) × (selected program_that_recurs [] ≡ (120 ∷ [], outcome.done, 6, 0))
 unfolding zero_value
-row_recurs = refl
+row_instances = (refl, refl)
 
 -- HEAD var x: int proc f: int begin when true do val f := 1 end end begin x := f end, the `when` on line 5
 abbrev pub program_that_is_held : ProgramUnit
@@ -218,13 +215,23 @@ program_that_needs n =
     ∷ block_of kind.Procedure 0 None [] [] n (skip ∷ [])
     ∷ [])
 
-pub row_fits : selected (program_that_needs 65531) [] ≡ ([], outcome.done, 4, 0)
-unfolding zero_value
-row_fits = refl
+-- proc main begin cobegin 1 do skip also 2 do skip end end, with the word `cobegin` on line 2 and branches that need n words: they
+-- share the 65,531 words that main leaves
+abbrev pub program_that_shares : ℕ → ProgramUnit
+program_that_shares n =
+    program_of [] []
+    (block_of kind.Program 0 None [] [] 5 (cobegin (1 ∷ 2 ∷ []) 2 ∷ [])
+    ∷ block_of kind.Branch 0 None [] [] n (skip ∷ [])
+    ∷ block_of kind.Branch 0 None [] [] n (skip ∷ [])
+    ∷ [])
 
-pub row_does_not_fit : selected (program_that_needs 65532) [] ≡ ([], outcome.failed cause.VariableLimit 3, 1, 0)
+pub row_needs :
+    (selected (program_that_needs 65531) [] ≡ ([], outcome.done, 4, 0))
+    × (selected (program_that_needs 65532) [] ≡ ([], outcome.failed cause.VariableLimit 3, 1, 0))
+    × (selected (program_that_shares 32765) [] ≡ ([], outcome.done, 5, 1))
+    × (selected (program_that_shares 32766) [] ≡ ([], outcome.failed cause.VariableLimit 2, 1, 0))
 unfolding zero_value
-row_does_not_fit = refl
+row_needs = (refl, refl, refl, refl)
 
 -- ---- processes
 
@@ -238,43 +245,16 @@ program_that_forks =
     ∷ block_of kind.Branch 0 None [] [] 6 (when_act (one_clause true_value (display 1 (pos 98) ∷ [])) 4 ∷ [])
     ∷ [])
 
-pub row_forks : selected program_that_forks [] ≡ (97 ∷ 98 ∷ [], outcome.done, 7, 3)
+pub row_forks :
+    (selected program_that_forks [] ≡ (97 ∷ 98 ∷ [], outcome.done, 7, 3))
+    × (selected program_that_forks (0 ∷ 0 ∷ 1 ∷ []) ≡ (98 ∷ 97 ∷ [], outcome.done, 7, 3))
+    × (selected program_that_forks (1 ∷ []) ≡ (98 ∷ 97 ∷ [], outcome.done, 7, 3))
 unfolding zero_value
-row_forks = refl
-
-pub row_forks_chosen : selected program_that_forks (0 ∷ 0 ∷ 1 ∷ []) ≡ (98 ∷ 97 ∷ [], outcome.done, 7, 3)
-unfolding zero_value
-row_forks_chosen = refl
-
-pub row_forks_at_once : selected program_that_forks (1 ∷ []) ≡ (98 ∷ 97 ∷ [], outcome.done, 7, 3)
-unfolding zero_value
-row_forks_at_once = refl
-
--- proc main begin cobegin 1 do skip also 2 do skip end end, with the word `cobegin` on line 2 and branches that need n words: they
--- share the 65,531 words that main leaves
-abbrev pub program_that_shares : ℕ → ProgramUnit
-program_that_shares n =
-    program_of [] []
-    (block_of kind.Program 0 None [] [] 5 (cobegin (1 ∷ 2 ∷ []) 2 ∷ [])
-    ∷ block_of kind.Branch 0 None [] [] n (skip ∷ [])
-    ∷ block_of kind.Branch 0 None [] [] n (skip ∷ [])
-    ∷ [])
-
-pub row_shares : selected (program_that_shares 32765) [] ≡ ([], outcome.done, 5, 1)
-unfolding zero_value
-row_shares = refl
-
-pub row_does_not_share : selected (program_that_shares 32766) [] ≡ ([], outcome.failed cause.VariableLimit 2, 1, 0)
-unfolding zero_value
-row_does_not_share = refl
+row_forks = (refl, refl, refl)
 
 -- proc main begin when false do skip end end: the entry, the arrival and one attempt
 abbrev pub program_that_waits : ProgramUnit
 program_that_waits = program_of [] [] (block_of kind.Program 0 None [] [] 6 (when_act (one_clause false_value (skip ∷ [])) 1 ∷ []) ∷ [])
-
-pub row_waits : selected program_that_waits [] ≡ ([], outcome.standstill, 3, 0)
-unfolding zero_value
-row_waits = refl
 
 -- proc main begin cobegin 1 do when false do skip end also 2 do when false do skip end end end
 abbrev pub program_where_two_wait : ProgramUnit
@@ -285,9 +265,10 @@ program_where_two_wait =
     ∷ block_of kind.Branch 0 None [] [] 6 (when_act (one_clause false_value (skip ∷ [])) 1 ∷ [])
     ∷ [])
 
-pub row_two_wait : selected program_where_two_wait [] ≡ ([], outcome.standstill, 6, 4)
+pub row_standstills :
+    (selected program_that_waits [] ≡ ([], outcome.standstill, 3, 0)) × (selected program_where_two_wait [] ≡ ([], outcome.standstill, 6, 4))
 unfolding zero_value
-row_two_wait = refl
+row_standstills = (refl, refl)
 
 -- proc main proc f: bool begin val f := false end begin when f do skip end end: a condition that calls a function marks
 -- nothing, so this waits until its turns are used up

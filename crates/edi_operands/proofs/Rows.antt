@@ -43,9 +43,6 @@ module _ (g : Coded) (s : Scene) (deeper : Acts → World → Evaluation (Unit {
   abbrev ts : List types.Shape
   ts = g.unit.types
 
-  abbrev kind_of : Shape → Expression → ℕ
-  kind_of F e = expression_type ts g.unit.blocks (here g s F) e
-
   abbrev row_height : Shape → ℕ → Expressions → ℕ
   row_height F n es = compound_height ts g.unit.blocks (here g s F) n es
 
@@ -59,7 +56,7 @@ module _ (g : Coded) (s : Scene) (deeper : Acts → World → Evaluation (Unit {
       Es g s deeper bound (tree.expression_then e es)
   expression_then_does e es claim rest [] F pc to t held w m less stands have fits able = absurd have
   expression_then_does e es claim rest (x ∷ xs) F pc to t held w m less stands have fits able =
-      let k : ℕ = kind_of F e in
+      let k : ℕ = expression_type ts g.unit.blocks (here g s F) e in
       bind_value g s (List Value) (PushedRow g s (x ∷ xs) to t) (expression g.unit s.name (s.size s.name) deeper e w)
       (λ v w. expressions g.unit s.name (s.size s.name) deeper es w >>= λ vs w. gives (v ∷ vs) w) F pc stands.0 t t t held k w m (omega arith)
       (claim F pc stands.0 t held w m less stands.1 fits.0

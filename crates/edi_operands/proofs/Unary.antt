@@ -105,41 +105,55 @@ module _ (g : Coded) (s : Scene) (deeper : Acts → World → Evaluation (Unit {
   known_type F w m e h fits =
       expression_known types g.fits.table g.parts g.unit.blocks g.fits.headings g.fits.fits_blocks (here g s F) (known_block F w m h) e fits
 
+  -- an elementary operand of a type that every table has
+  record Standard (x : Value) (m : List ℕ) (t k of : ℕ) : Type 0 where
+    alone : Lone g x m t k
+    typed : IsOf types x of
+    known : of < length types
+    one : size types of ≡ 1
+
+  standard : (of : ℕ) → of < 3 → IsTrue (is_elementary types of) → (F : meaning.Shape) (w : World) (m : List ℕ) (e : Expression) (x : Value)
+      (m' : List ℕ) (t : ℕ) → Stands g s F w m → ExpressionFits types g.unit.blocks g.fits.headings (here g s F) e → kind_of F e ≡ of →
+      IsOf types x (kind_of F e) → words_at m' t (size types (kind_of F e)) ≡ value_words x → Standard x m' t (kind_of F e) of
+  standard of less elementary F w m e x m' t stands fits same typed words =
+      let a : Lone g x m' t (kind_of F e) = lone g s x m' t (kind_of F e) (known_type F w m e stands fits)
+      (subst (λ k. IsTrue (is_elementary types k)) (sym same) elementary) typed words in
+      record {
+        alone = a;
+        typed = subst (λ k. IsOf types x k) same typed;
+        known = standard_known types table of less;
+        one = ap (size types) (sym same) ∙ a.size_is;
+      }
+
   -- `not`
   pub not_does : (e : Expression) → E g s deeper bound e → E g s deeper bound (tree.not_of e)
   not_does e claim F pc to t held w m less stands fits able =
       bind_value g s Value (Pushed g s bool_type to t) (expression g.unit s.name (s.size s.name) deeper e w) (λ v w. gives (negation v) w)
       F pc stands.0 t t t held (kind_of F e) w m (omega arith) (claim F pc stands.0 t held w m less stands.1 fits.1 able) (λ x v m' c high after post.
-      let typed : IsOf types x bool_type = subst (λ k. IsOf types x k) fits.0 post.typed in
-      let known : bool_type < length types = standard_known types table 2 (omega arith) in
-      let a : Lone g x m' t (kind_of F e) = lone g s x m' t (kind_of F e) (known_type F w m e able.stands fits.1)
-      (subst (λ k. IsTrue (is_elementary types k)) (sym fits.0) (bool_elementary types table)) post.typed post.words in
-      let one : size types bool_type ≡ 1 = ap (size types) (sym fits.0) ∙ a.size_is in
+      let o : Standard x m' t (kind_of F e) bool_type =
+      standard bool_type (omega arith) (bool_elementary types table) F w m e x m' t able.stands fits.1 fits.0 post.typed post.words in
       i.pops_pushes_value F op.not_ stands.0 to (t + size types (kind_of F e)) t held bool_type v m' (truth (nat_eq (word_of x) 0) ∷ []) (negation x)
       (stands_after g s F w v m m' t c able.stands after) stands.2
       (i.pops_word F m' (word_of x) stands.0 t (t + size types (kind_of F e)) held (λ y l. push (truth (nat_eq y 0) ∷ []) l (effects.to to)) able.low
-      (omega (arith, a.size_is)) a.word_is)
-      able.low (omega (arith, high, a.size_is, one)) (sym (negation_follows types table x typed).0) known (negation_follows types table x typed).1)
+      (omega (arith, o.alone.size_is)) o.alone.word_is)
+      able.low (omega (arith, high, o.alone.size_is, o.one)) (sym (negation_follows types table x o.typed).0) o.known (negation_follows types table x o.typed).1)
 
   -- a leading `-`
   pub sign_does : (e : Expression) (line : ℕ) → E g s deeper bound e → E g s deeper bound (tree.sign_of e line)
   sign_does e line claim F pc to t held w m less stands fits able =
       bind_value g s Value (Pushed g s int_type to t) (expression g.unit s.name (s.size s.name) deeper e w) (λ v w. whole.in_range line (sign v) w)
       F pc stands.0 t t t held (kind_of F e) w m (omega arith) (claim F pc stands.0 t held w m less stands.1 fits.1 able) (λ x v m' c high after post.
-      let typed : IsOf types x int_type = subst (λ k. IsOf types x k) fits.0 post.typed in
-      let known : int_type < length types = standard_known types table 0 (omega arith) in
-      let a : Lone g x m' t (kind_of F e) = lone g s x m' t (kind_of F e) (known_type F w m e able.stands fits.1)
-      (subst (λ k. IsTrue (is_elementary types k)) (sym fits.0) (int_elementary types table)) post.typed post.words in
-      let one : size types int_type ≡ 1 = ap (size types) (sym fits.0) ∙ a.size_is in
+      let o : Standard x m' t (kind_of F e) int_type =
+      standard int_type (omega arith) (int_elementary types table) F w m e x m' t able.stands fits.1 fits.0 post.typed post.words in
       ranged g s F (op.neg line) stands.0 to (t + size types (kind_of F e)) t held int_type line v m' (option_map (λ z. z ∷ []) (word_sub 0 (word_of x)))
       (sign x)
       (stands_after g s F w v m m' t c able.stands after) stands.2
       (i.pops_word F m' (word_of x) stands.0 t (t + size types (kind_of F e)) held
       (λ y l. in_range line (word_sub 0 y) (λ z. push (z ∷ []) l (effects.to to))) able.low
-      (omega (arith, a.size_is)) a.word_is ∙ range_pushes line to (word_sub 0 (word_of x)) (local_at s F m' stands.0 t held))
-      able.low (omega (arith, high, a.size_is, one))
-      (signed_words (word_sub 0 (word_of x)) (sign x) (sign_follows types table x typed).0 (sign_follows types table x typed).1)
-      known (signed_typed (sign x) (sign_follows types table x typed).1))
+      (omega (arith, o.alone.size_is)) o.alone.word_is ∙ range_pushes line to (word_sub 0 (word_of x)) (local_at s F m' stands.0 t held))
+      able.low (omega (arith, high, o.alone.size_is, o.one))
+      (signed_words (word_sub 0 (word_of x)) (sign x) (sign_follows types table x o.typed).0 (sign_follows types table x o.typed).1)
+      o.known (signed_typed (sign x) (sign_follows types table x o.typed).1))
     where
       signed_words : (o : Option ℕ) (p : Option Value) → o ≡ option_map word_of p → IfSome p (λ x. IsOf types x int_type × (value_words x ≡ word_of x ∷ [])) →
           option_map (λ z. z ∷ []) o ≡ option_map value_words p

@@ -13,7 +13,7 @@ use Rattle.edi_spots.specs.Scene.{Scene, here, Able, Does}
 use Rattle.edi_spots.specs.Claims.{Ran, TriedSo, Tried, DeeperClaim}
 use Rattle.edi_spots.specs.Constructs.{A, Cs}
 use Rattle.edi_spots.specs.Instructions.{Instructed}
-use Rattle.edi_spots.proofs.Doing.{give, bind}
+use Rattle.edi_spots.proofs.Doing.{give, bind, stands_turned}
 use Rattle.edi_instructed.proofs.Instructed.{instructed}
 use Rattle.edi_instructed.proofs.Binding.{at_same}
 
@@ -24,14 +24,7 @@ module _ (g : Coded) (s : Scene) (deeper : Acts → World → Evaluation (Unit {
   -- with a turn less
   turned_able : (F : Shape) (v : World) (n : ℕ) (m : List ℕ) (t h held : ℕ) → Able g s F v m t h held → Able g s F (record v { turns = n }) m t h held
   turned_able F v n m t h held a = record {
-    stands = record {
-      shaped = a.stands.shaped;
-      layout = a.stands.layout;
-      mirrors = a.stands.mirrors;
-      typed = a.stands.typed;
-      long = a.stands.long;
-      others = a.stands.others;
-    };
+    stands = stands_turned g s F v m n a.stands;
     low = a.low;
     high = a.high;
     few = a.few;

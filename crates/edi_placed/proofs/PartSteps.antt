@@ -2,7 +2,7 @@
 use Rattle.std.proofs.Common.{◌≡◌, ℕ, ◌+◌, ◌<◌, ◌^◌, false, List, [], ◌∷◌, length, refl, sym, subst, ap, ◌∙◌, arith}
 use Rattle.std.specs.Prelude.{ℤ, All, IsTrue, unwrap_or}
 use Rattle.edi_unit.specs.Types as types
-use Rattle.edi_unit.specs.Types.{int, char, bool, enumeration, record_of, array_of, set_of, shape_at, int_type, field_type, is_elementary}
+use Rattle.edi_unit.specs.Types.{array_of, shape_at, int_type, field_type, is_elementary}
 use Rattle.edi_unit.specs.Types.{is_elementary_shape, element_count, part_types, named_types, ordinal_types, size}
 use Rattle.edi_unit.specs.Tree as tree
 use Rattle.edi_unit.specs.Tree.{Expression, Parts, Acts}
@@ -131,12 +131,7 @@ module _ (g : Coded) where
     where
       by_shape : (x : types.Shape) → shape_at g.unit.types of ≡ x → IsIndexedBy x from → IsArray of from
       by_shape (array_of i lo hi e) is h = record { low = lo; high = hi; elements = e; is = is ∙ ap (λ k. array_of k lo hi e) (sym h) }
-      by_shape int is h = absurd h
-      by_shape char is h = absurd h
-      by_shape bool is h = absurd h
-      by_shape (enumeration n) is h = absurd h
-      by_shape (record_of fs) is h = absurd h
-      by_shape (set_of b) is h = absurd h
+      by_shape x is h = absurd h
 
   -- the index type of an array is elementary
   pub index_elementary : (of from : ℕ) → of < length g.unit.types → IsArray of from → IsTrue (is_elementary g.unit.types from)

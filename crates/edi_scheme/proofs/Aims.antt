@@ -5,7 +5,7 @@ use Rattle.std.proofs.lemmas.Bool.{le-leb, lt-ltb}
 use Rattle.edi_unit.specs.declared.expressions.Operator.{Operator}
 use Rattle.edi_unit.specs.declared.expressions.Operator.TheVariants as op
 use Rattle.edi_unit.specs.declared.units.Parameter.{Parameter}
-use Rattle.edi_unit.specs.Types.{Shape, int, char, bool, enumeration, record_of, array_of, set_of, shape_at, is_set_shape}
+use Rattle.edi_unit.specs.Types.{Shape, char, bool, enumeration, array_of, shape_at, is_set_shape}
 use Rattle.edi_unit.specs.Tree.{Clauses, no_clause, clause_then}
 use Rattle.edi_target.specs.Op as instruction
 use Rattle.edi_target.specs.Op.{Instruction, Branch, words_of}
@@ -35,41 +35,25 @@ pub variable_plain : (levels at : ℕ) (v : Option Parameter) → IsPlain (varia
 variable_plain levels at v = plain_then refl (either_plain (is_address v) (plain_one refl) none)
 
 pub element_plain : (types : List Shape) (s : Shape) (line : ℕ) → IsPlain (element_code types s line)
-element_plain types int line = none
-element_plain types char line = none
-element_plain types bool line = none
-element_plain types (enumeration n) line = none
-element_plain types (record_of fs) line = none
-element_plain types (set_of t) line = none
 element_plain types (array_of i lo hi e) line = plain_one refl
+element_plain types s line = none
 
 pub check_plain : (s : Shape) (line : ℕ) → IsPlain (check_code s line)
-check_plain int line = none
 check_plain char line = plain_one refl
 check_plain bool line = plain_one refl
 check_plain (enumeration n) line = plain_one refl
-check_plain (record_of fs) line = none
-check_plain (set_of t) line = none
-check_plain (array_of i lo hi e) line = none
+check_plain s line = none
 
 sets_plain : (types : List Shape) (t : ℕ) (s i : Instruction) → targets_of s ≡ [] → targets_of i ≡ [] → IsPlain (on_sets types t s i)
 sets_plain types t s i g h = either_plain (is_set_shape (shape_at types t)) (plain_one g) (plain_one h)
 
 pub operation_plain : (types : List Shape) (t : ℕ) (o : Operator) (line : ℕ) → IsPlain (operation types t o line)
-operation_plain types t op.Equal line = plain_one refl
-operation_plain types t op.NotEqual line = plain_one refl
-operation_plain types t op.Less line = plain_one refl
-operation_plain types t op.LessOrEqual line = plain_one refl
-operation_plain types t op.Greater line = plain_one refl
-operation_plain types t op.GreaterOrEqual line = plain_one refl
-operation_plain types t op.In line = plain_one refl
 operation_plain types t op.Plus line = sets_plain types t _ _ refl refl
 operation_plain types t op.Minus line = sets_plain types t _ _ refl refl
 operation_plain types t op.Times line = sets_plain types t _ _ refl refl
-operation_plain types t op.Div line = plain_one refl
-operation_plain types t op.Mod line = plain_one refl
 operation_plain types t op.And line = none
 operation_plain types t op.Or line = none
+operation_plain types t o line = plain_one refl
 
 -- ---- where instructions of these words lead
 
@@ -149,18 +133,7 @@ module _ (words : List ℕ) where
   pub decision_leads : (o : Operator) (at behind : ℕ) → at + code_length (decision o 0) ≤ behind → Good behind → Leads (decision o behind) at
   decision_leads op.And at behind less g = leads_one (aims_ahead at (instruction.and behind) behind refl g (omega (arith, less)))
   decision_leads op.Or at behind less g = leads_one (aims_ahead at (instruction.or behind) behind refl g (omega (arith, less)))
-  decision_leads op.Equal at behind less g = nothing
-  decision_leads op.NotEqual at behind less g = nothing
-  decision_leads op.Less at behind less g = nothing
-  decision_leads op.LessOrEqual at behind less g = nothing
-  decision_leads op.Greater at behind less g = nothing
-  decision_leads op.GreaterOrEqual at behind less g = nothing
-  decision_leads op.In at behind less g = nothing
-  decision_leads op.Plus at behind less g = nothing
-  decision_leads op.Minus at behind less g = nothing
-  decision_leads op.Times at behind less g = nothing
-  decision_leads op.Div at behind less g = nothing
-  decision_leads op.Mod at behind less g = nothing
+  decision_leads o at behind less g = nothing
 
   pub again_leads : (quiet : Bool) (top at : ℕ) → top ≤ at → Good top → Leads (again_code quiet top) at
   again_leads true top at less g = leads_one (aims_back at (instruction.quiet top) top refl g less)

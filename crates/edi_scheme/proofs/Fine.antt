@@ -53,18 +53,7 @@ variable_allowed levels at v h =
 decision_allowed : (o : Operator) (behind : ℕ) → AreAllowed (decision o behind)
 decision_allowed op.And behind = allowed_one (record { operands = refl; integers = refl })
 decision_allowed op.Or behind = allowed_one (record { operands = refl; integers = refl })
-decision_allowed op.Equal behind = none
-decision_allowed op.NotEqual behind = none
-decision_allowed op.Less behind = none
-decision_allowed op.LessOrEqual behind = none
-decision_allowed op.Greater behind = none
-decision_allowed op.GreaterOrEqual behind = none
-decision_allowed op.In behind = none
-decision_allowed op.Plus behind = none
-decision_allowed op.Minus behind = none
-decision_allowed op.Times behind = none
-decision_allowed op.Div behind = none
-decision_allowed op.Mod behind = none
+decision_allowed o behind = none
 
 sets_allowed : (types : List Shape) (t : ℕ) (s i : Instruction) → Allowed s → Allowed i → AreAllowed (on_sets types t s i)
 sets_allowed types t s i g h = either_allowed (is_set_shape (shape_at types t)) (λ e. allowed_one g) (λ e. allowed_one h)
@@ -141,12 +130,6 @@ module _ (types : List Shape) (table : IsTypeTable types) (parts : HaveParts typ
     procedure_allowed (callee.Formal levels v) h = one_then (record { operands = le-leb levels 64 h.0; integers = refl })
         (allowed_one (record { operands = refl; integers = refl }))
 
-    abbrev count : Expressions → ℕ
-    count = known.count_of types table parts blocks headings each b inside
-
-    constants_count : (es : Expressions) → IfSome (constant_words es) (λ ws. length ws ≡ count es)
-    constants_count = known.constants_count types table parts blocks headings each b inside
-
     positive : (t : ℕ) → t < length types → 1 ≤ size types t
     positive = known.size_positive types table parts
 
@@ -177,7 +160,7 @@ module _ (types : List Shape) (table : IsTypeTable types) (parts : HaveParts typ
           (λ q. one_then (record { operands = refl; integers = refl }) (members_allowed line es (at + 2) h.2))
           (λ q.
           let n = known.parts_count types table parts blocks headings each b inside t es h.0 q h.1 in
-          row_allowed (constant_words es) _ _ n.1 n.0 (constants_count es) (expressions_allowed es at h.2))
+          row_allowed (constant_words es) _ _ n.1 n.0 (known.constants_count es) (expressions_allowed es at h.2))
       expression_allowed (convert t e line) at h = allowed_append (expression_allowed e at h.3) (check_allowed types (shape_at types t) line (shapes t h.0))
       expression_allowed (apply_of c xs line) at h = allowed_append (arguments_allowed xs _ at h.2) (call_allowed c line h.0)
 

@@ -55,6 +55,21 @@ ordinal_integer types (record_of fs) n f h = absurd (false≢true h)
 ordinal_integer types (array_of i lo hi e) n f h = absurd (false≢true h)
 ordinal_integer types (set_of t) n f h = absurd (false≢true h)
 
+-- ---- rows of constants
+
+abbrev pub count_of : Expressions → ℕ
+count_of no_expression = 0
+count_of (expression_then e es) = suc (count_of es)
+
+one_more : (w n : ℕ) (ws : Option (List ℕ)) → IfSome ws (λ ws. length ws ≡ n) → IfSome (option_map (λ ws. w ∷ ws) ws) (λ ws. length ws ≡ suc n)
+one_more w n None h = tt
+one_more w n (Some ws) h = omega (arith, h)
+
+pub constants_count : (es : Expressions) → IfSome (constant_words es) (λ ws. length ws ≡ count_of es)
+constants_count no_expression = refl
+constants_count (expression_then (constant t n) es) = one_more _ (count_of es) (constant_words es) (constants_count es)
+constants_count (expression_then e es) = tt
+
 -- ---- blocks
 
 module _ (types : List Shape) where
@@ -170,10 +185,6 @@ module _ (types : List Shape) (table : IsTypeTable types) (parts : HaveParts typ
 
     -- ---- the parts of a record or an array
 
-    abbrev pub count_of : Expressions → ℕ
-    count_of no_expression = 0
-    count_of (expression_then e es) = suc (count_of es)
-
     count_types : (es : Expressions) (ts : List ℕ) → HaveTypes types blocks headings b es ts → count_of es ≡ length ts
     count_types no_expression [] h = refl
     count_types no_expression (t ∷ ts) h = absurd h
@@ -206,18 +217,3 @@ module _ (types : List Shape) (table : IsTypeTable types) (parts : HaveParts typ
         let same = size-is types t table h in
         let small = size-small types t table h in
         (n.0, omega (arith, n.1, same, small))
-
-    one_more : (w n : ℕ) (ws : Option (List ℕ)) → IfSome ws (λ ws. length ws ≡ n) → IfSome (option_map (λ ws. w ∷ ws) ws) (λ ws. length ws ≡ suc n)
-    one_more w n None h = tt
-    one_more w n (Some ws) h = omega (arith, h)
-
-    pub constants_count : (es : Expressions) → IfSome (constant_words es) (λ ws. length ws ≡ count_of es)
-    constants_count no_expression = refl
-    constants_count (expression_then (constant t n) es) = one_more _ (count_of es) (constant_words es) (constants_count es)
-    constants_count (expression_then (load p) es) = tt
-    constants_count (expression_then (not_of e) es) = tt
-    constants_count (expression_then (sign_of e line) es) = tt
-    constants_count (expression_then (chain e ls) es) = tt
-    constants_count (expression_then (make t fs line) es) = tt
-    constants_count (expression_then (convert t e line) es) = tt
-    constants_count (expression_then (apply_of c xs line) es) = tt

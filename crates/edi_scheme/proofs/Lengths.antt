@@ -29,19 +29,7 @@ use Rattle.edi_scheme.proofs.Laid.{Long, long_nothing, long_append, long_then, l
 
 pub decision_length : (o : Operator) (behind : ℕ) → Long (decision o behind) (code_length (decision o 0))
 decision_length op.And behind = record { is = refl }
-decision_length op.Or behind = record { is = refl }
-decision_length op.Equal behind = record { is = refl }
-decision_length op.NotEqual behind = record { is = refl }
-decision_length op.Less behind = record { is = refl }
-decision_length op.LessOrEqual behind = record { is = refl }
-decision_length op.Greater behind = record { is = refl }
-decision_length op.GreaterOrEqual behind = record { is = refl }
-decision_length op.In behind = record { is = refl }
-decision_length op.Plus behind = record { is = refl }
-decision_length op.Minus behind = record { is = refl }
-decision_length op.Times behind = record { is = refl }
-decision_length op.Div behind = record { is = refl }
-decision_length op.Mod behind = record { is = refl }
+decision_length o behind = record { is = refl }
 
 pub close_length : (kind : ClauseKind) (target : ℕ) (cs : Clauses) → Long (close_code kind target cs) (code_length (close_code kind 0 cs))
 close_length once target no_clause = record { is = refl }

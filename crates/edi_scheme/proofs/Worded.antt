@@ -104,18 +104,7 @@ variable_small levels at v h k =
 decision_small : (o : Operator) (behind : ℕ) → behind < 2 ^ 32 → AreSmall (decision o behind)
 decision_small op.And behind h = small_one (wt 30 behind (omega arith) h)
 decision_small op.Or behind h = small_one (wt 31 behind (omega arith) h)
-decision_small op.Equal behind h = none
-decision_small op.NotEqual behind h = none
-decision_small op.Less behind h = none
-decision_small op.LessOrEqual behind h = none
-decision_small op.Greater behind h = none
-decision_small op.GreaterOrEqual behind h = none
-decision_small op.In behind h = none
-decision_small op.Plus behind h = none
-decision_small op.Minus behind h = none
-decision_small op.Times behind h = none
-decision_small op.Div behind h = none
-decision_small op.Mod behind h = none
+decision_small o behind h = none
 
 sets_small : (types : List Shape) (t : ℕ) (s i : Instruction) → Words (words_of s) → Words (words_of i) → AreSmall (on_sets types t s i)
 sets_small types t s i g h = either_small (is_set_shape (shape_at types t)) (λ e. small_one g) (λ e. small_one h)
@@ -243,20 +232,11 @@ module _ (types : List Shape) (table : IsTypeTable types) (parts : HaveParts typ
     one_more w n None k h = tt
     one_more w n (Some ws) k h = let long = h.1 in ((k, h.0), omega (arith, long))
 
-    abbrev count : Expressions → ℕ
-    count = known.count_of types table parts blocks headings each b inside
-
-    constants_small : (es : Expressions) → ExpressionsFit types blocks headings b es → RowWords (constant_words es) (count es)
+    constants_small : (es : Expressions) → ExpressionsFit types blocks headings b es → RowWords (constant_words es) (known.count_of es)
     constants_small no_expression h = (tt, refl)
     constants_small (expression_then (constant t n) es) h =
-        one_more _ (count es) (constant_words es) (integer_small n (ordinal_integer types (shape_at types t) n (shapes t h.0.0) h.0.1)) (constants_small es h.1)
-    constants_small (expression_then (load p) es) h = tt
-    constants_small (expression_then (not_of e) es) h = tt
-    constants_small (expression_then (sign_of e line) es) h = tt
-    constants_small (expression_then (chain e ls) es) h = tt
-    constants_small (expression_then (make t fs line) es) h = tt
-    constants_small (expression_then (convert t e line) es) h = tt
-    constants_small (expression_then (apply_of c xs line) es) h = tt
+        one_more _ (known.count_of es) (constant_words es) (integer_small n (ordinal_integer types (shape_at types t) n (shapes t h.0.0) h.0.1)) (constants_small es h.1)
+    constants_small (expression_then e es) h = tt
 
     row_small : (ws : Option (List ℕ)) (code : Code) (n long at : ℕ) → n ≤ greatest_size → RowWords ws n → (at + long ≤ limit → AreSmall code)
         → at + row_length ws long ≤ limit → AreSmall (row_code ws code)
@@ -289,7 +269,7 @@ module _ (types : List Shape) (table : IsTypeTable types) (parts : HaveParts typ
           (row_length (constant_words es) (expressions_length types blocks b es)) at
           (λ q k. small_then (w1 3 8 (omega arith) (omega arith)) (members_small line es (at + 2) h.2 l.0 l.1 (omega (arith, k))))
           (λ q k.
-          row_small (constant_words es) _ (count es) (expressions_length types blocks b es) at
+          row_small (constant_words es) _ (known.count_of es) (expressions_length types blocks b es) at
           (known.parts_count types table parts blocks headings each b inside t es h.0 q h.1).1 (constants_small es h.2) (expressions_small es at h.2 l.1) k)
           k
       expression_small (convert t e line) at h l k =

@@ -7,9 +7,9 @@ use Rattle.edi_calls.specs.Outcome.{Ending}
 use Rattle.edi_store.specs.Memory.{zero_words}
 use Rattle.edi_word.specs.Sets.{members_where}
 use Rattle.edi_unit.specs.declared.expressions.Operator.TheVariants as op
-use Rattle.edi_unit.specs.Types.{enumeration, size}
+use Rattle.edi_unit.specs.Types.{Shape, enumeration, size}
 use Rattle.edi_unit.specs.Values.{zero_value}
-use Rattle.edi_unit.specs.Tree.{constant, sign_of, convert, ProgramUnit}
+use Rattle.edi_unit.specs.Tree.{Expression, constant, sign_of, convert, ProgramUnit}
 use Rattle.edi_meaning.specs.Rows.{empty_system, number, two}
 use Rattle.edi_target.specs.Decode.{decode}
 use Rattle.edi_scheme.specs.Programs.{program_of_operators, program_that_shows_value, program_with_clauses, program_that_halts, program_of_sets}
@@ -26,6 +26,13 @@ run unit choices = both (with_needs unit) empty_system 100 (listed choices)
 abbrev ends : List ℕ → Ending → ℕ → ℕ → Option End × Option End
 ends shown ending turns drawn = twice (record empty_system { shown = shown }, ending, turns, drawn)
 
+-- an expression shows this byte, or fails on line 3 because it is no value of its type
+abbrev shows : List Shape → Expression → ℕ → Type 0
+shows types e n = run (program_that_shows_value types e) [] ≡ ends (n ∷ []) outcome.done 2 0
+
+abbrev fails : List Shape → Expression → Type 0
+fails types e = run (program_that_shows_value types e) [] ≡ ends [] (outcome.failed cause.Range 3) 1 0
+
 -- ---- operators
 
 pub row_operators : run program_of_operators [] ≡ ends (3 ∷ 5 ∷ 4 ∷ 6 ∷ 8 ∷ []) outcome.done 2 0
@@ -33,79 +40,39 @@ unfolding decode zero_words size zero_value members_where
 row_operators = refl
 
 -- division rounds to 0, and the remainder has the sign of the dividend: -3 + 10, and -1 + 10
-
-pub row_quotient : run (program_that_shows_value [] (two (two (number (negsuc 6)) op.Div (number (pos 2)) 1) op.Plus (number (pos 10)) 1)) [] ≡ ends (7 ∷ [])
-    outcome.done 2 0
+pub row_division :
+    shows [] (two (two (number (negsuc 6)) op.Div (number (pos 2)) 1) op.Plus (number (pos 10)) 1) 7
+    × shows [] (two (two (number (negsuc 6)) op.Mod (number (pos 2)) 1) op.Plus (number (pos 10)) 1) 9
 unfolding decode zero_words size zero_value members_where
-row_quotient = refl
+row_division = (refl, refl)
 
-pub row_remainder : run (program_that_shows_value [] (two (two (number (negsuc 6)) op.Mod (number (pos 2)) 1) op.Plus (number (pos 10)) 1)) [] ≡ ends (9 ∷ [])
-    outcome.done 2 0
+-- what is no value of `int`: a difference, a product, quotients, a remainder and a sign
+pub row_no_integers :
+    fails [] (two (number (negsuc 32767)) op.Minus (number (pos 1)) 3)
+    × fails [] (two (number (pos 256)) op.Times (number (pos 128)) 3)
+    × fails [] (two (number (pos 1)) op.Div (number (pos 0)) 3)
+    × fails [] (two (number (pos 1)) op.Mod (number (pos 0)) 3)
+    × fails [] (two (number (negsuc 32767)) op.Div (number (negsuc 0)) 3)
+    × fails [] (sign_of (number (negsuc 32767)) 3)
 unfolding decode zero_words size zero_value members_where
-row_remainder = refl
-
--- what is no value of `int`, on its line
-
-pub row_difference_too_small : run (program_that_shows_value [] (two (number (negsuc 32767)) op.Minus (number (pos 1)) 3)) [] ≡ ends []
-    (outcome.failed cause.Range 3) 1 0
-unfolding decode zero_words size zero_value members_where
-row_difference_too_small = refl
-
-pub row_product_too_large : run (program_that_shows_value [] (two (number (pos 256)) op.Times (number (pos 128)) 3)) [] ≡ ends []
-    (outcome.failed cause.Range 3) 1 0
-unfolding decode zero_words size zero_value members_where
-row_product_too_large = refl
-
-pub row_quotient_by_zero : run (program_that_shows_value [] (two (number (pos 1)) op.Div (number (pos 0)) 3)) [] ≡ ends [] (outcome.failed cause.Range 3) 1 0
-unfolding decode zero_words size zero_value members_where
-row_quotient_by_zero = refl
-
-pub row_remainder_by_zero : run (program_that_shows_value [] (two (number (pos 1)) op.Mod (number (pos 0)) 3)) [] ≡ ends [] (outcome.failed cause.Range 3) 1 0
-unfolding decode zero_words size zero_value members_where
-row_remainder_by_zero = refl
-
-pub row_quotient_too_large : run (program_that_shows_value [] (two (number (negsuc 32767)) op.Div (number (negsuc 0)) 3)) [] ≡ ends []
-    (outcome.failed cause.Range 3) 1 0
-unfolding decode zero_words size zero_value members_where
-row_quotient_too_large = refl
-
-pub row_sign_too_large : run (program_that_shows_value [] (sign_of (number (negsuc 32767)) 3)) [] ≡ ends [] (outcome.failed cause.Range 3) 1 0
-unfolding decode zero_words size zero_value members_where
-row_sign_too_large = refl
+row_no_integers = (refl, refl, refl, refl, refl, refl)
 
 -- conversions: a character, a truth value and a constant of an enumeration have to be there; a number is always
-
-pub row_last_character : run (program_that_shows_value [] (convert 1 (number (pos 127)) 3)) [] ≡ ends (127 ∷ []) outcome.done 2 0
+pub row_characters :
+    shows [] (convert 1 (number (pos 127)) 3) 127 × fails [] (convert 1 (number (pos 128)) 3) × fails [] (convert 1 (number (negsuc 0)) 3)
 unfolding decode zero_words size zero_value members_where
-row_last_character = refl
+row_characters = (refl, refl, refl)
 
-pub row_no_character : run (program_that_shows_value [] (convert 1 (number (pos 128)) 3)) [] ≡ ends [] (outcome.failed cause.Range 3) 1 0
+pub row_truths : shows [] (convert 2 (number (pos 1)) 3) 1 × fails [] (convert 2 (number (pos 2)) 3)
 unfolding decode zero_words size zero_value members_where
-row_no_character = refl
+row_truths = (refl, refl)
 
-pub row_character_below_zero : run (program_that_shows_value [] (convert 1 (number (negsuc 0)) 3)) [] ≡ ends [] (outcome.failed cause.Range 3) 1 0
+pub row_constants :
+    shows (enumeration 3 ∷ []) (convert 3 (number (pos 2)) 3) 2
+    × fails (enumeration 3 ∷ []) (convert 3 (number (pos 3)) 3)
+    × shows (enumeration 3 ∷ []) (convert 0 (constant 3 (pos 2)) 3) 2
 unfolding decode zero_words size zero_value members_where
-row_character_below_zero = refl
-
-pub row_last_truth : run (program_that_shows_value [] (convert 2 (number (pos 1)) 3)) [] ≡ ends (1 ∷ []) outcome.done 2 0
-unfolding decode zero_words size zero_value members_where
-row_last_truth = refl
-
-pub row_no_truth : run (program_that_shows_value [] (convert 2 (number (pos 2)) 3)) [] ≡ ends [] (outcome.failed cause.Range 3) 1 0
-unfolding decode zero_words size zero_value members_where
-row_no_truth = refl
-
-pub row_last_constant : run (program_that_shows_value (enumeration 3 ∷ []) (convert 3 (number (pos 2)) 3)) [] ≡ ends (2 ∷ []) outcome.done 2 0
-unfolding decode zero_words size zero_value members_where
-row_last_constant = refl
-
-pub row_no_constant : run (program_that_shows_value (enumeration 3 ∷ []) (convert 3 (number (pos 3)) 3)) [] ≡ ends [] (outcome.failed cause.Range 3) 1 0
-unfolding decode zero_words size zero_value members_where
-row_no_constant = refl
-
-pub row_number_of_constant : run (program_that_shows_value (enumeration 3 ∷ []) (convert 0 (constant 3 (pos 2)) 3)) [] ≡ ends (2 ∷ []) outcome.done 2 0
-unfolding decode zero_words size zero_value members_where
-row_number_of_constant = refl
+row_constants = (refl, refl, refl)
 
 -- ---- statements
 
@@ -123,33 +90,20 @@ pub row_sets : run program_of_sets [] ≡ ends (1 ∷ 2 ∷ 4 ∷ 6 ∷ 7 ∷ 9 
 unfolding decode zero_words size zero_value members_where
 row_sets = refl
 
-pub row_last_member : run (program_with_member (pos 127)) [] ≡ ends (1 ∷ 2 ∷ []) outcome.done 2 0
-unfolding decode zero_words size zero_value members_where
-row_last_member = refl
-
-pub row_no_member : run (program_with_member (pos 128)) [] ≡ ends (1 ∷ []) (outcome.failed cause.Range 8) 1 0
-unfolding decode zero_words size zero_value members_where
-row_no_member = refl
-
-pub row_member_below_zero : run (program_with_member (negsuc 0)) [] ≡ ends (1 ∷ []) (outcome.failed cause.Range 8) 1 0
-unfolding decode zero_words size zero_value members_where
-row_member_below_zero = refl
-
 pub row_records : run program_of_records [] ≡ ends (6 ∷ 2 ∷ 3 ∷ 7 ∷ 8 ∷ 6 ∷ 9 ∷ 4 ∷ []) outcome.done 2 0
 unfolding decode zero_words size zero_value members_where
 row_records = refl
 
-pub row_last_element : run (program_with_bound (pos 1)) [] ≡ ends (3 ∷ 0 ∷ []) outcome.done 2 0
+-- members of a set and elements of an array, within the bounds and outside
+pub row_bounds :
+    (run (program_with_member (pos 127)) [] ≡ ends (1 ∷ 2 ∷ []) outcome.done 2 0)
+    × (run (program_with_member (pos 128)) [] ≡ ends (1 ∷ []) (outcome.failed cause.Range 8) 1 0)
+    × (run (program_with_member (negsuc 0)) [] ≡ ends (1 ∷ []) (outcome.failed cause.Range 8) 1 0)
+    × (run (program_with_bound (pos 1)) [] ≡ ends (3 ∷ 0 ∷ []) outcome.done 2 0)
+    × (run (program_with_bound (pos 2)) [] ≡ ends (3 ∷ []) (outcome.failed cause.Range 4) 1 0)
+    × (run (program_with_bound (negsuc 1)) [] ≡ ends (3 ∷ []) (outcome.failed cause.Range 4) 1 0)
 unfolding decode zero_words size zero_value members_where
-row_last_element = refl
-
-pub row_no_element : run (program_with_bound (pos 2)) [] ≡ ends (3 ∷ []) (outcome.failed cause.Range 4) 1 0
-unfolding decode zero_words size zero_value members_where
-row_no_element = refl
-
-pub row_element_below : run (program_with_bound (negsuc 1)) [] ≡ ends (3 ∷ []) (outcome.failed cause.Range 4) 1 0
-unfolding decode zero_words size zero_value members_where
-row_element_below = refl
+row_bounds = (refl, refl, refl, refl, refl, refl)
 
 pub row_string : run program_with_string [] ≡ ends (99 ∷ 61 ∷ []) outcome.done 2 0
 unfolding decode zero_words size zero_value members_where

@@ -9,7 +9,7 @@ use Rattle.edi_target.specs.Op.{Branch}
 use Rattle.edi_target.specs.Mach.{waiting, Activity, Machine, awaits, with_child, with_children}
 use Rattle.edi_segments.specs.Nested.{InOrder, IsInOrder, IsBehind, IsInParent, AreApart}
 use Rattle.edi_segments.proofs.Keeping.{HaveRoom}
-use Rattle.edi_segments.proofs.Families.{parent_apart, IsFree, Few, Sound, Alike, behind_alike, apart_alike, apart_swapped}
+use Rattle.edi_segments.proofs.Families.{parent_apart, IsFree, Few, Sound, Alike, few_stay, behind_alike, apart_alike, apart_swapped}
 use Rattle.edi_segments.proofs.Families.{left_apart, left_was, left}
 
 -- ---- a list without one of its names
@@ -98,13 +98,7 @@ module _ (t : Table Activity) (p : Name) (y y' : Activity) (m : ℕ) (s : Sound 
 
   fewer : (q : Name) (b : Activity) (n : ℕ) → find (with_at t p y') q ≡ Some b → b.standing ≡ waiting n → (q ≡ p) ⊎ (same q p ≡ false)
       → Few (with_at t p y') q n
-  fewer q b n e w (inr k) =
-      let old : Few t q n = s.few q b n (sym (find-with_at-other t p q y' k) ∙ e) w in
-      record {
-        list = old.list;
-        size = old.size;
-        all = λ r x some own f. let c : (c : Activity) × (find t r ≡ Some c) × Alike c x = same_there r x f in old.all r c.0 some own c.1;
-      }
+  fewer q b n e w (inr k) = few_stay t (with_at t p y') q n same_there (s.few q b n (sym (find-with_at-other t p q y' k) ∙ e) w)
   fewer q b n e w (inl k) =
       let one : y' ≡ b = some_is (sym (find-with_at-same t p y') ∙ sym (ap (find (with_at t p y')) k) ∙ e) in
       let number : m ≡ n = of_awaits m n (sym (ap (λ x. x.standing) is) ∙ ap (λ x. x.standing) one ∙ w) in

@@ -54,6 +54,15 @@ pub apart_swapped : (a b : Activity) → AreApart a b → AreApart b a
 apart_swapped a b (inl h) = inr h
 apart_swapped a b (inr h) = inl h
 
+-- the same where each process lived before, in the same segment
+pub few_stay : (t u : Table Activity) (p : Name) (n : ℕ)
+    → ((r : Name) (b : Activity) → find u r ≡ Some b → (c : Activity) × (find t r ≡ Some c) × Alike c b) → Few t p n → Few u p n
+few_stay t u p n was few = record {
+  list = few.list;
+  size = few.size;
+  all = λ r b some own f. let c : (c : Activity) × (find t r ≡ Some c) × Alike c b = was r b f in few.all r c.0 some own c.1;
+}
+
 -- ---- a process that does not wait
 
 module _ (t : Table Activity) (p : Name) (a : Activity) (lives : find t p ≡ Some a) (free : IsFree a) (s : Sound t) where
@@ -110,13 +119,7 @@ module _ (t : Table Activity) (p : Name) (a : Activity) (lives : find t p ≡ So
               let no : true ≡ false = sym yes ∙ no_children r c.0 some c.1 in
               absurd (cc);
         }
-        fewer q b n e w (inr m) =
-            let old : Few t q n = s.few q b n (sym (find-with_at-other t p q a' m) ∙ e) w in
-            record {
-              list = old.list;
-              size = old.size;
-              all = λ r x some own f. let c : (c : Activity) × (find t r ≡ Some c) × Alike c x = was r x f in old.all r c.0 some own c.1;
-            }
+        fewer q b n e w (inr m) = few_stay t (with_at t p a') q n was (s.few q b n (sym (find-with_at-other t p q a' m) ∙ e) w)
 
   -- ends
   pub left_apart : (q : Name) (b : Activity) → find (without t p) q ≡ Some b → same q p ≡ false

@@ -4,7 +4,7 @@ use Rattle.edi_calls.specs.declared.kinds.Cause.{Cause}
 use Rattle.edi_calls.specs.Calls.{answered, call}
 use Rattle.edi_calls.specs.Outcome.{Ending}
 use Rattle.edi_calls.specs.State.{State, Traced, after_call}
-use Rattle.edi_meaning.specs.Store.{Shape}
+use Rattle.edi_meaning.specs.Store.{Store, Shape}
 use Rattle.edi_meaning.specs.Evaluation.{World, Evaluation, gives, ends, ◌>>=◌}
 use Rattle.edi_target.specs.Op.{Instruction}
 use Rattle.edi_target.specs.Memory.{word}
@@ -15,6 +15,7 @@ use Rattle.edi_spots.specs.Coded.{Coded}
 use Rattle.edi_spots.specs.Spots.{frames_end}
 use Rattle.edi_spots.specs.Walks.{onward, Walker, plain, Moves, Walks, Gets, Comes, Stops}
 use Rattle.edi_spots.specs.Scene.{Scene, Outer, alone, Stands, After, DoesSo, Does}
+use Rattle.edi_spots.specs.Follows.{Stretch}
 
 or_assoc : (a b c : Bool) → ((a || b) || c) ≡ (a || (b || c))
 or_assoc true b c = refl
@@ -152,6 +153,35 @@ module _ (g : Coded) (s : Scene) where
   -- all that holds of memory and variables holds after it
   pub stands_after : (F : Shape) (w v : World) (m m' : List ℕ) (t : ℕ) (c : Bool) → Stands g s F w m → After g s F w v m m' t c → Stands g s F v m'
   stands_after F w v m m' t c h k = record { shaped = k.shaped; layout = h.layout; mirrors = k.mirrors; typed = k.typed; long = k.long; others = h.others }
+
+  -- with other turns left it is the same that stands, and that a stretch of a step has left
+  pub stands_turned : (F : Shape) (w : World) (m : List ℕ) (n : ℕ) → Stands g s F w m → Stands g s F (record w { turns = n }) m
+  stands_turned F w m n h = record { shaped = h.shaped; layout = h.layout; mirrors = h.mirrors; typed = h.typed; long = h.long; others = h.others }
+
+  pub stretch_turned : (store : Store) (w : World) (m m' : List ℕ) (n : ℕ) → Stretch g s store w m m' → Stretch g s store (record w { turns = n }) m m'
+  stretch_turned store w m m' n h = record {
+    others = h.others;
+    some = h.some;
+    room = h.room;
+    fine = h.fine;
+    mirrors = h.mirrors;
+    typed = h.typed;
+    long = h.long;
+    outside = h.outside;
+  }
+
+  -- a turn is taken before a stretch
+  pub turn_before : (F : Shape) (w v : World) (m m' : List ℕ) (t n : ℕ) (c : Bool) → w.turns ≡ suc n → After g s F (record w { turns = n }) v m m' t c →
+      After g s F w v m m' t true
+  turn_before F w v m m' t n c e h = record {
+    shaped = h.shaped;
+    mirrors = h.mirrors;
+    typed = h.typed;
+    long = h.long;
+    untouched = h.untouched;
+    turns = omega (arith, h.turns, e);
+    clears = λ q. omega (arith, h.turns, e);
+  }
 
   module _ (A : Type 0) (F : Shape) (pc top t u held : ℕ) (w : World) (m : List ℕ) where
     -- a stretch whose operands may begin higher, at u, and what comes then

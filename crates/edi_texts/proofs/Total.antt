@@ -17,7 +17,8 @@ use Rattle.edi_derivation.specs.Faults.{IsMisplaced, IsTheTree}
 use Rattle.edi_derivation.proofs.Programs.{elements_spelled, marks_of, program_of_text}
 use Rattle.edi_derivation.proofs.Firsts.{misplaced, too_deep_at, whole_tree}
 use Rattle.edi_syntax.proofs.Stopping.{same_marks}
-use Rattle.edi_syntax.specs.Refusal.{is_outside, line_of}
+use Rattle.edi_syntax.specs.Refusal.{is_outside, line_of, IsSyntaxFault}
+use Rattle.edi_syntax.specs.declared.fault.SyntaxFault.{SyntaxFault}
 use Rattle.edi_syntax.specs.declared.fault.SyntaxFault.TheVariants as syntax
 use Rattle.edi_static.specs.Judged.{Judged, gives, faults}
 use Rattle.edi_static.specs.Programs.{resolve_tree}
@@ -26,7 +27,8 @@ use Rattle.edi_texts.specs.declared.kind.RefusalKind.{RefusalKind}
 use Rattle.edi_texts.specs.declared.kind.RefusalKind.TheVariants as kind
 use Rattle.edi_texts.specs.declared.refusal.Pass.{Pass}
 use Rattle.edi_texts.specs.declared.refusal.Pass.TheVariants.{Lexical, Syntactic, Semantic}
-use Rattle.edi_texts.specs.Refusals.{kind_of}
+use Rattle.edi_texts.specs.declared.refusal.Refusal.TheVariants.{At}
+use Rattle.edi_texts.specs.Refusals.{kind_of, syntax_refusal}
 use Rattle.edi_texts.specs.Texts.{AreAccepted, AreRefused, IsFault, IsUnit}
 use Rattle.edi_texts.proofs.Stops.{Stopped, reads, errs, sinks, stops}
 
@@ -98,44 +100,27 @@ judged known tree it (faults why line) e = inl (
       (record { tree = tree; tree_is = it; why = why; at = line; first = e; refusal = refl }),
 )
 
+-- the symbols have this syntax fault
+faulty : (known : List Mark × ℕ) (why : RefusalKind) (line : ℕ) (fault : SyntaxFault) → IsSyntaxFault known.0 known.1 fault
+    → syntax_refusal fault ≡ At Syntactic why line → Decided (Ok known)
+faulty known why line fault is refusal = inl (Syntactic, why, line, inl (record { fault = fault; is = is; refusal = refusal }))
+
 wrong_at : (known : List Mark × ℕ) (before : List Mark) (here : Option Mark) → IsMisplaced known.0 before here → (b : Bool)
     → is_outside before here ≡ b → Decided (Ok known)
-wrong_at known before here misplaced true e = inl (
-  Syntactic,
-  kind.NotInProfile,
-  line_of known.1 here,
-  inl (record {
-    fault = syntax.NotInProfile (line_of known.1 here) (length before);
-    is = record { before = before; here = here; misplaced = misplaced; kind = e; on_line = refl; at_index = refl };
-    refusal = refl;
-  }),
-)
-wrong_at known before here misplaced false e = inl (
-  Syntactic,
-  kind.InvalidSyntax,
-  line_of known.1 here,
-  inl (record {
-    fault = syntax.Syntax (line_of known.1 here) (length before);
-    is = record { before = before; here = here; misplaced = misplaced; kind = e; on_line = refl; at_index = refl };
-    refusal = refl;
-  }),
-)
+wrong_at known before here misplaced true e =
+    faulty known kind.NotInProfile (line_of known.1 here) (syntax.NotInProfile (line_of known.1 here) (length before))
+    (record { before = before; here = here; misplaced = misplaced; kind = e; on_line = refl; at_index = refl }) refl
+wrong_at known before here misplaced false e =
+    faulty known kind.InvalidSyntax (line_of known.1 here) (syntax.Syntax (line_of known.1 here) (length before))
+    (record { before = before; here = here; misplaced = misplaced; kind = e; on_line = refl; at_index = refl }) refl
 
 symbols_decide : (known : List Mark × ℕ) → Stopped start (to_end known.0) → Decided (Ok known)
 symbols_decide known (reads s) = let t = tree_of known.0 s in judged known t.0 t.1 (resolve_tree t.0) refl
 symbols_decide known (errs here behind s) = let m = misplaced known.0 here behind s in wrong_at known m.0 here m.2 (is_outside m.0 here) refl
 symbols_decide known (sinks m behind s) =
     let d = too_deep_at known.0 m behind s in
-    inl (
-      Syntactic,
-      kind.NestingTooDeep,
-      m.line,
-      inl (record {
-        fault = syntax.TooDeep m.line (length d.0);
-        is = record { before = d.0; m = m; deep = d.2; on_line = refl; at_index = refl };
-        refusal = refl;
-      }),
-    )
+    faulty known kind.NestingTooDeep m.line (syntax.TooDeep m.line (length d.0))
+    (record { before = d.0; m = m; deep = d.2; on_line = refl; at_index = refl }) refl
 
 decided : (known : Result (List Mark × ℕ) LexFault) → Tells known → Decided known
 decided (Err fault) t = lexically fault t

@@ -28,7 +28,7 @@ pub enum RefusalKind {
     InvalidNameKind,
     /// Operands, bounds or parts that do not have the types that they must have.
     IncompatibleTypes,
-    /// Something that is larger than it may be.
+    /// Something that is larger than it may be, or bounds of which the lower is the greater.
     InvalidRange,
     /// A call that does not fit the heading of what it calls.
     InvalidCall,

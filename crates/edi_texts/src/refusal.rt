@@ -8,7 +8,7 @@ use crate::kind::RefusalKind;
 use edi_lex::LexFault;
 use edi_static::{StaticFault, StaticKind};
 use edi_syntax::SyntaxFault;
-use std::alloc::{AllocError, AllocFailed};
+use std::alloc::AllocError;
 use thiserror::Error;
 
 /// The pass whose fault it is.
@@ -106,14 +106,6 @@ impl From<AllocError> for Refusal {
     ghost from_gives = { λ _ r. r ≡ refusal.NoMemory };
 
     fn from(_error: AllocError) -> Refusal {
-        Refusal::NoMemory
-    }
-}
-
-impl<T: Drop> From<AllocFailed<T>> for Refusal {
-    ghost from_gives = { λ _ r. r ≡ refusal.NoMemory };
-
-    fn from(_error: AllocFailed<T>) -> Refusal {
         Refusal::NoMemory
     }
 }

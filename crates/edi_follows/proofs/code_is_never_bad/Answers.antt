@@ -1,6 +1,8 @@
 -- The law as proved.
-use Rattle.edi_follows.proofs.Whole.{never_bad}
+use Rattle.edi_kernels.proofs.Meaning.{steps_cohere, steps_queue}
+use Rattle.edi_follows.proofs.Coding as coding
+use Rattle.edi_follows.proofs.Whole.{steps, starts}
 use Rattle.edi_follows.proofs.code_is_never_bad.Goals as goal
 
 pub returns : goal.returns
-returns c = record { law = never_bad }
+returns c = record { law = coding.code_is_never_bad steps starts steps_cohere steps_queue }

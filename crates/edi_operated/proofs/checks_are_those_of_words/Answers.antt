@@ -4,10 +4,4 @@ use Rattle.edi_operated.proofs.Checks.{conversion_follows, member_follows, index
 use Rattle.edi_operated.proofs.checks_are_those_of_words.Goals as goal
 
 pub returns : goal.returns
-returns c = record {
-  elementary = elementary_is_alone;
-  sets = set_is_members;
-  conversion = conversion_follows;
-  member = member_follows;
-  index = index_follows;
-}
+returns c = assumption (elementary_is_alone, set_is_members, conversion_follows, member_follows, index_follows)

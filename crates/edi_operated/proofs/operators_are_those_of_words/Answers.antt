@@ -4,11 +4,4 @@ use Rattle.edi_operated.proofs.Operators.{operators_follow, decided_is_result, s
 use Rattle.edi_operated.proofs.operators_are_those_of_words.Goals as goal
 
 pub returns : goal.returns
-returns c = record {
-  operators = operators_follow;
-  decided = decided_is_result;
-  sign = sign_follows;
-  negation = negation_follows;
-  truth = truth_is_word;
-  tested = truth_is_tested;
-}
+returns c = assumption (operators_follow, decided_is_result, sign_follows, negation_follows, truth_is_word, truth_is_tested)
