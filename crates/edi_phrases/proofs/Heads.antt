@@ -1,5 +1,5 @@
 -- How the declaration of a type begins.
-use Rattle.std.proofs.Common.{◌≡◌, ℕ, ◌≤◌, List, ◌∷◌, true, false, Some, refl}
+use Rattle.std.proofs.Common.{◌≡◌, ℕ, ◌≤◌, List, ◌∷◌, true, false, Some, refl, ap}
 use Rattle.edi_lex.specs.declared.symbol.Symbol.{Symbol}
 use Rattle.edi_lex.specs.declared.symbol.Symbol.TheVariants as is
 use Rattle.edi_lex.specs.declared.symbol.Mark.{Mark}
@@ -19,6 +19,10 @@ use Rattle.edi_phrases.specs.Words.{at_line, HeadStands}
 use Rattle.edi_phrases.specs.Parses.{Goes}
 use Rattle.edi_phrases.specs.Stopped.{Lacks, Refuses, HaltsInHead}
 use Rattle.edi_phrases.proofs.Moves.{begins, over_mark, over_open, lacks, refused}
+
+-- the rule is that of the symbol in front
+pub decl_rule : {a : ℕ} (p : List Mark) → front p ≡ a → rule_at edison g.TypeDecl (front p) ≡ rule_at edison g.TypeDecl a
+decl_rule p chosen = ap (λ a. rule_at edison g.TypeDecl a) chosen
 
 -- behind the word and the name
 behind_name : {k : Sort} {n line : ℕ} {x : List (Part Sort)} {p q r : List Mark} (w : Symbol) (name : Name)

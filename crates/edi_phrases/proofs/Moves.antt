@@ -1,5 +1,7 @@
 -- How a parsing function moves on.
-use Rattle.std.proofs.Common.{◌≡◌, ℕ, suc, ◌<◌, ◌≤◌, List, [], ◌∷◌, ◌++◌, true, false, Option, Some, None, sym, ap, ◌∙◌, subst, arith, append_assoc}
+use Rattle.std.proofs.Common.{◌≡◌, ℕ, suc, ◌<◌, ◌≤◌, List, [], ◌∷◌, ◌++◌, true, false, Option, Some, None, Result, Ok, Err, refl, sym, ap, ◌∙◌, subst, arith}
+use Rattle.std.proofs.Common.{append_assoc}
+use Rattle.std.specs.Prelude.{IsErrAnd, IfErr}
 use Rattle.edi_lex.specs.declared.symbol.Mark.{Mark}
 use Rattle.edi_tree.specs.Spelled.{Spelled}
 use Rattle.edi_tree.specs.Spells.{StandsAsMark, StandAsMarks, to_end}
@@ -118,6 +120,21 @@ halts {x = x} {e = stop.Fault rest} go same h =
 halts {x = x} {e = stop.TooDeep rest} go same h =
     record { at = λ y l. go.at y too_deep (to_end rest.now) l (h.at (x ++ y) (level_both edison x y 0 ∙ ap (level edison x) l ∙ same)) }
 halts {e = stop.NoMemory} go same h = record { at = tt }
+
+-- at the exit by a `?`
+pub at_exit : {T : Type 0} {k : Sort} {n : ℕ} {p : List Mark} {e : Stop} (r : Result T Stop) → IsErrAnd r (λ y. y ≡ e) → HaltsAt k n p e
+    → IfErr r (λ e. HaltsAt k n p e)
+at_exit (Ok x) h halted = absurd h
+at_exit {k = k} {n = n} {p = p} (Err y) h halted = subst (λ e. HaltsAt k n p e) (sym h) halted
+
+-- where the part here is another one
+pub alone_passes : {k : Sort} {n : ℕ} {f h : List Element → List Element} {p q : List Mark} (j : Sort) → rule_at edison k (front p) ≡ Some (part j ∷ [])
+    → Passes j n f p q → ((es : List Element) → f es ≡ h es) → Passes k n h p q
+alone_passes {k = k} {n = n} {p = p} j rule passes e = written (over_part (into (part j ∷ []) (waits k n p) rule) passes refl) e
+
+pub alone_halts : {k : Sort} {n : ℕ} {p : List Mark} {e : Stop} (j : Sort) → rule_at edison k (front p) ≡ Some (part j ∷ []) → HaltsAt j n p e
+    → HaltsAt k n p e
+alone_halts {k = k} {n = n} {p = p} j rule halted = halts (into (part j ∷ []) (waits k n p) rule) refl halted
 
 pub no_memory : (k : Sort) (n : ℕ) (p : List Mark) → HaltsAt k n p stop.NoMemory
 no_memory k n p = record { at = tt }

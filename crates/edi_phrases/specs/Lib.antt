@@ -1,3 +1,4 @@
 pub mod Parses
+pub mod Prelude
 pub mod Stopped
 pub mod Words

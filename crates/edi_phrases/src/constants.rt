@@ -1,18 +1,14 @@
 //! Constants.
 #![tactic(auto, using(crate::proofs::Moves::no_memory))]
 
-ghost use Rattle.std.specs.Prelude.{◌≡◌, [], ◌∷◌, ◌<◌, ◌≤◌, ℕ, length, IfOk, IfErr, IfSome, IfNone};
+ghost use Rattle.edi_phrases.specs.Prelude.{◌≡◌, [], ◌∷◌, ◌<◌, ◌≤◌, length, IfOk, IfErr, IfSome, IfNone, front, at_line, StandsHere, Passes, HaltsAt, Lacks};
 ghost use Rattle.edi_lex.specs.declared.symbol.Symbol.TheVariants as is;
 ghost use Rattle.edi_tree.specs.Sequences.{items_of};
 ghost use Rattle.edi_tree.specs.View.{const_decls, const_list_of};
 ghost use Rattle.edi_tree.specs.Levels.{const_decl_elements, const_decls_elements, const_list_elements, constant_elements};
 ghost use Rattle.edi_grammar.specs.Kinds as kind;
-ghost use Rattle.edi_grammar.specs.Kind.{front};
 ghost use Rattle.edi_grammar.specs.Rules as g;
 ghost use Rattle.edi_derivation.specs.Parts.{code_elements};
-ghost use Rattle.edi_phrases.specs.Words.{at_line, StandsHere};
-ghost use Rattle.edi_phrases.specs.Parses.{Passes};
-ghost use Rattle.edi_phrases.specs.Stopped.{HaltsAt, Lacks};
 
 use crate::names::{eat_numeral, parse_name};
 use crate::stop::{Parsed, Stop, at, eat, expect, open};

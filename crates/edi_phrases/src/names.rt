@@ -1,29 +1,14 @@
 //! Names, strings and groups of names.
 #![tactic(auto, using(crate::proofs::Moves::no_memory))]
 
-ghost use Rattle.std.specs.Prelude.{
-  ◌≡◌,
-  ◌∷◌,
-  ◌<◌,
-  ◌≤◌,
-  ℕ,
-  length,
-  nat_eq,
-  IfSome,
-  IfNone,
-  IfOk,
-  IfErr,
-};
+ghost use Rattle.edi_phrases.specs.Prelude.{◌≡◌, ◌∷◌, ◌<◌, ◌≤◌, length, nat_eq, IfSome, IfNone, IfOk, IfErr};
+ghost use Rattle.edi_phrases.specs.Prelude.{front, at_line, StandsHere, Passes, HaltsAt, Lacks};
 ghost use Rattle.edi_lex.specs.declared.symbol.Symbol.TheVariants as is;
 ghost use Rattle.edi_tree.specs.Sequences.{items_of};
 ghost use Rattle.edi_tree.specs.View.{group_of, groups_of, names};
 ghost use Rattle.edi_tree.specs.Levels.{group_elements, groups_elements, names_elements};
 ghost use Rattle.edi_grammar.specs.Kinds as kind;
-ghost use Rattle.edi_grammar.specs.Kind.{front};
 ghost use Rattle.edi_grammar.specs.Rules as g;
-ghost use Rattle.edi_phrases.specs.Parses.{Passes};
-ghost use Rattle.edi_phrases.specs.Words.{at_line, StandsHere};
-ghost use Rattle.edi_phrases.specs.Stopped.{HaltsAt, Lacks};
 
 use crate::stop::{Parsed, Stop, eat, expect};
 use edi_lex::{Mark, Symbol, Text};

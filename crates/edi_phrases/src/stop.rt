@@ -1,17 +1,6 @@
 //! What stands in front of marks, and where the parser stops.
 
-ghost use Rattle.std.specs.Prelude.{
-  ◌≡◌,
-  ◌∷◌,
-  ◌<◌,
-  true,
-  length,
-  nat_eq,
-  IfSome,
-  IfNone,
-  IfOk,
-  IfErr,
-};
+ghost use Rattle.std.specs.Prelude.{◌≡◌, ◌∷◌, ◌<◌, true, length, nat_eq, IfSome, IfNone, IfOk, IfErr};
 ghost use Rattle.edi_lex.specs.declared.symbol.Symbol.TheVariants as is;
 ghost use Rattle.edi_grammar.specs.Kind as kinds;
 ghost use Rattle.edi_grammar.specs.Kind.{front};

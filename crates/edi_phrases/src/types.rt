@@ -1,17 +1,13 @@
 //! Declarations of types, and lists of variables.
 #![tactic(auto, using(crate::proofs::Moves::no_memory))]
 
-ghost use Rattle.std.specs.Prelude.{◌≡◌, [], ◌∷◌, ◌<◌, true, false, length, IfOk, IfErr};
+ghost use Rattle.edi_phrases.specs.Prelude.{◌≡◌, [], ◌∷◌, ◌<◌, true, false, length, IfOk, IfErr};
+ghost use Rattle.edi_phrases.specs.Prelude.{front, kind_of, has, is_word, HeadStands, Passes, HaltsAt, HaltsInHead};
 ghost use Rattle.edi_tree.specs.View.{type_decl_of, var_list_of};
 ghost use Rattle.edi_tree.specs.Levels.{type_decl_elements, var_list_elements};
 ghost use Rattle.edi_grammar.specs.Kinds as kind;
-ghost use Rattle.edi_grammar.specs.Kind.{front, kind_of};
-ghost use Rattle.edi_grammar.specs.Parser.{has};
 ghost use Rattle.edi_grammar.specs.Rules as g;
 ghost use Rattle.edi_grammar.specs.Edison as sets;
-ghost use Rattle.edi_phrases.specs.Words.{is_word, HeadStands};
-ghost use Rattle.edi_phrases.specs.Parses.{Passes};
-ghost use Rattle.edi_phrases.specs.Stopped.{HaltsAt, HaltsInHead};
 
 use crate::constants::parse_constant;
 use crate::names::{parse_group, parse_groups, parse_name, parse_names};

@@ -1,5 +1,4 @@
 use Rattle.std.proofs.Common.{rules, ◌∷◌, ◌∙◌, [], ap, refl, sym, arith}
-use Rattle.std.proofs.lemmas.Result.{err_from_is_err_and}
 use Rattle.std.proofs.lemmas.Bool.{eqb-true}
 use Rattle.edi_lex.specs.declared.symbol.Symbol.TheVariants as is
 use Rattle.edi_tree.specs.Spelled.{just}
@@ -12,32 +11,29 @@ use Rattle.edi_grammar.specs.Kind.{front}
 use Rattle.edi_grammar.specs.Rules as g
 use Rattle.edi_grammar.specs.Edison.{edison}
 use Rattle.edi_phrases.specs.Words.{at_line}
-use Rattle.edi_phrases.proofs.Moves.{waits, over_mark, over_open, over_end, into, written, lacks, refused}
+use Rattle.edi_phrases.proofs.Moves.{at_exit, waits, over_mark, over_open, over_end, into, written, lacks, refused}
 use Rattle.std.proofs.lemmas.Int.{to_z-of_z}
 use mir.Syntax.{w16}
 use Rattle.edi_phrases.proofs.constants.parse_code.Goals as goal
 
 pub returns-in_err-behind_open-clause-halts : goal.returns-in_err-behind_open-clause-halts
-returns-in_err-behind_open-clause-halts c = let p = err_from_is_err_and c.from_residual.result c.from_residual.ensures.1 in
-    rw (p.1, p.2) (refused (into (token kind.Open ∷ token kind.Numeral ∷ token kind.Close ∷ item.level_end ∷ []) (waits g.Code _ _)
-    (ap (λ a. rule_at edison g.Code a) (eqb-true (front c.args.marks.now) kind.Open (sym c.at.ensures.exact ∙ c.if-at.true)))) refl (omega arith)
-    c.in_err-behind_open.ensures.none)
+returns-in_err-behind_open-clause-halts c = at_exit _ c.from_residual.ensures.1 (refused (into (token kind.Open ∷ token kind.Numeral ∷ token kind.Close
+    ∷ item.level_end ∷ []) (waits g.Code _ _) (ap (λ a. rule_at edison g.Code a) (eqb-true (front c.args.marks.now) kind.Open
+    (sym c.at.ensures.exact ∙ c.if-at.true)))) refl (omega arith) c.in_err-behind_open.ensures.none)
 
 pub returns-in_err-value-clause-halts : goal.returns-in_err-value-clause-halts
-returns-in_err-value-clause-halts c = let p = err_from_is_err_and c.from_residual-in_err-value.result c.from_residual-in_err-value.ensures.1 in
-    rw (p.1, p.2) (lacks (over_open (just is.Open) (at_line is.Open c.in_ok-behind_open.field-0-0)
-    (into (token kind.Open ∷ token kind.Numeral ∷ token kind.Close ∷ item.level_end ∷ []) (waits g.Code _ _)
-    (ap (λ a. rule_at edison g.Code a) (eqb-true (front c.args.marks.now) kind.Open (sym c.at.ensures.exact ∙ c.if-at.true)))) c.in_ok-behind_open.ensures.found
-    refl (omega (arith, c.in_ok-behind_open.ensures.room)) (refl, tt)) c.in_err-value.ensures.none)
+returns-in_err-value-clause-halts c = at_exit _ c.from_residual-in_err-value.ensures.1 (lacks (over_open (just is.Open)
+    (at_line is.Open c.in_ok-behind_open.field-0-0) (into (token kind.Open ∷ token kind.Numeral ∷ token kind.Close ∷ item.level_end ∷ []) (waits g.Code _ _)
+    (ap (λ a. rule_at edison g.Code a) (eqb-true (front c.args.marks.now) kind.Open (sym c.at.ensures.exact ∙ c.if-at.true))))
+    c.in_ok-behind_open.ensures.found refl (omega (arith, c.in_ok-behind_open.ensures.room)) (refl, tt)) c.in_err-value.ensures.none)
 
 pub returns-in_err-behind_value-clause-halts : goal.returns-in_err-behind_value-clause-halts
-returns-in_err-behind_value-clause-halts c = let p = err_from_is_err_and c.from_residual-in_err-behind_value.result
-    c.from_residual-in_err-behind_value.ensures.1 in
-    rw (p.1, p.2) (lacks (over_mark (just (is.Numeral c.in_ok-value.value)) (at_line (is.Numeral c.in_ok-value.value) c.in_ok-value.ensures.found.0)
-    (over_open (just is.Open) (at_line is.Open c.in_ok-behind_open.field-0-0)
-    (into (token kind.Open ∷ token kind.Numeral ∷ token kind.Close ∷ item.level_end ∷ []) (waits g.Code _ _)
-    (ap (λ a. rule_at edison g.Code a) (eqb-true (front c.args.marks.now) kind.Open (sym c.at.ensures.exact ∙ c.if-at.true)))) c.in_ok-behind_open.ensures.found
-    refl (omega (arith, c.in_ok-behind_open.ensures.room)) (refl, tt)) c.in_ok-value.ensures.found.1 refl refl (refl, tt)) c.in_err-behind_value.ensures.none)
+returns-in_err-behind_value-clause-halts c = at_exit _ c.from_residual-in_err-behind_value.ensures.1
+    (lacks (over_mark (just (is.Numeral c.in_ok-value.value)) (at_line (is.Numeral c.in_ok-value.value) c.in_ok-value.ensures.found.0)
+    (over_open (just is.Open) (at_line is.Open c.in_ok-behind_open.field-0-0) (into (token kind.Open ∷ token kind.Numeral ∷ token kind.Close ∷ item.level_end
+    ∷ []) (waits g.Code _ _) (ap (λ a. rule_at edison g.Code a) (eqb-true (front c.args.marks.now) kind.Open (sym c.at.ensures.exact ∙ c.if-at.true))))
+    c.in_ok-behind_open.ensures.found refl (omega (arith, c.in_ok-behind_open.ensures.room)) (refl, tt)) c.in_ok-value.ensures.found.1 refl refl (refl, tt))
+    c.in_err-behind_value.ensures.none)
 
 pub returns-then-at-clause-passes : goal.returns-then-at-clause-passes
 returns-then-at-clause-passes c = written

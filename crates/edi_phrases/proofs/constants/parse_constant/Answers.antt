@@ -1,5 +1,4 @@
 use Rattle.std.proofs.Common.{rules, ◌∷◌, [], ap, refl, sym, arith}
-use Rattle.std.proofs.lemmas.Result.{err_from_is_err_and}
 use Rattle.std.proofs.lemmas.Bool.{ne_eqb}
 use Rattle.edi_lex.specs.declared.symbol.Symbol.TheVariants as is
 use Rattle.edi_tree.specs.Spelled.{just, name_mark, char_mark}
@@ -11,7 +10,7 @@ use Rattle.edi_grammar.specs.Kind.{front}
 use Rattle.edi_grammar.specs.Rules as g
 use Rattle.edi_grammar.specs.Edison.{edison}
 use Rattle.edi_phrases.specs.Words.{at_line}
-use Rattle.edi_phrases.proofs.Moves.{waits, over_mark, over_part, into, written, lacks, halts}
+use Rattle.edi_phrases.proofs.Moves.{at_exit, waits, over_mark, over_part, into, written, lacks, halts}
 use Rattle.std.proofs.lemmas.Int.{to_z-of_z}
 use mir.Syntax.{w16}
 use Rattle.edi_derivation.proofs.Splits.{constant_split}
@@ -30,15 +29,13 @@ returns-in-Some-eat_char-clause-passes c = over_mark (char_mark c.in-Some-eat_ch
     c.in-Some-eat_char.ensures.found refl refl (refl, refl)
 
 pub returns-in_err-name-clause-halts : goal.returns-in_err-name-clause-halts
-returns-in_err-name-clause-halts c = let p = err_from_is_err_and c.from_residual.result c.from_residual.ensures.1 in
-    rw (p.1, p.2) (lacks (into (token kind.Name ∷ part g.Code ∷ []) (waits g.Constant _ _)
+returns-in_err-name-clause-halts c = at_exit _ c.from_residual.ensures.1 (lacks (into (token kind.Name ∷ part g.Code ∷ []) (waits g.Constant _ _)
     (rw (ne_eqb (front _) kind.Numeral c.in_default.ensures.none, ne_eqb (front _) kind.Char c.in_default-eat_char.ensures.none) refl))
     c.in_err-name.ensures.none)
 
 pub returns-in_err-code-clause-halts : goal.returns-in_err-code-clause-halts
-returns-in_err-code-clause-halts c = let p = err_from_is_err_and c.from_residual-in_err-code.result c.from_residual-in_err-code.ensures.1 in
-    rw (p.1, p.2) (halts (over_mark (name_mark c.in_ok-name.name) (at_line (is.Name c.in_ok-name.name.text) c.in_ok-name.name.line)
-    (into (token kind.Name ∷ part g.Code ∷ []) (waits g.Constant _ _)
+returns-in_err-code-clause-halts c = at_exit _ c.from_residual-in_err-code.ensures.1 (halts (over_mark (name_mark c.in_ok-name.name)
+    (at_line (is.Name c.in_ok-name.name.text) c.in_ok-name.name.line) (into (token kind.Name ∷ part g.Code ∷ []) (waits g.Constant _ _)
     (rw (ne_eqb (front _) kind.Numeral c.in_default.ensures.none, ne_eqb (front _) kind.Char c.in_default-eat_char.ensures.none) refl))
     c.in_ok-name.ensures.found refl refl (refl, refl)) (omega arith) c.in_err-code.ensures.halts)
 

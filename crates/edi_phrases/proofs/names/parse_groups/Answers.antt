@@ -1,5 +1,4 @@
 use Rattle.std.proofs.Common.{rules, [], map, ap, refl, sym, arith}
-use Rattle.std.proofs.lemmas.Result.{err_from_is_err_and}
 use Rattle.std.proofs.lemmas.Bool.{ne_eqb}
 use Rattle.edi_lex.specs.declared.symbol.Symbol.TheVariants as is
 use Rattle.edi_tree.specs.Levels as elements
@@ -7,13 +6,13 @@ use Rattle.edi_tree.specs.View as view
 use Rattle.edi_grammar.specs.Kinds as kind
 use Rattle.edi_grammar.specs.Kind.{front}
 use Rattle.edi_grammar.specs.Rules as g
-use Rattle.edi_phrases.proofs.Moves.{into, written}
+use Rattle.edi_phrases.proofs.Moves.{at_exit, into, written}
 use Rattle.edi_phrases.proofs.Pushes.{separated, separated_halts}
 use Rattle.edi_phrases.proofs.names.parse_groups.Goals as goal
 
 pub returns-in_err-group-clause-halts : goal.returns-in_err-group-clause-halts
-returns-in_err-group-clause-halts c = let p = err_from_is_err_and c.from_residual.result c.from_residual.ensures.1 in
-    rw (p.1, p.2) (separated_halts g.Groups g.Group is.Semicolon refl refl c.loop-behind_semicolon.invariant.goes c.in-Some.ensures.found c.in_err-group.ensures.halts)
+returns-in_err-group-clause-halts c = at_exit _ c.from_residual.ensures.1 (separated_halts g.Groups g.Group is.Semicolon refl refl
+    c.loop-behind_semicolon.invariant.goes c.in-Some.ensures.found c.in_err-group.ensures.halts)
 
 pub loop-behind_semicolon-preserved : goal.loop-behind_semicolon-preserved
 loop-behind_semicolon-preserved c = record {

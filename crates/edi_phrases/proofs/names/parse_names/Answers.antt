@@ -1,5 +1,4 @@
 use Rattle.std.proofs.Common.{◌≡◌, rules, ◌∷◌, [], Some, ap, refl, sym, arith}
-use Rattle.std.proofs.lemmas.Result.{err_from_is_err_and}
 use Rattle.std.proofs.lemmas.Bool.{ne_eqb}
 use Rattle.edi_lex.specs.declared.symbol.Symbol.TheVariants as is
 use Rattle.edi_tree.specs.Spelled.{just, name_mark}
@@ -12,7 +11,7 @@ use Rattle.edi_grammar.specs.Kind.{front}
 use Rattle.edi_grammar.specs.Rules as g
 use Rattle.edi_grammar.specs.Edison.{edison}
 use Rattle.edi_phrases.specs.Words.{at_line}
-use Rattle.edi_phrases.proofs.Moves.{over_mark, into, written, lacks}
+use Rattle.edi_phrases.proofs.Moves.{at_exit, over_mark, into, written, lacks}
 use Rattle.edi_phrases.proofs.Pushes.{one_more}
 use Rattle.edi_phrases.proofs.Opened.{over_front}
 use Rattle.edi_phrases.proofs.names.parse_names.Goals as goal
@@ -21,8 +20,8 @@ names_comma : rule_at edison g.Names kind.Comma ≡ Some (token kind.Comma ∷ t
 names_comma = refl
 
 pub returns-in_err-name-clause-halts : goal.returns-in_err-name-clause-halts
-returns-in_err-name-clause-halts c = let p = err_from_is_err_and c.from_residual.result c.from_residual.ensures.1 in
-    rw (p.1, p.2) (lacks (over_front g.Names is.Comma (just is.Comma) names_comma refl (refl, tt) c.loop-behind_comma.invariant.goes c.in-Some.ensures.found) c.in_err-name.ensures.none)
+returns-in_err-name-clause-halts c = at_exit _ c.from_residual.ensures.1 (lacks (over_front g.Names is.Comma (just is.Comma) names_comma refl (refl, tt)
+    c.loop-behind_comma.invariant.goes c.in-Some.ensures.found) c.in_err-name.ensures.none)
 
 pub loop-behind_comma-preserved : goal.loop-behind_comma-preserved
 loop-behind_comma-preserved c = record {

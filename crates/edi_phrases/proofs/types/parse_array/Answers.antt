@@ -1,5 +1,4 @@
-use Rattle.std.proofs.Common.{◌≡◌, ℕ, ◌+◌, ◌<◌, List, [], ◌∷◌, Some, ap, refl, arith}
-use Rattle.std.proofs.lemmas.Result.{err_from_is_err_and}
+use Rattle.std.proofs.Common.{◌≡◌, ℕ, ◌+◌, ◌<◌, List, [], ◌∷◌, refl, arith}
 use Rattle.edi_lex.specs.declared.symbol.Symbol.TheVariants as is
 use Rattle.edi_lex.specs.declared.symbol.Mark.{Mark}
 use Rattle.edi_tree.specs.declared.names.Name.{Name}
@@ -7,16 +6,14 @@ use Rattle.edi_tree.specs.Spelled.{on, just, name_mark}
 use Rattle.edi_tree.specs.Levels.{Element, word, kept, named, level_end}
 use Rattle.edi_grammar.specs.Grammar as item
 use Rattle.edi_grammar.specs.Grammar.{Part, token, part}
-use Rattle.edi_grammar.specs.Parser.{rule_at}
 use Rattle.edi_grammar.specs.Kind.{front}
 use Rattle.edi_grammar.specs.Kinds as kind
 use Rattle.edi_grammar.specs.Rules as g
 use Rattle.edi_grammar.specs.Rules.{Sort}
-use Rattle.edi_grammar.specs.Edison.{edison}
 use Rattle.edi_phrases.specs.Words.{at_line, HeadStands}
 use Rattle.edi_phrases.specs.Parses.{Goes, Passes}
-use Rattle.edi_phrases.proofs.Moves.{over_mark, over_open, over_end, over_part, lacks, refused, halts}
-use Rattle.edi_phrases.proofs.Heads.{behind_head}
+use Rattle.edi_phrases.proofs.Moves.{at_exit, over_mark, over_open, over_end, over_part, lacks, refused, halts}
+use Rattle.edi_phrases.proofs.Heads.{decl_rule, behind_head}
 use Rattle.edi_phrases.proofs.types.parse_array.Goals as goal
 
 abbrev inner : List (Part Sort)
@@ -25,14 +22,10 @@ inner = token kind.Open ∷ token kind.Name ∷ token kind.Close ∷ item.level_
 abbrev range : List (Part Sort)
 range = part g.Constant ∷ token kind.Colon ∷ part g.Constant ∷ token kind.CloseBracket ∷ item.level_end ∷ inner
 
-array_rule : (p : List Mark) → front p ≡ kind.Array → rule_at edison g.TypeDecl (front p) ≡ Some
-    (token kind.Array ∷ token kind.Name ∷ token kind.OpenBracket ∷ range)
-array_rule p chosen = ap (λ a. rule_at edison g.TypeDecl a) chosen
-
 -- behind the bracket
 bounded : {n line : ℕ} {p q : List Mark} (name : Name) → front p ≡ kind.Array → HeadStands is.Array name is.OpenBracket line p q → n < 64
     → Goes g.TypeDecl n (λ es. word is.Array ∷ named name ∷ kept is.OpenBracket line ∷ es) range p q
-bounded {line = line} {p = p} name chosen stands room = behind_head is.Array is.OpenBracket name (on is.OpenBracket line) (array_rule p chosen) refl
+bounded {line = line} name chosen stands room = behind_head is.Array is.OpenBracket name (on is.OpenBracket line) (decl_rule _ chosen) refl
     (omega (arith, room)) (refl, refl) stands
 
 -- before the upper bound
@@ -55,51 +48,48 @@ typed {i = i} name go bracket room element = over_mark (name_mark name) (at_line
     (over_open (just is.Open) (at_line is.Open i) go bracket refl (omega (arith, room)) (refl, tt)) element refl refl (refl, refl)
 
 pub returns-in_err-name-clause-halts : goal.returns-in_err-name-clause-halts
-returns-in_err-name-clause-halts c = let p = err_from_is_err_and c.from_residual.result c.from_residual.ensures.1 in rw (p.1, p.2)
-    (c.in_err-name.ensures.halts.at g.TypeDecl range (array_rule c.args.marks.now c.requires.chosen) (omega arith))
+returns-in_err-name-clause-halts c = at_exit _ c.from_residual.ensures.1 (c.in_err-name.ensures.halts.at g.TypeDecl range (decl_rule _ c.requires.chosen)
+    (omega arith))
 
 pub returns-in_err-lower-clause-halts : goal.returns-in_err-lower-clause-halts
-returns-in_err-lower-clause-halts c = let p = err_from_is_err_and c.from_residual-in_err-lower.result c.from_residual-in_err-lower.ensures.1 in rw (p.1, p.2)
-    (halts (bounded c.in_ok-name.name c.requires.chosen c.in_ok-name.ensures.found c.in_ok-name.ensures.room) (omega arith) c.in_err-lower.ensures.halts)
+returns-in_err-lower-clause-halts c = at_exit _ c.from_residual-in_err-lower.ensures.1 (halts (bounded c.in_ok-name.name c.requires.chosen
+    c.in_ok-name.ensures.found c.in_ok-name.ensures.room) (omega arith) c.in_err-lower.ensures.halts)
 
 pub returns-in_err-behind_colon-clause-halts : goal.returns-in_err-behind_colon-clause-halts
-returns-in_err-behind_colon-clause-halts c = let p = err_from_is_err_and c.from_residual-in_err-behind_colon.result
-    c.from_residual-in_err-behind_colon.ensures.1 in rw (p.1, p.2)
-    (lacks (over_part (bounded c.in_ok-name.name c.requires.chosen c.in_ok-name.ensures.found c.in_ok-name.ensures.room) c.in_ok-lower.ensures.passes (omega arith)) c.in_err-behind_colon.ensures.none)
+returns-in_err-behind_colon-clause-halts c = at_exit _ c.from_residual-in_err-behind_colon.ensures.1
+    (lacks (over_part (bounded c.in_ok-name.name c.requires.chosen c.in_ok-name.ensures.found c.in_ok-name.ensures.room) c.in_ok-lower.ensures.passes
+    (omega arith)) c.in_err-behind_colon.ensures.none)
 
 pub returns-in_err-upper-clause-halts : goal.returns-in_err-upper-clause-halts
-returns-in_err-upper-clause-halts c = let p = err_from_is_err_and c.from_residual-in_err-upper.result c.from_residual-in_err-upper.ensures.1 in rw (p.1, p.2)
-    (halts (above (bounded c.in_ok-name.name c.requires.chosen c.in_ok-name.ensures.found c.in_ok-name.ensures.room) c.in_ok-lower.ensures.passes c.in_ok-behind_colon.ensures.found) (omega arith) c.in_err-upper.ensures.halts)
+returns-in_err-upper-clause-halts c = at_exit _ c.from_residual-in_err-upper.ensures.1 (halts (above
+    (bounded c.in_ok-name.name c.requires.chosen c.in_ok-name.ensures.found c.in_ok-name.ensures.room) c.in_ok-lower.ensures.passes
+    c.in_ok-behind_colon.ensures.found) (omega arith) c.in_err-upper.ensures.halts)
 
 pub returns-in_err-behind_range-clause-halts : goal.returns-in_err-behind_range-clause-halts
-returns-in_err-behind_range-clause-halts c = let p = err_from_is_err_and c.from_residual-in_err-behind_range.result
-    c.from_residual-in_err-behind_range.ensures.1 in rw (p.1, p.2)
-    (lacks (over_part (above (bounded c.in_ok-name.name c.requires.chosen c.in_ok-name.ensures.found c.in_ok-name.ensures.room) c.in_ok-lower.ensures.passes c.in_ok-behind_colon.ensures.found) c.in_ok-upper.ensures.passes
-    (omega arith)) c.in_err-behind_range.ensures.none)
+returns-in_err-behind_range-clause-halts c = at_exit _ c.from_residual-in_err-behind_range.ensures.1
+    (lacks (over_part (above (bounded c.in_ok-name.name c.requires.chosen c.in_ok-name.ensures.found c.in_ok-name.ensures.room) c.in_ok-lower.ensures.passes
+    c.in_ok-behind_colon.ensures.found) c.in_ok-upper.ensures.passes (omega arith)) c.in_err-behind_range.ensures.none)
 
 pub returns-in_err-behind_open-clause-halts : goal.returns-in_err-behind_open-clause-halts
-returns-in_err-behind_open-clause-halts c = let p = err_from_is_err_and c.from_residual-in_err-behind_open.result
-    c.from_residual-in_err-behind_open.ensures.1 in rw (p.1, p.2)
-    (refused (ranged (above (bounded c.in_ok-name.name c.requires.chosen c.in_ok-name.ensures.found c.in_ok-name.ensures.room) c.in_ok-lower.ensures.passes c.in_ok-behind_colon.ensures.found) c.in_ok-upper.ensures.passes
-    c.in_ok-behind_range.ensures.found) refl (omega arith) c.in_err-behind_open.ensures.none)
+returns-in_err-behind_open-clause-halts c = at_exit _ c.from_residual-in_err-behind_open.ensures.1
+    (refused (ranged (above (bounded c.in_ok-name.name c.requires.chosen c.in_ok-name.ensures.found c.in_ok-name.ensures.room) c.in_ok-lower.ensures.passes
+    c.in_ok-behind_colon.ensures.found) c.in_ok-upper.ensures.passes c.in_ok-behind_range.ensures.found) refl (omega arith) c.in_err-behind_open.ensures.none)
 
 pub returns-in_err-element-clause-halts : goal.returns-in_err-element-clause-halts
-returns-in_err-element-clause-halts c = let p = err_from_is_err_and c.from_residual-in_err-element.result c.from_residual-in_err-element.ensures.1 in
-    rw (p.1, p.2)
-    (lacks (over_open (just is.Open) (at_line is.Open c.in_ok-behind_open.field-0-0)
-    (ranged (above (bounded c.in_ok-name.name c.requires.chosen c.in_ok-name.ensures.found c.in_ok-name.ensures.room) c.in_ok-lower.ensures.passes c.in_ok-behind_colon.ensures.found) c.in_ok-upper.ensures.passes
+returns-in_err-element-clause-halts c = at_exit _ c.from_residual-in_err-element.ensures.1 (lacks (over_open (just is.Open)
+    (at_line is.Open c.in_ok-behind_open.field-0-0) (ranged (above (bounded c.in_ok-name.name c.requires.chosen c.in_ok-name.ensures.found
+    c.in_ok-name.ensures.room) c.in_ok-lower.ensures.passes c.in_ok-behind_colon.ensures.found) c.in_ok-upper.ensures.passes
     c.in_ok-behind_range.ensures.found) c.in_ok-behind_open.ensures.found refl (omega (arith, c.in_ok-behind_open.ensures.room)) (refl, tt))
     c.in_err-element.ensures.none)
 
 pub returns-in_err-rest-clause-halts : goal.returns-in_err-rest-clause-halts
-returns-in_err-rest-clause-halts c = let p = err_from_is_err_and c.from_residual-in_err-rest.result c.from_residual-in_err-rest.ensures.1 in rw (p.1, p.2)
-    (lacks (typed c.in_ok-element.element (ranged
-    (above (bounded c.in_ok-name.name c.requires.chosen c.in_ok-name.ensures.found c.in_ok-name.ensures.room) c.in_ok-lower.ensures.passes c.in_ok-behind_colon.ensures.found) c.in_ok-upper.ensures.passes
-    c.in_ok-behind_range.ensures.found) c.in_ok-behind_open.ensures.found c.in_ok-behind_open.ensures.room c.in_ok-element.ensures.found)
-    c.in_err-rest.ensures.none)
+returns-in_err-rest-clause-halts c = at_exit _ c.from_residual-in_err-rest.ensures.1 (lacks (typed c.in_ok-element.element
+    (ranged (above (bounded c.in_ok-name.name c.requires.chosen c.in_ok-name.ensures.found c.in_ok-name.ensures.room) c.in_ok-lower.ensures.passes
+    c.in_ok-behind_colon.ensures.found) c.in_ok-upper.ensures.passes c.in_ok-behind_range.ensures.found) c.in_ok-behind_open.ensures.found
+    c.in_ok-behind_open.ensures.room c.in_ok-element.ensures.found) c.in_err-rest.ensures.none)
 
 pub returns-clause-passes : goal.returns-clause-passes
 returns-clause-passes c = over_end (over_mark (just is.Close) (at_line is.Close c.in_ok-rest.field-0-0)
-    (typed c.in_ok-element.element (ranged (above
-    (bounded c.in_ok-name.name c.requires.chosen c.in_ok-name.ensures.found c.in_ok-name.ensures.room) c.in_ok-lower.ensures.passes c.in_ok-behind_colon.ensures.found) c.in_ok-upper.ensures.passes c.in_ok-behind_range.ensures.found)
+    (typed c.in_ok-element.element (ranged (above (bounded c.in_ok-name.name c.requires.chosen c.in_ok-name.ensures.found c.in_ok-name.ensures.room)
+    c.in_ok-lower.ensures.passes c.in_ok-behind_colon.ensures.found) c.in_ok-upper.ensures.passes c.in_ok-behind_range.ensures.found)
     c.in_ok-behind_open.ensures.found c.in_ok-behind_open.ensures.room c.in_ok-element.ensures.found) c.in_ok-rest.ensures.found refl refl (refl, tt))

@@ -1,48 +1,41 @@
-use Rattle.std.proofs.Common.{◌≡◌, List, [], ◌∷◌, Some, ap, refl, arith}
-use Rattle.std.proofs.lemmas.Result.{err_from_is_err_and}
+use Rattle.std.proofs.Common.{List, [], ◌∷◌, refl, arith}
 use Rattle.edi_lex.specs.declared.symbol.Symbol.TheVariants as is
-use Rattle.edi_lex.specs.declared.symbol.Mark.{Mark}
 use Rattle.edi_tree.specs.Spelled.{just, name_mark}
 use Rattle.edi_grammar.specs.Grammar as item
 use Rattle.edi_grammar.specs.Grammar.{Part, token, part}
-use Rattle.edi_grammar.specs.Parser.{rule_at}
-use Rattle.edi_grammar.specs.Kind.{front}
 use Rattle.edi_grammar.specs.Kinds as kind
 use Rattle.edi_grammar.specs.Rules as g
 use Rattle.edi_grammar.specs.Rules.{Sort}
-use Rattle.edi_grammar.specs.Edison.{edison}
 use Rattle.edi_phrases.specs.Words.{at_line}
-use Rattle.edi_phrases.proofs.Moves.{over_mark, over_end, over_part, lacks, halts}
-use Rattle.edi_phrases.proofs.Heads.{within}
+use Rattle.edi_phrases.proofs.Moves.{at_exit, over_mark, over_end, over_part, lacks, halts}
+use Rattle.edi_phrases.proofs.Heads.{decl_rule, within}
 use Rattle.edi_phrases.proofs.types.parse_enum.Goals as goal
 
 abbrev inner : List (Part Sort)
 inner = token kind.Name ∷ part g.Names ∷ token kind.Close ∷ item.level_end ∷ []
 
-enum_rule : (p : List Mark) → front p ≡ kind.Enum → rule_at edison g.TypeDecl (front p) ≡ Some
-    (token kind.Enum ∷ token kind.Name ∷ token kind.Open ∷ inner)
-enum_rule p chosen = ap (λ a. rule_at edison g.TypeDecl a) chosen
-
 pub returns-in_err-name-clause-halts : goal.returns-in_err-name-clause-halts
-returns-in_err-name-clause-halts c = let p = err_from_is_err_and c.from_residual.result c.from_residual.ensures.1 in rw (p.1, p.2)
-    (c.in_err-name.ensures.halts.at g.TypeDecl inner (enum_rule c.args.marks.now c.requires.chosen) (omega arith))
+returns-in_err-name-clause-halts c = at_exit _ c.from_residual.ensures.1 (c.in_err-name.ensures.halts.at g.TypeDecl inner (decl_rule _ c.requires.chosen)
+    (omega arith))
 
 pub returns-in_err-first-clause-halts : goal.returns-in_err-first-clause-halts
-returns-in_err-first-clause-halts c = let p = err_from_is_err_and c.from_residual-in_err-first.result c.from_residual-in_err-first.ensures.1 in rw (p.1, p.2)
-    (lacks (within is.Enum c.in_ok-name.name (enum_rule c.args.marks.now c.requires.chosen) refl (omega (arith, c.in_ok-name.ensures.room)) c.in_ok-name.ensures.found) c.in_err-first.ensures.none)
+returns-in_err-first-clause-halts c = at_exit _ c.from_residual-in_err-first.ensures.1 (lacks (within is.Enum c.in_ok-name.name (decl_rule _ c.requires.chosen)
+    refl (omega (arith, c.in_ok-name.ensures.room)) c.in_ok-name.ensures.found) c.in_err-first.ensures.none)
 
 pub returns-in_err-more-clause-halts : goal.returns-in_err-more-clause-halts
-returns-in_err-more-clause-halts c = let p = err_from_is_err_and c.from_residual-in_err-more.result c.from_residual-in_err-more.ensures.1 in rw (p.1, p.2)
-    (halts (over_mark (name_mark c.in_ok-first.first) (at_line (is.Name c.in_ok-first.first.text) c.in_ok-first.first.line)
-    (within is.Enum c.in_ok-name.name (enum_rule c.args.marks.now c.requires.chosen) refl (omega (arith, c.in_ok-name.ensures.room)) c.in_ok-name.ensures.found) c.in_ok-first.ensures.found refl refl (refl, refl)) (omega arith) c.in_err-more.ensures.halts)
+returns-in_err-more-clause-halts c = at_exit _ c.from_residual-in_err-more.ensures.1 (halts (over_mark (name_mark c.in_ok-first.first)
+    (at_line (is.Name c.in_ok-first.first.text) c.in_ok-first.first.line) (within is.Enum c.in_ok-name.name (decl_rule _ c.requires.chosen) refl
+    (omega (arith, c.in_ok-name.ensures.room)) c.in_ok-name.ensures.found) c.in_ok-first.ensures.found refl refl (refl, refl)) (omega arith)
+    c.in_err-more.ensures.halts)
 
 pub returns-in_err-rest-clause-halts : goal.returns-in_err-rest-clause-halts
-returns-in_err-rest-clause-halts c = let p = err_from_is_err_and c.from_residual-in_err-rest.result c.from_residual-in_err-rest.ensures.1 in rw (p.1, p.2)
-    (lacks (over_part (over_mark (name_mark c.in_ok-first.first) (at_line (is.Name c.in_ok-first.first.text) c.in_ok-first.first.line)
-    (within is.Enum c.in_ok-name.name (enum_rule c.args.marks.now c.requires.chosen) refl (omega (arith, c.in_ok-name.ensures.room)) c.in_ok-name.ensures.found) c.in_ok-first.ensures.found refl refl (refl, refl)) c.in_ok-more.ensures.passes (omega arith)) c.in_err-rest.ensures.none)
+returns-in_err-rest-clause-halts c = at_exit _ c.from_residual-in_err-rest.ensures.1 (lacks (over_part
+    (over_mark (name_mark c.in_ok-first.first) (at_line (is.Name c.in_ok-first.first.text) c.in_ok-first.first.line)
+    (within is.Enum c.in_ok-name.name (decl_rule _ c.requires.chosen) refl (omega (arith, c.in_ok-name.ensures.room)) c.in_ok-name.ensures.found)
+    c.in_ok-first.ensures.found refl refl (refl, refl)) c.in_ok-more.ensures.passes (omega arith)) c.in_err-rest.ensures.none)
 
 pub returns-clause-passes : goal.returns-clause-passes
 returns-clause-passes c = over_end (over_mark (just is.Close) (at_line is.Close c.in_ok-rest.field-0-0)
     (over_part (over_mark (name_mark c.in_ok-first.first) (at_line (is.Name c.in_ok-first.first.text) c.in_ok-first.first.line)
-    (within is.Enum c.in_ok-name.name (enum_rule c.args.marks.now c.requires.chosen) refl (omega (arith, c.in_ok-name.ensures.room)) c.in_ok-name.ensures.found) c.in_ok-first.ensures.found refl refl (refl, refl)) c.in_ok-more.ensures.passes (omega arith)) c.in_ok-rest.ensures.found
-    refl refl (refl, tt))
+    (within is.Enum c.in_ok-name.name (decl_rule _ c.requires.chosen) refl (omega (arith, c.in_ok-name.ensures.room)) c.in_ok-name.ensures.found)
+    c.in_ok-first.ensures.found refl refl (refl, refl)) c.in_ok-more.ensures.passes (omega arith)) c.in_ok-rest.ensures.found refl refl (refl, tt))

@@ -1,12 +1,11 @@
 use Rattle.std.proofs.Common.{List, ◌∷◌, [], refl, arith}
-use Rattle.std.proofs.lemmas.Result.{err_from_is_err_and}
 use Rattle.edi_lex.specs.declared.symbol.Symbol.TheVariants as is
 use Rattle.edi_tree.specs.Spelled.{just}
 use Rattle.edi_grammar.specs.Grammar.{Part, token, part}
 use Rattle.edi_grammar.specs.Kinds as kind
 use Rattle.edi_grammar.specs.Rules as g
 use Rattle.edi_grammar.specs.Rules.{Sort}
-use Rattle.edi_phrases.proofs.Moves.{waits, over_part, into, lacks, halts}
+use Rattle.edi_phrases.proofs.Moves.{at_exit, waits, over_part, into, lacks, halts}
 use Rattle.edi_phrases.proofs.Opened.{over_front}
 use Rattle.edi_phrases.proofs.types.parse_var_list.Goals as goal
 
@@ -14,19 +13,18 @@ abbrev rest : List (Part Sort)
 rest = part g.Group ∷ part g.Groups ∷ []
 
 pub returns-in_err-behind_var-clause-halts : goal.returns-in_err-behind_var-clause-halts
-returns-in_err-behind_var-clause-halts c = let p = err_from_is_err_and c.from_residual.result c.from_residual.ensures.1 in
-    rw (p.1, p.2) (lacks (into (token kind.Var ∷ rest) (waits g.VarList _ _) refl) c.in_err-behind_var.ensures.none)
+returns-in_err-behind_var-clause-halts c = at_exit _ c.from_residual.ensures.1 (lacks (into (token kind.Var ∷ rest) (waits g.VarList _ _) refl)
+    c.in_err-behind_var.ensures.none)
 
 pub returns-in_err-first-clause-halts : goal.returns-in_err-first-clause-halts
-returns-in_err-first-clause-halts c = let p = err_from_is_err_and c.from_residual-in_err-first.result c.from_residual-in_err-first.ensures.1 in
-    rw (p.1, p.2) (halts (over_front {rule = rest} g.VarList is.Var (just is.Var) refl refl (refl, tt) (waits g.VarList _ _) c.in_ok-behind_var.ensures.found) (omega arith)
-    c.in_err-first.ensures.halts)
+returns-in_err-first-clause-halts c = at_exit _ c.from_residual-in_err-first.ensures.1 (halts (over_front {rule = rest} g.VarList is.Var (just is.Var) refl refl
+    (refl, tt) (waits g.VarList _ _) c.in_ok-behind_var.ensures.found) (omega arith) c.in_err-first.ensures.halts)
 
 pub returns-in_err-more-clause-halts : goal.returns-in_err-more-clause-halts
-returns-in_err-more-clause-halts c = let p = err_from_is_err_and c.from_residual-in_err-more.result c.from_residual-in_err-more.ensures.1 in
-    rw (p.1, p.2) (halts (over_part (over_front {rule = rest} g.VarList is.Var (just is.Var) refl refl (refl, tt) (waits g.VarList _ _) c.in_ok-behind_var.ensures.found)
+returns-in_err-more-clause-halts c = at_exit _ c.from_residual-in_err-more.ensures.1 (halts (over_part
+    (over_front {rule = rest} g.VarList is.Var (just is.Var) refl refl (refl, tt) (waits g.VarList _ _) c.in_ok-behind_var.ensures.found)
     c.in_ok-first.ensures.passes (omega arith)) (omega arith) c.in_err-more.ensures.halts)
 
 pub returns-clause-passes : goal.returns-clause-passes
-returns-clause-passes c = over_part (over_part (over_front {rule = rest} g.VarList is.Var (just is.Var) refl refl (refl, tt) (waits g.VarList _ _) c.in_ok-behind_var.ensures.found)
-    c.in_ok-first.ensures.passes (omega arith)) c.in_ok-more.ensures.passes (omega arith)
+returns-clause-passes c = over_part (over_part (over_front {rule = rest} g.VarList is.Var (just is.Var) refl refl (refl, tt) (waits g.VarList _ _)
+    c.in_ok-behind_var.ensures.found) c.in_ok-first.ensures.passes (omega arith)) c.in_ok-more.ensures.passes (omega arith)
