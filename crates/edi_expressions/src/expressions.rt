@@ -1,7 +1,8 @@
 //! Expressions.
 #![tactic(auto, using(edi_phrases::proofs::Moves::no_memory))]
 
-ghost use Rattle.std.specs.Prelude.{◌≡◌, [], ◌∷◌, ◌<◌, ◌≤◌, ℕ, true, false, length, option_map, IfOk, IfErr, IfSome, IfNone};
+ghost use Rattle.edi_phrases.specs.Prelude.{◌≡◌, [], ◌∷◌, ◌<◌, ◌≤◌, ℕ, true, false, length, option_map, IfOk, IfErr, IfSome, IfNone};
+ghost use Rattle.edi_phrases.specs.Prelude.{front, kind_of, has, at_line, Passes, HaltsAt};
 ghost use Rattle.edi_lex.specs.declared.symbol.Symbol.TheVariants as is;
 ghost use Rattle.edi_tree.specs.Spelled.{relation_symbol, addition_symbol, multiplication_symbol};
 ghost use Rattle.edi_tree.specs.View.{selector_of, selectors_of, exprs_of, args_of, factor_of, multipliers_of, term_of, addends_of, simple_of};
@@ -9,13 +10,8 @@ ghost use Rattle.edi_tree.specs.View.{optional_comparison, comparison_of, expr_o
 ghost use Rattle.edi_tree.specs.Levels.{selector_elements, selectors_elements, exprs_elements, args_elements, factor_elements, multipliers_elements};
 ghost use Rattle.edi_tree.specs.Levels.{term_elements, addends_elements, simple_elements, sign_elements, comparison_elements, expr_elements};
 ghost use Rattle.edi_grammar.specs.Kinds as kind;
-ghost use Rattle.edi_grammar.specs.Kind.{front, kind_of};
-ghost use Rattle.edi_grammar.specs.Parser.{has};
 ghost use Rattle.edi_grammar.specs.Rules as g;
 ghost use Rattle.edi_grammar.specs.Edison as sets;
-ghost use Rattle.edi_phrases.specs.Words.{at_line};
-ghost use Rattle.edi_phrases.specs.Parses.{Passes};
-ghost use Rattle.edi_phrases.specs.Stopped.{HaltsAt};
 ghost use Rattle.edi_expressions.specs.Strings.{NoString};
 
 use crate::layers::{

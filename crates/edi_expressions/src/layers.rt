@@ -2,22 +2,8 @@
 
 ghost use Rattle.std.specs.Prelude.{◌≡◌, option_map, IfOk};
 ghost use Rattle.edi_tree.specs.Tree as tree;
-ghost use Rattle.edi_tree.specs.View.{
-  selector_of,
-  selectors_of,
-  exprs_of,
-  args_of,
-  factor_of,
-  multiplier_of,
-  multipliers_of,
-  term_of,
-  addend_of,
-  addends_of,
-  simple_of,
-  optional_comparison,
-  comparison_of,
-  expr_of,
-};
+ghost use Rattle.edi_tree.specs.View.{selector_of, selectors_of, exprs_of, args_of, factor_of, multiplier_of, multipliers_of, term_of, addend_of, addends_of};
+ghost use Rattle.edi_tree.specs.View.{simple_of, optional_comparison, comparison_of, expr_of};
 
 use edi_tree::{
     Addend, Addends, Addition, Args, Chars, Comparison, Expr, Exprs, Factor, Multiplication,

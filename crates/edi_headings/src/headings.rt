@@ -1,15 +1,12 @@
 //! Headings of procedures. A level is the number of levels that are open where a part begins; at most 64 may be open.
 #![tactic(auto, using(edi_phrases::proofs::Moves::no_memory))]
 
-ghost use Rattle.std.specs.Prelude.{◌≡◌, ◌<◌, ◌≤◌, length, IfOk, IfErr};
+ghost use Rattle.edi_phrases.specs.Prelude.{◌≡◌, ◌<◌, ◌≤◌, length, IfOk, IfErr, front, Passes, HaltsAt};
 ghost use Rattle.edi_tree.specs.View.{heading_of, param_of, params_of};
 ghost use Rattle.edi_tree.specs.Levels.{param_elements, params_elements, result_elements};
 ghost use Rattle.edi_derivation.specs.Parts.{head_elements};
 ghost use Rattle.edi_grammar.specs.Kinds as kind;
-ghost use Rattle.edi_grammar.specs.Kind.{front};
 ghost use Rattle.edi_grammar.specs.Rules as g;
-ghost use Rattle.edi_phrases.specs.Parses.{Passes};
-ghost use Rattle.edi_phrases.specs.Stopped.{HaltsAt};
 
 use edi_lex::{Mark, Symbol};
 use edi_phrases::{Parsed, at, eat, expect, open, parse_group, parse_name};

@@ -1,14 +1,12 @@
 use Rattle.std.proofs.Common.{ap, sym}
-use Rattle.std.proofs.lemmas.Result.{err_from_is_err_and}
 use Rattle.edi_tree.specs.Levels as elements
 use Rattle.edi_grammar.specs.Rules as g
-use Rattle.edi_phrases.proofs.Moves.{waits, written}
+use Rattle.edi_phrases.proofs.Moves.{at_exit, waits, written}
 use Rattle.edi_expressions.proofs.Strings.{over_string, no_string}
 use Rattle.edi_expressions.proofs.expressions.parse_string.Goals as goal
 
 pub returns-in_err-chars-clause-halts : goal.returns-in_err-chars-clause-halts
-returns-in_err-chars-clause-halts c = let p = err_from_is_err_and c.from_residual.result c.from_residual.ensures.1 in
-    rw (p.1, p.2) (no_string _ _ _ _ c.requires.chosen c.in_err-chars.ensures.none)
+returns-in_err-chars-clause-halts c = at_exit _ c.from_residual.ensures.1 (no_string _ _ _ _ c.requires.chosen c.in_err-chars.ensures.none)
 
 pub returns-clause-passes : goal.returns-clause-passes
 returns-clause-passes c = written (over_string (waits g.Factor _ _) c.in_ok-chars.chars.text c.in_ok-chars.chars.line c.in_ok-chars.ensures.found)

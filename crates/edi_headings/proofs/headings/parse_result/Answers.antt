@@ -1,5 +1,4 @@
 use Rattle.std.proofs.Common.{◌∷◌, [], ap, refl}
-use Rattle.std.proofs.lemmas.Result.{err_from_is_err_and}
 use Rattle.std.proofs.lemmas.Bool.{ne_eqb}
 use Rattle.edi_lex.specs.declared.symbol.Symbol.TheVariants as is
 use Rattle.edi_tree.specs.Spelled.{just, name_mark}
@@ -10,15 +9,14 @@ use Rattle.edi_grammar.specs.Kind.{front}
 use Rattle.edi_grammar.specs.Rules as g
 use Rattle.edi_grammar.specs.Edison.{edison}
 use Rattle.edi_phrases.specs.Words.{at_line}
-use Rattle.edi_phrases.proofs.Moves.{waits, over_mark, into, lacks}
+use Rattle.edi_phrases.proofs.Moves.{at_exit, waits, over_mark, into, lacks}
 use Rattle.edi_headings.proofs.headings.parse_result.Goals as goal
 
 pub returns-in_default-clause-passes : goal.returns-in_default-clause-passes
 returns-in_default-clause-passes c = into ([]) (waits g.Result _ _) (rw (ne_eqb (front _) kind.Colon c.in_default.ensures.none) refl)
 
 pub returns-in_err-name-clause-halts : goal.returns-in_err-name-clause-halts
-returns-in_err-name-clause-halts c = let p = err_from_is_err_and c.from_residual.result c.from_residual.ensures.1 in
-    rw (p.1, p.2) (lacks (over_mark (just is.Colon) (at_line is.Colon c.in-Some.field-0-0)
+returns-in_err-name-clause-halts c = at_exit _ c.from_residual.ensures.1 (lacks (over_mark (just is.Colon) (at_line is.Colon c.in-Some.field-0-0)
     (into (token kind.Colon ∷ token kind.Name ∷ []) (waits g.Result _ _) (ap (λ q. rule_at edison g.Result (front q)) c.in-Some.ensures.found))
     c.in-Some.ensures.found refl refl (refl, tt)) c.in_err-name.ensures.none)
 
