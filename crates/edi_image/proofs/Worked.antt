@@ -22,30 +22,20 @@ a_map_in_the_catalogue : mount_fault_of (image (entry_bytes (97 ∷ []) 1 0 32 0
 unfolding header_block image_rules entries_of filled two entry_bytes image
 a_map_in_the_catalogue = refl
 
--- the page lies behind the drive
-a_page_behind_the_drive : mount_fault_of (image (entry_bytes (97 ∷ []) 1 0 33 0 1) (map_block (64 ∷ []) ∷ [])) ≡ Some (fault.Page 0 64)
+-- a page that lies behind the drive, one that is its own map, and a map that tells a page too many
+a_wrong_map :
+    (mount_fault_of (image (entry_bytes (97 ∷ []) 1 0 33 0 1) (map_block (64 ∷ []) ∷ [])) ≡ Some (fault.Page 0 64))
+    × (mount_fault_of (image (entry_bytes (97 ∷ []) 1 0 33 0 1) (map_block (33 ∷ []) ∷ [])) ≡ Some (fault.Shared 33))
+    × (mount_fault_of (image (entry_bytes (97 ∷ []) 1 0 33 0 0) (map_block (34 ∷ []) ∷ [])) ≡ Some (fault.Entry 0))
 unfolding header_block image_rules entries_of filled two entry_bytes map_block image
-a_page_behind_the_drive = refl
+a_wrong_map = (refl, refl, refl)
 
--- two files have one map
-a_shared_map : mount_fault_of (image (entry_bytes (97 ∷ []) 1 0 33 0 0 ++ entry_bytes (98 ∷ []) 1 0 33 0 0) []) ≡ Some (fault.Shared 33)
+-- two files with one map, and with one title
+two_files :
+    (mount_fault_of (image (entry_bytes (97 ∷ []) 1 0 33 0 0 ++ entry_bytes (98 ∷ []) 1 0 33 0 0) []) ≡ Some (fault.Shared 33))
+    × (mount_fault_of (image (entry_bytes (97 ∷ []) 1 0 33 0 0 ++ entry_bytes (97 ∷ []) 1 0 34 0 0) []) ≡ Some (fault.Entry 1))
 unfolding header_block image_rules entries_of filled two entry_bytes image
-a_shared_map = refl
-
--- a page that is its own map
-a_page_that_is_its_map : mount_fault_of (image (entry_bytes (97 ∷ []) 1 0 33 0 1) (map_block (33 ∷ []) ∷ [])) ≡ Some (fault.Shared 33)
-unfolding header_block image_rules entries_of filled two entry_bytes map_block image
-a_page_that_is_its_map = refl
-
--- two files have one title
-a_title_twice : mount_fault_of (image (entry_bytes (97 ∷ []) 1 0 33 0 0 ++ entry_bytes (97 ∷ []) 1 0 34 0 0) []) ≡ Some (fault.Entry 1)
-unfolding header_block image_rules entries_of filled two entry_bytes image
-a_title_twice = refl
-
--- a map that tells a page too many
-a_wrong_number_of_pages : mount_fault_of (image (entry_bytes (97 ∷ []) 1 0 33 0 0) (map_block (34 ∷ []) ∷ [])) ≡ Some (fault.Entry 0)
-unfolding header_block image_rules entries_of filled two entry_bytes map_block image
-a_wrong_number_of_pages = refl
+two_files = (refl, refl)
 
 -- a drive that is too short, one of zeros, and an image of version 1
 a_short_drive : mount_fault_of (replicate 63 zero_block) ≡ Some fault.Short

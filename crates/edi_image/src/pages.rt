@@ -4,7 +4,7 @@ ghost use Rattle.std.specs.Prelude.{◌≡◌, ◌≤◌, ◌+◌, ◌*◌, ◌+
 ghost use Rattle.std.specs.List.{list_all};
 ghost use Rattle.arrayvec.specs.ArrayVec.{array_vec_len};
 ghost use Rattle.edi_image.specs.Rules.{first_broken, page_rules};
-ghost use Rattle.edi_image.specs.Entries.{is_data, shorts};
+ghost use Rattle.edi_image.specs.Entries.{is_data};
 ghost use Rattle.edi_image.specs.Image.{numbers_in};
 ghost use Rattle.edi_image.specs.Finds.{Finds, failed};
 

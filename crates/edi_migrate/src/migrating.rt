@@ -93,8 +93,7 @@ fn write_blocks<D: Drive>(drive: &mut D, blocks: &[[u8; BLOCK]]) -> DriveEnd
 }
 
 /// Makes the drive an image of `blocks` blocks, 64 to 4096, with the files of the image of version 1 whose bytes are `old`, in
-/// the slots of the same numbers. Bytes behind the whole blocks of `old` are not seen. What was on the drive is lost, but for the
-/// bytes of the blocks behind the new files.
+/// the slots of the same numbers. Bytes behind the whole blocks of `old` are not seen. What was on the drive is lost.
 ///
 /// The old image is checked first, then the room; all memory is taken before the first block is written, that of the drive last.
 pub fn migrate<D: Drive>(alloc: Global, drive: &mut D, blocks: u32, old: &[u8]) -> MigrateEnd
