@@ -10,7 +10,7 @@ use Rattle.edi_kernel.specs.declared.ends.Ending.{Ending}
 use Rattle.edi_kernel.specs.declared.ends.Ending.TheVariants as ending
 use Rattle.edi_kernel.specs.Runs.{RunsTo}
 use Rattle.edi_system.specs.Parts.{due_after, ToldStays}
-use Rattle.edi_system.specs.State.{all_told}
+use Rattle.edi_system.specs.State.{all_told, state_begun}
 use Rattle.edi_target.specs.Check.{CodeParts}
 use Rattle.edi_target.specs.Fetch.{fetch}
 use Rattle.edi_target.specs.Moments.{ComesThrough}
@@ -46,15 +46,7 @@ contents_of contents left shown printed o =
 
 -- the state of a system over these objects, with no file open
 abbrev pub system_on : Contents → State
-system_on c = record {
-  input = c.input;
-  shown = c.shown;
-  printed = c.printed;
-  slots = slots_of c.disk;
-  blocks = length c.disk;
-  found = None;
-  buffer = None;
-}
+system_on c = state_begun c.disk c.input c.shown c.printed
 
 -- the objects have what this state has
 pub record Show (state : State) (c : Contents) : Type 0 where

@@ -7,7 +7,8 @@ use Rattle.edi_told.specs.Told.{WhereTold}
 use Rattle.edi_host.specs.Files.{Contents}
 use Rattle.edi_calls.specs.Outcome.{Outcome}
 use Rattle.edi_calls.specs.State.{State}
-use Rattle.edi_image.specs.Image.{Holds, slots_of}
+use Rattle.edi_image.specs.Image.{Holds}
+use Rattle.edi_system.specs.State.{state_begun}
 
 -- the files by their names; the drive's blocks; what is left of the input; what the terminal and the printer have taken
 pub record Outside : Type 0 where
@@ -125,15 +126,7 @@ devices_of o =
 
 -- the state of the system over these devices, with no file open
 abbrev pub system_on : Devices → State
-system_on d = record {
-  input = d.input;
-  shown = d.shown;
-  printed = d.printed;
-  slots = slots_of d.blocks;
-  blocks = length d.blocks;
-  found = None;
-  buffer = None;
-}
+system_on d = state_begun d.blocks d.input d.shown d.printed
 
 -- the devices before are those of `d`, and behind the call have just what this state has, where these bytes were shown in it; the
 -- drive has as many blocks as before

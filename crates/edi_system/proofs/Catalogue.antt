@@ -12,19 +12,23 @@ use Rattle.edi_system.specs.declared.system.System.{System}
 
 -- ---- what the answer says
 
-pub none_failed : {X : Type 0} (r : Result X CatEnd) → is_drive_fault r ≡ false → failed_at r ≡ None
-none_failed (Ok x) e = refl
-none_failed (Err cat.NoSuch) e = refl
-none_failed (Err cat.Taken) e = refl
-none_failed (Err cat.Protected) e = refl
-none_failed (Err (cat.TooLarge n)) e = refl
-none_failed (Err cat.CatalogFull) e = refl
-none_failed (Err (cat.Full n m)) e = refl
-none_failed (Err cat.Fault) e = absurd (let no : true ≡ false = e in cc)
+-- the drive has failed, or no object has
+by_fault : {X : Type 0} (r : Result X CatEnd) → (r ≡ Err cat.Fault) ⊎ ((is_drive_fault r ≡ false) × (failed_at r ≡ None))
+by_fault (Ok x) = inr (refl, refl)
+by_fault (Err cat.NoSuch) = inr (refl, refl)
+by_fault (Err cat.Taken) = inr (refl, refl)
+by_fault (Err cat.Protected) = inr (refl, refl)
+by_fault (Err (cat.TooLarge n)) = inr (refl, refl)
+by_fault (Err cat.CatalogFull) = inr (refl, refl)
+by_fault (Err (cat.Full n m)) = inr (refl, refl)
+by_fault (Err cat.Fault) = inl refl
 
 pub no_fault : {X M : Type 0} (r : Result X CatEnd) → (r ≡ Err cat.Fault) ⊎ M → is_drive_fault r ≡ false → M
 no_fault r (inr m) e = m
 no_fault r (inl f) e = absurd (let no : true ≡ false = sym (ap is_drive_fault f) ∙ e in cc)
+
+pub none_failed : {X : Type 0} (r : Result X CatEnd) → is_drive_fault r ≡ false → failed_at r ≡ None
+none_failed r e = (no_fault r (by_fault r) e).1
 
 -- ---- a refusal
 
@@ -50,14 +54,10 @@ untouched_if (Err (cat.Full n m)) before after same = same refl
 untouched_if (Err cat.Fault) before after same = tt
 
 not_fault : {X : Type 0} (r : Result X CatEnd) → is_refused r ≡ true → is_drive_fault r ≡ false
-not_fault (Ok x) e = refl
-not_fault (Err cat.NoSuch) e = refl
-not_fault (Err cat.Taken) e = refl
-not_fault (Err cat.Protected) e = refl
-not_fault (Err (cat.TooLarge n)) e = refl
-not_fault (Err cat.CatalogFull) e = refl
-not_fault (Err (cat.Full n m)) e = refl
-not_fault (Err cat.Fault) e = absurd (let no : false ≡ true = e in cc)
+not_fault {X} r e = go (by_fault r) where
+  go : (r ≡ Err cat.Fault) ⊎ ((is_drive_fault r ≡ false) × (failed_at r ≡ None)) → is_drive_fault r ≡ false
+  go (inl fault) = absurd (let no : false ≡ true = sym (ap is_refused fault) ∙ e in cc)
+  go (inr none) = none.0
 
 -- a system after a call of the catalogue that was refused
 pub refused_system : {D S T P X : Type 0} (before : System D S T P) (catalog : Catalog D) (failed : Option Outside) (r : Result X CatEnd) → is_refused r ≡ true

@@ -108,6 +108,21 @@ module _ {D S T P : Type 0} (contents : D → Option (List (List ℕ))) (left : 
             (stored_slots answer title (text_file title bytes) room.index b b' open_ room.slot leaves)
             (as_many (drive_in before) (drive_in after) b b' told told' changes.count_stays) found gone)))
 
+        -- a call that has changed nothing answers false where the definition does
+        refused_told : (made : State → CallResult) (word : ℕ) → word ≡ 0 → catalog_in after ≡ catalog_in before → after.found ≡ before.found
+            → buffer_in after ≡ buffer_in before
+            → ((b : List (List ℕ)) (i s p : List ℕ) → contents (drive_in before) ≡ Some b
+            → made (state_with before b i s p) ≡ gives 0 (state_with before b i s p))
+            → WhereTold (state_of contents left shown printed before) (state_of contents left shown printed after)
+            (λ b a. Reaches (made b) (Ok (Some word)) b a)
+        refused_told made word says same_catalog found kept none =
+            over_blocks before after (λ old new. new ≡ old) (λ b a. Reaches (made b) (Ok (Some word)) b a)
+            (told_same (contents (drive_in before)) (contents (drive_in after)) (ap (λ (c : Catalog D). contents (drive_of (disk_of c))) same_catalog))
+            same_input same_terminal same_printer
+            (λ b b' i s p told told' same.
+            not_done (made (state_with before b i s p)) word (state_with before b i s p) (state_with after b' i s p) (none b i s p told) says
+            (state_open before after b b' i i s s p p (ap (option_map found_of) found) kept same refl refl refl))
+
         pub close_refused_told : (bytes : List ℕ) (word : ℕ) → word ≡ 0 → length bytes ≤ most_bytes → is_refused answer ≡ true
             → StoreChanges contents count faults answer
             (not_stored title (length bytes) (blocks_free (count (drive_in before)) (files_of (catalog_in before))) (files_of (catalog_in before)))
@@ -116,22 +131,16 @@ module _ {D S T P : Type 0} (contents : D → Option (List (List ℕ))) (left : 
             → WhereTold (state_of contents left shown printed before) (state_of contents left shown printed after)
             (λ b a. Reaches (close words b) (Ok (Some word)) b a)
         close_refused_told bytes word says most closed changes written found kept =
-            over_blocks before after (λ old new. new ≡ old) (λ b a. Reaches (close words b) (Ok (Some word)) b a)
-            (told_same (contents (drive_in before)) (contents (drive_in after))
-            (ap (λ (c : Catalog D). contents (drive_of (disk_of c)))
-            (refused_untouched answer (catalog_in before) (catalog_in after) closed changes.untouched)))
-            same_input same_terminal same_printer
-            (λ b b' i s p told told' same.
+            refused_told (close words) word says (refused_untouched answer (catalog_in before) (catalog_in after) closed changes.untouched) found kept
+            (λ b i s p told.
             (let why = something_to_store answer _ _ _ _ _ closed changes.answers in
             let state = state_with before b i s p in
             let none : room_in b title (length bytes) ≡ None =
             has_no_room (count (drive_in before)) (files_of (catalog_in before)) b title (length bytes) (image_of (catalog_in before) b mounted told) why.0 most
             why.1 in
-            not_done (close words state) word state (state_with after b' i s p)
-            (ap (λ o. close_of o words state) written
+            ap (λ o. close_of o words state) written
             ∙ ap (λ o. option_map_or (λ t. close_as bytes t state) o (gives 0 state)) spelled
-            ∙ ap (λ o. option_map_or (λ k. gives 1 (stored title bytes k state)) o (gives 0 state)) none)
-            says (state_open before after b b' i i s s p p (ap (option_map found_of) found) kept same refl refl refl)))
+            ∙ ap (λ o. option_map_or (λ k. gives 1 (stored title bytes k state)) o (gives 0 state)) none))
 
         pub removes_told : (result : Result (Option ℕ) Stop) → result ≡ done answer → is_refused answer ≡ false
             → Changes contents count faults answer (not_deleted (file_titled title (files_of (catalog_in before))))
@@ -158,19 +167,13 @@ module _ {D S T P : Type 0} (contents : D → Option (List (List ℕ))) (left : 
             → WhereTold (state_of contents left shown printed before) (state_of contents left shown printed after)
             (λ b a. Reaches (remove words b) (Ok (Some word)) b a)
         remove_refused_told word says closed changes found kept =
-            over_blocks before after (λ old new. new ≡ old) (λ b a. Reaches (remove words b) (Ok (Some word)) b a)
-            (told_same (contents (drive_in before)) (contents (drive_in after))
-            (ap (λ (c : Catalog D). contents (drive_of (disk_of c)))
-            (refused_untouched answer (catalog_in before) (catalog_in after) closed changes.untouched)))
-            same_input same_terminal same_printer
-            (λ b b' i s p told told' same.
+            refused_told (remove words) word says (refused_untouched answer (catalog_in before) (catalog_in after) closed changes.untouched) found kept
+            (λ b i s p told.
             (let why = something_against answer _ _ _ _ closed changes.answers in
             let state = state_with before b i s p in
-            not_done (remove words state) word state (state_with after b' i s p)
-            (ap (λ o. option_map_or (λ t. remove_as t state) o (gives 0 state)) spelled
+            ap (λ o. option_map_or (λ t. remove_as t state) o (gives 0 state)) spelled
             ∙ ap (λ o. option_map_or (λ k. gives 1 (with_slot state title k None)) o (gives 0 state))
-            (may_not_leave (files_of (catalog_in before)) b title (mounted.image b told) why.0 why.1))
-            says (state_open before after b b' i i s s p p (ap (option_map found_of) found) kept same refl refl refl)))
+            (may_not_leave (files_of (catalog_in before)) b title (mounted.image b told) why.0 why.1)))
 
 -- ---- the next call
 

@@ -1,27 +1,37 @@
 -- The calls of the catalogue on a system, from what they leave of the slots to what they leave of the state.
+use borrow.Rule.Reborrow.{re_v}
 use Rattle.std.proofs.Common.{◌≡◌, ◌⊎◌, inl, inr, ℕ, true, false, List, length, Option, Some, None, refl, sym, ap, subst, ◌∙◌}
 use Rattle.std.specs.Prelude.{◌↔◌, Result, Ok, Err, IfErr, IfSome}
 use Rattle.std.specs.List.{list_all}
 use Rattle.std.specs.Option.{option_map}
 use Rattle.edi_told.specs.Told.{WhereTold}
 use Rattle.edi_host.specs.Blocks.{is_block}
+use Rattle.edi_disk.specs.Shown.{drive_of}
+use Rattle.edi_calls.specs.declared.ends.Outside.{Outside}
 use Rattle.edi_calls.specs.State.{File, State, find_file, free, fresh}
 use Rattle.edi_image.specs.Image.{slots_of}
 use Rattle.edi_image.specs.Stored.{StoredFile, IsKeptOf}
 use Rattle.edi_image.proofs.KeptFiles.{file_of}
+use Rattle.edi_catalog.specs.declared.catalog.Catalog.{Catalog}
 use Rattle.edi_catalog.specs.declared.ends.CatEnd.{CatEnd}
 use Rattle.edi_catalog.specs.declared.ends.CatEnd.TheVariants as cat
 use Rattle.edi_catalog.specs.Files.{file_titled, FileIs, FoundIs}
 use Rattle.edi_catalog.specs.InSlots.{free_in, PageIn, SlotsAnswer}
-use Rattle.edi_catalog.specs.Mounted.{IsMounted, files_of}
+use Rattle.edi_catalog.specs.Mounted.{IsMounted, disk_of, files_of}
 use Rattle.edi_catalog.proofs.PageBytes.{file_in}
 use Rattle.edi_system.specs.Catalogue.{is_drive_fault, is_refused, IsClosed, OpenStays, PositionStays}
 use Rattle.edi_system.specs.InState.{left_open, ReadsPage, ReadsWhole, StateAnswer}
 use Rattle.edi_system.specs.State.{catalog_in, drive_in, found_of, input_in, printer_in, state_of, state_with, terminal_in}
+use Rattle.edi_system.specs.declared.reading.Reading.{Reading}
 use Rattle.edi_system.specs.declared.system.System.{System}
 use Rattle.edi_system.proofs.CloseCalls.{as_many, over_blocks}
 
 -- ---- the open files
+
+-- a system after a call of the catalogue that was not refused: its catalogue, the object that has failed, the found file and the buffer are these
+abbrev pub changed_to : {D S T P : Type 0} → System D S T P → Catalog D → Option Outside → Option Reading → (buffer : Option (List ℕ)) → System D S T P
+changed_to before catalog failed found buffer =
+    record before { catalog = catalog; failed = failed; found = found; buffer = re_v buffer before.buffer }
 
 -- they are dropped
 shut : {D S T P : Type 0} (before after : System D S T P) (b : List (List ℕ)) (i s p : List ℕ) → IsClosed after
@@ -155,6 +165,28 @@ module _ {D S T P : Type 0} (contents : D → Option (List (List ℕ))) (left : 
           → is_refused result ≡ false → state_with after b i s p ≡ fresh (state_with before b i s p)
       closes b i s p (inl was) e = absurd (let wrong : true ≡ false = sym was.0 ∙ e in cc)
       closes b i s p (inr was) e = shut before after b i s p was.1
+
+  -- so after a refusal
+  pub refused_files : {X : Type 0} (before : System D S T P) (catalog : Catalog D) (failed : Option Outside) (result : Result X CatEnd)
+      (other : ℕ → List (Option File) → Option CatEnd) (wanted : List (Option File) → List (Option File))
+      → count (drive_of (disk_of catalog)) ≡ count (drive_in before) → is_refused result ≡ true
+      → WhereTold (contents (drive_in before)) (contents (drive_of (disk_of catalog)))
+      (λ old new. SlotsAnswer result (other (free_in old) (slots_of old)) (slots_of old) (wanted (slots_of old)) (slots_of new))
+      → WhereTold (state_of contents left shown printed before) (state_of contents left shown printed (record before { catalog = catalog; failed = failed }))
+      (λ b a. StateAnswer result (other (free b) b.slots) (wanted b.slots) fresh b a)
+  refused_files before catalog failed result other wanted same refused told =
+      closes_files before (record before { catalog = catalog; failed = failed }) result other wanted refl refl refl same (inl (refused, (refl, refl))) told
+
+  -- and where it was not refused
+  pub closed_files : {X : Type 0} (before : System D S T P) (catalog : Catalog D) (failed : Option Outside) (buffer : Option (List ℕ)) (result : Result X CatEnd)
+      (other : ℕ → List (Option File) → Option CatEnd) (wanted : List (Option File) → List (Option File))
+      → count (drive_of (disk_of catalog)) ≡ count (drive_in before) → is_refused result ≡ false → buffer ≡ None
+      → WhereTold (contents (drive_in before)) (contents (drive_of (disk_of catalog)))
+      (λ old new. SlotsAnswer result (other (free_in old) (slots_of old)) (slots_of old) (wanted (slots_of old)) (slots_of new))
+      → WhereTold (state_of contents left shown printed before) (state_of contents left shown printed (changed_to before catalog failed None buffer))
+      (λ b a. StateAnswer result (other (free b) b.slots) (wanted b.slots) fresh b a)
+  closed_files before catalog failed buffer result other wanted same open_ gone told =
+      closes_files before (changed_to before catalog failed None buffer) result other wanted refl refl refl same (inr (open_, (refl, gone))) told
 
   -- with the open files as they were
   pub keeps_files : {X : Type 0} (before after : System D S T P) (result : Result X CatEnd) (other : ℕ → List (Option File) → Option CatEnd)

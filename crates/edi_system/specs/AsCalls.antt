@@ -6,6 +6,7 @@ use Rattle.edi_calls.specs.declared.ends.Outside.{Outside}
 use Rattle.edi_catalog.specs.Mounted.{disk_of, room_reference}
 use Rattle.edi_system.specs.State.{buffer_reference, catalog_in, drive_in, due_in, failed_in, input_in, input_reference, printer_in, printer_reference}
 use Rattle.edi_system.specs.State.{terminal_in, terminal_reference, IsReady}
+use Rattle.edi_system.specs.Ends.{Keeps}
 use Rattle.edi_system.specs.Parts.{due_after, Grows, IsValid, Shrinks}
 use Rattle.edi_system.specs.declared.system.System.{System}
 
@@ -33,6 +34,14 @@ IsDueSince shown system start = IfSome (shown (terminal_in system)) (λ bytes. I
 -- it stays so, from wherever it was so
 abbrev pub KeepsDue : {D S T P : Type 0} → (shown : T → Option (List ℕ)) → (before after : System D S T P) → Type 0
 KeepsDue shown before after = (start : ℕ) → IsDueSince shown before start → IsDueSince shown after start
+
+-- What every call of a program keeps, whatever it answers: whether a line is due stays told, the drive has as many blocks as before, and
+-- the system has the same objects, of which none has failed but by a fault.
+pub record KeepsSystem {D S T P : Type 0} (count : D → ℕ) (shown : T → Option (List ℕ)) (drive : D → ℕ) (input : S → ℕ) (terminal : T → ℕ) (printer : P → ℕ)
+    (fault : Bool) (before after : System D S T P) : Type 0 where
+  pub due : KeepsDue shown before after
+  pub size : count (drive_in after) ≡ count (drive_in before)
+  pub keeps : Keeps drive input terminal printer fault before after
 
 -- What calls in a row leave of a system, whatever they answer: what an object did not tell before the first it does not tell; where the
 -- drive was a valid image, it is one; it has as many blocks as before; the input only loses its first bytes; what the terminal

@@ -69,18 +69,24 @@ faults_of drive input terminal printer system outside.Printer = printer (printer
 abbrev pub found_of : Reading → Found
 found_of reading = record { title = reading.title; position = reading.position }
 
--- The state of a system whose drive has these blocks, whose input has these bytes left, and whose terminal and printer have
--- taken these.
-abbrev pub state_with : {D S T P : Type 0} → System D S T P → (blocks : List (List ℕ)) → (input shown printed : List ℕ) → State
-state_with system blocks input shown printed = record {
+-- the state over a drive with these blocks, an input with these bytes left, and a terminal and a printer that have taken these, with no
+-- file open
+abbrev pub state_begun : (blocks : List (List ℕ)) → (input shown printed : List ℕ) → State
+state_begun blocks input shown printed = record {
   input = input;
   shown = shown;
   printed = printed;
   slots = slots_of blocks;
   blocks = length blocks;
-  found = option_map found_of system.found;
-  buffer = buffer_in system;
+  found = None;
+  buffer = None;
 }
+
+-- The state of a system whose drive has these blocks, whose input has these bytes left, and whose terminal and printer have
+-- taken these.
+abbrev pub state_with : {D S T P : Type 0} → System D S T P → (blocks : List (List ℕ)) → (input shown printed : List ℕ) → State
+state_with system blocks input shown printed =
+    record (state_begun blocks input shown printed) { found = option_map found_of system.found; buffer = buffer_in system }
 
 -- what four options have, where all have it
 abbrev pub all_told : {A B C E X : Type 0} → (A → B → C → E → X) → Option A → Option B → Option C → Option E → Option X

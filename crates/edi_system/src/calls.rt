@@ -3,10 +3,10 @@
 ghost use Rattle.std.specs.Prelude.{◌≡◌, ◌≤◌, false, length, Err};
 ghost use Rattle.edi_told.specs.Told.{WhereTold};
 ghost use Rattle.edi_calls.specs.Calls.{argument_words, call};
-ghost use Rattle.edi_system.specs.State.{drive_in, state_of, IsReady};
-ghost use Rattle.edi_system.specs.AsCalls.{KeepsDue};
+ghost use Rattle.edi_system.specs.State.{state_of, IsReady};
+ghost use Rattle.edi_system.specs.AsCalls.{KeepsSystem};
 ghost use Rattle.edi_system.specs.Does.{Does};
-ghost use Rattle.edi_system.specs.Ends.{is_fault, Keeps, Reaches};
+ghost use Rattle.edi_system.specs.Ends.{is_fault, Reaches};
 ghost use Rattle.edi_system.specs.Parts.{KeepsTold};
 
 use crate::ends::Stop;
@@ -28,10 +28,8 @@ impl<D: Drive, S: Source, T: Sink, P: Sink> System<'_, '_, '_, '_, '_, '_, D, S,
         ensures does { Does D.contents D.count S.left T.taken P.taken number args.now result self.old self.new }
         ensures untouched { result ≡ Err Stop.NoFile → self.new ≡ self.old }
         ensures ready { is_fault result ≡ false → IsReady D.contents D.count self.new }
-        ensures due { KeepsDue T.taken self.old self.new }
         ensures told { KeepsTold D.contents S.left T.taken P.taken self.old self.new }
-        ensures size { D.count (drive_in self.new) ≡ D.count (drive_in self.old) }
-        ensures keeps { Keeps D.faults S.faults T.faults P.faults (is_fault result) self.old self.new }
+        ensures stays { KeepsSystem D.count T.taken D.faults S.faults T.faults P.faults (is_fault result) self.old self.new }
     {
         match number {
             1 => self.accept(),
@@ -66,6 +64,7 @@ impl<'d, 'c, 'i, 't, 'p, 'b, D: Drive, S: Source, T: Sink, P: Sink> Calls
 
     ghost one_failed = { λ system one other p q. sym p.is ∙ q.is };
 
+    #[tactic(auto, using(crate::proofs::Chained::behind_one_more))]
     fn call(&mut self, number: u8, args: &[u16], answer: &mut [u16]) -> CallEnd {
         match self.program_call(number, args) {
             Ok(Some(word)) => {

@@ -4,11 +4,11 @@ ghost use Rattle.std.specs.Prelude.{◌≡◌, ◌<◌, ◌↔◌, false, length
 ghost use Rattle.edi_told.specs.Told.{WhereTold};
 ghost use Rattle.edi_calls.specs.Calls.{find, more, read, word_of};
 ghost use Rattle.edi_catalog.specs.Mounted.{files_of};
-ghost use Rattle.edi_system.specs.State.{catalog_in, drive_in, state_of, IsReady};
+ghost use Rattle.edi_system.specs.State.{catalog_in, state_of, IsReady};
 ghost use Rattle.edi_system.specs.Catalogue.{OnlyReading};
 ghost use Rattle.edi_system.specs.Does.{MayLackFile};
 ghost use Rattle.edi_system.specs.Ends.{is_fault, Keeps, Reaches};
-ghost use Rattle.edi_system.specs.AsCalls.{KeepsDue};
+ghost use Rattle.edi_system.specs.AsCalls.{KeepsDue, KeepsSystem};
 ghost use Rattle.edi_system.specs.Loading.{IsOn, LoadsNext};
 ghost use Rattle.edi_system.specs.Parts.{KeepsTold, OnlyOpenFiles};
 ghost use Rattle.edi_system.specs.Reading.{text_spelled, CatalogRests, LooksAt, LooksIn, MoreIs, ReadsOn};
@@ -31,10 +31,8 @@ impl<D: Drive, S: Source, T: Sink, P: Sink> System<'_, '_, '_, '_, '_, '_, D, S,
         ensures found { self.new.found ≡ text_spelled words.now (files_of (catalog_in self.old)) }
         ensures answer { result ≡ Ok (Some (word_of (is_some self.new.found))) }
         ensures ready { IsReady D.contents D.count self.new }
-        ensures due { KeepsDue T.taken self.old self.new }
         ensures told { KeepsTold D.contents S.left T.taken P.taken self.old self.new }
-        ensures size { D.count (drive_in self.new) ≡ D.count (drive_in self.old) }
-        ensures keeps { Keeps D.faults S.faults T.faults P.faults (is_fault result) self.old self.new }
+        ensures stays { KeepsSystem D.count T.taken D.faults S.faults T.faults P.faults (is_fault result) self.old self.new }
     {
         let found = text_spelled(&self.catalog, words);
         let is_found = found.is_some();
@@ -89,10 +87,8 @@ impl<D: Drive, S: Source, T: Sink, P: Sink> System<'_, '_, '_, '_, '_, '_, D, S,
         ensures rests { CatalogRests D.contents D.count (catalog_in self.old) (catalog_in self.new) }
         ensures untouched { result ≡ Err Stop.NoFile → self.new ≡ self.old }
         ensures ready { is_fault result ≡ false → IsReady D.contents D.count self.new }
-        ensures due { KeepsDue T.taken self.old self.new }
         ensures told { KeepsTold D.contents S.left T.taken P.taken self.old self.new }
-        ensures size { D.count (drive_in self.new) ≡ D.count (drive_in self.old) }
-        ensures keeps { Keeps D.faults S.faults T.faults P.faults (is_fault result) self.old self.new }
+        ensures stays { KeepsSystem D.count T.taken D.faults S.faults T.faults P.faults (is_fault result) self.old self.new }
     {
         match self.next_found() {
             Ok(byte) => Ok(Some(word_of(byte.is_some()))),
@@ -113,10 +109,8 @@ impl<D: Drive, S: Source, T: Sink, P: Sink> System<'_, '_, '_, '_, '_, '_, D, S,
         ensures rests { CatalogRests D.contents D.count (catalog_in self.old) (catalog_in self.new) }
         ensures untouched { result ≡ Err Stop.NoFile → self.new ≡ self.old }
         ensures ready { is_fault result ≡ false → IsReady D.contents D.count self.new }
-        ensures due { KeepsDue T.taken self.old self.new }
         ensures told { KeepsTold D.contents S.left T.taken P.taken self.old self.new }
-        ensures size { D.count (drive_in self.new) ≡ D.count (drive_in self.old) }
-        ensures keeps { Keeps D.faults S.faults T.faults P.faults (is_fault result) self.old self.new }
+        ensures stays { KeepsSystem D.count T.taken D.faults S.faults T.faults P.faults (is_fault result) self.old self.new }
     {
         match self.next_found() {
             Ok(Some(byte)) => {

@@ -1,12 +1,13 @@
 //! The input, the terminal and the printer.
+#![tactic(auto, using(crate::proofs::Characters::shows_as, crate::proofs::Characters::prints_as))]
 
 ghost use Rattle.std.specs.Prelude.{◌≡◌, ◌%◌, true, false, not, Err, None, Some, if◌then◌else◌, [], ◌∷◌};
 ghost use Rattle.edi_told.specs.Told.{WhereTold};
 ghost use Rattle.edi_host.specs.Streams.{Takes, next_fault};
 ghost use Rattle.edi_calls.specs.Calls.{accept, display, print, word_of};
-ghost use Rattle.edi_system.specs.State.{drive_in, due_in, failed_in, input_in, state_of, IsReady};
+ghost use Rattle.edi_system.specs.State.{due_in, failed_in, input_in, state_of, IsReady};
 ghost use Rattle.edi_system.specs.Ends.{is_fault, Keeps, Reaches};
-ghost use Rattle.edi_system.specs.AsCalls.{KeepsDue};
+ghost use Rattle.edi_system.specs.AsCalls.{KeepsDue, KeepsSystem};
 ghost use Rattle.edi_system.specs.Does.{AcceptsByte, AsksOnly, TellsOnly};
 ghost use Rattle.edi_system.specs.Parts.{due_after, line_end, KeepsTold, OnlyInput, OnlyPrinter, OnlyTerminal, Prints, PrintsMore, Shows, ShowsMore, TakesByte};
 
@@ -147,10 +148,8 @@ impl<D: Drive, S: Source, T: Sink, P: Sink> System<'_, '_, '_, '_, '_, '_, D, S,
         ensures only { OnlyInput self.old self.new }
         ensures untouched { result ≡ Err Stop.NoFile → self.new ≡ self.old }
         ensures ready { is_fault result ≡ false → IsReady D.contents D.count self.new }
-        ensures due { KeepsDue T.taken self.old self.new }
         ensures told { KeepsTold D.contents S.left T.taken P.taken self.old self.new }
-        ensures size { D.count (drive_in self.new) ≡ D.count (drive_in self.old) }
-        ensures keeps { Keeps D.faults S.faults T.faults P.faults (is_fault result) self.old self.new }
+        ensures stays { KeepsSystem D.count T.taken D.faults S.faults T.faults P.faults (is_fault result) self.old self.new }
     {
         match self.take() {
             Next::Byte(byte) => Ok(Some(u16::from(byte % 128))),
@@ -169,10 +168,8 @@ impl<D: Drive, S: Source, T: Sink, P: Sink> System<'_, '_, '_, '_, '_, '_, D, S,
         ensures only { OnlyTerminal self.old self.new }
         ensures untouched { result ≡ Err Stop.NoFile → self.new ≡ self.old }
         ensures ready { is_fault result ≡ false → IsReady D.contents D.count self.new }
-        ensures due { KeepsDue T.taken self.old self.new }
         ensures told { KeepsTold D.contents S.left T.taken P.taken self.old self.new }
-        ensures size { D.count (drive_in self.new) ≡ D.count (drive_in self.old) }
-        ensures keeps { Keeps D.faults S.faults T.faults P.faults (is_fault result) self.old self.new }
+        ensures stays { KeepsSystem D.count T.taken D.faults S.faults T.faults P.faults (is_fault result) self.old self.new }
     {
         if self.show(&[character(word)]) {
             Ok(None)
@@ -191,10 +188,8 @@ impl<D: Drive, S: Source, T: Sink, P: Sink> System<'_, '_, '_, '_, '_, '_, D, S,
         ensures only { OnlyPrinter self.old self.new }
         ensures untouched { result ≡ Err Stop.NoFile → self.new ≡ self.old }
         ensures ready { is_fault result ≡ false → IsReady D.contents D.count self.new }
-        ensures due { KeepsDue T.taken self.old self.new }
         ensures told { KeepsTold D.contents S.left T.taken P.taken self.old self.new }
-        ensures size { D.count (drive_in self.new) ≡ D.count (drive_in self.old) }
-        ensures keeps { Keeps D.faults S.faults T.faults P.faults (is_fault result) self.old self.new }
+        ensures stays { KeepsSystem D.count T.taken D.faults S.faults T.faults P.faults (is_fault result) self.old self.new }
     {
         if self.print_out(&[character(word)]) {
             Ok(None)

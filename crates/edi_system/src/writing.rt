@@ -7,9 +7,9 @@ ghost use Rattle.edi_calls.specs.Calls.{close, fresh_buffer, remove, write};
 ghost use Rattle.edi_system.specs.Buffers.{WritesTo};
 ghost use Rattle.edi_system.specs.Catalogue.{done, is_refused, OnlyFiles};
 ghost use Rattle.edi_system.specs.Closing.{Closes, Removes};
-ghost use Rattle.edi_system.specs.State.{buffer_in, drive_in, state_of, IsReady};
-ghost use Rattle.edi_system.specs.AsCalls.{KeepsDue};
-ghost use Rattle.edi_system.specs.Ends.{is_fault, Keeps, Reaches};
+ghost use Rattle.edi_system.specs.State.{buffer_in, state_of, IsReady};
+ghost use Rattle.edi_system.specs.AsCalls.{KeepsSystem};
+ghost use Rattle.edi_system.specs.Ends.{is_fault, Reaches};
 ghost use Rattle.edi_system.specs.Parts.{KeepsTold, OnlyOpenFiles};
 
 use crate::ends::Stop;
@@ -41,10 +41,8 @@ impl<D: Drive, S: Source, T: Sink, P: Sink> System<'_, '_, '_, '_, '_, '_, D, S,
         ensures begins { (result ≡ Ok None) × (buffer_in self.new ≡ Some []) }
         ensures only { OnlyOpenFiles self.old self.new }
         ensures ready { IsReady D.contents D.count self.new }
-        ensures due { KeepsDue T.taken self.old self.new }
         ensures told { KeepsTold D.contents S.left T.taken P.taken self.old self.new }
-        ensures size { D.count (drive_in self.new) ≡ D.count (drive_in self.old) }
-        ensures keeps { Keeps D.faults S.faults T.faults P.faults (is_fault result) self.old self.new }
+        ensures stays { KeepsSystem D.count T.taken D.faults S.faults T.faults P.faults (is_fault result) self.old self.new }
     {
         self.buffer.begin();
         Ok(None)
@@ -61,10 +59,8 @@ impl<D: Drive, S: Source, T: Sink, P: Sink> System<'_, '_, '_, '_, '_, '_, D, S,
         ensures only { OnlyOpenFiles self.old self.new }
         ensures untouched { result ≡ Err Stop.NoFile → self.new ≡ self.old }
         ensures ready { IsReady D.contents D.count self.new }
-        ensures due { KeepsDue T.taken self.old self.new }
         ensures told { KeepsTold D.contents S.left T.taken P.taken self.old self.new }
-        ensures size { D.count (drive_in self.new) ≡ D.count (drive_in self.old) }
-        ensures keeps { Keeps D.faults S.faults T.faults P.faults (is_fault result) self.old self.new }
+        ensures stays { KeepsSystem D.count T.taken D.faults S.faults T.faults P.faults (is_fault result) self.old self.new }
     {
         match self.buffer.write(character(word)) {
             Ok(()) => Ok(None),
@@ -83,10 +79,8 @@ impl<D: Drive, S: Source, T: Sink, P: Sink> System<'_, '_, '_, '_, '_, '_, D, S,
         ensures only { OnlyFiles self.old self.new }
         ensures untouched { result ≡ Err Stop.NoFile → self.new ≡ self.old }
         ensures ready { is_fault result ≡ false → IsReady D.contents D.count self.new }
-        ensures due { KeepsDue T.taken self.old self.new }
         ensures told { KeepsTold D.contents S.left T.taken P.taken self.old self.new }
-        ensures size { D.count (drive_in self.new) ≡ D.count (drive_in self.old) }
-        ensures keeps { Keeps D.faults S.faults T.faults P.faults (is_fault result) self.old self.new }
+        ensures stays { KeepsSystem D.count T.taken D.faults S.faults T.faults P.faults (is_fault result) self.old self.new }
     {
         let Some(bytes) = self.buffer.bytes() else {
             return Err(Stop::NoFile);
@@ -113,10 +107,8 @@ impl<D: Drive, S: Source, T: Sink, P: Sink> System<'_, '_, '_, '_, '_, '_, D, S,
         ensures removes { Removes D.contents D.count result (title_of words.now) self.old self.new }
         ensures only { OnlyFiles self.old self.new }
         ensures ready { is_fault result ≡ false → IsReady D.contents D.count self.new }
-        ensures due { KeepsDue T.taken self.old self.new }
         ensures told { KeepsTold D.contents S.left T.taken P.taken self.old self.new }
-        ensures size { D.count (drive_in self.new) ≡ D.count (drive_in self.old) }
-        ensures keeps { Keeps D.faults S.faults T.faults P.faults (is_fault result) self.old self.new }
+        ensures stays { KeepsSystem D.count T.taken D.faults S.faults T.faults P.faults (is_fault result) self.old self.new }
     {
         let Some(title) = title_of(words) else {
             return Ok(Some(word_of(false)));
