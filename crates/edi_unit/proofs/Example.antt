@@ -3,26 +3,16 @@ use Rattle.std.proofs.Common.{◌≡◌, ℕ, zero, suc, ◌<◌, [], ◌∷◌,
 use Rattle.std.specs.Prelude.{None, All, slice_index}
 use Rattle.edi_unit.specs.declared.expressions.Callee.TheVariants as callee
 use Rattle.edi_unit.specs.declared.units.Parameter.TheVariants as slot
-use Rattle.edi_unit.specs.declared.units.BlockKind.TheVariants as kind
 use Rattle.edi_unit.specs.Types.{standard_types, shape_at, IsDeclarable, IsTypeTable}
 use Rattle.edi_unit.specs.Tree.{constant, by_value, no_argument, argument_then, call, no_act, act_then, ProgramUnit}
 use Rattle.edi_unit.specs.Need.{slots, block_at}
+use Rattle.edi_unit.specs.Rows.{displaying}
 use Rattle.edi_unit.specs.Fits.{Fits, SlotIsKnown, BlockFits, CallsFit, Heading, heading, value_then, no_formal, heading_formals, IsCall, display, ShapeFits}
 
 abbrev pub showing : ProgramUnit
 showing = record {
   types = standard_types;
-  blocks =
-      record {
-        kind = kind.Program;
-        up = 0;
-        result = None;
-        parameters = slot.Formal None ∷ [];
-        variables = [];
-        need = 9;
-        body = act_then (call (callee.Formal 0 0) (argument_then (by_value (constant 1 (pos 97))) no_argument) 1) no_act;
-      }
-      ∷ [];
+  blocks = displaying 9 (act_then (call (callee.Formal 0 0) (argument_then (by_value (constant 1 (pos 97))) no_argument) 1) no_act) ∷ [];
   program = 0;
   calls = 2 ∷ [];
 }

@@ -6,4 +6,5 @@ pub mod Tree
 pub mod View
 pub mod Need
 pub mod Fits
+pub mod Laws
 pub mod Rows

@@ -65,18 +65,15 @@ abbrev pub plain : BlockKind → List ℕ → Acts → Block
 plain kind variables body =
     record { kind = kind; up = 0; result = None; parameters = []; variables = variables; need = 0; body = body }
 
+-- the block of a program `proc main(proc display(c: char))` without variables
+abbrev pub displaying : (need : ℕ) → Acts → Block
+displaying need body =
+    record { kind = kind.Program; up = 0; result = None; parameters = slot.Formal None ∷ []; variables = []; need = need; body = body }
+
 -- the program `proc main(proc display(c: char)) proc p begin p end begin p end`
 abbrev pub calling : List Block
 calling =
-    record {
-      kind = kind.Program;
-      up = 0;
-      result = None;
-      parameters = slot.Formal None ∷ [];
-      variables = [];
-      need = 8;
-      body = act_then (call (callee.Block 0 1) no_argument 1) no_act;
-    }
+    displaying 8 (act_then (call (callee.Block 0 1) no_argument 1) no_act)
     ∷ plain kind.Procedure [] (act_then (call (callee.Block 1 1) no_argument 1) no_act)
     ∷ []
 

@@ -84,12 +84,7 @@ abbrev mutual
   same_value (ordinal m) (ordinal n) = int_eq m n
   same_value (compound vs) (compound ws) = same_values vs ws
   same_value (members s) (members t) = same_members s t
-  same_value (ordinal m) (compound ws) = false
-  same_value (ordinal m) (members t) = false
-  same_value (compound vs) (ordinal n) = false
-  same_value (compound vs) (members t) = false
-  same_value (members s) (ordinal n) = false
-  same_value (members s) (compound ws) = false
+  same_value v w = false
 
   pub same_values : Values → Values → Bool
   same_values no_value no_value = true

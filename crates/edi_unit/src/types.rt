@@ -1,46 +1,11 @@
 //! Types by number.
 
-ghost use Rattle.std.specs.Prelude.{
-  ◌≡◌,
-  ◌-◌,
-  ◌^◌,
-  ◌<◌,
-  ◌≤◌,
-  ◌≤ℤ◌,
-  ◌↔◌,
-  [],
-  ◌∷◌,
-  ◌++◌,
-  All,
-  IfOk,
-  IfSome,
-  IsTrue,
-  OnErr,
-  OnOk,
-  length,
-  min,
-  slice_index,
-  sum_by,
-};
+ghost use Rattle.std.specs.Prelude.{◌≡◌, ◌-◌, ◌^◌, ◌<◌, ◌≤◌, ◌≤ℤ◌, ◌↔◌, [], ◌∷◌, ◌++◌};
+ghost use Rattle.std.specs.Prelude.{All, IfOk, IfSome, IsTrue, OnErr, OnOk, length, min, slice_index, sum_by};
 ghost use Rattle.edi_unit.specs.Lists.{list_items};
 ghost use Rattle.edi_unit.specs.ShapeView.{shape_of};
-ghost use Rattle.edi_unit.specs.Types.{
-  array_of,
-  element_count,
-  field_type,
-  greatest_size,
-  is_elementary,
-  named_types,
-  record_of,
-  set_of,
-  HasOrderedBounds,
-  IsDeclarable,
-  IsTypeTable,
-  shape_at,
-  shape_size,
-  size,
-  standard_types,
-};
+ghost use Rattle.edi_unit.specs.Types.{array_of, element_count, field_type, greatest_size, is_elementary, named_types, record_of, set_of};
+ghost use Rattle.edi_unit.specs.Types.{HasOrderedBounds, IsDeclarable, IsTypeTable, shape_at, shape_size, size, standard_types};
 
 use crate::lists::List;
 use std::alloc::{AllocError, Global};

@@ -2,6 +2,7 @@ use Rattle.std.proofs.Common.{◌≡◌, ◌≤◌, drop}
 use Rattle.std.specs.Prelude.{map, max}
 use Rattle.edi_unit.specs.View.{block_of, expressions, expression_of, links, link_of, parts, part_of, arguments, argument_of}
 use Rattle.edi_unit.specs.Need.{limited, too_large, members_height, compound_height, links_height, parts_height, arguments_height}
+use Rattle.edi_unit.proofs.Loops.{Heightens, Stacks}
 use Rattle.edi_unit.proofs.heights.+heights.Given as goal
 
 abbrev pub invariant-members_words-loop-member : goal.invariant-members_words-loop-member
@@ -14,13 +15,8 @@ invariant-members_words-loop-member l = record {
 }
 
 abbrev pub invariant-compound_words-loop-part : goal.invariant-compound_words-loop-part
-invariant-compound_words-loop-part l = record {
-  small : l.words ≤ too_large;
-  short : l.before ≤ too_large;
-  height : limited (max l.words (compound_height l.types (map block_of l.blocks) l.block l.before
-      (expressions (map expression_of (drop l.part-index l.part-items))))) ≡ limited
-      (compound_height l.types (map block_of l.blocks) l.block 0 (expressions (map expression_of l.part-items)));
-}
+invariant-compound_words-loop-part l =
+    Stacks expression_of expressions (compound_height l.types (map block_of l.blocks) l.block) l.before l.words l.part-index l.part-items
 
 abbrev pub invariant-links_words-loop-link : goal.invariant-links_words-loop-link
 invariant-links_words-loop-link l = record {
@@ -30,17 +26,9 @@ invariant-links_words-loop-link l = record {
 }
 
 abbrev pub invariant-parts_words-loop-part : goal.invariant-parts_words-loop-part
-invariant-parts_words-loop-part l = record {
-  small : l.words ≤ too_large;
-  height : limited (max l.words (parts_height l.types (map block_of l.blocks) l.block (parts (map part_of (drop l.part-index l.part-items))))) ≡ limited
-      (parts_height l.types (map block_of l.blocks) l.block (parts (map part_of l.part-items)));
-}
+invariant-parts_words-loop-part l =
+    Heightens part_of parts (parts_height l.types (map block_of l.blocks) l.block) l.words l.part-index l.part-items
 
 abbrev pub invariant-arguments_words-loop-argument : goal.invariant-arguments_words-loop-argument
-invariant-arguments_words-loop-argument l = record {
-  small : l.words ≤ too_large;
-  short : l.before ≤ too_large;
-  height : limited (max l.words (arguments_height l.types (map block_of l.blocks) l.block l.before
-      (arguments (map argument_of (drop l.argument-index l.argument-items))))) ≡ limited
-      (arguments_height l.types (map block_of l.blocks) l.block 0 (arguments (map argument_of l.argument-items)));
-}
+invariant-arguments_words-loop-argument l =
+    Stacks argument_of arguments (arguments_height l.types (map block_of l.blocks) l.block) l.before l.words l.argument-index l.argument-items
