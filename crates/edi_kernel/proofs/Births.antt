@@ -1,7 +1,7 @@
 -- A child that begins.
 use Rattle.std.proofs.Common.{◌≡◌, ℕ, zero, suc, ◌+◌, ◌<◌, ◌≤◌, ◌⊎◌, inl, inr, Bool, true, false, ◌&&◌, ◌||◌, nat_eq, nat_lt, if◌then◌else◌, [], ◌∷◌, length}
 use Rattle.std.proofs.Common.{Some, refl, sym, ◌∙◌, ap, arith, subst, eq-eqb}
-use Rattle.std.proofs.lemmas.Bool.{cases_eq, ne_eqb}
+use Rattle.std.proofs.lemmas.Bool.{cases_eq, ne_eqb, eqb-false}
 use Rattle.edi_calls.specs.Names.{Name, same, find, with_at, without, names}
 use Rattle.edi_calls.specs.Names as tables
 use Rattle.edi_calls.specs.Ready.{child, has}
@@ -12,7 +12,7 @@ use Rattle.edi_kernel.specs.declared.table.Table.{Table}
 use Rattle.edi_kernel.specs.Table.{process_at, marked_at, free_slots, is_live}
 use Rattle.edi_kernel.specs.TableIsMachine.{Naming, Once, Awaits, Born, TableIsMachine, entry_of, is_child_of, children_of, slots_where}
 use Rattle.edi_kernel.proofs.Counts.{where_same, where_less}
-use Rattle.edi_kernel.proofs.Changes.{positive, child_live, child_later, child_parent}
+use Rattle.edi_kernel.proofs.Changes.{false_middle, positive, child_live, child_later, child_parent}
 
 -- ---- a name that a table did not have
 
@@ -204,18 +204,11 @@ module _ (t u : Table) (n : Naming) (m k : Machine) (p c f j : ℕ) (x : Process
         ∙ ap (λ y. nat_eq y i) (ap (λ y. y.parent) b.here ∙ b.parent)
 
     child_before : (i : ℕ) → is_child_of t i c ≡ false
-    child_before i = ap (λ d. nat_lt 0 c && d && nat_eq (process_at t c).parent i) b.dead ∙ neither (nat_lt 0 c) (nat_eq (process_at t c).parent i)
-      where
-        neither : (d e : Bool) → (d && false && e) ≡ false
-        neither true e = refl
-        neither false e = refl
-
-    not_eq : (l : ℕ) → nat_eq l c ≡ false → l ≡ c → ⊥
-    not_eq l e h = let a : true ≡ false = sym (eq-eqb l c h) ∙ e in absurd (cc)
+    child_before i = ap (λ d. nat_lt 0 c && d && nat_eq (process_at t c).parent i) b.dead ∙ false_middle (nat_lt 0 c) (nat_eq (process_at t c).parent i)
 
     pub children_p : children_of u p ≡ suc (children_of t p)
     children_p = where_less (is_child_of u p) (is_child_of t p) 32 c b.slot (child_now p ∙ eq-eqb p p refl) (child_before p)
-        (λ l e. child_there p l (not_eq l e))
+        (λ l e. child_there p l (eqb-false l c e))
 
     children_other : (i : ℕ) → (i ≡ p → ⊥) → children_of u i ≡ children_of t i
     children_other i ne = where_same (is_child_of u i) (is_child_of t i) 32 (λ l _. elim (cases_eq l c) [

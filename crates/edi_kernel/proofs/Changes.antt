@@ -33,6 +33,10 @@ and_last true true z e = e
 and_last true false z e = absurd (cc)
 and_last false y z e = absurd (cc)
 
+pub false_middle : (x z : Bool) → (x && false && z) ≡ false
+false_middle true z = refl
+false_middle false z = refl
+
 -- a child is live, is not the first process, and has its parent
 pub child_live : (t : Table) (p i : ℕ) → is_child_of t p i ≡ true → is_live t i ≡ true
 child_live t p i e = and_middle (nat_lt 0 i) (is_live t i) (nat_eq (process_at t i).parent p) e

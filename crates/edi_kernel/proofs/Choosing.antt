@@ -20,7 +20,7 @@ use Rattle.edi_kernel.specs.TableIsMachine.{IsTable, IsTaken, IsBetween, Naming,
 use Rattle.edi_kernel.specs.Kernel.{IsKernel, IsTakenIn, Holds}
 use Rattle.edi_kernel.specs.Runs.{PicksBy, Picks, Chooses}
 use Rattle.edi_kernel.proofs.Counts.{where_same, marked_same}
-use Rattle.edi_kernel.proofs.Lists.{home_among, withdrawn_table}
+use Rattle.edi_kernel.proofs.Lists.{home_among, not_both, withdrawn_table}
 use Rattle.edi_kernel.proofs.Sharing.{none_twice, list_without, others_named}
 
 -- the marks among the slots, one of them taken out and put in front
@@ -81,14 +81,7 @@ module _ (t u : Table) (at x : ℕ) (s : IsTable t) (lt : x < 32) (was : slice_g
   same_free : free_slots u ≡ free_slots t
   same_free =
       ap (λ ls. list_at ls 1) w.lists ∙ list_without t.lists 1 x
-      ∙ minus_none x (free_slots t) (λ i. two (home_of t.lists x) home_was (home_among t 1 x s.sound (omega arith) i))
-    where
-      two : (o : Option ℕ) → o ≡ Some 0 → o ≡ Some 1 → ⊥
-      two None e f = let a : None ≡ Some 0 = e in absurd (cc)
-      two (Some y) e f = let a : y ≡ 0 = some e in let b : y ≡ 1 = some f in omega (arith, a, b)
-        where
-          some : {z : ℕ} → Some y ≡ Some z → y ≡ z
-          some e = cc
+      ∙ minus_none x (free_slots t) (λ i. not_both (home_of t.lists x) home_was (home_among t 1 x s.sound (omega arith) i))
 
   pub chosen_stands : (n : Naming) (m : Machine) → TableIsMachine t n m → TableIsMachine u n m
   chosen_stands n m h = record {

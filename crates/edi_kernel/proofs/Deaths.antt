@@ -1,7 +1,7 @@
 -- A child that ends.
 use Rattle.std.proofs.Common.{◌≡◌, ℕ, suc, ◌+◌, ◌<◌, ◌⊎◌, inl, inr, Bool, true, false, ◌&&◌, ◌||◌, not, nat_eq, nat_lt, if◌then◌else◌, [], ◌∷◌, length, Some}
 use Rattle.std.proofs.Common.{refl, sym, ◌∙◌, ap, arith, subst, eq-eqb}
-use Rattle.std.proofs.lemmas.Bool.{cases_eq, ne_eqb}
+use Rattle.std.proofs.lemmas.Bool.{cases_eq, ne_eqb, eqb-false}
 use Rattle.edi_calls.specs.Names.{Name, same, find, without, names}
 use Rattle.edi_calls.specs.Names as tables
 use Rattle.edi_calls.specs.Ready.{child, has}
@@ -13,7 +13,7 @@ use Rattle.edi_kernel.specs.declared.table.Table.{Table}
 use Rattle.edi_kernel.specs.Table.{process_at, marked_at, free_slots, is_live}
 use Rattle.edi_kernel.specs.TableIsMachine.{Naming, Once, Awaits, Born, TableIsMachine, entry_of, is_child_of, children_of}
 use Rattle.edi_kernel.proofs.Counts.{where_same, where_some, where_less}
-use Rattle.edi_kernel.proofs.Changes.{live_below, names_apart, is_child}
+use Rattle.edi_kernel.proofs.Changes.{false_middle, live_below, names_apart, is_child}
 
 -- ---- a table without a name
 
@@ -116,19 +116,12 @@ module _ (t u : Table) (n : Naming) (m k : Machine) (p : ℕ) where
 
     child_now : (i : ℕ) → is_child_of u i p ≡ false
     child_now i = ap (λ b. nat_lt 0 p && b && nat_eq (process_at u p).parent i) (e.lives p ∙ ap (λ b. not b && is_live t p) (eq-eqb p p refl))
-        ∙ neither (nat_lt 0 p) (nat_eq (process_at u p).parent i)
-      where
-        neither : (x y : Bool) → (x && false && y) ≡ false
-        neither true y = refl
-        neither false y = refl
-
-    not_eq : (l : ℕ) → nat_eq l p ≡ false → l ≡ p → ⊥
-    not_eq l f h = let a : true ≡ false = sym (eq-eqb l p h) ∙ f in absurd (cc)
+        ∙ false_middle (nat_lt 0 p) (nat_eq (process_at u p).parent i)
 
     -- its parent has one child less
     pub one_child_less : children_of t parent ≡ suc (children_of u parent)
     one_child_less = where_less (is_child_of t parent) (is_child_of u parent) 32 p (live_below t p e.live) (is_child t parent p e.later e.live refl)
-        (child_now parent) (λ l f. sym (child_there parent l (not_eq l f)))
+        (child_now parent) (λ l f. sym (child_there parent l (eqb-false l p f)))
 
     children_other : (i : ℕ) → (i ≡ parent → ⊥) → children_of u i ≡ children_of t i
     children_other i ne = where_same (is_child_of u i) (is_child_of t i) 32 (λ l _. elim (cases_eq l p) [

@@ -22,7 +22,7 @@ use Rattle.edi_kernel.specs.TableIsMachine.{IsTable, Naming, Awaits, TableIsMach
 use Rattle.edi_kernel.specs.Forks.{OneMore, HaveBegun, share_in}
 use Rattle.edi_calls.proofs.Names.{same_ends}
 use Rattle.edi_kernel.proofs.Counts.{map_same, map-append}
-use Rattle.edi_kernel.proofs.Lists.{home_among, live_of_home, put_home_here, put_home_there, put_here, put_there, unmarked_at}
+use Rattle.edi_kernel.proofs.Lists.{home_among, not_both, live_of_home, put_home_here, put_home_there, put_here, put_there, unmarked_at}
 use Rattle.edi_kernel.proofs.Births as births
 use Rattle.edi_kernel.proofs.Sharing.{added_table, added_free, added_ready}
 
@@ -91,16 +91,20 @@ module _ (t u : Table) (parent : ℕ) (a : Activity) (s : IsTable t) (added : Ad
 
   -- a ready one had another slot
   ready_not : (i : ℕ) → IsAmong i (ready_slots t) → i ≡ c → ⊥
-  ready_not i h e = two (home_of t.lists c) (ap (home_of t.lists) (sym e) ∙ home_among t 0 i s.sound (omega arith) h) added.was
-    where
-      two : (o : Option ℕ) → o ≡ Some 0 → o ≡ Some 1 → ⊥
-      two None e f = let a : None ≡ Some 0 = e in absurd (cc)
-      two (Some x) e f = let a : x ≡ 0 = some e in let b : x ≡ 1 = some f in omega (arith, a, b)
-        where
-          some : {y : ℕ} → Some x ≡ Some y → x ≡ y
-          some e = cc
+  ready_not i h e = not_both (home_of t.lists c) (ap (home_of t.lists) (sym e) ∙ home_among t 0 i s.sound (omega arith) h) added.was
 
 -- ---- the children one after another
+
+-- the process at this slot is taken, the table is that of the machine with this memory, and no process is marked
+pub record Stood (slot : ℕ) (words : List ℕ) (t : Table) (n : Naming) (m : Machine) : Type 0 where
+  pub table : IsTable t
+  pub stands : TableIsMachine t n m
+  pub live : is_live t slot ≡ true
+  pub homeless : home_of t.lists slot ≡ None
+  pub memory : m.memory ≡ words
+  pub no_marks_left : m.marks ≡ []
+  pub unmarked : t.marked ≡ no_marks
+  pub none_counted : t.marks ≡ 0
 
 module _ (slot : ℕ) (parent : Activity) (branches : List Branch) (store : List ℕ) (t : Table) (n : Naming) (m : Machine) (f : ℕ) where
   abbrev share : ℕ
@@ -111,14 +115,7 @@ module _ (slot : ℕ) (parent : Activity) (branches : List Branch) (store : List
 
   pub record Starts : Type 0 where
     pub inside : slot < 32
-    pub table : IsTable t
-    pub stands : TableIsMachine t n m
-    pub live : is_live t slot ≡ true
-    pub homeless : home_of t.lists slot ≡ None
-    pub memory : m.memory ≡ store
-    pub no_marks_left : m.marks ≡ []
-    pub unmarked : t.marked ≡ no_marks
-    pub none_counted : t.marks ≡ 0
+    pub stood : Stood slot store t n m
     pub none : children_of t slot ≡ 0
     pub waiting : (process_at t slot).standing ≡ standing.Waiting (length branches)
     pub fork : f ≤ n.forks slot
@@ -128,14 +125,7 @@ module _ (slot : ℕ) (parent : Activity) (branches : List Branch) (store : List
   pub record Grown (i : ℕ) (words : List ℕ) (u : Table) : Type 0 where
     pub naming : Naming
     pub machine : Machine
-    pub table : IsTable u
-    pub stands : TableIsMachine u naming machine
-    pub live : is_live u slot ≡ true
-    pub homeless : home_of u.lists slot ≡ None
-    pub memory : machine.memory ≡ words
-    pub no_marks_left : machine.marks ≡ []
-    pub unmarked : u.marked ≡ no_marks
-    pub none_counted : u.marks ≡ 0
+    pub stood : Stood slot words u naming machine
     pub few : children_of u slot ≤ i
     pub waiting : (process_at u slot).standing ≡ standing.Waiting (length branches)
     pub fork : f ≤ naming.forks slot
@@ -152,14 +142,7 @@ module _ (slot : ℕ) (parent : Activity) (branches : List Branch) (store : List
     grown_none = record {
       naming = n;
       machine = m;
-      table = s.table;
-      stands = s.stands;
-      live = s.live;
-      homeless = s.homeless;
-      memory = s.memory;
-      no_marks_left = s.no_marks_left;
-      unmarked = s.unmarked;
-      none_counted = s.none_counted;
+      stood = s.stood;
       few = omega (arith, s.none);
       waiting = s.waiting;
       fork = s.fork;
@@ -189,22 +172,23 @@ module _ (slot : ℕ) (parent : Activity) (branches : List Branch) (store : List
 
       begins : births.ChildBegins h.table_before u g.naming g.machine machine_i slot slot_i f i (beginning slot h.child)
       begins = record {
-        stands = g.stands;
-        live = g.live;
-        dead = dead h.table_before u slot h.child g.table h.added;
+        stands = g.stood.stands;
+        live = g.stood.live;
+        dead = dead h.table_before u slot h.child g.stood.table h.added;
         slot = h.added.inside;
-        later = later h.table_before u slot h.child g.table h.added;
-        here = process_here h.table_before u slot h.child g.table h.added;
+        later = later h.table_before u slot h.child g.stood.table h.added;
+        here = process_here h.table_before u slot h.child g.stood.table h.added;
         parent = refl;
-        there = process_there h.table_before u slot h.child g.table h.added;
-        lives = lives h.table_before u slot h.child g.table h.added;
-        free = added_free slot h.child h.table_before u g.table s.inside h.ordered h.added;
+        there = process_there h.table_before u slot h.child g.stood.table h.added;
+        lives = lives h.table_before u slot h.child g.stood.table h.added;
+        free = added_free slot h.child h.table_before u g.stood.table s.inside h.ordered h.added;
         activities =
             ap (λ q. with_at g.machine.activities q (entry_of (beginning slot (child_at (child_first (local_of [] parent) share i) share b)) 0))
             (ap (λ q. child q f i) (sym g.named))
             ∙ ap (λ c. with_at g.machine.activities (child (g.naming.name slot) f i) (entry_of (beginning slot c) 0)) (sym is);
-        marks = λ j l. ap (λ ms. has ms (naming_i.name j)) g.no_marks_left
-            ∙ sym (ap (λ ms. slice_index_or ms j false) (marked_same h.table_before u slot h.child g.table h.added ∙ g.unmarked) ∙ unmarked_at 32 j);
+        marks = λ j l. ap (λ ms. has ms (naming_i.name j)) g.stood.no_marks_left
+            ∙ sym (ap (λ ms. slice_index_or ms j false) (marked_same h.table_before u slot h.child g.stood.table h.added ∙ g.stood.unmarked)
+            ∙ unmarked_at 32 j);
         going = refl;
         fork = g.fork;
         fresh = λ j l e. g.fresh j i (omega arith) l (e ∙ ap (λ q. child q f i) g.named);
@@ -212,7 +196,7 @@ module _ (slot : ℕ) (parent : Activity) (branches : List Branch) (store : List
       }
 
       not_slot : slot ≡ slot_i → ⊥
-      not_slot = births.other h.table_before u g.naming g.machine machine_i slot slot_i f i (beginning slot h.child) begins slot g.live
+      not_slot = births.other h.table_before u g.naming g.machine machine_i slot slot_i f i (beginning slot h.child) begins slot g.stood.live
 
       name_other : (j : ℕ) → (j ≡ slot_i → ⊥) → naming_i.name j ≡ g.naming.name j
       name_other = births.not_c h.table_before u g.naming g.machine machine_i slot slot_i f i (beginning slot h.child) begins
@@ -234,11 +218,11 @@ module _ (slot : ℕ) (parent : Activity) (branches : List Branch) (store : List
 
       ready_i : map naming_i.name (ready_slots u) ≡ map n.name (ready_slots t) ++ children p f 0 (suc i)
       ready_i =
-          ap (map naming_i.name) (added_ready slot h.child h.table_before u g.table s.inside h.ordered h.added)
+          ap (map naming_i.name) (added_ready slot h.child h.table_before u g.stood.table s.inside h.ordered h.added)
           ∙ map-append naming_i.name (ready_slots h.table_before) (slot_i ∷ [])
           ∙ ap (λ qs. qs ++ naming_i.name slot_i ∷ [])
           (map_same naming_i.name g.naming.name (ready_slots h.table_before)
-          (λ j k. name_other j (ready_not h.table_before u slot h.child g.table h.added j k)) ∙ g.ready)
+          (λ j k. name_other j (ready_not h.table_before u slot h.child g.stood.table h.added j k)) ∙ g.ready)
           ∙ ap (λ q. (map n.name (ready_slots t) ++ children p f 0 i) ++ q ∷ []) name_new
           ∙ append_assoc (map n.name (ready_slots t)) (children p f 0 i) (child p f i ∷ [])
           ∙ ap (λ qs. map n.name (ready_slots t) ++ qs) (ap (λ j. children p f 0 i ++ child p f j ∷ []) (omega arith) ∙ sym (children-push p f 0 i))
@@ -256,17 +240,19 @@ module _ (slot : ℕ) (parent : Activity) (branches : List Branch) (store : List
       grown_more = record {
         naming = naming_i;
         machine = machine_i;
-        table = added_table slot h.child h.table_before u g.table s.inside h.ordered h.added;
-        stands = births.begins h.table_before u g.naming g.machine machine_i slot slot_i f i (beginning slot h.child) begins;
-        live = births.still h.table_before u g.naming g.machine machine_i slot slot_i f i (beginning slot h.child) begins slot g.live;
-        homeless = home_there h.table_before u slot h.child g.table h.added slot not_slot ∙ g.homeless;
-        memory = ap (λ ws. written ws at (parent.base ∷ 0 ∷ 0 ∷ 0 ∷ 0 ∷ [])) g.memory ∙ sym h.words;
-        no_marks_left = g.no_marks_left;
-        unmarked = marked_same h.table_before u slot h.child g.table h.added ∙ g.unmarked;
-        none_counted = marks_same h.table_before u slot h.child g.table h.added ∙ g.none_counted;
+        stood = record {
+          table = added_table slot h.child h.table_before u g.stood.table s.inside h.ordered h.added;
+          stands = births.begins h.table_before u g.naming g.machine machine_i slot slot_i f i (beginning slot h.child) begins;
+          live = births.still h.table_before u g.naming g.machine machine_i slot slot_i f i (beginning slot h.child) begins slot g.stood.live;
+          homeless = home_there h.table_before u slot h.child g.stood.table h.added slot not_slot ∙ g.stood.homeless;
+          memory = ap (λ ws. written ws at (parent.base ∷ 0 ∷ 0 ∷ 0 ∷ 0 ∷ [])) g.stood.memory ∙ sym h.words;
+          no_marks_left = g.stood.no_marks_left;
+          unmarked = marked_same h.table_before u slot h.child g.stood.table h.added ∙ g.stood.unmarked;
+          none_counted = marks_same h.table_before u slot h.child g.stood.table h.added ∙ g.stood.none_counted;
+        };
         few = let e = births.children_p h.table_before u g.naming g.machine machine_i slot slot_i f i (beginning slot h.child) begins in
             omega (arith, e, g.few);
-        waiting = ap (λ y. y.standing) (process_there h.table_before u slot h.child g.table h.added slot not_slot) ∙ g.waiting;
+        waiting = ap (λ y. y.standing) (process_there h.table_before u slot h.child g.stood.table h.added slot not_slot) ∙ g.waiting;
         fork = let e = births.forks_not_c h.table_before u g.naming g.machine machine_i slot slot_i f i (beginning slot h.child) begins slot not_slot in
             omega (arith, e, g.fork);
         named = name_other slot not_slot ∙ g.named;

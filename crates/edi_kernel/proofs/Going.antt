@@ -42,7 +42,7 @@ use Rattle.edi_kernel.specs.Stints as stints
 use Rattle.edi_kernel.specs.Stints.{stint, stint_after}
 use Rattle.edi_kernel.specs.Forks.{HaveBegun, share_in}
 use Rattle.edi_kernel.specs.Kernel.{IsKernel, IsTakenIn, Holds, Switches, EndsRun, BreaksOff, StandsArrived, ForksInto, GoesTo, attempt_end, HandlesTurn}
-use Rattle.edi_kernel.specs.Kernel.{Handles}
+use Rattle.edi_kernel.specs.Kernel.{EndsAs, Handles, KeepsWords}
 use Rattle.edi_calls.proofs.Names.{child_not_first, same_ends}
 use Rattle.edi_kernel.proofs.Counts.{marked_few, map-append, where_same}
 use Rattle.edi_kernel.proofs.Changes.{length-names, one_changes, at_set_same, at_set_other}
@@ -374,15 +374,17 @@ module _ (words : List ℕ) (old mid new : KernelState) (slot left left1 used : 
       begins : Starts slot a branches mid.store table_now naming_now machine_now fork_number
       begins = record {
         inside = at_clear.taken.inside;
-        table = written_table (unmarked mid.table) slot waits at_clear.table at_clear.taken.inside (at_clear.table.parents slot) g.ordered
-            at_clear.taken.homeless;
-        stands = stands_now;
-        live = taken_live (unmarked mid.table) slot at_clear.taken;
-        homeless = at_clear.taken.homeless;
-        memory = refl;
-        no_marks_left = refl;
-        unmarked = refl;
-        none_counted = refl;
+        stood = record {
+          table = written_table (unmarked mid.table) slot waits at_clear.table at_clear.taken.inside (at_clear.table.parents slot) g.ordered
+              at_clear.taken.homeless;
+          stands = stands_now;
+          live = taken_live (unmarked mid.table) slot at_clear.taken;
+          homeless = at_clear.taken.homeless;
+          memory = refl;
+          no_marks_left = refl;
+          unmarked = refl;
+          none_counted = refl;
+        };
         none = where_same (is_child_of table_now slot) (is_child_of (unmarked mid.table) slot) 32
             (λ i _. ap (λ y. nat_lt 0 i && is_live mid.table i && nat_eq y slot) (same_parent i)) ∙ no_children;
         waiting = ap (λ y. y.standing) here;
@@ -416,8 +418,8 @@ module _ (words : List ℕ) (old mid new : KernelState) (slot left left1 used : 
               is = is ∙ ap (λ z. stints.switched z (children p fork_number 0 (length branches))) (sym chain);
               holds = record {
                 naming = x.naming;
-                stands = x.stands;
-                memory = x.memory;
+                stands = x.stood.stands;
+                memory = x.stood.memory;
                 is_taken = sym (ap (option_map x.naming.name) g.none_taken);
                 is_ready = sym (x.ready ∙ ap (λ xs. map n.name xs ++ children p fork_number 0 (length branches)) same_ready);
               };
@@ -472,6 +474,21 @@ module _ (words : List ℕ) (old mid new : KernelState) (slot left left1 used : 
     at_turns kd steps (pausing finishing r c) result l w h allowed d = absurd h.0
     at_turns kd steps end result l w h allowed d = absurd h
 
+    -- an ending that leaves the activity as it is
+    stopped : (e : Ending) (end : outcome.Ending) (steps : ℕ) (r : Running) (c : Bool)
+        → (w : Comes (fetch words) m p others (n.forks slot) steps m (stopping end r c)) → EndsAs end e → KeepsWords e r.local.memory new.store → now ≡ r
+        → EndsRun words (left - used) e new t m p others
+    stopped e end steps r c w same memory at = record {
+      steps = steps;
+      machine = back w.machine p w.activity w.machine.marks r;
+      end = end;
+      is = w.is;
+      same = same;
+      memory = memory;
+      system = sym (ap (λ x. x.system) at);
+      turns = sym (ap (λ x. x.turns) at) ∙ sym g.spent;
+    }
+
     overs : (e : Ending) (steps : ℕ) (end : Paused) → Comes (fetch words) m p others (n.forks slot) steps m end → Pauses words end (pause.Over e) now cleared
         → new.store ≡ mid.store →
         EndsRun words (left - used) e new t m p others
@@ -485,26 +502,10 @@ module _ (words : List ℕ) (old mid new : KernelState) (slot left left1 used : 
       system = sym (ap (λ x. x.system) h);
       turns = sym (ap (λ x. x.turns) h) ∙ sym g.spent;
     }
-    overs (ending.Halted at) steps (stopping (outcome.halted line) r c) w h kept_words = record {
-      steps = steps;
-      machine = back w.machine p w.activity w.machine.marks r;
-      end = outcome.halted line;
-      is = w.is;
-      same = h.0;
-      memory = sym (ap (λ x. x.local.memory) h.1) ∙ sym kept_words;
-      system = sym (ap (λ x. x.system) h.1);
-      turns = sym (ap (λ x. x.turns) h.1) ∙ sym g.spent;
-    }
-    overs (ending.Failed cause at) steps (stopping (outcome.failed why line) r c) w h kept_words = record {
-      steps = steps;
-      machine = back w.machine p w.activity w.machine.marks r;
-      end = outcome.failed why line;
-      is = w.is;
-      same = (h.0, h.1);
-      memory = sym (ap (λ x. x.local.memory) h.2) ∙ sym kept_words;
-      system = sym (ap (λ x. x.system) h.2);
-      turns = sym (ap (λ x. x.turns) h.2) ∙ sym g.spent;
-    }
+    overs (ending.Halted at) steps (stopping (outcome.halted line) r c) w h kept_words =
+        stopped (ending.Halted at) (outcome.halted line) steps r c w h.0 (sym (ap (λ x. x.local.memory) h.1) ∙ sym kept_words) h.1
+    overs (ending.Failed cause at) steps (stopping (outcome.failed why line) r c) w h kept_words =
+        stopped (ending.Failed cause at) (outcome.failed why line) steps r c w (h.0, h.1) (sym (ap (λ x. x.local.memory) h.2) ∙ sym kept_words) h.2
     overs ending.Turns steps (stopping outcome.turns r c) w h kept_words = record {
       steps = steps;
       machine = back w.machine p w.activity w.machine.marks r;
@@ -515,16 +516,8 @@ module _ (words : List ℕ) (old mid new : KernelState) (slot left left1 used : 
       system = sym h.1;
       turns = sym h.0 ∙ sym g.spent;
     }
-    overs (ending.Bad at) steps (stopping (outcome.bad address) r c) w h kept_words = record {
-      steps = steps;
-      machine = back w.machine p w.activity w.machine.marks r;
-      end = outcome.bad address;
-      is = w.is;
-      same = h.0;
-      memory = tt;
-      system = sym (ap (λ x. x.system) h.1);
-      turns = sym (ap (λ x. x.turns) h.1) ∙ sym g.spent;
-    }
+    overs (ending.Bad at) steps (stopping (outcome.bad address) r c) w h kept_words =
+        stopped (ending.Bad at) (outcome.bad address) steps r c w h.0 tt h.1
     overs e steps (pausing entering r c) w h kept_words = absurd h
     overs e steps (pausing leaving r c) w h kept_words = absurd h
     overs e steps (pausing looping r c) w h kept_words = absurd h

@@ -24,6 +24,13 @@ home_among t l i s lt h =
     home_in t.lists l i s.as_many lt (has-from_among i (list_at t.lists l) h)
     (λ a b. let e : 0 ≡ 1 = s.in_one_list 0 1 i a b in absurd (omega (arith, e)))
 
+-- no slot is ready and free
+pub not_both : (o : Option ℕ) → o ≡ Some 0 → o ≡ Some 1 → ⊥
+not_both o ready free = let same : 0 ≡ 1 = some (sym ready ∙ free) in absurd (omega (arith, same))
+  where
+    some : {x y : ℕ} → Some x ≡ Some y → x ≡ y
+    some e = cc
+
 pub live_of_home : (t : Table) (i : ℕ) → i < 32 → is_free_home (home_of t.lists i) ≡ false → is_live t i ≡ true
 live_of_home t i h e = ap (λ b. nat_lt i 32 && not b) e ∙ go (nat_lt i 32) (below i h)
   where

@@ -2,6 +2,7 @@
 use Rattle.std.proofs.Common.{◌≡◌, ℕ, zero, suc, ◌+◌, ◌-◌, ◌*◌, ◌<◌, ◌≤◌, inl, inr, Bool, List, length, Option, Some, None, refl, sym, subst, ◌∙◌, arith}
 use Rattle.edi_told.specs.Told.{WhereTold}
 use Rattle.edi_told.proofs.Told.{WhereTold-then}
+use Rattle.edi_calls.specs.declared.ends.Outside.{Outside}
 use Rattle.edi_calls.specs.State.{State}
 use Rattle.edi_target.specs.Fetch.{fetch}
 use Rattle.edi_target.specs.Effect.{Turn, entering, leaving, looping, arriving, again, forking, exiting, finishing}
@@ -15,7 +16,7 @@ use Rattle.edi_kernel.specs.declared.ends.Ending.TheVariants as ending
 use Rattle.edi_kernel.specs.declared.stretch.Pause.{Pause}
 use Rattle.edi_kernel.specs.declared.stretch.Pause.TheVariants as pause
 use Rattle.edi_kernel.specs.Stretch.{Paused, pausing, after_turn, after_answer, walk_turn, walk_on, walked, stretch, OneStep, Reaches, Stretches, Falls}
-use Rattle.edi_kernel.specs.Stretch.{Spends, pause_by, pause_with, pause_of, left_after}
+use Rattle.edi_kernel.specs.Stretch.{Spends, CallsLast, pause_by, pause_with, pause_of, left_after}
 
 -- an activity that goes on is after the step where the stretch goes on from
 walks_on : (c e : Bool) (answer : Answer) (now : Running) → ((more : Running → Bool → Paused) → after_answer more c answer ≡ more now e) →
@@ -88,6 +89,12 @@ module _ (words : List ℕ) (live : ℕ) (is_first : Bool) where
         WhereTold old new (λ s t. Stretches words live is_first (was s) c pause (now t) e)
     told_last pause h k = WhereTold-then _ (λ s t. OneStep words live is_first (r s) d (Some pause) (now t) e)
         (λ s t. Stretches words live is_first (was s) c pause (now t) e) old between new (λ x y z a b. last pause (was x) (r y) (now z) c d e a b) h k
+
+-- calls that come after calls
+pub lasts_on : {C R : Type 0} (faults : C → Outside → ℕ) (references : C → R) (leads : C → C → Type 0) (a b c : C) → CallsLast faults references leads a b
+    → CallsLast faults references leads b c → CallsLast faults references leads a c
+lasts_on faults references leads a b c h k =
+    (λ outside. omega (arith, h.0 outside, k.0 outside), k.1 ∙ h.1, λ start led. k.2 start (h.2 start led))
 
 -- the measure falls
 pub measure_falls : (words : List ℕ) (left pc new_left new_pc : ℕ) → Falls None words left pc new_left new_pc →

@@ -1,8 +1,6 @@
 //! A process forks.
 
 ghost use Rattle.std.specs.Prelude.{◌≡◌, ◌≤◌, ◌<◌, ◌^◌, length, None};
-ghost use Rattle.edi_store.specs.Memory.{IsMemory};
-ghost use Rattle.edi_ring.specs.Lists.{home_of};
 ghost use Rattle.edi_machine.specs.Activities.{IsOrdered, local_of};
 ghost use Rattle.edi_machine.specs.Starts.{IsFork, branches_at};
 ghost use Rattle.edi_kernel.specs.Table.{free_slots};

@@ -1,8 +1,6 @@
 //! The kernel's state, and what it does at each switch.
 
 ghost use Rattle.std.specs.Prelude.{◌≡◌, ◌≤◌, ◌<◌, ◌==◌, ◌+◌, ◌-◌, ◌^◌, if◌then◌else◌, length, None, Some, IsSome, Option, ℕ, true, false, List};
-ghost use Rattle.edi_store.specs.Memory.{IsMemory};
-ghost use Rattle.edi_ring.specs.Lists.{home_of};
 ghost use Rattle.edi_machine.specs.Activities.{IsOrdered, local_of};
 ghost use Rattle.edi_machine.specs.Starts.{IsFork, branches_at};
 ghost use Rattle.edi_kernel.specs.declared.table.Table.{Table};

@@ -1,11 +1,9 @@
 //! What a taken process does until it gives way.
 
-ghost use Rattle.std.specs.Prelude.{◌≡◌, ◌≤◌, None, Some, ℕ, false, length};
+ghost use Rattle.std.specs.Prelude.{◌≡◌, ◌≤◌, None, Some, false};
 ghost use Rattle.edi_told.specs.Told.{WhereTold};
 ghost use Rattle.edi_store.specs.Memory.{IsMemory};
-ghost use Rattle.edi_target.specs.Fetch.{fetch};
 ghost use Rattle.edi_machine.specs.Activities.{IsOrdered, local_of};
-ghost use Rattle.edi_machine.specs.Steps.{ends_phase};
 ghost use Rattle.edi_kernel.specs.Stretch.{
   Allows,
   Blamed,

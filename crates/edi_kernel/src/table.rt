@@ -1,9 +1,8 @@
 //! The table of the live processes.
 
-ghost use Rattle.std.specs.Prelude.{◌≡◌, ◌+◌, ◌<◌, ◌≤◌, ◌==◌, if◌then◌else◌, ℕ, Some, None, IsSome, [], false, true, length, slice_set, slice_get};
+ghost use Rattle.std.specs.Prelude.{◌≡◌, ◌+◌, ◌<◌, ◌≤◌, ◌==◌, if◌then◌else◌, ℕ, Some, None, IsSome, [], false, true, length, slice_get};
 ghost use Rattle.edi_ring.specs.Lists.{home_of, list_at, IsSound};
 ghost use Rattle.edi_machine.specs.declared.activity.Activity.{Activity};
-ghost use Rattle.edi_machine.specs.Activities.{IsOrdered};
 ghost use Rattle.edi_kernel.specs.Table.{
   Added,
   FirstAlone,
@@ -291,21 +290,7 @@ impl Table {
         }
     }
 
-    /// The process has ended: its slot is free, and its parent waits for one child less.
-    pub(crate) fn remove(&mut self, slot: usize)
-        requires slot { slot < 32 }
-        requires homeless { home_of self.old.lists slot ≡ None }
-        requires going { is_waiting (process_at self.old slot).standing ≡ false }
-        requires parent { (process_at self.old slot).parent < 32 }
-        requires waiting { (q : ℕ) → is_waiting (process_at self.old q).standing ≡ true → home_of self.old.lists q ≡ None }
-        ensures { Removed slot self.old self.new }
-    {
-        let process = self.processes[slot];
-        self.put(FREE, slot, process);
-        self.notify(process.parent);
-    }
-
-    /// A branch has come to its end.
+    /// A branch has come to its end: its slot is free, and its parent waits for one child less.
     pub(crate) fn leave(&mut self, slot: usize)
         requires slot { slot < 32 }
         requires homeless { home_of self.old.lists slot ≡ None }
@@ -316,7 +301,9 @@ impl Table {
         ensures { Removed slot (unmarked self.old) self.new }
     {
         self.unmark();
-        self.remove(slot);
+        let process = self.processes[slot];
+        self.put(FREE, slot, process);
+        self.notify(process.parent);
     }
 
     /// Takes the ready process at this index of the ready list, counted from 0 at the front.

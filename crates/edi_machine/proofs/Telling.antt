@@ -45,46 +45,13 @@ phase_told words at end.On (asks number arguments address line l) before after o
 phase_told words at end.On (due turn l) before after old new takes law = absurd takes
 phase_told words at end.On (fails c line) before after old new takes law = absurd takes
 phase_told words at end.On bad before after old new takes law = absurd takes
-phase_told words at (end.Turn k) (goes l) before after old new takes law = refl
-phase_told words at (end.Turn k) (released l) before after old new takes law = absurd takes
-phase_told words at (end.Turn k) (asks number arguments address line l) before after old new takes law = refl
-phase_told words at (end.Turn k) (due turn l) before after old new takes law = refl
-phase_told words at (end.Turn k) (fails c line) before after old new takes law = refl
-phase_told words at (end.Turn k) bad before after old new takes law = refl
-phase_told words at (end.Fail c place) (goes l) before after old new takes law = refl
-phase_told words at (end.Fail c place) (released l) before after old new takes law = absurd takes
-phase_told words at (end.Fail c place) (asks number arguments address line l) before after old new takes law = refl
-phase_told words at (end.Fail c place) (due turn l) before after old new takes law = refl
-phase_told words at (end.Fail c place) (fails cause line) before after old new takes law = refl
-phase_told words at (end.Fail c place) bad before after old new takes law = refl
-phase_told words at (end.Bad place) (goes l) before after old new takes law = refl
-phase_told words at (end.Bad place) (released l) before after old new takes law = absurd takes
-phase_told words at (end.Bad place) (asks number arguments address line l) before after old new takes law = refl
-phase_told words at (end.Bad place) (due turn l) before after old new takes law = refl
-phase_told words at (end.Bad place) (fails c line) before after old new takes law = refl
-phase_told words at (end.Bad place) bad before after old new takes law = refl
-phase_told words at end.Fault (goes l) before after old new takes law = refl
-phase_told words at end.Fault (released l) before after old new takes law = absurd takes
-phase_told words at end.Fault (asks number arguments address line l) before after old new takes law = refl
-phase_told words at end.Fault (due turn l) before after old new takes law = refl
-phase_told words at end.Fault (fails c line) before after old new takes law = refl
-phase_told words at end.Fault bad before after old new takes law = refl
+phase_told words at answer (released l) before after old new takes law = absurd takes
+phase_told words at answer e before after old new takes law = refl
 
 -- a fork is that of the COBEGIN here
 pub forks_here : (words : List ℕ) (at held : ℕ) (e : Effect) → Lawful words at held e → Forks e words at
-forks_here words at held (goes l) law = tt
-forks_here words at held (released l) law = tt
-forks_here words at held (asks number arguments address line l) law = tt
-forks_here words at held (due entering l) law = tt
-forks_here words at held (due leaving l) law = tt
-forks_here words at held (due looping l) law = tt
-forks_here words at held (due arriving l) law = tt
-forks_here words at held (due (again marks) l) law = tt
 forks_here words at held (due (forking branches) l) law = law
-forks_here words at held (due exiting l) law = tt
-forks_here words at held (due finishing l) law = tt
-forks_here words at held (fails c line) law = tt
-forks_here words at held bad law = tt
+forks_here words at held e law = tt
 
 fork_stands : (words : List ℕ) (at pc : ℕ) (branches : List Branch) (l after : Local) → at ≡ pc → after ≡ l → IsFork words pc branches l
     → IsFork words at (branches_at words at) after

@@ -1,7 +1,7 @@
 -- A stretch is one more instruction, until the last.
-use Rattle.std.proofs.Common.{◌∙◌, arith}
+use Rattle.std.proofs.Common.{arith}
 use Rattle.edi_kernel.specs.Stretch.{running_in}
-use Rattle.edi_kernel.proofs.Stretches.{told_more, told_last, spends_less}
+use Rattle.edi_kernel.proofs.Stretches.{lasts_on, told_more, told_last, spends_less}
 use Rattle.edi_kernel.proofs.stretch.advance.Goals as goal
 
 pub returns-in-Some-clause-exact : goal.returns-in-Some-clause-exact
@@ -23,11 +23,7 @@ stretch-preserved g c = record {
       c.args.progress.now.cleared c.stretch.progress.cleared c.instruct.new.progress.cleared
       _ (g.C.Calls.state c.stretch.calls) _ c.stretch.invariant.reached c.in_default.ensures.exact;
   working = c.in_default.ensures.blame;
-  lasts = (
-    λ outside. omega (arith, c.in_default.ensures.lasts.0 outside, c.stretch.invariant.lasts.0 outside),
-    c.in_default.ensures.lasts.1 ∙ c.stretch.invariant.lasts.1,
-    λ start led. c.in_default.ensures.lasts.2 start (c.stretch.invariant.lasts.2 start led),
-  );
+  lasts = lasts_on g.C.Calls.faults g.C.Calls.references g.C.Calls.leads _ _ _ c.stretch.invariant.lasts c.in_default.ensures.lasts;
   ordered = c.in_default.ensures.ordered;
   less = omega (arith, c.in_default.ensures.less, c.stretch.invariant.less);
 }

@@ -2,6 +2,7 @@
 use Rattle.std.proofs.Common.{refl, ap, arith, ◌∙◌, false}
 use Rattle.std.specs.Prelude.{is_some}
 use Rattle.edi_kernel.proofs.Rounds.{told_never, told_begins, told_ends, told_more}
+use Rattle.edi_kernel.proofs.Stretches.{lasts_on}
 use Rattle.edi_kernel.proofs.state.KernelState.run.Goals as goal
 
 pub returns-then-bound-eq0-clause-exact : goal.returns-then-bound-eq0-clause-exact
@@ -37,11 +38,7 @@ rounds-preserved g c = record {
   kernel = c.in_default.ensures.kernel;
   taken = c.in_default.ensures.taken refl;
   working = c.in_default.ensures.blame;
-  lasts = (
-    λ outside. omega (arith, c.in_default.ensures.lasts.0 outside, c.rounds.invariant.lasts.0 outside),
-    c.in_default.ensures.lasts.1 ∙ c.rounds.invariant.lasts.1,
-    λ start led. c.in_default.ensures.lasts.2 start (c.rounds.invariant.lasts.2 start led),
-  );
+  lasts = lasts_on g.C.Calls.faults g.C.Calls.references g.C.Calls.leads _ _ _ c.rounds.invariant.lasts c.in_default.ensures.lasts;
   used = c.in_default.ensures.used;
   source = c.in_default.ensures.source ∙ c.rounds.invariant.source;
   drawn = omega (arith, c.in_default.ensures.drawn, c.in_default.ensures.spent refl, c.rounds.invariant.drawn);
