@@ -4,7 +4,7 @@ use Rattle.std.specs.Prelude.{ℕ}
 use Rattle.edi_unit.specs.Tree.{Link, Links, no_link, link_then, Part, Parts, no_part, part_then, Argument, Arguments, no_argument, argument_then}
 use Rattle.edi_unit.specs.View.{links, parts, arguments}
 use Rattle.edi_static.specs.Judged.{Judged, gives, faults, ◌>>=◌}
-use Rattle.edi_static.specs.Operators.{Typed, Chained}
+use Rattle.edi_static.specs.Operators.{Chained}
 use Rattle.edi_static.specs.Expressions.{Reached}
 
 -- ---- one construct behind another
@@ -31,11 +31,11 @@ pub onto_one_more : {X L : Type 0} (put : X → L → L) (xs : List X) (x : X) (
 onto_one_more put [] x end = refl
 onto_one_more put (y ∷ xs) x end = ap (put y) (onto_one_more put xs x end)
 
-links_end : (ls : List Link) → onto link_then ls no_link ≡ links ls
+pub links_end : (ls : List Link) → onto link_then ls no_link ≡ links ls
 links_end [] = refl
 links_end (l ∷ ls) = ap (link_then l) (links_end ls)
 
-parts_end : (ps : List Part) → onto part_then ps no_part ≡ parts ps
+pub parts_end : (ps : List Part) → onto part_then ps no_part ≡ parts ps
 parts_end [] = refl
 parts_end (p ∷ ps) = ap (part_then p) (parts_end ps)
 
@@ -43,63 +43,68 @@ arguments_end : (xs : List Argument) → onto argument_then xs no_argument ≡ a
 arguments_end [] = refl
 arguments_end (x ∷ xs) = ap (argument_then x) (arguments_end xs)
 
--- ---- operators
+-- ---- operators, and parts of variables
 
-abbrev pub chained : List Link → Chained → Judged Chained
-chained ls c = gives (record { links = onto link_then ls c.links; of = c.of })
+-- how a list of items is made, with the type behind its last item, and what is seen of both
+pub record Listing (X L R : Type 0) : Type 0 where
+  pub put : X → L → L
+  pub end : L
+  pub all : List X → L
+  pub make : L → ℕ → R
+  pub list : R → L
+  pub of : R → ℕ
+  pub listed : (l : L) (n : ℕ) → list (make l n) ≡ l
+  pub typed : (l : L) (n : ℕ) → of (make l n) ≡ n
+  pub whole : (r : R) → make (list r) (of r) ≡ r
+  pub ends : (xs : List X) → onto put xs end ≡ all xs
 
--- what a chain comes to behind these operators
-abbrev pub behind_links : List Link → Judged Chained → Judged Chained
-behind_links ls m = m >>= chained ls
+abbrev listing : {X L R : Type 0} → (put : X → L → L) → (end : L) → (all : List X → L) → (make : L → ℕ → R) → (list : R → L) → (of : R → ℕ) →
+    ((l : L) (n : ℕ) → list (make l n) ≡ l) → ((l : L) (n : ℕ) → of (make l n) ≡ n) → ((r : R) → make (list r) (of r) ≡ r) →
+    ((xs : List X) → onto put xs end ≡ all xs) → Listing X L R
+listing put end all make list of listed typed whole ends = record {
+  put = put;
+  end = end;
+  all = all;
+  make = make;
+  list = list;
+  of = of;
+  listed = listed;
+  typed = typed;
+  whole = whole;
+  ends = ends;
+}
 
-pub no_links : (m : Judged Chained) → behind_links [] m ≡ m
-no_links m = bind_gives m
+abbrev pub link_lists : Listing Link Links Chained
+link_lists =
+    listing link_then no_link links (λ ls of. record { links = ls; of = of }) (λ c. c.links) (λ c. c.of) (λ ls of. refl) (λ ls of. refl) (λ c. refl) links_end
 
--- one operator more
-pub link_more : (ls : List Link) (l : Link) (m : Judged Chained) →
-    behind_links ls (m >>= λ c. gives (record { links = link_then l c.links; of = c.of })) ≡ behind_links (ls ++ l ∷ []) m
-link_more ls l m =
-    bind_bind m (λ c. gives (record { links = link_then l c.links; of = c.of })) (chained ls)
-    ∙ bind_same m (λ c. chained ls (record { links = link_then l c.links; of = c.of })) (chained (ls ++ l ∷ []))
-    (λ c. ap (λ x. one x c.of) (sym (onto_one_more link_then ls l c.links)))
-  where
-    one : Links → ℕ → Judged Chained
-    one x of = gives (record { links = x; of = of })
+abbrev pub part_lists : Listing Part Parts Reached
+part_lists =
+    listing part_then no_part parts (λ ps of. record { parts = ps; of = of }) (λ r. r.parts) (λ r. r.of) (λ ps of. refl) (λ ps of. refl) (λ r. refl) parts_end
 
-pub links_ended : (ls : List Link) (of : ℕ) → behind_links ls (gives (record { links = no_link; of = of })) ≡ gives (record { links = links ls; of = of })
-links_ended ls of = ap (λ x. one x of) (links_end ls)
-  where
-    one : Links → ℕ → Judged Chained
-    one x of = gives (record { links = x; of = of })
+-- what a list comes to behind these items
+abbrev pub behind_items : {X L R : Type 0} → Listing X L R → List X → Judged R → Judged R
+behind_items w xs m = m >>= λ r. gives (w.make (onto w.put xs (w.list r)) (w.of r))
 
--- ---- parts
+module _ {X L R : Type 0} (w : Listing X L R) where
+  pub no_items : (m : Judged R) → behind_items w [] m ≡ m
+  no_items (gives r) = ap gives (w.whole r)
+  no_items (faults why line) = refl
 
-abbrev pub reached : List Part → Reached → Judged Reached
-reached ps r = gives (record { parts = onto part_then ps r.parts; of = r.of })
+  -- one item more
+  pub item_more : (xs : List X) (x : X) (m : Judged R) →
+      behind_items w xs (m >>= λ r. gives (w.make (w.put x (w.list r)) (w.of r))) ≡ behind_items w (xs ++ x ∷ []) m
+  item_more xs x (gives r) =
+      let l : L = w.put x (w.list r) in
+      ap (λ l'. gives (w.make (onto w.put xs l') (w.of (w.make l (w.of r))))) (w.listed l (w.of r))
+      ∙ (ap (λ n. gives (w.make (onto w.put xs l) n)) (w.typed l (w.of r))
+      ∙ ap (λ l'. gives (w.make l' (w.of r))) (sym (onto_one_more w.put xs x (w.list r))))
+  item_more xs x (faults why line) = refl
 
--- what the steps to a part come to behind these
-abbrev pub behind_parts : List Part → Judged Reached → Judged Reached
-behind_parts ps m = m >>= reached ps
-
-pub no_parts : (m : Judged Reached) → behind_parts [] m ≡ m
-no_parts m = bind_gives m
-
--- one step more
-pub part_more : (ps : List Part) (p : Part) (m : Judged Reached) →
-    behind_parts ps (m >>= λ r. gives (record { parts = part_then p r.parts; of = r.of })) ≡ behind_parts (ps ++ p ∷ []) m
-part_more ps p m =
-    bind_bind m (λ r. gives (record { parts = part_then p r.parts; of = r.of })) (reached ps)
-    ∙ bind_same m (λ r. reached ps (record { parts = part_then p r.parts; of = r.of })) (reached (ps ++ p ∷ []))
-    (λ r. ap (λ x. one x r.of) (sym (onto_one_more part_then ps p r.parts)))
-  where
-    one : Parts → ℕ → Judged Reached
-    one x of = gives (record { parts = x; of = of })
-
-pub parts_ended : (ps : List Part) (of : ℕ) → behind_parts ps (gives (record { parts = no_part; of = of })) ≡ gives (record { parts = parts ps; of = of })
-parts_ended ps of = ap (λ x. one x of) (parts_end ps)
-  where
-    one : Parts → ℕ → Judged Reached
-    one x of = gives (record { parts = x; of = of })
+  pub items_ended : (xs : List X) (of : ℕ) → behind_items w xs (gives (w.make w.end of)) ≡ gives (w.make (w.all xs) of)
+  items_ended xs of =
+      ap (λ l. gives (w.make (onto w.put xs l) (w.of (w.make w.end of)))) (w.listed w.end of)
+      ∙ (ap (λ n. gives (w.make (onto w.put xs w.end) n)) (w.typed w.end of) ∙ ap (λ l. gives (w.make l of)) (w.ends xs))
 
 -- ---- arguments
 
@@ -129,9 +134,3 @@ arguments_ended xs = ap (λ y. given y) (arguments_end xs)
   where
     given : Arguments → Judged Arguments
     given y = gives y
-
--- ---- parts of constructors
-
--- what the arguments of a constructor come to behind these
-abbrev pub behind_values : List Typed → Judged (List Typed) → Judged (List Typed)
-behind_values vs m = m >>= λ ws. gives (vs ++ ws)

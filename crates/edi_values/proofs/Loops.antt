@@ -1,5 +1,5 @@
 -- The loops over the lists of a tree: a start, a step, a fault and an end of each.
-use Rattle.std.proofs.Common.{◌≡◌, ℕ, Bool, List, [], ◌∷◌, ◌++◌, map, Err, ap, sym, ◌∙◌}
+use Rattle.std.proofs.Common.{◌≡◌, ℕ, Bool, List, [], ◌∷◌, ◌++◌, map, Err, refl, ap, sym, ◌∙◌}
 use Rattle.std.proofs.lemmas.List.{map-append, append-nil}
 use Rattle.edi_tree.specs.declared.expressions.Addend as code_addend
 use Rattle.edi_tree.specs.declared.expressions.Multiplier as code_multiplier
@@ -9,130 +9,112 @@ use Rattle.edi_tree.specs.Tree as text
 use Rattle.edi_tree.specs.View as see
 use Rattle.edi_tree.specs.View.{addend_of, multiplier_of, selector_of, expr_of}
 use Rattle.edi_unit.specs.declared.expressions.Argument as code_argument
-use Rattle.edi_unit.specs.declared.expressions.Link as code_link
-use Rattle.edi_unit.specs.declared.expressions.Part as code_part
 use Rattle.edi_unit.specs.Fits.{Formals}
-use Rattle.edi_unit.specs.Tree.{Arguments, argument_then}
+use Rattle.edi_unit.specs.Tree.{Arguments, argument_then, Link, Links, no_link, link_then, Part, Parts}
 use Rattle.edi_unit.specs.View as unit_see
-use Rattle.edi_unit.specs.View.{argument_of, arguments_of, link_of, part_of}
+use Rattle.edi_unit.specs.View.{argument_of, arguments_of}
 use Rattle.edi_static.specs.declared.faults.StaticFault.{StaticFault}
 use Rattle.edi_static.specs.declared.faults.StaticFault.TheVariants as fault
-use Rattle.edi_static.specs.declared.operands.Linked as code_linked
 use Rattle.edi_static.specs.declared.operands.Typed as code_typed
-use Rattle.edi_static.specs.declared.parts.Parted as code_parted
 use Rattle.edi_static.specs.Answers.{JudgedAnswers}
 use Rattle.edi_static.specs.Judged.{Judged, gives, ◌>>=◌}
 use Rattle.edi_static.specs.Environment.{Environment}
-use Rattle.edi_static.specs.Operators.{Typed, Chained}
+use Rattle.edi_static.specs.Operators.{Typed, Linked, Chained}
 use Rattle.edi_static.specs.Fitting.{rest_of}
 use Rattle.edi_static.specs.Expressions as rule
-use Rattle.edi_static.specs.Expressions.{Reached}
-use Rattle.edi_static.specs.Views.{linked_of, parted_of, typed_of}
+use Rattle.edi_static.specs.Expressions.{Parted, Reached}
+use Rattle.edi_static.specs.Views.{typed_of}
 use Rattle.edi_values.specs.Parts.{behind, elements}
-use Rattle.edi_values.proofs.Behind.{bind_gives, behind_links, behind_parts, behind_arguments, no_links, no_parts, links_ended, parts_ended, arguments_ended}
-use Rattle.edi_values.proofs.Steps.{addend_more, addend_fails, multiplier_more, multiplier_fails, selector_more, selector_fails, argument_next}
-use Rattle.edi_values.proofs.Steps.{argument_fails, element_more, element_fails}
+use Rattle.edi_values.proofs.Behind.{Listing, link_lists, part_lists, behind_items, no_items, item_more, items_ended, bind_gives, behind_arguments}
+use Rattle.edi_values.proofs.Behind.{arguments_ended}
+use Rattle.edi_values.proofs.Steps.{argument_next, argument_fails, element_more, element_fails}
 
--- ---- addends
+-- ---- addends, multipliers and selectors
 
-abbrev pub addends_left : Environment → List code_link.Link → (of : ℕ) → List code_addend.Addend → Judged Chained
-addends_left env links of rest = behind_links (map link_of links) (rule.addends env of (see.addends (map addend_of rest)))
+-- a list of a tree whose items are judged one after another, each with the type that the one before gives
+pub record Chain (I X P L R : Type 0) : Type 0 where
+  pub lists : Listing X L R
+  pub what : P → X
+  pub next : P → ℕ
+  pub one : ℕ → I → Judged P
+  pub all : ℕ → List I → Judged R
+  pub none_is : (of : ℕ) → all of [] ≡ gives (lists.make lists.end of)
+  pub more_is : (of : ℕ) (i : I) (is : List I) →
+      all of (i ∷ is) ≡ (one of i >>= λ p. all (next p) is >>= λ r. gives (lists.make (lists.put (what p) (lists.list r)) (lists.of r)))
 
-pub addends_start : (env : Environment) (links : List code_link.Link) (of : ℕ) (rest : List code_addend.Addend) → links ≡ [] →
-    addends_left env links of rest ≡ rule.addends env of (see.addends (map addend_of rest))
-addends_start env links of rest e =
-    ap (λ ls. addends_left env ls of rest) e ∙ no_links (rule.addends env of (see.addends (map addend_of rest)))
+-- operators with their right operands
+abbrev operators_in : {I : Type 0} → (one : ℕ → I → Judged Linked) → (all : ℕ → List I → Judged Chained) →
+    ((of : ℕ) → all of [] ≡ gives (record { links = no_link; of = of })) →
+    ((of : ℕ) (i : I) (is : List I) →
+    all of (i ∷ is) ≡ (one of i >>= λ l. all l.of is >>= λ c. gives (record { links = link_then l.what c.links; of = c.of }))) →
+    Chain I Link Linked Links Chained
+operators_in one all none_is more_is = record {
+  lists = link_lists;
+  what = λ l. l.what;
+  next = λ l. l.of;
+  one = one;
+  all = all;
+  none_is = none_is;
+  more_is = more_is;
+}
 
-pub addends_step : (env : Environment) (links more : List code_link.Link) (of : ℕ) (rest behind_it : List code_addend.Addend) (one : code_addend.Addend)
-    (l : code_linked.Linked) (whole : Judged Chained) →
-    rest ≡ one ∷ behind_it → more ≡ links ++ l.link ∷ [] → rule.addend env of (addend_of one) ≡ gives (linked_of l) →
-    addends_left env links of rest ≡ whole → addends_left env more l.of behind_it ≡ whole
-addends_step env links more of rest behind_it one l whole d e h left =
-    ap (λ ls. behind_links ls (rule.addends env l.of (see.addends (map addend_of behind_it)))) (ap (map link_of) e ∙ map-append link_of links (l.link ∷ []))
-    ∙ sym (addend_more env of (addend_of one) (see.addends (map addend_of behind_it)) (linked_of l) (map link_of links) h)
-    ∙ ap (λ r. addends_left env links of r) (sym d)
-    ∙ left
+abbrev pub addends_in : Environment → Chain code_addend.Addend Link Linked Links Chained
+addends_in env =
+    operators_in (λ of a. rule.addend env of (addend_of a)) (λ of rest. rule.addends env of (see.addends (map addend_of rest))) (λ of. refl)
+    (λ of a rest. refl)
 
-pub addends_fault : (env : Environment) (links : List code_link.Link) (of : ℕ) (rest behind_it : List code_addend.Addend) (one : code_addend.Addend)
-    (whole : Judged Chained) (f : StaticFault) {Y : Type 0} (w : Y → Chained) →
-    rest ≡ one ∷ behind_it → JudgedAnswers linked_of (Err f) (rule.addend env of (addend_of one)) →
-    addends_left env links of rest ≡ whole → JudgedAnswers w (Err f) whole
-addends_fault env links of rest behind_it one whole (fault.At why line) w d h left =
-    sym left ∙ ap (λ r. addends_left env links of r) d
-    ∙ addend_fails env of (addend_of one) (see.addends (map addend_of behind_it)) (map link_of links) why line h
-addends_fault env links of rest behind_it one whole fault.NoMemory w d h left = tt
+abbrev pub multipliers_in : Environment → Chain code_multiplier.Multiplier Link Linked Links Chained
+multipliers_in env =
+    operators_in (λ of m. rule.multiplier env of (multiplier_of m)) (λ of rest. rule.multipliers env of (see.multipliers (map multiplier_of rest)))
+    (λ of. refl) (λ of m rest. refl)
 
-pub addends_end : (env : Environment) (links : List code_link.Link) (of : ℕ) (rest : List code_addend.Addend) (whole : Judged Chained) → rest ≡ [] →
-    addends_left env links of rest ≡ whole → whole ≡ gives (record { links = unit_see.links (map link_of links); of = of })
-addends_end env links of rest whole d left = sym left ∙ ap (λ r. addends_left env links of r) d ∙ links_ended (map link_of links) of
+abbrev pub selectors_in : Environment → Chain code_selector.Selector Part Parted Parts Reached
+selectors_in env = record {
+  lists = part_lists;
+  what = λ p. p.what;
+  next = λ p. p.of;
+  one = λ of s. rule.selector env of (selector_of s);
+  all = λ of rest. rule.selectors env of (see.selectors (map selector_of rest));
+  none_is = λ of. refl;
+  more_is = λ of s rest. refl;
+}
 
--- ---- multipliers
+module _ {I C X P L R : Type 0} (view : C → X) (w : Chain I X P L R) where
+  -- what is left of the list, behind what has become these
+  abbrev pub left : List C → (of : ℕ) → List I → Judged R
+  left ys of rest = behind_items w.lists (map view ys) (w.all of rest)
 
-abbrev pub multipliers_left : Environment → List code_link.Link → (of : ℕ) → List code_multiplier.Multiplier → Judged Chained
-multipliers_left env links of rest = behind_links (map link_of links) (rule.multipliers env of (see.multipliers (map multiplier_of rest)))
+  -- a first item, and these behind it
+  abbrev before : List I → Judged P → Judged R
+  before rest m = m >>= λ p. w.all (w.next p) rest >>= λ r. gives (w.lists.make (w.lists.put (w.what p) (w.lists.list r)) (w.lists.of r))
 
-pub multipliers_start : (env : Environment) (links : List code_link.Link) (of : ℕ) (rest : List code_multiplier.Multiplier) → links ≡ [] →
-    multipliers_left env links of rest ≡ rule.multipliers env of (see.multipliers (map multiplier_of rest))
-multipliers_start env links of rest e =
-    ap (λ ls. multipliers_left env ls of rest) e ∙ no_links (rule.multipliers env of (see.multipliers (map multiplier_of rest)))
+  pub start : (ys : List C) (of : ℕ) (rest : List I) → ys ≡ [] → left ys of rest ≡ w.all of rest
+  start ys of rest e = ap (λ ls. left ls of rest) e ∙ no_items w.lists (w.all of rest)
 
-pub multipliers_step : (env : Environment) (links more : List code_link.Link) (of : ℕ) (rest behind_it : List code_multiplier.Multiplier)
-    (one : code_multiplier.Multiplier) (l : code_linked.Linked) (whole : Judged Chained) →
-    rest ≡ one ∷ behind_it → more ≡ links ++ l.link ∷ [] → rule.multiplier env of (multiplier_of one) ≡ gives (linked_of l) →
-    multipliers_left env links of rest ≡ whole → multipliers_left env more l.of behind_it ≡ whole
-multipliers_step env links more of rest behind_it one l whole d e h left =
-    ap (λ ls. behind_links ls (rule.multipliers env l.of (see.multipliers (map multiplier_of behind_it))))
-    (ap (map link_of) e ∙ map-append link_of links (l.link ∷ []))
-    ∙ sym (multiplier_more env of (multiplier_of one) (see.multipliers (map multiplier_of behind_it)) (linked_of l) (map link_of links) h)
-    ∙ ap (λ r. multipliers_left env links of r) (sym d)
-    ∙ left
+  pub step : (ys more : List C) (of : ℕ) (rest behind_it : List I) (one : I) (y : C) (p : P) (whole : Judged R) →
+      rest ≡ one ∷ behind_it → more ≡ ys ++ y ∷ [] → view y ≡ w.what p → w.one of one ≡ gives p →
+      left ys of rest ≡ whole → left more (w.next p) behind_it ≡ whole
+  step ys more of rest behind_it one y p whole d e s h prior =
+      ap (λ xs. behind_items w.lists xs (w.all (w.next p) behind_it))
+      (ap (map view) e ∙ (map-append view ys (y ∷ []) ∙ ap (λ x. map view ys ++ x ∷ []) s))
+      ∙ (sym (item_more w.lists (map view ys) (w.what p) (w.all (w.next p) behind_it))
+      ∙ (sym (ap (λ m. behind_items w.lists (map view ys) (before behind_it m)) h)
+      ∙ (sym (ap (behind_items w.lists (map view ys)) (w.more_is of one behind_it)) ∙ (ap (left ys of) (sym d) ∙ prior))))
 
-pub multipliers_fault : (env : Environment) (links : List code_link.Link) (of : ℕ) (rest behind_it : List code_multiplier.Multiplier)
-    (one : code_multiplier.Multiplier) (whole : Judged Chained) (f : StaticFault) {Y : Type 0} (w : Y → Chained) →
-    rest ≡ one ∷ behind_it → JudgedAnswers linked_of (Err f) (rule.multiplier env of (multiplier_of one)) →
-    multipliers_left env links of rest ≡ whole → JudgedAnswers w (Err f) whole
-multipliers_fault env links of rest behind_it one whole (fault.At why line) w d h left =
-    sym left ∙ ap (λ r. multipliers_left env links of r) d
-    ∙ multiplier_fails env of (multiplier_of one) (see.multipliers (map multiplier_of behind_it)) (map link_of links) why line h
-multipliers_fault env links of rest behind_it one whole fault.NoMemory w d h left = tt
+  pub faulty : (ys : List C) (of : ℕ) (rest behind_it : List I) (one : I) (whole : Judged R) (f : StaticFault) {V Y : Type 0} (v : V → P) (u : Y → R) →
+      rest ≡ one ∷ behind_it → JudgedAnswers v (Err f) (w.one of one) → left ys of rest ≡ whole → JudgedAnswers u (Err f) whole
+  faulty ys of rest behind_it one whole (fault.At why line) v u d h prior =
+      sym prior
+      ∙ (ap (left ys of) d
+      ∙ (ap (behind_items w.lists (map view ys)) (w.more_is of one behind_it)
+      ∙ ap (λ m. behind_items w.lists (map view ys) (before behind_it m)) h))
+  faulty ys of rest behind_it one whole fault.NoMemory v u d h prior = tt
 
-pub multipliers_end : (env : Environment) (links : List code_link.Link) (of : ℕ) (rest : List code_multiplier.Multiplier) (whole : Judged Chained) → rest ≡ [] →
-    multipliers_left env links of rest ≡ whole → whole ≡ gives (record { links = unit_see.links (map link_of links); of = of })
-multipliers_end env links of rest whole d left = sym left ∙ ap (λ r. multipliers_left env links of r) d ∙ links_ended (map link_of links) of
-
--- ---- selectors
-
-abbrev pub selectors_left : Environment → List code_part.Part → (of : ℕ) → List code_selector.Selector → Judged Reached
-selectors_left env parts of rest = behind_parts (map part_of parts) (rule.selectors env of (see.selectors (map selector_of rest)))
-
-pub selectors_start : (env : Environment) (parts : List code_part.Part) (of : ℕ) (rest : List code_selector.Selector) → parts ≡ [] →
-    selectors_left env parts of rest ≡ rule.selectors env of (see.selectors (map selector_of rest))
-selectors_start env parts of rest e =
-    ap (λ ps. selectors_left env ps of rest) e ∙ no_parts (rule.selectors env of (see.selectors (map selector_of rest)))
-
-pub selectors_step : (env : Environment) (parts more : List code_part.Part) (of : ℕ) (rest behind_it : List code_selector.Selector)
-    (one : code_selector.Selector) (p : code_parted.Parted) (whole : Judged Reached) →
-    rest ≡ one ∷ behind_it → more ≡ parts ++ p.part ∷ [] → rule.selector env of (selector_of one) ≡ gives (parted_of p) →
-    selectors_left env parts of rest ≡ whole → selectors_left env more p.of behind_it ≡ whole
-selectors_step env parts more of rest behind_it one p whole d e h left =
-    ap (λ ps. behind_parts ps (rule.selectors env p.of (see.selectors (map selector_of behind_it))))
-    (ap (map part_of) e ∙ map-append part_of parts (p.part ∷ []))
-    ∙ sym (selector_more env of (selector_of one) (see.selectors (map selector_of behind_it)) (parted_of p) (map part_of parts) h)
-    ∙ ap (λ r. selectors_left env parts of r) (sym d)
-    ∙ left
-
-pub selectors_fault : (env : Environment) (parts : List code_part.Part) (of : ℕ) (rest behind_it : List code_selector.Selector) (one : code_selector.Selector)
-    (whole : Judged Reached) (f : StaticFault) {Y : Type 0} (w : Y → Reached) →
-    rest ≡ one ∷ behind_it → JudgedAnswers parted_of (Err f) (rule.selector env of (selector_of one)) →
-    selectors_left env parts of rest ≡ whole → JudgedAnswers w (Err f) whole
-selectors_fault env parts of rest behind_it one whole (fault.At why line) w d h left =
-    sym left ∙ ap (λ r. selectors_left env parts of r) d
-    ∙ selector_fails env of (selector_of one) (see.selectors (map selector_of behind_it)) (map part_of parts) why line h
-selectors_fault env parts of rest behind_it one whole fault.NoMemory w d h left = tt
-
-pub selectors_end : (env : Environment) (parts : List code_part.Part) (of : ℕ) (rest : List code_selector.Selector) (whole : Judged Reached) → rest ≡ [] →
-    selectors_left env parts of rest ≡ whole → whole ≡ gives (record { parts = unit_see.parts (map part_of parts); of = of })
-selectors_end env parts of rest whole d left = sym left ∙ ap (λ r. selectors_left env parts of r) d ∙ parts_ended (map part_of parts) of
+  pub done : (ys : List C) (of : ℕ) (rest : List I) (whole : Judged R) → rest ≡ [] → left ys of rest ≡ whole →
+      whole ≡ gives (w.lists.make (w.lists.all (map view ys)) of)
+  done ys of rest whole d prior =
+      sym prior
+      ∙ (ap (left ys of) d ∙ (ap (behind_items w.lists (map view ys)) (w.none_is of) ∙ items_ended w.lists (map view ys) of))
 
 -- ---- arguments of a call
 

@@ -13,54 +13,12 @@ use Rattle.edi_static.specs.Answers.{JudgedAnswers}
 use Rattle.edi_static.specs.Views.{typed_of}
 use Rattle.edi_static.specs.Judged.{Judged, gives, faults, ◌>>=◌}
 use Rattle.edi_static.specs.Environment.{Environment}
-use Rattle.edi_static.specs.Operators.{Typed, Linked}
+use Rattle.edi_static.specs.Operators.{Typed}
 use Rattle.edi_static.specs.Fitting.{Rooted, rest_of, name_of_factor}
 use Rattle.edi_static.specs.Expressions as rule
-use Rattle.edi_static.specs.Expressions.{Parted, Reached, located, loaded}
+use Rattle.edi_static.specs.Expressions.{Reached, located, loaded}
 use Rattle.edi_values.specs.Parts.{behind, place_value}
-use Rattle.edi_values.proofs.Behind.{behind_links, behind_parts, behind_arguments, link_more, part_more, argument_more}
-
--- ---- operators
-
-pub addend_more : (env : Environment) (of : ℕ) (a : text.Addend) (more : text.Addends) (l : Linked) (ls : List unit.Link) → rule.addend env of a ≡ gives l →
-    behind_links ls (rule.addends env of (text.next_addend a more)) ≡ behind_links (ls ++ l.what ∷ []) (rule.addends env l.of more)
-addend_more env of a more l ls h =
-    ap (λ m. behind_links ls (m >>= λ x. rule.addends env x.of more >>= λ c. gives (record { links = unit.link_then x.what c.links; of = c.of }))) h
-    ∙ link_more ls l.what (rule.addends env l.of more)
-
-pub addend_fails : (env : Environment) (of : ℕ) (a : text.Addend) (more : text.Addends) (ls : List unit.Link) (why : StaticKind) (line : ℕ)
-    → rule.addend env of a ≡ faults why line →
-    behind_links ls (rule.addends env of (text.next_addend a more)) ≡ faults why line
-addend_fails env of a more ls why line h =
-    ap (λ m. behind_links ls (m >>= λ x. rule.addends env x.of more >>= λ c. gives (record { links = unit.link_then x.what c.links; of = c.of }))) h
-
-pub multiplier_more : (env : Environment) (of : ℕ) (a : text.Multiplier) (more : text.Multipliers) (l : Linked) (ls : List unit.Link)
-    → rule.multiplier env of a ≡ gives l →
-    behind_links ls (rule.multipliers env of (text.next_multiplier a more)) ≡ behind_links (ls ++ l.what ∷ []) (rule.multipliers env l.of more)
-multiplier_more env of a more l ls h =
-    ap (λ m. behind_links ls (m >>= λ x. rule.multipliers env x.of more >>= λ c. gives (record { links = unit.link_then x.what c.links; of = c.of }))) h
-    ∙ link_more ls l.what (rule.multipliers env l.of more)
-
-pub multiplier_fails : (env : Environment) (of : ℕ) (a : text.Multiplier) (more : text.Multipliers) (ls : List unit.Link) (why : StaticKind) (line : ℕ)
-    → rule.multiplier env of a ≡ faults why line →
-    behind_links ls (rule.multipliers env of (text.next_multiplier a more)) ≡ faults why line
-multiplier_fails env of a more ls why line h =
-    ap (λ m. behind_links ls (m >>= λ x. rule.multipliers env x.of more >>= λ c. gives (record { links = unit.link_then x.what c.links; of = c.of }))) h
-
--- ---- parts of variables
-
-pub selector_more : (env : Environment) (of : ℕ) (s : text.Selector) (more : text.Selectors) (p : Parted) (ps : List unit.Part)
-    → rule.selector env of s ≡ gives p →
-    behind_parts ps (rule.selectors env of (text.next_selector s more)) ≡ behind_parts (ps ++ p.what ∷ []) (rule.selectors env p.of more)
-selector_more env of s more p ps h =
-    ap (λ m. behind_parts ps (m >>= λ x. rule.selectors env x.of more >>= λ r. gives (record { parts = unit.part_then x.what r.parts; of = r.of }))) h
-    ∙ part_more ps p.what (rule.selectors env p.of more)
-
-pub selector_fails : (env : Environment) (of : ℕ) (s : text.Selector) (more : text.Selectors) (ps : List unit.Part) (why : StaticKind) (line : ℕ)
-    → rule.selector env of s ≡ faults why line →
-    behind_parts ps (rule.selectors env of (text.next_selector s more)) ≡ faults why line
-selector_fails env of s more ps why line h =
-    ap (λ m. behind_parts ps (m >>= λ x. rule.selectors env x.of more >>= λ r. gives (record { parts = unit.part_then x.what r.parts; of = r.of }))) h
+use Rattle.edi_values.proofs.Behind.{behind_arguments, argument_more}
 
 -- ---- arguments
 

@@ -1,4 +1,4 @@
-use Rattle.std.proofs.Common.{◌≡◌, ◌+◌, List, ◌∷◌, ◌∙◌, Vec, ap, arith, drop, map, sym}
+use Rattle.std.proofs.Common.{◌≡◌, ◌+◌, List, ◌∷◌, ◌∙◌, Vec, ap, arith, drop, map, refl, sym}
 use Rattle.std.specs.Global.{Global}
 use Rattle.std.proofs.Math.ListN.{drop_of_length-le}
 use Rattle.std.proofs.lemmas.List.{drop_more}
@@ -8,10 +8,11 @@ use Rattle.edi_tree.specs.Tree as text
 use Rattle.edi_tree.specs.View as see
 use Rattle.edi_tree.specs.View.{addend_of, expr_of, multiplier_of, selector_of}
 use Rattle.edi_unit.specs.Lists.{list_items}
+use Rattle.edi_unit.specs.View.{link_of, part_of}
 use Rattle.edi_static.specs.declared.operands.Typed as code_typed
 use Rattle.edi_static.specs.Expressions as rule
 use Rattle.edi_static.specs.Operators.{Typed}
-use Rattle.edi_static.specs.Views.{environment, formal_of, formals, typed_of}
+use Rattle.edi_static.specs.Views.{environment, formal_of, formals, linked_of, parted_of, typed_of}
 use Rattle.edi_values.specs.Parts as part
 use Rattle.edi_values.specs.Views.{chained_of, reached_of}
 use Rattle.edi_values.proofs.Loops as loop
@@ -22,7 +23,8 @@ use Rattle.edi_values.proofs.expressions.+expressions.Goals as goal
 
 pub addends-loop-one-init : goal.addends-loop-one-init
 addends-loop-one-init t c = record {
-  left = loop.addends_start (environment c.args.known.now) (list_items c.new-links.result) c.args.left c.items-one-items.result.now c.new-links.ensures.exact;
+  left = loop.start link_of (loop.addends_in (environment c.args.known.now)) (list_items c.new-links.result) c.args.left c.items-one-items.result.now
+      c.new-links.ensures.exact;
 }
 
 pub addends-returns-in_err-linked : goal.addends-returns-in_err-linked
@@ -34,8 +36,8 @@ addends-returns-in_err-linked t c =
     let here : drop i items ≡ one ∷ drop (i + 1) items = drop_more items i one (omega arith) ∙ ap (λ x. x ∷ drop (i + 1) items) (sym c.one-item.is) in
     let p = err_from_is_err_and c.from_residual.result c.from_residual.ensures.1 in
     record {
-      exact = rw (p.1, p.2) (loop.addends_fault env (list_items c.loop-one.links) c.loop-one.of (drop i items) (drop (i + 1) items) one
-          (rule.addends env c.args.left (see.addends_of c.args.addends.now)) c.in_err-linked.field-0.0 chained_of here c.in_err-linked.ensures.exact
+      exact = rw (p.1, p.2) (loop.faulty link_of (loop.addends_in env) (list_items c.loop-one.links) c.loop-one.of (drop i items) (drop (i + 1) items) one
+          (rule.addends env c.args.left (see.addends_of c.args.addends.now)) c.in_err-linked.field-0.0 linked_of chained_of here c.in_err-linked.ensures.exact
           (c.loop-one.invariant.left ∙ ap (λ xs. rule.addends env c.args.left (see.addends (map addend_of xs))) c.items-one-items.ensures.exact));
     }
 
@@ -47,8 +49,10 @@ addends-loop-one-preserved t c =
     let one = c.one-item.result in
     let here : drop i items ≡ one ∷ drop (i + 1) items = drop_more items i one (omega arith) ∙ ap (λ x. x ∷ drop (i + 1) items) (sym c.one-item.is) in
     record {
-      left = loop.addends_step env (list_items c.loop-one.links) (list_items c.add.new.list) c.loop-one.of (drop i items) (drop (i + 1) items) one
-          c.in_ok-linked.linked (rule.addends env c.args.left (see.addends (map addend_of items))) here c.in_ok-add.ensures.ok c.in_ok-linked.ensures.exact
+      left = loop.step link_of (loop.addends_in env) (list_items c.loop-one.links) (list_items c.add.new.list) c.loop-one.of (drop i items) (drop (i + 1)
+          items) one
+          c.in_ok-linked.linked.link (linked_of c.in_ok-linked.linked) (rule.addends env c.args.left (see.addends (map addend_of items))) here
+          c.in_ok-add.ensures.ok refl c.in_ok-linked.ensures.exact
           c.loop-one.invariant.left;
     }
 
@@ -57,7 +61,7 @@ addends-returns t c =
     let env = environment c.args.known.now in
     let items = c.items-one-items.result.now in
     record {
-      exact = loop.addends_end env (list_items c.loop-one.links) c.loop-one.of (drop c.loop-one.one-index items)
+      exact = loop.done link_of (loop.addends_in env) (list_items c.loop-one.links) c.loop-one.of (drop c.loop-one.one-index items)
           (rule.addends env c.args.left (see.addends_of c.args.addends.now)) (drop_of_length-le items c.loop-one-test.false)
           (c.loop-one.invariant.left ∙ ap (λ xs. rule.addends env c.args.left (see.addends (map addend_of xs))) c.items-one-items.ensures.exact);
     }
@@ -66,7 +70,7 @@ addends-returns t c =
 
 pub multipliers-loop-one-init : goal.multipliers-loop-one-init
 multipliers-loop-one-init t c = record {
-  left = loop.multipliers_start (environment c.args.known.now) (list_items c.new-links.result) c.args.left c.items-one-items.result.now
+  left = loop.start link_of (loop.multipliers_in (environment c.args.known.now)) (list_items c.new-links.result) c.args.left c.items-one-items.result.now
       c.new-links.ensures.exact;
 }
 
@@ -79,8 +83,9 @@ multipliers-returns-in_err-linked t c =
     let here : drop i items ≡ one ∷ drop (i + 1) items = drop_more items i one (omega arith) ∙ ap (λ x. x ∷ drop (i + 1) items) (sym c.one-item.is) in
     let p = err_from_is_err_and c.from_residual.result c.from_residual.ensures.1 in
     record {
-      exact = rw (p.1, p.2) (loop.multipliers_fault env (list_items c.loop-one.links) c.loop-one.of (drop i items) (drop (i + 1) items) one
-          (rule.multipliers env c.args.left (see.multipliers_of c.args.multipliers.now)) c.in_err-linked.field-0.0 chained_of here c.in_err-linked.ensures.exact
+      exact = rw (p.1, p.2) (loop.faulty link_of (loop.multipliers_in env) (list_items c.loop-one.links) c.loop-one.of (drop i items) (drop (i + 1) items) one
+          (rule.multipliers env c.args.left (see.multipliers_of c.args.multipliers.now)) c.in_err-linked.field-0.0 linked_of chained_of here
+          c.in_err-linked.ensures.exact
           (c.loop-one.invariant.left ∙ ap (λ xs. rule.multipliers env c.args.left (see.multipliers (map multiplier_of xs))) c.items-one-items.ensures.exact));
     }
 
@@ -92,9 +97,10 @@ multipliers-loop-one-preserved t c =
     let one = c.one-item.result in
     let here : drop i items ≡ one ∷ drop (i + 1) items = drop_more items i one (omega arith) ∙ ap (λ x. x ∷ drop (i + 1) items) (sym c.one-item.is) in
     record {
-      left = loop.multipliers_step env (list_items c.loop-one.links) (list_items c.add.new.list) c.loop-one.of (drop i items) (drop (i + 1) items) one
-          c.in_ok-linked.linked (rule.multipliers env c.args.left (see.multipliers (map multiplier_of items))) here c.in_ok-add.ensures.ok
-          c.in_ok-linked.ensures.exact
+      left = loop.step link_of (loop.multipliers_in env) (list_items c.loop-one.links) (list_items c.add.new.list) c.loop-one.of (drop i items) (drop (i +
+          1) items) one
+          c.in_ok-linked.linked.link (linked_of c.in_ok-linked.linked) (rule.multipliers env c.args.left (see.multipliers (map multiplier_of items))) here
+          c.in_ok-add.ensures.ok refl c.in_ok-linked.ensures.exact
           c.loop-one.invariant.left;
     }
 
@@ -103,7 +109,7 @@ multipliers-returns t c =
     let env = environment c.args.known.now in
     let items = c.items-one-items.result.now in
     record {
-      exact = loop.multipliers_end env (list_items c.loop-one.links) c.loop-one.of (drop c.loop-one.one-index items)
+      exact = loop.done link_of (loop.multipliers_in env) (list_items c.loop-one.links) c.loop-one.of (drop c.loop-one.one-index items)
           (rule.multipliers env c.args.left (see.multipliers_of c.args.multipliers.now)) (drop_of_length-le items c.loop-one-test.false)
           (c.loop-one.invariant.left ∙ ap (λ xs. rule.multipliers env c.args.left (see.multipliers (map multiplier_of xs))) c.items-one-items.ensures.exact);
     }
@@ -112,7 +118,8 @@ multipliers-returns t c =
 
 pub selectors-loop-one-init : goal.selectors-loop-one-init
 selectors-loop-one-init t c = record {
-  left = loop.selectors_start (environment c.args.known.now) (list_items c.new-parts.result) c.args.of c.items-one-items.result.now c.new-parts.ensures.exact;
+  left = loop.start part_of (loop.selectors_in (environment c.args.known.now)) (list_items c.new-parts.result) c.args.of c.items-one-items.result.now
+      c.new-parts.ensures.exact;
 }
 
 pub selectors-returns-in_err-parted : goal.selectors-returns-in_err-parted
@@ -124,8 +131,10 @@ selectors-returns-in_err-parted t c =
     let here : drop i items ≡ one ∷ drop (i + 1) items = drop_more items i one (omega arith) ∙ ap (λ x. x ∷ drop (i + 1) items) (sym c.one-item.is) in
     let p = err_from_is_err_and c.from_residual.result c.from_residual.ensures.1 in
     record {
-      exact = rw (p.1, p.2) (loop.selectors_fault env (list_items c.loop-one.parts) c.loop-one.reached (drop i items) (drop (i + 1) items) one
-          (rule.selectors env c.args.of (see.selectors_of c.args.selectors.now)) c.in_err-parted.field-0.0 reached_of here c.in_err-parted.ensures.exact
+      exact = rw (p.1, p.2) (loop.faulty part_of (loop.selectors_in env) (list_items c.loop-one.parts) c.loop-one.reached (drop i items) (drop (i + 1)
+          items) one
+          (rule.selectors env c.args.of (see.selectors_of c.args.selectors.now)) c.in_err-parted.field-0.0 parted_of reached_of here
+          c.in_err-parted.ensures.exact
           (c.loop-one.invariant.left ∙ ap (λ xs. rule.selectors env c.args.of (see.selectors (map selector_of xs))) c.items-one-items.ensures.exact));
     }
 
@@ -137,8 +146,10 @@ selectors-loop-one-preserved t c =
     let one = c.one-item.result in
     let here : drop i items ≡ one ∷ drop (i + 1) items = drop_more items i one (omega arith) ∙ ap (λ x. x ∷ drop (i + 1) items) (sym c.one-item.is) in
     record {
-      left = loop.selectors_step env (list_items c.loop-one.parts) (list_items c.add.new.list) c.loop-one.reached (drop i items) (drop (i + 1) items) one
-          c.in_ok-parted.parted (rule.selectors env c.args.of (see.selectors (map selector_of items))) here c.in_ok-add.ensures.ok c.in_ok-parted.ensures.exact
+      left = loop.step part_of (loop.selectors_in env) (list_items c.loop-one.parts) (list_items c.add.new.list) c.loop-one.reached (drop i items) (drop (i
+          + 1) items) one
+          c.in_ok-parted.parted.part (parted_of c.in_ok-parted.parted) (rule.selectors env c.args.of (see.selectors (map selector_of items))) here
+          c.in_ok-add.ensures.ok refl c.in_ok-parted.ensures.exact
           c.loop-one.invariant.left;
     }
 
@@ -147,7 +158,7 @@ selectors-returns t c =
     let env = environment c.args.known.now in
     let items = c.items-one-items.result.now in
     record {
-      exact = loop.selectors_end env (list_items c.loop-one.parts) c.loop-one.reached (drop c.loop-one.one-index items)
+      exact = loop.done part_of (loop.selectors_in env) (list_items c.loop-one.parts) c.loop-one.reached (drop c.loop-one.one-index items)
           (rule.selectors env c.args.of (see.selectors_of c.args.selectors.now)) (drop_of_length-le items c.loop-one-test.false)
           (c.loop-one.invariant.left ∙ ap (λ xs. rule.selectors env c.args.of (see.selectors (map selector_of xs))) c.items-one-items.ensures.exact);
     }

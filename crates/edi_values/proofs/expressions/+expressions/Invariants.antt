@@ -5,18 +5,19 @@ use Rattle.edi_unit.specs.View.{argument_of, link_of, part_of}
 use Rattle.edi_static.specs.Expressions as rule
 use Rattle.edi_static.specs.Views.{environment, formal_of, formals, typed_of}
 use Rattle.edi_values.specs.Parts.{behind}
-use Rattle.edi_values.proofs.Behind.{behind_links, behind_parts, behind_arguments}
+use Rattle.edi_values.proofs.Behind.{behind_items, link_lists, part_lists, behind_arguments}
 use Rattle.edi_values.proofs.expressions.+expressions.Given as goal
 
 abbrev pub invariant-addends-loop-one : goal.invariant-addends-loop-one
 invariant-addends-loop-one l = record {
-  left : behind_links (map link_of (list_items l.links)) (rule.addends (environment l.known) l.of (addends (map addend_of (drop l.one-index l.one-items))))
+  left : behind_items link_lists (map link_of (list_items l.links)) (rule.addends (environment l.known) l.of (addends (map addend_of (drop l.one-index
+      l.one-items))))
       ≡ rule.addends (environment l.known) l.left (addends (map addend_of l.one-items));
 }
 
 abbrev pub invariant-multipliers-loop-one : goal.invariant-multipliers-loop-one
 invariant-multipliers-loop-one l = record {
-  left : behind_links (map link_of (list_items l.links))
+  left : behind_items link_lists (map link_of (list_items l.links))
       (rule.multipliers (environment l.known) l.of (multipliers (map multiplier_of (drop l.one-index l.one-items)))) ≡ rule.multipliers (environment l.known)
       l.left (multipliers (map multiplier_of l.one-items));
 }
@@ -37,7 +38,7 @@ invariant-arguments-loop-expr l = record {
 
 abbrev pub invariant-selectors-loop-one : goal.invariant-selectors-loop-one
 invariant-selectors-loop-one l = record {
-  left : behind_parts (map part_of (list_items l.parts))
+  left : behind_items part_lists (map part_of (list_items l.parts))
       (rule.selectors (environment l.known) l.reached (selectors (map selector_of (drop l.one-index l.one-items)))) ≡ rule.selectors (environment l.known) l.of
       (selectors (map selector_of l.one-items));
 }
