@@ -1,7 +1,7 @@
 -- What a page, a put and a flush leave.
 use Rattle.std.proofs.Common.{◌≡◌, ℕ, ◌<◌, ◌≤◌, inl, inr, Bool, true, false, List, [], ◌∷◌, ◌++◌, length, map, take, refl, sym, ◌∙◌, ap, subst, arith, set}
 use Rattle.std.proofs.Common.{eq-eqb}
-use Rattle.std.specs.Prelude.{Option, Some, None, IfSome, slice_get, drop}
+use Rattle.std.specs.Prelude.{Option, Some, None, IfSome, slice_get, drop, ⊤}
 use Rattle.std.specs.Option.{option_map}
 use Rattle.std.proofs.lemmas.Bool.{cases_eq, cases_lt, ne_eqb, lt-ltb, le-ltb}
 use Rattle.edi_told.specs.Told.{WhereTold}
@@ -57,6 +57,15 @@ first_only (p ∷ ps) q e =
     let h : Some p ≡ Some q = e in
     let same : p ≡ q = cc in
     rw (eq-eqb q.number p.number (ap (λ (x : Slot). x.number) (sym same))) h
+
+-- What a call leaves that uses block n, from what the disk showed: the drive is backed, this is shown now, each block is as it was or was
+-- put since, where this may have been put, and the block is the one used last.
+pub record Uses {D : Type 0} (contents : D → Option (List (List ℕ))) (count : D → ℕ) (a b : D) (ps new : List Slot) (n : ℕ)
+    (Shown : List (List ℕ) → List (List ℕ) → Type 0) (MayBePut : (ℕ → List ℕ → Bool) → Type 0) : Type 0 where
+  pub works : IsBacked contents count b new
+  pub shows : WhereTold (shown_by contents a ps) (shown_by contents b new) Shown
+  pub since : (base : List (List ℕ)) (was_put : ℕ → List ℕ → Bool) → MayBePut was_put → KeptBy contents base was_put a ps → KeptBy contents base was_put b new
+  pub order : numbers_of new ≡ after_use n (numbers_of ps)
 
 module _ {D : Type 0} (contents : D → Option (List (List ℕ))) (count faults : D → ℕ)
     (counted : (drive : D) → IfSome (contents drive) (λ blocks. length blocks ≡ count drive)) where
@@ -126,10 +135,10 @@ module _ {D : Type 0} (contents : D → Option (List (List ℕ))) (count faults 
         let lt = is_below in
         rw is (over_after b n ps p (slot_of_number n ps p there) (omega arith) low ∙ set_again (over b ps) n p.bytes (get-over_cached b ps n p low there))
 
-    pub page_hit_works : new ≡ without_block n ps ++ p ∷ [] → IsBacked contents count a new
+    page_hit_works : new ≡ without_block n ps ++ p ∷ [] → IsBacked contents count a new
     page_hit_works is = rw is (used_backed a ps n p backed (slot_of_number n ps p there) is_below (λ b e clean. backed.written b e n p there clean))
 
-    pub page_hit_gives : (into : List ℕ) → into ≡ p.bytes → new ≡ without_block n ps ++ p ∷ [] → WhereTold (shown_by contents a ps) (shown_by contents a new)
+    page_hit_gives : (into : List ℕ) → into ≡ p.bytes → new ≡ without_block n ps ++ p ∷ [] → WhereTold (shown_by contents a ps) (shown_by contents a new)
         (PageGives disk.Ok n into)
     page_hit_gives into is_into is = where_told (PageGives disk.Ok n into) (shown_by contents a ps) (shown_by contents a new) (λ s e.
         let t = shown_from contents a new s e in (
@@ -138,12 +147,17 @@ module _ {D : Type 0} (contents : D → Option (List (List ℕ))) (count faults 
           (sym t.2 ∙ page_hit_over is t.0 t.1, rw is_into (get-over_cached t.0 ps n p (below a ps t.0 backed t.1) there)),
         ))
 
-    pub page_hit_since : new ≡ without_block n ps ++ p ∷ [] → (base : List (List ℕ)) (was_put : ℕ → List ℕ → Bool) → KeptBy contents base was_put a ps
+    page_hit_since : new ≡ without_block n ps ++ p ∷ [] → (base : List (List ℕ)) (was_put : ℕ → List ℕ → Bool) → KeptBy contents base was_put a ps
         → KeptBy contents base was_put a new
     page_hit_since is = shows_same a ps new (page_hit_over is)
 
-    pub page_hit_order : new ≡ without_block n ps ++ p ∷ [] → numbers_of new ≡ after_use n (numbers_of ps)
-    page_hit_order is = rw is (order_cached n ps p p few there (slot_of_number n ps p there))
+    pub page_hit : (into : List ℕ) → into ≡ p.bytes → new ≡ without_block n ps ++ p ∷ [] → Uses contents count a a ps new n (PageGives disk.Ok n into) (λ was_put. ⊤)
+    page_hit into is_into is = record {
+      works = page_hit_works is;
+      shows = page_hit_gives into is_into is;
+      since = λ base was_put any. page_hit_since is base was_put;
+      order = rw is (order_cached n ps p p few there (slot_of_number n ps p there));
+    }
 
     module _ (from : List ℕ) (is : new ≡ without_block n ps ++ cached_slot n from true ∷ []) where
       put_hit_over : (b : List (List ℕ)) → contents a ≡ Some b → over b new ≡ set (over b ps) n from
@@ -152,19 +166,24 @@ module _ {D : Type 0} (contents : D → Option (List (List ℕ))) (count faults 
           let lt = is_below in
           rw is (over_after b n ps (cached_slot n from true) refl (omega arith) (below a ps b backed e))
 
-      pub put_hit_works : IsBacked contents count a new
+      put_hit_works : IsBacked contents count a new
       put_hit_works = rw is (used_backed a ps n (cached_slot n from true) backed refl is_below (λ b e clean. let no' : true ≡ false = clean in absurd (cc)))
 
-      pub put_hit_shows : WhereTold (shown_by contents a ps) (shown_by contents a new) (PutLeaves disk.Ok n from)
+      put_hit_shows : WhereTold (shown_by contents a ps) (shown_by contents a new) (PutLeaves disk.Ok n from)
       put_hit_shows = where_told (PutLeaves disk.Ok n from) (shown_by contents a ps) (shown_by contents a new) (λ s e.
           let t = shown_from contents a new s e in (over t.0 ps, shown_some contents a ps t.0 t.1, sym t.2 ∙ put_hit_over t.0 t.1))
 
-      pub put_hit_since : (base : List (List ℕ)) (was_put : ℕ → List ℕ → Bool) → was_put n from ≡ true → KeptBy contents base was_put a ps
+      put_hit_since : (base : List (List ℕ)) (was_put : ℕ → List ℕ → Bool) → was_put n from ≡ true → KeptBy contents base was_put a ps
           → KeptBy contents base was_put a new
       put_hit_since = shows_put a ps new n from is_below put_hit_over
 
-      pub put_hit_order : numbers_of new ≡ after_use n (numbers_of ps)
-      put_hit_order = rw is (order_cached n ps p (cached_slot n from true) few there refl)
+      pub put_hit : Uses contents count a a ps new n (PutLeaves disk.Ok n from) (λ was_put. was_put n from ≡ true)
+      put_hit = record {
+        works = put_hit_works;
+        shows = put_hit_shows;
+        since = put_hit_since;
+        order = rw is (order_cached n ps p (cached_slot n from true) few there refl);
+      }
 
   -- block n is not cached: no use of the list says that it is
   pub not_listed : (ps : List Slot) (n : ℕ) {P : Type 0} → slot_of n ps ≡ None → is_listed n (numbers_of ps) ≡ true → P
@@ -217,7 +236,7 @@ module _ {D : Type 0} (contents : D → Option (List (List ℕ))) (count faults 
         → IsBacked contents count b new
     taken_backed clean = rw united (used_backed b (with_room ps) n q (room_backed b ps wrote.backed) number lt_now clean)
 
-    pub taken_order : numbers_of new ≡ after_use n (numbers_of ps)
+    taken_order : numbers_of new ≡ after_use n (numbers_of ps)
     taken_order = rw new_is (order_absent n ps q none number)
 
     -- what was shown before
@@ -231,34 +250,40 @@ module _ {D : Type 0} (contents : D → Option (List (List ℕ))) (count faults 
       page_same : (blocks : List (List ℕ)) → contents b ≡ Some blocks → over blocks new ≡ over blocks ps
       page_same blocks e = taken_over blocks e ∙ rw bytes (set_again (over blocks ps) n into (shows_on blocks e))
 
-      pub page_works : IsBacked contents count b new
+      page_works : IsBacked contents count b new
       page_works = taken_backed (λ blocks e clean. on blocks e ∙ ap (λ (v : List ℕ). Some v) (sym bytes))
 
-      pub page_gives : WhereTold (shown_by contents a ps) (shown_by contents b new) (PageGives disk.Ok n into)
+      page_gives : WhereTold (shown_by contents a ps) (shown_by contents b new) (PageGives disk.Ok n into)
       page_gives = where_told (PageGives disk.Ok n into) (shown_by contents a ps) (shown_by contents b new) (λ s e.
           let t = shown_from contents b new s e in
           let f = before t.0 t.1 in
           (over f.0 ps, shown_some contents a ps f.0 f.1, (sym t.2 ∙ page_same t.0 t.1 ∙ f.2, rw (← f.2) (shows_on t.0 t.1))))
 
-      pub page_since : (base : List (List ℕ)) (was_put : ℕ → List ℕ → Bool) → KeptBy contents base was_put a ps → KeptBy contents base was_put b new
+      page_since : (base : List (List ℕ)) (was_put : ℕ → List ℕ → Bool) → KeptBy contents base was_put a ps → KeptBy contents base was_put b new
       page_since base was_put k = shows_same b ps new page_same base was_put (wrote.since base was_put k)
+
+      page_in : Uses contents count a b ps new n (PageGives disk.Ok n into) (λ was_put. ⊤)
+      page_in = record { works = page_works; shows = page_gives; since = λ base was_put any. page_since base was_put; order = taken_order }
 
     module _ (from : List ℕ) (bytes : q.bytes ≡ from) (unwritten : q.unwritten ≡ true) where
       put_over : (blocks : List (List ℕ)) → contents b ≡ Some blocks → over blocks new ≡ set (over blocks ps) n from
       put_over blocks e = rw (← bytes) (taken_over blocks e)
 
-      pub put_works : IsBacked contents count b new
+      put_works : IsBacked contents count b new
       put_works = taken_backed (λ blocks e clean. let no' : true ≡ false = sym unwritten ∙ clean in absurd (cc))
 
-      pub put_shows : WhereTold (shown_by contents a ps) (shown_by contents b new) (PutLeaves disk.Ok n from)
+      put_shows : WhereTold (shown_by contents a ps) (shown_by contents b new) (PutLeaves disk.Ok n from)
       put_shows = where_told (PutLeaves disk.Ok n from) (shown_by contents a ps) (shown_by contents b new) (λ s e.
           let t = shown_from contents b new s e in
           let f = before t.0 t.1 in
           (over f.0 ps, shown_some contents a ps f.0 f.1, sym t.2 ∙ put_over t.0 t.1 ∙ ap (λ (v : List (List ℕ)). set v n from) f.2))
 
-      pub put_since : (base : List (List ℕ)) (was_put : ℕ → List ℕ → Bool) → was_put n from ≡ true → KeptBy contents base was_put a ps
+      put_since : (base : List (List ℕ)) (was_put : ℕ → List ℕ → Bool) → was_put n from ≡ true → KeptBy contents base was_put a ps
           → KeptBy contents base was_put b new
       put_since base was_put is_put k = shows_put b ps new n from lt_now put_over base was_put is_put (wrote.since base was_put k)
+
+      pub put_in : Uses contents count a b ps new n (PutLeaves disk.Ok n from) (λ was_put. was_put n from ≡ true)
+      put_in = record { works = put_works; shows = put_shows; since = put_since; order = taken_order }
 
   -- a read, whatever it answers
   module _ (b c : D) (ps : List Slot) (n : ℕ) (into : List ℕ) (end : DriveEnd) (leaves : WhereTold (contents b) (contents c) (ReadLeaves end n into))
@@ -298,6 +323,13 @@ module _ {D : Type 0} (contents : D → Option (List (List ℕ))) (count faults 
         let both = subst (λ (v : DriveEnd). ReadLeaves v n into t.0 blocks) ok t.2 in
         rw both.0 both.1
 
+  -- and no block changes on the drive by it
+  pub read_only : (a b c : D) (ps mid : List Slot) (n : ℕ) (into : List ℕ) (end : DriveEnd) → mid ≡ ps → slot_of n ps ≡ None
+      → WhereTold (contents a) (contents b) (ChangesOnly (first_of_full (numbers_of mid))) → WhereTold (contents b) (contents c) (ReadLeaves end n into)
+      → count c ≡ count b → faults b ≤ faults c → WhereTold (contents a) (contents c) (ChangesOnly (driven_out n (numbers_of ps)))
+  read_only a b c ps mid n into end same none only leaves stays later =
+      taken_only a b c ps mid n same none only (old_is b c mid n into end leaves stays later)
+
   -- a block is read where there is room for it
   module _ (a b c : D) (mid : List Slot) (n : ℕ) (into : List ℕ) (end : DriveEnd) (written : Writes contents count faults mid a b)
       (leaves : WhereTold (contents b) (contents c) (ReadLeaves end n into)) (stays : count c ≡ count b) (later : faults b ≤ faults c) where
@@ -313,17 +345,8 @@ module _ {D : Type 0} (contents : D → Option (List (List ℕ))) (count faults 
       on_now : (blocks : List (List ℕ)) → contents c ≡ Some blocks → slice_get blocks n ≡ Some into
       on_now = read_on b c mid n into end leaves stays later ok
 
-      pub read_works : IsBacked contents count c new
-      read_works = page_works a c ps mid new n (cached_slot n into false) same lt none read_wrote first_now refl is into refl on_now
-
-      pub read_gives : WhereTold (shown_by contents a ps) (shown_by contents c new) (PageGives disk.Ok n into)
-      read_gives = page_gives a c ps mid new n (cached_slot n into false) same lt none read_wrote first_now refl is into refl on_now
-
-      pub read_since : (base : List (List ℕ)) (was_put : ℕ → List ℕ → Bool) → KeptBy contents base was_put a ps → KeptBy contents base was_put c new
-      read_since = page_since a c ps mid new n (cached_slot n into false) same lt none read_wrote first_now refl is into refl on_now
-
-      pub read_order : numbers_of new ≡ after_use n (numbers_of ps)
-      read_order = taken_order a c ps mid new n (cached_slot n into false) same lt none read_wrote first_now refl is
+      pub page_read : Uses contents count a c ps new n (PageGives disk.Ok n into) (λ was_put. ⊤)
+      page_read = page_in a c ps mid new n (cached_slot n into false) same lt none read_wrote first_now refl is into refl on_now
 
   -- all are written
   module _ (a b : D) (ps new : List Slot) (written : Writes contents count faults ps a b) (all : AllOn contents b ps) (is : new ≡ map settled_slot ps) where
