@@ -1,15 +1,11 @@
 //! Assignments and calls.
 #![tactic(auto, using(edi_phrases::proofs::Moves::no_memory))]
 
-ghost use Rattle.std.specs.Prelude.{◌≡◌, [], ◌∷◌, ◌<◌, length, IfOk, IfErr};
+ghost use Rattle.edi_phrases.specs.Prelude.{◌≡◌, [], ◌∷◌, ◌<◌, length, IfOk, IfErr, front, has, Passes, HaltsAt};
 ghost use Rattle.edi_tree.specs.View.{statement_of};
 ghost use Rattle.edi_tree.specs.Levels.{statement_elements};
 ghost use Rattle.edi_grammar.specs.Kinds as kind;
-ghost use Rattle.edi_grammar.specs.Kind.{front};
-ghost use Rattle.edi_grammar.specs.Parser.{has};
 ghost use Rattle.edi_grammar.specs.Rules as g;
-ghost use Rattle.edi_phrases.specs.Parses.{Passes};
-ghost use Rattle.edi_phrases.specs.Stopped.{HaltsAt};
 
 use crate::layers::{make_assignment, make_call, make_lone_call};
 use edi_expressions::{parse_args, parse_expr, parse_selectors};

@@ -2,19 +2,8 @@
 
 ghost use Rattle.std.specs.Prelude.{◌≡◌, Some, None, IfOk};
 ghost use Rattle.edi_tree.specs.Tree as tree;
-ghost use Rattle.edi_tree.specs.View.{
-  args_of,
-  branch_of,
-  branches_of,
-  condition_of,
-  conditions_of,
-  else_of,
-  expr_of,
-  list_of,
-  selectors_of,
-  statement_of,
-  statements_of,
-};
+ghost use Rattle.edi_tree.specs.View.{args_of, branch_of, branches_of, condition_of, conditions_of, else_of, expr_of, list_of, selectors_of, statement_of};
+ghost use Rattle.edi_tree.specs.View.{statements_of};
 ghost use Rattle.edi_statements.specs.Guards.{guarded};
 
 use edi_lex::Symbol;

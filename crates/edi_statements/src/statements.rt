@@ -1,17 +1,12 @@
 //! Statements, and lists of statements.
 #![tactic(auto, using(edi_phrases::proofs::Moves::no_memory))]
 
-ghost use Rattle.std.specs.Prelude.{◌≡◌, [], ◌∷◌, ◌<◌, ◌≤◌, true, false, length, IfOk, IfErr};
+ghost use Rattle.edi_phrases.specs.Prelude.{◌≡◌, [], ◌∷◌, ◌<◌, ◌≤◌, true, false, length, IfOk, IfErr, front, kind_of, has, is_word, Passes, HaltsAt};
 ghost use Rattle.edi_tree.specs.View.{branch_of, condition_of, conditions_of, else_of, list_of, statement_of, statements_of};
 ghost use Rattle.edi_tree.specs.Levels.{branch_elements, condition_elements, conditions_elements, else_elements, list_elements, statement_elements};
 ghost use Rattle.edi_tree.specs.Levels.{statements_elements};
 ghost use Rattle.edi_grammar.specs.Kinds as kind;
-ghost use Rattle.edi_grammar.specs.Kind.{front, kind_of};
-ghost use Rattle.edi_grammar.specs.Parser.{has};
 ghost use Rattle.edi_grammar.specs.Rules as g;
-ghost use Rattle.edi_phrases.specs.Words.{is_word};
-ghost use Rattle.edi_phrases.specs.Parses.{Passes};
-ghost use Rattle.edi_phrases.specs.Stopped.{HaltsAt};
 ghost use Rattle.edi_statements.specs.Guards.{is_guard};
 ghost use Rattle.edi_statements.specs.Lines.{front_line};
 

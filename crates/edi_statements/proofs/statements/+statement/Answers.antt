@@ -1,5 +1,4 @@
 use Rattle.std.proofs.Common.{rules, ◌∷◌, ◌∙◌, [], map, ap, refl, sym, arith, ◌≡◌, Some}
-use Rattle.std.proofs.lemmas.Result.{err_from_is_err_and}
 use Rattle.std.proofs.lemmas.Bool.{ne_eqb}
 use Rattle.edi_lex.specs.declared.symbol.Symbol.TheVariants as is
 use Rattle.edi_tree.specs.Spelled.{on, just}
@@ -13,7 +12,7 @@ use Rattle.edi_grammar.specs.Kind.{kind_of, front}
 use Rattle.edi_grammar.specs.Rules as g
 use Rattle.edi_grammar.specs.Edison.{edison}
 use Rattle.edi_phrases.specs.Words.{at_line}
-use Rattle.edi_phrases.proofs.Moves.{waits, over_mark, over_end, over_part, into, written, lacks, refused, halts}
+use Rattle.edi_phrases.proofs.Moves.{at_exit, waits, over_mark, over_end, over_part, into, written, lacks, refused, halts}
 use Rattle.edi_phrases.proofs.Opened.{over_front, open_front}
 use Rattle.edi_phrases.proofs.Fronts.{apart}
 use Rattle.edi_phrases.proofs.Pushes.{separated, separated_halts}
@@ -35,19 +34,18 @@ statement_skip : rule_at edison g.Statement kind.Skip ≡ Some (token kind.Skip 
 statement_skip = refl
 
 pub parse_condition-returns-in_err-expr-clause-halts : goal.parse_condition-returns-in_err-expr-clause-halts
-parse_condition-returns-in_err-expr-clause-halts t c = let p = err_from_is_err_and c.from_residual.result c.from_residual.ensures.1 in
-    rw (p.1, p.2) (halts (into (part g.Expr ∷ token kind.Do ∷ part g.StatementList ∷ []) (waits g.Condition _ _) (refl)) (omega arith)
-    c.in_err-expr.ensures.halts)
+parse_condition-returns-in_err-expr-clause-halts t c = at_exit _ c.from_residual.ensures.1 (halts (into
+    (part g.Expr ∷ token kind.Do ∷ part g.StatementList ∷ []) (waits g.Condition _ _) (refl)) (omega arith) c.in_err-expr.ensures.halts)
 
 pub parse_condition-returns-in_err-line-clause-halts : goal.parse_condition-returns-in_err-line-clause-halts
-parse_condition-returns-in_err-line-clause-halts t c = let p = err_from_is_err_and c.from_residual-in_err-line.result c.from_residual-in_err-line.ensures.1 in
-    rw (p.1, p.2) (lacks (over_part (into (part g.Expr ∷ token kind.Do ∷ part g.StatementList ∷ []) (waits g.Condition _ _) (refl)) c.in_ok-expr.ensures.passes
+parse_condition-returns-in_err-line-clause-halts t c = at_exit _ c.from_residual-in_err-line.ensures.1
+    (lacks (over_part (into (part g.Expr ∷ token kind.Do ∷ part g.StatementList ∷ []) (waits g.Condition _ _) (refl)) c.in_ok-expr.ensures.passes
     (omega arith)) c.in_err-line.ensures.none)
 
 pub parse_condition-returns-in_err-list-clause-halts : goal.parse_condition-returns-in_err-list-clause-halts
-parse_condition-returns-in_err-list-clause-halts t c = let p = err_from_is_err_and c.from_residual-in_err-list.result c.from_residual-in_err-list.ensures.1 in
-    rw (p.1, p.2) (halts (over_mark (on is.Do c.in_ok-line.line) (at_line is.Do c.in_ok-line.line)
-    (over_part (into (part g.Expr ∷ token kind.Do ∷ part g.StatementList ∷ []) (waits g.Condition _ _) (refl)) c.in_ok-expr.ensures.passes (omega arith))
+parse_condition-returns-in_err-list-clause-halts t c = at_exit _ c.from_residual-in_err-list.ensures.1
+    (halts (over_mark (on is.Do c.in_ok-line.line) (at_line is.Do c.in_ok-line.line) (over_part (into
+    (part g.Expr ∷ token kind.Do ∷ part g.StatementList ∷ []) (waits g.Condition _ _) (refl)) c.in_ok-expr.ensures.passes (omega arith))
     c.in_ok-line.ensures.found refl refl (refl, refl)) (omega arith) c.in_err-list.ensures.halts)
 
 pub parse_condition-returns-clause-passes : goal.parse_condition-returns-clause-passes
@@ -58,8 +56,8 @@ parse_condition-returns-clause-passes t c = written
     (λ es. ap (λ t. elements.condition_elements t es) (sym c.make_condition.ensures.seen))
 
 pub parse_else-returns-in_err-condition-clause-halts : goal.parse_else-returns-in_err-condition-clause-halts
-parse_else-returns-in_err-condition-clause-halts t c = let p = err_from_is_err_and c.from_residual.result c.from_residual.ensures.1 in
-    rw (p.1, p.2) (separated_halts g.Else g.Condition is.Else refl refl c.loop-behind_else.invariant.goes c.in-Some.ensures.found c.in_err-condition.ensures.halts)
+parse_else-returns-in_err-condition-clause-halts t c = at_exit _ c.from_residual.ensures.1 (separated_halts g.Else g.Condition is.Else refl refl
+    c.loop-behind_else.invariant.goes c.in-Some.ensures.found c.in_err-condition.ensures.halts)
 
 pub parse_else-loop-behind_else-preserved : goal.parse_else-loop-behind_else-preserved
 parse_else-loop-behind_else-preserved t c =
@@ -77,14 +75,13 @@ parse_else-returns-clause-passes t c = written
     (λ es. ap (λ l. elements.else_elements (view.else_list (map view.condition_of l)) es) (sym c.from_vec.ensures.exact))
 
 pub parse_conditions-returns-in_err-first-clause-halts : goal.parse_conditions-returns-in_err-first-clause-halts
-parse_conditions-returns-in_err-first-clause-halts t c = let p = err_from_is_err_and c.from_residual.result c.from_residual.ensures.1 in
-    rw (p.1, p.2) (halts (into (part g.Condition ∷ part g.Else ∷ []) (waits g.Conditions _ _) (refl)) (omega arith) c.in_err-first.ensures.halts)
+parse_conditions-returns-in_err-first-clause-halts t c = at_exit _ c.from_residual.ensures.1 (halts
+    (into (part g.Condition ∷ part g.Else ∷ []) (waits g.Conditions _ _) (refl)) (omega arith) c.in_err-first.ensures.halts)
 
 pub parse_conditions-returns-in_err-more-clause-halts : goal.parse_conditions-returns-in_err-more-clause-halts
-parse_conditions-returns-in_err-more-clause-halts t c = let p = err_from_is_err_and c.from_residual-in_err-more.result
-    c.from_residual-in_err-more.ensures.1 in
-    rw (p.1, p.2) (halts (over_part (into (part g.Condition ∷ part g.Else ∷ []) (waits g.Conditions _ _) (refl)) c.in_ok-first.ensures.passes (omega arith))
-    (omega arith) c.in_err-more.ensures.halts)
+parse_conditions-returns-in_err-more-clause-halts t c = at_exit _ c.from_residual-in_err-more.ensures.1
+    (halts (over_part (into (part g.Condition ∷ part g.Else ∷ []) (waits g.Conditions _ _) (refl)) c.in_ok-first.ensures.passes (omega arith)) (omega arith)
+    c.in_err-more.ensures.halts)
 
 pub parse_conditions-returns-clause-passes : goal.parse_conditions-returns-clause-passes
 parse_conditions-returns-clause-passes t c = written
@@ -92,21 +89,20 @@ parse_conditions-returns-clause-passes t c = written
     c.in_ok-more.ensures.passes (omega arith)) (λ es. ap (λ t. elements.conditions_elements t es) (sym c.make_conditions.ensures.seen))
 
 pub parse_guarded-returns-in_err-line-clause-halts : goal.parse_guarded-returns-in_err-line-clause-halts
-parse_guarded-returns-in_err-line-clause-halts t c = let p = err_from_is_err_and c.from_residual.result c.from_residual.ensures.1 in
-    rw (p.1, p.2) (refused (into (token (kind_of c.args.wanted.now) ∷ part g.Conditions ∷ token kind.End ∷ item.level_end ∷ []) (waits g.Statement _ _)
+parse_guarded-returns-in_err-line-clause-halts t c = at_exit _ c.from_residual.ensures.1 (refused (into
+    (token (kind_of c.args.wanted.now) ∷ part g.Conditions ∷ token kind.End ∷ item.level_end ∷ []) (waits g.Statement _ _)
     (ap (λ a. rule_at edison g.Statement a) c.requires.chosen ∙ guarded_rule c.args.wanted.now c.requires.guard))
     (guard_opens c.args.wanted.now c.requires.guard) (omega arith) c.in_err-line.ensures.none)
 
 pub parse_guarded-returns-in_err-conditions-clause-halts : goal.parse_guarded-returns-in_err-conditions-clause-halts
-parse_guarded-returns-in_err-conditions-clause-halts t c = let p = err_from_is_err_and c.from_residual-in_err-conditions.result
-    c.from_residual-in_err-conditions.ensures.1 in
-    rw (p.1, p.2) (halts (behind_guard c.args.wanted.now c.requires.guard c.in_ok-line.ensures.room c.in_ok-line.ensures.found) (omega arith)
+parse_guarded-returns-in_err-conditions-clause-halts t c = at_exit _ c.from_residual-in_err-conditions.ensures.1
+    (halts (behind_guard c.args.wanted.now c.requires.guard c.in_ok-line.ensures.room c.in_ok-line.ensures.found) (omega arith)
     c.in_err-conditions.ensures.halts)
 
 pub parse_guarded-returns-in_err-rest-clause-halts : goal.parse_guarded-returns-in_err-rest-clause-halts
-parse_guarded-returns-in_err-rest-clause-halts t c = let p = err_from_is_err_and c.from_residual-in_err-rest.result c.from_residual-in_err-rest.ensures.1 in
-    rw (p.1, p.2) (lacks (over_part (behind_guard c.args.wanted.now c.requires.guard c.in_ok-line.ensures.room c.in_ok-line.ensures.found)
-    c.in_ok-conditions.ensures.passes (omega arith)) c.in_err-rest.ensures.none)
+parse_guarded-returns-in_err-rest-clause-halts t c = at_exit _ c.from_residual-in_err-rest.ensures.1
+    (lacks (over_part (behind_guard c.args.wanted.now c.requires.guard c.in_ok-line.ensures.room c.in_ok-line.ensures.found) c.in_ok-conditions.ensures.passes
+    (omega arith)) c.in_err-rest.ensures.none)
 
 pub parse_guarded-returns-clause-passes : goal.parse_guarded-returns-clause-passes
 parse_guarded-returns-clause-passes t c = written
@@ -117,19 +113,18 @@ parse_guarded-returns-clause-passes t c = written
     ∙ ap (λ t. elements.statement_elements t es) (sym c.make_guarded.ensures.seen))
 
 pub parse_branch-returns-in_err-constant-clause-halts : goal.parse_branch-returns-in_err-constant-clause-halts
-parse_branch-returns-in_err-constant-clause-halts t c = let p = err_from_is_err_and c.from_residual.result c.from_residual.ensures.1 in
-    rw (p.1, p.2) (halts (into (part g.Constant ∷ token kind.Do ∷ part g.StatementList ∷ []) (waits g.Branch _ _) (refl)) (omega arith)
-    c.in_err-constant.ensures.halts)
+parse_branch-returns-in_err-constant-clause-halts t c = at_exit _ c.from_residual.ensures.1 (halts
+    (into (part g.Constant ∷ token kind.Do ∷ part g.StatementList ∷ []) (waits g.Branch _ _) (refl)) (omega arith) c.in_err-constant.ensures.halts)
 
 pub parse_branch-returns-in_err-line-clause-halts : goal.parse_branch-returns-in_err-line-clause-halts
-parse_branch-returns-in_err-line-clause-halts t c = let p = err_from_is_err_and c.from_residual-in_err-line.result c.from_residual-in_err-line.ensures.1 in
-    rw (p.1, p.2) (lacks (over_part (into (part g.Constant ∷ token kind.Do ∷ part g.StatementList ∷ []) (waits g.Branch _ _) (refl))
-    c.in_ok-constant.ensures.passes (omega arith)) c.in_err-line.ensures.none)
+parse_branch-returns-in_err-line-clause-halts t c = at_exit _ c.from_residual-in_err-line.ensures.1
+    (lacks (over_part (into (part g.Constant ∷ token kind.Do ∷ part g.StatementList ∷ []) (waits g.Branch _ _) (refl)) c.in_ok-constant.ensures.passes
+    (omega arith)) c.in_err-line.ensures.none)
 
 pub parse_branch-returns-in_err-list-clause-halts : goal.parse_branch-returns-in_err-list-clause-halts
-parse_branch-returns-in_err-list-clause-halts t c = let p = err_from_is_err_and c.from_residual-in_err-list.result c.from_residual-in_err-list.ensures.1 in
-    rw (p.1, p.2) (halts (over_mark (on is.Do c.in_ok-line.line) (at_line is.Do c.in_ok-line.line)
-    (over_part (into (part g.Constant ∷ token kind.Do ∷ part g.StatementList ∷ []) (waits g.Branch _ _) (refl)) c.in_ok-constant.ensures.passes (omega arith))
+parse_branch-returns-in_err-list-clause-halts t c = at_exit _ c.from_residual-in_err-list.ensures.1
+    (halts (over_mark (on is.Do c.in_ok-line.line) (at_line is.Do c.in_ok-line.line) (over_part (into
+    (part g.Constant ∷ token kind.Do ∷ part g.StatementList ∷ []) (waits g.Branch _ _) (refl)) c.in_ok-constant.ensures.passes (omega arith))
     c.in_ok-line.ensures.found refl refl (refl, refl)) (omega arith) c.in_err-list.ensures.halts)
 
 pub parse_branch-returns-clause-passes : goal.parse_branch-returns-clause-passes
@@ -143,8 +138,7 @@ pub parse_branch-returns-clause-closed : goal.parse_branch-returns-clause-closed
 parse_branch-returns-clause-closed t c = c.make_branch.ensures.closed ∙ c.line_in_front-end.ensures.exact
 
 pub parse_cobegin-returns-in_err-line-clause-halts : goal.parse_cobegin-returns-in_err-line-clause-halts
-parse_cobegin-returns-in_err-line-clause-halts t c = let p = err_from_is_err_and c.from_residual.result c.from_residual.ensures.1 in
-    rw (p.1, p.2) (refused (into (token kind.Cobegin ∷ part g.Branch ∷ part g.Branches ∷ item.level_end ∷ []) (waits g.Statement _ _)
+parse_cobegin-returns-in_err-line-clause-halts t c = at_exit _ c.from_residual.ensures.1 (refused (into (token kind.Cobegin ∷ part g.Branch ∷ part g.Branches ∷ item.level_end ∷ []) (waits g.Statement _ _)
     (let h1 = apart (front c.args.marks.now) kind.Skip (kind.Name ∷ kind.Val ∷ kind.If ∷ kind.While ∷ kind.When ∷ []) c.requires.chosen in
     let h2 = apart (front c.args.marks.now) kind.Name (kind.Val ∷ kind.If ∷ kind.While ∷ kind.When ∷ []) h1.1 in
     let h3 = apart (front c.args.marks.now) kind.Val (kind.If ∷ kind.While ∷ kind.When ∷ []) h2.1 in
@@ -153,10 +147,9 @@ parse_cobegin-returns-in_err-line-clause-halts t c = let p = err_from_is_err_and
     rw (h1.0, h2.0, h3.0, h4.0, h5.0, h6.0) refl)) refl (omega arith) c.in_err-line.ensures.none)
 
 pub parse_cobegin-returns-in_err-first-clause-halts : goal.parse_cobegin-returns-in_err-first-clause-halts
-parse_cobegin-returns-in_err-first-clause-halts t c = let p = err_from_is_err_and c.from_residual-in_err-first.result
-    c.from_residual-in_err-first.ensures.1 in
-    rw (p.1, p.2) (halts (open_front g.Statement is.Cobegin (on is.Cobegin c.in_ok-line.line) statement_cobegin (omega (arith, c.in_ok-line.ensures.room))
-    (refl, refl) (waits g.Statement _ _) c.in_ok-line.ensures.found) (omega arith) c.in_err-first.ensures.halts)
+parse_cobegin-returns-in_err-first-clause-halts t c = at_exit _ c.from_residual-in_err-first.ensures.1
+    (halts (open_front g.Statement is.Cobegin (on is.Cobegin c.in_ok-line.line) statement_cobegin (omega (arith, c.in_ok-line.ensures.room)) (refl, refl)
+    (waits g.Statement _ _) c.in_ok-line.ensures.found) (omega arith) c.in_err-first.ensures.halts)
 
 pub parse_cobegin-loop-behind_also-init : goal.parse_cobegin-loop-behind_also-init
 parse_cobegin-loop-behind_also-init t c =
@@ -171,9 +164,8 @@ parse_cobegin-loop-behind_also-init t c =
     }
 
 pub parse_cobegin-returns-in_err-branch-clause-halts : goal.parse_cobegin-returns-in_err-branch-clause-halts
-parse_cobegin-returns-in_err-branch-clause-halts t c = let p = err_from_is_err_and c.from_residual-in_err-branch.result
-    c.from_residual-in_err-branch.ensures.1 in
-    rw (p.1, p.2) (halts (over_front g.Branches is.Also (on is.Also c.in-Some.field-0-0) branches_also refl (refl, refl) (c.loop-behind_also.invariant.goes)
+parse_cobegin-returns-in_err-branch-clause-halts t c = at_exit _ c.from_residual-in_err-branch.ensures.1
+    (halts (over_front g.Branches is.Also (on is.Also c.in-Some.field-0-0) branches_also refl (refl, refl) (c.loop-behind_also.invariant.goes)
     c.in-Some.ensures.found) (omega arith) c.in_err-branch.ensures.halts)
 
 pub parse_cobegin-loop-behind_also-preserved : goal.parse_cobegin-loop-behind_also-preserved
@@ -190,9 +182,8 @@ parse_cobegin-loop-behind_also-preserved t c =
     }
 
 pub parse_cobegin-returns-in_err-behind_end-clause-halts : goal.parse_cobegin-returns-in_err-behind_end-clause-halts
-parse_cobegin-returns-in_err-behind_end-clause-halts t c = let p = err_from_is_err_and c.from_residual-in_err-behind_end.result
-    c.from_residual-in_err-behind_end.ensures.1 in
-    rw (p.1, p.2) (lacks (into (token kind.End ∷ []) (c.loop-behind_also.invariant.goes) (rw (ne_eqb (front _) kind.Also c.in_default.ensures.none) refl))
+parse_cobegin-returns-in_err-behind_end-clause-halts t c = at_exit _ c.from_residual-in_err-behind_end.ensures.1
+    (lacks (into (token kind.End ∷ []) (c.loop-behind_also.invariant.goes) (rw (ne_eqb (front _) kind.Also c.in_default.ensures.none) refl))
     c.in_err-behind_end.ensures.none)
 
 pub parse_cobegin-returns-clause-passes : goal.parse_cobegin-returns-clause-passes
@@ -211,9 +202,8 @@ parse_statement-returns-in-Some-clause-passes t c = written
     (λ es. ap (λ t. elements.statement_elements t es) (sym c.make_skip.ensures.seen))
 
 pub parse_statements-returns-in_err-statement-clause-halts : goal.parse_statements-returns-in_err-statement-clause-halts
-parse_statements-returns-in_err-statement-clause-halts t c = let p = err_from_is_err_and c.from_residual.result c.from_residual.ensures.1 in
-    rw (p.1, p.2) (separated_halts g.Statements g.Statement is.Semicolon refl refl c.loop-behind_semicolon.invariant.goes c.in-Some.ensures.found
-    c.in_err-statement.ensures.halts)
+parse_statements-returns-in_err-statement-clause-halts t c = at_exit _ c.from_residual.ensures.1 (separated_halts g.Statements g.Statement is.Semicolon refl
+    refl c.loop-behind_semicolon.invariant.goes c.in-Some.ensures.found c.in_err-statement.ensures.halts)
 
 pub parse_statements-loop-behind_semicolon-preserved : goal.parse_statements-loop-behind_semicolon-preserved
 parse_statements-loop-behind_semicolon-preserved t c =
@@ -231,13 +221,13 @@ parse_statements-returns-clause-passes t c = written
     (λ es. ap (λ l. elements.statements_elements (view.statements (map view.statement_of l)) es) (sym c.from_vec.ensures.exact))
 
 pub parse_list-returns-in_err-first-clause-halts : goal.parse_list-returns-in_err-first-clause-halts
-parse_list-returns-in_err-first-clause-halts t c = let p = err_from_is_err_and c.from_residual.result c.from_residual.ensures.1 in
-    rw (p.1, p.2) (halts (into (part g.Statement ∷ part g.Statements ∷ []) (waits g.StatementList _ _) (refl)) (omega arith) c.in_err-first.ensures.halts)
+parse_list-returns-in_err-first-clause-halts t c = at_exit _ c.from_residual.ensures.1 (halts (into (part g.Statement ∷ part g.Statements ∷ [])
+    (waits g.StatementList _ _) (refl)) (omega arith) c.in_err-first.ensures.halts)
 
 pub parse_list-returns-in_err-more-clause-halts : goal.parse_list-returns-in_err-more-clause-halts
-parse_list-returns-in_err-more-clause-halts t c = let p = err_from_is_err_and c.from_residual-in_err-more.result c.from_residual-in_err-more.ensures.1 in
-    rw (p.1, p.2) (halts (over_part (into (part g.Statement ∷ part g.Statements ∷ []) (waits g.StatementList _ _) (refl)) c.in_ok-first.ensures.passes
-    (omega arith)) (omega arith) c.in_err-more.ensures.halts)
+parse_list-returns-in_err-more-clause-halts t c = at_exit _ c.from_residual-in_err-more.ensures.1 (halts
+    (over_part (into (part g.Statement ∷ part g.Statements ∷ []) (waits g.StatementList _ _) (refl)) c.in_ok-first.ensures.passes (omega arith)) (omega arith)
+    c.in_err-more.ensures.halts)
 
 pub parse_list-returns-clause-passes : goal.parse_list-returns-clause-passes
 parse_list-returns-clause-passes t c = written
