@@ -55,6 +55,14 @@ least [] k = omega arith
 least (mark s ∷ more) k = least_with more (opens s.symbol) k (least more)
 least (level_end ∷ more) k = le-max_left k (greatest_level (one_less k) more)
 
+-- in front of any others, what a part spells opens so many levels at once
+abbrev Reaches : (List Element → List Element) → ℕ → Type 0
+Reaches part depth = (k : ℕ) (more : List Element) → greatest_level k (part more) ≡ max (k + depth) (greatest_level k more)
+
+-- or none
+abbrev Stays : (List Element → List Element) → Type 0
+Stays part = (k : ℕ) (more : List Element) → greatest_level k (part more) ≡ greatest_level k more
+
 stays_relation : (k : ℕ) (r : Relation) → with_symbol k (relation_symbol r) ≡ k
 stays_relation k relation.Equal = refl
 stays_relation k relation.NotEqual = refl
@@ -75,41 +83,36 @@ stays_multiplication k multiplication.Div = refl
 stays_multiplication k multiplication.Mod = refl
 stays_multiplication k multiplication.And = refl
 
-names_greatest : (x : Names) (k : ℕ) (more : List Element) → greatest_level k (names_elements x more) ≡ greatest_level k more
+names_greatest : (x : Names) → Stays (names_elements x)
 names_greatest no_name k more = refl
 names_greatest (next_name n ns) k more = rw (names_greatest ns k more) refl
 
-constant_greatest : (x : Constant) (k : ℕ) (more : List Element) → greatest_level k (constant_elements x more) ≡ max (k + constant_depth x)
-    (greatest_level k more)
+constant_greatest : (x : Constant) → Reaches (constant_elements x) (constant_depth x)
 constant_greatest (constant.Numeral v) k more = grind (arith, least more k)
 constant_greatest (constant.Char c) k more = grind (arith, least more k)
 constant_greatest (constant.Name n None) k more = grind (arith, least more k)
 constant_greatest (constant.Name n (Some v)) k more = grind (arith, least more k)
 
-const_decl_greatest : (x : ConstDecl) (k : ℕ) (more : List Element) → greatest_level k (const_decl_elements x more) ≡ max (k + const_decl_depth x)
-    (greatest_level k more)
+const_decl_greatest : (x : ConstDecl) → Reaches (const_decl_elements x) (const_decl_depth x)
 const_decl_greatest d k more = let h1 = constant_greatest d.constant k more in grind (arith, h1, least more k)
 
-const_decls_greatest : (x : ConstDecls) (k : ℕ) (more : List Element) → greatest_level k (const_decls_elements x more) ≡ max (k + const_decls_depth x)
-    (greatest_level k more)
+const_decls_greatest : (x : ConstDecls) → Reaches (const_decls_elements x) (const_decls_depth x)
 const_decls_greatest no_const_decl k more = grind (arith, least more k)
 const_decls_greatest (next_const_decl d ds) k more = let h1 = const_decl_greatest d k (const_decls_elements ds more) in
     let h2 = const_decls_greatest ds k more in grind (arith, h1, h2, least more k)
 
-const_list_greatest : (x : ConstList) (k : ℕ) (more : List Element) → greatest_level k (const_list_elements x more) ≡ max (k + const_list_depth x)
-    (greatest_level k more)
+const_list_greatest : (x : ConstList) → Reaches (const_list_elements x) (const_list_depth x)
 const_list_greatest (const_list d ds) k more = let h1 = const_decl_greatest d k (const_decls_elements ds more) in let h2 = const_decls_greatest ds k more in
     grind (arith, h1, h2, least more k)
 
-group_greatest : (x : Group) (k : ℕ) (more : List Element) → greatest_level k (group_elements x more) ≡ greatest_level k more
+group_greatest : (x : Group) → Stays (group_elements x)
 group_greatest (group n ns t) k more = rw (names_greatest ns k (word is.Colon ∷ named t ∷ more)) refl
 
-groups_greatest : (x : Groups) (k : ℕ) (more : List Element) → greatest_level k (groups_elements x more) ≡ greatest_level k more
+groups_greatest : (x : Groups) → Stays (groups_elements x)
 groups_greatest no_group k more = refl
 groups_greatest (next_group g gs) k more = rw (group_greatest g k (groups_elements gs more), groups_greatest gs k more) refl
 
-type_decl_greatest : (x : TypeDecl) (k : ℕ) (more : List Element) → greatest_level k (type_decl_elements x more) ≡ max (k + type_decl_depth x)
-    (greatest_level k more)
+type_decl_greatest : (x : TypeDecl) → Reaches (type_decl_elements x) (type_decl_depth x)
 type_decl_greatest (enum_decl n m ms) k more = let h1 = names_greatest ms (suc k) (word is.Close ∷ level_end ∷ more) in grind (arith, h1, least more k)
 type_decl_greatest (record_decl n g gs) k more = let h1 = group_greatest g (suc k) (groups_elements gs (word is.Close ∷ level_end ∷ more)) in
     let h2 = groups_greatest gs (suc k) (word is.Close ∷ level_end ∷ more) in grind (arith, h1, h2, least more k)
@@ -119,10 +122,10 @@ type_decl_greatest (array_decl n line lower upper e) k more = let h1 = constant_
     grind (arith, h1, h2, least more k)
 type_decl_greatest (set_decl n b) k more = grind (arith, least more k)
 
-var_list_greatest : (x : VarList) (k : ℕ) (more : List Element) → greatest_level k (var_list_elements x more) ≡ greatest_level k more
+var_list_greatest : (x : VarList) → Stays (var_list_elements x)
 var_list_greatest (var_list g gs) k more = rw (group_greatest g k (groups_elements gs more), groups_greatest gs k more) refl
 
-result_greatest : (x : Option Name) (k : ℕ) (more : List Element) → greatest_level k (result_elements x more) ≡ greatest_level k more
+result_greatest : (x : Option Name) → Stays (result_elements x)
 result_greatest None k more = refl
 result_greatest (Some n) k more = refl
 
@@ -135,74 +138,69 @@ mutual
   heading_greatest (heading n ps r) k more = let h1 = params_greatest ps (suc k) (result_elements r more) in let h2 = result_greatest r (suc k) more in
       grind (arith, h1, h2, least more (suc k))
 
-  params_greatest : (x : Params) (k : ℕ) (more : List Element) → greatest_level k (params_elements x more) ≡ max (k + params_depth x) (greatest_level k more)
+  params_greatest : (x : Params) → Reaches (params_elements x) (params_depth x)
   params_greatest no_params k more = grind (arith, least more k)
   params_greatest (params p ps) k more = let h1 = param_greatest p (suc k) (more_params_elements ps (word is.Close ∷ level_end ∷ more)) in
       let h2 = more_params_greatest ps (suc k) (word is.Close ∷ level_end ∷ more) in grind (arith, h1, h2, least more k)
 
-  more_params_greatest : (x : MoreParams) (k : ℕ) (more : List Element) → greatest_level k (more_params_elements x more) ≡ max (k + more_params_depth x)
-      (greatest_level k more)
+  more_params_greatest : (x : MoreParams) → Reaches (more_params_elements x) (more_params_depth x)
   more_params_greatest no_param k more = grind (arith, least more k)
   more_params_greatest (next_param p ps) k more = let h1 = param_greatest p k (more_params_elements ps more) in let h2 = more_params_greatest ps k more in
       grind (arith, h1, h2, least more k)
 
-  param_greatest : (x : Param) (k : ℕ) (more : List Element) → greatest_level k (param_elements x more) ≡ max (k + param_depth x) (greatest_level k more)
+  param_greatest : (x : Param) → Reaches (param_elements x) (param_depth x)
   param_greatest (value_param g) k more = let h1 = group_greatest g k more in grind (arith, h1, least more k)
   param_greatest (var_param g) k more = let h1 = group_greatest g k more in grind (arith, h1, least more k)
   param_greatest (procedure_param h) k more = let h1 = heading_greatest h k (level_end ∷ more) in grind (arith, h1, heading_opens h, least more k)
 
-sign_greatest : (x : Option Sign) (k : ℕ) (more : List Element) → greatest_level k (sign_elements x more) ≡ greatest_level k more
+sign_greatest : (x : Option Sign) → Stays (sign_elements x)
 sign_greatest None k more = refl
 sign_greatest (Some (sign.Plus line)) k more = refl
 sign_greatest (Some (sign.Minus line)) k more = refl
 
-root_greatest : (x : Root) (k : ℕ) (more : List Element) → greatest_level k (root_elements x more) ≡ greatest_level k more
+root_greatest : (x : Root) → Stays (root_elements x)
 root_greatest (root.Name n) k more = refl
 root_greatest (root.Val n) k more = refl
 
 mutual
-  expr_greatest : (x : Expr) (k : ℕ) (more : List Element) → greatest_level k (expr_elements x more) ≡ max (k + expr_depth x) (greatest_level k more)
+  expr_greatest : (x : Expr) → Reaches (expr_elements x) (expr_depth x)
   expr_greatest (expr s c) k more = let h1 = simple_greatest s k (comparison_elements c more) in let h2 = comparison_greatest c k more in
       grind (arith, h1, h2, least more k)
 
-  comparison_greatest : (x : Comparison) (k : ℕ) (more : List Element) → greatest_level k (comparison_elements x more) ≡ max (k + comparison_depth x)
-      (greatest_level k more)
+  comparison_greatest : (x : Comparison) → Reaches (comparison_elements x) (comparison_depth x)
   comparison_greatest no_comparison k more = grind (arith, least more k)
   comparison_greatest (compared r line s) k more = rw (stays_relation k r) (let h1 = simple_greatest s k more in grind (arith, h1, least more k))
 
-  exprs_greatest : (x : Exprs) (k : ℕ) (more : List Element) → greatest_level k (exprs_elements x more) ≡ max (k + exprs_depth x) (greatest_level k more)
+  exprs_greatest : (x : Exprs) → Reaches (exprs_elements x) (exprs_depth x)
   exprs_greatest no_expr k more = grind (arith, least more k)
   exprs_greatest (next_expr e es) k more = let h1 = expr_greatest e k (exprs_elements es more) in let h2 = exprs_greatest es k more in
       grind (arith, h1, h2, least more k)
 
-  simple_greatest : (x : Simple) (k : ℕ) (more : List Element) → greatest_level k (simple_elements x more) ≡ max (k + simple_depth x) (greatest_level k more)
+  simple_greatest : (x : Simple) → Reaches (simple_elements x) (simple_depth x)
   simple_greatest (simple s t ts) k more = let h1 = sign_greatest s k (term_elements t (addends_elements ts more)) in
       let h2 = term_greatest t k (addends_elements ts more) in let h3 = addends_greatest ts k more in grind (arith, h1, h2, h3, least more k)
 
-  addend_greatest : (x : Addend) (k : ℕ) (more : List Element) → greatest_level k (addend_elements x more) ≡ max (k + addend_depth x) (greatest_level k more)
+  addend_greatest : (x : Addend) → Reaches (addend_elements x) (addend_depth x)
   addend_greatest (addend o line t) k more = rw (stays_addition k o) (let h1 = term_greatest t k more in grind (arith, h1, least more k))
 
-  addends_greatest : (x : Addends) (k : ℕ) (more : List Element) → greatest_level k (addends_elements x more) ≡ max (k + addends_depth x)
-      (greatest_level k more)
+  addends_greatest : (x : Addends) → Reaches (addends_elements x) (addends_depth x)
   addends_greatest no_addend k more = grind (arith, least more k)
   addends_greatest (next_addend t ts) k more = let h1 = addend_greatest t k (addends_elements ts more) in let h2 = addends_greatest ts k more in
       grind (arith, h1, h2, least more k)
 
-  term_greatest : (x : Term) (k : ℕ) (more : List Element) → greatest_level k (term_elements x more) ≡ max (k + term_depth x) (greatest_level k more)
+  term_greatest : (x : Term) → Reaches (term_elements x) (term_depth x)
   term_greatest (term f fs) k more = let h1 = factor_greatest f k (multipliers_elements fs more) in let h2 = multipliers_greatest fs k more in
       grind (arith, h1, h2, least more k)
 
-  multiplier_greatest : (x : Multiplier) (k : ℕ) (more : List Element) → greatest_level k (multiplier_elements x more) ≡ max (k + multiplier_depth x)
-      (greatest_level k more)
+  multiplier_greatest : (x : Multiplier) → Reaches (multiplier_elements x) (multiplier_depth x)
   multiplier_greatest (multiplier o line f) k more = rw (stays_multiplication k o) (let h1 = factor_greatest f k more in grind (arith, h1, least more k))
 
-  multipliers_greatest : (x : Multipliers) (k : ℕ) (more : List Element) → greatest_level k (multipliers_elements x more) ≡ max (k + multipliers_depth x)
-      (greatest_level k more)
+  multipliers_greatest : (x : Multipliers) → Reaches (multipliers_elements x) (multipliers_depth x)
   multipliers_greatest no_multiplier k more = grind (arith, least more k)
   multipliers_greatest (next_multiplier f fs) k more = let h1 = multiplier_greatest f k (multipliers_elements fs more) in
       let h2 = multipliers_greatest fs k more in grind (arith, h1, h2, least more k)
 
-  factor_greatest : (x : Factor) (k : ℕ) (more : List Element) → greatest_level k (factor_elements x more) ≡ max (k + factor_depth x) (greatest_level k more)
+  factor_greatest : (x : Factor) → Reaches (factor_elements x) (factor_depth x)
   factor_greatest (numeral v) k more = grind (arith, least more k)
   factor_greatest (string s) k more = grind (arith, least more k)
   factor_greatest (not_factor line f) k more = let h1 = factor_greatest f (suc k) (level_end ∷ more) in grind (arith, h1, least more k)
@@ -210,44 +208,38 @@ mutual
   factor_greatest (call_factor n a) k more = let h1 = args_greatest a k more in grind (arith, h1, least more k)
   factor_greatest (variable_factor v) k more = let h1 = variable_greatest v k more in grind (arith, h1, least more k)
 
-  args_greatest : (x : Args) (k : ℕ) (more : List Element) → greatest_level k (args_elements x more) ≡ max (k + args_depth x) (greatest_level k more)
+  args_greatest : (x : Args) → Reaches (args_elements x) (args_depth x)
   args_greatest (args e es) k more = let h1 = expr_greatest e (suc k) (exprs_elements es (word is.Close ∷ level_end ∷ more)) in
       let h2 = exprs_greatest es (suc k) (word is.Close ∷ level_end ∷ more) in grind (arith, h1, h2, least more k)
 
-  variable_greatest : (x : Variable) (k : ℕ) (more : List Element) → greatest_level k (variable_elements x more) ≡ max (k + variable_depth x)
-      (greatest_level k more)
+  variable_greatest : (x : Variable) → Reaches (variable_elements x) (variable_depth x)
   variable_greatest (variable r ss) k more = let h1 = root_greatest r k (selectors_elements ss more) in let h2 = selectors_greatest ss k more in
       grind (arith, h1, h2, least more k)
 
-  selector_greatest : (x : Selector) (k : ℕ) (more : List Element) → greatest_level k (selector_elements x more) ≡ max (k + selector_depth x)
-      (greatest_level k more)
+  selector_greatest : (x : Selector) → Reaches (selector_elements x) (selector_depth x)
   selector_greatest (field line n) k more = grind (arith, least more k)
   selector_greatest (index line e) k more = let h1 = expr_greatest e (suc k) (word is.CloseBracket ∷ level_end ∷ more) in grind (arith, h1, least more k)
 
-  selectors_greatest : (x : Selectors) (k : ℕ) (more : List Element) → greatest_level k (selectors_elements x more) ≡ max (k + selectors_depth x)
-      (greatest_level k more)
+  selectors_greatest : (x : Selectors) → Reaches (selectors_elements x) (selectors_depth x)
   selectors_greatest no_selector k more = grind (arith, least more k)
   selectors_greatest (next_selector s ss) k more = let h1 = selector_greatest s k (selectors_elements ss more) in let h2 = selectors_greatest ss k more in
       grind (arith, h1, h2, least more k)
 
-optional_args_greatest : (x : Option Args) (k : ℕ) (more : List Element) → greatest_level k (optional_args_elements x more) ≡ max (k + optional_args_depth x)
-    (greatest_level k more)
+optional_args_greatest : (x : Option Args) → Reaches (optional_args_elements x) (optional_args_depth x)
 optional_args_greatest None k more = grind (arith, least more k)
 optional_args_greatest (Some a) k more = let h1 = args_greatest a k more in grind (arith, h1, least more k)
 
 mutual
-  list_greatest : (x : StatementList) (k : ℕ) (more : List Element) → greatest_level k (list_elements x more) ≡ max (k + list_depth x) (greatest_level k more)
+  list_greatest : (x : StatementList) → Reaches (list_elements x) (list_depth x)
   list_greatest (list s ss) k more = let h1 = statement_greatest s k (statements_elements ss more) in let h2 = statements_greatest ss k more in
       grind (arith, h1, h2, least more k)
 
-  statements_greatest : (x : Statements) (k : ℕ) (more : List Element) → greatest_level k (statements_elements x more) ≡ max (k + statements_depth x)
-      (greatest_level k more)
+  statements_greatest : (x : Statements) → Reaches (statements_elements x) (statements_depth x)
   statements_greatest no_statement k more = grind (arith, least more k)
   statements_greatest (next_statement s ss) k more = let h1 = statement_greatest s k (statements_elements ss more) in
       let h2 = statements_greatest ss k more in grind (arith, h1, h2, least more k)
 
-  statement_greatest : (x : Statement) (k : ℕ) (more : List Element) → greatest_level k (statement_elements x more) ≡ max (k + statement_depth x)
-      (greatest_level k more)
+  statement_greatest : (x : Statement) → Reaches (statement_elements x) (statement_depth x)
   statement_greatest skip k more = grind (arith, least more k)
   statement_greatest (assignment v line e) k more = let h1 = variable_greatest v k (kept is.Becomes line ∷ expr_elements e more) in
       let h2 = expr_greatest e k more in grind (arith, h1, h2, least more k)
@@ -259,22 +251,20 @@ mutual
   statement_greatest (cobegin line b bs) k more = let h1 = branch_greatest b (suc k) (branches_elements bs more) in let h2 = branches_greatest bs k more in
       grind (arith, h1, h2, least more k)
 
-  conditions_greatest : (x : Conditions) (k : ℕ) (more : List Element) → greatest_level k (conditions_elements x more) ≡ max (k + conditions_depth x)
-      (greatest_level k more)
+  conditions_greatest : (x : Conditions) → Reaches (conditions_elements x) (conditions_depth x)
   conditions_greatest (conditions c cs) k more = let h1 = condition_greatest c k (else_elements cs more) in let h2 = else_greatest cs k more in
       grind (arith, h1, h2, least more k)
 
-  condition_greatest : (x : Condition) (k : ℕ) (more : List Element) → greatest_level k (condition_elements x more) ≡ max (k + condition_depth x)
-      (greatest_level k more)
+  condition_greatest : (x : Condition) → Reaches (condition_elements x) (condition_depth x)
   condition_greatest (condition e line l) k more = let h1 = expr_greatest e k (kept is.Do line ∷ list_elements l more) in let h2 = list_greatest l k more in
       grind (arith, h1, h2, least more k)
 
-  else_greatest : (x : Else) (k : ℕ) (more : List Element) → greatest_level k (else_elements x more) ≡ max (k + else_depth x) (greatest_level k more)
+  else_greatest : (x : Else) → Reaches (else_elements x) (else_depth x)
   else_greatest no_else k more = grind (arith, least more k)
   else_greatest (next_else c cs) k more = let h1 = condition_greatest c k (else_elements cs more) in let h2 = else_greatest cs k more in
       grind (arith, h1, h2, least more k)
 
-  branch_greatest : (x : Branch) (k : ℕ) (more : List Element) → greatest_level k (branch_elements x more) ≡ max (k + branch_depth x) (greatest_level k more)
+  branch_greatest : (x : Branch) → Reaches (branch_elements x) (branch_depth x)
   branch_greatest (branch c line l) k more = let h1 = constant_greatest c k (kept is.Do line ∷ list_elements l more) in let h2 = list_greatest l k more in
       grind (arith, h1, h2, least more k)
 
@@ -285,14 +275,13 @@ mutual
       grind (arith, h1, h2, least more k)
 
 mutual
-  procedure_greatest : (x : Procedure) (k : ℕ) (more : List Element) → greatest_level k (procedure_elements x more) ≡ max (k + procedure_depth x)
-      (greatest_level k more)
+  procedure_greatest : (x : Procedure) → Reaches (procedure_elements x) (procedure_depth x)
   procedure_greatest (procedure h ds l end) k more = let h1 = heading_greatest h k
       (declarations_elements ds (word is.Begin ∷ list_elements l (kept is.End end ∷ level_end ∷ more))) in
       let h2 = declarations_greatest ds (suc k) (word is.Begin ∷ list_elements l (kept is.End end ∷ level_end ∷ more)) in
       let h3 = list_greatest l (suc k) (kept is.End end ∷ level_end ∷ more) in grind (arith, h1, h2, h3, least more k)
 
-  item_greatest : (x : Item) (k : ℕ) (more : List Element) → greatest_level k (item_elements x more) ≡ max (k + item_depth x) (greatest_level k more)
+  item_greatest : (x : Item) → Reaches (item_elements x) (item_depth x)
   item_greatest (const_item l) k more = let h1 = const_list_greatest l k more in grind (arith, h1, least more k)
   item_greatest (type_item d) k more = let h1 = type_decl_greatest d k more in grind (arith, h1, least more k)
   item_greatest (var_item l) k more = let h1 = var_list_greatest l k more in grind (arith, h1, least more k)
@@ -300,42 +289,39 @@ mutual
   item_greatest (pre_item h) k more = let h1 = heading_greatest h k (level_end ∷ more) in grind (arith, h1, heading_opens h, least more k)
   item_greatest (post_item p) k more = let h1 = procedure_greatest p k more in grind (arith, h1, least more k)
 
-  module_greatest : (x : Module) (k : ℕ) (more : List Element) → greatest_level k (module_elements x more) ≡ max (k + module_depth x) (greatest_level k more)
+  module_greatest : (x : Module) → Reaches (module_elements x) (module_depth x)
   module_greatest (module_with ms l) k more = let h1 = members_greatest ms (suc k) (word is.Begin ∷ list_elements l (word is.End ∷ level_end ∷ more)) in
       let h2 = list_greatest l (suc k) (word is.End ∷ level_end ∷ more) in grind (arith, h1, h2, least more k)
 
-  member_greatest : (x : Member) (k : ℕ) (more : List Element) → greatest_level k (member_elements x more) ≡ max (k + member_depth x) (greatest_level k more)
+  member_greatest : (x : Member) → Reaches (member_elements x) (member_depth x)
   member_greatest (item_member i) k more = let h1 = item_greatest i k more in grind (arith, h1, least more k)
   member_greatest (exported_member i) k more = let h1 = item_greatest i k more in grind (arith, h1, least more k)
   member_greatest (module_member m) k more = let h1 = module_greatest m k more in grind (arith, h1, least more k)
 
-  members_greatest : (x : Members) (k : ℕ) (more : List Element) → greatest_level k (members_elements x more) ≡ max (k + members_depth x)
-      (greatest_level k more)
+  members_greatest : (x : Members) → Reaches (members_elements x) (members_depth x)
   members_greatest no_member k more = grind (arith, least more k)
   members_greatest (next_member m ms) k more = let h1 = member_greatest m k (members_elements ms more) in let h2 = members_greatest ms k more in
       grind (arith, h1, h2, least more k)
 
-  declaration_greatest : (x : Declaration) (k : ℕ) (more : List Element) → greatest_level k (declaration_elements x more) ≡ max (k + declaration_depth x)
-      (greatest_level k more)
+  declaration_greatest : (x : Declaration) → Reaches (declaration_elements x) (declaration_depth x)
   declaration_greatest (item_declaration i) k more = let h1 = item_greatest i k more in grind (arith, h1, least more k)
   declaration_greatest (module_declaration m) k more = let h1 = module_greatest m k more in grind (arith, h1, least more k)
 
-  declarations_greatest : (x : Declarations) (k : ℕ) (more : List Element) → greatest_level k (declarations_elements x more) ≡ max (k + declarations_depth x)
-      (greatest_level k more)
+  declarations_greatest : (x : Declarations) → Reaches (declarations_elements x) (declarations_depth x)
   declarations_greatest no_declaration k more = grind (arith, least more k)
   declarations_greatest (next_declaration d ds) k more = let h1 = declaration_greatest d k (declarations_elements ds more) in
       let h2 = declarations_greatest ds k more in grind (arith, h1, h2, least more k)
 
-global_greatest : (x : Global) (k : ℕ) (more : List Element) → greatest_level k (global_elements x more) ≡ max (k + global_depth x) (greatest_level k more)
+global_greatest : (x : Global) → Reaches (global_elements x) (global_depth x)
 global_greatest (const_global l) k more = let h1 = const_list_greatest l k more in grind (arith, h1, least more k)
 global_greatest (type_global d) k more = let h1 = type_decl_greatest d k more in grind (arith, h1, least more k)
 
-globals_greatest : (x : Globals) (k : ℕ) (more : List Element) → greatest_level k (globals_elements x more) ≡ max (k + globals_depth x) (greatest_level k more)
+globals_greatest : (x : Globals) → Reaches (globals_elements x) (globals_depth x)
 globals_greatest no_global k more = grind (arith, least more k)
 globals_greatest (next_global g gs) k more = let h1 = global_greatest g k (globals_elements gs more) in let h2 = globals_greatest gs k more in
     grind (arith, h1, h2, least more k)
 
-program_greatest : (x : Program) (k : ℕ) (more : List Element) → greatest_level k (program_elements x more) ≡ max (k + depth x) (greatest_level k more)
+program_greatest : (x : Program) → Reaches (program_elements x) (depth x)
 program_greatest (program gs p) k more = let h1 = globals_greatest gs k (procedure_elements p more) in let h2 = procedure_greatest p k more in
     grind (arith, h1, h2, least more k)
 

@@ -1,5 +1,6 @@
 pub mod Marks
 pub mod Greatest
+pub mod Loops
 pub mod Deepest
 pub mod Puts
 pub mod Decimals

@@ -223,7 +223,7 @@ placed_stand (s ∷ ss) line h =
 
 -- ---- what a program keeps
 
-all_are_spelled : (ss : List Spelled) (marks : List Mark) → StandAsMarks ss marks → are_spelled marks ≡ true → all_spelled ss ≡ true
+pub all_are_spelled : (ss : List Spelled) (marks : List Mark) → StandAsMarks ss marks → are_spelled marks ≡ true → all_spelled ss ≡ true
 all_are_spelled [] marks h e = refl
 all_are_spelled (s ∷ ss) [] h e = absurd h
 all_are_spelled (s ∷ ss) (m ∷ marks) h e =

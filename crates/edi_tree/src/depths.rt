@@ -2,44 +2,7 @@
 //! deep a tree is.
 
 ghost use Rattle.std.specs.Prelude.{◌≡◌, ◌≤◌, ℕ, suc};
-ghost use Rattle.edi_tree.specs.View.{
-  addend_of,
-  addends_of,
-  args_of,
-  assignment_of,
-  branch_of,
-  branches_of,
-  call_of,
-  cobegin_of,
-  comparison_of,
-  condition_of,
-  conditions_of,
-  const_list_of,
-  declaration_of,
-  declarations_of,
-  expr_of,
-  factor_of,
-  global_of,
-  globals_of,
-  heading_of,
-  item_of,
-  list_of,
-  member_of,
-  module_of,
-  multiplier_of,
-  optional_comparison,
-  param_of,
-  params_of,
-  procedure_of,
-  selector_of,
-  selectors_of,
-  simple_of,
-  statement_of,
-  term_of,
-  type_decl_of,
-  variable_of,
-  when_of,
-};
+ghost use Rattle.edi_tree.specs.View as view;
 ghost use Rattle.edi_tree.specs.Whole.{program_of};
 ghost use Rattle.edi_tree.specs.Depth.{limited};
 ghost use Rattle.edi_tree.specs.Depth as spec;
@@ -75,7 +38,7 @@ fn constant_depth(constant: &Constant) -> u32
 }
 
 fn const_list_depth(list: &ConstList) -> u32
-    ensures exact { result ≡ limited (spec.const_list_depth (const_list_of list.now)) }
+    ensures exact { result ≡ limited (spec.const_list_depth (view.const_list_of list.now)) }
     ensures small { result ≤ 65 }
 {
     let mut depth = constant_depth(&list.first.constant);
@@ -86,7 +49,7 @@ fn const_list_depth(list: &ConstList) -> u32
 }
 
 fn type_decl_depth(declaration: &TypeDecl) -> u32
-    ensures exact { result ≡ limited (spec.type_decl_depth (type_decl_of declaration.now)) }
+    ensures exact { result ≡ limited (spec.type_decl_depth (view.type_decl_of declaration.now)) }
     ensures small { result ≤ 65 }
 {
     match declaration {
@@ -100,7 +63,7 @@ fn type_decl_depth(declaration: &TypeDecl) -> u32
 
 #[cycle(heading_depths)]
 fn heading_depth(heading: &Heading) -> u32
-    ensures exact { result ≡ limited (spec.heading_depth (heading_of heading.now)) }
+    ensures exact { result ≡ limited (spec.heading_depth (view.heading_of heading.now)) }
     ensures small { result ≤ 65 }
 {
     deeper(params_depth(&heading.params))
@@ -108,7 +71,7 @@ fn heading_depth(heading: &Heading) -> u32
 
 #[cycle(heading_depths)]
 fn params_depth(params: &Params) -> u32
-    ensures exact { result ≡ limited (spec.params_depth (params_of params.now)) }
+    ensures exact { result ≡ limited (spec.params_depth (view.params_of params.now)) }
     ensures small { result ≤ 65 }
 {
     if params.is_empty() {
@@ -123,7 +86,7 @@ fn params_depth(params: &Params) -> u32
 
 #[cycle(heading_depths)]
 fn param_depth(param: &Param) -> u32
-    ensures exact { result ≡ limited (spec.param_depth (param_of param.now)) }
+    ensures exact { result ≡ limited (spec.param_depth (view.param_of param.now)) }
     ensures small { result ≤ 65 }
 {
     match param {
@@ -134,7 +97,7 @@ fn param_depth(param: &Param) -> u32
 
 #[cycle(expression_depths)]
 fn expr_depth(expr: &Expr) -> u32
-    ensures exact { result ≡ limited (spec.expr_depth (expr_of expr.now)) }
+    ensures exact { result ≡ limited (spec.expr_depth (view.expr_of expr.now)) }
     ensures small { result ≤ 65 }
 {
     let left = simple_depth(&expr.left);
@@ -146,7 +109,7 @@ fn expr_depth(expr: &Expr) -> u32
 
 #[cycle(expression_depths)]
 fn simple_depth(simple: &Simple) -> u32
-    ensures exact { result ≡ limited (spec.simple_depth (simple_of simple.now)) }
+    ensures exact { result ≡ limited (spec.simple_depth (view.simple_of simple.now)) }
     ensures small { result ≤ 65 }
 {
     let mut depth = term_depth(&simple.first);
@@ -158,7 +121,7 @@ fn simple_depth(simple: &Simple) -> u32
 
 #[cycle(expression_depths)]
 fn term_depth(term: &Term) -> u32
-    ensures exact { result ≡ limited (spec.term_depth (term_of term.now)) }
+    ensures exact { result ≡ limited (spec.term_depth (view.term_of term.now)) }
     ensures small { result ≤ 65 }
 {
     let mut depth = factor_depth(&term.first);
@@ -170,7 +133,7 @@ fn term_depth(term: &Term) -> u32
 
 #[cycle(expression_depths)]
 fn factor_depth(factor: &Factor) -> u32
-    ensures exact { result ≡ limited (spec.factor_depth (factor_of factor.now)) }
+    ensures exact { result ≡ limited (spec.factor_depth (view.factor_of factor.now)) }
     ensures small { result ≤ 65 }
 {
     match factor {
@@ -184,7 +147,7 @@ fn factor_depth(factor: &Factor) -> u32
 
 #[cycle(expression_depths)]
 fn args_depth(args: &Args) -> u32
-    ensures exact { result ≡ limited (spec.args_depth (args_of args.now)) }
+    ensures exact { result ≡ limited (spec.args_depth (view.args_of args.now)) }
     ensures small { result ≤ 65 }
 {
     let mut depth = expr_depth(&args.first);
@@ -196,7 +159,7 @@ fn args_depth(args: &Args) -> u32
 
 #[cycle(expression_depths)]
 fn variable_depth(variable: &Variable) -> u32
-    ensures exact { result ≡ limited (spec.variable_depth (variable_of variable.now)) }
+    ensures exact { result ≡ limited (spec.variable_depth (view.variable_of variable.now)) }
     ensures small { result ≤ 65 }
 {
     let mut depth: u32 = 0;
@@ -208,7 +171,7 @@ fn variable_depth(variable: &Variable) -> u32
 
 #[cycle(expression_depths)]
 fn selector_depth(selector: &Selector) -> u32
-    ensures exact { result ≡ limited (spec.selector_depth (selector_of selector.now)) }
+    ensures exact { result ≡ limited (spec.selector_depth (view.selector_of selector.now)) }
     ensures small { result ≤ 65 }
 {
     match selector {
@@ -219,7 +182,7 @@ fn selector_depth(selector: &Selector) -> u32
 
 #[cycle(statement_depths)]
 fn list_depth(list: &List) -> u32
-    ensures exact { result ≡ limited (spec.list_depth (list_of list.now)) }
+    ensures exact { result ≡ limited (spec.list_depth (view.list_of list.now)) }
     ensures small { result ≤ 65 }
 {
     let mut depth = statement_depth(&list.first);
@@ -231,7 +194,7 @@ fn list_depth(list: &List) -> u32
 
 #[cycle(statement_depths)]
 fn statement_depth(statement: &Statement) -> u32
-    ensures exact { result ≡ limited (spec.statement_depth (statement_of statement.now)) }
+    ensures exact { result ≡ limited (spec.statement_depth (view.statement_of statement.now)) }
     ensures small { result ≤ 65 }
 {
     match statement {
@@ -254,7 +217,7 @@ fn statement_depth(statement: &Statement) -> u32
 
 #[cycle(statement_depths)]
 fn conditions_depth(conditions: &Conditions) -> u32
-    ensures exact { result ≡ limited (spec.conditions_depth (conditions_of conditions.now)) }
+    ensures exact { result ≡ limited (spec.conditions_depth (view.conditions_of conditions.now)) }
     ensures small { result ≤ 65 }
 {
     let mut depth = condition_depth(&conditions.first);
@@ -266,7 +229,7 @@ fn conditions_depth(conditions: &Conditions) -> u32
 
 #[cycle(statement_depths)]
 fn condition_depth(condition: &Condition) -> u32
-    ensures exact { result ≡ limited (spec.condition_depth (condition_of condition.now)) }
+    ensures exact { result ≡ limited (spec.condition_depth (view.condition_of condition.now)) }
     ensures small { result ≤ 65 }
 {
     let expr = expr_depth(&condition.expr);
@@ -275,7 +238,7 @@ fn condition_depth(condition: &Condition) -> u32
 
 #[cycle(statement_depths)]
 fn cobegin_depth(cobegin: &Cobegin) -> u32
-    ensures exact { result ≡ limited (spec.statement_depth (cobegin_of cobegin.now)) }
+    ensures exact { result ≡ limited (spec.statement_depth (view.cobegin_of cobegin.now)) }
     ensures small { result ≤ 65 }
 {
     let first = branch_depth(&cobegin.first);
@@ -285,7 +248,7 @@ fn cobegin_depth(cobegin: &Cobegin) -> u32
 // The depth of branches behind one that is closed on any line.
 #[cycle(statement_depths)]
 fn branches_depth(branches: &Branches) -> u32
-    ensures exact { (end : ℕ) → result ≡ limited (spec.branches_depth (branches_of end branches.now)) }
+    ensures exact { (end : ℕ) → result ≡ limited (spec.branches_depth (view.branches_of end branches.now)) }
     ensures small { result ≤ 65 }
 {
     let mut depth: u32 = 0;
@@ -297,7 +260,7 @@ fn branches_depth(branches: &Branches) -> u32
 
 #[cycle(statement_depths)]
 fn branch_depth(branch: &Branch) -> u32
-    ensures exact { result ≡ limited (spec.branch_depth (branch_of branch.now).opened) }
+    ensures exact { result ≡ limited (spec.branch_depth (view.branch_of branch.now).opened) }
     ensures small { result ≤ 65 }
 {
     let constant = constant_depth(&branch.constant);
@@ -306,7 +269,7 @@ fn branch_depth(branch: &Branch) -> u32
 
 #[cycle(declaration_depths)]
 fn procedure_depth(procedure: &Procedure) -> u32
-    ensures exact { result ≡ limited (spec.procedure_depth (procedure_of procedure.now)) }
+    ensures exact { result ≡ limited (spec.procedure_depth (view.procedure_of procedure.now)) }
     ensures small { result ≤ 65 }
 {
     let heading = heading_depth(&procedure.heading);
@@ -319,7 +282,7 @@ fn procedure_depth(procedure: &Procedure) -> u32
 
 #[cycle(declaration_depths)]
 fn item_depth(item: &Item) -> u32
-    ensures exact { result ≡ limited (spec.item_depth (item_of item.now)) }
+    ensures exact { result ≡ limited (spec.item_depth (view.item_of item.now)) }
     ensures small { result ≤ 65 }
 {
     match item {
@@ -333,7 +296,7 @@ fn item_depth(item: &Item) -> u32
 
 #[cycle(declaration_depths)]
 fn module_depth(module: &Module) -> u32
-    ensures exact { result ≡ limited (spec.module_depth (module_of «module».now)) }
+    ensures exact { result ≡ limited (spec.module_depth (view.module_of «module».now)) }
     ensures small { result ≤ 65 }
 {
     let mut depth = list_depth(&module.list);
@@ -345,7 +308,7 @@ fn module_depth(module: &Module) -> u32
 
 #[cycle(declaration_depths)]
 fn member_depth(member: &Member) -> u32
-    ensures exact { result ≡ limited (spec.member_depth (member_of member.now)) }
+    ensures exact { result ≡ limited (spec.member_depth (view.member_of member.now)) }
     ensures small { result ≤ 65 }
 {
     match member {
@@ -356,7 +319,7 @@ fn member_depth(member: &Member) -> u32
 
 #[cycle(declaration_depths)]
 fn declaration_depth(declaration: &Declaration) -> u32
-    ensures exact { result ≡ limited (spec.declaration_depth (declaration_of declaration.now)) }
+    ensures exact { result ≡ limited (spec.declaration_depth (view.declaration_of declaration.now)) }
     ensures small { result ≤ 65 }
 {
     match declaration {
@@ -366,7 +329,7 @@ fn declaration_depth(declaration: &Declaration) -> u32
 }
 
 fn globals_depth(globals: &Globals) -> u32
-    ensures exact { result ≡ limited (spec.globals_depth (globals_of globals.now)) }
+    ensures exact { result ≡ limited (spec.globals_depth (view.globals_of globals.now)) }
     ensures small { result ≤ 65 }
 {
     let mut depth: u32 = 0;
