@@ -165,12 +165,15 @@ module _ (nodes count : ℕ) (next prev home : List (Option ℕ)) (ends : List E
           let some = some_among node (list_at lists list) (linked.among_list list node its_home) in omega arith
 
   -- the first node of a list
-  module _ (list node : ℕ) (is_list : list < count) (first : slice_get (list_at lists list) 0 ≡ Some node) where
+  module _ (list node : ℕ) (is_list : list < count) (is_first : (get_or ends list no_ends).first ≡ Some node) where
     abbrev front : Ends
     front = get_or ends list no_ends
 
     abbrev behind : Option ℕ
     behind = get_or next node None
+
+    pub first : slice_get (list_at lists list) 0 ≡ Some node
+    first = sym (first_index list is_list) ∙ is_first
 
     pub front_home : get_or home node None ≡ Some list
     front_home = linked.homes list node (among_at (list_at lists list) 0 node first)

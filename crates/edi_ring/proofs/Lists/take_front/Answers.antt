@@ -1,5 +1,5 @@
 -- The first node of a list is taken like any other; nothing stands before it.
-use Rattle.std.proofs.Common.{◌∙◌, sym, rules}
+use Rattle.std.proofs.Common.{rules}
 use Rattle.edi_ring.proofs.Calls as calls
 use Rattle.edi_ring.proofs.Lists.take_front.Goals as goal
 
@@ -11,29 +11,25 @@ unwrap-node-requires g c =
 pub bounds-self-inside-node : goal.bounds-self-inside-node
 bounds-self-inside-node g c =
     calls.front_within _ _ _ _ _ _ _ c.self.invariant c.self.view_is c.self.told c.self.told2 c.self.told3 c.self.told4 c.args.list _ c.requires.list_in_range
-    (sym (calls.first_index _ _ _ _ _ _ _ c.self.invariant c.self.view_is c.self.told c.self.told2 c.self.told3 c.self.told4 c.args.list
-    c.requires.list_in_range) ∙ c.unwrap-node.ensures)
+    c.unwrap-node.ensures
 
 pub offset_bounds-self-inside-node : goal.offset_bounds-self-inside-node
 offset_bounds-self-inside-node g c =
     let lt =
     calls.front_within _ _ _ _ _ _ _ c.self.invariant c.self.view_is c.self.told c.self.told2 c.self.told3 c.self.told4 c.args.list _ c.requires.list_in_range
-    (sym (calls.first_index _ _ _ _ _ _ _ c.self.invariant c.self.view_is c.self.told c.self.told2 c.self.told3 c.self.told4 c.args.list
-    c.requires.list_in_range) ∙ c.unwrap-node.ensures) in
+    c.unwrap-node.ensures in
     search rules
 
 pub bounds-self-inside-node-2 : goal.bounds-self-inside-node-2
 bounds-self-inside-node-2 g c =
     calls.front_within _ _ _ _ _ _ _ c.self.invariant c.self.view_is c.self.told c.self.told2 c.self.told3 c.self.told4 c.args.list _ c.requires.list_in_range
-    (sym (calls.first_index _ _ _ _ _ _ _ c.self.invariant c.self.view_is c.self.told c.self.told2 c.self.told3 c.self.told4 c.args.list c.requires.list_in_range)
-    ∙ c.unwrap-node.ensures)
+    c.unwrap-node.ensures
 
 pub offset_bounds-self-inside-node-2 : goal.offset_bounds-self-inside-node-2
 offset_bounds-self-inside-node-2 g c =
     let lt =
     calls.front_within _ _ _ _ _ _ _ c.self.invariant c.self.view_is c.self.told c.self.told2 c.self.told3 c.self.told4 c.args.list _ c.requires.list_in_range
-    (sym (calls.first_index _ _ _ _ _ _ _ c.self.invariant c.self.view_is c.self.told c.self.told2 c.self.told3 c.self.told4 c.args.list c.requires.list_in_range)
-    ∙ c.unwrap-node.ensures) in
+    c.unwrap-node.ensures in
     search rules
 
 pub lead_past-requires : goal.lead_past-requires
@@ -43,11 +39,9 @@ lead_past-requires g c = (
     search rules,
     (
       calls.behind_within _ _ _ _ _ _ _ c.self.invariant c.self.view_is c.self.told c.self.told2 c.self.told3 c.self.told4 c.args.list _ c.requires.list_in_range
-          (sym (calls.first_index _ _ _ _ _ _ _ c.self.invariant c.self.view_is c.self.told c.self.told2 c.self.told3 c.self.told4 c.args.list c.requires.list_in_range)
-          ∙ c.unwrap-node.ensures),
+          c.unwrap-node.ensures,
       calls.front_there _ _ _ _ _ _ _ c.self.invariant c.self.view_is c.self.told c.self.told2 c.self.told3 c.self.told4 c.args.list _ c.requires.list_in_range
-          (sym (calls.first_index _ _ _ _ _ _ _ c.self.invariant c.self.view_is c.self.told c.self.told2 c.self.told3 c.self.told4 c.args.list c.requires.list_in_range)
-          ∙ c.unwrap-node.ensures),
+          c.unwrap-node.ensures,
     ),
   ),
 )
@@ -56,31 +50,27 @@ pub invariant_of-self : goal.invariant_of-self
 invariant_of-self g c =
     rw (c.lead_past.ensures.next, c.lead_past.ensures.prev, c.lead_past.ensures.ends)
     (calls.front_leaves _ _ _ _ _ _ _ c.self.invariant c.self.view_is c.self.told c.self.told2 c.self.told3 c.self.told4 c.args.list _ c.requires.list_in_range
-    (sym (calls.first_index _ _ _ _ _ _ _ c.self.invariant c.self.view_is c.self.told c.self.told2 c.self.told3 c.self.told4 c.args.list
-    c.requires.list_in_range) ∙ c.unwrap-node.ensures)).still_linked
+    c.unwrap-node.ensures).still_linked
 
 pub returns-clause-exact : goal.returns-clause-exact
 returns-clause-exact g c =
     rw (c.lead_past.ensures.next, c.lead_past.ensures.ends)
     (calls.front_leaves _ _ _ _ _ _ _ c.self.invariant c.self.view_is c.self.told c.self.told2 c.self.told3 c.self.told4 c.args.list _ c.requires.list_in_range
-    (sym (calls.first_index _ _ _ _ _ _ _ c.self.invariant c.self.view_is c.self.told c.self.told2 c.self.told3 c.self.told4 c.args.list
-    c.requires.list_in_range) ∙ c.unwrap-node.ensures)).exact
+    c.unwrap-node.ensures).exact
 
 pub returns-clause-homes : goal.returns-clause-homes
 returns-clause-homes g c =
     rw (c.lead_past.ensures.next, c.lead_past.ensures.ends)
     (calls.front_leaves _ _ _ _ _ _ _ c.self.invariant c.self.view_is c.self.told c.self.told2 c.self.told3 c.self.told4 c.args.list _ c.requires.list_in_range
-    (sym (calls.first_index _ _ _ _ _ _ _ c.self.invariant c.self.view_is c.self.told c.self.told2 c.self.told3 c.self.told4 c.args.list
-    c.requires.list_in_range) ∙ c.unwrap-node.ensures)).homes_are
+    c.unwrap-node.ensures).homes_are
 
 pub returns-clause-sound : goal.returns-clause-sound
 returns-clause-sound g c =
     rw (c.lead_past.ensures.next, c.lead_past.ensures.ends)
     (calls.front_leaves _ _ _ _ _ _ _ c.self.invariant c.self.view_is c.self.told c.self.told2 c.self.told3 c.self.told4 c.args.list _ c.requires.list_in_range
-    (sym (calls.first_index _ _ _ _ _ _ _ c.self.invariant c.self.view_is c.self.told c.self.told2 c.self.told3 c.self.told4 c.args.list
-    c.requires.list_in_range) ∙ c.unwrap-node.ensures)).sound
+    c.unwrap-node.ensures).sound
 
 pub returns-clause-was : goal.returns-clause-was
 returns-clause-was g c =
-    sym (calls.first_index _ _ _ _ _ _ _ c.self.invariant c.self.view_is c.self.told c.self.told2 c.self.told3 c.self.told4 c.args.list
-    c.requires.list_in_range) ∙ c.unwrap-node.ensures
+    calls.first _ _ _ _ _ _ _ c.self.invariant c.self.view_is c.self.told c.self.told2 c.self.told3 c.self.told4 c.args.list _ c.requires.list_in_range
+    c.unwrap-node.ensures
