@@ -162,11 +162,10 @@ unfolding Spelled Sound Writes
 two_words_sound k op e = λ words w. by_words words w
   where
     by_words : (ws : List ℕ) → AreWords ws → Spelled (k ∷ ws) (two_words op ws)
-    by_words [] w = tt
-    by_words (a ∷ []) w = tt
     by_words (a ∷ b ∷ ws) w =
         let h = e a b (first_word a (b ∷ ws) w) (first_word b ws (rest_words a (b ∷ ws) w)) in
         rw h.0 (refl, refl, h.1)
+    by_words ws w = tt
 
 three_words_sound : (k : ℕ) (op : ℕ → ℕ → ℕ → Instruction) → ((a b c : ℕ) → a < 2 ^ 16 → b < 2 ^ 16 → c < 2 ^ 16 → Writes (op a b c) (k ∷ a ∷ b ∷ c ∷ []))
     → Sound k (three_words op)
@@ -174,13 +173,11 @@ unfolding Spelled Sound Writes
 three_words_sound k op e = λ words w. by_words words w
   where
     by_words : (ws : List ℕ) → AreWords ws → Spelled (k ∷ ws) (three_words op ws)
-    by_words [] w = tt
-    by_words (a ∷ []) w = tt
-    by_words (a ∷ b ∷ []) w = tt
     by_words (a ∷ b ∷ c ∷ ws) w =
         let v = rest_words a (b ∷ c ∷ ws) w in
         let h = e a b c (first_word a (b ∷ c ∷ ws) w) (first_word b (c ∷ ws) v) (first_word c ws (rest_words b (c ∷ ws) v)) in
         rw h.0 (refl, refl, h.1)
+    by_words ws w = tt
 
 four_words_sound : (k : ℕ) (op : ℕ → ℕ → ℕ → ℕ → Instruction)
     → ((a b c d : ℕ) → a < 2 ^ 16 → b < 2 ^ 16 → c < 2 ^ 16 → Writes (op a b c d) (k ∷ a ∷ b ∷ c ∷ d ∷ [])) → Sound k (four_words op)
@@ -188,14 +185,11 @@ unfolding Spelled Sound Writes
 four_words_sound k op e = λ words w. by_words words w
   where
     by_words : (ws : List ℕ) → AreWords ws → Spelled (k ∷ ws) (four_words op ws)
-    by_words [] w = tt
-    by_words (a ∷ []) w = tt
-    by_words (a ∷ b ∷ []) w = tt
-    by_words (a ∷ b ∷ c ∷ []) w = tt
     by_words (a ∷ b ∷ c ∷ d ∷ ws) w =
         let v = rest_words a (b ∷ c ∷ d ∷ ws) w in
         let h = e a b c d (first_word a (b ∷ c ∷ d ∷ ws) w) (first_word b (c ∷ d ∷ ws) v) (first_word c (d ∷ ws) (rest_words b (c ∷ d ∷ ws) v)) in
         rw h.0 (refl, refl, h.1)
+    by_words ws w = tt
 
 five_words_sound : (k : ℕ) (op : ℕ → ℕ → ℕ → ℕ → ℕ → Instruction) → ((a b c d f : ℕ) → Writes (op a b c d f) (k ∷ a ∷ b ∷ c ∷ d ∷ f ∷ []))
     → Sound k (five_words op)
@@ -203,12 +197,8 @@ unfolding Spelled Sound Writes
 five_words_sound k op e = λ words w. by_words words
   where
     by_words : (ws : List ℕ) → Spelled (k ∷ ws) (five_words op ws)
-    by_words [] = tt
-    by_words (a ∷ []) = tt
-    by_words (a ∷ b ∷ []) = tt
-    by_words (a ∷ b ∷ c ∷ []) = tt
-    by_words (a ∷ b ∷ c ∷ d ∷ []) = tt
     by_words (a ∷ b ∷ c ∷ d ∷ f ∷ ws) = rw (e a b c d f).0 (refl, refl, (e a b c d f).1)
+    by_words ws = tt
 
 text_sound : Sound 2 counted_text
 unfolding Spelled Sound Writes
