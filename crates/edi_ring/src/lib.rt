@@ -97,6 +97,7 @@ impl<const N: usize, const M: usize> Lists<N, M> {
     }
 
     /// Puts the node, which is in no list, at the back of the list.
+    #[tactic(auto, using(crate::proofs::Calls::last_within))]
     pub fn push_back(&mut self, list: usize, node: usize)
         requires list_in_range { list < M }
         requires node_in_range { node < N }
@@ -116,6 +117,7 @@ impl<const N: usize, const M: usize> Lists<N, M> {
     }
 
     /// Removes the node, which is in a list, from there.
+    #[tactic(auto, using(crate::proofs::Calls::has_home, crate::proofs::Calls::is_list))]
     pub fn take(&mut self, node: usize)
         requires node_in_range { node < N }
         requires listed { IsSome (home_of self.old node) }
@@ -136,6 +138,7 @@ impl<const N: usize, const M: usize> Lists<N, M> {
     }
 
     /// Removes the first node of the list, which has one, from there.
+    #[tactic(auto, using(crate::proofs::Calls::front_within, crate::proofs::Calls::behind_within, crate::proofs::Calls::front_there))]
     pub fn take_front(&mut self, list: usize) -> usize
         requires list_in_range { list < M }
         requires some { 0 < length (list_at self.old list) }

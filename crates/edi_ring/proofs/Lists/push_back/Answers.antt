@@ -1,13 +1,6 @@
-use Rattle.std.proofs.Common.{arith, rules}
+use Rattle.std.proofs.Common.{arith}
 use Rattle.edi_ring.proofs.Calls as calls
 use Rattle.edi_ring.proofs.Lists.push_back.Goals as goal
-
-pub redirect-requires : goal.redirect-requires
-redirect-requires g c = (
-  search rules,
-  calls.last_within _ _ _ _ _ _ _ c.self.invariant c.self.view_is c.self.told c.self.told2 c.self.told3 c.self.told4 _ _ c.requires.list_in_range
-      c.requires.node_in_range c.requires.free,
-)
 
 pub overflow_add-ends : goal.overflow_add-ends
 overflow_add-ends g c =

@@ -2,22 +2,6 @@ use Rattle.std.proofs.Common.{rules}
 use Rattle.edi_ring.proofs.Calls as calls
 use Rattle.edi_ring.proofs.Lists.take.Goals as goal
 
-pub unwrap-list-requires : goal.unwrap-list-requires
-unwrap-list-requires g c =
-    calls.has_home _ _ _ _ _ _ _ c.self.invariant c.self.view_is c.self.told c.self.told2 c.self.told3 c.self.told4 _ c.requires.node_in_range c.requires.listed
-
-pub bounds-self-inside-list : goal.bounds-self-inside-list
-bounds-self-inside-list g c =
-    calls.is_list _ _ _ _ _ _ _ c.self.invariant c.self.view_is c.self.told c.self.told2 c.self.told3 c.self.told4 _ c.requires.node_in_range
-    c.requires.listed _ c.unwrap-list.ensures
-
-pub offset_bounds-self-inside-list : goal.offset_bounds-self-inside-list
-offset_bounds-self-inside-list g c =
-    let lt =
-    calls.is_list _ _ _ _ _ _ _ c.self.invariant c.self.view_is c.self.told c.self.told2 c.self.told3 c.self.told4 _ c.requires.node_in_range
-    c.requires.listed _ c.unwrap-list.ensures in
-    search rules
-
 pub lead_past-requires : goal.lead_past-requires
 lead_past-requires g c = (
   search rules,

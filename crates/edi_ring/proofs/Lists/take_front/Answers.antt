@@ -1,5 +1,4 @@
 -- The first node of a list is taken like any other; nothing stands before it.
-use Rattle.std.proofs.Common.{rules}
 use Rattle.edi_ring.proofs.Calls as calls
 use Rattle.edi_ring.proofs.Lists.take_front.Goals as goal
 
@@ -7,44 +6,6 @@ pub unwrap-node-requires : goal.unwrap-node-requires
 unwrap-node-requires g c =
     rw (calls.first_index _ _ _ _ _ _ _ c.self.invariant c.self.view_is c.self.told c.self.told2 c.self.told3 c.self.told4 c.args.list
     c.requires.list_in_range) (calls.some_first _ c.requires.some)
-
-pub bounds-self-inside-node : goal.bounds-self-inside-node
-bounds-self-inside-node g c =
-    calls.front_within _ _ _ _ _ _ _ c.self.invariant c.self.view_is c.self.told c.self.told2 c.self.told3 c.self.told4 c.args.list _ c.requires.list_in_range
-    c.unwrap-node.ensures
-
-pub offset_bounds-self-inside-node : goal.offset_bounds-self-inside-node
-offset_bounds-self-inside-node g c =
-    let lt =
-    calls.front_within _ _ _ _ _ _ _ c.self.invariant c.self.view_is c.self.told c.self.told2 c.self.told3 c.self.told4 c.args.list _ c.requires.list_in_range
-    c.unwrap-node.ensures in
-    search rules
-
-pub bounds-self-inside-node-2 : goal.bounds-self-inside-node-2
-bounds-self-inside-node-2 g c =
-    calls.front_within _ _ _ _ _ _ _ c.self.invariant c.self.view_is c.self.told c.self.told2 c.self.told3 c.self.told4 c.args.list _ c.requires.list_in_range
-    c.unwrap-node.ensures
-
-pub offset_bounds-self-inside-node-2 : goal.offset_bounds-self-inside-node-2
-offset_bounds-self-inside-node-2 g c =
-    let lt =
-    calls.front_within _ _ _ _ _ _ _ c.self.invariant c.self.view_is c.self.told c.self.told2 c.self.told3 c.self.told4 c.args.list _ c.requires.list_in_range
-    c.unwrap-node.ensures in
-    search rules
-
-pub lead_past-requires : goal.lead_past-requires
-lead_past-requires g c = (
-  search rules,
-  (
-    search rules,
-    (
-      calls.behind_within _ _ _ _ _ _ _ c.self.invariant c.self.view_is c.self.told c.self.told2 c.self.told3 c.self.told4 c.args.list _ c.requires.list_in_range
-          c.unwrap-node.ensures,
-      calls.front_there _ _ _ _ _ _ _ c.self.invariant c.self.view_is c.self.told c.self.told2 c.self.told3 c.self.told4 c.args.list _ c.requires.list_in_range
-          c.unwrap-node.ensures,
-    ),
-  ),
-)
 
 pub invariant_of-self : goal.invariant_of-self
 invariant_of-self g c =
