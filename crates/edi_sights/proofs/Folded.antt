@@ -1,5 +1,6 @@
 -- The `when`s of lists of constructs, met one after another.
-use Rattle.std.proofs.Common.{◌≡◌, ℕ, List, [], ◌∷◌, refl, ap, sym, ◌∙◌}
+use Rattle.std.proofs.Common.{◌≡◌, ℕ, ◌≤◌, List, [], ◌∷◌, length, map, drop, refl, ap, sym, ◌∙◌}
+use Rattle.std.proofs.Math.ListN.{drop_of_length-le}
 use Rattle.edi_tree.specs.Tree as text
 use Rattle.edi_tree.specs.View.{ClosedBranch}
 use Rattle.edi_tree.specs.View as tree
@@ -29,5 +30,11 @@ pub folded_next : {X : Type 0} (step : X → Met → Met) (rest xs : List X) (x 
 folded_next step rest xs x now after whole h r e =
     ap (folded step xs) e ∙ (ap (λ rest. folded step rest now) (sym r) ∙ h)
 
-pub folded_done : {X : Type 0} (step : X → Met → Met) (rest : List X) (now whole : Met) → folded step rest now ≡ whole → rest ≡ [] → now ≡ whole
-folded_done step rest now whole h e = ap (λ rest. folded step rest now) (sym e) ∙ h
+-- at the end of a loop over what the code has
+pub loop_done : {C X : Type 0} (see : C → X) (step : X → Met → Met) (items : List C) (i : ℕ) (now whole : Met) →
+    folded step (map see (drop i items)) now ≡ whole → length items ≤ i → now ≡ whole
+loop_done see step items i now whole h none = ap (λ rest. folded step (map see rest) now) (sym (drop_of_length-le items none)) ∙ h
+
+-- the rest of a loop is what it was at its start
+abbrev pub FoldsOn : {X : Type 0} → (X → Met → Met) → (rest all : List X) → (now first : Met) → Type 0
+FoldsOn step rest all now first = folded step rest now ≡ folded step all first

@@ -1,5 +1,5 @@
 -- The `when`s of declarations, met one after another.
-use Rattle.std.proofs.Common.{◌≡◌, ℕ, List, ◌∷◌, ap, sym, ◌∙◌}
+use Rattle.std.proofs.Common.{◌≡◌, ℕ, List, ◌∷◌, refl, ap, sym, ◌∙◌}
 use Rattle.edi_tree.specs.Tree as text
 use Rattle.edi_tree.specs.View as tree
 use Rattle.edi_static.specs.Judged.{Judged, gives}
@@ -14,21 +14,27 @@ pub behind_given : {A : Type 0} (m : Judged A) (env : A) (f : A → List Await �
     m ≡ gives env → behind m f awaits ≡ f env awaits
 behind_given m env f awaits e = ap (λ m. behind m f awaits) e
 
+-- one construct of a list is met, and the rest is still to come
+next_met : {X : Type 0} (all : List X → Environment → List Await → List Await) (judged : Judged Environment) (one : List Await) (rest xs : List X) (x : X)
+    (now after : Environment) (awaits more whole : List Await) →
+    all (x ∷ xs) now awaits ≡ behind judged (all xs) one → all rest now awaits ≡ whole → rest ≡ x ∷ xs → judged ≡ gives after → more ≡ one →
+    all xs after more ≡ whole
+next_met all judged one rest xs x now after awaits more whole step h r stated e =
+    ap (all xs after) e ∙ (sym (behind_given judged after (all xs) one stated) ∙ (sym step ∙ (ap (λ rest. all rest now awaits) (sym r) ∙ h)))
+
 pub declared_next : (name : List ℕ) (rest ds : List text.Declaration) (d : text.Declaration) (now after : Environment) (awaits more whole : List Await) →
     declarations_met name (tree.declarations rest) now awaits ≡ whole → rest ≡ d ∷ ds → declaration d now ≡ gives after →
     more ≡ declaration_met name d now awaits → declarations_met name (tree.declarations ds) after more ≡ whole
-declared_next name rest ds d now after awaits more whole h r stated e =
-    ap (declarations_met name (tree.declarations ds) after) e
-    ∙ (sym (behind_given (declaration d now) after (declarations_met name (tree.declarations ds)) (declaration_met name d now awaits) stated)
-    ∙ (ap (λ rest. declarations_met name (tree.declarations rest) now awaits) (sym r) ∙ h))
+declared_next name rest ds d now after awaits more whole =
+    next_met (λ ds. declarations_met name (tree.declarations ds)) (declaration d now) (declaration_met name d now awaits) rest ds d now after awaits more
+    whole
+    refl
 
 pub member_next : (name : List ℕ) (rest ms : List text.Member) (m : text.Member) (now after : Environment) (awaits more whole : List Await) →
     members_met name (tree.members rest) now awaits ≡ whole → rest ≡ m ∷ ms → member m now ≡ gives after →
     more ≡ member_met name m now awaits → members_met name (tree.members ms) after more ≡ whole
-member_next name rest ms m now after awaits more whole h r stated e =
-    ap (members_met name (tree.members ms) after) e
-    ∙ (sym (behind_given (member m now) after (members_met name (tree.members ms)) (member_met name m now awaits) stated)
-    ∙ (ap (λ rest. members_met name (tree.members rest) now awaits) (sym r) ∙ h))
+member_next name rest ms m now after awaits more whole =
+    next_met (λ ms. members_met name (tree.members ms)) (member m now) (member_met name m now awaits) rest ms m now after awaits more whole refl
 
 -- all declarations of a procedure, and then its statements
 pub procedure_done : (name : List ℕ) (block : ℕ) (h : text.Heading) (ds : text.Declarations) (s : text.StatementList) (end : ℕ) (env now : Environment)

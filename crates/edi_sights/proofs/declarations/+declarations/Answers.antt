@@ -15,15 +15,12 @@ use Rattle.edi_sights.proofs.declarations.+declarations.Goals as goal
 
 pub procedure_met-returns-clause-exact : goal.procedure_met-returns-clause-exact
 procedure_met-returns-clause-exact t c =
-    let env = environment c.args.known.now in
-    let now = environment c.loop-declaration.known in
-    let items = c.items-declaration-items.result.now in
-    let rest = drop c.loop-declaration.declaration-index items in
-    let h = declaring c.args.block env (environment c.open_block.new.known) now c.args.procedure.now items rest c.in_ok-begun.ensures.exact
-    c.items-declaration-items.ensures.exact c.loop-declaration.invariant.comes c.loop-declaration.invariant.left in
-    procedure_given c.args.block env now c.args.procedure.now rest h (environment c.finish_block_met.new.known) (environment c.leave_block.new.known)
-    (map begun_of c.in_ok-begun.begun.items) c.in_ok-begun.ensures.begun c.in_ok-finish_block_met.ensures.comes c.leave_block.ensures.exact
-    (drop_of_length-le items c.loop-declaration-test.false) c.in_ok-finish_block_met.ensures.exact
+    let h = declaring c.args.block (environment c.args.known.now) (environment c.open_block.new.known) (environment c.loop-declaration.known)
+    c.args.procedure.now c.items-declaration-items.result.now (drop c.loop-declaration.declaration-index c.items-declaration-items.result.now)
+    c.in_ok-begun.ensures.exact c.items-declaration-items.ensures.exact c.loop-declaration.invariant.comes c.loop-declaration.invariant.left in
+    procedure_given _ _ _ _ _ h (environment c.finish_block_met.new.known) (environment c.leave_block.new.known) (map begun_of c.in_ok-begun.begun.items)
+    c.in_ok-begun.ensures.begun c.in_ok-finish_block_met.ensures.comes c.leave_block.ensures.exact
+    (drop_of_length-le c.items-declaration-items.result.now c.loop-declaration-test.false) c.in_ok-finish_block_met.ensures.exact
 
 pub item_met-returns-in_ok-procedure_met-in-Post-clause-comes : goal.item_met-returns-in_ok-procedure_met-in-Post-clause-comes
 item_met-returns-in_ok-procedure_met-in-Post-clause-comes t c =
