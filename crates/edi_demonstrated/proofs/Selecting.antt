@@ -40,7 +40,8 @@ module _ (unit : ProgramUnit) (choices : Choices) (wanted : Ending) (system : Tr
   -- the step of a selection
   stepped : (fuel : ℕ) (s : Processes) (p : Name) (others : List Name) (r : Stepped) → step unit s p ≡ r
       → ((marks : List Name) (drawn : ℕ) (ending : Ending) (end : Traced) (turns all : ℕ) (order : List Name)
-      → after_step choices (select unit choices fuel) p others marks drawn r ≡ finished ending end turns all order → IsEnd wanted system left ending end turns)
+      → after_step choices (select unit choices fuel) p others marks drawn r ≡ finished ending end turns all order → IsEnd wanted system left ending end
+      turns)
       → EndsSo unit choices (suc fuel) s p others wanted system left
   stepped fuel s p others r is next marks drawn ending end turns all order h =
       let now = sym (ap (λ r. stepped_first p (after_step choices (select unit choices fuel) p others marks drawn r)) is) ∙ h in
@@ -80,16 +81,11 @@ module _ (unit : ProgramUnit) (choices : Choices) (wanted : Ending) (system : Tr
       → EndsSo unit choices (suc fuel) s p others wanted system left
   over fuel s p others is =
       stepped fuel s p others (ended wanted system left) is (λ marks drawn ending end turns all order h.
-      record { ending_is = sym (ending_of h); system_is = sym (system_of h); turns_are = sym (turns_of h) })
+      let same = end_of h in
+      record { ending_is = sym same.0; system_is = sym same.1; turns_are = sym same.2 })
     where
-      ending_of : {e f : Ending} {s t : Traced} {a b c d : ℕ} {o p : List Name} → finished e s a c o ≡ finished f t b d p → e ≡ f
-      ending_of h = cc
-
-      system_of : {e f : Ending} {s t : Traced} {a b c d : ℕ} {o p : List Name} → finished e s a c o ≡ finished f t b d p → s ≡ t
-      system_of h = cc
-
-      turns_of : {e f : Ending} {s t : Traced} {a b c d : ℕ} {o p : List Name} → finished e s a c o ≡ finished f t b d p → a ≡ b
-      turns_of h = cc
+      end_of : {e f : Ending} {s t : Traced} {a b c d : ℕ} {o p : List Name} → finished e s a c o ≡ finished f t b d p → (e ≡ f) × (s ≡ t) × (a ≡ b)
+      end_of h = (cc, cc, cc)
 
 -- ---- turns
 
