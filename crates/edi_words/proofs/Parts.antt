@@ -224,24 +224,12 @@ name_passes record_ rows p false s = rw s refl
 name_passes from rows p true s = rw s refl
 name_passes from rows p false s = rw s refl
 
-value_step : (name : Name) (v : Text) → is_plain v ≡ true → (rows : List Row)
-    → walked rules [] (opened name rows) v ≡ stands rows (Some (bare_name name, v ∷ [])) false
+value_walked : (name : Name) (v : Text) → is_plain v ≡ true → (rows : List Row)
+    → (walked rules [] (opened name rows) v ≡ stands rows (Some (bare_name name, v ∷ [])) false) × (turn_passes shape [] (opened name rows) v ≡ true)
 unfolding clap_on_literals
-value_step name [] e rows = absurd (true≢false (sym e))
-value_step turns (b ∷ more) e rows = let f = not_true (b == 45) e in rw (f, f) refl
-value_step choices (b ∷ more) e rows = let f = not_true (b == 45) e in rw (f, f) refl
-value_step seed (b ∷ more) e rows = let f = not_true (b == 45) e in rw (f, f) refl
-value_step record_ (b ∷ more) e rows = let f = not_true (b == 45) e in rw (f, f) refl
-value_step from (b ∷ more) e rows = let f = not_true (b == 45) e in rw (f, f) refl
-
-value_passes : (name : Name) (v : Text) → is_plain v ≡ true → (rows : List Row) → turn_passes shape [] (opened name rows) v ≡ true
-unfolding clap_on_literals
-value_passes name [] e rows = absurd (true≢false (sym e))
-value_passes turns (b ∷ more) e rows = let f = not_true (b == 45) e in rw (f, f) refl
-value_passes choices (b ∷ more) e rows = let f = not_true (b == 45) e in rw (f, f) refl
-value_passes seed (b ∷ more) e rows = let f = not_true (b == 45) e in rw (f, f) refl
-value_passes record_ (b ∷ more) e rows = let f = not_true (b == 45) e in rw (f, f) refl
-value_passes from (b ∷ more) e rows = let f = not_true (b == 45) e in rw (f, f) refl
+value_walked name [] e rows = absurd (true≢false (sym e))
+value_walked turns (b ∷ more) e rows = let f = not_true (b == 45) e in (rw (f, f) refl, rw (f, f) refl)
+value_walked name (b ∷ more) e rows = let f = not_true (b == 45) e in (rw (f, f) refl, rw (f, f) refl)
 
 -- ---- the whole walk
 
@@ -316,13 +304,13 @@ after_option : (name : Name) (v : Text) (ws : List Text) (parts : List Part) (ro
 unfolding walk_passes
 after_option name v ws parts rows p plain rest =
     let first = name_step name rows (pending_of p) (ends_in_word p) in
-    let second = value_step name v plain (settle p rows) in
-    let step = ap (λ x. walked rules [] x v) first ∙ second in record {
+    let second = value_walked name v plain (settle p rows) in
+    let step = ap (λ x. walked rules [] x v) first ∙ second.0 in record {
       after = rest.after;
       last = rest.last;
       walk_is = ap (λ x. fold (walked rules []) x ws) step ∙ rest.walk_is;
       passes = and_true _ _ (name_passes name rows (pending_of p) (ends_in_word p) (settle_passes_at rows p))
-          (and_true _ _ (ap (λ x. turn_passes shape [] x v) first ∙ value_passes name v plain (settle p rows))
+          (and_true _ _ (ap (λ x. turn_passes shape [] x v) first ∙ second.1)
           (ap (λ x. walk_passes shape [] x ws) step ∙ rest.passes));
       gives = λ k. rest.gives k ∙ joins k (Some (of name, v)) (settle p rows) (given_for k parts)
           ∙ ap (λ xs. vals (text_of k) (settle p rows) ++ xs) (of_option k name v parts);
