@@ -1,16 +1,12 @@
 //! The items that have no procedure in them.
 #![tactic(auto, using(edi_phrases::proofs::Moves::no_memory))]
 
-ghost use Rattle.std.specs.Prelude.{◌≡◌, ◌<◌, true, length, IfOk, IfErr};
+ghost use Rattle.edi_phrases.specs.Prelude.{◌≡◌, ◌<◌, true, length, IfOk, IfErr, front, has, Passes, HaltsAt};
 ghost use Rattle.edi_tree.specs.View.{item_of};
 ghost use Rattle.edi_tree.specs.Levels.{item_elements};
 ghost use Rattle.edi_grammar.specs.Kinds as kind;
-ghost use Rattle.edi_grammar.specs.Kind.{front};
-ghost use Rattle.edi_grammar.specs.Parser.{has};
 ghost use Rattle.edi_grammar.specs.Rules as g;
 ghost use Rattle.edi_grammar.specs.Edison as sets;
-ghost use Rattle.edi_phrases.specs.Parses.{Passes};
-ghost use Rattle.edi_phrases.specs.Stopped.{HaltsAt};
 
 use crate::layers::{make_const_item, make_pre, make_type_item, make_var_item};
 use edi_headings::parse_head;

@@ -2,20 +2,8 @@
 
 ghost use Rattle.std.specs.Prelude.{◌≡◌};
 ghost use Rattle.edi_tree.specs.Tree as tree;
-ghost use Rattle.edi_tree.specs.View.{
-  const_list_of,
-  type_decl_of,
-  var_list_of,
-  heading_of,
-  list_of,
-  procedure_of,
-  item_of,
-  module_of,
-  member_of,
-  members_of,
-  declaration_of,
-  declarations_of,
-};
+ghost use Rattle.edi_tree.specs.View.{const_list_of, type_decl_of, var_list_of, heading_of, list_of, procedure_of, item_of, module_of, member_of, members_of};
+ghost use Rattle.edi_tree.specs.View.{declaration_of, declarations_of};
 
 use edi_tree::{
     ConstList, Declaration, Declarations, Heading, Item, List, Member, Members, Module, Procedure,

@@ -1,5 +1,4 @@
 use Rattle.std.proofs.Common.{ℕ, ◌<◌, ◌+◌, List, rules, ◌∷◌, ◌∙◌, [], map, ap, refl, sym, arith, ◌≡◌, Some}
-use Rattle.std.proofs.lemmas.Result.{err_from_is_err_and}
 use Rattle.std.proofs.lemmas.Bool.{ne_eqb, eqb-true}
 use Rattle.edi_lex.specs.declared.symbol.Symbol.TheVariants as is
 use Rattle.edi_lex.specs.declared.symbol.Mark.{Mark}
@@ -17,7 +16,7 @@ use Rattle.edi_grammar.specs.Edison.{edison}
 use Rattle.edi_derivation.proofs.Splits.{heading_split}
 use Rattle.edi_phrases.specs.Words.{at_line}
 use Rattle.edi_phrases.specs.Parses.{Goes, Passes}
-use Rattle.edi_phrases.proofs.Moves.{waits, over_mark, over_end, over_part, into, written, lacks, refused, halts}
+use Rattle.edi_phrases.proofs.Moves.{at_exit, waits, over_mark, over_end, over_part, into, written, lacks, refused, halts, alone_halts, alone_passes}
 use Rattle.edi_phrases.proofs.Opened.{over_front, open_front}
 use Rattle.edi_phrases.proofs.Pushes.{repeated, repeated_halts}
 use Rattle.edi_declarations.proofs.Choices.{item_procedure, members_more, members_end, declarations_more, declarations_end}
@@ -63,38 +62,35 @@ module_begun {place = place} found room inner begin = over_mark (just is.Begin) 
     module_module (omega (arith, room)) (refl, tt) (waits g.Module _ _) found) inner (omega arith)) begin refl refl (refl, tt)
 
 pub parse_procedure-returns-in_err-behind_proc-clause-halts : goal.parse_procedure-returns-in_err-behind_proc-clause-halts
-parse_procedure-returns-in_err-behind_proc-clause-halts t c = let p = err_from_is_err_and c.from_residual.result c.from_residual.ensures.1 in
-    rw (p.1, p.2) (refused (into (token kind.Proc ∷ part g.Head ∷ part g.Declarations ∷ token kind.Begin ∷ part g.StatementList ∷ token kind.End
-    ∷ item.level_end ∷ []) (waits g.Procedure _ _) refl) refl (omega arith) c.in_err-behind_proc.ensures.none)
+parse_procedure-returns-in_err-behind_proc-clause-halts t c = at_exit _ c.from_residual.ensures.1 (refused
+    (into (token kind.Proc ∷ part g.Head ∷ part g.Declarations ∷ token kind.Begin ∷ part g.StatementList ∷ token kind.End ∷ item.level_end ∷ [])
+    (waits g.Procedure _ _) refl) refl (omega arith) c.in_err-behind_proc.ensures.none)
 
 pub parse_procedure-returns-in_err-heading-clause-halts : goal.parse_procedure-returns-in_err-heading-clause-halts
-parse_procedure-returns-in_err-heading-clause-halts t c = let p = err_from_is_err_and c.from_residual-in_err-heading.result
-    c.from_residual-in_err-heading.ensures.1 in
-    rw (p.1, p.2) (halts (open_front g.Procedure is.Proc (just is.Proc) procedure_proc (omega (arith, c.in_ok-behind_proc.ensures.room)) (refl, tt)
-    (waits g.Procedure _ _) c.in_ok-behind_proc.ensures.found) (omega arith) c.in_err-heading.ensures.halts)
+parse_procedure-returns-in_err-heading-clause-halts t c = at_exit _ c.from_residual-in_err-heading.ensures.1
+    (halts (open_front g.Procedure is.Proc (just is.Proc) procedure_proc (omega (arith, c.in_ok-behind_proc.ensures.room)) (refl, tt) (waits g.Procedure _ _)
+    c.in_ok-behind_proc.ensures.found) (omega arith) c.in_err-heading.ensures.halts)
 
 pub parse_procedure-returns-in_err-declarations-clause-halts : goal.parse_procedure-returns-in_err-declarations-clause-halts
-parse_procedure-returns-in_err-declarations-clause-halts t c = let p = err_from_is_err_and c.from_residual-in_err-declarations.result
-    c.from_residual-in_err-declarations.ensures.1 in
-    rw (p.1, p.2) (halts (over_part (open_front g.Procedure is.Proc (just is.Proc) procedure_proc (omega (arith, c.in_ok-behind_proc.ensures.room)) (refl, tt)
-    (waits g.Procedure _ _) c.in_ok-behind_proc.ensures.found) c.in_ok-heading.ensures.passes (omega arith)) (omega arith) c.in_err-declarations.ensures.halts)
+parse_procedure-returns-in_err-declarations-clause-halts t c = at_exit _ c.from_residual-in_err-declarations.ensures.1
+    (halts (over_part (open_front g.Procedure is.Proc (just is.Proc) procedure_proc (omega (arith, c.in_ok-behind_proc.ensures.room)) (refl, tt)
+    (waits g.Procedure _ _) c.in_ok-behind_proc.ensures.found) c.in_ok-heading.ensures.passes (omega arith)) (omega arith)
+    c.in_err-declarations.ensures.halts)
 
 pub parse_procedure-returns-in_err-behind_begin-clause-halts : goal.parse_procedure-returns-in_err-behind_begin-clause-halts
-parse_procedure-returns-in_err-behind_begin-clause-halts t c = let p = err_from_is_err_and c.from_residual-in_err-behind_begin.result
-    c.from_residual-in_err-behind_begin.ensures.1 in
-    rw (p.1, p.2) (lacks (procedure_declared c.in_ok-behind_proc.ensures.found c.in_ok-behind_proc.ensures.room c.in_ok-heading.ensures.passes
+parse_procedure-returns-in_err-behind_begin-clause-halts t c = at_exit _ c.from_residual-in_err-behind_begin.ensures.1
+    (lacks (procedure_declared c.in_ok-behind_proc.ensures.found c.in_ok-behind_proc.ensures.room c.in_ok-heading.ensures.passes
     c.in_ok-declarations.ensures.passes) c.in_err-behind_begin.ensures.none)
 
 pub parse_procedure-returns-in_err-list-clause-halts : goal.parse_procedure-returns-in_err-list-clause-halts
-parse_procedure-returns-in_err-list-clause-halts t c = let p = err_from_is_err_and c.from_residual-in_err-list.result c.from_residual-in_err-list.ensures.1 in
-    rw (p.1, p.2) (halts (procedure_begun (procedure_declared c.in_ok-behind_proc.ensures.found c.in_ok-behind_proc.ensures.room c.in_ok-heading.ensures.passes
+parse_procedure-returns-in_err-list-clause-halts t c = at_exit _ c.from_residual-in_err-list.ensures.1
+    (halts (procedure_begun (procedure_declared c.in_ok-behind_proc.ensures.found c.in_ok-behind_proc.ensures.room c.in_ok-heading.ensures.passes
     c.in_ok-declarations.ensures.passes) c.in_ok-behind_begin.ensures.found) (omega arith) c.in_err-list.ensures.halts)
 
 pub parse_procedure-returns-in_err-end-clause-halts : goal.parse_procedure-returns-in_err-end-clause-halts
-parse_procedure-returns-in_err-end-clause-halts t c = let p = err_from_is_err_and c.from_residual-in_err-end.result c.from_residual-in_err-end.ensures.1 in
-    rw (p.1, p.2) (lacks (over_part (procedure_begun
-    (procedure_declared c.in_ok-behind_proc.ensures.found c.in_ok-behind_proc.ensures.room c.in_ok-heading.ensures.passes c.in_ok-declarations.ensures.passes)
-    c.in_ok-behind_begin.ensures.found) c.in_ok-list.ensures.passes (omega arith)) c.in_err-end.ensures.none)
+parse_procedure-returns-in_err-end-clause-halts t c = at_exit _ c.from_residual-in_err-end.ensures.1
+    (lacks (over_part (procedure_begun (procedure_declared c.in_ok-behind_proc.ensures.found c.in_ok-behind_proc.ensures.room c.in_ok-heading.ensures.passes
+    c.in_ok-declarations.ensures.passes) c.in_ok-behind_begin.ensures.found) c.in_ok-list.ensures.passes (omega arith)) c.in_err-end.ensures.none)
 
 pub parse_procedure-returns-clause-passes : goal.parse_procedure-returns-clause-passes
 parse_procedure-returns-clause-passes t c = written
@@ -107,24 +103,21 @@ parse_procedure-returns-clause-passes t c = written
     ∙ ap (λ t. elements.procedure_elements t es) (sym c.make_procedure.ensures.seen))
 
 pub parse_procedure_item-returns-in_err-procedure-clause-halts : goal.parse_procedure_item-returns-in_err-procedure-clause-halts
-parse_procedure_item-returns-in_err-procedure-clause-halts t c = let p = err_from_is_err_and c.from_residual.result c.from_residual.ensures.1 in
-    rw (p.1, p.2) (halts (into (part g.Procedure ∷ []) (waits g.Item _ _) (item_procedure (front c.args.marks.now) c.requires.chosen)) (omega arith)
-    c.in_err-procedure.ensures.halts)
+parse_procedure_item-returns-in_err-procedure-clause-halts t c = at_exit _ c.from_residual.ensures.1
+    (alone_halts g.Procedure (item_procedure (front c.args.marks.now) c.requires.chosen) c.in_err-procedure.ensures.halts)
 
 pub parse_procedure_item-returns-clause-passes : goal.parse_procedure_item-returns-clause-passes
-parse_procedure_item-returns-clause-passes t c = written
-    (over_part (into (part g.Procedure ∷ []) (waits g.Item _ _) (item_procedure (front c.args.marks.now) c.requires.chosen)) c.in_ok-procedure.ensures.passes
-    (omega arith)) (λ es. ap (λ t. elements.item_elements t es) (sym c.make_procedure_item.ensures.seen))
+parse_procedure_item-returns-clause-passes t c = alone_passes g.Procedure (item_procedure (front c.args.marks.now) c.requires.chosen)
+    c.in_ok-procedure.ensures.passes (λ es. ap (λ t. elements.item_elements t es) (sym c.make_procedure_item.ensures.seen))
 
 pub parse_post-returns-in_err-behind_post-clause-halts : goal.parse_post-returns-in_err-behind_post-clause-halts
-parse_post-returns-in_err-behind_post-clause-halts t c = let p = err_from_is_err_and c.from_residual.result c.from_residual.ensures.1 in
-    rw (p.1, p.2) (lacks (into (token kind.Post ∷ part g.Procedure ∷ []) (waits g.Item _ _) (ap (λ a. rule_at edison g.Item a) c.requires.chosen ∙ item_post))
+parse_post-returns-in_err-behind_post-clause-halts t c = at_exit _ c.from_residual.ensures.1 (lacks
+    (into (token kind.Post ∷ part g.Procedure ∷ []) (waits g.Item _ _) (ap (λ a. rule_at edison g.Item a) c.requires.chosen ∙ item_post))
     c.in_err-behind_post.ensures.none)
 
 pub parse_post-returns-in_err-procedure-clause-halts : goal.parse_post-returns-in_err-procedure-clause-halts
-parse_post-returns-in_err-procedure-clause-halts t c = let p = err_from_is_err_and c.from_residual-in_err-procedure.result
-    c.from_residual-in_err-procedure.ensures.1 in
-    rw (p.1, p.2) (halts (over_front g.Item is.Post (just is.Post) item_post refl (refl, tt) (waits g.Item _ _) c.in_ok-behind_post.ensures.found) (omega arith)
+parse_post-returns-in_err-procedure-clause-halts t c = at_exit _ c.from_residual-in_err-procedure.ensures.1
+    (halts (over_front g.Item is.Post (just is.Post) item_post refl (refl, tt) (waits g.Item _ _) c.in_ok-behind_post.ensures.found) (omega arith)
     c.in_err-procedure.ensures.halts)
 
 pub parse_post-returns-clause-passes : goal.parse_post-returns-clause-passes
@@ -133,30 +126,28 @@ parse_post-returns-clause-passes t c = written
     c.in_ok-procedure.ensures.passes (omega arith)) (λ es. ap (λ t. elements.item_elements t es) (sym c.make_post.ensures.seen))
 
 pub parse_module-returns-in_err-behind_module-clause-halts : goal.parse_module-returns-in_err-behind_module-clause-halts
-parse_module-returns-in_err-behind_module-clause-halts t c = let p = err_from_is_err_and c.from_residual.result c.from_residual.ensures.1 in
-    rw (p.1, p.2) (refused (into (token kind.Module ∷ part g.Members ∷ token kind.Begin ∷ part g.StatementList ∷ token kind.End ∷ item.level_end ∷ [])
-    (waits g.Module _ _) refl) refl (omega arith) c.in_err-behind_module.ensures.none)
+parse_module-returns-in_err-behind_module-clause-halts t c = at_exit _ c.from_residual.ensures.1 (refused
+    (into (token kind.Module ∷ part g.Members ∷ token kind.Begin ∷ part g.StatementList ∷ token kind.End ∷ item.level_end ∷ []) (waits g.Module _ _) refl)
+    refl (omega arith) c.in_err-behind_module.ensures.none)
 
 pub parse_module-returns-in_err-members-clause-halts : goal.parse_module-returns-in_err-members-clause-halts
-parse_module-returns-in_err-members-clause-halts t c = let p = err_from_is_err_and c.from_residual-in_err-members.result
-    c.from_residual-in_err-members.ensures.1 in
-    rw (p.1, p.2) (halts (open_front g.Module is.Module (just is.Module) module_module (omega (arith, c.in_ok-behind_module.ensures.room)) (refl, tt)
-    (waits g.Module _ _) c.in_ok-behind_module.ensures.found) (omega arith) c.in_err-members.ensures.halts)
+parse_module-returns-in_err-members-clause-halts t c = at_exit _ c.from_residual-in_err-members.ensures.1
+    (halts (open_front g.Module is.Module (just is.Module) module_module (omega (arith, c.in_ok-behind_module.ensures.room)) (refl, tt) (waits g.Module _ _)
+    c.in_ok-behind_module.ensures.found) (omega arith) c.in_err-members.ensures.halts)
 
 pub parse_module-returns-in_err-behind_begin-clause-halts : goal.parse_module-returns-in_err-behind_begin-clause-halts
-parse_module-returns-in_err-behind_begin-clause-halts t c = let p = err_from_is_err_and c.from_residual-in_err-behind_begin.result
-    c.from_residual-in_err-behind_begin.ensures.1 in
-    rw (p.1, p.2) (lacks (over_part (open_front g.Module is.Module (just is.Module) module_module (omega (arith, c.in_ok-behind_module.ensures.room)) (refl, tt)
+parse_module-returns-in_err-behind_begin-clause-halts t c = at_exit _ c.from_residual-in_err-behind_begin.ensures.1
+    (lacks (over_part (open_front g.Module is.Module (just is.Module) module_module (omega (arith, c.in_ok-behind_module.ensures.room)) (refl, tt)
     (waits g.Module _ _) c.in_ok-behind_module.ensures.found) c.in_ok-members.ensures.passes (omega arith)) c.in_err-behind_begin.ensures.none)
 
 pub parse_module-returns-in_err-list-clause-halts : goal.parse_module-returns-in_err-list-clause-halts
-parse_module-returns-in_err-list-clause-halts t c = let p = err_from_is_err_and c.from_residual-in_err-list.result c.from_residual-in_err-list.ensures.1 in
-    rw (p.1, p.2) (halts (module_begun c.in_ok-behind_module.ensures.found c.in_ok-behind_module.ensures.room c.in_ok-members.ensures.passes
+parse_module-returns-in_err-list-clause-halts t c = at_exit _ c.from_residual-in_err-list.ensures.1
+    (halts (module_begun c.in_ok-behind_module.ensures.found c.in_ok-behind_module.ensures.room c.in_ok-members.ensures.passes
     c.in_ok-behind_begin.ensures.found) (omega arith) c.in_err-list.ensures.halts)
 
 pub parse_module-returns-in_err-rest-clause-halts : goal.parse_module-returns-in_err-rest-clause-halts
-parse_module-returns-in_err-rest-clause-halts t c = let p = err_from_is_err_and c.from_residual-in_err-rest.result c.from_residual-in_err-rest.ensures.1 in
-    rw (p.1, p.2) (lacks (over_part (module_begun c.in_ok-behind_module.ensures.found c.in_ok-behind_module.ensures.room c.in_ok-members.ensures.passes
+parse_module-returns-in_err-rest-clause-halts t c = at_exit _ c.from_residual-in_err-rest.ensures.1
+    (lacks (over_part (module_begun c.in_ok-behind_module.ensures.found c.in_ok-behind_module.ensures.room c.in_ok-members.ensures.passes
     c.in_ok-behind_begin.ensures.found) c.in_ok-list.ensures.passes (omega arith)) c.in_err-rest.ensures.none)
 
 pub parse_module-returns-clause-passes : goal.parse_module-returns-clause-passes
@@ -167,8 +158,8 @@ parse_module-returns-clause-passes t c = written
     (λ es. ap (λ t. elements.module_elements t es) (sym c.make_module.ensures.seen))
 
 pub parse_member-returns-in_err-exported-clause-halts : goal.parse_member-returns-in_err-exported-clause-halts
-parse_member-returns-in_err-exported-clause-halts t c = let p = err_from_is_err_and c.from_residual.result c.from_residual.ensures.1 in
-    rw (p.1, p.2) (halts (over_front g.Member is.Star (just is.Star) member_star refl (refl, tt) (waits g.Member _ _) c.in-Some.ensures.found) (omega arith)
+parse_member-returns-in_err-exported-clause-halts t c = at_exit _ c.from_residual.ensures.1 (halts
+    (over_front g.Member is.Star (just is.Star) member_star refl (refl, tt) (waits g.Member _ _) c.in-Some.ensures.found) (omega arith)
     c.in_err-exported.ensures.halts)
 
 pub parse_member-returns-in-Some-clause-passes : goal.parse_member-returns-in-Some-clause-passes
@@ -177,55 +168,48 @@ parse_member-returns-in-Some-clause-passes t c = written
     c.in_ok-exported.ensures.passes (omega arith)) (λ es. ap (λ t. elements.member_elements t es) (sym c.make_exported.ensures.seen))
 
 pub parse_member-returns-in_err-inner-clause-halts : goal.parse_member-returns-in_err-inner-clause-halts
-parse_member-returns-in_err-inner-clause-halts t c = let p = err_from_is_err_and c.from_residual-in_err-inner.result c.from_residual-in_err-inner.ensures.1 in
-    rw (p.1, p.2) (halts (into (part g.Module ∷ []) (waits g.Member _ _)
-    (ap (λ a. rule_at edison g.Member a) (eqb-true (front c.args.marks.now) kind.Module (sym c.at.ensures.exact ∙ c.if-at.true)))) (omega arith)
+parse_member-returns-in_err-inner-clause-halts t c = at_exit _ c.from_residual-in_err-inner.ensures.1
+    (alone_halts g.Module (ap (λ a. rule_at edison g.Member a) (eqb-true (front c.args.marks.now) kind.Module (sym c.at.ensures.exact ∙ c.if-at.true)))
     c.in_err-inner.ensures.halts)
 
 pub parse_member-returns-then-at-clause-passes : goal.parse_member-returns-then-at-clause-passes
-parse_member-returns-then-at-clause-passes t c = written
-    (over_part (into (part g.Module ∷ []) (waits g.Member _ _)
-    (ap (λ a. rule_at edison g.Member a) (eqb-true (front c.args.marks.now) kind.Module (sym c.at.ensures.exact ∙ c.if-at.true)))) c.in_ok-inner.ensures.passes
-    (omega arith)) (λ es. ap (λ t. elements.member_elements t es) (sym c.make_module_member.ensures.seen))
+parse_member-returns-then-at-clause-passes t c = alone_passes g.Module (ap (λ a. rule_at edison g.Member a)
+    (eqb-true (front c.args.marks.now) kind.Module (sym c.at.ensures.exact ∙ c.if-at.true))) c.in_ok-inner.ensures.passes
+    (λ es. ap (λ t. elements.member_elements t es) (sym c.make_module_member.ensures.seen))
 
 pub parse_member-returns-in_err-plain-clause-halts : goal.parse_member-returns-in_err-plain-clause-halts
-parse_member-returns-in_err-plain-clause-halts t c = let p = err_from_is_err_and c.from_residual-in_err-plain.result c.from_residual-in_err-plain.ensures.1 in
-    rw (p.1, p.2) (halts (into (part g.Item ∷ []) (waits g.Member _ _)
-    (rw (ne_eqb (front _) kind.Star c.in_default.ensures.none, sym c.at.ensures.exact ∙ c.if-at.false) refl)) (omega arith) c.in_err-plain.ensures.halts)
+parse_member-returns-in_err-plain-clause-halts t c = at_exit _ c.from_residual-in_err-plain.ensures.1
+    (alone_halts g.Item (rw (ne_eqb (front _) kind.Star c.in_default.ensures.none, sym c.at.ensures.exact ∙ c.if-at.false) refl) c.in_err-plain.ensures.halts)
 
 pub parse_member-returns-clause-passes : goal.parse_member-returns-clause-passes
-parse_member-returns-clause-passes t c = written
-    (over_part (into (part g.Item ∷ []) (waits g.Member _ _)
-    (rw (ne_eqb (front _) kind.Star c.in_default.ensures.none, sym c.at.ensures.exact ∙ c.if-at.false) refl)) c.in_ok-plain.ensures.passes (omega arith))
-    (λ es. ap (λ t. elements.member_elements t es) (sym c.make_item_member.ensures.seen))
+parse_member-returns-clause-passes t c = alone_passes g.Item (rw (
+  ne_eqb (front _) kind.Star c.in_default.ensures.none,
+  sym c.at.ensures.exact
+      ∙ c.if-at.false,
+) refl) c.in_ok-plain.ensures.passes (λ es. ap (λ t. elements.member_elements t es) (sym c.make_item_member.ensures.seen))
 
 pub parse_declaration-returns-in_err-inner-clause-halts : goal.parse_declaration-returns-in_err-inner-clause-halts
-parse_declaration-returns-in_err-inner-clause-halts t c = let p = err_from_is_err_and c.from_residual.result c.from_residual.ensures.1 in
-    rw (p.1, p.2) (halts (into (part g.Module ∷ []) (waits g.Declaration _ _)
-    (ap (λ a. rule_at edison g.Declaration a) (eqb-true (front c.args.marks.now) kind.Module (sym c.at.ensures.exact ∙ c.if-at.true)))) (omega arith)
+parse_declaration-returns-in_err-inner-clause-halts t c = at_exit _ c.from_residual.ensures.1 (alone_halts g.Module
+    (ap (λ a. rule_at edison g.Declaration a) (eqb-true (front c.args.marks.now) kind.Module (sym c.at.ensures.exact ∙ c.if-at.true)))
     c.in_err-inner.ensures.halts)
 
 pub parse_declaration-returns-then-at-clause-passes : goal.parse_declaration-returns-then-at-clause-passes
-parse_declaration-returns-then-at-clause-passes t c = written
-    (over_part (into (part g.Module ∷ []) (waits g.Declaration _ _)
-    (ap (λ a. rule_at edison g.Declaration a) (eqb-true (front c.args.marks.now) kind.Module (sym c.at.ensures.exact ∙ c.if-at.true))))
-    c.in_ok-inner.ensures.passes (omega arith)) (λ es. ap (λ t. elements.declaration_elements t es) (sym c.make_module_declaration.ensures.seen))
+parse_declaration-returns-then-at-clause-passes t c = alone_passes g.Module (ap (λ a. rule_at edison g.Declaration a)
+    (eqb-true (front c.args.marks.now) kind.Module (sym c.at.ensures.exact ∙ c.if-at.true))) c.in_ok-inner.ensures.passes
+    (λ es. ap (λ t. elements.declaration_elements t es) (sym c.make_module_declaration.ensures.seen))
 
 pub parse_declaration-returns-in_err-item-clause-halts : goal.parse_declaration-returns-in_err-item-clause-halts
-parse_declaration-returns-in_err-item-clause-halts t c = let p = err_from_is_err_and c.from_residual-in_err-item.result
-    c.from_residual-in_err-item.ensures.1 in
-    rw (p.1, p.2) (halts (into (part g.Item ∷ []) (waits g.Declaration _ _) (rw (sym c.at.ensures.exact ∙ c.if-at.false) refl)) (omega arith)
-    c.in_err-item.ensures.halts)
+parse_declaration-returns-in_err-item-clause-halts t c = at_exit _ c.from_residual-in_err-item.ensures.1
+    (alone_halts g.Item (rw (sym c.at.ensures.exact ∙ c.if-at.false) refl) c.in_err-item.ensures.halts)
 
 pub parse_declaration-returns-clause-passes : goal.parse_declaration-returns-clause-passes
-parse_declaration-returns-clause-passes t c = written
-    (over_part (into (part g.Item ∷ []) (waits g.Declaration _ _) (rw (sym c.at.ensures.exact ∙ c.if-at.false) refl)) c.in_ok-item.ensures.passes (omega arith))
+parse_declaration-returns-clause-passes t c = alone_passes g.Item (rw (sym c.at.ensures.exact ∙ c.if-at.false) refl) c.in_ok-item.ensures.passes
     (λ es. ap (λ t. elements.declaration_elements t es) (sym c.make_item_declaration.ensures.seen))
 
 pub parse_members-returns-in_err-member-clause-halts : goal.parse_members-returns-in_err-member-clause-halts
-parse_members-returns-in_err-member-clause-halts t c = let p = err_from_is_err_and c.from_residual.result c.from_residual.ensures.1 in
-    rw (p.1, p.2) (repeated_halts g.Members g.Member (members_more (front c.loop-alloc.rest.now) (sym c.at_member.ensures.exact ∙ c.loop-alloc-test.true))
-    c.loop-alloc.invariant.goes c.in_err-member.ensures.halts)
+parse_members-returns-in_err-member-clause-halts t c = at_exit _ c.from_residual.ensures.1 (repeated_halts g.Members g.Member
+    (members_more (front c.loop-alloc.rest.now) (sym c.at_member.ensures.exact ∙ c.loop-alloc-test.true)) c.loop-alloc.invariant.goes
+    c.in_err-member.ensures.halts)
 
 pub parse_members-loop-alloc-preserved : goal.parse_members-loop-alloc-preserved
 parse_members-loop-alloc-preserved t c =
@@ -243,9 +227,9 @@ parse_members-returns-clause-passes t c = written
     (λ es. ap (λ l. elements.members_elements (view.members (map view.member_of l)) es) (sym c.from_vec.ensures.exact))
 
 pub parse_declarations-returns-in_err-declaration-clause-halts : goal.parse_declarations-returns-in_err-declaration-clause-halts
-parse_declarations-returns-in_err-declaration-clause-halts t c = let p = err_from_is_err_and c.from_residual.result c.from_residual.ensures.1 in
-    rw (p.1, p.2) (repeated_halts g.Declarations g.Declaration (declarations_more (front c.loop-alloc.rest.now) (sym c.at_declaration.ensures.exact ∙ c.loop-alloc-test.true))
-    c.loop-alloc.invariant.goes c.in_err-declaration.ensures.halts)
+parse_declarations-returns-in_err-declaration-clause-halts t c = at_exit _ c.from_residual.ensures.1
+    (repeated_halts g.Declarations g.Declaration (declarations_more (front c.loop-alloc.rest.now)
+    (sym c.at_declaration.ensures.exact ∙ c.loop-alloc-test.true)) c.loop-alloc.invariant.goes c.in_err-declaration.ensures.halts)
 
 pub parse_declarations-loop-alloc-preserved : goal.parse_declarations-loop-alloc-preserved
 parse_declarations-loop-alloc-preserved t c =

@@ -1,18 +1,17 @@
 use Rattle.std.proofs.Common.{rules, ◌∙◌, [], map, ap, refl, sym, arith}
-use Rattle.std.proofs.lemmas.Result.{err_from_is_err_and}
 use Rattle.edi_tree.specs.Levels as elements
 use Rattle.edi_tree.specs.View as view
 use Rattle.edi_grammar.specs.Kind.{front}
 use Rattle.edi_grammar.specs.Rules as g
-use Rattle.edi_phrases.proofs.Moves.{into, written}
+use Rattle.edi_phrases.proofs.Moves.{at_exit, into, written}
 use Rattle.edi_phrases.proofs.Pushes.{repeated, repeated_halts}
 use Rattle.edi_declarations.proofs.Choices.{globals_more, globals_end}
 use Rattle.edi_declarations.proofs.globals.parse_globals.Goals as goal
 
 pub returns-in_err-global-clause-halts : goal.returns-in_err-global-clause-halts
-returns-in_err-global-clause-halts c = let p = err_from_is_err_and c.from_residual.result c.from_residual.ensures.1 in
-    rw (p.1, p.2) (repeated_halts g.Globals g.Global (globals_more (front c.loop-alloc.rest.now) (sym c.at_global.ensures.exact ∙ c.loop-alloc-test.true))
-    c.loop-alloc.invariant.goes c.in_err-global.ensures.halts)
+returns-in_err-global-clause-halts c = at_exit _ c.from_residual.ensures.1 (repeated_halts g.Globals g.Global
+    (globals_more (front c.loop-alloc.rest.now) (sym c.at_global.ensures.exact ∙ c.loop-alloc-test.true)) c.loop-alloc.invariant.goes
+    c.in_err-global.ensures.halts)
 
 pub loop-alloc-preserved : goal.loop-alloc-preserved
 loop-alloc-preserved c = record {
