@@ -2,16 +2,4 @@
 #![tactic(auto)]
 
 #[cfg(test)]
-mod calls;
-#[cfg(test)]
-mod faults;
-#[cfg(test)]
-mod files;
-#[cfg(test)]
-mod image;
-#[cfg(test)]
-mod objects;
-#[cfg(test)]
-mod programs;
-#[cfg(test)]
-mod requests;
+mod rows;

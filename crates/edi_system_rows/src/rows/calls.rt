@@ -45,35 +45,20 @@ fn name(title: &str) -> [u16; 12] {
     words
 }
 
-// Makes a call with an answer word; `None` where an object has failed.
-fn ask<C: Calls>(calls: &mut C, number: u8, args: &[u16]) -> Option<Answer>
+// Makes a call with as many answer words as there is room for, at most one; `None` where an object has failed.
+fn ask<C: Calls>(calls: &mut C, number: u8, args: &[u16], answer: &mut [u16]) -> Option<Answer>
     requires from { 1 ≤ number }
     requires to { number ≤ 10 }
     requires arguments { length args.now ≡ argument_words number }
-    requires answer { answer_words number ≡ 1 }
+    requires answer { length answer.old ≡ answer_words number }
     requires working { C.failed calls.old None }
     ensures working { IsSome result → C.failed calls.new None }
 {
-    let mut answer = [999; 1];
-    match calls.call(number, args, &mut answer) {
-        CallEnd::Ok => Some(Answer::Word(answer[0])),
-        CallEnd::NoFile => Some(Answer::NoFile),
-        CallEnd::FileLimit => Some(Answer::FileLimit),
-        CallEnd::OutsideFault => None,
-    }
-}
-
-// Makes a call without an answer word; `None` where an object has failed.
-fn tell<C: Calls>(calls: &mut C, number: u8, args: &[u16]) -> Option<Answer>
-    requires from { 1 ≤ number }
-    requires to { number ≤ 10 }
-    requires arguments { length args.now ≡ argument_words number }
-    requires answer { answer_words number ≡ 0 }
-    requires working { C.failed calls.old None }
-    ensures working { IsSome result → C.failed calls.new None }
-{
-    match calls.call(number, args, &mut []) {
-        CallEnd::Ok => Some(Answer::Done),
+    match calls.call(number, args, answer) {
+        CallEnd::Ok => match answer.first() {
+            Some(word) => Some(Answer::Word(*word)),
+            None => Some(Answer::Done),
+        },
         CallEnd::NoFile => Some(Answer::NoFile),
         CallEnd::FileLimit => Some(Answer::FileLimit),
         CallEnd::OutsideFault => None,
@@ -87,7 +72,7 @@ fn read_on<C: Calls>(calls: &mut C, many: u16) -> Option<Answer>
 {
     let mut last = Answer::Done;
     for _ in 0..many {
-        match ask(calls, 6, &[]) {
+        match ask(calls, 6, &[], &mut [999]) {
             Some(answer) => last = answer,
             None => return None,
         }
@@ -104,17 +89,17 @@ fn make<D: Drive, S: Source, T: Sink, P: Sink>(
     ensures working { IsSome result → HasFailed D.contents D.count calls.new None }
 {
     match call {
-        Call::Accept => ask(calls, 1, &[]),
-        Call::Display(c) => tell(calls, 2, &[c]),
-        Call::Print(c) => tell(calls, 3, &[c]),
-        Call::Find(title) => ask(calls, 4, &name(title)),
-        Call::More => ask(calls, 5, &[]),
-        Call::Read => ask(calls, 6, &[]),
+        Call::Accept => ask(calls, 1, &[], &mut [999]),
+        Call::Display(c) => ask(calls, 2, &[c], &mut []),
+        Call::Print(c) => ask(calls, 3, &[c], &mut []),
+        Call::Find(title) => ask(calls, 4, &name(title), &mut [999]),
+        Call::More => ask(calls, 5, &[], &mut [999]),
+        Call::Read => ask(calls, 6, &[], &mut [999]),
         Call::ReadOn(many) => read_on(calls, many),
-        Call::Fresh => tell(calls, 7, &[]),
-        Call::Write(c) => tell(calls, 8, &[c]),
-        Call::Close(title) => ask(calls, 9, &name(title)),
-        Call::Remove(title) => ask(calls, 10, &name(title)),
+        Call::Fresh => ask(calls, 7, &[], &mut []),
+        Call::Write(c) => ask(calls, 8, &[c], &mut []),
+        Call::Close(title) => ask(calls, 9, &name(title), &mut [999]),
+        Call::Remove(title) => ask(calls, 10, &name(title), &mut [999]),
     }
 }
 

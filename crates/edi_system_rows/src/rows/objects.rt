@@ -1,8 +1,8 @@
 //! A system over objects in memory.
 
-use crate::calls::{self, Answer, Call};
-use crate::image::{Image, image_bytes, zeros};
-use crate::requests::{self, Reply, Request};
+use crate::rows::calls::{self, Answer, Call};
+use crate::rows::image::{Image, image_bytes, zeros};
+use crate::rows::requests::{self, Reply, Request};
 use edi_calls::Outside;
 use edi_catalog::{check, mount};
 use edi_disk::Disk;
@@ -69,6 +69,34 @@ fn told<D: Drive, S: Source, T: Sink, P: Sink>(
         Table::Requests(table) => requests::answered(&mut system, table, room),
     };
     Some((count, system.failed()))
+}
+
+/// The number of its calls.
+pub(crate) fn count_of(table: Table<'_>) -> usize {
+    match table {
+        Table::Calls(table) => table.len(),
+        Table::Requests(table) => table.len(),
+    }
+}
+
+/// The case in which no object fails and each call is answered.
+pub(crate) fn unbroken<'a>(
+    table: Table<'a>,
+    input: &'a [u8],
+    capacity: usize,
+    shown: &'a [u8],
+    printed: &'a [u8],
+) -> Case<'a> {
+    Case {
+        table,
+        input,
+        capacity,
+        fails: (Outside::Drive, 0),
+        answered: count_of(table),
+        failed: None,
+        shown,
+        printed,
+    }
 }
 
 fn with_streams<D: Drive, S: Source, T: Sink, P: Sink>(
@@ -151,16 +179,7 @@ fn has_files(
 ) -> Result<bool, AllocError> {
     assert!(rt; bytes.len() % 512 == 0);
     let mut drive = MemoryDrive::new(alloc, bytes, &[0], false)?;
-    let case = Case {
-        table: Table::Requests(files),
-        input: b"",
-        capacity: 0,
-        fails: (Outside::Drive, 0),
-        answered: files.len(),
-        failed: None,
-        shown: b"",
-        printed: b"",
-    };
+    let case = unbroken(Table::Requests(files), b"", 0, b"", b"");
     with_drive(alloc, &mut drive, case, None)
 }
 

@@ -108,18 +108,10 @@ fn first_byte<D: Drive, S: Source, T: Sink, P: Sink>(
     }
 }
 
-// The number of the bytes of a file.
-fn whole<D: Drive, S: Source, T: Sink, P: Sink>(
-    system: &mut System<'_, '_, '_, '_, '_, '_, D, S, T, P>,
-    title: &Title,
-    room: &mut [u8],
-) -> Option<Reply>
-    requires ready { IsReady D.contents D.count system.old }
-    requires room { most_bytes ≤ length room.old }
-    ensures ready { IsSome result → IsReady D.contents D.count system.new }
-    ensures room { length room.new ≡ length room.old }
+// The number of the bytes of a file, unless the call has failed.
+fn whole(answer: Result<u32, CatEnd>) -> Option<Reply>
+    ensures { IsSome result → is_drive_fault answer ≡ false }
 {
-    let answer = system.read_into(title, room);
     if is_fault(&answer) {
         return None;
     }
@@ -200,7 +192,7 @@ fn make<D: Drive, S: Source, T: Sink, P: Sink>(
     match request {
         Request::Find(text) => Some(file_of(system.find(&title(text)?))),
         Request::Page(text, i) => first_byte(system, &title(text)?, i),
-        Request::Whole(text) => whole(system, &title(text)?, room),
+        Request::Whole(text) => whole(system.read_into(&title(text)?, room)),
         Request::Store(text, bytes) => store(system, &title(text)?, bytes.as_bytes()),
         Request::Delete(text) => reply_of(system.delete(&title(text)?)),
         Request::Rename(old, new) => reply_of(system.rename(&title(old)?, &title(new)?)),

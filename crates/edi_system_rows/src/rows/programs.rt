@@ -1,8 +1,10 @@
 //! Programs' calls over objects in memory.
 
-use crate::calls::Answer::{Done, NoFile, Word};
-use crate::calls::Call::{Accept, Close, Display, Find, Fresh, More, Print, Read, Remove, Write};
-use crate::objects::{Case, Table, holds};
+use crate::rows::calls::Answer::{Done, NoFile, Word};
+use crate::rows::calls::Call::{
+    Accept, Close, Display, Find, Fresh, More, Print, Read, Remove, Write,
+};
+use crate::rows::objects::{Case, Table, holds, unbroken};
 use edi_calls::Outside;
 use std::test::Fail;
 
@@ -59,16 +61,7 @@ fn each_call_is_answered(rt: HostRuntime) -> Result<(), Fail> {
         (Remove("text"), Word(0)),
         (Find("text"), Word(0)),
     ];
-    let case = Case {
-        table: Table::Calls(&table),
-        input: INPUT,
-        capacity: 16,
-        fails: (Outside::Drive, 0),
-        answered: table.len(),
-        failed: None,
-        shown: b"A",
-        printed: b"B",
-    };
+    let case = unbroken(Table::Calls(&table), INPUT, 16, b"A", b"B");
     assert!(rt; holds(&rt, rt.alloc(), case)?);
     Ok(())
 }

@@ -1,8 +1,8 @@
 //! The shell's calls over objects in memory.
 
-use crate::objects::{Case, Table, holds};
-use crate::requests::Reply::{File, No, Number, Refused, Yes};
-use crate::requests::Request::{
+use crate::rows::objects::{Case, Table, holds, unbroken};
+use crate::rows::requests::Reply::{File, No, Number, Refused, Yes};
+use crate::rows::requests::Request::{
     Delete, Due, Find, Free, FreshLine, Page, PrintOut, Protect, Release, Rename, Show, Slot,
     Store, Take, Whole,
 };
@@ -55,16 +55,7 @@ fn the_shell_shows_and_stores(rt: HostRuntime) -> Result<(), Fail> {
         (Delete("other"), Yes),
         (Free, Number(27)),
     ];
-    let case = Case {
-        table: Table::Requests(&table),
-        input: b"x",
-        capacity: 5,
-        fails: (Outside::Drive, 0),
-        answered: table.len(),
-        failed: None,
-        shown: b"ab\n",
-        printed: b"cd",
-    };
+    let case = unbroken(Table::Requests(&table), b"x", 5, b"ab\n", b"cd");
     assert!(rt; holds(&rt, rt.alloc(), case)?);
     Ok(())
 }

@@ -1,14 +1,14 @@
 //! What each call leaves where one of the objects fails in it: the files from before it, or those that it was to leave.
 
-use crate::calls::Answer::{Done, Word};
-use crate::calls::Call::{
+use crate::rows::calls::Answer::{Done, Word};
+use crate::rows::calls::Call::{
     Accept, Close, Display, Find, Fresh, More, Print, Read, ReadOn, Remove, Write,
 };
-use crate::image::Image;
-use crate::objects::{Case, Table, leaves};
-use crate::requests::Reply;
-use crate::requests::Reply::{File, No, Number, Yes};
-use crate::requests::Request::{
+use crate::rows::image::Image;
+use crate::rows::objects::{Case, Table, count_of, leaves};
+use crate::rows::requests::Reply;
+use crate::rows::requests::Reply::{File, No, Number, Yes};
+use crate::rows::requests::Request::{
     self, Delete, Free, FreshLine, Page, PrintOut, Protect, Release, Rename, Show, Slot, Store,
     Take, Whole,
 };
@@ -19,6 +19,11 @@ use std::test::Fail;
 
 /// Nothing of the input is taken.
 const INPUT: &[u8] = b"xy";
+
+/// The text and the protected file of the image.
+const TEXT: Reply = File(FileKind::Text, 3, false);
+
+const KEPT: Reply = File(FileKind::Text, 0, true);
 
 /// What the slots have, the free blocks, and the first byte of a file.
 type Files = [(Request, Reply); 6];
@@ -40,13 +45,6 @@ fn files(
         (Free, Number(free)),
         (Page(of, 0), byte),
     ]
-}
-
-fn count_of(table: Table<'_>) -> usize {
-    match table {
-        Table::Calls(table) => table.len(),
-        Table::Requests(table) => table.len(),
-    }
 }
 
 // A table of calls of which the last uses the drive; the drive's call behind which it has changed the files; the files then.
@@ -108,21 +106,19 @@ fn is_before_or_after(
 #[test]
 fn a_drive_that_fails_in_a_call_has_the_files_before_or_after(rt: HostRuntime) -> Result<(), Fail> {
     let alloc = rt.alloc();
-    let text = File(FileKind::Text, 3, false);
-    let kept = File(FileKind::Text, 0, true);
-    let before = files(text, kept, No, 27, "text", Number(104));
-    let gone = files(No, kept, No, 29, "text", No);
-    let renamed = files(text, kept, No, 27, "t2", Number(104));
+    let before = files(TEXT, KEPT, No, 27, "text", Number(104));
+    let gone = files(No, KEPT, No, 29, "text", No);
+    let renamed = files(TEXT, KEPT, No, 27, "t2", Number(104));
     let protected = files(
         File(FileKind::Text, 3, true),
-        kept,
+        KEPT,
         No,
         27,
         "text",
         Number(104),
     );
     let released = files(
-        text,
+        TEXT,
         File(FileKind::Text, 0, false),
         No,
         27,
@@ -130,8 +126,8 @@ fn a_drive_that_fails_in_a_call_has_the_files_before_or_after(rt: HostRuntime) -
         Number(104),
     );
     let stored = files(
-        text,
-        kept,
+        TEXT,
+        KEPT,
         File(FileKind::Text, 1, false),
         25,
         "new",
@@ -231,9 +227,7 @@ fn stays(
 #[test]
 fn a_stream_that_fails_in_a_call_is_as_before(rt: HostRuntime) -> Result<(), Fail> {
     let alloc = rt.alloc();
-    let text = File(FileKind::Text, 3, false);
-    let kept = File(FileKind::Text, 0, true);
-    let before = files(text, kept, No, 27, "text", Number(104));
+    let before = files(TEXT, KEPT, No, 27, "text", Number(104));
     let accept = [(Accept, Word(120))];
     let display = [(Display(97), Done)];
     let print = [(Print(99), Done)];

@@ -1,0 +1,9 @@
+//! The examples, a file for each subject.
+
+mod calls;
+mod faults;
+mod files;
+mod image;
+mod objects;
+mod programs;
+mod requests;
