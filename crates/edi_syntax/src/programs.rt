@@ -81,6 +81,18 @@ fn fault_of_deep(symbols: &Symbols, rest: &[Mark]) -> SyntaxFault
     }
 }
 
+/// The fault of symbols at which the parser stops so.
+fn fault_of(symbols: &Symbols, stop: Stop<'_>) -> SyntaxFault
+    requires { EndsAt symbols.now.marks stop }
+    ensures exact { Refuses symbols.now.marks symbols.now.last result }
+{
+    match stop {
+        Stop::Fault(rest) => fault_of_wrong(symbols, rest),
+        Stop::TooDeep(rest) => fault_of_deep(symbols, rest),
+        Stop::NoMemory => SyntaxFault::NoMemory,
+    }
+}
+
 /// The tree that the symbols spell, which at most 64 levels may be open in; else the first symbol at which they are no
 /// program, or which opens a 65th level. Each comes exactly where it is so, but that memory may be wanting.
 pub fn parse(alloc: Global, symbols: &Symbols) -> Result<Program, SyntaxFault>
@@ -93,8 +105,6 @@ pub fn parse(alloc: Global, symbols: &Symbols) -> Result<Program, SyntaxFault>
     let _last = symbols.last;
     match parse_program(alloc, symbols.marks.as_slice()) {
         Ok((globals, procedure)) => Ok(Program { globals, procedure }),
-        Err(Stop::NoMemory) => Err(SyntaxFault::NoMemory),
-        Err(Stop::Fault(rest)) => Err(fault_of_wrong(symbols, rest)),
-        Err(Stop::TooDeep(rest)) => Err(fault_of_deep(symbols, rest)),
+        Err(stop) => Err(fault_of(symbols, stop)),
     }
 }

@@ -17,18 +17,9 @@ returns-in-Ok-clause-refused c = λ f h. absurd
     (no_tree c.args.symbols.now.marks c.args.symbols.now.last f (program_with c.in-Ok.globals c.in-Ok.procedure) h
     (subst (λ l. Spells (program_with c.in-Ok.globals c.in-Ok.procedure) l) c.as_slice.ensures.all c.in-Ok.ensures.tree.spells) c.in-Ok.ensures.tree.shallow)
 
-pub returns-in-Err-Fault-clause-accepted : goal.returns-in-Err-Fault-clause-accepted
-returns-in-Err-Fault-clause-accepted c = λ tree h small. refuses_no_program c.args.symbols.now.marks c.args.symbols.now.last c.fault_of_wrong.result tree
-    c.fault_of_wrong.ensures.exact h small
+pub returns-in-Err-clause-accepted : goal.returns-in-Err-clause-accepted
+returns-in-Err-clause-accepted c = λ tree h small. refuses_no_program c.args.symbols.now.marks c.args.symbols.now.last c.fault_of.result tree
+    c.fault_of.ensures.exact h small
 
-pub returns-in-Err-Fault-clause-refused : goal.returns-in-Err-Fault-clause-refused
-returns-in-Err-Fault-clause-refused c = λ f h. refuses_by_it c.args.symbols.now.marks c.args.symbols.now.last c.fault_of_wrong.result f
-    c.fault_of_wrong.ensures.exact h
-
-pub returns-in-Err-TooDeep-clause-accepted : goal.returns-in-Err-TooDeep-clause-accepted
-returns-in-Err-TooDeep-clause-accepted c = λ tree h small. refuses_no_program c.args.symbols.now.marks c.args.symbols.now.last c.fault_of_deep.result tree
-    c.fault_of_deep.ensures.exact h small
-
-pub returns-in-Err-TooDeep-clause-refused : goal.returns-in-Err-TooDeep-clause-refused
-returns-in-Err-TooDeep-clause-refused c = λ f h. refuses_by_it c.args.symbols.now.marks c.args.symbols.now.last c.fault_of_deep.result f
-    c.fault_of_deep.ensures.exact h
+pub returns-in-Err-clause-refused : goal.returns-in-Err-clause-refused
+returns-in-Err-clause-refused c = λ f h. refuses_by_it c.args.symbols.now.marks c.args.symbols.now.last c.fault_of.result f c.fault_of.ensures.exact h
