@@ -84,8 +84,6 @@ same_program tree other marks h f =
 
 -- a symbol opens a level in the tree where its kind does in the grammar
 opens_same : (s : Symbol) → opens s ≡ g.opens (kind_of s)
-opens_same (is.Name text) = refl
-opens_same (is.Numeral v) = refl
 opens_same (is.Chars []) = refl
 opens_same (is.Chars (c ∷ [])) = refl
 opens_same (is.Chars (c ∷ d ∷ more)) = refl

@@ -17,8 +17,6 @@ use Rattle.edi_derivation.proofs.Builds.{text_of, value_of, first_of, line_in, n
 
 -- a symbol is the one of its kind with its values
 symbol_at : (s : Symbol) → Some s ≡ symbol_no (symbols_with (text_of s) (first_of (text_of s)) (value_of s)) (kind_of s)
-symbol_at (is.Name text) = refl
-symbol_at (is.Numeral v) = refl
 symbol_at (is.Chars []) = refl
 symbol_at (is.Chars (c ∷ [])) = refl
 symbol_at (is.Chars (c ∷ d ∷ more)) = refl
