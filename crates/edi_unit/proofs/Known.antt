@@ -6,7 +6,7 @@ use Rattle.edi_unit.specs.declared.expressions.Operator.{Operator}
 use Rattle.edi_unit.specs.declared.expressions.Operator.TheVariants as op
 use Rattle.edi_unit.specs.declared.units.Parameter.{Parameter}
 use Rattle.edi_unit.specs.declared.units.Parameter.TheVariants as slot
-use Rattle.edi_unit.specs.Types.{Shape, int, char, bool, enumeration, record_of, array_of, set_of, shape_at, int_type, fields_of, named_types, AreDeclared}
+use Rattle.edi_unit.specs.Types.{Shape, record_of, array_of, shape_at, int_type, fields_of, named_types, AreDeclared}
 use Rattle.edi_unit.specs.Need.{slot_type, slot_result, element_type, operator_type}
 use Rattle.edi_unit.specs.Fits.{is_variable, SlotIsKnown}
 use Rattle.edi_unit.proofs.Tables.{length-before}
@@ -46,26 +46,16 @@ module _ (types : List Shape) where
     standard_known t h = omega (arith, h, three)
 
     pub element_known : (s : Shape) → All (λ u. u < length types) (named_types s) → element_type s < length types
-    element_known int h = standard_known 0 (omega arith)
-    element_known char h = standard_known 0 (omega arith)
-    element_known bool h = standard_known 0 (omega arith)
-    element_known (enumeration n) h = standard_known 0 (omega arith)
-    element_known (record_of fs) h = standard_known 0 (omega arith)
     element_known (array_of i lo hi e) h = h 1 0 (omega arith)
-    element_known (set_of t) h = standard_known 0 (omega arith)
+    element_known s h = standard_known 0 (omega arith)
 
     pub found_known : (o : Option ℕ) → IfSome o (λ u. u < length types) → unwrap_or o int_type < length types
     found_known None h = standard_known 0 (omega arith)
     found_known (Some t) h = h
 
     pub field_known : (s : Shape) (n : ℕ) → All (λ u. u < length types) (named_types s) → unwrap_or (slice_get (fields_of s) n) int_type < length types
-    field_known int n h = standard_known 0 (omega arith)
-    field_known char n h = standard_known 0 (omega arith)
-    field_known bool n h = standard_known 0 (omega arith)
-    field_known (enumeration k) n h = standard_known 0 (omega arith)
     field_known (record_of fs) n h = found_known (slice_get fs n) (all_some (λ u. u < length types) fs n h)
-    field_known (array_of i lo hi e) n h = standard_known 0 (omega arith)
-    field_known (set_of t) n h = standard_known 0 (omega arith)
+    field_known s n h = standard_known 0 (omega arith)
 
     pub operator_known : (o : Operator) (t : ℕ) → t < length types → operator_type o t < length types
     operator_known op.Equal t h = standard_known 2 (omega arith)
@@ -75,10 +65,4 @@ module _ (types : List Shape) where
     operator_known op.Greater t h = standard_known 2 (omega arith)
     operator_known op.GreaterOrEqual t h = standard_known 2 (omega arith)
     operator_known op.In t h = standard_known 2 (omega arith)
-    operator_known op.Plus t h = h
-    operator_known op.Minus t h = h
-    operator_known op.Times t h = h
-    operator_known op.Div t h = h
-    operator_known op.Mod t h = h
-    operator_known op.And t h = h
-    operator_known op.Or t h = h
+    operator_known o t h = h

@@ -4,33 +4,10 @@
 ghost use Rattle.std.specs.Prelude.{◌≡◌, ◌+◌, ◌≤◌, map, sum_by};
 ghost use Rattle.edi_unit.specs.Lists.{list_items};
 ghost use Rattle.edi_unit.specs.Types.{is_set_shape, shape_at};
-ghost use Rattle.edi_unit.specs.View.{
-  argument_of,
-  arguments_of,
-  block_of,
-  expression_of,
-  expressions_of,
-  link_of,
-  links_of,
-  part_of,
-  parts_of,
-  place_of,
-};
-ghost use Rattle.edi_unit.specs.Need.{
-  argument_words,
-  arguments_height,
-  compound_height,
-  expression_height,
-  left_words,
-  limited,
-  links_height,
-  members_height,
-  part_height,
-  parts_height,
-  place_height,
-  result_words,
-  too_large,
-};
+ghost use Rattle.edi_unit.specs.View.{argument_of, arguments_of, block_of, expression_of, expressions_of};
+ghost use Rattle.edi_unit.specs.View.{link_of, links_of, part_of, parts_of, place_of};
+ghost use Rattle.edi_unit.specs.Need.{argument_words, arguments_height, compound_height, expression_height, left_words, limited, links_height};
+ghost use Rattle.edi_unit.specs.Need.{members_height, part_height, parts_height, place_height, result_words, too_large};
 ghost use Rattle.edi_unit.specs.Need as spec;
 
 use crate::expressions::{

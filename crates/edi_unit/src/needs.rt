@@ -4,16 +4,8 @@ ghost use Rattle.std.specs.Prelude.{◌≡◌, ◌≤◌, map, sum_by};
 ghost use Rattle.edi_unit.specs.Lists.{list_items};
 ghost use Rattle.edi_unit.specs.Types.{size};
 ghost use Rattle.edi_unit.specs.View.{act_of, acts_of, block_of, clause_of, clauses_of};
-ghost use Rattle.edi_unit.specs.Need.{
-  act_height,
-  acts_height,
-  clause_height,
-  clauses_height,
-  limited,
-  slot_words,
-  too_large,
-  variable_words,
-};
+ghost use Rattle.edi_unit.specs.Need.{act_height, acts_height, clause_height, clauses_height};
+ghost use Rattle.edi_unit.specs.Need.{limited, slot_words, too_large, variable_words};
 ghost use Rattle.edi_unit.specs.Need as spec;
 
 use crate::heights::{arguments_words, place_words, sum, value_words};
