@@ -63,7 +63,6 @@ pub(crate) fn are_constants(values: &Values) -> bool
 // The words of a call.
 pub(crate) fn call_length(callee: Callee) -> u32
     ensures exact { result ≡ long.call_length callee }
-    ensures small { result ≤ 5 }
 {
     match callee {
         Callee::Block { .. } => 5,
@@ -74,7 +73,6 @@ pub(crate) fn call_length(callee: Callee) -> u32
 // The words of a procedure that is passed on.
 pub(crate) fn procedure_length(callee: Callee) -> u32
     ensures exact { result ≡ long.procedure_length callee }
-    ensures small { result ≤ 5 }
 {
     match callee {
         Callee::Block { .. } => 4,
