@@ -1,15 +1,17 @@
 -- What a session leaves, in the words of commands.
 use Rattle.std.proofs.Common.{◌≡◌, ◌∙◌, ◌++◌, ◌+◌, ℕ, List, length, None, true, false, sym, subst}
+use Rattle.edi_calls.specs.State.{State}
 use Rattle.edi_execute.specs.Objects.{Contents}
 use Rattle.edi_execute.specs.Objects as execute
 use Rattle.edi_image.specs.Image.{mount_fault_of}
 use Rattle.edi_session.specs.declared.end.SessionEnd.{SessionEnd}
 use Rattle.edi_session.specs.Session.{IsMomentOfSession}
-use Rattle.edi_session.specs.Shell.{session_on}
+use Rattle.edi_session.specs.Shell.{session_on, state_in}
 use Rattle.edi_shell_sessions.specs.Ends.{ends_by_fault, SessionHasEnded, SessionHasFailed}
 use Rattle.edi_shell_sessions.proofs.Failing.{ended_so, failed_so}
 use Rattle.edi_trace.specs.Drawn.{Drawn}
 use Rattle.edi_statuses.specs.Executions.{StandsAt}
+use Rattle.edi_statuses.specs.Outside.{DevicesAreAt}
 use Rattle.edi_statuses.specs.Sessions.{HasEnded, shell_on}
 use Rattle.edi_run_commands.proofs.Left.{devices}
 use Rattle.edi_boot.specs.OnObjects.{EndsOn, HaveState, HaveStateSince}
@@ -17,6 +19,16 @@ use Rattle.edi_boot.proofs.Blocks.{end_of_session, moment_of_session}
 
 module _ (bound : ℕ) (old : Drawn) (none : old.drawn ≡ 0) (drawn : ℕ) (shown : List ℕ) (x y : Contents) (valid : mount_fault_of y.disk ≡ None)
     (shows : y.shown ≡ x.shown ++ shown) where
+  -- they have what this state has
+  at_state : (state : State) → HaveState y state → state.blocks ≡ length x.disk → DevicesAreAt state (devices x) (devices y) shown
+  at_state state h as_many = record {
+    input = h.input;
+    shown_ = sym shows ∙ h.shown;
+    printed = h.printed;
+    disk = record { valid = valid; files = h.slots };
+    count = h.blocks ∙ as_many;
+  }
+
   ended : (how : SessionEnd)
       → SessionHasEnded bound old.source HaveStateSince HaveState (session_on (execute.system_on x) old.drawn (length x.shown)) how drawn y
       → HasEnded bound old.source how drawn (devices x) (devices y) shown
@@ -26,13 +38,7 @@ module _ (bound : ℕ) (old : Drawn) (none : old.drawn ≡ 0) (drawn : ℕ) (sho
         after = h.after;
         session = h.session;
         draws = h.drawn_is;
-        leaves = record {
-          input = h.at_.input;
-          shown_ = sym shows ∙ h.at_.shown;
-          printed = h.at_.printed;
-          disk = record { valid = valid; files = h.at_.slots };
-          count = h.at_.blocks ∙ end_of_session bound old.source (execute.system_on x) 0 (length x.shown) how h.after h.session;
-        };
+        leaves = at_state (state_in h.after) h.at_ (end_of_session bound old.source (execute.system_on x) 0 (length x.shown) how h.after h.session);
       }
 
   failed : SessionHasFailed bound old.source HaveStateSince HaveState (session_on (execute.system_on x) old.drawn (length x.shown)) y
@@ -42,13 +48,7 @@ module _ (bound : ℕ) (old : Drawn) (none : old.drawn ≡ 0) (drawn : ℕ) (sho
       record {
         moment = h.moment;
         comes = h.comes;
-        at = record {
-          input = h.is.input;
-          shown_ = sym shows ∙ h.is.shown;
-          printed = h.is.printed;
-          disk = record { valid = valid; files = h.is.slots };
-          count = h.is.blocks ∙ moment_of_session bound old.source (execute.system_on x) 0 (length x.shown) h.moment h.comes;
-        };
+        at = at_state h.moment h.is (moment_of_session bound old.source (execute.system_on x) 0 (length x.shown) h.moment h.comes);
       }
 
   -- it came to its end

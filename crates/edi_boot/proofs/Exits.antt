@@ -14,26 +14,25 @@ use Rattle.edi_trace.specs.Drawn.{Drawn}
 use Rattle.edi_words.specs.Words as words
 use Rattle.edi_words.specs.Words.{ChoicesFrom, Options, nowhere, file, seed}
 use Rattle.edi_statuses.specs.declared.status.Status.{Status}
+use Rattle.edi_statuses.specs.Counts.{Counts, HasCause}
 use Rattle.edi_statuses.specs.declared.status.Status.TheVariants as status
-use Rattle.edi_statuses.specs.Outside.{Outside, seen, still_told, with_kept, Keeps, SameFiles, Shows, Lent}
-use Rattle.edi_statuses.specs.Lines.{is_due}
+use Rattle.edi_statuses.specs.Outside.{Outside, seen, still_told, with_kept, Keeps, SameFiles, Lent}
 use Rattle.edi_statuses.specs.Steps.{goes, stops, Mounts, ReadsChoices, ChoicesAreThere}
 use Rattle.edi_statuses.specs.Executions.{record_of, StandsAt}
 use Rattle.edi_statuses.specs.Commands.{IsNothing}
 use Rattle.edi_statuses.specs.EachObject.{MayBeImage, is_in_file}
 use Rattle.edi_statuses.specs.Means.{Came, MeansOf}
 use Rattle.edi_statuses.specs.Sessions.{BootSteps, BrokeSession, HasEnded, EndedWhole, HoldsSession, SessionEnded, session_status, shell_on}
-use Rattle.edi_steps.specs.OnFiles.{ChoicesStep, RecordStep, files_only}
+use Rattle.edi_steps.specs.OnFiles.{ChoicesStep, RecordEnd, RecordStep, files_only}
 use Rattle.edi_steps.specs.NotMounted.{mount_status}
 use Rattle.edi_run_commands.specs.OnMounted.{DriveAsked}
-use Rattle.edi_run_commands.proofs.Mounting.{IsLeft, IsUnmounted, left_each, mounts, unkept, unmounted_by, unmounted_each}
+use Rattle.edi_run_commands.proofs.Mounting.{IsLeft, IsUnmounted, left_due, left_each, left_shows, mounts, shown_in, unkept, unmounted_by, unmounted_each}
 use Rattle.edi_run_commands.proofs.Exits.{IsRefusal, choices_refusal, not_begun, nothing, with_files}
 use Rattle.edi_run_commands.proofs.Meaning.{at_record}
 use Rattle.edi_run_commands.proofs.Left.{devices_told, told_by}
 use Rattle.edi_statuses.proofs.EachLeft.{each_same}
 use Rattle.edi_statuses.proofs.Told.{same_told, shows_nothing, still, still_same}
 use Rattle.edi_run_commands.proofs.Told.{on_files, reads_till_the_last, there_on_files}
-use Rattle.edi_run_commands.proofs.Shown.{due_so, shown_since, shows_so}
 use Rattle.edi_boot.specs.OnObjects.{EndsOn}
 use Rattle.edi_boot.specs.SessionCame.{BootCame, SessionCame}
 use Rattle.edi_boot.proofs.Devices.{broken_at, ended_to}
@@ -57,19 +56,13 @@ unmounted bound choices name s due before after kernel why is silent h = record 
 module _ (bound : ℕ) (old : Drawn) (none : old.drawn ≡ 0) (due : Bool) (how : SessionEnd) (before after : Outside) (left : IsLeft due before after)
     (kernel : Lent) (new : Drawn) (told : WhereTold (told_by before) (told_by after) (EndsOn bound old how new.drawn)) where
   abbrev shown_now : List ℕ
-  shown_now = shown_since due before.shown after.shown
-
-  shows_now : Shows before after shown_now
-  shows_now = shows_so due before.shown after.shown left.grows
-
-  due_now : due ≡ is_due shown_now
-  due_now = due_so due before.shown after.shown left.grows left.due_is
+  shown_now = shown_in due before after
 
   -- an object has failed
   broke_now : ends_by_fault how ≡ true → BrokeSession bound old.source (seen before after) after shown_now
   broke_now f =
       devices_told before after shown_now (EndsOn bound old how new.drawn)
-      (λ d e. StandsAt (IsMomentOfSession bound old.source (shell_on d)) d e shown_now) left.valid shows_now
+      (λ d e. StandsAt (IsMomentOfSession bound old.source (shell_on d)) d e shown_now) left.told.valid (left_shows due before after left)
       (λ x y valid shows h. broken_at bound old none new.drawn shown_now x y valid shows how f h) told
 
   broke_by : (e : SessionEnd) (name : Option (List ℕ)) → ends_by_fault e ≡ true → SameFiles (seen before after) after
@@ -89,16 +82,16 @@ module _ (bound : ℕ) (old : Drawn) (none : old.drawn ≡ 0) (due : Bool) (how 
     shown = shown_now;
     came = subst (λ x. SessionCame bound old.source name x (seen before after) after shown_now kernel) (sym is)
         (broke_by how name f (same_told before.files after.files files) (broke_now f));
-    shows = shows_now;
-    due_is = due_now;
+    shows = left_shows due before after left;
+    due_is = left_due due before after left;
     each = left_each due before after left;
   }
 
   module _ (unfailed : ends_by_fault how ≡ false) (within : new.drawn ≤ 4194304 * bound) where
     ended_now : SessionEnded bound old.source how new.drawn (seen before after) after shown_now
     ended_now =
-        devices_told before after shown_now (EndsOn bound old how new.drawn) (λ d e. HasEnded bound old.source how new.drawn d e shown_now) left.valid
-        shows_now (λ x y valid shows h. ended_to bound old none new.drawn shown_now x y valid shows how unfailed h) told
+        devices_told before after shown_now (EndsOn bound old how new.drawn) (λ d e. HasEnded bound old.source how new.drawn d e shown_now) left.told.valid
+        (left_shows due before after left) (λ x y valid shows h. ended_to bound old none new.drawn shown_now x y valid shows how unfailed h) told
 
     whole : EndedWhole bound old.source (seen before after) after shown_now
     whole = record { how = how; drawn = new.drawn; within = within; ended = ended_now }
@@ -119,7 +112,7 @@ module _ (bound : ℕ) (old : Drawn) (none : old.drawn ≡ 0) (due : Bool) (how 
     ended_by end.PrinterFault name f h = absurd (cc)
 
     -- its record was kept, if there was to be one
-    pub recorded : (name : Option (List ℕ)) (s : Status) → s ≡ session_status how → new.source ≡ old.source
+    recorded : (name : Option (List ℕ)) (s : Status) → s ≡ session_status how → new.source ≡ old.source
         → WhereTold before.files after.files (λ a b. b ≡ with_kept (record_of name new.source new.drawn) a)
         → BootCame bound old.source name s due before after kernel
     recorded name s is source step = record {
@@ -128,23 +121,39 @@ module _ (bound : ℕ) (old : Drawn) (none : old.drawn ≡ 0) (due : Bool) (how 
           (ended_by how name unfailed
           (holds name (still _ before.files after.files
           (subst (λ from. WhereTold before.files after.files (λ a b. b ≡ with_kept (record_of name from new.drawn) a)) source step))));
-      shows = shows_now;
-      due_is = due_now;
+      shows = left_shows due before after left;
+      due_is = left_due due before after left;
       each = left_each due before after left;
     }
 
     -- it was not kept
-    pub unrecorded : (A : Type 0) (name : Option (List ℕ)) (s : Status) → RecordStep {A = A} name new (Err s) before.files after.files
+    unrecorded : (name : Option (List ℕ)) (s : Status) → RecordStep {A = Unit {0}} name new (Err s) before.files after.files
         → BootCame bound old.source name s due before after kernel
-    unrecorded A name s step = record {
+    unrecorded name s step = record {
       shown = shown_now;
-      came = unkept due before after left new A name s step (BrokeSession bound old.source (seen before after) after shown_now)
+      came = unkept due before after left new (Unit {0}) name s step (BrokeSession bound old.source (seen before after) after shown_now)
           (EndedWhole bound old.source (seen before after) after shown_now)
           (λ e. HoldsSession bound old.source name e (seen before after) after shown_now) shown_now kernel whole;
-      shows = shows_now;
-      due_is = due_now;
+      shows = left_shows due before after left;
+      due_is = left_due due before after left;
       each = left_each due before after left;
     }
+
+    pub ended_so : (name : Option (List ℕ)) (s t : Status) → s ≡ session_status how → new.source ≡ old.source
+        → RecordEnd name new s t before.files after.files → BootCame bound old.source name t due before after kernel
+    ended_so name s t is source (inl kept) =
+        subst (λ x. BootCame bound old.source name x due before after kernel) (sym kept.0) (recorded name s is source kept.1)
+    ended_so name s t is source (inr why) = unrecorded name t why
+
+-- a session that came to its end is by no fault
+pub ended_cause : (how : SessionEnd) (had has : Counts) → ends_by_fault how ≡ false → HasCause (session_status how) had has
+ended_cause end.Halted had has f = tt
+ended_cause end.InputEnd had has f = tt
+ended_cause end.Limit had has f = tt
+ended_cause end.DriveFault had has f = absurd (cc)
+ended_cause end.InputFault had has f = absurd (cc)
+ended_cause end.TerminalFault had has f = absurd (cc)
+ended_cause end.PrinterFault had has f = absurd (cc)
 
 -- another number that is the same
 pub with_bound : (n m : ℕ) → n ≡ m → (choices : Choices) (name : Option (List ℕ)) (s : Status) (due : Bool) (before after : Outside) (kernel : Lent)

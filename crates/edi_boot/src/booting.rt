@@ -18,7 +18,7 @@ use edi_kernel::Kernel;
 use edi_session::SessionEnd;
 use edi_shell_sessions::ends_by_fault;
 use edi_statuses::{Ended, Status};
-use edi_steps::{keep_record, mount_status, read_from, stopped};
+use edi_steps::{end_with_record, mount_status, read_from, stopped};
 use edi_trace::Choices;
 use edi_words::Options;
 use std::alloc::Global;
@@ -81,15 +81,14 @@ fn hold_session<F: Files, D: Drive, S: Source, T: Sink, P: Sink>(
         Ok(exit) => exit,
         Err(why) => return stopped(mount_status(why)),
     };
-    let status = session_status(exit.end);
-    let due = exit.due;
+    let ended = Ended {
+        status: session_status(exit.end),
+        due: exit.due,
+    };
     if ends_by_fault(exit.end) {
-        return Ended { status, due };
+        return ended;
     }
-    match keep_record(alloc, files, record_file, choices) {
-        Ok(()) => Ended { status, due },
-        Err(status) => Ended { status, due },
-    }
+    end_with_record(alloc, files, record_file, choices, ended)
 }
 
 /// `boot`: reads the choices, mounts the drive, holds a session of the shell, and keeps the record of the choices that were drawn in

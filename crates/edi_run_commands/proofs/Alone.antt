@@ -16,6 +16,7 @@ use Rattle.edi_statuses.specs.declared.status.Status.{Status}
 use Rattle.edi_statuses.specs.declared.status.Status.TheVariants as status
 use Rattle.edi_statuses.specs.Counts.{HasCause, counts_with}
 use Rattle.edi_statuses.specs.EachObject.{LeavesEach}
+use Rattle.edi_statuses.specs.Means.{MeansOf}
 use Rattle.edi_statuses.specs.Outside.{KernelLeft, Lent, Outside, idle, outside_with, seen, still_told}
 use Rattle.edi_statuses.specs.Showing.{ShowsBytes, due_behind}
 use Rattle.edi_statuses.specs.Steps.{ReadsChoices, goes}
@@ -52,6 +53,14 @@ cause_alone s had has had_shown has_shown had_printed has_printed h = λ drive i
 
 -- ---- nothing was run
 
+-- another status that is the same
+came_so : (n : ℕ) (o : Options) (s t : Status) (due : Bool) (old new : Option Contents) (taken printed : Option (List ℕ)) (kernel : Lent) → t ≡ s
+    → due ≡ false → CameAlone (words.demo n o) s false old new taken taken printed printed kernel
+    → CameAlone (words.demo n o) t due old new taken taken printed printed kernel
+came_so n o s t due old new taken printed kernel same silent h =
+    subst (λ d. CameAlone (words.demo n o) t d old new taken taken printed printed kernel) (sym silent)
+    (subst (λ x. CameAlone (words.demo n o) x false old new taken taken printed printed kernel) (sym same) h)
+
 module _ (n : ℕ) (o : Options) (old mid : Option Contents) (first : WhereTold old mid (λ a b. b ≡ a)) (taken printed : Option (List ℕ))
     (kernel : KernelLeft) where
   module _ (blocks : Option (List (List ℕ))) (input : Option (List ℕ)) where
@@ -73,34 +82,29 @@ module _ (n : ℕ) (o : Options) (old mid : Option Contents) (first : WhereTold 
       kernel_same = refl;
     }
 
-  pub unread : (s : Status) → ChoicesStep (files_only (still_told old mid)) o.choices (Err s)
-      → CameAlone (words.demo n o) s false old mid taken taken printed printed (idle kernel)
-  unread s h = λ blocks input. record {
+  -- so for any drive and any input
+  stopped : (s t : Status) (due : Bool) → t ≡ s → due ≡ false → ((blocks : Option (List (List ℕ))) (input : Option (List ℕ))
+      → MeansOf s (words.demo n o) (seen (start blocks input) (end blocks input)) (end blocks input) [] (idle kernel))
+      → CameAlone (words.demo n o) t due old mid taken taken printed printed (idle kernel)
+  stopped s t due same silent means = came_so n o s t due old mid taken printed (idle kernel) same silent (λ blocks input. record {
     shown = [];
-    means = unread_means n o (seen (start blocks input) (end blocks input)) (end blocks input) (same_told blocks blocks refl) (same_told input input refl)
-        (idle kernel) (nothing blocks input) s h;
+    means = means blocks input;
     shows = shows_nothing taken taken refl;
     due_is = refl;
     each = each_same (Some (words.demo n o)) (start blocks input) (end blocks input) refl refl refl;
-  }
+  })
 
-  pub uncoded : CameAlone (words.demo n o) status.NoMemory false old mid taken taken printed printed (idle kernel)
-  uncoded = λ blocks input. record {
-    shown = [];
-    means = uncoded_means n o (seen (start blocks input) (end blocks input)) (end blocks input) (same_told blocks blocks refl) (same_told input input refl)
-        (idle kernel) (nothing blocks input);
-    shows = shows_nothing taken taken refl;
-    due_is = refl;
-    each = each_same (Some (words.demo n o)) (start blocks input) (end blocks input) refl refl refl;
-  }
+  pub unread : (s t : Status) (due : Bool) → t ≡ s → due ≡ false → ChoicesStep (files_only (still_told old mid)) o.choices (Err s)
+      → CameAlone (words.demo n o) t due old mid taken taken printed printed (idle kernel)
+  unread s t due same silent h = stopped s t due same silent (λ blocks input.
+      unread_means n o (seen (start blocks input) (end blocks input)) (end blocks input) (same_told blocks blocks refl) (same_told input input refl)
+      (idle kernel) (nothing blocks input) s h)
 
--- another status that is the same
-pub came_so : (n : ℕ) (o : Options) (s t : Status) (due : Bool) (old new : Option Contents) (taken printed : Option (List ℕ)) (kernel : Lent) → t ≡ s
-    → due ≡ false → CameAlone (words.demo n o) s false old new taken taken printed printed kernel
-    → CameAlone (words.demo n o) t due old new taken taken printed printed kernel
-came_so n o s t due old new taken printed kernel same silent h =
-    subst (λ d. CameAlone (words.demo n o) t d old new taken taken printed printed kernel) (sym silent)
-    (subst (λ x. CameAlone (words.demo n o) x false old new taken taken printed printed kernel) (sym same) h)
+  pub uncoded : (t : Status) (due : Bool) → t ≡ status.NoMemory → due ≡ false
+      → CameAlone (words.demo n o) t due old mid taken taken printed printed (idle kernel)
+  uncoded t due same silent = stopped status.NoMemory t due same silent (λ blocks input.
+      uncoded_means n o (seen (start blocks input) (end blocks input)) (end blocks input) (same_told blocks blocks refl) (same_told input input refl)
+      (idle kernel) (nothing blocks input))
 
 -- ---- the code was run
 

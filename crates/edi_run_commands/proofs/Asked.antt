@@ -1,5 +1,5 @@
 -- The status of a run or of a session whose drive was asked fits the number of blocks, and is none of a step before that.
-use Rattle.std.proofs.Common.{◌≡◌, ◌∙◌, ℕ, true, false, true≢false, List, Option, Err, refl, sym, subst}
+use Rattle.std.proofs.Common.{◌≡◌, ◌∙◌, ℕ, true, false, true≢false, List, Option, Err, refl, sym, subst, inl, inr}
 use Rattle.edi_calls.specs.declared.ends.Outside as failing
 use Rattle.edi_calls.specs.declared.ends.Outside.TheVariants as object
 use Rattle.edi_calls.specs.Outcome as outcome
@@ -14,7 +14,7 @@ use Rattle.edi_statuses.specs.EachObject.{MayBeImage, is_before_drive}
 use Rattle.edi_statuses.specs.Executions.{status_of}
 use Rattle.edi_statuses.specs.Showing.{ShowsFar}
 use Rattle.edi_steps.specs.NotMounted.{mount_status}
-use Rattle.edi_steps.specs.OnFiles.{RecordStep}
+use Rattle.edi_steps.specs.OnFiles.{RecordEnd, RecordStep}
 use Rattle.edi_steps.proofs.Unmounted.{unmounted_behind, unmounted_fits}
 use Rattle.edi_run_commands.specs.CodeRan.{object_status}
 use Rattle.edi_run_commands.specs.OnMounted.{DriveAsked}
@@ -43,11 +43,17 @@ ended_asked count image outcome.standstill = record { behind_steps = refl; fits 
 ended_asked count image (outcome.bad address) = record { behind_steps = refl; fits = image }
 
 -- the record was not kept
-pub unkept_asked : (A : Type 0) (count : ℕ) (name : Option (List ℕ)) (drawn : Drawn) (s : Status) (old new : Option Contents)
-    → RecordStep {A = A} name drawn (Err s) old new → DriveAsked s count
-unkept_asked A count name drawn status.NoMemory old new h = record { behind_steps = refl; fits = tt }
-unkept_asked A count name drawn status.FileFault old new h = record { behind_steps = refl; fits = tt }
-unkept_asked A count name drawn s old new h = absurd h
+unkept_asked : (count : ℕ) (name : Option (List ℕ)) (drawn : Drawn) (s : Status) (old new : Option Contents)
+    → RecordStep {A = Unit {0}} name drawn (Err s) old new → DriveAsked s count
+unkept_asked count name drawn status.NoMemory old new h = record { behind_steps = refl; fits = tt }
+unkept_asked count name drawn status.FileFault old new h = record { behind_steps = refl; fits = tt }
+unkept_asked count name drawn s old new h = absurd h
+
+-- it was kept, or not
+pub record_asked : (count : ℕ) (name : Option (List ℕ)) (drawn : Drawn) (s t : Status) (old new : Option Contents) → DriveAsked s count
+    → RecordEnd name drawn s t old new → DriveAsked t count
+record_asked count name drawn s t old new h (inl kept) = asked_so s t count kept.0 h
+record_asked count name drawn s t old new h (inr why) = unkept_asked count name drawn t old new why
 
 -- then the command has not stopped at a step before
 pub never_early : (s : Status) → is_before_drive s ≡ false → is_before_drive s ≡ true → ⊥

@@ -1,5 +1,5 @@
 -- The exits of a run of a code: the drive is not mounted, an object has failed, the record is kept, or it is not.
-use Rattle.std.proofs.Common.{◌≡◌, ◌≤◌, ℕ, Bool, false, List, [], Option, Some, Err, unwrap_or, refl, sym, ap, subst, inr}
+use Rattle.std.proofs.Common.{◌≡◌, ◌≤◌, ℕ, Bool, false, List, [], Option, Some, Err, unwrap_or, refl, sym, ap, subst, inl, inr}
 use Rattle.edi_told.specs.Told.{WhereTold}
 use Rattle.edi_calls.specs.declared.ends.Outside as failing
 use Rattle.edi_calls.specs.declared.ends.Outside.TheVariants as object
@@ -12,20 +12,19 @@ use Rattle.edi_kernel.specs.declared.ends.Ending.TheVariants as ending
 use Rattle.edi_target.specs.Check.{CodeParts}
 use Rattle.edi_trace.specs.Drawn.{Drawn}
 use Rattle.edi_statuses.specs.declared.status.Status.{Status}
-use Rattle.edi_statuses.specs.Outside.{Outside, seen, system_on, with_kept, Keeps, SameFiles, Shows, Lent}
-use Rattle.edi_statuses.specs.Lines.{is_due}
+use Rattle.edi_statuses.specs.Counts.{Counts, HasCause}
+use Rattle.edi_statuses.specs.Outside.{Outside, seen, system_on, with_kept, Keeps, SameFiles, Lent}
 use Rattle.edi_statuses.specs.Steps.{goes, Mounts}
 use Rattle.edi_statuses.specs.Executions.{Runnable, HasCode, HasMoment, StandsAt, Ran, BrokeRun, record_of, status_of}
 use Rattle.edi_statuses.specs.Executions as statuses
 use Rattle.edi_statuses.specs.Commands.{Runs}
 use Rattle.edi_statuses.specs.Means.{RanWhole}
-use Rattle.edi_steps.specs.OnFiles.{RecordStep}
+use Rattle.edi_steps.specs.OnFiles.{RecordEnd, RecordStep}
 use Rattle.edi_steps.specs.NotMounted.{mount_status}
 use Rattle.edi_run_commands.specs.CodeRan.{CodeRan, RanCode, ending_status, object_status}
-use Rattle.edi_run_commands.proofs.Mounting.{IsLeft, IsUnmounted, left_each, mounts, unkept, unmounted_by, unmounted_each}
+use Rattle.edi_run_commands.proofs.Mounting.{IsLeft, IsUnmounted, left_due, left_each, left_shows, mounts, shown_in, unkept, unmounted_by, unmounted_each}
 use Rattle.edi_run_commands.proofs.Left.{devices_told, told_by, ending_of, has_run, stands, IsNoFault}
 use Rattle.edi_statuses.proofs.Told.{same_told, still, shows_nothing}
-use Rattle.edi_run_commands.proofs.Shown.{shown_since, shows_so, due_so}
 
 -- ---- the drive is not mounted
 
@@ -64,20 +63,14 @@ ended (outcome.bad address) program bound choices name before after shown kernel
 
 module _ (parts : CodeParts) (bound : ℕ) (old : Drawn) (none : old.drawn ≡ 0) (due : Bool) (before after : Outside) (left : IsLeft due before after) where
   abbrev shown_now : List ℕ
-  shown_now = shown_since due before.shown after.shown
-
-  shows_now : Shows before after shown_now
-  shows_now = shows_so due before.shown after.shown left.grows
-
-  due_now : due ≡ is_due shown_now
-  due_now = due_so due before.shown after.shown left.grows left.due_is
+  shown_now = shown_in due before after
 
   -- an object has failed
   broke_run : WhereTold (told_by before) (told_by after) (StandsAtMoment parts bound old) → (program : Runnable) → HasCode program parts
       → BrokeRun program bound old.source (seen before after) after shown_now
   broke_run moment program is =
       devices_told before after shown_now (StandsAtMoment parts bound old) (λ d e. StandsAt (HasMoment program (system_on d) bound old.source) d e shown_now)
-      left.valid shows_now (stands program parts is bound old none shown_now) moment
+      left.told.valid (left_shows due before after left) (stands program parts is bound old none shown_now) moment
 
   broke_by : (failed : failing.Outside) (name : Option (List ℕ)) (kernel : Lent) → SameFiles (seen before after) after → (program : Runnable)
       → BrokeRun program bound old.source (seen before after) after shown_now
@@ -93,8 +86,8 @@ module _ (parts : CodeParts) (bound : ℕ) (old : Drawn) (none : old.drawn ≡ 0
     shown = shown_now;
     ran = λ program code. subst (λ x. CodeRan program bound old.source name x (seen before after) after shown_now kernel) (sym is)
         (broke_by failed name kernel (same_told before.files after.files files) program (broke_run moment program code));
-    shows = shows_now;
-    due_is = due_now;
+    shows = left_shows due before after left;
+    due_is = left_due due before after left;
     each = left_each due before after left;
   }
 
@@ -104,7 +97,7 @@ module _ (parts : CodeParts) (bound : ℕ) (old : Drawn) (none : old.drawn ≡ 0
     has_ran : (program : Runnable) → HasCode program parts → Ran program bound old.source (ending_of e) new.drawn (seen before after) after shown_now kernel
     has_ran program is =
         devices_told before after shown_now (HasRun parts bound old e kernel.after.words kernel.after.used new)
-        (λ d x. statuses.HasRun program bound old.source (ending_of e) new.drawn d x shown_now kernel.after) left.valid shows_now
+        (λ d x. statuses.HasRun program bound old.source (ending_of e) new.drawn d x shown_now kernel.after) left.told.valid (left_shows due before after left)
         (λ x y valid shows h. has_run program parts is bound old none shown_now e kernel.after.words kernel.after.used new x y unfailed valid shows h) run
 
     whole : (program : Runnable) → HasCode program parts → RanWhole program bound old.source (seen before after) after shown_now kernel
@@ -123,7 +116,7 @@ module _ (parts : CodeParts) (bound : ℕ) (old : Drawn) (none : old.drawn ≡ 0
     }
 
     -- its record was kept, if there was to be one
-    pub recorded : (name : Option (List ℕ)) (s : Status) → Some s ≡ ending_status e → new.source ≡ old.source
+    recorded : (name : Option (List ℕ)) (s : Status) → Some s ≡ ending_status e → new.source ≡ old.source
         → WhereTold before.files after.files (λ a b. b ≡ with_kept (record_of name new.source new.drawn) a)
         → RanCode parts bound old.source name s due before after kernel
     recorded name s is source step = record {
@@ -132,24 +125,39 @@ module _ (parts : CodeParts) (bound : ℕ) (old : Drawn) (none : old.drawn ≡ 0
           (ended (ending_of e) program bound old.source name (seen before after) after shown_now kernel (mounts due before after left)
           (runs name (still _ before.files after.files
           (subst (λ from. WhereTold before.files after.files (λ a b. b ≡ with_kept (record_of name from new.drawn) a)) source step)) program code));
-      shows = shows_now;
-      due_is = due_now;
+      shows = left_shows due before after left;
+      due_is = left_due due before after left;
       each = left_each due before after left;
     }
 
     -- it was not kept
-    pub unrecorded : (A : Type 0) (name : Option (List ℕ)) (s : Status) → RecordStep {A = A} name new (Err s) before.files after.files
+    unrecorded : (name : Option (List ℕ)) (s : Status) → RecordStep {A = Unit {0}} name new (Err s) before.files after.files
         → RanCode parts bound old.source name s due before after kernel
-    unrecorded A name s step = record {
+    unrecorded name s step = record {
       shown = shown_now;
       ran = λ program is.
-          unkept due before after left new A name s step (BrokeRun program bound old.source (seen before after) after shown_now)
+          unkept due before after left new (Unit {0}) name s step (BrokeRun program bound old.source (seen before after) after shown_now)
           (RanWhole program bound old.source (seen before after) after shown_now kernel)
           (λ end. Runs program bound old.source name end (seen before after) after shown_now kernel) shown_now kernel (whole program is);
-      shows = shows_now;
-      due_is = due_now;
+      shows = left_shows due before after left;
+      due_is = left_due due before after left;
       each = left_each due before after left;
     }
+
+    pub ended_so : (name : Option (List ℕ)) (s t : Status) → Some s ≡ ending_status e → new.source ≡ old.source
+        → RecordEnd name new s t before.files after.files → RanCode parts bound old.source name t due before after kernel
+    ended_so name s t is source (inl kept) =
+        subst (λ x. RanCode parts bound old.source name x due before after kernel) (sym kept.0) (recorded name s is source kept.1)
+    ended_so name s t is source (inr why) = unrecorded name t why
+
+-- a run that has come to its ending is by no fault
+pub ended_cause : (e : outcome.Ending) (had has : Counts) → HasCause (status_of e) had has
+ended_cause outcome.done had has = tt
+ended_cause (outcome.halted line) had has = tt
+ended_cause (outcome.failed why line) had has = tt
+ended_cause outcome.turns had has = tt
+ended_cause outcome.standstill had has = tt
+ended_cause (outcome.bad address) had has = tt
 
 -- another number that is the same
 pub with_bound : (n m : ℕ) → n ≡ m → (parts : CodeParts) (choices : Choices) (name : Option (List ℕ)) (s : Status) (due : Bool) (before after : Outside)

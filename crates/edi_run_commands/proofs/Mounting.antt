@@ -5,12 +5,13 @@ use Rattle.edi_image.specs.declared.faults.MountFault.{MountFault}
 use Rattle.edi_image.specs.declared.faults.MountFault.TheVariants as mount
 use Rattle.edi_image.specs.Finds.{IsFirst}
 use Rattle.edi_image.specs.Image.{mount_fault_of}
-use Rattle.edi_system.specs.Parts.{IsValid, Grows, Shrinks, ToldStays, due_after}
+use Rattle.edi_system.specs.Parts.{ToldStays, due_after}
 use Rattle.edi_trace.specs.Drawn.{Drawn}
 use Rattle.edi_statuses.specs.declared.status.Status.{Status}
 use Rattle.edi_statuses.specs.declared.status.Status.TheVariants as status
 use Rattle.edi_statuses.specs.EachObject.{LeavesEach}
-use Rattle.edi_statuses.specs.Outside.{Outside, seen, still_told, SameBlocks, Lent}
+use Rattle.edi_statuses.specs.Outside.{Outside, seen, still_told, SameBlocks, Shows, Lent}
+use Rattle.edi_statuses.specs.Lines.{is_due}
 use Rattle.edi_statuses.specs.Steps.{goes, Mounts}
 use Rattle.edi_statuses.specs.Commands.{IsNothing}
 use Rattle.edi_statuses.specs.Means.{HasNotBegun}
@@ -19,6 +20,7 @@ use Rattle.edi_statuses.proofs.Told.{same_told, still, told_so, first_told}
 use Rattle.edi_steps.specs.NotMounted.{mount_status}
 use Rattle.edi_steps.specs.OnFiles.{RecordStep}
 use Rattle.edi_run_commands.specs.OnMounted.{OnMounted}
+use Rattle.edi_run_commands.proofs.Shown.{due_so, shown_since, shows_so}
 
 -- ---- the drive is not mounted
 
@@ -83,23 +85,23 @@ unmounted_by before after kernel (mount.Shared block) h name broken whole comes 
 
 pub record IsLeft (due : Bool) (before after : Outside) : Type 0 where
   pub mounted : WhereTold before.blocks after.blocks (λ old new. mount_fault_of old ≡ None)
-  pub valid : IsValid after.blocks
-  pub shrinks : WhereTold before.input after.input Shrinks
-  pub grows : WhereTold before.shown after.shown Grows
-  pub prints : WhereTold before.printed after.printed Grows
+  pub told : ToldStays before.blocks after.blocks before.input after.input before.shown after.shown before.printed after.printed
   pub due_is : WhereTold before.shown after.shown (λ taken now. due ≡ due_after false (drop (length taken) now))
 
 pub left_on : (due : Bool) (before after : Outside) → WhereTold before.blocks after.blocks (λ old new. mount_fault_of old ≡ None)
     → ToldStays before.blocks after.blocks before.input after.input before.shown after.shown before.printed after.printed
     → WhereTold before.shown after.shown (λ taken now. due ≡ due_after false (drop (length taken) now)) → IsLeft due before after
-left_on due before after mounted told due_is = record {
-  mounted = mounted;
-  valid = told.valid;
-  shrinks = told.shrinks;
-  grows = told.grows;
-  prints = told.prints;
-  due_is = due_is;
-}
+left_on due before after mounted told due_is = record { mounted = mounted; told = told; due_is = due_is }
+
+-- the bytes that were shown
+abbrev pub shown_in : (due : Bool) → (before after : Outside) → List ℕ
+shown_in due before after = shown_since due before.shown after.shown
+
+pub left_shows : (due : Bool) (before after : Outside) → IsLeft due before after → Shows before after (shown_in due before after)
+left_shows due before after left = shows_so due before.shown after.shown left.told.grows
+
+pub left_due : (due : Bool) (before after : Outside) → IsLeft due before after → due ≡ is_due (shown_in due before after)
+left_due due before after left = due_so due before.shown after.shown left.told.grows left.due_is
 
 pub mounts : (due : Bool) (before after : Outside) → IsLeft due before after → Mounts (seen before after) (goes tt)
 mounts due before after left =
@@ -107,9 +109,9 @@ mounts due before after left =
 
 pub left_each : (due : Bool) (before after : Outside) → IsLeft due before after → LeavesEach None before after
 left_each due before after left = record {
-  drive = λ stays. keeps_valid before.blocks after.blocks _ left.mounted left.valid;
-  input = left.shrinks;
-  printer = left.prints;
+  drive = λ stays. keeps_valid before.blocks after.blocks _ left.mounted left.told.valid;
+  input = left.told.shrinks;
+  printer = left.told.prints;
 }
 
 -- its end was reached, and the record was not kept

@@ -12,7 +12,7 @@ use edi_execute::run_on;
 use edi_host::{Drive, Files, Sink, Source};
 use edi_kernel::{Ending, Kernel};
 use edi_statuses::{Ended, Status};
-use edi_steps::{keep_record, mount_status, stopped};
+use edi_steps::{end_with_record, mount_status, stopped};
 use edi_target::Code;
 use edi_trace::Choices;
 use std::alloc::Global;
@@ -95,14 +95,9 @@ pub(crate) fn run_code<F: Files, D: Drive, S: Source, T: Sink, P: Sink>(
             due: ran.due,
         };
     }
-    match keep_record(alloc, files, record_file, choices) {
-        Ok(()) => Ended {
-            status: ending_status(ran.ending),
-            due: ran.due,
-        },
-        Err(status) => Ended {
-            status,
-            due: ran.due,
-        },
-    }
+    let ended = Ended {
+        status: ending_status(ran.ending),
+        due: ran.due,
+    };
+    end_with_record(alloc, files, record_file, choices, ended)
 }

@@ -1,7 +1,6 @@
 //! The commands that run the program of a file: `run`, and `replay`, that of a text, `exec` that of a code file.
 
 ghost use Rattle.std.specs.Prelude.{◌≡◌, true, Some};
-ghost use Rattle.edi_words.specs.Words as words;
 ghost use Rattle.edi_words.specs.View.{options_of};
 ghost use Rattle.edi_statuses.specs.EachObject.{DevicesStay, FitsCount, handed, is_before_drive};
 ghost use Rattle.edi_statuses.specs.Outside.{lent, outside_of};
@@ -22,7 +21,7 @@ use std::alloc::Global;
 
 /// The form in which a file has its program.
 #[derive(Clone, Copy, Drop)]
-pub(crate) enum Form {
+pub enum Form {
     /// A text.
     Text,
     /// A code file.
@@ -69,8 +68,14 @@ fn code_of(alloc: Global, form: Form, bytes: &[u8]) -> Result<Code, Status>
     }
 }
 
-/// Runs the program that a file has in this form.
-fn run_file<F: Files, D: Drive, S: Source, T: Sink, P: Sink>(
+/// `run FILE`, or `exec CODEFILE` where the file has code: fetches the file, reads the choices, compiles the text or loads the code,
+/// mounts the drive, runs, and keeps the record, in this order.
+///
+/// The kernel may have run anything before; it is left alone where nothing is run. What the status means, and how all that is
+/// outside stands behind the call, is told by `Came`: the first step that stops decides. Want of memory comes only before the first
+/// effect, or where the record is to be kept; the fault of an object only where its count rose. `replay FILE CHOICES` is `run` with
+/// the choices of that file and without a record (`replaying`).
+pub fn run_file<F: Files, D: Drive, S: Source, T: Sink, P: Sink>(
     alloc: Global,
     form: Form,
     file: &str,
@@ -92,6 +97,8 @@ fn run_file<F: Files, D: Drive, S: Source, T: Sink, P: Sink>(
     ensures later { NoneFalls
         (counts_of F.faults D.faults S.faults T.faults P.faults files.old drive.old input.old terminal.old printer.old)
         (counts_of F.faults D.faults S.faults T.faults P.faults files.new drive.new input.new terminal.new printer.new) }
+    // The status fits the number of blocks, which stays, whatever the drive tells; and where the drive is not asked, no object but the
+    // files is touched.
     ensures size { D.count drive.new ≡ D.count drive.old }
     ensures fits { FitsCount result.status (D.count drive.old) }
     ensures early { is_before_drive result.status ≡ true
@@ -116,100 +123,6 @@ fn run_file<F: Files, D: Drive, S: Source, T: Sink, P: Sink>(
         options.turns,
         options.record_file,
         &mut choices,
-        files,
-        drive,
-        input,
-        terminal,
-        printer,
-        kernel,
-    )
-}
-
-/// `run FILE`: fetches the file, reads the choices, compiles, mounts the drive, runs, and keeps the record, in this order.
-///
-/// The kernel may have run anything before; it is left alone where nothing is run. What the status means, and how all that is
-/// outside stands behind the call, is told by `Came`: the first step that stops decides. Want of memory comes only before the first
-/// effect, or where the record is to be kept; the fault of an object only where its count rose. `replay FILE CHOICES` is the same with
-/// the choices of that file and without a record (`replaying`).
-pub fn run<F: Files, D: Drive, S: Source, T: Sink, P: Sink>(
-    alloc: Global,
-    file: &str,
-    options: Options<'_>,
-    files: &mut F,
-    drive: &mut D,
-    input: &mut S,
-    terminal: &mut T,
-    printer: &mut P,
-    kernel: &mut Kernel,
-) -> Ended
-    ensures came { Came result.status result.due (Some (words.run file.now (options_of options.entry)))
-        (outside_of F.contents D.contents S.left T.taken P.taken files.old drive.old input.old terminal.old printer.old)
-        (outside_of F.contents D.contents S.left T.taken P.taken files.new drive.new input.new terminal.new printer.new)
-        (lent kernel.old.store kernel.old.used kernel.new.store kernel.new.used) }
-    ensures cause { HasCause result.status
-        (counts_of F.faults D.faults S.faults T.faults P.faults files.old drive.old input.old terminal.old printer.old)
-        (counts_of F.faults D.faults S.faults T.faults P.faults files.new drive.new input.new terminal.new printer.new) }
-    ensures later { NoneFalls
-        (counts_of F.faults D.faults S.faults T.faults P.faults files.old drive.old input.old terminal.old printer.old)
-        (counts_of F.faults D.faults S.faults T.faults P.faults files.new drive.new input.new terminal.new printer.new) }
-    // The status fits the number of blocks, which stays, whatever the drive tells; and where the drive is not asked, no object but the
-    // files is touched.
-    ensures size { D.count drive.new ≡ D.count drive.old }
-    ensures fits { FitsCount result.status (D.count drive.old) }
-    ensures early { is_before_drive result.status ≡ true
-        → DevicesStay (handed files.old drive.old input.old terminal.old printer.old kernel.old)
-        (handed files.new drive.new input.new terminal.new printer.new kernel.new) }
-{
-    run_file(
-        alloc,
-        Form::Text,
-        file,
-        options,
-        files,
-        drive,
-        input,
-        terminal,
-        printer,
-        kernel,
-    )
-}
-
-/// `exec CODEFILE`: fetches the code file, reads the choices, loads the code, mounts the drive, runs, and keeps the record, in
-/// this order. All else is as for `run`.
-pub fn exec<F: Files, D: Drive, S: Source, T: Sink, P: Sink>(
-    alloc: Global,
-    file: &str,
-    options: Options<'_>,
-    files: &mut F,
-    drive: &mut D,
-    input: &mut S,
-    terminal: &mut T,
-    printer: &mut P,
-    kernel: &mut Kernel,
-) -> Ended
-    ensures came { Came result.status result.due (Some (words.exec file.now (options_of options.entry)))
-        (outside_of F.contents D.contents S.left T.taken P.taken files.old drive.old input.old terminal.old printer.old)
-        (outside_of F.contents D.contents S.left T.taken P.taken files.new drive.new input.new terminal.new printer.new)
-        (lent kernel.old.store kernel.old.used kernel.new.store kernel.new.used) }
-    ensures cause { HasCause result.status
-        (counts_of F.faults D.faults S.faults T.faults P.faults files.old drive.old input.old terminal.old printer.old)
-        (counts_of F.faults D.faults S.faults T.faults P.faults files.new drive.new input.new terminal.new printer.new) }
-    ensures later { NoneFalls
-        (counts_of F.faults D.faults S.faults T.faults P.faults files.old drive.old input.old terminal.old printer.old)
-        (counts_of F.faults D.faults S.faults T.faults P.faults files.new drive.new input.new terminal.new printer.new) }
-    // The status fits the number of blocks, which stays, whatever the drive tells; and where the drive is not asked, no object but the
-    // files is touched.
-    ensures size { D.count drive.new ≡ D.count drive.old }
-    ensures fits { FitsCount result.status (D.count drive.old) }
-    ensures early { is_before_drive result.status ≡ true
-        → DevicesStay (handed files.old drive.old input.old terminal.old printer.old kernel.old)
-        (handed files.new drive.new input.new terminal.new printer.new kernel.new) }
-{
-    run_file(
-        alloc,
-        Form::Code,
-        file,
-        options,
         files,
         drive,
         input,

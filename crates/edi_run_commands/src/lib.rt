@@ -6,4 +6,4 @@ mod demonstration;
 mod files;
 
 pub use demonstration::demonstrate;
-pub use files::{exec, run};
+pub use files::{Form, run_file};

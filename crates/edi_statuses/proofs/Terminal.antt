@@ -1,5 +1,5 @@
 -- What a status means does not change where the terminal takes its line: the steps of commands, and what they leave.
-use Rattle.std.proofs.Common.{ℕ, ◌-◌, List, length, Option, Some, None, inl, inr}
+use Rattle.std.proofs.Common.{◌≡◌, ℕ, ◌-◌, List, length, Option, Some, None, inl, inr}
 use Rattle.std.specs.Prelude.{⊤}
 use Rattle.edi_told.specs.Told.{WhereTold}
 use Rattle.edi_host.specs.Files.{Contents}
@@ -61,6 +61,12 @@ step_later step step' more more' f g (goes v) (inl h) = absurd h
 step_later step step' more more' f g (stops s) (inl h) = inl (f (stops s) h)
 step_later step step' more more' f g r (inr h) = inr (h.0, f (goes h.0) h.1, g h.0 r h.2)
 
+-- the steps of a command that runs the program of a file: what is run is made of the bytes, the choices and what the bytes give
+abbrev ProgramSteps : {A B : Type 0} → Outside → (List ℕ → AfterStep B → Type 0) → (List ℕ → Choices → B → A) → (file : List ℕ) → ChoicesFrom
+    → AfterStep A → Type 0
+ProgramSteps o step a file from =
+    Fetches o file >>= λ bytes. ReadsChoices o from >>= λ choices. step bytes >>= λ x. Mounts o >>= λ done. Ready (a bytes choices x)
+
 -- ---- one call, and the terminal behind it
 
 module _ (b m : Outside) (y : Option (List ℕ)) (still : StillTold m.shown y) where
@@ -110,27 +116,23 @@ module _ (b m : Outside) (y : Option (List ℕ)) (still : StillTold m.shown y) w
       step_later step step (λ v. Mounts seen_then >>= λ done. Ready (a v)) (λ v. Mounts seen_now >>= λ done. Ready (a v)) (λ q k. k)
       (λ v q k. step_later (Mounts seen_then) (Mounts seen_now) (λ done. Ready (a v)) (λ done. Ready (a v)) mounts_later (λ w t l. l) q k) r h
 
-  pub run_later : (file : List ℕ) (from : ChoicesFrom) (r : AfterStep (List ℕ × Choices)) → RunSteps seen_then file from r → RunSteps seen_now file from r
-  run_later file from r h =
+  program_later : {A B : Type 0} (step : List ℕ → AfterStep B → Type 0) (a : List ℕ → Choices → B → A) (file : List ℕ) (from : ChoicesFrom)
+      (r : AfterStep A) → ProgramSteps seen_then step a file from r → ProgramSteps seen_now step a file from r
+  program_later step a file from r h =
       step_later (Fetches seen_then file) (Fetches seen_now file)
-      (λ bytes. ReadsChoices seen_then from >>= λ choices. Accepts bytes >>= λ unit. Mounts seen_then >>= λ done. Ready (bytes, choices))
-      (λ bytes. ReadsChoices seen_now from >>= λ choices. Accepts bytes >>= λ unit. Mounts seen_now >>= λ done. Ready (bytes, choices))
+      (λ bytes. ReadsChoices seen_then from >>= λ choices. step bytes >>= λ x. Mounts seen_then >>= λ done. Ready (a bytes choices x))
+      (λ bytes. ReadsChoices seen_now from >>= λ choices. step bytes >>= λ x. Mounts seen_now >>= λ done. Ready (a bytes choices x))
       (fetches_later file)
       (λ bytes. step_later (ReadsChoices seen_then from) (ReadsChoices seen_now from)
-      (λ choices. Accepts bytes >>= λ unit. Mounts seen_then >>= λ done. Ready (bytes, choices))
-      (λ choices. Accepts bytes >>= λ unit. Mounts seen_now >>= λ done. Ready (bytes, choices))
-      (choices_later from) (λ choices. mounted_later (Accepts bytes) (λ unit. (bytes, choices)))) r h
+      (λ choices. step bytes >>= λ x. Mounts seen_then >>= λ done. Ready (a bytes choices x))
+      (λ choices. step bytes >>= λ x. Mounts seen_now >>= λ done. Ready (a bytes choices x))
+      (choices_later from) (λ choices. mounted_later (step bytes) (a bytes choices))) r h
+
+  pub run_later : (file : List ℕ) (from : ChoicesFrom) (r : AfterStep (List ℕ × Choices)) → RunSteps seen_then file from r → RunSteps seen_now file from r
+  run_later file from r h = program_later Accepts (λ bytes choices unit. (bytes, choices)) file from r h
 
   pub exec_later : (file : List ℕ) (from : ChoicesFrom) (r : AfterStep (CodeParts × Choices)) → ExecSteps seen_then file from r → ExecSteps seen_now file from r
-  exec_later file from r h =
-      step_later (Fetches seen_then file) (Fetches seen_now file)
-      (λ bytes. ReadsChoices seen_then from >>= λ choices. Loads bytes >>= λ parts. Mounts seen_then >>= λ done. Ready (parts, choices))
-      (λ bytes. ReadsChoices seen_now from >>= λ choices. Loads bytes >>= λ parts. Mounts seen_now >>= λ done. Ready (parts, choices))
-      (fetches_later file)
-      (λ bytes. step_later (ReadsChoices seen_then from) (ReadsChoices seen_now from)
-      (λ choices. Loads bytes >>= λ parts. Mounts seen_then >>= λ done. Ready (parts, choices))
-      (λ choices. Loads bytes >>= λ parts. Mounts seen_now >>= λ done. Ready (parts, choices))
-      (choices_later from) (λ choices. mounted_later (Loads bytes) (λ parts. (parts, choices)))) r h
+  exec_later file from r h = program_later Loads (λ bytes choices parts. (parts, choices)) file from r h
 
   -- steps that look at a fetched file alone
   fetched_later : {A : Type 0} (file : List ℕ) (more : List ℕ → AfterStep A → Type 0) (r : AfterStep A) → (Fetches seen_then file >>= more) r
@@ -219,14 +221,13 @@ module _ (b m : Outside) (y : Option (List ℕ)) (still : StillTold m.shown y) w
     kernel_same = h.kernel_same;
   }
 
-  pub begun_later : (shown : List ℕ) (kernel : Lent) → HasNotBegun seen_then m shown kernel → HasNotBegun seen_now now shown kernel
-  begun_later shown kernel h =
-      record { shown_ = h.shown_; blocks = h.blocks; input = h.input; printed = h.printed; kernel_same = h.kernel_same }
-
   pub drive_later : (P : List (List ℕ) → List (List ℕ) → Type 0) (shown : List ℕ) (kernel : Lent) → ChangesDrive P seen_then m shown kernel
       → ChangesDrive P seen_now now shown kernel
   drive_later P shown kernel h =
       record { shown_ = h.shown_; blocks = h.blocks; input = h.input; printed = h.printed; kernel_same = h.kernel_same }
+
+  pub begun_later : (shown : List ℕ) (kernel : Lent) → HasNotBegun seen_then m shown kernel → HasNotBegun seen_now now shown kernel
+  begun_later shown kernel h = drive_later (λ old new. new ≡ old) shown kernel h
 
   pub keeps_later : (kept : List Kept) (shown : List ℕ) (kernel : Lent) → OnlyKeeps kept seen_then m shown kernel → OnlyKeeps kept seen_now now shown kernel
   keeps_later kept shown kernel h = record {

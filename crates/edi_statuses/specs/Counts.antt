@@ -16,13 +16,8 @@ counts_with files drive input terminal printer =
     record { files = files; drive = drive; input = input; terminal = terminal; printer = printer }
 
 abbrev pub counts_of : {F D S T P : Type 0} → (F → ℕ) → (D → ℕ) → (S → ℕ) → (T → ℕ) → (P → ℕ) → F → D → S → T → P → Counts
-counts_of of_files of_drive of_input of_terminal of_printer files drive input terminal printer = record {
-  files = of_files files;
-  drive = of_drive drive;
-  input = of_input input;
-  terminal = of_terminal terminal;
-  printer = of_printer printer;
-}
+counts_of of_files of_drive of_input of_terminal of_printer files drive input terminal printer =
+    counts_with (of_files files) (of_drive drive) (of_input input) (of_terminal terminal) (of_printer printer)
 
 -- A status that tells a fault comes only where the count of its object rose.
 abbrev pub HasCause : Status → (before after : Counts) → Type 0

@@ -16,7 +16,7 @@ use Rattle.edi_statuses.specs.declared.status.Status.TheVariants as status
 use Rattle.edi_statuses.specs.Lines.{closing, closing_line, is_due, text_of}
 use Rattle.edi_statuses.specs.Showing.{ClosesWith, IsFront}
 use Rattle.edi_statuses.specs.Counts.{Counts, HasCause}
-use Rattle.edi_statuses.specs.Outside.{Outside, seen, Shows, SameFiles, SameBut, SameBlocks, SameInput, SamePrinted, IsAsBefore, IsSomeFile, Lent}
+use Rattle.edi_statuses.specs.Outside.{Outside, seen, Shows, SameFiles, SameBut, SameInput, SamePrinted, IsAsBefore, IsSomeFile, Lent}
 use Rattle.edi_statuses.specs.EachObject.{LeavesEach, Uses}
 use Rattle.edi_statuses.specs.Steps.{AfterStep, goes, ◌>>=◌, Fetches, ReadsChoices, ChoicesAreThere, Accepts, Loads, FitsDisk}
 use Rattle.edi_statuses.specs.Executions.{Runnable, text, code, Ran, BrokeRun}
@@ -63,21 +63,17 @@ Wants _ before after shown kernel = IsNothing before after shown kernel
 
 -- ---- faults
 
--- nothing was shown, printed or run, and the drive and the input are as before
-pub record HasNotBegun (before after : Outside) (shown : List ℕ) (kernel : Lent) : Type 0 where
-  pub shown_ : shown ≡ []
-  pub blocks : SameBlocks before after
-  pub input : SameInput before after
-  pub printed : SamePrinted before after
-  pub kernel_same : kernel.after ≡ kernel.before
-
--- nothing was shown or run, and of the outside at most the drive has changed, as P says
+-- nothing was shown, printed or run, the input is as before, and the drive has changed as P says
 pub record ChangesDrive (P : List (List ℕ) → List (List ℕ) → Type 0) (before after : Outside) (shown : List ℕ) (kernel : Lent) : Type 0 where
   pub shown_ : shown ≡ []
   pub blocks : WhereTold before.blocks after.blocks P
   pub input : SameInput before after
   pub printed : SamePrinted before after
   pub kernel_same : kernel.after ≡ kernel.before
+
+-- and the drive is as before too
+abbrev pub HasNotBegun : (before after : Outside) → (shown : List ℕ) → Lent → Type 0
+HasNotBegun = ChangesDrive (λ old new. new ≡ old)
 
 -- The drive behind a `put` that it broke off: as many blocks as before it, and the files from before it, these with the file
 -- released, or those that it was to leave.

@@ -6,7 +6,7 @@ use Rattle.std.specs.Option.{option_map, option_and_then}
 use Rattle.edi_told.specs.Told.{WhereTold}
 use Rattle.edi_host.specs.Files.{Contents}
 use Rattle.edi_calls.specs.Outcome.{Outcome}
-use Rattle.edi_calls.specs.State.{State}
+use Rattle.edi_calls.specs.State.{File, State}
 use Rattle.edi_image.specs.Image.{Holds}
 use Rattle.edi_system.specs.State.{state_begun}
 
@@ -18,20 +18,16 @@ pub record Outside : Type 0 where
   pub shown : Option (List ℕ)
   pub printed : Option (List ℕ)
 
-abbrev pub outside_of : {F D S T P : Type 0} → (F → Option Contents) → (D → Option (List (List ℕ))) → (S → Option (List ℕ))
-    → (T → Option (List ℕ)) → (P → Option (List ℕ)) → F → D → S → T → P → Outside
-outside_of kept contents left taken printed files drive input terminal printer = record {
-  files = kept files;
-  blocks = contents drive;
-  input = left input;
-  shown = taken terminal;
-  printed = printed printer;
-}
-
 -- the outside that tells this
 abbrev pub outside_with : (files : Option Contents) → (blocks : Option (List (List ℕ))) → (input shown printed : Option (List ℕ)) → Outside
 outside_with files blocks input shown printed =
     record { files = files; blocks = blocks; input = input; shown = shown; printed = printed }
+
+-- what these objects tell
+abbrev pub outside_of : {F D S T P : Type 0} → (F → Option Contents) → (D → Option (List (List ℕ))) → (S → Option (List ℕ))
+    → (T → Option (List ℕ)) → (P → Option (List ℕ)) → F → D → S → T → P → Outside
+outside_of kept contents left taken printed files drive input terminal printer =
+    outside_with (kept files) (contents drive) (left input) (taken terminal) (printed printer)
 
 -- What is told at one moment, where it is told at a later one too. Of contents that an object no longer tells behind a call
 -- nothing is said, since no call on it has said anything of them.
@@ -128,22 +124,22 @@ devices_of o =
 abbrev pub system_on : Devices → State
 system_on d = state_begun d.blocks d.input d.shown d.printed
 
--- the devices before are those of `d`, and behind the call have just what this state has, where these bytes were shown in it; the
--- drive has as many blocks as before
-pub record DevicesAreAt (state : State) (d after : Devices) (shown : List ℕ) : Type 0 where
-  pub input : after.input ≡ state.input
-  pub shown_ : d.shown ++ shown ≡ state.shown
-  pub printed : after.printed ≡ state.printed
-  pub disk : Holds after.blocks state.slots
+-- the devices before are those of `d`, and behind the call have just this, where these bytes were shown in it; the drive has as many
+-- blocks as before
+pub record DevicesHave (left all prints : List ℕ) (slots : List (Option File)) (d after : Devices) (shown : List ℕ) : Type 0 where
+  pub input : after.input ≡ left
+  pub shown_ : d.shown ++ shown ≡ all
+  pub printed : after.printed ≡ prints
+  pub disk : Holds after.blocks slots
   pub count : length after.blocks ≡ length d.blocks
 
--- the same of what an outcome leaves
-pub record OutcomeLeaves (outcome : Outcome) (d after : Devices) (shown : List ℕ) : Type 0 where
-  pub input : after.input ≡ outcome.input
-  pub shown_ : d.shown ++ shown ≡ outcome.shown
-  pub printed : after.printed ≡ outcome.printed
-  pub disk : Holds after.blocks outcome.slots
-  pub count : length after.blocks ≡ length d.blocks
+-- what this state has
+abbrev pub DevicesAreAt : State → (d after : Devices) → (shown : List ℕ) → Type 0
+DevicesAreAt state = DevicesHave state.input state.shown state.printed state.slots
+
+-- what this outcome leaves
+abbrev pub OutcomeLeaves : Outcome → (d after : Devices) → (shown : List ℕ) → Type 0
+OutcomeLeaves outcome = DevicesHave outcome.input outcome.shown outcome.printed outcome.slots
 
 -- ---- the kernel that was lent
 

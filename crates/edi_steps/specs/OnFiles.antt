@@ -1,5 +1,5 @@
 -- Words of contracts. What the steps on files of the host answer, by the steps of commands.
-use Rattle.std.specs.Prelude.{◌≡◌, ℕ, List, take, Option, None, Result, Ok, Err, IsSome, ⊤}
+use Rattle.std.specs.Prelude.{◌≡◌, ◌⊎◌, ℕ, List, take, Option, None, Result, Ok, Err, IsSome, ⊤}
 use Rattle.edi_told.specs.Told.{WhereTold}
 use Rattle.edi_host.specs.Files.{Contents}
 use Rattle.edi_trace.specs.Drawn.{Drawn}
@@ -44,3 +44,8 @@ RecordStep name choices (Err status.NoMemory) before after = IsSome name × Wher
 RecordStep name choices (Err status.FileFault) before after =
     IsSome name × WhereTold before after (λ old new. without_names (names_in name) new ≡ without_names (names_in name) old)
 RecordStep name choices (Err s) before after = ⊥
+
+-- A command that came to this status keeps its record and ends by it, or by the status that tells why the record is not kept.
+abbrev pub RecordEnd : (name : Option (List ℕ)) → Drawn → (came ends : Status) → (before after : Option Contents) → Type 0
+RecordEnd name choices came ends before after =
+    ((ends ≡ came) × RecordStep {A = Unit {0}} name choices (Ok tt) before after) ⊎ RecordStep {A = Unit {0}} name choices (Err ends) before after

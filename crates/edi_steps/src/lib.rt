@@ -11,5 +11,5 @@ mod stopping;
 pub use fetching::fetch;
 pub use loading::load_code;
 pub use reading::read_from;
-pub use recording::keep_record;
+pub use recording::end_with_record;
 pub use stopping::{mount_status, stopped};

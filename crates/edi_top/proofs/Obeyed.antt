@@ -170,19 +170,9 @@ untouched_so c d meant s before after is same h =
 
 -- a fault of the output is no status of a step
 never_first : (c : Command) → stops_first c status.OutputFault ≡ false
-never_first (words.run file o) = refl
-never_first (words.replay file choices turns) = refl
-never_first (words.exec file o) = refl
-never_first (words.boot o) = refl
-never_first (words.compile file out) = refl
 never_first (words.newdisk blocks old) = refl
-never_first (words.put file title) = refl
 never_first (words.get title file) = refl
-never_first (words.list file) = refl
-never_first (words.demo n o) = refl
-never_first (words.check file) = refl
-never_first (words.walk file choices turns) = refl
-never_first (words.watch file points out o) = refl
+never_first c = refl
 
 none_comes : (uses stops never : Bool) → never ≡ false → (uses && not never) ≡ false → (uses && not stops) ≡ false
 none_comes false stops never is h = refl

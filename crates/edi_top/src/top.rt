@@ -19,7 +19,8 @@ use edi_code_commands::list;
 use edi_disk_commands::{get, new_disk, new_disk_from, put};
 use edi_host::{Drive, Files, Sink, Source};
 use edi_kernel::Kernel;
-use edi_run_commands::{demonstrate, exec, run};
+use edi_run_commands::Form::{Code, Text};
+use edi_run_commands::{demonstrate, run_file};
 use edi_statuses::{Ended, Status, show_status};
 use edi_text_commands::compile_file;
 use edi_words::{ChoicesFrom, Command, Options, command};
@@ -102,26 +103,21 @@ fn perform<F: Files, D: Drive, S: Source, T: Sink, P: Sink>(
     ensures no_terminal { command_does is_silent (built (Some (view command.entry))) ≡ true → terminal.new ≡ terminal.old }
 {
     match command {
-        Command::Run { file, options } => run(
-            alloc, file, options, files, drive, input, terminal, printer, kernel,
+        Command::Run { file, options } => run_file(
+            alloc, Text, file, options, files, drive, input, terminal, printer, kernel,
         ),
         Command::Replay {
             file,
             choices,
             turns,
-        } => run(
-            alloc,
-            file,
-            replaying(choices, turns),
-            files,
-            drive,
-            input,
-            terminal,
-            printer,
-            kernel,
-        ),
-        Command::Exec { file, options } => exec(
-            alloc, file, options, files, drive, input, terminal, printer, kernel,
+        } => {
+            let options = replaying(choices, turns);
+            run_file(
+                alloc, Text, file, options, files, drive, input, terminal, printer, kernel,
+            )
+        }
+        Command::Exec { file, options } => run_file(
+            alloc, Code, file, options, files, drive, input, terminal, printer, kernel,
         ),
         Command::Boot { options } => boot(
             alloc, options, files, drive, input, terminal, printer, kernel,

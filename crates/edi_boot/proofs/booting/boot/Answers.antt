@@ -19,13 +19,13 @@ returns-in-Err-clause-came g c =
 
 pub returns-clause-came : goal.returns-clause-came
 returns-clause-came g c =
-    let before : Outside = outside_of g.F.Files.contents g.D.Drive.contents g.S.Source.left g.T.Sink.taken g.P.Sink.taken c.args.files.now
-    c.args.drive.now c.args.input.now c.args.terminal.now c.args.printer.now in
-    let after : Outside = outside_of g.F.Files.contents g.D.Drive.contents g.S.Source.left g.T.Sink.taken g.P.Sink.taken c.hold_session.new.files
-    c.hold_session.new.drive c.hold_session.new.input c.hold_session.new.terminal c.hold_session.new.printer in
-    let kernel : Lent = lent c.args.kernel.now.store c.args.kernel.now.used c.hold_session.new.kernel.store c.hold_session.new.kernel.used in
-    boot_came (options_of c.args.options) before (g.F.Files.contents c.read_from.new.files) kernel c.in-Ok.choices.source c.in-Ok.ensures.reads.1
-    c.in-Ok.ensures.unchanged c.hold_session.result.status c.hold_session.result.due after c.hold_session.ensures.tells c.hold_session.ensures.came
+    boot_came (options_of c.args.options)
+    (outside_of g.F.Files.contents g.D.Drive.contents g.S.Source.left g.T.Sink.taken g.P.Sink.taken c.args.files.now c.args.drive.now c.args.input.now
+    c.args.terminal.now c.args.printer.now) (g.F.Files.contents c.read_from.new.files)
+    (lent c.args.kernel.now.store c.args.kernel.now.used c.hold_session.new.kernel.store c.hold_session.new.kernel.used) c.in-Ok.choices.source
+    c.in-Ok.ensures.reads.1 c.in-Ok.ensures.unchanged c.hold_session.result.status c.hold_session.result.due
+    (outside_of g.F.Files.contents g.D.Drive.contents g.S.Source.left g.T.Sink.taken g.P.Sink.taken c.hold_session.new.files c.hold_session.new.drive
+    c.hold_session.new.input c.hold_session.new.terminal c.hold_session.new.printer) c.hold_session.ensures.tells c.hold_session.ensures.came
 
 pub returns-in-Err-clause-fits : goal.returns-in-Err-clause-fits
 returns-in-Err-clause-fits g c =

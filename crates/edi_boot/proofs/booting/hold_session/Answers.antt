@@ -1,13 +1,14 @@
 -- The exits of a session on the objects of a command.
-use Rattle.std.proofs.Common.{rules, ◌≡◌, ◌∙◌, ◌+◌, ◌*◌, ◌<◌, ◌^◌, true, false, option_map, arith, refl, ap}
+use Rattle.std.proofs.Common.{rules, ◌≡◌, ◌∙◌, ◌+◌, ◌*◌, ◌<◌, ◌^◌, true, false, option_map, arith, refl, sym, subst, ap}
 use Rattle.edi_shell_sessions.specs.Ends.{ends_by_fault}
+use Rattle.edi_statuses.specs.Counts.{Counts, HasCause, counts_of}
 use Rattle.edi_statuses.specs.Outside.{kernel_of}
-use Rattle.edi_run_commands.proofs.Counted.{none_falls}
+use Rattle.edi_run_commands.proofs.Counted.{none_falls, record_cause}
 use Rattle.edi_steps.specs.NotMounted.{mount_status}
 use Rattle.edi_statuses.specs.Sessions.{session_status}
 use Rattle.edi_run_commands.proofs.Mounting.{left_on}
-use Rattle.edi_run_commands.proofs.Asked.{asked_so, unkept_asked, unmounted_asked}
-use Rattle.edi_boot.proofs.Exits.{broke, ended_asked, recorded, unmounted, unrecorded, with_bound}
+use Rattle.edi_run_commands.proofs.Asked.{asked_so, record_asked, unmounted_asked}
+use Rattle.edi_boot.proofs.Exits.{broke, ended_asked, ended_cause, ended_so, unmounted, with_bound}
 use Rattle.edi_boot.proofs.booting.hold_session.Goals as goal
 
 pub returns-in-Err-clause-came : goal.returns-in-Err-clause-came
@@ -37,43 +38,40 @@ returns-then-ends_by_fault-clause-came g c =
     with_bound c.from.result c.args.turns (search rules) _ _ _ _ _ _ _
     (broke c.from.result c.args.choices.now c.requires.none_drawn c.in-Ok.exit.due c.in-Ok.exit.end _ _
     (left_on _ _ _ c.in-Ok.ensures.mounted l.told l.due) _ c.hold_on.new.choices (l.ends few)
-    (option_map (λ name. name.now) c.args.record_file) c.session_status-status.result c.session_status-status.ensures.exact failed refl)
+    (option_map (λ name. name.now) c.args.record_file) c.session_status.result c.session_status.ensures.exact failed refl)
 
 pub returns-then-ends_by_fault-clause-later : goal.returns-then-ends_by_fault-clause-later
 returns-then-ends_by_fault-clause-later g c =
     none_falls g.F.Files.faults g.D.Drive.faults g.S.Source.faults g.T.Sink.faults g.P.Sink.faults c.args.files.now c.args.files.now _ _ (omega arith)
     c.hold_on.ensures.later
 
-pub returns-in-Ok-keep_record-clause-came : goal.returns-in-Ok-keep_record-clause-came
-returns-in-Ok-keep_record-clause-came g c =
+pub returns-clause-came : goal.returns-clause-came
+returns-clause-came g c =
     let l = c.in-Ok.ensures.leaves in
     let few : c.args.choices.now.drawn + 4194304 * c.from.result < 2 ^ 64 = search rules in
     let unfailed : ends_by_fault c.in-Ok.exit.end ≡ false = search rules in
-    with_bound c.from.result c.args.turns (search rules) _ _ _ _ _ _ _
-    (recorded c.from.result c.args.choices.now c.requires.none_drawn c.in-Ok.exit.due c.in-Ok.exit.end _ _
+    rw c.end_with_record.ensures.due
+    (with_bound c.from.result c.args.turns (search rules) _ _ _ _ _ _ _
+    (ended_so c.from.result c.args.choices.now c.requires.none_drawn c.in-Ok.exit.due c.in-Ok.exit.end _ _
     (left_on _ _ _ c.in-Ok.ensures.mounted l.told l.due) _ c.hold_on.new.choices (l.ends few)
     unfailed (omega (arith, c.hold_on.ensures.drawn, c.requires.none_drawn)) (option_map (λ name. name.now) c.args.record_file)
-    c.session_status-status.result c.session_status-status.ensures.exact c.hold_on.ensures.source
-    c.in-Ok-keep_record.ensures.keeps)
+    c.session_status.result c.end_with_record.result.status c.session_status.ensures.exact c.hold_on.ensures.source c.end_with_record.ensures.keeps))
 
-pub returns-in-Ok-keep_record-clause-later : goal.returns-in-Ok-keep_record-clause-later
-returns-in-Ok-keep_record-clause-later g c =
-    none_falls g.F.Files.faults g.D.Drive.faults g.S.Source.faults g.T.Sink.faults g.P.Sink.faults _ _ _ _ c.keep_record.ensures.later c.hold_on.ensures.later
+pub returns-clause-later : goal.returns-clause-later
+returns-clause-later g c =
+    none_falls g.F.Files.faults g.D.Drive.faults g.S.Source.faults g.T.Sink.faults g.P.Sink.faults _ _ _ _ c.end_with_record.ensures.later
+    c.hold_on.ensures.later
 
-pub returns-in-Err-keep_record-clause-came : goal.returns-in-Err-keep_record-clause-came
-returns-in-Err-keep_record-clause-came g c =
-    let l = c.in-Ok.ensures.leaves in
-    let few : c.args.choices.now.drawn + 4194304 * c.from.result < 2 ^ 64 = search rules in
+pub returns-clause-cause : goal.returns-clause-cause
+returns-clause-cause g c =
     let unfailed : ends_by_fault c.in-Ok.exit.end ≡ false = search rules in
-    with_bound c.from.result c.args.turns (search rules) _ _ _ _ _ _ _
-    (unrecorded c.from.result c.args.choices.now c.requires.none_drawn c.in-Ok.exit.due c.in-Ok.exit.end _ _
-    (left_on _ _ _ c.in-Ok.ensures.mounted l.told l.due) _ c.hold_on.new.choices (l.ends few)
-    unfailed (omega (arith, c.hold_on.ensures.drawn, c.requires.none_drawn)) (Unit {0}) (option_map (λ name. name.now) c.args.record_file)
-    c.in-Err-keep_record.status c.in-Err-keep_record.ensures.keeps)
-
-pub returns-in-Err-keep_record-clause-later : goal.returns-in-Err-keep_record-clause-later
-returns-in-Err-keep_record-clause-later g c =
-    none_falls g.F.Files.faults g.D.Drive.faults g.S.Source.faults g.T.Sink.faults g.P.Sink.faults _ _ _ _ c.keep_record.ensures.later c.hold_on.ensures.later
+    let had : Counts = counts_of g.F.Files.faults g.D.Drive.faults g.S.Source.faults g.T.Sink.faults g.P.Sink.faults c.args.files.now
+    c.args.drive.now c.args.input.now c.args.terminal.now c.args.printer.now in
+    let has : Counts = counts_of g.F.Files.faults g.D.Drive.faults g.S.Source.faults g.T.Sink.faults g.P.Sink.faults c.end_with_record.new.files
+    c.hold_on.new.drive c.hold_on.new.input c.hold_on.new.terminal c.hold_on.new.printer in
+    record_cause (option_map (λ name. name.now) c.args.record_file) c.hold_on.new.choices c.session_status.result c.end_with_record.result.status _ _ had has
+    (subst (λ s. HasCause s had has) (sym c.session_status.ensures.exact) (ended_cause c.in-Ok.exit.end had has unfailed))
+    c.end_with_record.ensures.cause c.end_with_record.ensures.keeps
 
 pub returns-in-Err-clause-asked : goal.returns-in-Err-clause-asked
 returns-in-Err-clause-asked g c =
@@ -82,15 +80,12 @@ returns-in-Err-clause-asked g c =
 
 pub returns-then-ends_by_fault-clause-asked : goal.returns-then-ends_by_fault-clause-asked
 returns-then-ends_by_fault-clause-asked g c =
-    asked_so (session_status c.in-Ok.exit.end) c.session_status-status.result _ c.session_status-status.ensures.exact
+    asked_so (session_status c.in-Ok.exit.end) c.session_status.result _ c.session_status.ensures.exact
     (ended_asked _ c.in-Ok.ensures.image c.in-Ok.exit.end)
 
-pub returns-in-Ok-keep_record-clause-asked : goal.returns-in-Ok-keep_record-clause-asked
-returns-in-Ok-keep_record-clause-asked g c =
-    asked_so (session_status c.in-Ok.exit.end) c.session_status-status.result _ c.session_status-status.ensures.exact
-    (ended_asked _ c.in-Ok.ensures.image c.in-Ok.exit.end)
-
-pub returns-in-Err-keep_record-clause-asked : goal.returns-in-Err-keep_record-clause-asked
-returns-in-Err-keep_record-clause-asked g c =
-    unkept_asked (Unit {0}) _ (option_map (λ name. name.now) c.args.record_file) c.hold_on.new.choices c.in-Err-keep_record.status _ _
-    c.in-Err-keep_record.ensures.keeps
+pub returns-clause-asked : goal.returns-clause-asked
+returns-clause-asked g c =
+    record_asked _ (option_map (λ name. name.now) c.args.record_file) c.hold_on.new.choices c.session_status.result c.end_with_record.result.status _ _
+    (asked_so (session_status c.in-Ok.exit.end) c.session_status.result _ c.session_status.ensures.exact
+    (ended_asked _ c.in-Ok.ensures.image c.in-Ok.exit.end))
+    c.end_with_record.ensures.keeps

@@ -8,32 +8,23 @@ use Rattle.edi_statuses.specs.Showing.{ShowsBytes}
 use Rattle.edi_statuses.specs.declared.status.Status.TheVariants as status
 use Rattle.edi_run_commands.specs.Demonstrated.{is_ok}
 use Rattle.edi_run_commands.proofs.Asked.{never_early, shown_behind}
-use Rattle.edi_run_commands.proofs.Alone.{came_so, lined, of_demo, ran_alone, uncoded, unread}
+use Rattle.edi_run_commands.proofs.Alone.{lined, of_demo, ran_alone, uncoded, unread}
 use Rattle.edi_run_commands.proofs.Coded.{line_is, ok_is}
 use Rattle.edi_run_commands.proofs.demonstration.demonstrate.Goals as goal
 
 pub returns-in-Err-clause-came : goal.returns-in-Err-clause-came
 returns-in-Err-clause-came g c =
-    let o : Options = options_of c.args.options in
-    let old : Option Contents = g.F.Files.contents c.args.files.now in
-    let mid : Option Contents = g.F.Files.contents c.read_from.new.files in
-    let taken : Option (List ℕ) = g.T.Sink.taken c.args.terminal.now in
-    let printed : Option (List ℕ) = g.P.Sink.taken c.args.printer.now in
-    let kernel : KernelLeft = kernel_of c.args.kernel.now.store c.args.kernel.now.used in
-    came_so c.args.n o c.in-Err.status c.stopped.result.status c.stopped.result.due old mid taken printed (idle kernel) c.stopped.ensures.status_is
-    c.stopped.ensures.due (unread c.args.n o old mid c.in-Err.ensures.unchanged taken printed kernel c.in-Err.status c.in-Err.ensures.reads)
+    unread c.args.n (options_of c.args.options) (g.F.Files.contents c.args.files.now) (g.F.Files.contents c.read_from.new.files)
+    c.in-Err.ensures.unchanged (g.T.Sink.taken c.args.terminal.now) (g.P.Sink.taken c.args.printer.now)
+    (kernel_of c.args.kernel.now.store c.args.kernel.now.used) c.in-Err.status c.stopped.result.status c.stopped.result.due c.stopped.ensures.status_is
+    c.stopped.ensures.due c.in-Err.ensures.reads
 
 pub returns-in-Err-demo_code-clause-came : goal.returns-in-Err-demo_code-clause-came
 returns-in-Err-demo_code-clause-came g c =
-    let o : Options = options_of c.args.options in
-    let old : Option Contents = g.F.Files.contents c.args.files.now in
-    let mid : Option Contents = g.F.Files.contents c.read_from.new.files in
-    let taken : Option (List ℕ) = g.T.Sink.taken c.args.terminal.now in
-    let printed : Option (List ℕ) = g.P.Sink.taken c.args.printer.now in
-    let kernel : KernelLeft = kernel_of c.args.kernel.now.store c.args.kernel.now.used in
-    came_so c.args.n o status.NoMemory c.stopped-in-Err-demo_code.result.status c.stopped-in-Err-demo_code.result.due old mid taken printed
-    (idle kernel) (c.stopped-in-Err-demo_code.ensures.status_is ∙ c.in-Err-demo_code.ensures.made) c.stopped-in-Err-demo_code.ensures.due
-    (uncoded c.args.n o old mid c.in-Ok.ensures.unchanged taken printed kernel)
+    uncoded c.args.n (options_of c.args.options) (g.F.Files.contents c.args.files.now) (g.F.Files.contents c.read_from.new.files)
+    c.in-Ok.ensures.unchanged (g.T.Sink.taken c.args.terminal.now) (g.P.Sink.taken c.args.printer.now)
+    (kernel_of c.args.kernel.now.store c.args.kernel.now.used) c.stopped-in-Err-demo_code.result.status c.stopped-in-Err-demo_code.result.due
+    (c.stopped-in-Err-demo_code.ensures.status_is ∙ c.in-Err-demo_code.ensures.made) c.stopped-in-Err-demo_code.ensures.due
 
 pub returns-then-not-is_ok-clause-came : goal.returns-then-not-is_ok-clause-came
 returns-then-not-is_ok-clause-came g c =

@@ -70,42 +70,42 @@ returns-in_default g c =
 
 pub returns-in-Run-clause-size : goal.returns-in-Run-clause-size
 returns-in-Run-clause-size g c =
-    counts_so c.args.command (command.Run c.in-Run.file c.in-Run.options) c.run.result.status c.run.result.status _ _ _ _ c.in-Run.is refl
-    (c.run.ensures.size, c.run.ensures.fits)
+    counts_so c.args.command (command.Run c.in-Run.file c.in-Run.options) c.run_file.result.status c.run_file.result.status _ _ _ _ c.in-Run.is refl
+    (c.run_file.ensures.size, c.run_file.ensures.fits)
 
 pub returns-in-Run-clause-untouched : goal.returns-in-Run-clause-untouched
 returns-in-Run-clause-untouched g c =
-    untouched_so c.args.command (command.Run c.in-Run.file c.in-Run.options) c.run.result.status c.run.result.status _ _ c.in-Run.is refl
-    (untouched _ _ (words.run c.in-Run.file.now (options_of c.in-Run.options)) c.run.result.status refl refl refl (λ e. e)
-    (λ none. absurd (true≢false none)) c.run.ensures.early)
+    untouched_so c.args.command (command.Run c.in-Run.file c.in-Run.options) c.run_file.result.status c.run_file.result.status _ _ c.in-Run.is refl
+    (untouched _ _ (words.run c.in-Run.file.now (options_of c.in-Run.options)) c.run_file.result.status refl refl refl (λ e. e)
+    (λ none. absurd (true≢false none)) c.run_file.ensures.early)
 
 pub returns-in-Replay-clause-came : goal.returns-in-Replay-clause-came
 returns-in-Replay-clause-came g c =
-    obeyed_replay c.args.command c.in-Replay.file c.in-Replay.choices c.in-Replay.turns c.replaying.result c.run-in-Replay.result.status
-    c.run-in-Replay.result.due _ _ _ c.in-Replay.is c.replaying.ensures.exact c.run-in-Replay.ensures.came
+    obeyed_replay c.args.command c.in-Replay.file c.in-Replay.choices c.in-Replay.turns c.replaying-options.result c.run_file-in-Replay.result.status
+    c.run_file-in-Replay.result.due _ _ _ c.in-Replay.is c.replaying-options.ensures.exact c.run_file-in-Replay.ensures.came
 
 pub returns-in-Replay-clause-size : goal.returns-in-Replay-clause-size
 returns-in-Replay-clause-size g c =
-    counts_so c.args.command (command.Replay c.in-Replay.file c.in-Replay.choices c.in-Replay.turns) c.run-in-Replay.result.status c.run-in-Replay.result.status _ _ _ _ c.in-Replay.is refl
-    (c.run-in-Replay.ensures.size, c.run-in-Replay.ensures.fits)
+    counts_so c.args.command (command.Replay c.in-Replay.file c.in-Replay.choices c.in-Replay.turns) c.run_file-in-Replay.result.status c.run_file-in-Replay.result.status _ _ _ _ c.in-Replay.is refl
+    (c.run_file-in-Replay.ensures.size, c.run_file-in-Replay.ensures.fits)
 
 pub returns-in-Replay-clause-untouched : goal.returns-in-Replay-clause-untouched
 returns-in-Replay-clause-untouched g c =
-    untouched_so c.args.command (command.Replay c.in-Replay.file c.in-Replay.choices c.in-Replay.turns) c.run-in-Replay.result.status c.run-in-Replay.result.status
+    untouched_so c.args.command (command.Replay c.in-Replay.file c.in-Replay.choices c.in-Replay.turns) c.run_file-in-Replay.result.status c.run_file-in-Replay.result.status
     _ _ c.in-Replay.is refl
-    (untouched _ _ (words.replay c.in-Replay.file.now c.in-Replay.choices.now c.in-Replay.turns) c.run-in-Replay.result.status refl refl refl (λ e. e)
-    (λ none. absurd (true≢false none)) c.run-in-Replay.ensures.early)
+    (untouched _ _ (words.replay c.in-Replay.file.now c.in-Replay.choices.now c.in-Replay.turns) c.run_file-in-Replay.result.status refl refl refl (λ e. e)
+    (λ none. absurd (true≢false none)) c.run_file-in-Replay.ensures.early)
 
 pub returns-in-Exec-clause-size : goal.returns-in-Exec-clause-size
 returns-in-Exec-clause-size g c =
-    counts_so c.args.command (command.Exec c.in-Exec.file c.in-Exec.options) c.exec.result.status c.exec.result.status _ _ _ _ c.in-Exec.is refl
-    (c.exec.ensures.size, c.exec.ensures.fits)
+    counts_so c.args.command (command.Exec c.in-Exec.file c.in-Exec.options) c.run_file-in-Exec.result.status c.run_file-in-Exec.result.status _ _ _ _ c.in-Exec.is refl
+    (c.run_file-in-Exec.ensures.size, c.run_file-in-Exec.ensures.fits)
 
 pub returns-in-Exec-clause-untouched : goal.returns-in-Exec-clause-untouched
 returns-in-Exec-clause-untouched g c =
-    untouched_so c.args.command (command.Exec c.in-Exec.file c.in-Exec.options) c.exec.result.status c.exec.result.status _ _ c.in-Exec.is refl
-    (untouched _ _ (words.exec c.in-Exec.file.now (options_of c.in-Exec.options)) c.exec.result.status refl refl refl (λ e. e)
-    (λ none. absurd (true≢false none)) c.exec.ensures.early)
+    untouched_so c.args.command (command.Exec c.in-Exec.file c.in-Exec.options) c.run_file-in-Exec.result.status c.run_file-in-Exec.result.status _ _ c.in-Exec.is refl
+    (untouched _ _ (words.exec c.in-Exec.file.now (options_of c.in-Exec.options)) c.run_file-in-Exec.result.status refl refl refl (λ e. e)
+    (λ none. absurd (true≢false none)) c.run_file-in-Exec.ensures.early)
 
 pub returns-in-Boot-clause-size : goal.returns-in-Boot-clause-size
 returns-in-Boot-clause-size g c =
