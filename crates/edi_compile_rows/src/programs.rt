@@ -1,5 +1,6 @@
 //! Programs that are compiled and run.
 
+use crate::texts::{BUFFER, LETTER};
 use edi_compile::compile;
 use edi_kernel::{Ending, Kernel};
 use edi_machine::Cause;
@@ -58,28 +59,156 @@ type Case = (
     &'static str,
 );
 
+/// The greatest `int` and 1.
+const OVERFLOW: &str = "proc main(proc display(value: char))
+var x: int
+begin display('a');
+  x := 32767 + 1
+end";
+
+/// Quotients and rests of negative numbers, and the least `int` by -1.
+const QUOTIENTS: &str = "proc main(proc display(value: char))
+var x: int
+begin x := -7;
+  if (x div 2 = -3) and (x mod 2 = -1) do display('k') end;
+  x := 0 - 32767 - 1;
+  x := x div (0 - 1)
+end";
+
+/// An index above its bound, on a line of its own.
+const INDEX: &str = "proc main
+array t [1:3] (int)
+var a: t; i: int
+begin i := 3; a[i] := 7; i := 4;
+  a[
+  i] := 7 end";
+
+/// The greatest member of a set, and one above it.
+const MEMBERS: &str = "proc main(proc display(value: char))
+set s (int)
+var x: s; i: int
+begin x := s(127); x := s; i := 128;
+  if i in x do skip else true do display('n') end;
+  x := s(i) end";
+
+/// A procedure that calls itself.
+const RECURSION: &str = "proc main(proc display(value: char))
+proc p begin p end
+begin p end";
+
+/// A function changes the index of the variable that gets its value.
+const ELEMENT: &str = "proc main(proc display(value: char))
+array t [1:2] (char)
+var a: t; i: int
+proc f: char begin i := 2; val f := 'q' end
+begin i := 1; a[i] := f; display(a[1]);
+  if a[2] = char(0) do display('z') end end";
+
+/// A variable and a parameter that stands for it.
+const TWO_NAMES: &str = "proc main(proc display(value: char))
+var g: int
+proc p(var v: int)
+begin v := 1; if g = 1 do display('1') end;
+  g := 2; if v = 2 do display('2') end end
+begin p(g) end";
+
+/// A procedure in the outer of two calls of its block, called from the inner.
+const OUTER: &str = "proc main(proc display(value: char))
+proc go(n: int; proc q)
+  proc r begin if n = 1 do display('1') else n = 2 do display('2') end end
+begin if n = 1 do go(2, r) else true do q end end
+proc none begin skip end
+begin go(1, none) end";
+
+/// Two processes, both of which may go on.
+const WAITING: &str = "proc main(proc display(value: char))
+var x: int
+begin cobegin 1 do when x = 0 do display('a'); x := 1 end
+also 2 do when true do display('b') end end end";
+
+/// A process waits for ever.
+const NEVER: &str = "proc main begin when false do skip end end";
+
+/// Two processes wait for ever.
+const BOTH_NEVER: &str =
+    "proc main begin cobegin 1 do when false do skip end also 2 do when false do skip end end end";
+
+/// A condition that calls a function.
+const FUNCTION_WAITS: &str =
+    "proc main proc f: bool begin val f := false end begin when f do skip end end";
+
+/// A `when` in a function.
+const WHEN_IN_FUNCTION: &str = "proc main(proc display(value: char))
+var x: int
+proc f: int
+begin
+  when true do val f := 1 end
+end
+begin x := f end";
+
+/// A module that exports a procedure.
+const MODULE: &str =
+    "proc main(proc display(value: char))\nmodule\n  var hidden: char\n  * proc show begin display(hidden) end\nbegin hidden := 'm' end\nbegin show end";
+
+/// The right operand of `and` is not evaluated.
+const UNEVALUATED: &str =
+    "proc main(proc display(value: char)) begin if false and (1 div 0 = 1) do skip else true do display('k') end end";
+
+/// Three turns of a loop.
+const COUNTING: &str =
+    "proc main(proc display(value: char)) var x: int begin while x < 3 do display('k'); x := x + 1 end end";
+
+/// Three characters of the input, which has fewer.
+const ECHO: &str =
+    "proc main(proc accept(var c: char); proc display(c: char)) var c: char; n: int begin while n < 3 do accept(c); display(c); n := n + 1 end end";
+
+/// Two processes read a variable, and then change it.
+const UPDATES: &str = "proc main(proc display(value: char))
+var x: int
+proc p var y: int begin y := x; x := y + 1 end
+begin cobegin 1 do p also 2 do p end;
+  if x = 2 do display('2') else true do display('1') end end";
+
+/// Records and arrays are copied and compared whole.
+const RECORDS: &str = "array text [1:3] (char) record pair (n: int; t: text)
+proc main(proc display(value: char))
+var p, q: pair; i: int
+begin p := pair(2, text('abc')); q := p; q.t[q.n] := 'z'; i := 1;
+  while i <= 3 do display(q.t[i]); i := i + 1 end;
+  if p = q do skip else true do display('n') end; display(p.t[p.n]) end";
+
+/// Sets.
+const LETTERS: &str = "set letters (char)
+proc main(proc display(value: char))
+var s, t: letters
+begin s := letters('a', 'b'); t := s + letters('c'); t := t - letters('a');
+  if 'a' in t do display('1') end; if 'b' in t do display('2') end; if 'c' in t do display('3') end;
+  if s * t = letters('b') do display('4') end end";
+
+/// A `halt`.
+const HALT: &str = "proc main(proc display(value: char))
+begin display('h');
+  halt end";
+
+/// Values of an enumeration by their numbers, and one number too many.
+const COLORS: &str = "enum color (red, green, blue)
+proc main(proc display(value: char))
+var c: color
+begin c := color(2); if c = blue do display('b') end;
+  display(char(int(c) + 48));
+  c := color(int(c) + 1) end";
+
+/// Operators on truth values.
+const TRUTH: &str = "proc main(proc display(value: char))
+var b: bool; n: int
+begin n := 3; b := not (n > 2) or (-n < 0); if b do display('t') end end";
+
 /// Programs that are worked out by hand.
 const CASES: [Case; 33] = [
+    (LETTER, "", &[], 1000, Ending::Done, Some(2), "a"),
+    (LETTER, "", &[], 1, Ending::Turns, Some(1), "a"),
     (
-        "proc main(proc display(value: char)) begin display('a') end",
-        "",
-        &[],
-        1000,
-        Ending::Done,
-        Some(2),
-        "a",
-    ),
-    (
-        "proc main(proc display(value: char)) begin display('a') end",
-        "",
-        &[],
-        1,
-        Ending::Turns,
-        Some(1),
-        "a",
-    ),
-    (
-        "proc main(proc display(value: char))\nvar x: int\nbegin display('a');\n  x := 32767 + 1\nend",
+        OVERFLOW,
         "",
         &[],
         1000,
@@ -88,7 +217,7 @@ const CASES: [Case; 33] = [
         "a",
     ),
     (
-        "proc main(proc display(value: char))\nvar x: int\nbegin x := -7;\n  if (x div 2 = -3) and (x mod 2 = -1) do display('k') end;\n  x := 0 - 32767 - 1;\n  x := x div (0 - 1)\nend",
+        QUOTIENTS,
         "",
         &[],
         1000,
@@ -97,7 +226,7 @@ const CASES: [Case; 33] = [
         "k",
     ),
     (
-        "proc main\narray t [1:3] (int)\nvar a: t; i: int\nbegin i := 3; a[i] := 7; i := 4;\n  a[\n  i] := 7 end",
+        INDEX,
         "",
         &[],
         1000,
@@ -106,7 +235,7 @@ const CASES: [Case; 33] = [
         "",
     ),
     (
-        "proc main(proc display(value: char))\nset s (int)\nvar x: s; i: int\nbegin x := s(127); x := s; i := 128;\n  if i in x do skip else true do display('n') end;\n  x := s(i) end",
+        MEMBERS,
         "",
         &[],
         1000,
@@ -115,7 +244,7 @@ const CASES: [Case; 33] = [
         "n",
     ),
     (
-        "proc main(proc display(value: char))\nproc p begin p end\nbegin p end",
+        RECURSION,
         "",
         &[],
         20000,
@@ -123,107 +252,19 @@ const CASES: [Case; 33] = [
         Some(13106),
         "",
     ),
+    (ELEMENT, "", &[], 1000, Ending::Done, None, "qz"),
+    (TWO_NAMES, "", &[], 1000, Ending::Done, None, "12"),
+    (OUTER, "", &[], 1000, Ending::Done, None, "1"),
+    (WAITING, "", &[], 1000, Ending::Done, Some(7), "ab"),
+    (WAITING, "", &[0, 0, 1], 1000, Ending::Done, Some(7), "ba"),
+    (WAITING, "", &[1], 1000, Ending::Done, Some(7), "ba"),
+    (WAITING, "", &[], 6, Ending::Turns, Some(6), "ab"),
+    (NEVER, "", &[], 1000, Ending::Standstill, Some(3), ""),
+    (NEVER, "", &[], 2, Ending::Turns, Some(2), ""),
+    (BOTH_NEVER, "", &[], 1000, Ending::Standstill, Some(6), ""),
+    (FUNCTION_WAITS, "", &[], 10, Ending::Turns, Some(10), ""),
     (
-        "proc main(proc display(value: char))\narray t [1:2] (char)\nvar a: t; i: int\nproc f: char begin i := 2; val f := 'q' end\nbegin i := 1; a[i] := f; display(a[1]);\n  if a[2] = char(0) do display('z') end end",
-        "",
-        &[],
-        1000,
-        Ending::Done,
-        None,
-        "qz",
-    ),
-    (
-        "proc main(proc display(value: char))\nvar g: int\nproc p(var v: int)\nbegin v := 1; if g = 1 do display('1') end;\n  g := 2; if v = 2 do display('2') end end\nbegin p(g) end",
-        "",
-        &[],
-        1000,
-        Ending::Done,
-        None,
-        "12",
-    ),
-    (
-        "proc main(proc display(value: char))\nproc go(n: int; proc q)\n  proc r begin if n = 1 do display('1') else n = 2 do display('2') end end\nbegin if n = 1 do go(2, r) else true do q end end\nproc none begin skip end\nbegin go(1, none) end",
-        "",
-        &[],
-        1000,
-        Ending::Done,
-        None,
-        "1",
-    ),
-    (
-        "proc main(proc display(value: char))\nvar x: int\nbegin cobegin 1 do when x = 0 do display('a'); x := 1 end\nalso 2 do when true do display('b') end end end",
-        "",
-        &[],
-        1000,
-        Ending::Done,
-        Some(7),
-        "ab",
-    ),
-    (
-        "proc main(proc display(value: char))\nvar x: int\nbegin cobegin 1 do when x = 0 do display('a'); x := 1 end\nalso 2 do when true do display('b') end end end",
-        "",
-        &[0, 0, 1],
-        1000,
-        Ending::Done,
-        Some(7),
-        "ba",
-    ),
-    (
-        "proc main(proc display(value: char))\nvar x: int\nbegin cobegin 1 do when x = 0 do display('a'); x := 1 end\nalso 2 do when true do display('b') end end end",
-        "",
-        &[1],
-        1000,
-        Ending::Done,
-        Some(7),
-        "ba",
-    ),
-    (
-        "proc main(proc display(value: char))\nvar x: int\nbegin cobegin 1 do when x = 0 do display('a'); x := 1 end\nalso 2 do when true do display('b') end end end",
-        "",
-        &[],
-        6,
-        Ending::Turns,
-        Some(6),
-        "ab",
-    ),
-    (
-        "proc main begin when false do skip end end",
-        "",
-        &[],
-        1000,
-        Ending::Standstill,
-        Some(3),
-        "",
-    ),
-    (
-        "proc main begin when false do skip end end",
-        "",
-        &[],
-        2,
-        Ending::Turns,
-        Some(2),
-        "",
-    ),
-    (
-        "proc main begin cobegin 1 do when false do skip end also 2 do when false do skip end end end",
-        "",
-        &[],
-        1000,
-        Ending::Standstill,
-        Some(6),
-        "",
-    ),
-    (
-        "proc main proc f: bool begin val f := false end begin when f do skip end end",
-        "",
-        &[],
-        10,
-        Ending::Turns,
-        Some(10),
-        "",
-    ),
-    (
-        "proc main(proc display(value: char))\nvar x: int\nproc f: int\nbegin\n  when true do val f := 1 end\nend\nbegin x := f end",
+        WHEN_IN_FUNCTION,
         "",
         &[],
         1000,
@@ -231,71 +272,15 @@ const CASES: [Case; 33] = [
         None,
         "",
     ),
+    (MODULE, "", &[], 1000, Ending::Done, None, "m"),
+    (UNEVALUATED, "", &[], 1000, Ending::Done, Some(2), "k"),
+    (COUNTING, "", &[], 1000, Ending::Done, Some(5), "kkk"),
+    (COUNTING, "", &[], 4, Ending::Turns, Some(4), "kkk"),
+    (ECHO, "x", &[], 1000, Ending::Done, Some(5), "x\x19\x19"),
+    (UPDATES, "", &[1, 0, 1], 1000, Ending::Done, None, "2"),
+    (BUFFER, "edison", &[], 1000, Ending::Done, None, "edison"),
     (
-        "proc main(proc display(value: char))\nmodule\n  var hidden: char\n  * proc show begin display(hidden) end\nbegin hidden := 'm' end\nbegin show end",
-        "",
-        &[],
-        1000,
-        Ending::Done,
-        None,
-        "m",
-    ),
-    (
-        "proc main(proc display(value: char)) begin if false and (1 div 0 = 1) do skip else true do display('k') end end",
-        "",
-        &[],
-        1000,
-        Ending::Done,
-        Some(2),
-        "k",
-    ),
-    (
-        "proc main(proc display(value: char)) var x: int begin while x < 3 do display('k'); x := x + 1 end end",
-        "",
-        &[],
-        1000,
-        Ending::Done,
-        Some(5),
-        "kkk",
-    ),
-    (
-        "proc main(proc display(value: char)) var x: int begin while x < 3 do display('k'); x := x + 1 end end",
-        "",
-        &[],
-        4,
-        Ending::Turns,
-        Some(4),
-        "kkk",
-    ),
-    (
-        "proc main(proc accept(var c: char); proc display(c: char)) var c: char; n: int begin while n < 3 do accept(c); display(c); n := n + 1 end end",
-        "x",
-        &[],
-        1000,
-        Ending::Done,
-        Some(5),
-        "x\x19\x19",
-    ),
-    (
-        "proc main(proc display(value: char))\nvar x: int\nproc p var y: int begin y := x; x := y + 1 end\nbegin cobegin 1 do p also 2 do p end;\n  if x = 2 do display('2') else true do display('1') end end",
-        "",
-        &[1, 0, 1],
-        1000,
-        Ending::Done,
-        None,
-        "2",
-    ),
-    (
-        "proc main(proc accept(var c: char); proc display(c: char))\nmodule\n  array slots [0:3] (char)\n  var slot: slots; head, tail, length: int\n  * proc put(c: char)\n  begin when length < 4 do\n    slot[tail] := c; tail := (tail + 1) mod 4; length := length + 1 end\n  end\n  * proc get(var c: char)\n  begin when length > 0 do\n    c := slot[head]; head := (head + 1) mod 4; length := length - 1 end\n  end\nbegin head := 0; tail := 0; length := 0 end\nproc producer\nvar x: char\nbegin accept(x);\n  while x <> char(25) do put(x); accept(x) end; put(x)\nend\nproc consumer\nvar y: char\nbegin get(y); while y <> char(25) do display(y); get(y) end end\nbegin cobegin 1 do producer also 2 do consumer end end",
-        "edison",
-        &[],
-        1000,
-        Ending::Done,
-        None,
-        "edison",
-    ),
-    (
-        "proc main(proc accept(var c: char); proc display(c: char))\nmodule\n  array slots [0:3] (char)\n  var slot: slots; head, tail, length: int\n  * proc put(c: char)\n  begin when length < 4 do\n    slot[tail] := c; tail := (tail + 1) mod 4; length := length + 1 end\n  end\n  * proc get(var c: char)\n  begin when length > 0 do\n    c := slot[head]; head := (head + 1) mod 4; length := length - 1 end\n  end\nbegin head := 0; tail := 0; length := 0 end\nproc producer\nvar x: char\nbegin accept(x);\n  while x <> char(25) do put(x); accept(x) end; put(x)\nend\nproc consumer\nvar y: char\nbegin get(y); while y <> char(25) do display(y); get(y) end end\nbegin cobegin 1 do producer also 2 do consumer end end",
+        BUFFER,
         "edison",
         &[1, 0, 1, 1, 0, 0, 1],
         1000,
@@ -304,7 +289,7 @@ const CASES: [Case; 33] = [
         "edison",
     ),
     (
-        "proc main(proc accept(var c: char); proc display(c: char))\nmodule\n  array slots [0:3] (char)\n  var slot: slots; head, tail, length: int\n  * proc put(c: char)\n  begin when length < 4 do\n    slot[tail] := c; tail := (tail + 1) mod 4; length := length + 1 end\n  end\n  * proc get(var c: char)\n  begin when length > 0 do\n    c := slot[head]; head := (head + 1) mod 4; length := length - 1 end\n  end\nbegin head := 0; tail := 0; length := 0 end\nproc producer\nvar x: char\nbegin accept(x);\n  while x <> char(25) do put(x); accept(x) end; put(x)\nend\nproc consumer\nvar y: char\nbegin get(y); while y <> char(25) do display(y); get(y) end end\nbegin cobegin 1 do producer also 2 do consumer end end",
+        BUFFER,
         "edison",
         &[0, 1, 1, 1, 1, 1, 0, 1, 0, 1],
         1000,
@@ -312,35 +297,11 @@ const CASES: [Case; 33] = [
         None,
         "edison",
     ),
+    (RECORDS, "", &[], 1000, Ending::Done, Some(5), "azcnb"),
+    (LETTERS, "", &[], 1000, Ending::Done, Some(2), "234"),
+    (HALT, "", &[], 1000, Ending::Halted(3), Some(1), "h"),
     (
-        "array text [1:3] (char) record pair (n: int; t: text)\nproc main(proc display(value: char))\nvar p, q: pair; i: int\nbegin p := pair(2, text('abc')); q := p; q.t[q.n] := 'z'; i := 1;\n  while i <= 3 do display(q.t[i]); i := i + 1 end;\n  if p = q do skip else true do display('n') end; display(p.t[p.n]) end",
-        "",
-        &[],
-        1000,
-        Ending::Done,
-        Some(5),
-        "azcnb",
-    ),
-    (
-        "set letters (char)\nproc main(proc display(value: char))\nvar s, t: letters\nbegin s := letters('a', 'b'); t := s + letters('c'); t := t - letters('a');\n  if 'a' in t do display('1') end; if 'b' in t do display('2') end; if 'c' in t do display('3') end;\n  if s * t = letters('b') do display('4') end end",
-        "",
-        &[],
-        1000,
-        Ending::Done,
-        Some(2),
-        "234",
-    ),
-    (
-        "proc main(proc display(value: char))\nbegin display('h');\n  halt end",
-        "",
-        &[],
-        1000,
-        Ending::Halted(3),
-        Some(1),
-        "h",
-    ),
-    (
-        "enum color (red, green, blue)\nproc main(proc display(value: char))\nvar c: color\nbegin c := color(2); if c = blue do display('b') end;\n  display(char(int(c) + 48));\n  c := color(int(c) + 1) end",
+        COLORS,
         "",
         &[],
         1000,
@@ -348,15 +309,7 @@ const CASES: [Case; 33] = [
         None,
         "b2",
     ),
-    (
-        "proc main(proc display(value: char))\nvar b: bool; n: int\nbegin n := 3; b := not (n > 2) or (-n < 0); if b do display('t') end end",
-        "",
-        &[],
-        1000,
-        Ending::Done,
-        Some(2),
-        "t",
-    ),
+    (TRUTH, "", &[], 1000, Ending::Done, Some(2), "t"),
 ];
 
 /// Asserts how programs end.

@@ -6,7 +6,7 @@ use std::alloc::Global;
 use std::process::Abort;
 
 /// Two processes that send characters through a buffer of four.
-const BUFFER: &str = "proc main(proc accept(var c: char); proc display(c: char))
+pub(crate) const BUFFER: &str = "proc main(proc accept(var c: char); proc display(c: char))
 module
   array slots [0:3] (char)
   var slot: slots; head, tail, length: int
@@ -31,7 +31,7 @@ begin cobegin 1 do producer also 2 do consumer end end
 ";
 
 /// A program that shows a letter.
-const LETTER: &str = "proc main(proc display(value: char)) begin display('a') end";
+pub(crate) const LETTER: &str = "proc main(proc display(value: char)) begin display('a') end";
 
 /// What an intake answers that is fed the text in pieces of so many bytes.
 fn fed(rt: &impl Abort, alloc: Global, text: &[u8], size: usize) -> Result<Code, Refusal> {
