@@ -2,7 +2,8 @@
 //! at most 64 may be open.
 #![tactic(auto, using(edi_phrases::proofs::Moves::no_memory))]
 
-ghost use Rattle.edi_phrases.specs.Prelude.{◌≡◌, [], ◌∷◌, ◌<◌, ◌≤◌, false, length, IfOk, IfErr, front, has, Passes, HaltsAt};
+ghost use Rattle.std.specs.Prelude.{◌≡◌, [], ◌∷◌, ◌<◌, ◌≤◌, false, length, IfOk, IfErr};
+ghost use Rattle.edi_phrases.specs.Prelude.{front, has, Passes, HaltsAt};
 ghost use Rattle.edi_tree.specs.View.{procedure_of, item_of, module_of, member_of, members_of, declaration_of, declarations_of};
 ghost use Rattle.edi_tree.specs.Levels.{procedure_elements, item_elements, module_elements, member_elements, members_elements, declaration_elements};
 ghost use Rattle.edi_tree.specs.Levels.{declarations_elements};

@@ -1,6 +1,7 @@
 //! Whether a part may begin with the symbol in front.
 
-ghost use Rattle.edi_phrases.specs.Prelude.{◌≡◌, front, has};
+ghost use Rattle.std.specs.Prelude.{◌≡◌};
+ghost use Rattle.edi_phrases.specs.Prelude.{front, has};
 ghost use Rattle.edi_grammar.specs.Rules as g;
 ghost use Rattle.edi_grammar.specs.Edison as sets;
 

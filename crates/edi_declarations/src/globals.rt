@@ -1,7 +1,8 @@
 //! The declarations in front of the procedure of a program. No level is open there.
 #![tactic(auto, using(edi_phrases::proofs::Moves::no_memory))]
 
-ghost use Rattle.edi_phrases.specs.Prelude.{◌<◌, ◌≤◌, length, IfOk, IfErr, Passes, HaltsAt};
+ghost use Rattle.std.specs.Prelude.{◌<◌, ◌≤◌, length, IfOk, IfErr};
+ghost use Rattle.edi_phrases.specs.Prelude.{Passes, HaltsAt};
 ghost use Rattle.edi_tree.specs.View.{global_of, globals_of};
 ghost use Rattle.edi_tree.specs.Levels.{global_elements, globals_elements};
 ghost use Rattle.edi_grammar.specs.Rules as g;

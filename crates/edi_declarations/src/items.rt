@@ -1,7 +1,8 @@
 //! The items that have no procedure in them.
 #![tactic(auto, using(edi_phrases::proofs::Moves::no_memory))]
 
-ghost use Rattle.edi_phrases.specs.Prelude.{◌≡◌, ◌<◌, true, length, IfOk, IfErr, front, has, Passes, HaltsAt};
+ghost use Rattle.std.specs.Prelude.{◌≡◌, ◌<◌, true, length, IfOk, IfErr};
+ghost use Rattle.edi_phrases.specs.Prelude.{front, has, Passes, HaltsAt};
 ghost use Rattle.edi_tree.specs.View.{item_of};
 ghost use Rattle.edi_tree.specs.Levels.{item_elements};
 ghost use Rattle.edi_grammar.specs.Kinds as kind;

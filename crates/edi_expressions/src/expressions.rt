@@ -1,7 +1,7 @@
 //! Expressions.
 #![tactic(auto, using(edi_phrases::proofs::Moves::no_memory))]
 
-ghost use Rattle.edi_phrases.specs.Prelude.{◌≡◌, [], ◌∷◌, ◌<◌, ◌≤◌, ℕ, true, false, length, option_map, IfOk, IfErr, IfSome, IfNone};
+ghost use Rattle.std.specs.Prelude.{◌≡◌, [], ◌∷◌, ◌<◌, ◌≤◌, ℕ, true, false, length, option_map, IfOk, IfErr, IfSome, IfNone};
 ghost use Rattle.edi_phrases.specs.Prelude.{front, kind_of, has, at_line, Passes, HaltsAt};
 ghost use Rattle.edi_lex.specs.declared.symbol.Symbol.TheVariants as is;
 ghost use Rattle.edi_tree.specs.Spelled.{relation_symbol, addition_symbol, multiplication_symbol};

@@ -1,7 +1,8 @@
 //! Headings of procedures. A level is the number of levels that are open where a part begins; at most 64 may be open.
 #![tactic(auto, using(edi_phrases::proofs::Moves::no_memory))]
 
-ghost use Rattle.edi_phrases.specs.Prelude.{◌≡◌, ◌<◌, ◌≤◌, length, IfOk, IfErr, front, Passes, HaltsAt};
+ghost use Rattle.std.specs.Prelude.{◌≡◌, ◌<◌, ◌≤◌, length, IfOk, IfErr};
+ghost use Rattle.edi_phrases.specs.Prelude.{front, Passes, HaltsAt};
 ghost use Rattle.edi_tree.specs.View.{heading_of, param_of, params_of};
 ghost use Rattle.edi_tree.specs.Levels.{param_elements, params_elements, result_elements};
 ghost use Rattle.edi_derivation.specs.Parts.{head_elements};

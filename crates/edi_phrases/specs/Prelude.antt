@@ -1,5 +1,4 @@
 -- Words of contracts. Those in which the contracts of all parsing functions are written, from here and from below.
-pub use Rattle.std.specs.Prelude.{◌≡◌, [], ◌∷◌, ◌<◌, ◌≤◌, ℕ, true, false, length, nat_eq, option_map, IfOk, IfErr, IfSome, IfNone}
 pub use Rattle.edi_grammar.specs.Kind.{kind_of, front}
 pub use Rattle.edi_grammar.specs.Parser.{has}
 pub use Rattle.edi_phrases.specs.Words.{is_word, at_line, StandsHere, HeadStands}

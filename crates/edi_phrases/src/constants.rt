@@ -1,7 +1,8 @@
 //! Constants.
 #![tactic(auto, using(crate::proofs::Moves::no_memory))]
 
-ghost use Rattle.edi_phrases.specs.Prelude.{◌≡◌, [], ◌∷◌, ◌<◌, ◌≤◌, length, IfOk, IfErr, IfSome, IfNone, front, at_line, StandsHere, Passes, HaltsAt, Lacks};
+ghost use Rattle.std.specs.Prelude.{◌≡◌, [], ◌∷◌, ◌<◌, ◌≤◌, length, IfOk, IfErr, IfSome, IfNone};
+ghost use Rattle.edi_phrases.specs.Prelude.{front, at_line, StandsHere, Passes, HaltsAt, Lacks};
 ghost use Rattle.edi_lex.specs.declared.symbol.Symbol.TheVariants as is;
 ghost use Rattle.edi_tree.specs.Sequences.{items_of};
 ghost use Rattle.edi_tree.specs.View.{const_decls, const_list_of};

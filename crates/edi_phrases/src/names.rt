@@ -1,7 +1,7 @@
 //! Names, strings and groups of names.
 #![tactic(auto, using(crate::proofs::Moves::no_memory))]
 
-ghost use Rattle.edi_phrases.specs.Prelude.{◌≡◌, ◌∷◌, ◌<◌, ◌≤◌, length, nat_eq, IfSome, IfNone, IfOk, IfErr};
+ghost use Rattle.std.specs.Prelude.{◌≡◌, ◌∷◌, ◌<◌, ◌≤◌, length, nat_eq, IfSome, IfNone, IfOk, IfErr};
 ghost use Rattle.edi_phrases.specs.Prelude.{front, at_line, StandsHere, Passes, HaltsAt, Lacks};
 ghost use Rattle.edi_lex.specs.declared.symbol.Symbol.TheVariants as is;
 ghost use Rattle.edi_tree.specs.Sequences.{items_of};

@@ -1,7 +1,7 @@
 //! Declarations of types, and lists of variables.
 #![tactic(auto, using(crate::proofs::Moves::no_memory))]
 
-ghost use Rattle.edi_phrases.specs.Prelude.{◌≡◌, [], ◌∷◌, ◌<◌, true, false, length, IfOk, IfErr};
+ghost use Rattle.std.specs.Prelude.{◌≡◌, [], ◌∷◌, ◌<◌, true, false, length, IfOk, IfErr};
 ghost use Rattle.edi_phrases.specs.Prelude.{front, kind_of, has, is_word, HeadStands, Passes, HaltsAt, HaltsInHead};
 ghost use Rattle.edi_tree.specs.View.{type_decl_of, var_list_of};
 ghost use Rattle.edi_tree.specs.Levels.{type_decl_elements, var_list_elements};

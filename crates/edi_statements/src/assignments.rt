@@ -1,7 +1,8 @@
 //! Assignments and calls.
 #![tactic(auto, using(edi_phrases::proofs::Moves::no_memory))]
 
-ghost use Rattle.edi_phrases.specs.Prelude.{◌≡◌, [], ◌∷◌, ◌<◌, length, IfOk, IfErr, front, has, Passes, HaltsAt};
+ghost use Rattle.std.specs.Prelude.{◌≡◌, [], ◌∷◌, ◌<◌, length, IfOk, IfErr};
+ghost use Rattle.edi_phrases.specs.Prelude.{front, has, Passes, HaltsAt};
 ghost use Rattle.edi_tree.specs.View.{statement_of};
 ghost use Rattle.edi_tree.specs.Levels.{statement_elements};
 ghost use Rattle.edi_grammar.specs.Kinds as kind;

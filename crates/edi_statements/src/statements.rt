@@ -1,7 +1,8 @@
 //! Statements, and lists of statements.
 #![tactic(auto, using(edi_phrases::proofs::Moves::no_memory))]
 
-ghost use Rattle.edi_phrases.specs.Prelude.{◌≡◌, [], ◌∷◌, ◌<◌, ◌≤◌, true, false, length, IfOk, IfErr, front, kind_of, has, is_word, Passes, HaltsAt};
+ghost use Rattle.std.specs.Prelude.{◌≡◌, [], ◌∷◌, ◌<◌, ◌≤◌, true, false, length, IfOk, IfErr};
+ghost use Rattle.edi_phrases.specs.Prelude.{front, kind_of, has, is_word, Passes, HaltsAt};
 ghost use Rattle.edi_tree.specs.View.{branch_of, condition_of, conditions_of, else_of, list_of, statement_of, statements_of};
 ghost use Rattle.edi_tree.specs.Levels.{branch_elements, condition_elements, conditions_elements, else_elements, list_elements, statement_elements};
 ghost use Rattle.edi_tree.specs.Levels.{statements_elements};
