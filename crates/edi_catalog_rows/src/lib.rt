@@ -2,20 +2,4 @@
 #![tactic(auto)]
 
 #[cfg(test)]
-mod asking;
-#[cfg(test)]
-mod changes;
-#[cfg(test)]
-mod disk_calls;
-#[cfg(test)]
-mod disks;
-#[cfg(test)]
-mod images;
-#[cfg(test)]
-mod migration;
-#[cfg(test)]
-mod reading;
-#[cfg(test)]
-mod storing;
-#[cfg(test)]
-mod titles;
+mod rows;

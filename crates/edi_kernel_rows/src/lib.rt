@@ -2,14 +2,4 @@
 #![tactic(auto)]
 
 #[cfg(test)]
-mod code_files;
-#[cfg(test)]
-mod codes;
-#[cfg(test)]
-mod instructions;
-#[cfg(test)]
-mod random;
-#[cfg(test)]
-mod runs;
-#[cfg(test)]
-mod steps;
+mod rows;

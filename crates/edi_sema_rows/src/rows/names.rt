@@ -2,13 +2,17 @@
 
 use edi_sema::StaticKind;
 
+/// A name of a module that is not exported is used outside it.
+const HIDDEN: &str = "proc main(proc display(value: char))
+module
+var hidden: char
+* proc show begin display(hidden) end
+begin hidden := 'm' end
+begin show; display(hidden) end";
+
 /// Texts, with the rule that each breaks first and the line.
 pub(crate) const CASES: [(&str, StaticKind, u16); 33] = [
-    (
-        "proc main(proc display(value: char))\nmodule\nvar hidden: char\n* proc show begin display(hidden) end\nbegin hidden := 'm' end\nbegin show; display(hidden) end",
-        StaticKind::Undeclared,
-        6,
-    ),
+    (HIDDEN, StaticKind::Undeclared, 6),
     (
         "proc main\nproc p begin q end\nproc q begin skip end\nbegin p end",
         StaticKind::Undeclared,

@@ -4,6 +4,43 @@ use crate::rows::judging::is_sound;
 use std::alloc::Global;
 use std::process::Abort;
 
+/// A split function, a procedure parameter, types of all kinds, and branches.
+const BRANCHES: &str = "const max = 3
+enum color (red, green)
+record pair (tag: color; count: int)
+array row [1:max] (pair)
+set colors (color)
+proc main(proc write(c: char))
+pre proc f(n: int; proc act(var k: int)): bool
+var table: row; i: int
+proc step(var k: int) begin k := k + 1 end
+post proc f(m: int; proc act(var k: int)): bool
+var seen: colors
+begin seen := colors(red);
+  act(table[m].count);
+  val f := (table[1].tag in seen) and not (m < -1)
+end
+begin table[2] := pair(green, 4);
+  cobegin 1 do when f(2, step) do i := max end
+  also 2 do while i = 0 do skip end
+end end";
+
+/// Operators, and modules in modules.
+const OPERATORS: &str = "proc main
+set s (int)
+var a, b: int; t: bool; c: s
+module
+  module begin a := a + b - a * b div a mod b end
+begin t := (a = b) or (a <> b) end
+begin t := a < b; t := a <= b; t := a > b; t := a >= b; t := a in c; a := -a * b; a := +a - int(t); c := c end";
+
+/// The calls of the system.
+const CALLS: &str = "array name [1:12] (char)
+proc main(proc accept(var a: char); proc display(a: char); proc print(a: char);
+  proc find(a: name; var b: bool); proc more(var a: bool); proc read(var a: char); proc fresh;
+  proc write(a: char); proc close(a: name; var b: bool); proc remove(a: name; var b: bool))
+begin skip end";
+
 /// Texts, with the needs of the blocks, the number of the types, and the calls.
 const CASES: [(&str, &[u32], u32, &[u8]); 5] = [
     (
@@ -12,30 +49,15 @@ const CASES: [(&str, &[u32], u32, &[u8]); 5] = [
         3,
         &[2],
     ),
-    (
-        "const max = 3\nenum color (red, green)\nrecord pair (tag: color; count: int)\narray row [1:max] (pair)\nset colors (color)\nproc main(proc write(c: char))\npre proc f(n: int; proc act(var k: int)): bool\nvar table: row; i: int\nproc step(var k: int) begin k := k + 1 end\npost proc f(m: int; proc act(var k: int)): bool\nvar seen: colors\nbegin seen := colors(red);\n  act(table[m].count);\n  val f := (table[1].tag in seen) and not (m < -1)\nend\nbegin table[2] := pair(green, 4);\n  cobegin 1 do when f(2, step) do i := max end\n  also 2 do while i = 0 do skip end\nend end",
-        &[18, 28, 9, 9, 7],
-        7,
-        &[8],
-    ),
-    (
-        "proc main\nset s (int)\nvar a, b: int; t: bool; c: s\nmodule\n  module begin a := a + b - a * b div a mod b end\nbegin t := (a = b) or (a <> b) end\nbegin t := a < b; t := a <= b; t := a > b; t := a >= b; t := a in c; a := -a * b; a := +a - int(t); c := c end",
-        &[26],
-        4,
-        &[],
-    ),
+    (BRANCHES, &[18, 28, 9, 9, 7], 7, &[8]),
+    (OPERATORS, &[26], 4, &[]),
     (
         "proc main array t [1:32765] (int) var a, b: t begin skip end",
         &[65535],
         4,
         &[],
     ),
-    (
-        "array name [1:12] (char)\nproc main(proc accept(var a: char); proc display(a: char); proc print(a: char);\n  proc find(a: name; var b: bool); proc more(var a: bool); proc read(var a: char); proc fresh;\n  proc write(a: char); proc close(a: name; var b: bool); proc remove(a: name; var b: bool))\nbegin skip end",
-        &[35],
-        4,
-        &[1, 2, 3, 4, 5, 6, 7, 8, 9, 10],
-    ),
+    (CALLS, &[35], 4, &[1, 2, 3, 4, 5, 6, 7, 8, 9, 10]),
 ];
 
 /// Asserts that texts are sound, with these needs, types and calls.

@@ -4,8 +4,17 @@ use edi_lex::{LexFault, Scanner, Symbol, Symbols, scan};
 use std::alloc::Global;
 use std::test::Fail;
 
-const PROGRAM: &[u8] =
-    b"\"A program that shows three stars, \nand says '''\"\nproc main(proc display(value: char))\nvar i: int; text_1: word\nbegin i := 0;\n while (i <> 3) and not (i >= 32767) do\n  display('*'); i := i + 1\n end;\n display('''); text_1[1] := word('of ten chr')\nend\n";
+const PROGRAM: &[u8] = b"\"A program that shows three stars, \n\
+and says '''\"
+proc main(proc display(value: char))
+var i: int; text_1: word
+begin i := 0;
+ while (i <> 3) and not (i >= 32767) do
+  display('*'); i := i + 1
+ end;
+ display('''); text_1[1] := word('of ten chr')
+end
+";
 
 // The symbols of a text that comes in pieces of this length.
 fn in_pieces(alloc: Global, text: &[u8], length: usize) -> Result<Symbols, LexFault> {

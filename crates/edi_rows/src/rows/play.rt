@@ -26,8 +26,8 @@
 //! In a TEXT `/` is a line feed and `~` the byte 25. The number `n` is that of the round. All that is shown and printed has to be
 //! looked at before the next call.
 
-use crate::script::{byte, meant, number, parts, size, write_hex};
-use crate::world::World;
+use crate::rows::script::{byte, meant, number, parts, size, write_hex};
+use crate::rows::world::World;
 use edi_host::{MemoryDrive, MemoryFiles, MemorySink, MemorySource};
 use std::alloc::Global;
 use std::process::Abort;
@@ -313,6 +313,13 @@ impl Stage {
         }
     }
 
+    // Plays the lines of a script.
+    fn lines(&mut self, rt: &impl Abort, alloc: Global, script: &str) {
+        for line in script.split('\n') {
+            self.line(rt, alloc, line);
+        }
+    }
+
     // Plays a line.
     fn line(&mut self, rt: &impl Abort, alloc: Global, line: &str) {
         let (word, rest) = parts(line);
@@ -355,9 +362,13 @@ fn rest_of<'a>(rt: &impl Abort, bytes: &'a [u8], at: &str) -> &'a [u8] {
 
 /// Plays a script, in which the number `n` is that of the round.
 pub fn play(rt: &impl Abort, alloc: Global, script: &str, round: u64) {
+    play_behind(rt, alloc, "", script, round);
+}
+
+/// Plays two scripts as one.
+pub fn play_behind(rt: &impl Abort, alloc: Global, front: &str, script: &str, round: u64) {
     let mut stage = Stage::new(rt, alloc, round);
-    for line in script.split('\n') {
-        stage.line(rt, alloc, line);
-    }
+    stage.lines(rt, alloc, front);
+    stage.lines(rt, alloc, script);
     stage.settle(rt, "the end");
 }

@@ -1,6 +1,6 @@
 //! Drives that are no disk, and images of version 1.
 
-use crate::play::play;
+use crate::rows::play::play;
 
 /// No disk, and disks that are none.
 const NONE: &str = "
@@ -172,11 +172,8 @@ call 10 newdisk 64 --from entry_pages
 shows bad image entry 0/
 unchanged
 
-bytes 32768 0
-at 0 4544495300010040
-at 512 742020202020202020202020
-at 524 010000050000003c
-at 2560 00010040
+copy entry_pages
+at 2560 000100400000
 file page
 call 10 newdisk 64 --from page
 shows bad image page 0 64/

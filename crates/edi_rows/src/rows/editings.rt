@@ -1,6 +1,6 @@
 //! Sessions: editings of a text, their refusals and undos.
 
-use crate::play::play;
+use crate::rows::play::play;
 
 /// Each line of an editing, each with its refusals.
 const LINES: &str = "

@@ -1,7 +1,7 @@
 //! Files that are stored.
 
-use crate::asking::{Reply, Request, asked, formatted, tells};
-use crate::images::{failing, filled, image, sevens, steady};
+use crate::rows::asking::{Reply, Request, asked, formatted, tells};
+use crate::rows::images::{failing, filled, image, sevens, steady};
 use edi_catalog::{CatEnd, FormatEnd};
 use edi_host::SteadyDrive;
 use std::alloc::{AllocError, Global};

@@ -1,6 +1,6 @@
 //! Sessions in which an object fails, or the limit is reached, and disks on which none is held.
 
-use crate::play::play;
+use crate::rows::play::{play, play_behind};
 
 /// Files, inputs, terminals and printers of which one call fails, or that have no room.
 const OBJECTS: &str = "
@@ -120,8 +120,12 @@ fn a_session_has_a_limit(rt: HostRuntime) {
     play(&rt, rt.alloc(), LIMIT, 0);
 }
 
-/// An image with a file of 2,000 bytes, whose first 33 blocks and the map of the file are read before a session begins.
-const MOUNTS: &str = "
+/// A file of 2,000 bytes, and an image that has it.
+const IMAGE: &str = "
+bytes 2000 0
+at 0 61
+at 1999 7a
+file wanted
 bytes 32768 0
 at 0 4544495300020040
 at 512 662020202020202020202020202020202020202020202020
@@ -129,6 +133,10 @@ at 536 010000210000000007d0
 at 16896 00040022002300240025
 at 17408 61
 at 19407 7a
+";
+
+/// The first 33 blocks of the image and the map of its file are read before a session begins.
+const MOUNTS: &str = "
 drive n
 input 0 copy f t/halt/
 call 7 boot --record r
@@ -140,17 +148,6 @@ none r
 
 /// The copy is broken off by the drive: the disk has the copy, or not, and the file as it was.
 const COPIES: &str = "
-bytes 2000 0
-at 0 61
-at 1999 7a
-file wanted
-bytes 32768 0
-at 0 4544495300020040
-at 512 662020202020202020202020202020202020202020202020
-at 536 010000210000000007d0
-at 16896 00040022002300240025
-at 17408 61
-at 19407 7a
 drive n
 input 0 copy f t/halt/
 call 7 boot --record r
@@ -161,19 +158,10 @@ blocks 64
 either wanted
 call 0 get f g
 same g wanted
+";
 
-world
-bytes 2000 0
-at 0 61
-at 1999 7a
-file wanted
-bytes 32768 0
-at 0 4544495300020040
-at 512 662020202020202020202020202020202020202020202020
-at 536 010000210000000007d0
-at 16896 00040022002300240025
-at 17408 61
-at 19407 7a
+/// So it is also where the call that fails has done what it was to do.
+const LANDED: &str = "
 lands n
 input 0 copy f t/halt/
 call 7 boot
@@ -186,17 +174,6 @@ same g wanted
 
 /// The call behind the last one of a copy fails, which is another command's.
 const COPIED: &str = "
-bytes 2000 0
-at 0 61
-at 1999 7a
-file wanted
-bytes 32768 0
-at 0 4544495300020040
-at 512 662020202020202020202020202020202020202020202020
-at 536 010000210000000007d0
-at 16896 00040022002300240025
-at 17408 61
-at 19407 7a
 drive n
 input 0 copy f t/halt/
 call 0 boot
@@ -217,6 +194,13 @@ fn each_call_of_the_drive_may_fail_in_a_copy(rt: HostRuntime) {
             45 => COPIED,
             _ => COPIES,
         };
-        play(&rt, rt.alloc(), script, n);
+        play_behind(&rt, rt.alloc(), IMAGE, script, n);
+    }
+}
+
+#[test]
+fn a_call_that_fails_may_be_done_in_a_copy(rt: HostRuntime) {
+    for n in 35..=44u64 {
+        play_behind(&rt, rt.alloc(), IMAGE, LANDED, n);
     }
 }

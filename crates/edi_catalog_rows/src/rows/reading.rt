@@ -1,7 +1,7 @@
 //! Whole files that are read.
 
-use crate::asking::whole;
-use crate::images::{filled, image, steady};
+use crate::rows::asking::whole;
+use crate::rows::images::{filled, image, steady};
 use edi_catalog::CatEnd;
 use std::test::Fail;
 

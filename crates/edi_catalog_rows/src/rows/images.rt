@@ -1,6 +1,6 @@
 //! Images: a new one, one for each rule that is broken, and one with files.
 
-use crate::asking::{Reply, Request, asked, fault_of, formatted, tells};
+use crate::rows::asking::{Reply, Request, asked, fault_of, formatted, tells};
 use edi_calls::FileKind;
 use edi_catalog::{Entry, FormatEnd, MountFault, Title};
 use edi_host::{MemoryDrive, SteadyDrive};
@@ -88,6 +88,21 @@ pub(crate) fn failing(
     MemoryDrive::new(alloc, bytes, &[number], lands)
 }
 
+// A block stands twice.
+fn shared(n: u16) -> Option<MountFault> {
+    Some(MountFault::Shared(n))
+}
+
+/// A file that is not protected, as the catalogue tells it.
+pub(crate) fn unprotected(title: &[u8], kind: FileKind, length: u32) -> Option<Entry> {
+    Some(Entry {
+        title: Title::new(title)?,
+        kind,
+        protected: false,
+        length,
+    })
+}
+
 #[test]
 fn the_first_broken_rule_is_answered(rt: HostRuntime) -> Result<(), Fail> {
     let alloc = rt.alloc();
@@ -122,21 +137,14 @@ fn the_first_broken_rule_is_answered(rt: HostRuntime) -> Result<(), Fail> {
             &[],
             Some(MountFault::Page(0, 64)),
         ),
-        (
-            new,
-            64,
-            &[(b'a', 1, 33, 0, 1)],
-            &[33],
-            &[],
-            Some(MountFault::Shared(33)),
-        ),
+        (new, 64, &[(b'a', 1, 33, 0, 1)], &[33], &[], shared(33)),
         (
             new,
             64,
             &[(b'a', 1, 33, 0, 513)],
             &[35, 35],
             &[],
-            Some(MountFault::Shared(35)),
+            shared(35),
         ),
         // two files with one map, and with one title; two files
         (
@@ -145,7 +153,7 @@ fn the_first_broken_rule_is_answered(rt: HostRuntime) -> Result<(), Fail> {
             &[(b'a', 1, 33, 0, 0), (b'b', 1, 33, 0, 0)],
             &[],
             &[],
-            Some(MountFault::Shared(33)),
+            shared(33),
         ),
         (
             new,
@@ -196,12 +204,7 @@ fn files_are_found_and_read(rt: HostRuntime) -> Result<(), Fail> {
     let slots = [(b'a', 1, 33, 0, 0), (b'b', 2, 34, 0, 600)];
     let bytes = image(alloc, b"EDIS\0\x02\0\x40", 64, &slots, &[], &[40, 39])?;
     let mut drive = steady(&rt, alloc, &bytes)?;
-    let found = Entry {
-        title: Title::new(b"b").ok_or("no title")?,
-        kind: FileKind::Code,
-        protected: false,
-        length: 600,
-    };
+    let found = unprotected(b"b", FileKind::Code, 600).ok_or("no title")?;
     let cases = [
         (Request::Find(b"b"), Reply::File(found)),
         (Request::Free, Reply::Number(27)),

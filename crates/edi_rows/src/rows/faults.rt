@@ -1,8 +1,9 @@
 //! Objects that fail.
 
-use crate::play::play;
+use crate::rows::play::{play, play_behind};
+use crate::rows::programs::ALIAS;
 
-/// Files, inputs, terminals and printers of which one call fails, or that have no room.
+/// Files and inputs of which one call fails.
 const OBJECTS: &str = "
 files 1
 | proc main(proc display(value: char)) begin display('a') end
@@ -45,14 +46,10 @@ call 8 run accepts --record r
 shows x/input fault/
 leaves y
 none r
+";
 
-| proc main(proc display(value: char))
-| var g: int
-| proc p(var v: int)
-| begin v := 1; if g = 1 do display('1') end;
-|   g := 2; if v = 2 do display('2') end end
-| begin p(g) end
-file alias
+/// Terminals that have room for one byte, or of which one put fails.
+const TERMINALS: &str = "
 terminal 0 1
 call 9 run alias
 shows 1
@@ -115,6 +112,7 @@ prints pq
 #[test]
 fn a_fault_of_an_object_is_told(rt: HostRuntime) {
     play(&rt, rt.alloc(), OBJECTS, 0);
+    play_behind(&rt, rt.alloc(), ALIAS, TERMINALS, 0);
     play(&rt, rt.alloc(), SHOWN, 0);
 }
 

@@ -1,6 +1,6 @@
 //! Disks: made, filled and read.
 
-use crate::play::play;
+use crate::rows::play::play;
 
 /// New disks, and files that are put there and got from there.
 const FILES: &str = "

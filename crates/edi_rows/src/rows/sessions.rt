@@ -1,6 +1,6 @@
 //! Sessions: what the lines of the shell show and leave.
 
-use crate::play::play;
+use crate::rows::play::play;
 
 /// A text is entered, compiled and executed; lines that end at the input's end.
 const WORKED: &str = "

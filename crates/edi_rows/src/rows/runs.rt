@@ -1,6 +1,7 @@
 //! Worked programs: what they show and leave, with choices, records and bounds.
 
-use crate::play::play;
+use crate::rows::play::play_behind;
+use crate::rows::programs::{ALIAS, RACE};
 
 /// The choices of some runs, and programs of one process.
 const ALONE: &str = "
@@ -71,13 +72,6 @@ file order
 call 0 run order
 shows qz
 
-| proc main(proc display(value: char))
-| var g: int
-| proc p(var v: int)
-| begin v := 1; if g = 1 do display('1') end;
-|   g := 2; if v = 2 do display('2') end end
-| begin p(g) end
-file alias
 call 0 run alias
 shows 12
 
@@ -149,10 +143,10 @@ shows absent/
 
 #[test]
 fn programs_end_as_they_mean(rt: HostRuntime) {
-    play(&rt, rt.alloc(), ALONE, 0);
+    play_behind(&rt, rt.alloc(), ALIAS, ALONE, 0);
 }
 
-/// Programs of several processes.
+/// Programs of several processes. The array of `too_small` is one word longer than that of `shares`.
 const TOGETHER: &str = "
 | 0
 | 0
@@ -181,11 +175,6 @@ file seven
 |
 file bad
 
-| proc main(proc display(value: char))
-| var x: int
-| begin cobegin 1 do when x = 0 do display('a'); x := 1 end
-| also 2 do when true do display('b') end end end
-file race
 call 0 run race --turns 7 --record r0
 shows ab
 holds r0 0/0/0/
@@ -284,16 +273,8 @@ shows line 2 process limit/
 file shares
 call 0 run shares
 
-| proc main
-| array a [1:2104] (int)
-| proc p var x: a begin skip end
-| begin cobegin
-| 1 do p
-| also 2 do skip also 3 do skip also 4 do skip also 5 do skip also 6 do skip also 7 do skip also 8 do skip also 9 do skip
-| also 10 do skip also 11 do skip also 12 do skip also 13 do skip also 14 do skip also 15 do skip also 16 do skip
-| also 17 do skip also 18 do skip also 19 do skip also 20 do skip also 21 do skip also 22 do skip also 23 do skip
-| also 24 do skip also 25 do skip also 26 do skip also 27 do skip also 28 do skip also 29 do skip also 30 do skip
-| also 31 do skip end end
+copy shares
+at 24 34
 file too_small
 call 3 run too_small
 shows line 5 variable limit/
@@ -348,5 +329,5 @@ shows turn limit/
 
 #[test]
 fn processes_end_as_their_choices_select(rt: HostRuntime) {
-    play(&rt, rt.alloc(), TOGETHER, 0);
+    play_behind(&rt, rt.alloc(), RACE, TOGETHER, 0);
 }

@@ -1,8 +1,8 @@
 //! A disk, over drives of 17 blocks.
 
-use crate::disk_calls::Call::{Blocks, Flush, Held, Page, Put};
-use crate::disk_calls::{Call, NONE, answered, are_blocks};
-use crate::images::{failing, filled};
+use crate::rows::disk_calls::Call::{Blocks, Flush, Held, Page, Put};
+use crate::rows::disk_calls::{Call, NONE, answered, are_blocks};
+use crate::rows::images::{failing, filled};
 use edi_host::MemoryDrive;
 use std::alloc::{AllocError, Global};
 use std::process::Abort;

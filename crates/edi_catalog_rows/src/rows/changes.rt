@@ -1,7 +1,7 @@
 //! Files that are protected, released, deleted and renamed.
 
-use crate::asking::{Reply, Request, asked};
-use crate::images::{failing, image, put};
+use crate::rows::asking::{Reply, Request, asked};
+use crate::rows::images::{failing, image, put};
 use edi_catalog::CatEnd;
 use std::alloc::{AllocError, Global};
 use std::process::Abort;

@@ -1,6 +1,7 @@
 //! Sessions: how programs end in them, and their choices.
 
-use crate::play::play;
+use crate::rows::play::{play, play_behind};
+use crate::rows::programs::RACE;
 
 /// How programs end: each has the bound, no file is open, and the input goes on.
 const ENDS: &str = "
@@ -84,11 +85,6 @@ file one
 | 1
 | 256
 file bad
-| proc main(proc display(value: char))
-| var x: int
-| begin cobegin 1 do when x = 0 do display('a'); x := 1 end
-| also 2 do when true do display('b') end end end
-file race
 call 0 put race t
 input 0 compile t r/halt/
 call 0 boot --record none
@@ -116,5 +112,5 @@ shows bad words/
 #[test]
 fn programs_end_in_a_session(rt: HostRuntime) {
     play(&rt, rt.alloc(), ENDS, 0);
-    play(&rt, rt.alloc(), CHOICES, 0);
+    play_behind(&rt, rt.alloc(), RACE, CHOICES, 0);
 }

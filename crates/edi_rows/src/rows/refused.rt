@@ -1,6 +1,6 @@
 //! Texts that are refused, and the greatest that are not; codes that are damaged.
 
-use crate::play::play;
+use crate::rows::play::play;
 
 /// Texts with a first fault.
 const TEXTS: &str = "

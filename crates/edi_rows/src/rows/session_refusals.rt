@@ -1,6 +1,6 @@
 //! Sessions: each refusal of a command of the shell.
 
-use crate::play::play;
+use crate::rows::play::play;
 
 /// Each command with each of its refusals, the first of which is told; and lines that are no commands.
 const REFUSED: &str = "

@@ -1,0 +1,8 @@
+//! The examples, a file for each subject.
+
+mod code_files;
+mod codes;
+mod instructions;
+mod random;
+mod runs;
+mod steps;

@@ -1,0 +1,16 @@
+//! The examples, a file of scripts for each subject; `play`, `script` and `world` play them.
+
+mod disks;
+mod editings;
+mod faults;
+mod images;
+mod play;
+mod programs;
+mod refused;
+mod runs;
+mod script;
+mod session_ends;
+mod session_faults;
+mod session_refusals;
+mod sessions;
+mod world;
