@@ -93,16 +93,6 @@ fn shared(n: u16) -> Option<MountFault> {
     Some(MountFault::Shared(n))
 }
 
-/// A file that is not protected, as the catalogue tells it.
-pub(crate) fn unprotected(title: &[u8], kind: FileKind, length: u32) -> Option<Entry> {
-    Some(Entry {
-        title: Title::new(title)?,
-        kind,
-        protected: false,
-        length,
-    })
-}
-
 #[test]
 fn the_first_broken_rule_is_answered(rt: HostRuntime) -> Result<(), Fail> {
     let alloc = rt.alloc();
@@ -204,7 +194,12 @@ fn files_are_found_and_read(rt: HostRuntime) -> Result<(), Fail> {
     let slots = [(b'a', 1, 33, 0, 0), (b'b', 2, 34, 0, 600)];
     let bytes = image(alloc, b"EDIS\0\x02\0\x40", 64, &slots, &[], &[40, 39])?;
     let mut drive = steady(&rt, alloc, &bytes)?;
-    let found = unprotected(b"b", FileKind::Code, 600).ok_or("no title")?;
+    let found = Entry {
+        title: Title::new(b"b").ok_or("no title")?,
+        kind: FileKind::Code,
+        protected: false,
+        length: 600,
+    };
     let cases = [
         (Request::Find(b"b"), Reply::File(found)),
         (Request::Free, Reply::Number(27)),

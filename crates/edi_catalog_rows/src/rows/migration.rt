@@ -1,8 +1,9 @@
 //! Images of version 2 that are made of images of version 1.
 
 use crate::rows::asking::{Reply, Request, migrated, tells};
-use crate::rows::images::{failing, filled, put, sevens, unprotected};
+use crate::rows::images::{failing, filled, put, sevens};
 use edi_calls::FileKind;
+use edi_catalog::{Entry, Title};
 use edi_host::SteadyDrive;
 use edi_migrate::{MigrateEnd, MountFault};
 use std::alloc::{AllocError, Global};
@@ -101,7 +102,12 @@ fn files_keep_their_slots(rt: HostRuntime) -> Result<(), Fail> {
     let mut drive = SteadyDrive::new(alloc, &[])?;
     let end = migrated(alloc, &mut drive, 64, &bytes);
     assert!(rt; end == Some(MigrateEnd::Ok));
-    let found = unprotected(b"t", FileKind::Text, 60).ok_or("no title")?;
+    let found = Entry {
+        title: Title::new(b"t").ok_or("no title")?,
+        kind: FileKind::Text,
+        protected: false,
+        length: 60,
+    };
     let cases = [
         (Request::Free, Reply::Number(29)),
         (Request::Slot(0), Reply::NoFile),
