@@ -81,19 +81,13 @@ fn x_and_int(rt: &impl Abort, scopes: &Scopes, x: u32, int: u32) {
     mean(rt, scopes, &[("x", x), ("int", Some(int))]);
 }
 
-/// Inside the standard scope one that declares `x`, and inside that one with no names.
-fn inside_x(rt: &impl Abort, alloc: Global, is_module: bool) -> Scopes {
-    let mut scopes = standard(rt, alloc);
-    enter(rt, alloc, &mut scopes, false);
-    declare(rt, alloc, &mut scopes, b"x", variable(1));
-    enter(rt, alloc, &mut scopes, is_module);
-    scopes
-}
-
 #[test]
 fn the_innermost_declaration_counts(rt: HostRuntime) {
     let alloc = rt.alloc();
-    let mut scopes = inside_x(&rt, alloc, false);
+    let mut scopes = standard(&rt, alloc);
+    enter(&rt, alloc, &mut scopes, false);
+    declare(&rt, alloc, &mut scopes, b"x", variable(1));
+    enter(&rt, alloc, &mut scopes, false);
     x_and_int(&rt, &scopes, 1, 0);
     declare(&rt, alloc, &mut scopes, b"x", variable(2));
     declare(&rt, alloc, &mut scopes, b"int", variable(3));
@@ -138,7 +132,10 @@ fn modules_export_names(rt: HostRuntime) {
 #[test]
 fn exported_names_are_new_in_both_scopes(rt: HostRuntime) {
     let alloc = rt.alloc();
-    let mut scopes = inside_x(&rt, alloc, true);
+    let mut scopes = standard(&rt, alloc);
+    enter(&rt, alloc, &mut scopes, false);
+    declare(&rt, alloc, &mut scopes, b"x", variable(1));
+    enter(&rt, alloc, &mut scopes, true);
     refused(&rt, scopes.declare(alloc, b"x", variable(2), true));
     x_and_int(&rt, &scopes, 1, 0);
     declare(&rt, alloc, &mut scopes, b"x", variable(3));
