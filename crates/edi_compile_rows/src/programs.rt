@@ -147,8 +147,12 @@ end
 begin x := f end";
 
 /// A module that exports a procedure.
-const MODULE: &str =
-    "proc main(proc display(value: char))\nmodule\n  var hidden: char\n  * proc show begin display(hidden) end\nbegin hidden := 'm' end\nbegin show end";
+const MODULE: &str = "proc main(proc display(value: char))
+module
+  var hidden: char
+  * proc show begin display(hidden) end
+begin hidden := 'm' end
+begin show end";
 
 /// The right operand of `and` is not evaluated.
 const UNEVALUATED: &str =

@@ -155,18 +155,18 @@ module _ (levels : ℕ) (lasting : Lasting levels) where
 
   -- ---- statements
 
-  abbrev Held : {A : Type 0} → (A → Type 0) → After A → Type 0
-  Held P done = Lasts done.env × P done.what
+  abbrev LastsWith : {A : Type 0} → (A → Type 0) → After A → Type 0
+  LastsWith P done = Lasts done.env × P done.what
 
   -- a first part, and the rest of a list
   joined : {A B : Type 0} (One : A → Type 0) (Others Every : B → Type 0) (put : A → B → B) → ((x : A) (xs : B) → One x → Others xs → Every (put x xs)) →
-      (m : Judged (After A)) (rest : Environment → Judged (After B)) → Gives (Held One) m
-      → ((env : Environment) → Lasts env → Gives (Held Others) (rest env))
-      → Gives (Held Every)
+      (m : Judged (After A)) (rest : Environment → Judged (After B)) → Gives (LastsWith One) m
+      → ((env : Environment) → Lasts env → Gives (LastsWith Others) (rest env))
+      → Gives (LastsWith Every)
       (m >>= λ first. rest first.env >>= λ others. gives (record { what = put first.what others.what; env = others.env }))
   joined One Others Every put both m rest h sequels =
-      bind (Held One) (Held Every) m _ h (λ first k.
-      bind (Held Others) (Held Every) (rest first.env) _ (sequels first.env k.0)
+      bind (LastsWith One) (LastsWith Every) m _ h (λ first k.
+      bind (LastsWith Others) (LastsWith Every) (rest first.env) _ (sequels first.env k.0)
       (λ others j. (j.0, both first.what others.what k.1 j.1)))
 
   acts_joined : (s : text.Statement) (more : text.Statements) (env : Environment) → Gives (ActDone (statement_depth s)) (statement s env)

@@ -1,4 +1,4 @@
-//! The listing of a code, the text of the demonstration, and the utilities as texts.
+//! The listing of a code, and the text of the demonstration.
 #![tactic(auto)]
 
 mod demonstration;
