@@ -46,15 +46,24 @@ pub(crate) fn push_title(line: &mut Shown, title: &Title)
     push(line, title.bytes());
 }
 
+// A text and the bytes behind it: a line, or the beginning of one.
+fn joined(text: &str, behind: &[u8]) -> Shown
+    requires { length text.now + length behind.now ≤ 64 }
+    ensures exact { result.items ≡ text.now ++ behind.now }
+    ensures longer { length result.items ≡ length text.now + length behind.now }
+{
+    let mut line = Shown::new();
+    push(&mut line, text.as_bytes());
+    push(&mut line, behind);
+    line
+}
+
 /// A text as a line.
 pub fn plain(text: &str) -> Shown
     requires { length text.now ≤ 32 }
     ensures exact { result.items ≡ text.now ++ 10 ∷ [] }
 {
-    let mut line = Shown::new();
-    push(&mut line, text.as_bytes());
-    push(&mut line, b"\n");
-    line
+    joined(text, b"\n")
 }
 
 /// `TEXT N`
@@ -62,9 +71,7 @@ pub fn with_number(text: &str, n: u32) -> Shown
     requires { length text.now ≤ 16 }
     ensures exact { result.items ≡ texts.with_number text.now n ++ 10 ∷ [] }
 {
-    let mut line = Shown::new();
-    push(&mut line, text.as_bytes());
-    push(&mut line, b" ");
+    let mut line = joined(text, b" ");
     push_number(&mut line, n);
     push(&mut line, b"\n");
     line
@@ -102,9 +109,7 @@ pub fn about(text: &str, title: &Title) -> Shown
     requires { length text.now ≤ 16 }
     ensures exact { result.items ≡ texts.about text.now title.now ++ 10 ∷ [] }
 {
-    let mut line = Shown::new();
-    push(&mut line, text.as_bytes());
-    push(&mut line, b" ");
+    let mut line = joined(text, b" ");
     push_title(&mut line, title);
     push(&mut line, b"\n");
     line

@@ -7,18 +7,7 @@ use Rattle.edi_calls.specs.State.{before, without_blanks}
 use Rattle.edi_image.specs.Titles.{title_from}
 use Rattle.edi_image.proofs.Spelled.{before_kept}
 use Rattle.edi_session.specs.Words.{is_gap, is_word, words_in}
-use Rattle.edi_shell_words.specs.Operands.{is_plain, title_in}
-
--- the line behind its first separators
-abbrev pub begun : List ℕ → List ℕ
-begun line = drop (prefix_len is_gap line) line
-
--- its first word, which is empty only where there is none, and what stands behind that
-abbrev pub first_word : List ℕ → List ℕ
-first_word line = take (prefix_len is_plain line) line
-
-abbrev pub behind_word : List ℕ → List ℕ
-behind_word line = drop (prefix_len is_plain line) line
+use Rattle.edi_shell_words.specs.Operands.{begun, behind_word, first_word, is_plain, title_in}
 
 drop_one : (n : ℕ) (b : ℕ) (bs : List ℕ) → drop (1 + n) (b ∷ bs) ≡ drop n bs
 drop_one n b bs = let e : 1 + n ≡ suc n = omega arith in rw e refl

@@ -22,31 +22,45 @@ fn alone(operands: &[u8], command: Line) -> Option<Line>
     }
 }
 
+/// The command with the titles that the operands are, as many as it has here; none where they are anything else.
+macro_rules! with_titles {
+    ($operands:expr, $command:ident()) => {
+        alone($operands, Line::$command)
+    };
+    ($operands:expr, $command:ident(f)) => {
+        Some(Line::$command(one_title($operands)?))
+    };
+    ($operands:expr, $command:ident(f, g)) => {{
+        let (f, g) = two_titles($operands)?;
+        Some(Line::$command(f, g))
+    }};
+}
+
+/// The command beside the first of these spellings that is the name.
+macro_rules! beside {
+    ($name:expr, $operands:expr; $($spelling:literal => $command:ident $titles:tt,)*) => {{
+        $(
+            if $name == $spelling.as_slice() {
+                return with_titles!($operands, $command $titles);
+            }
+        )*
+    }};
+}
+
 #[tactic(auto, using(crate::proofs::Table::one_bad, crate::proofs::Table::two_bad))]
 // The command of this name with these operands; none where it is none. The second half of the names.
 fn named_more(name: &[u8], operands: &[u8]) -> Option<Line>
     requires whole { list_any spec.is_gap name.now ≡ false }
     ensures { line_or_bad result ≡ spec.line_of_more name.now (spec.words_in operands.now) }
 {
-    if name == b"delete".as_slice() {
-        return Some(Line::Delete(one_title(operands)?));
-    }
-    if name == b"protect".as_slice() {
-        return Some(Line::Protect(one_title(operands)?));
-    }
-    if name == b"release".as_slice() {
-        return Some(Line::Release(one_title(operands)?));
-    }
-    if name == b"compile".as_slice() {
-        let (text, code) = two_titles(operands)?;
-        return Some(Line::Compile(text, code));
-    }
-    if name == b"edit".as_slice() {
-        return Some(Line::Edit(one_title(operands)?));
-    }
-    if name == b"halt".as_slice() {
-        return alone(operands, Line::Halt);
-    }
+    beside!(name, operands;
+        b"delete" => Delete(f),
+        b"protect" => Protect(f),
+        b"release" => Release(f),
+        b"compile" => Compile(f, g),
+        b"edit" => Edit(f),
+        b"halt" => Halt(),
+    );
     let program = title_of(name)?;
     alone(operands, Line::Execute(program))
 }
@@ -57,26 +71,14 @@ fn named(name: &[u8], operands: &[u8]) -> Option<Line>
     requires whole { list_any spec.is_gap name.now ≡ false }
     ensures { line_or_bad result ≡ spec.line_of_word name.now (spec.words_in operands.now) }
 {
-    if name == b"list".as_slice() {
-        return alone(operands, Line::Catalogue);
-    }
-    if name == b"type".as_slice() {
-        return Some(Line::Show(one_title(operands)?));
-    }
-    if name == b"print".as_slice() {
-        return Some(Line::Print(one_title(operands)?));
-    }
-    if name == b"enter".as_slice() {
-        return Some(Line::Enter(one_title(operands)?));
-    }
-    if name == b"copy".as_slice() {
-        let (from, to) = two_titles(operands)?;
-        return Some(Line::Copy(from, to));
-    }
-    if name == b"rename".as_slice() {
-        let (from, to) = two_titles(operands)?;
-        return Some(Line::Rename(from, to));
-    }
+    beside!(name, operands;
+        b"list" => Catalogue(),
+        b"type" => Show(f),
+        b"print" => Print(f),
+        b"enter" => Enter(f),
+        b"copy" => Copy(f, g),
+        b"rename" => Rename(f, g),
+    );
     named_more(name, operands)
 }
 

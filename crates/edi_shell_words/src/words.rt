@@ -43,14 +43,22 @@ fn word_length(line: &[u8]) -> usize
     line.iter().take_while(|byte| !is_separator(**byte)).count()
 }
 
+// The first word, which is empty where there are no words, and what stands behind it.
+fn first_cut(line: &[u8]) -> (&[u8], &[u8])
+    ensures word { result.0.now ≡ operands.first_word (operands.begun line.now) }
+    ensures rest { result.1.now ≡ operands.behind_word (operands.begun line.now) }
+{
+    let (_, begun) = line.split_at(separators(line));
+    begun.split_at(word_length(begun))
+}
+
 /// The first word, and what stands behind it; none where there are no words.
 pub(crate) fn next_word(line: &[u8]) -> Option<(&[u8], &[u8])>
     ensures cut { MatchOption result (spec.words_in line.now ≡ [])
         (λ pair. spec.words_in line.now ≡ pair.0.now ∷ spec.words_in pair.1.now) }
     ensures whole { IfSome result (λ pair. list_any spec.is_gap pair.0.now ≡ false) }
 {
-    let (_, begun) = line.split_at(separators(line));
-    let (word, rest) = begun.split_at(word_length(begun));
+    let (word, rest) = first_cut(line);
     if word.is_empty() {
         None
     } else {
