@@ -35,9 +35,8 @@ drive_fault drive.Ok = false
 drive_fault drive.Failed = true
 
 abbrev pub resize_fault : ResizeEnd → Bool
-resize_fault resize.Ok = false
 resize_fault resize.Failed = true
-resize_fault resize.NoMemory = false
+resize_fault other = false
 
 -- what a write leaves: a failed one takes effect where failed writes land, and else changes nothing
 abbrev pub written : Bool → Bool → List (List ℕ) → ℕ → List ℕ → List (List ℕ)

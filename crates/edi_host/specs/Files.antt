@@ -40,12 +40,9 @@ KeepsOrNot keep.NoMemory name bytes old new = new ≡ old
 
 -- the answer is a fault
 abbrev pub fetch_fault : FetchEnd → Bool
-fetch_fault fetch.Ok = false
-fetch_fault fetch.Absent = false
 fetch_fault fetch.Failed = true
-fetch_fault fetch.NoMemory = false
+fetch_fault other = false
 
 abbrev pub keep_fault : KeepEnd → Bool
-keep_fault keep.Ok = false
 keep_fault keep.Failed = true
-keep_fault keep.NoMemory = false
+keep_fault other = false

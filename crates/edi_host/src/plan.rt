@@ -42,6 +42,16 @@ impl FaultPlan {
         self.failing.contains(&self.calls.saturating_add(1))
     }
 
+    /// Whether the next call is to fail, which is counted as a fault or as none.
+    pub fn call(&mut self) -> bool
+        ensures strikes { result ≡ strikes self.old }
+        ensures counted { self.new ≡ after_call (strikes self.old) self.old }
+    {
+        let fault = self.strikes();
+        self.count(fault);
+        fault
+    }
+
     /// Counts a call, and a fault where it was one.
     pub fn count(&mut self, fault: bool)
         ensures counted { self.new ≡ after_call fault self.old }

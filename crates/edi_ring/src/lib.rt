@@ -127,13 +127,8 @@ impl<const N: usize, const M: usize> Lists<N, M> {
     {
         let list = self.home[node].unwrap();
         let (before, after) = (self.prev[node], self.next[node]);
-        lead_past(
-            &mut self.next,
-            &mut self.prev,
-            &mut self.ends[list],
-            before,
-            after,
-        );
+        let ends = &mut self.ends[list];
+        lead_past(&mut self.next, &mut self.prev, ends, before, after);
         self.home[node] = None;
     }
 
@@ -149,13 +144,8 @@ impl<const N: usize, const M: usize> Lists<N, M> {
     {
         let node = self.ends[list].first.unwrap();
         let after = self.next[node];
-        lead_past(
-            &mut self.next,
-            &mut self.prev,
-            &mut self.ends[list],
-            None,
-            after,
-        );
+        let ends = &mut self.ends[list];
+        lead_past(&mut self.next, &mut self.prev, ends, None, after);
         self.home[node] = None;
         node
     }

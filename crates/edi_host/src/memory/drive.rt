@@ -83,9 +83,7 @@ impl Drive for MemoryDrive {
         ensures lands { self.new.lands ≡ self.old.lands }
         ensures plan { self.new.plan ≡ after_call (strikes self.old.plan) self.old.plan }
     {
-        let fault = self.plan.strikes();
-        self.plan.count(fault);
-        if fault {
+        if self.plan.call() {
             return DriveEnd::Failed;
         }
         self.drive.read(n, into)
@@ -99,8 +97,7 @@ impl Drive for MemoryDrive {
         ensures lands { self.new.lands ≡ self.old.lands }
         ensures plan { self.new.plan ≡ after_call (strikes self.old.plan) self.old.plan }
     {
-        let fault = self.plan.strikes();
-        self.plan.count(fault);
+        let fault = self.plan.call();
         if fault && !self.lands {
             return DriveEnd::Failed;
         }
@@ -115,9 +112,7 @@ impl Drive for MemoryDrive {
         ensures lands { self.new.lands ≡ self.old.lands }
         ensures plan { self.new.plan ≡ after_call (strikes self.old.plan) self.old.plan }
     {
-        let fault = self.plan.strikes();
-        self.plan.count(fault);
-        if fault {
+        if self.plan.call() {
             return ResizeEnd::Failed;
         }
         self.drive.resize(alloc, n)

@@ -88,9 +88,7 @@ impl Files for MemoryFiles {
         ensures fails { keep_fault result ≡ strikes self.old.plan }
         ensures plan { self.new.plan ≡ after_call (strikes self.old.plan) self.old.plan }
     {
-        let fault = self.plan.strikes();
-        self.plan.count(fault);
-        if fault {
+        if self.plan.call() {
             return KeepEnd::Failed;
         }
         self.files.keep(alloc, name, bytes)

@@ -15,20 +15,12 @@ invariant_of-self g c =
     (calls.push_leaves _ _ _ _ _ _ _ c.self.invariant c.self.view_is c.self.told c.self.told2 c.self.told3 c.self.told4 _ _ c.requires.list_in_range
     c.requires.node_in_range c.requires.free).still_linked
 
-pub returns-clause-exact : goal.returns-clause-exact
-returns-clause-exact g c =
-    rw (c.redirect.ensures.links, c.redirect.ensures.end)
-    (calls.push_leaves _ _ _ _ _ _ _ c.self.invariant c.self.view_is c.self.told c.self.told2 c.self.told3 c.self.told4 _ _ c.requires.list_in_range
-    c.requires.node_in_range c.requires.free).exact
-
-pub returns-clause-homes : goal.returns-clause-homes
-returns-clause-homes g c =
-    rw (c.redirect.ensures.links, c.redirect.ensures.end)
-    (calls.push_leaves _ _ _ _ _ _ _ c.self.invariant c.self.view_is c.self.told c.self.told2 c.self.told3 c.self.told4 _ _ c.requires.list_in_range
-    c.requires.node_in_range c.requires.free).homes_are
-
-pub returns-clause-sound : goal.returns-clause-sound
-returns-clause-sound g c =
-    rw (c.redirect.ensures.links, c.redirect.ensures.end)
-    (calls.push_leaves _ _ _ _ _ _ _ c.self.invariant c.self.view_is c.self.told c.self.told2 c.self.told3 c.self.told4 _ _ c.requires.list_in_range
-    c.requires.node_in_range c.requires.free).sound
+pub returns : goal.returns
+returns g c =
+    let l = calls.push_leaves _ _ _ _ _ _ _ c.self.invariant c.self.view_is c.self.told c.self.told2 c.self.told3 c.self.told4 _ _ c.requires.list_in_range
+    c.requires.node_in_range c.requires.free in
+    record {
+      exact = rw (c.redirect.ensures.links, c.redirect.ensures.end) l.exact;
+      homes = rw (c.redirect.ensures.links, c.redirect.ensures.end) l.homes_are;
+      sound = rw (c.redirect.ensures.links, c.redirect.ensures.end) l.sound;
+    }

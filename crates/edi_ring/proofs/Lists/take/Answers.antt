@@ -23,20 +23,12 @@ invariant_of-self g c =
     (calls.take_leaves _ _ _ _ _ _ _ c.self.invariant c.self.view_is c.self.told c.self.told2 c.self.told3 c.self.told4 _ c.requires.node_in_range
     c.requires.listed _ c.unwrap-list.ensures).still_linked
 
-pub returns-clause-exact : goal.returns-clause-exact
-returns-clause-exact g c =
-    rw (c.lead_past.ensures.next, c.lead_past.ensures.ends)
-    (calls.take_leaves _ _ _ _ _ _ _ c.self.invariant c.self.view_is c.self.told c.self.told2 c.self.told3 c.self.told4 _ c.requires.node_in_range
-    c.requires.listed _ c.unwrap-list.ensures).exact
-
-pub returns-clause-homes : goal.returns-clause-homes
-returns-clause-homes g c =
-    rw (c.lead_past.ensures.next, c.lead_past.ensures.ends)
-    (calls.take_leaves _ _ _ _ _ _ _ c.self.invariant c.self.view_is c.self.told c.self.told2 c.self.told3 c.self.told4 _ c.requires.node_in_range
-    c.requires.listed _ c.unwrap-list.ensures).homes_are
-
-pub returns-clause-sound : goal.returns-clause-sound
-returns-clause-sound g c =
-    rw (c.lead_past.ensures.next, c.lead_past.ensures.ends)
-    (calls.take_leaves _ _ _ _ _ _ _ c.self.invariant c.self.view_is c.self.told c.self.told2 c.self.told3 c.self.told4 _ c.requires.node_in_range
-    c.requires.listed _ c.unwrap-list.ensures).sound
+pub returns : goal.returns
+returns g c =
+    let l = calls.take_leaves _ _ _ _ _ _ _ c.self.invariant c.self.view_is c.self.told c.self.told2 c.self.told3 c.self.told4 _ c.requires.node_in_range
+    c.requires.listed _ c.unwrap-list.ensures in
+    record {
+      exact = rw (c.lead_past.ensures.next, c.lead_past.ensures.ends) l.exact;
+      homes = rw (c.lead_past.ensures.next, c.lead_past.ensures.ends) l.homes_are;
+      sound = rw (c.lead_past.ensures.next, c.lead_past.ensures.ends) l.sound;
+    }

@@ -13,25 +13,14 @@ invariant_of-self g c =
     (calls.front_leaves _ _ _ _ _ _ _ c.self.invariant c.self.view_is c.self.told c.self.told2 c.self.told3 c.self.told4 c.args.list _ c.requires.list_in_range
     c.unwrap-node.ensures).still_linked
 
-pub returns-clause-exact : goal.returns-clause-exact
-returns-clause-exact g c =
-    rw (c.lead_past.ensures.next, c.lead_past.ensures.ends)
-    (calls.front_leaves _ _ _ _ _ _ _ c.self.invariant c.self.view_is c.self.told c.self.told2 c.self.told3 c.self.told4 c.args.list _ c.requires.list_in_range
-    c.unwrap-node.ensures).exact
-
-pub returns-clause-homes : goal.returns-clause-homes
-returns-clause-homes g c =
-    rw (c.lead_past.ensures.next, c.lead_past.ensures.ends)
-    (calls.front_leaves _ _ _ _ _ _ _ c.self.invariant c.self.view_is c.self.told c.self.told2 c.self.told3 c.self.told4 c.args.list _ c.requires.list_in_range
-    c.unwrap-node.ensures).homes_are
-
-pub returns-clause-sound : goal.returns-clause-sound
-returns-clause-sound g c =
-    rw (c.lead_past.ensures.next, c.lead_past.ensures.ends)
-    (calls.front_leaves _ _ _ _ _ _ _ c.self.invariant c.self.view_is c.self.told c.self.told2 c.self.told3 c.self.told4 c.args.list _ c.requires.list_in_range
-    c.unwrap-node.ensures).sound
-
-pub returns-clause-was : goal.returns-clause-was
-returns-clause-was g c =
-    calls.first _ _ _ _ _ _ _ c.self.invariant c.self.view_is c.self.told c.self.told2 c.self.told3 c.self.told4 c.args.list _ c.requires.list_in_range
-    c.unwrap-node.ensures
+pub returns : goal.returns
+returns g c =
+    let l = calls.front_leaves _ _ _ _ _ _ _ c.self.invariant c.self.view_is c.self.told c.self.told2 c.self.told3 c.self.told4 c.args.list _
+    c.requires.list_in_range c.unwrap-node.ensures in
+    record {
+      was = calls.first _ _ _ _ _ _ _ c.self.invariant c.self.view_is c.self.told c.self.told2 c.self.told3 c.self.told4 c.args.list _
+          c.requires.list_in_range c.unwrap-node.ensures;
+      exact = rw (c.lead_past.ensures.next, c.lead_past.ensures.ends) l.exact;
+      homes = rw (c.lead_past.ensures.next, c.lead_past.ensures.ends) l.homes_are;
+      sound = rw (c.lead_past.ensures.next, c.lead_past.ensures.ends) l.sound;
+    }
