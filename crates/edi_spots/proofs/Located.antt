@@ -40,47 +40,20 @@ module _ (g : Coded) where
       Matches g lead from fs m ws pc d → Matches g lead from fs' m' ws pc d
   matches_kept lead from fs fs' m m' [] pc d a h = h
   matches_kept lead from fs fs' m m' (doing x position ∷ ws) pc d a h =
-      let f : frame_of fs d ≡ frame_of fs' d = sym (a.framed d (omega arith)) in (
-        h.0,
-        h.1,
-        h.2,
-        (
-          h.3.0,
-          subst (λ y. code.IsAct g.fetched g.unit.types g.unit.blocks (entry g) y.block x h.1 h.3.0) f h.3.1,
-          subst (λ y. ActFits g.unit.types g.unit.blocks g.fits.headings y.block x) f h.3.2,
-          subst (λ y. Room g y (act_height g.unit.types g.unit.blocks y.block x)) f h.3.3,
-          matches_kept lead from fs fs' m m' ws h.3.0 d a h.3.4,
-        ),
-      )
+      let moved = subst (λ y. code.IsAct g.fetched g.unit.types g.unit.blocks (entry g) y.block x h.1 h.3.0
+      × ActFits g.unit.types g.unit.blocks g.fits.headings y.block x × Room g y (act_height g.unit.types g.unit.blocks y.block x))
+      (sym (a.framed d (omega arith))) (h.3.1, h.3.2, h.3.3) in
+      (h.0, h.1, h.2, (h.3.0, moved.0, moved.1, moved.2, matches_kept lead from fs fs' m m' ws h.3.0 d a h.3.4))
   matches_kept lead from fs fs' m m' (loop_end cs position ∷ ws) pc d a h =
-      let f : frame_of fs d ≡ frame_of fs' d = sym (a.framed d (omega arith)) in (
-        h.0,
-        h.1,
-        h.2,
-        (
-          h.3.0,
-          h.3.1,
-          h.3.2,
-          h.3.3,
-          subst (λ y. code.IsAct g.fetched g.unit.types g.unit.blocks (entry g) y.block (while_act cs) h.3.0 h.3.2) f h.3.4,
-          subst (λ y. ClausesFit g.unit.types g.unit.blocks g.fits.headings y.block cs) f h.3.5,
-          subst (λ y. Room g y (clauses_height g.unit.types g.unit.blocks y.block cs)) f h.3.6,
-          matches_kept lead from fs fs' m m' ws h.3.2 d a h.3.7,
-        ),
-      )
+      let moved = subst (λ y. code.IsAct g.fetched g.unit.types g.unit.blocks (entry g) y.block (while_act cs) h.3.0 h.3.2
+      × ClausesFit g.unit.types g.unit.blocks g.fits.headings y.block cs × Room g y (clauses_height g.unit.types g.unit.blocks y.block cs))
+      (sym (a.framed d (omega arith))) (h.3.4, h.3.5, h.3.6) in
+      (h.0, h.1, h.2, (h.3.0, h.3.1, h.3.2, h.3.3, moved.0, moved.1, moved.2, matches_kept lead from fs fs' m m' ws h.3.2 d a h.3.7))
   matches_kept lead from fs fs' m m' (procedure_end ∷ ws) pc zero a h = absurd h.3
-  matches_kept lead from fs fs' m m' (procedure_end ∷ ws) pc (suc e) a h = (
-    h.0,
-    h.1,
-    h.2,
-    (
-      h.3.0,
-      h.3.1,
-      h.3.2,
-      links_kept from fs fs' m m' e h.3.1 a h.3.3,
-      matches_kept lead from fs fs' m m' ws h.3.1 e (agrees_less from fs fs' m m' (suc e) e (omega arith) a) h.3.4,
-    ),
-  )
+  matches_kept lead from fs fs' m m' (procedure_end ∷ ws) pc (suc e) a h =
+      let links = links_kept from fs fs' m m' e h.3.1 a h.3.3 in
+      let rest = matches_kept lead from fs fs' m m' ws h.3.1 e (agrees_less from fs fs' m m' (suc e) e (omega arith) a) h.3.4 in
+      (h.0, h.1, h.2, (h.3.0, h.3.1, h.3.2, links, rest))
   matches_kept lead from fs fs' m m' (branch_end ∷ ws) pc d a h = h
   matches_kept lead from fs fs' m m' (program_entry ∷ ws) pc d a h = absurd h.3
   matches_kept lead from fs fs' m m' (program_end ∷ ws) pc d a h = h
