@@ -265,11 +265,23 @@ pub entry_is : (files : List (Option StoredFile)) (index : ℕ) (there : Option 
 entry_is files index there file entry make many h is here made = made ∙ ap make (slot_there files index there file many h is here)
 
 -- the file is protected or not
-pub protection_is : (files : List (Option StoredFile)) (index : ℕ) (there : Option StoredFile) (file : StoredFile) (answer b : Bool) → length files ≡ 256
+protection_is : (files : List (Option StoredFile)) (index : ℕ) (there : Option StoredFile) (file : StoredFile) (answer b : Bool) → length files ≡ 256
     → index < 256 → there ≡ get_or files index there → get_or files index None ≡ Some file → answer ≡ is_protected there → answer ≡ b
     → file.record_.protected ≡ b
 protection_is files index there file answer b many h is here asked answered =
     sym (asked ∙ ap is_protected (slot_there files index there file many h is here)) ∙ answered
+
+-- a file that is not protected has the title
+pub record HasUnprotected (title : List ℕ) (files : List (Option StoredFile)) (index : ℕ) : Type 0 where
+  pub found : HasFile title files index
+  pub free : found.file.record_.protected ≡ false
+
+pub has_unprotected : (title : List ℕ) (files : List (Option StoredFile)) (index : ℕ) (there : Option StoredFile) (answer : Bool)
+    → find_index title files ≡ Some index → length files ≡ 256 → index < 256 → there ≡ get_or files index there → answer ≡ is_protected there
+    → answer ≡ false → HasUnprotected title files index
+has_unprotected title files index there answer first many h is asked answered =
+    let found = has_file title files index first in
+    record { found = found; free = protection_is files index there found.file answer false many h is found.there asked answered }
 
 pub record_at : (files : List (Option StoredFile)) (index : ℕ) (file : StoredFile) (q : FileRecord) (entry : Option FileRecord)
     → get_or files index None ≡ Some file → IsRecordFor files file q → entry ≡ Some q → IsRecordAt files index entry

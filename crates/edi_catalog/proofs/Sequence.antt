@@ -40,17 +40,8 @@ checks_both contents count faults a b c P Q one other =
 shown_as : {D : Type 0} (contents : D → Option (List (List ℕ))) (count faults : D → ℕ) (broke : Bool) (a b : Disk D) (P Q : List (List ℕ) → Type 0)
     → (broke ≡ false → WhereTold (shown contents a) (shown contents b) (λ old new. (new ≡ old) × Q old))
     → Checks contents count faults broke a b P → Checks contents count faults broke a b Q
-shown_as contents count faults broke a b P Q shows one = record {
-  same_reference = one.same_reference;
-  since = one.since;
-  count_stays = one.count_stays;
-  later = one.later;
-  told = one.told;
-  cause = one.cause;
-  works = one.works;
-  clean = one.clean;
-  shows = shows;
-}
+shown_as contents count faults broke a b P Q shows one =
+    search (one.same_reference, one.since, one.count_stays, one.later, one.told, one.cause, one.works, one.clean, shows)
 
 pub checks_map : {D : Type 0} (contents : D → Option (List (List ℕ))) (count faults : D → ℕ) (broke : Bool) (a b : Disk D)
     (P Q : List (List ℕ) → Type 0) → ((blocks : List (List ℕ)) → P blocks → Q blocks)

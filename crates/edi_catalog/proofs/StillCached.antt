@@ -70,9 +70,6 @@ still_cached kept a b stay are = λ k bytes h e. are k bytes h (stay (1 + k) (om
 pub entry_used : {D : Type 0} (n : ℕ) (bytes : List ℕ) (a b : Disk D) → UsesBlock n bytes a b → EntryCached n bytes a b
 entry_used n bytes a b uses = record { there = uses.there; others = λ m h other. uses.others m other }
 
-pub entry_as : {D : Type 0} (n m : ℕ) (bytes block : List ℕ) (a b : Disk D) → n ≡ m → bytes ≡ block → EntryCached n bytes a b → EntryCached m block a b
-entry_as n m bytes block a b is same used = subst (λ k. EntryCached k block a b) is (subst (λ bs. EntryCached n bs a b) same used)
-
 pub entry_then : {D : Type 0} (n : ℕ) (bytes : List ℕ) (a b c : Disk D) → EntriesStay a b → UsesBlock n bytes b c → EntryCached n bytes a c
 entry_then n bytes a b c stay uses = record {
   there = uses.there;

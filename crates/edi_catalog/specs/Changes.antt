@@ -4,10 +4,11 @@ use Rattle.std.specs.Option.{option_and_then}
 use Rattle.edi_told.specs.Faults.{CountRose}
 use Rattle.edi_told.specs.Told.{WhereTold}
 use Rattle.edi_disk.specs.Shown.{cached, drive_of, reference_of}
-use Rattle.edi_calls.specs.State.{File, find_slot}
+use Rattle.edi_calls.specs.State.{File, find_file, find_slot}
 use Rattle.edi_image.specs.Image.{Holds, slots_of}
 use Rattle.edi_image.specs.Stored.{StoredFile}
-use Rattle.edi_catalog.specs.Files.{find_index}
+use Rattle.edi_catalog.specs.Files.{file_titled, find_index}
+use Rattle.edi_catalog.specs.InSlots.{SlotsAnswer, no_such}
 use Rattle.edi_catalog.specs.Mounted.{IsMounted, disk_of, entry_blocks_of, files_of, room_reference}
 use Rattle.edi_catalog.specs.declared.catalog.Catalog.{Catalog}
 use Rattle.edi_catalog.specs.declared.ends.CatEnd.{CatEnd}
@@ -112,3 +113,18 @@ pub record Changes {D X : Type 0} (contents : D → Option (List (List ℕ))) (c
   pub count_stays : count (drive_of (disk_of after)) ≡ count (drive_of (disk_of before))
   pub later : faults (drive_of (disk_of before)) ≤ faults (drive_of (disk_of after))
   pub cause : result ≡ Err cat.Fault → CountRose (faults (drive_of (disk_of before))) (faults (drive_of (disk_of after)))
+
+-- a file is protected, or released, whichever it was before; the one refusal is that no file has the title
+abbrev pub SetsProtection : {D X : Type 0} → (contents : D → Option (List (List ℕ))) → (count faults : D → ℕ) → Result X CatEnd → (now : Bool)
+    → (title : List ℕ) → (before after : Catalog D) → Type 0
+SetsProtection contents count faults result now title before after =
+    Changes contents count faults result (not_found (file_titled title (files_of before))) (kept_changed (kept_protected now) title (files_of before))
+    (slots_changed (file_protected now) title) before after
+
+-- the same, told by the slots of the image
+abbrev pub SetsInSlots : {D X : Type 0} → (contents : D → Option (List (List ℕ))) → Result X CatEnd → (now : Bool) → (title : List ℕ)
+    → (before after : Catalog D) → Type 0
+SetsInSlots contents result now title before after =
+    WhereTold (contents (drive_of (disk_of before))) (contents (drive_of (disk_of after)))
+    (λ old new. SlotsAnswer result (no_such (find_file (slots_of old) title)) (slots_of old) (slots_changed (file_protected now) title (slots_of old))
+    (slots_of new))

@@ -4,12 +4,12 @@ ghost use Rattle.std.specs.Prelude.{◌≡◌, ◌<◌, IfSome, None, true, fals
 ghost use Rattle.edi_told.specs.Told.{WhereTold};
 ghost use Rattle.edi_disk.specs.Shown.{drive_of};
 ghost use Rattle.edi_image.specs.Image.{slots_of};
-ghost use Rattle.edi_catalog.specs.InSlots.{no_deletion, no_renaming, no_such, SlotsAnswer};
+ghost use Rattle.edi_catalog.specs.InSlots.{no_deletion, no_renaming, SlotsAnswer};
 ghost use Rattle.edi_calls.specs.State.{find_file, is_title};
 ghost use Rattle.edi_catalog.specs.Mounted.{IsMounted, disk_of, files_of};
 ghost use Rattle.edi_catalog.specs.Files.{file_titled};
-ghost use Rattle.edi_catalog.specs.Changes.{Changes, deleted, file_protected, file_renamed, kept_changed, kept_protected, kept_renamed, not_deleted};
-ghost use Rattle.edi_catalog.specs.Changes.{not_found, not_renamed, slots_changed};
+ghost use Rattle.edi_catalog.specs.Changes.{Changes, SetsInSlots, SetsProtection, deleted, file_renamed, kept_changed, kept_renamed, not_deleted};
+ghost use Rattle.edi_catalog.specs.Changes.{not_renamed, slots_changed};
 ghost use Rattle.edi_catalog.specs.Writing.{IsRecordAt, is_protected, kept_as, put_file, put_kept, record_protected, record_renamed};
 
 use crate::catalog::Catalog;
@@ -103,8 +103,7 @@ impl<'d, 'c, D: Drive> Catalog<'d, 'c, D> {
     // Makes a file protected or not.
     fn protect_kept(&mut self, title: &Title, protected: bool) -> Result<(), CatEnd>
         requires mounted { IsMounted D.contents D.count self.old }
-        ensures changes { Changes D.contents D.count D.faults result (not_found (file_titled title.now (files_of self.old)))
-            (kept_changed (kept_protected protected) title.now (files_of self.old)) (slots_changed (file_protected protected) title.now) self.old self.new }
+        ensures changes { SetsProtection D.contents D.count D.faults result protected title.now self.old self.new }
     {
         let Some(index) = self.index_kept(title) else {
             return Err(CatEnd::NoSuch);
@@ -113,14 +112,11 @@ impl<'d, 'c, D: Drive> Catalog<'d, 'c, D> {
         self.put_slot(index, entry)
     }
 
-    // The same, told by the slots too.
-    fn set_protected(&mut self, title: &Title, protected: bool) -> Result<(), CatEnd>
+    /// Makes the file with this title protected, or takes its protection, whichever it had. The one refusal is `NoSuch`.
+    pub fn set_protected(&mut self, title: &Title, protected: bool) -> Result<(), CatEnd>
         requires mounted { IsMounted D.contents D.count self.old }
-        ensures changes { Changes D.contents D.count D.faults result (not_found (file_titled title.now (files_of self.old)))
-            (kept_changed (kept_protected protected) title.now (files_of self.old)) (slots_changed (file_protected protected) title.now) self.old self.new }
-        ensures exact { WhereTold (D.contents (drive_of (disk_of self.old))) (D.contents (drive_of (disk_of self.new)))
-            (λ old new. SlotsAnswer result (no_such (find_file (slots_of old) title.now)) (slots_of old)
-            (slots_changed (file_protected protected) title.now (slots_of old)) (slots_of new)) }
+        ensures changes { SetsProtection D.contents D.count D.faults result protected title.now self.old self.new }
+        ensures exact { SetsInSlots D.contents result protected title.now self.old self.new }
     {
         self.protect_kept(title, protected)
     }
@@ -128,11 +124,8 @@ impl<'d, 'c, D: Drive> Catalog<'d, 'c, D> {
     /// Protects the file with this title, which may be protected already. The one refusal is `NoSuch`.
     pub fn protect(&mut self, title: &Title) -> Result<(), CatEnd>
         requires mounted { IsMounted D.contents D.count self.old }
-        ensures changes { Changes D.contents D.count D.faults result (not_found (file_titled title.now (files_of self.old)))
-            (kept_changed (kept_protected true) title.now (files_of self.old)) (slots_changed (file_protected true) title.now) self.old self.new }
-        ensures exact { WhereTold (D.contents (drive_of (disk_of self.old))) (D.contents (drive_of (disk_of self.new)))
-            (λ old new. SlotsAnswer result (no_such (find_file (slots_of old) title.now)) (slots_of old)
-            (slots_changed (file_protected true) title.now (slots_of old)) (slots_of new)) }
+        ensures changes { SetsProtection D.contents D.count D.faults result true title.now self.old self.new }
+        ensures exact { SetsInSlots D.contents result true title.now self.old self.new }
     {
         self.set_protected(title, true)
     }
@@ -140,11 +133,8 @@ impl<'d, 'c, D: Drive> Catalog<'d, 'c, D> {
     /// Takes the protection from the file with this title, which may have none. The one refusal is `NoSuch`.
     pub fn release(&mut self, title: &Title) -> Result<(), CatEnd>
         requires mounted { IsMounted D.contents D.count self.old }
-        ensures changes { Changes D.contents D.count D.faults result (not_found (file_titled title.now (files_of self.old)))
-            (kept_changed (kept_protected false) title.now (files_of self.old)) (slots_changed (file_protected false) title.now) self.old self.new }
-        ensures exact { WhereTold (D.contents (drive_of (disk_of self.old))) (D.contents (drive_of (disk_of self.new)))
-            (λ old new. SlotsAnswer result (no_such (find_file (slots_of old) title.now)) (slots_of old)
-            (slots_changed (file_protected false) title.now (slots_of old)) (slots_of new)) }
+        ensures changes { SetsProtection D.contents D.count D.faults result false title.now self.old self.new }
+        ensures exact { SetsInSlots D.contents result false title.now self.old self.new }
     {
         self.set_protected(title, false)
     }

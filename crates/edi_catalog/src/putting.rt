@@ -1,22 +1,21 @@
 //! Putting the blocks of a file.
 
-ghost use Rattle.std.specs.Prelude.{◌≡◌, ◌≤◌, ◌<◌, ◌+◌, ◌-◌, ◌*◌, ◌/◌, ◌%◌, [], true, length, slice_index, slice_index_or, Some};
+ghost use Rattle.std.specs.Prelude.{◌≡◌, ◌<◌, ◌+◌, ◌/◌, [], length, slice_index, slice_index_or, Some};
 ghost use Rattle.std.specs.Option.{ForSome};
 ghost use Rattle.edi_disk.specs.Shown.{drive_of, shown, IsWorking};
 ghost use Rattle.edi_image.specs.Bytes.{bytes_of_record};
-ghost use Rattle.edi_image.specs.Entries.{block_at};
 ghost use Rattle.edi_catalog.specs.Plan.{content_of, used_in};
 ghost use Rattle.edi_catalog.specs.Mounted.{AreEntries};
-ghost use Rattle.edi_catalog.specs.Writing.{IsSettled, entries_with, patched};
+ghost use Rattle.edi_catalog.specs.Writing.{IsSettled, entries_with};
 ghost use Rattle.edi_catalog.specs.Putting.{EntryCached, FileCached, MayBePut, PutsBlock, PutsBlocks, WritesNew};
 
 use crate::contents::{block_of, content_of};
 use crate::mounting::Checked;
-use crate::writing::{put_entry, write_cached};
+use crate::writing::{put_kept_entry, write_cached};
 use edi_calls::blocks_of;
 use edi_disk::{Disk, DiskEnd};
 use edi_host::Drive;
-use edi_image::{BLOCK, StoredFile, entry_bytes};
+use edi_image::{StoredFile, entry_bytes};
 
 // Puts the i-th block of a file.
 fn put_block<D: Drive>(disk: &mut Disk<'_, D>, file: &StoredFile, bytes: &[u8], i: usize) -> DiskEnd
@@ -63,29 +62,7 @@ pub(crate) fn write_file<D: Drive>(
 }
 
 /// Writes a new file to the drive: its maps and pages, then, once the drive has them, the entry of its slot, in its block, which
-/// is kept.
-pub(crate) fn write_new<D: Drive>(
-    disk: &mut Disk<'_, D>,
-    kept: &mut [u8; BLOCK],
-    slot: u8,
-    file: &StoredFile,
-    bytes: &[u8],
-) -> DiskEnd
-    requires disk { IsSettled D.contents D.count disk.old }
-    requires file { MayBePut (D.count (drive_of disk.old)) file.now bytes.now }
-    requires kept { ForSome (D.contents (drive_of disk.old)) (λ blocks. block_at blocks (1 + slot / 8) ≡ kept.old) }
-    ensures kept { result ≡ DiskEnd.Ok → kept.new ≡ patched (64 * (slot % 8)) (bytes_of_record file.now.record_) kept.old }
-    ensures writes { WritesNew D.contents D.count D.faults result slot file.now bytes.now disk.old disk.new }
-    ensures entry_cached { result ≡ DiskEnd.Ok → EntryCached (1 + slot / 8) kept.new disk.old disk.new }
-    ensures file_cached { result ≡ DiskEnd.Ok → FileCached file.now bytes.now disk.new }
-{
-    match write_file(disk, file, bytes) {
-        DiskEnd::Ok => put_entry(disk, kept, slot, &entry_bytes(&file.record)),
-        DiskEnd::Fault => DiskEnd::Fault,
-    }
-}
-
-/// The same, with the block of the slot as the room of a catalogue keeps it.
+/// the room of a catalogue keeps.
 pub(crate) fn write_kept<D: Drive>(
     disk: &mut Disk<'_, D>,
     room: &mut Checked,
@@ -105,5 +82,8 @@ pub(crate) fn write_kept<D: Drive>(
     ensures files { room.new.files.items ≡ room.old.files.items }
     ensures kept { result ≡ DiskEnd.Ok → room.new.entries.items ≡ entries_with index (bytes_of_record file.now.record_) room.old.entries.items }
 {
-    write_new(disk, &mut room.entries[index / 8], index as u8, file, bytes)
+    match write_file(disk, file, bytes) {
+        DiskEnd::Ok => put_kept_entry(disk, room, index, &entry_bytes(&file.record)),
+        DiskEnd::Fault => DiskEnd::Fault,
+    }
 }

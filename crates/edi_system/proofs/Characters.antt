@@ -3,10 +3,10 @@ use Rattle.std.proofs.Common.{◌≡◌, ◌≤◌, ℕ, zero, suc, ◌⊎◌, i
 use Rattle.std.specs.Prelude.{Result, Ok, Err}
 use Rattle.std.proofs.lemmas.List.{append-nil}
 use Rattle.edi_calls.specs.State.{State, character}
-use Rattle.edi_calls.specs.Calls.{display, print}
+use Rattle.edi_calls.specs.Calls.{answered, display, print}
 use Rattle.edi_calls.specs.Ends.{IsTorn}
 use Rattle.edi_system.specs.Ends.{Reaches}
-use Rattle.edi_system.specs.Parts.{Prints, PrintsMore, Shows, ShowsMore}
+use Rattle.edi_system.specs.Parts.{IsPart, Prints, PrintsMore, Shows, ShowsMore}
 use Rattle.edi_system.specs.declared.ends.Stop.{Stop}
 use Rattle.edi_system.specs.declared.ends.Stop.TheVariants as stop
 use Rattle.edi_system.specs.declared.system.System.{System}
@@ -61,17 +61,19 @@ pub prints_as : {D S T P : Type 0} (printed : P → Option (List ℕ)) (whole : 
     → Prints printed whole (c ∷ []) before after → Prints printed whole (d ∷ []) before after
 prints_as printed whole c d before after e prints = subst (λ x. Prints printed whole (x ∷ []) before after) e prints
 
--- one character is shown, or the terminal has failed
+-- one character is taken, or the object that was to take it has failed: `put` gives the state with what it has taken
+one_put : (put : List ℕ → State) (word c : ℕ) (whole : Bool) (before after : State) (taken : ℕ) → c ≡ character word → IsPart whole (c ∷ []) taken
+    → after ≡ put (take taken (c ∷ [])) → ((n : ℕ) → n ≤ 1 → after ≡ put (take n (c ∷ [])) → IsTorn before (put (c ∷ [])) after)
+    → Reaches (answered [] (put (character word ∷ []))) (shown_as whole) before after
+one_put put word c true before after taken e part now torn = (refl, now ∙ ap put (one_whole c taken (part.all refl) ∙ ap (λ x. x ∷ []) e))
+one_put put word c false before after taken e part now torn = subst (λ x. IsTorn before (put (x ∷ [])) after) e (torn taken part.within now)
+
 pub displays : (word c : ℕ) (whole : Bool) (before after : State) → c ≡ character word → ShowsMore whole (c ∷ []) before after
     → Reaches (display word before) (shown_as whole) before after
-displays word c true before after e more =
-    (refl, more.now ∙ ap (λ x. record before { shown = before.shown ++ x }) (one_whole c more.taken (more.part.all refl) ∙ ap (λ x. x ∷ []) e))
-displays word c false before after e more =
-    subst (λ x. IsTorn before (record before { shown = before.shown ++ x ∷ [] }) after) e (display_torn before after c more.taken more.part.within more.now)
+displays word c whole before after e more =
+    one_put (λ x. record before { shown = before.shown ++ x }) word c whole before after more.taken e more.part more.now (display_torn before after c)
 
 pub prints : (word c : ℕ) (whole : Bool) (before after : State) → c ≡ character word → PrintsMore whole (c ∷ []) before after
     → Reaches (print word before) (shown_as whole) before after
-prints word c true before after e more =
-    (refl, more.now ∙ ap (λ x. record before { printed = before.printed ++ x }) (one_whole c more.taken (more.part.all refl) ∙ ap (λ x. x ∷ []) e))
-prints word c false before after e more =
-    subst (λ x. IsTorn before (record before { printed = before.printed ++ x ∷ [] }) after) e (print_torn before after c more.taken more.part.within more.now)
+prints word c whole before after e more =
+    one_put (λ x. record before { printed = before.printed ++ x }) word c whole before after more.taken e more.part more.now (print_torn before after c)

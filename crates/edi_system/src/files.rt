@@ -5,8 +5,8 @@ ghost use Rattle.std.specs.Prelude.{◌≡◌, ◌⊎◌, ◌≤◌, ◌<◌, �
 ghost use Rattle.std.specs.Option.{option_map};
 ghost use Rattle.edi_told.specs.Told.{WhereTold};
 ghost use Rattle.edi_calls.specs.State.{find_file, free, fresh, most_bytes, pages_of, slot_at};
-ghost use Rattle.edi_catalog.specs.Changes.{Changes, deleted, file_protected, file_renamed, kept_changed, kept_protected, kept_renamed, not_deleted};
-ghost use Rattle.edi_catalog.specs.Changes.{not_found, not_renamed, slots_changed, Untouched};
+ghost use Rattle.edi_catalog.specs.Changes.{Changes, SetsProtection, deleted, file_protected, file_renamed, kept_changed, kept_renamed, not_deleted};
+ghost use Rattle.edi_catalog.specs.Changes.{not_renamed, slots_changed, Untouched};
 ghost use Rattle.edi_catalog.specs.InSlots.{entry_told, free_in, no_deletion, no_renaming, no_room, no_such, PageIn};
 ghost use Rattle.edi_image.specs.Image.{slots_of};
 ghost use Rattle.edi_system.specs.InState.{left_open, ReadsPage, ReadsWhole, StateAnswer};
@@ -33,13 +33,7 @@ pub(crate) fn failed_at<X>(answer: &Result<X, CatEnd>) -> Option<Outside>
 {
     match answer {
         Err(CatEnd::Fault) => Some(Outside::Drive),
-        Err(CatEnd::NoSuch) => None,
-        Err(CatEnd::Taken) => None,
-        Err(CatEnd::Protected) => None,
-        Err(CatEnd::TooLarge(_)) => None,
-        Err(CatEnd::CatalogFull) => None,
-        Err(CatEnd::Full { .. }) => None,
-        Ok(_) => None,
+        _ => None,
     }
 }
 
@@ -48,14 +42,9 @@ pub(crate) fn is_refused<X>(answer: &Result<X, CatEnd>) -> bool
     ensures { result ≡ is_refused answer.now }
 {
     match answer {
-        Err(CatEnd::Fault) => false,
-        Err(CatEnd::NoSuch) => true,
-        Err(CatEnd::Taken) => true,
-        Err(CatEnd::Protected) => true,
-        Err(CatEnd::TooLarge(_)) => true,
-        Err(CatEnd::CatalogFull) => true,
-        Err(CatEnd::Full { .. }) => true,
         Ok(_) => false,
+        Err(CatEnd::Fault) => false,
+        Err(_) => true,
     }
 }
 
@@ -182,13 +171,36 @@ impl<D: Drive, S: Source, T: Sink, P: Sink> System<'_, '_, '_, '_, '_, '_, D, S,
         answer
     }
 
+    // Makes the file with this title protected, or takes its protection. The found file, with its position, and the buffer stay.
+    fn set_protected(&mut self, title: &Title, protected: bool) -> Result<(), CatEnd>
+        requires ready { IsReady D.contents D.count self.old }
+        ensures changes { SetsProtection D.contents D.count D.faults result protected title.now (catalog_in self.old) (catalog_in self.new) }
+        ensures exact { WhereTold (state_of D.contents S.left T.taken P.taken self.old) (state_of D.contents S.left T.taken P.taken self.new)
+            (λ before after. StateAnswer result (no_such (find_file before.slots title.now)) (slots_changed (file_protected protected) title.now before.slots)
+            left_open before after) }
+        ensures untouched { Untouched result self.old self.new }
+        ensures stays { PositionStays self.old self.new }
+        ensures only { OnlyFiles self.old self.new }
+        ensures failed { failed_in self.new ≡ failed_at result }
+        ensures ready { is_drive_fault result ≡ false → IsReady D.contents D.count self.new }
+        ensures due { KeepsDue T.taken self.old self.new }
+        ensures told { KeepsTold D.contents S.left T.taken P.taken self.old self.new }
+        ensures keeps { Keeps D.faults S.faults T.faults P.faults (is_drive_fault result) self.old self.new }
+    {
+        let answer = self.catalog.set_protected(title, protected);
+        self.failed = failed_at(&answer);
+        if is_refused(&answer) {
+            return answer;
+        }
+        forget_page(&mut self.found);
+        answer
+    }
+
     /// Protects the file with this title, which may be protected already. The found file, with its
     /// position, and the buffer stay. The one refusal is `NoSuch`.
     pub fn protect(&mut self, title: &Title) -> Result<(), CatEnd>
         requires ready { IsReady D.contents D.count self.old }
-        ensures changes { Changes D.contents D.count D.faults result (not_found (file_titled title.now (files_of (catalog_in self.old))))
-            (kept_changed (kept_protected true) title.now (files_of (catalog_in self.old))) (slots_changed (file_protected true) title.now)
-            (catalog_in self.old) (catalog_in self.new) }
+        ensures changes { SetsProtection D.contents D.count D.faults result true title.now (catalog_in self.old) (catalog_in self.new) }
         ensures exact { WhereTold (state_of D.contents S.left T.taken P.taken self.old) (state_of D.contents S.left T.taken P.taken self.new)
             (λ before after. StateAnswer result (no_such (find_file before.slots title.now)) (slots_changed (file_protected true) title.now before.slots)
             left_open before after) }
@@ -201,22 +213,14 @@ impl<D: Drive, S: Source, T: Sink, P: Sink> System<'_, '_, '_, '_, '_, '_, D, S,
         ensures told { KeepsTold D.contents S.left T.taken P.taken self.old self.new }
         ensures keeps { Keeps D.faults S.faults T.faults P.faults (is_drive_fault result) self.old self.new }
     {
-        let answer = self.catalog.protect(title);
-        self.failed = failed_at(&answer);
-        if is_refused(&answer) {
-            return answer;
-        }
-        forget_page(&mut self.found);
-        answer
+        self.set_protected(title, true)
     }
 
     /// Takes the protection from the file with this title, which may have none. The found file, with its
     /// position, and the buffer stay. The one refusal is `NoSuch`.
     pub fn release(&mut self, title: &Title) -> Result<(), CatEnd>
         requires ready { IsReady D.contents D.count self.old }
-        ensures changes { Changes D.contents D.count D.faults result (not_found (file_titled title.now (files_of (catalog_in self.old))))
-            (kept_changed (kept_protected false) title.now (files_of (catalog_in self.old))) (slots_changed (file_protected false) title.now)
-            (catalog_in self.old) (catalog_in self.new) }
+        ensures changes { SetsProtection D.contents D.count D.faults result false title.now (catalog_in self.old) (catalog_in self.new) }
         ensures exact { WhereTold (state_of D.contents S.left T.taken P.taken self.old) (state_of D.contents S.left T.taken P.taken self.new)
             (λ before after. StateAnswer result (no_such (find_file before.slots title.now)) (slots_changed (file_protected false) title.now before.slots)
             left_open before after) }
@@ -229,13 +233,7 @@ impl<D: Drive, S: Source, T: Sink, P: Sink> System<'_, '_, '_, '_, '_, '_, D, S,
         ensures told { KeepsTold D.contents S.left T.taken P.taken self.old self.new }
         ensures keeps { Keeps D.faults S.faults T.faults P.faults (is_drive_fault result) self.old self.new }
     {
-        let answer = self.catalog.release(title);
-        self.failed = failed_at(&answer);
-        if is_refused(&answer) {
-            return answer;
-        }
-        forget_page(&mut self.found);
-        answer
+        self.set_protected(title, false)
     }
 
     /// Deletes the file with this title, and drops the found file and the buffer. A named refusal leaves them: in their order

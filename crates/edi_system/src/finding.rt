@@ -6,7 +6,7 @@ ghost use Rattle.edi_calls.specs.Calls.{find, more, read, word_of};
 ghost use Rattle.edi_catalog.specs.Mounted.{files_of};
 ghost use Rattle.edi_system.specs.State.{catalog_in, state_of, IsReady};
 ghost use Rattle.edi_system.specs.Catalogue.{OnlyReading};
-ghost use Rattle.edi_system.specs.Does.{MayLackFile};
+ghost use Rattle.edi_system.specs.Does.{MayLackFile, NeedsFile};
 ghost use Rattle.edi_system.specs.Ends.{is_fault, Keeps, Reaches};
 ghost use Rattle.edi_system.specs.AsCalls.{KeepsDue, KeepsSystem};
 ghost use Rattle.edi_system.specs.Loading.{IsOn, LoadsNext};
@@ -79,12 +79,8 @@ impl<D: Drive, S: Source, T: Sink, P: Sink> System<'_, '_, '_, '_, '_, '_, D, S,
         requires ready { IsReady D.contents D.count self.old }
         ensures exact { WhereTold (state_of D.contents S.left T.taken P.taken self.old) (state_of D.contents S.left T.taken P.taken self.new)
             (λ before after. Reaches (more before) result before after) }
-        ensures no_file { (result ≡ Err Stop.NoFile) ↔ (self.old.found ≡ None) }
-        ensures refusals { MayLackFile result }
+        ensures needs { NeedsFile D.contents D.count result self.old self.new }
         ensures tells { IfOk result (λ word. MoreIs word self.old.found self.new.found) }
-        ensures loads { OnOk result (LoadsNext self.old.found self.new.found self.old.page self.new.page (catalog_in self.old) (catalog_in self.new)) }
-        ensures only { OnlyReading self.old self.new }
-        ensures rests { CatalogRests D.contents D.count (catalog_in self.old) (catalog_in self.new) }
         ensures untouched { result ≡ Err Stop.NoFile → self.new ≡ self.old }
         ensures ready { is_fault result ≡ false → IsReady D.contents D.count self.new }
         ensures told { KeepsTold D.contents S.left T.taken P.taken self.old self.new }
@@ -101,12 +97,8 @@ impl<D: Drive, S: Source, T: Sink, P: Sink> System<'_, '_, '_, '_, '_, '_, D, S,
         requires ready { IsReady D.contents D.count self.old }
         ensures exact { WhereTold (state_of D.contents S.left T.taken P.taken self.old) (state_of D.contents S.left T.taken P.taken self.new)
             (λ before after. Reaches (read before) result before after) }
-        ensures no_file { (result ≡ Err Stop.NoFile) ↔ (self.old.found ≡ None) }
-        ensures refusals { MayLackFile result }
+        ensures needs { NeedsFile D.contents D.count result self.old self.new }
         ensures moves { IfOk result (λ word. ReadsOn word self.new.page self.old.found self.new.found) }
-        ensures loads { OnOk result (LoadsNext self.old.found self.new.found self.old.page self.new.page (catalog_in self.old) (catalog_in self.new)) }
-        ensures only { OnlyReading self.old self.new }
-        ensures rests { CatalogRests D.contents D.count (catalog_in self.old) (catalog_in self.new) }
         ensures untouched { result ≡ Err Stop.NoFile → self.new ≡ self.old }
         ensures ready { is_fault result ≡ false → IsReady D.contents D.count self.new }
         ensures told { KeepsTold D.contents S.left T.taken P.taken self.old self.new }
