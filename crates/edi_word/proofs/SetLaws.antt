@@ -236,12 +236,18 @@ AreSetWords-words_with words n are ordinal =
     }
 
 -- eight words that a program made, each by the operation at its place
-pub each_word_from : (f : ℕ → ℕ → ℕ) (one other made : List ℕ) → AreSetWords one → AreSetWords other → length made ≡ 8
+each_word_from : (f : ℕ → ℕ → ℕ) (one other made : List ℕ) → AreSetWords one → AreSetWords other → length made ≡ 8
     → ((i : ℕ) → i < 8 → get_or made i 0 ≡ f (get_or one i 0) (get_or other i 0)) → made ≡ each_word f one other
 each_word_from f one other made are both long at =
     let same : length (each_word f one other) ≡ length one = length-each_word f one other (are.eight ∙ sym both.eight) in
     same_number_lists made (each_word f one other) (long ∙ sym (same ∙ are.eight)) (λ i within.
     at i (omega (arith, long)) ∙ sym (get_or-each_word f one other i (omega (arith, long, are.eight)) (omega (arith, long, both.eight))))
+
+-- Such words are the words of a set, and their members are those of the operation on sets.
+pub made : (f : ℕ → ℕ → ℕ) (g : (one other : List ℕ) → List ℕ) → ViewsAgree (each_word f) g → (one other words : List ℕ) → AreSetWords one
+    → AreSetWords other → length words ≡ 8 → ((i : ℕ) → i < 8 → get_or words i 0 ≡ f (get_or one i 0) (get_or other i 0))
+    → AreSetWords words × (members_of words ≡ g (members_of one) (members_of other))
+made f g agrees one other words are both long at = rw (each_word_from f one other words are both long at) (agrees one other are both)
 
 -- the test of one bit that a program makes
 pub has_from_bit : (words : List ℕ) (z : ℤ) (n : ℕ) → z ≡ pos n → n < 128 → (bit_and (get_or words (n / 16) 0 / 2 ^ (n % 16)) 1 == 1) ≡ set_has_int

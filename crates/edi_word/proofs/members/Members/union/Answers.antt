@@ -1,18 +1,12 @@
-use Rattle.std.proofs.Common.{◌≡◌, ◌<◌, ℕ, length, get_or, bit_or, rules}
-use Rattle.edi_word.specs.Sets.{words_union}
-use Rattle.edi_word.proofs.SetLaws.{each_word_from, members_of-words_union, AreSetWords-words_union}
+use Rattle.std.proofs.Common.{bit_or, rules}
+use Rattle.edi_word.specs.Sets.{set_union}
+use Rattle.edi_word.proofs.SetLaws.{made, union_agrees}
 use Rattle.edi_word.proofs.members.Members.union.Goals as goal
 
 pub invariant_of-result : goal.invariant_of-result
-invariant_of-result c =
-    let long : length c.from_fn.result ≡ 8 = search rules in
-    let at : (i : ℕ) → i < 8 → get_or c.from_fn.result i 0 ≡ bit_or (get_or c.self.inside.0 i 0) (get_or c.other.inside.0 i 0) = λ i below. search rules in
-    let made : c.from_fn.result ≡ words_union c.self.inside.0 c.other.inside.0 = each_word_from bit_or _ _ _ c.self.invariant c.other.invariant long at in
-    rw made (AreSetWords-words_union _ _ c.self.invariant c.other.invariant)
+invariant_of-result c = (made bit_or set_union union_agrees _ _ c.from_fn.result c.self.invariant c.other.invariant (search rules) (λ i below. search rules)).0
 
 pub returns : goal.returns
-returns c =
-    let long : length c.from_fn.result ≡ 8 = search rules in
-    let at : (i : ℕ) → i < 8 → get_or c.from_fn.result i 0 ≡ bit_or (get_or c.self.inside.0 i 0) (get_or c.other.inside.0 i 0) = λ i below. search rules in
-    let made : c.from_fn.result ≡ words_union c.self.inside.0 c.other.inside.0 = each_word_from bit_or _ _ _ c.self.invariant c.other.invariant long at in
-    rw (made, ← c.self.view_is, ← c.other.view_is) (record { exact = members_of-words_union _ _ c.self.invariant c.other.invariant })
+returns c = rw (← c.self.view_is, ← c.other.view_is) (record {
+  exact = (made bit_or set_union union_agrees _ _ c.from_fn.result c.self.invariant c.other.invariant (search rules) (λ i below. search rules)).1;
+})
