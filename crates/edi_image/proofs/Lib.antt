@@ -13,4 +13,5 @@ pub mod SlotRules
 pub mod Spelled
 pub mod Told
 pub mod UsedBlocks
+pub mod Versions
 pub mod Worked

@@ -1,6 +1,6 @@
 -- The rules on the entry of a slot, and on the entries behind it.
-use Rattle.std.proofs.Common.{◌≡◌, ℕ, zero, suc, ◌+◌, ◌-◌, ◌*◌, ◌/◌, ◌%◌, ◌<◌, Bool, true, false, List, [], ◌∷◌, ◌++◌, length, take, drop, refl, ap, sym}
-use Rattle.std.proofs.Common.{◌∙◌, subst, arith}
+use Rattle.std.proofs.Common.{◌≡◌, ℕ, ◌+◌, ◌*◌, ◌/◌, ◌%◌, ◌<◌, Bool, true, false, List, [], ◌∷◌, ◌++◌, length, take, drop, refl, ap, sym}
+use Rattle.std.proofs.Common.{◌∙◌, subst}
 use Rattle.std.specs.Prelude.{◌&&◌, ◌==◌, nat_le, map, if◌then◌else◌, Option, Some, None, Result, Ok, Err, MatchResult}
 use Rattle.edi_calls.specs.State.{is_title, without_blanks, pages_of}
 use Rattle.edi_image.specs.declared.faults.MountFault.{MountFault}
@@ -10,11 +10,12 @@ use Rattle.edi_image.specs.declared.entries.Said.TheVariants as said
 use Rattle.edi_image.specs.Records.{FileRecord, maps_of}
 use Rattle.edi_image.specs.Rules.{first_broken, used_by}
 use Rattle.edi_image.specs.Entries.{short_at, long_at, block_at, are_zeros, is_data, is_entry, fields_fit, record_in, entry_says}
-use Rattle.edi_image.specs.Image.{file_rules, entry_rules, slot_rules, titles_in, entry_at, said_at, entries_from, entries_of, numbers_of}
+use Rattle.edi_image.specs.Image.{file_rules, entry_rules, slot_rules, entry_at, said_at, entries_from, entries_of, numbers_of}
 use Rattle.edi_image.specs.Stored.{StoredFile, stored_of, titles_of, are_data, is_record, is_fit}
 use Rattle.edi_image.specs.Finds.{IsFirst, Finds, TakesSlot, failed}
 use Rattle.edi_image.proofs.Spelled.{both}
-use Rattle.edi_image.proofs.FileRules.{goes_on, breaks_early}
+use Rattle.edi_image.proofs.Versions as versions
+use Rattle.edi_image.proofs.Versions.{Tell, says_fit}
 
 -- ---- what is known of an entry's record
 
@@ -41,15 +42,8 @@ record_fits count bytes h =
       every true b c d ea eb ec ed = ap (λ x. x && c && d) eb ∙ ap (λ x. x && d) ec ∙ ed
       every false b c d ea eb ec ed = absurd (let no : false ≡ true = ea in cc)
 
-says_fit : (count : ℕ) (z e : Bool) (r : FileRecord) → (e ≡ true → is_record count r ≡ true)
-    → is_fit count (if z then said.Free else (if e then said.File r else said.Wrong)) ≡ true
-says_fit count true e r h = refl
-says_fit count false true r h = h refl
-says_fit count false false r h = refl
-
 pub entry_fits : (count : ℕ) (bytes : List ℕ) → is_fit count (entry_says count bytes) ≡ true
-entry_fits count bytes =
-    says_fit count (are_zeros bytes) (is_entry count bytes) (record_in bytes) (λ h. record_fits count bytes h)
+entry_fits count bytes = says_fit (is_fit count) refl refl (are_zeros bytes) (is_entry count bytes) (record_in bytes) (λ h. record_fits count bytes h)
 
 -- an entry as it is read
 pub entry_read : (blocks : List (List ℕ)) (bytes rest entry : List ℕ) (slot count n at : ℕ) (s : Said)
@@ -97,50 +91,15 @@ file_broken used0 files0 seen blocks slot s r same says is =
 
 -- ---- all slots
 
--- what the check has come to before a slot
-pub record Progress (blocks : List (List ℕ)) (slot : ℕ) (used : List ℕ) (files : List (Option StoredFile)) : Type 0 where
-  pub rules : first_broken [] (slot_rules 33 blocks 0 [] (entries_of blocks))
-      ≡ first_broken used (slot_rules 33 blocks slot (titles_of files) (entries_from blocks slot (256 - slot)))
-  pub files_ : files ≡ map (stored_of blocks) (entries_from blocks 0 slot)
+pub tells : (blocks : List (List ℕ)) → Tell (said_at blocks) (entries_from blocks)
+tells blocks = record { none = λ slot. refl; more = λ slot n. refl }
 
-pub progress_begins : (blocks : List (List ℕ)) → Progress blocks 0 [] []
-unfolding entries_of
-progress_begins blocks = record { rules = refl; files_ = refl }
+-- what the check has come to before a slot
+abbrev pub Progress : List (List ℕ) → (slot : ℕ) → (used : List ℕ) → List (Option StoredFile) → Type 0
+Progress blocks = versions.Progress 33 256 blocks (entries_from blocks)
 
 pub progress_from : (blocks : List (List ℕ)) (used : List ℕ) (files : List (Option StoredFile)) → used ≡ [] → files ≡ [] → Progress blocks 0 used files
-progress_from blocks used files u f =
-    subst (λ us. Progress blocks 0 us files) (sym u) (subst (λ fs. Progress blocks 0 [] fs) (sym f) (progress_begins blocks))
-
-pub titles_of-append : (files : List (Option StoredFile)) (file : Option StoredFile)
-    → titles_of (files ++ file ∷ []) ≡ titles_of files ++ titles_of (file ∷ [])
-titles_of-append [] file = refl
-titles_of-append (None ∷ files) file = titles_of-append files file
-titles_of-append (Some f ∷ files) file = ap (λ ts. f.record_.title ∷ ts) (titles_of-append files file)
-
-pub titles_stored : (blocks : List (List ℕ)) (s : Said) → titles_of (stored_of blocks s ∷ []) ≡ titles_in s
-titles_stored blocks said.Free = refl
-titles_stored blocks said.Wrong = refl
-titles_stored blocks (said.File r) = refl
-
-entries_more : (blocks : List (List ℕ)) (first n : ℕ) → entries_from blocks first (suc n) ≡ entries_from blocks first n ++ said_at blocks (first + n) ∷ []
-entries_more blocks first zero = ap (λ m. said_at blocks m ∷ []) (let zero_more : first ≡ first + 0 = omega arith in zero_more)
-entries_more blocks first (suc n) =
-    ap (λ es. said_at blocks first ∷ es)
-    (entries_more blocks (first + 1) n
-    ∙ ap (λ m. entries_from blocks (first + 1) n ++ said_at blocks m ∷ []) (let index : first + 1 + n ≡ first + suc n = omega arith in index))
-
-pub map_more : (blocks : List (List ℕ)) (es : List Said) (e : Said) → map (stored_of blocks) (es ++ e ∷ []) ≡ map (stored_of blocks) es ++ stored_of blocks e
-    ∷ []
-map_more blocks [] e = refl
-map_more blocks (x ∷ es) e = ap (λ fs. stored_of blocks x ∷ fs) (map_more blocks es e)
-
-rules_from : (blocks : List (List ℕ)) (slot : ℕ) (used : List ℕ) (files : List (Option StoredFile)) → slot < 256
-    → first_broken used (slot_rules 33 blocks slot (titles_of files) (entries_from blocks slot (256 - slot)))
-    ≡ first_broken used (entry_rules 33 blocks slot (titles_of files) (said_at blocks slot)
-    ++ slot_rules 33 blocks (slot + 1) (titles_of files ++ titles_in (said_at blocks slot)) (entries_from blocks (slot + 1) (256 - (slot + 1))))
-rules_from blocks slot used files h =
-    let left : 256 - slot ≡ suc (256 - (slot + 1)) = omega arith in
-    ap (λ n. first_broken used (slot_rules 33 blocks slot (titles_of files) (entries_from blocks slot n))) left
+progress_from blocks = versions.progress_from 33 256 blocks (said_at blocks) (entries_from blocks) (tells blocks)
 
 pub progress_on : (blocks : List (List ℕ)) (slot at : ℕ) (used0 used1 : List ℕ) (files0 files1 : List (Option StoredFile)) → slot < 256
     → at ≡ slot → Progress blocks slot used0 files0
@@ -152,39 +111,19 @@ progress_on blocks slot at used0 used1 files0 files1 h same so_far taken0 =
     (first_broken used0 (entry_rules 33 blocks n (titles_of files0) (said_at blocks n)) ≡ None)
     × TakesSlot used0 used1 (entry_rules 33 blocks n (titles_of files0) (said_at blocks n)) files0 files1 (stored_of blocks (said_at blocks n)) in
     let taken : P slot = subst P same taken0 in
-    let titles : titles_of files1 ≡ titles_of files0 ++ titles_in (said_at blocks slot) =
-    ap titles_of taken.1.files ∙ titles_of-append files0 (stored_of blocks (said_at blocks slot))
-    ∙ ap (λ ts. titles_of files0 ++ ts) (titles_stored blocks (said_at blocks slot)) in
-    record {
-      rules =
-          so_far.rules ∙ rules_from blocks slot used0 files0 h
-          ∙ goes_on used0 used1 (entry_rules 33 blocks slot (titles_of files0) (said_at blocks slot)) _ taken.0 taken.1.used
-          ∙ ap (λ ts. first_broken used1 (slot_rules 33 blocks (slot + 1) ts (entries_from blocks (slot + 1) (256 - (slot + 1))))) (sym titles);
-      files_ =
-          taken.1.files ∙ ap (λ fs. fs ++ stored_of blocks (said_at blocks slot) ∷ []) so_far.files_
-          ∙ sym (map_more blocks (entries_from blocks 0 slot) (said_at blocks slot))
-          ∙ ap (map (stored_of blocks))
-          (ap (λ m. entries_from blocks 0 slot ++ said_at blocks m ∷ []) (let index : slot ≡ 0 + slot = omega arith in index)
-          ∙ sym (entries_more blocks 0 slot)
-          ∙ ap (entries_from blocks 0) (let one : suc slot ≡ slot + 1 = omega arith in one));
-    }
+    versions.progress_on 33 256 blocks (said_at blocks) (entries_from blocks) (tells blocks) slot used0 used1 files0 files1 h so_far taken.0 taken.1
 
 pub progress_fails : (blocks : List (List ℕ)) (slot at : ℕ) (used : List ℕ) (files : List (Option StoredFile)) (e : MountFault) → slot < 256
     → at ≡ slot → Progress blocks slot used files
     → IsFirst e (first_broken used (entry_rules 33 blocks at (titles_of files) (said_at blocks at)))
     → IsFirst e (first_broken [] (slot_rules 33 blocks 0 [] (entries_of blocks)))
+unfolding entries_of
 progress_fails blocks slot at used files e h same so_far broken =
-    subst (IsFirst e) (sym (so_far.rules ∙ rules_from blocks slot used files h))
-    (breaks_early e used (entry_rules 33 blocks slot (titles_of files) (said_at blocks slot)) _
-    (subst (λ n. IsFirst e (first_broken used (entry_rules 33 blocks n (titles_of files) (said_at blocks n)))) same broken))
+    versions.progress_fails 33 256 blocks (said_at blocks) (entries_from blocks) (tells blocks) slot used files e h so_far
+    (subst (λ n. IsFirst e (first_broken used (entry_rules 33 blocks n (titles_of files) (said_at blocks n)))) same broken)
 
 pub progress_ends : (blocks : List (List ℕ)) (slot : ℕ) (used : List ℕ) (files : List (Option StoredFile)) → slot ≡ 256
     → Progress blocks slot used files
     → (first_broken [] (slot_rules 33 blocks 0 [] (entries_of blocks)) ≡ None) × (files ≡ map (stored_of blocks) (entries_of blocks))
 unfolding entries_of
-progress_ends blocks slot used files e so_far = (
-  so_far.rules
-      ∙ ap (λ n. first_broken used (slot_rules 33 blocks slot (titles_of files) (entries_from blocks slot n))) (let none : 256 - slot ≡ 0 = omega arith in
-      none),
-  so_far.files_ ∙ ap (λ n. map (stored_of blocks) (entries_from blocks 0 n)) e,
-)
+progress_ends blocks = versions.progress_ends 33 256 blocks (said_at blocks) (entries_from blocks) (tells blocks)

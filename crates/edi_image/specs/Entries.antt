@@ -47,6 +47,20 @@ is_second_map count length map = if nat_le (pages_of length) 255 then map == 0 e
 abbrev pub second_map : (length : ℕ) → ℕ → Option ℕ
 second_map length map = if nat_le (pages_of length) 255 then None else Some map
 
+-- the numbers of a kind and of a protection
+abbrev pub are_marks : (kind protected : ℕ) → Bool
+are_marks kind protected = (kind == 1 || kind == 2) && nat_le protected 1
+
+-- the file of an entry whose title takes so many bytes, and whose kind and protection stand behind it
+abbrev pub file_in : (width : ℕ) → (maps : List ℕ) → (length : ℕ) → List ℕ → FileRecord
+file_in width maps length bytes = record {
+  title = without_blanks (take width bytes);
+  kind = kind_of (slice_index bytes width);
+  protected = slice_index bytes (width + 1) == 1;
+  maps = maps;
+  length = length;
+}
+
 -- An entry of 64 bytes:
 --
 --     bytes 0 to 23     the title, filled with blanks
@@ -60,8 +74,7 @@ second_map length map = if nat_le (pages_of length) 255 then None else Some map
 -- `count` is the number of the drive's blocks.
 abbrev pub fields_fit : (count : ℕ) → List ℕ → Bool
 fields_fit count bytes =
-    (slice_index bytes 24 == 1 || slice_index bytes 24 == 2)
-    && nat_le (slice_index bytes 25) 1
+    are_marks (slice_index bytes 24) (slice_index bytes 25)
     && nat_le (long_at bytes 30) most_bytes
     && is_data 33 count (short_at bytes 26)
     && is_second_map count (long_at bytes 30) (short_at bytes 28)
@@ -71,13 +84,7 @@ abbrev pub is_entry : (count : ℕ) → List ℕ → Bool
 is_entry count bytes = is_title (without_blanks (take 24 bytes)) && fields_fit count bytes
 
 abbrev pub record_in : List ℕ → FileRecord
-record_in bytes = record {
-  title = without_blanks (take 24 bytes);
-  kind = kind_of (slice_index bytes 24);
-  protected = slice_index bytes 25 == 1;
-  maps = maps_of (short_at bytes 26) (second_map (long_at bytes 30) (short_at bytes 28));
-  length = long_at bytes 30;
-}
+record_in bytes = file_in 24 (maps_of (short_at bytes 26) (second_map (long_at bytes 30) (short_at bytes 28))) (long_at bytes 30) bytes
 
 -- a free entry is all zeros
 abbrev pub entry_says : (count : ℕ) → List ℕ → Said

@@ -1,5 +1,5 @@
 -- The first bytes of a file decide whether it is an image of version 1.
-use Rattle.std.proofs.Common.{◌≡◌, ℕ, zero, suc, ◌+◌, ◌*◌, ◌/◌, ◌<◌, ◌≤◌, Bool, true, false, ◌&&◌, nat_le, List, [], ◌∷◌, ◌++◌, length, take, drop, Option}
+use Rattle.std.proofs.Common.{◌≡◌, ℕ, zero, suc, ◌/◌, ◌<◌, ◌≤◌, Bool, true, false, ◌&&◌, nat_le, List, [], ◌∷◌, ◌++◌, length, take, drop}
 use Rattle.std.proofs.Common.{Some, None, refl, sym, ap, ◌∙◌, arith, leb-true, leb-false}
 use Rattle.std.specs.Simd.{first_chunks}
 use Rattle.std.specs.Str.{bytes_eq}
@@ -7,12 +7,11 @@ use Rattle.std.proofs.lemmas.Bool.{le-leb, lt-leb}
 use Rattle.std.proofs.lemmas.List.{length-take-le, take_all}
 use Rattle.std.proofs.lemmas.Nat.{le-div}
 use Rattle.edi_host.specs.Blocks.{blocks_of}
-use Rattle.edi_image.specs.declared.faults.MountFault.{MountFault}
 use Rattle.edi_image.specs.declared.faults.MountFault.TheVariants as fault
 use Rattle.edi_image.specs.Rules.{needs, first_broken}
 use Rattle.edi_image.specs.Entries.{block_at}
 use Rattle.edi_image.specs.Image.{header_block, slot_rules}
-use Rattle.edi_migrate.specs.OldImage.{old_entries_of, old_image_rules, old_fault_of}
+use Rattle.edi_migrate.specs.OldImage.{old_entries_of, old_fault_of}
 use Rattle.edi_migrate.specs.Limit.{most_fetched, FirstBytesDecide}
 
 chunk_count : (size n : ℕ) (xs : List ℕ) → length (first_chunks size n xs) ≡ n
@@ -21,7 +20,6 @@ chunk_count size (suc n) xs = ap suc (chunk_count size n (drop size xs))
 
 -- too many blocks break the rule of the header
 too_many : (blocks : List (List ℕ)) → 4096 < length blocks → old_fault_of blocks ≡ Some fault.Header
-unfolding old_image_rules
 too_many [] more = absurd (omega (arith, more))
 too_many (block ∷ blocks) more =
     (λ i.

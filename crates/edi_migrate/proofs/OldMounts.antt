@@ -1,57 +1,36 @@
 -- An image of version 1 as it is checked.
 use Rattle.std.proofs.Common.{◌≡◌, ℕ, zero, suc, ◌+◌, ◌*◌, ◌<◌, ◌%◌, Bool, true, false, List, [], ◌∷◌, ◌++◌, length, take, replicate, refl, ap, sym, ◌∙◌}
-use Rattle.std.proofs.Common.{subst, append_assoc, arith}
+use Rattle.std.proofs.Common.{append_assoc, arith}
 use Rattle.std.specs.Prelude.{◌==◌, map, Option, None}
 use Rattle.std.specs.List.{list_all}
 use Rattle.std.proofs.lemmas.Bool.{eqb-true}
 use Rattle.std.proofs.lemmas.List.{replicate_more}
-use Rattle.edi_image.specs.declared.faults.MountFault.{MountFault}
 use Rattle.edi_image.specs.declared.entries.Said.TheVariants as said
 use Rattle.edi_image.specs.Rules.{first_broken}
 use Rattle.edi_migrate.specs.OldEntries.{old_entry_says}
 use Rattle.edi_image.specs.Image.{header_rules, slot_rules}
-use Rattle.edi_migrate.specs.OldImage.{old_entries_from, old_entries_of, old_image_rules, old_fault_of}
+use Rattle.edi_migrate.specs.OldImage.{old_entries_from, old_entries_of, old_fault_of}
 use Rattle.edi_migrate.specs.OldFiles.{is_old_stored, old_said_at}
 use Rattle.edi_image.specs.Stored.{StoredFile, stored_of}
-use Rattle.edi_image.specs.Finds.{IsFirst}
-use Rattle.edi_image.proofs.FileRules.{goes_on, breaks_early}
 use Rattle.edi_image.proofs.ImageRules.{drop-nil, no_blocks}
+use Rattle.edi_image.proofs.Versions.{no_files, none_said}
+use Rattle.edi_migrate.proofs.OldRules.{old_tells}
 
 pub old_rules_of : (blocks : List (List ℕ)) → 0 < length blocks
     → old_fault_of blocks ≡ first_broken [] (header_rules 1 blocks ++ slot_rules 5 blocks 0 [] (old_entries_of blocks))
-unfolding old_image_rules
 old_rules_of [] h = absurd (omega arith)
 old_rules_of (block ∷ blocks) h = refl
-
-pub old_image_goes_on : (blocks : List (List ℕ)) → 0 < length blocks → first_broken [] (header_rules 1 blocks) ≡ None
-    → first_broken [] (slot_rules 5 blocks 0 [] (old_entries_of blocks)) ≡ old_fault_of blocks
-old_image_goes_on blocks h none =
-    sym (old_rules_of blocks h ∙ goes_on [] [] (header_rules 1 blocks) (slot_rules 5 blocks 0 [] (old_entries_of blocks)) none refl)
-
-pub old_image_fails : (e : MountFault) (blocks : List (List ℕ)) → 0 < length blocks → IsFirst e (first_broken [] (header_rules 1 blocks))
-    → IsFirst e (old_fault_of blocks)
-old_image_fails e blocks h broken =
-    subst (IsFirst e) (sym (old_rules_of blocks h)) (breaks_early e [] (header_rules 1 blocks) (slot_rules 5 blocks 0 [] (old_entries_of blocks)) broken)
 
 -- ---- no disk
 
 nothing_said : (slot : ℕ) → old_said_at [] slot ≡ said.Free
 nothing_said slot = ap (λ b. old_entry_says 0 (take 32 b)) (drop-nil (32 * (slot % 16)))
 
-no_entries : (slot n : ℕ) → map (stored_of []) (old_entries_from [] slot n) ≡ replicate n None
-no_entries slot zero = refl
-no_entries slot (suc n) =
-    ap (λ s. stored_of [] s ∷ map (stored_of []) (old_entries_from [] (slot + 1) n)) (nothing_said slot)
-    ∙ ap (λ fs. None ∷ fs) (no_entries (slot + 1) n)
-
 pub no_old_disk : (blocks : List (List ℕ)) → length blocks ≡ 0
     → (old_fault_of blocks ≡ None) × (replicate 64 None ≡ map (stored_of blocks) (old_entries_of blocks))
 unfolding old_entries_of
-no_old_disk blocks e =
-    let none : blocks ≡ [] = no_blocks blocks e in (
-      ap old_fault_of none,
-      sym (ap (λ bs. map (stored_of bs) (old_entries_from bs 0 64)) none ∙ no_entries 0 64),
-    )
+no_old_disk blocks e = let none = no_blocks blocks e in
+    (ap old_fault_of none, no_files old_entries_of 64 (none_said (old_said_at []) (old_entries_from []) (old_tells []) nothing_said 0 64) blocks none)
 
 pub is_none : (n : ℕ) (empty : Bool) → empty ≡ (n == 0) → empty ≡ true → n ≡ 0
 is_none n empty e h = eqb-true n 0 (sym e ∙ h)

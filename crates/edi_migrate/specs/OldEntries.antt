@@ -1,10 +1,10 @@
 -- Definition. What the bytes of an entry of version 1 say.
-use Rattle.std.specs.Prelude.{ℕ, Bool, ◌&&◌, ◌||◌, ◌==◌, nat_le, if◌then◌else◌, List, [], ◌∷◌, take, drop, slice_index}
+use Rattle.std.specs.Prelude.{ℕ, Bool, ◌&&◌, nat_le, if◌then◌else◌, List, [], ◌∷◌, take, drop, slice_index}
 use Rattle.edi_calls.specs.State.{is_title, without_blanks}
 use Rattle.edi_image.specs.Records.{FileRecord}
 use Rattle.edi_image.specs.declared.entries.Said.{Said}
 use Rattle.edi_image.specs.declared.entries.Said.TheVariants as said
-use Rattle.edi_image.specs.Entries.{are_zeros, is_data, kind_of, long_at, short_at}
+use Rattle.edi_image.specs.Entries.{are_marks, are_zeros, file_in, is_data, long_at, short_at}
 
 -- the greatest number of bytes of a file in an image of version 1
 abbrev pub old_most_bytes : ℕ
@@ -20,8 +20,7 @@ old_most_bytes = 130560
 --     bytes 20 to 31    zeros
 abbrev pub old_fields_fit : (count : ℕ) → List ℕ → Bool
 old_fields_fit count bytes =
-    (slice_index bytes 12 == 1 || slice_index bytes 12 == 2)
-    && nat_le (slice_index bytes 13) 1
+    are_marks (slice_index bytes 12) (slice_index bytes 13)
     && nat_le (long_at bytes 16) old_most_bytes
     && is_data 5 count (short_at bytes 14)
     && are_zeros (drop 20 bytes)
@@ -30,13 +29,7 @@ abbrev pub is_old_entry : (count : ℕ) → List ℕ → Bool
 is_old_entry count bytes = is_title (without_blanks (take 12 bytes)) && old_fields_fit count bytes
 
 abbrev pub old_record_in : List ℕ → FileRecord
-old_record_in bytes = record {
-  title = without_blanks (take 12 bytes);
-  kind = kind_of (slice_index bytes 12);
-  protected = slice_index bytes 13 == 1;
-  maps = short_at bytes 14 ∷ [];
-  length = long_at bytes 16;
-}
+old_record_in bytes = file_in 12 (short_at bytes 14 ∷ []) (long_at bytes 16) bytes
 
 abbrev pub old_entry_says : (count : ℕ) → List ℕ → Said
 old_entry_says count bytes =

@@ -8,7 +8,7 @@
 use Rattle.std.specs.Prelude.{◌≡◌, ℕ, zero, suc, ◌+◌, ◌*◌, ◌/◌, ◌%◌, List, [], ◌∷◌, ◌++◌, map, take, drop, length, Option, None}
 use Rattle.edi_calls.specs.State.{File}
 use Rattle.edi_image.specs.declared.faults.MountFault.{MountFault}
-use Rattle.edi_image.specs.Rules.{Rule, first_broken}
+use Rattle.edi_image.specs.Rules.{first_broken}
 use Rattle.edi_image.specs.declared.entries.Said.{Said}
 use Rattle.edi_image.specs.Entries.{block_at}
 use Rattle.edi_migrate.specs.OldEntries.{old_entry_says}
@@ -27,13 +27,11 @@ old_entries_from blocks slot (suc n) =
 unfoldable pub old_entries_of : List (List ℕ) → List Said
 old_entries_of blocks = old_entries_from blocks 0 64
 
-unfoldable pub old_image_rules : List (List ℕ) → List Rule
-old_image_rules blocks = header_rules 1 blocks ++ slot_rules 5 blocks 0 [] (old_entries_of blocks)
-
 -- the first broken rule of an image of version 1; no block at all breaks none
 abbrev pub old_fault_of : List (List ℕ) → Option MountFault
 old_fault_of [] = None
-old_fault_of (block ∷ blocks) = first_broken [] (old_image_rules (block ∷ blocks))
+old_fault_of (block ∷ blocks) =
+    first_broken [] (header_rules 1 (block ∷ blocks) ++ slot_rules 5 (block ∷ blocks) 0 [] (old_entries_of (block ∷ blocks)))
 
 -- the files of an image of version 1, in its 64 slots
 unfoldable pub old_slots_of : List (List ℕ) → List (Option File)

@@ -2,7 +2,9 @@ use Rattle.std.proofs.Common.{◌≡◌, ◌<◌, ◌∙◌, arith}
 use Rattle.std.specs.Prelude.{length}
 use Rattle.edi_image.proofs.First.{finds_map}
 use Rattle.edi_image.proofs.ImageRules.{made_finds}
-use Rattle.edi_migrate.proofs.OldMounts.{is_none, is_some, no_old_disk, old_image_goes_on, old_image_fails}
+use Rattle.edi_image.proofs.Versions.{rules_go_on, rules_fail}
+use Rattle.edi_migrate.specs.OldImage.{old_entries_of, old_fault_of}
+use Rattle.edi_migrate.proofs.OldMounts.{is_none, is_some, no_old_disk, old_rules_of}
 use Rattle.edi_migrate.proofs.old.read_image.Goals as goal
 
 pub returns-then-is_empty-clause-finds : goal.returns-then-is_empty-clause-finds
@@ -14,9 +16,12 @@ returns-then-is_empty-clause-finds c =
 pub returns-in-Ok-clause-finds : goal.returns-in-Ok-clause-finds
 returns-in-Ok-clause-finds c =
     let some : 0 < length c.args.blocks.now = omega (arith, c.in-Ok.ensures.least) in
-    finds_map c.read_slots.result _ _ _ _ (old_image_goes_on c.args.blocks.now some c.in-Ok.ensures.finds.0) (λ files made. made) c.read_slots.ensures.finds
+    finds_map c.read_slots.result _ _ _ _
+    (rules_go_on 1 5 c.args.blocks.now (old_entries_of c.args.blocks.now) (old_fault_of c.args.blocks.now) (old_rules_of c.args.blocks.now some)
+    c.in-Ok.ensures.finds.0) (λ files made. made) c.read_slots.ensures.finds
 
 pub returns-in-Err-clause-finds : goal.returns-in-Err-clause-finds
 returns-in-Err-clause-finds c =
     let some : 0 < length c.args.blocks.now = is_some _ _ c.is_empty.ensures c.if-is_empty.false in
-    old_image_fails c.in-Err.fault c.args.blocks.now some c.in-Err.ensures.finds
+    rules_fail 1 5 c.args.blocks.now (old_entries_of c.args.blocks.now) (old_fault_of c.args.blocks.now) (old_rules_of c.args.blocks.now some)
+    c.in-Err.fault c.in-Err.ensures.finds

@@ -2,11 +2,12 @@ use Rattle.std.proofs.Common.{◌≡◌, true}
 use Rattle.std.specs.Prelude.{length}
 use Rattle.std.specs.List.{list_all}
 use Rattle.edi_migrate.specs.OldFiles.{is_old_stored}
-use Rattle.edi_migrate.proofs.OldRules.{OldProgress}
+use Rattle.edi_migrate.specs.OldImage.{old_entries_from}
+use Rattle.edi_image.proofs.Versions.{Progress}
 use Rattle.edi_migrate.proofs.old.read_slots.Given as goal
 
 abbrev pub invariant-loop-slot : goal.invariant-loop-slot
 invariant-loop-slot l = record {
-  progress : OldProgress l.blocks l.slot l.used.items l.files.items;
+  progress : Progress 5 64 l.blocks (old_entries_from l.blocks) l.slot l.used.items l.files.items;
   stored : list_all (is_old_stored (length l.blocks)) l.files.items ≡ true;
 }
