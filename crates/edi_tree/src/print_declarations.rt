@@ -1,11 +1,10 @@
 //! Printing of headings, procedures and modules.
 
 ghost use Rattle.std.specs.Prelude.{◌≡◌, OnOk};
-ghost use Rattle.edi_tree.specs.View.{declaration_of, declarations_of, heading_of, item_of, member_of, members_of, module_of, param_of, params_of};
-ghost use Rattle.edi_tree.specs.View.{procedure_of};
+ghost use Rattle.edi_tree.specs.View.{declaration_of, heading_of, item_of, member_of, module_of, param_of, params_of, procedure_of};
 ghost use Rattle.edi_tree.specs.Printing as spec;
 
-use crate::declarations::{Declaration, Declarations, Item, Member, Members, Module, Procedure};
+use crate::declarations::{Declaration, Item, Member, Module, Procedure};
 use crate::headings::{Heading, Param, Params};
 use crate::names::Name;
 use crate::printer::Printer;
@@ -74,20 +73,12 @@ impl Printer {
         ensures exact { OnOk result (self.new ≡ spec.print_procedure (procedure_of procedure.now) self.old) }
     {
         self.heading(alloc, &procedure.heading)?;
-        self.declarations(alloc, &procedure.declarations)?;
+        for declaration in procedure.declarations.items() {
+            self.declaration(alloc, declaration)?;
+        }
         self.word(alloc, b"begin")?;
         self.list(alloc, &procedure.list)?;
         self.symbol(alloc, b"end", Some(procedure.end))
-    }
-
-    #[cycle(print_procedure)]
-    fn declarations(&mut self, alloc: Global, declarations: &Declarations) -> Result<(), AllocError>
-        ensures exact { OnOk result (self.new ≡ spec.print_declarations (declarations_of declarations.now) self.old) }
-    {
-        for declaration in declarations.items() {
-            self.declaration(alloc, declaration)?;
-        }
-        Ok(())
     }
 
     #[cycle(print_procedure)]
@@ -125,20 +116,12 @@ impl Printer {
         ensures exact { OnOk result (self.new ≡ spec.print_module (module_of «module».now) self.old) }
     {
         self.word(alloc, b"module")?;
-        self.members(alloc, &module.members)?;
+        for member in module.members.items() {
+            self.member(alloc, member)?;
+        }
         self.word(alloc, b"begin")?;
         self.list(alloc, &module.list)?;
         self.word(alloc, b"end")
-    }
-
-    #[cycle(print_procedure)]
-    fn members(&mut self, alloc: Global, members: &Members) -> Result<(), AllocError>
-        ensures exact { OnOk result (self.new ≡ spec.print_members (members_of members.now) self.old) }
-    {
-        for member in members.items() {
-            self.member(alloc, member)?;
-        }
-        Ok(())
     }
 
     #[cycle(print_procedure)]

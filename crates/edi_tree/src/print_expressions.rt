@@ -1,13 +1,11 @@
 //! Printing of expressions.
 
 ghost use Rattle.std.specs.Prelude.{◌≡◌, OnOk};
-ghost use Rattle.edi_tree.specs.View.{addend_of, args_of, comparison_of, expr_of, exprs_of, factor_of, multiplier_of, selector_of, simple_of, term_of};
-ghost use Rattle.edi_tree.specs.View.{variable_of};
+ghost use Rattle.edi_tree.specs.View.{args_of, comparison_of, expr_of, exprs_of, factor_of, selector_of, simple_of, term_of, variable_of};
 ghost use Rattle.edi_tree.specs.Printing as spec;
 
 use crate::expressions::{
-    Addend, Args, Comparison, Expr, Exprs, Factor, Multiplier, Root, Selector, Sign, Simple, Term,
-    Variable,
+    Args, Comparison, Expr, Exprs, Factor, Root, Selector, Sign, Simple, Term, Variable,
 };
 use crate::printer::{Printer, addition_text, multiplication_text, relation_text};
 use std::alloc::{AllocError, Global};
@@ -53,17 +51,10 @@ impl Printer {
         self.sign(alloc, simple.sign)?;
         self.term(alloc, &simple.first)?;
         for addend in simple.more.items() {
-            self.addend(alloc, addend)?;
+            self.symbol(alloc, addition_text(addend.operator), Some(addend.line))?;
+            self.term(alloc, &addend.term)?;
         }
         Ok(())
-    }
-
-    #[cycle(print_expr)]
-    fn addend(&mut self, alloc: Global, addend: &Addend) -> Result<(), AllocError>
-        ensures exact { OnOk result (self.new ≡ spec.print_addend (addend_of addend.now) self.old) }
-    {
-        self.symbol(alloc, addition_text(addend.operator), Some(addend.line))?;
-        self.term(alloc, &addend.term)
     }
 
     #[cycle(print_expr)]
@@ -72,21 +63,14 @@ impl Printer {
     {
         self.factor(alloc, &term.first)?;
         for multiplier in term.more.items() {
-            self.multiplier(alloc, multiplier)?;
+            self.symbol(
+                alloc,
+                multiplication_text(multiplier.operator),
+                Some(multiplier.line),
+            )?;
+            self.factor(alloc, &multiplier.factor)?;
         }
         Ok(())
-    }
-
-    #[cycle(print_expr)]
-    fn multiplier(&mut self, alloc: Global, multiplier: &Multiplier) -> Result<(), AllocError>
-        ensures exact { OnOk result (self.new ≡ spec.print_multiplier (multiplier_of multiplier.now) self.old) }
-    {
-        self.symbol(
-            alloc,
-            multiplication_text(multiplier.operator),
-            Some(multiplier.line),
-        )?;
-        self.factor(alloc, &multiplier.factor)
     }
 
     #[cycle(print_expr)]

@@ -1,13 +1,13 @@
 //! Printing of statements.
 
 ghost use Rattle.std.specs.Prelude.{◌≡◌, OnOk};
-ghost use Rattle.edi_tree.specs.View.{assignment_of, branch_of, branches_of, call_of, cobegin_of, condition_of, conditions_of, list_of, statement_of, when_of};
+ghost use Rattle.edi_tree.specs.View.{branch_of, branches_of, cobegin_of, condition_of, conditions_of, list_of, statement_of};
+ghost use Rattle.edi_tree.specs.Spelled.{just};
+ghost use Rattle.edi_lex.specs.declared.symbol.Symbol.TheVariants as is;
 ghost use Rattle.edi_tree.specs.Printing as spec;
 
 use crate::printer::Printer;
-use crate::statements::{
-    Assignment, Branch, Branches, Call, Cobegin, Condition, Conditions, List, Statement, When,
-};
+use crate::statements::{Branch, Branches, Cobegin, Condition, Conditions, List, Statement};
 use std::alloc::{AllocError, Global};
 
 impl Printer {
@@ -29,60 +29,46 @@ impl Printer {
     {
         match statement {
             Statement::Skip => self.word(alloc, b"skip"),
-            Statement::Assignment(assignment) => self.assignment(alloc, assignment),
-            Statement::Call(call) => self.call(alloc, call),
-            Statement::If(conditions) => {
-                self.word(alloc, b"if")?;
-                self.conditions(alloc, conditions)?;
-                self.word(alloc, b"end")
+            Statement::Assignment(assignment) => {
+                self.variable(alloc, &assignment.variable)?;
+                self.symbol(alloc, b":=", Some(assignment.line))?;
+                self.expr(alloc, &assignment.expr)
             }
-            Statement::While(conditions) => {
-                self.word(alloc, b"while")?;
-                self.conditions(alloc, conditions)?;
-                self.word(alloc, b"end")
+            Statement::Call(call) => {
+                self.name(alloc, &call.name)?;
+                match &call.args {
+                    Some(args) => self.args(alloc, args),
+                    None => Ok(()),
+                }
             }
-            Statement::When(when) => self.when(alloc, when),
+            Statement::If(conditions) => self.conditions(alloc, b"if", None, conditions),
+            Statement::While(conditions) => self.conditions(alloc, b"while", None, conditions),
+            Statement::When(when) => {
+                self.conditions(alloc, b"when", Some(when.line), &when.conditions)
+            }
             Statement::Cobegin(cobegin) => self.cobegin(alloc, cobegin),
         }
     }
 
-    fn assignment(&mut self, alloc: Global, assignment: &Assignment) -> Result<(), AllocError>
-        ensures exact { OnOk result (self.new ≡ spec.print_statement (assignment_of assignment.now) self.old) }
-    {
-        self.variable(alloc, &assignment.variable)?;
-        self.symbol(alloc, b":=", Some(assignment.line))?;
-        self.expr(alloc, &assignment.expr)
-    }
-
-    fn call(&mut self, alloc: Global, call: &Call) -> Result<(), AllocError>
-        ensures exact { OnOk result (self.new ≡ spec.print_statement (call_of call.now) self.old) }
-    {
-        self.name(alloc, &call.name)?;
-        match &call.args {
-            Some(args) => self.args(alloc, args),
-            None => Ok(()),
-        }
-    }
-
+    // The word that opens conditions, on this line if its line is kept; the conditions, and `end`.
     #[cycle(print_list)]
-    fn when(&mut self, alloc: Global, when: &When) -> Result<(), AllocError>
-        ensures exact { OnOk result (self.new ≡ spec.print_statement (when_of when.now) self.old) }
+    fn conditions(
+        &mut self,
+        alloc: Global,
+        opening: &[u8],
+        line: Option<u16>,
+        conditions: &Conditions,
+    ) -> Result<(), AllocError>
+        ensures exact { OnOk result
+            (self.new ≡ spec.put (just is.End) (spec.print_conditions (conditions_of conditions.now) (spec.put_text opening.now line self.old))) }
     {
-        self.symbol(alloc, b"when", Some(when.line))?;
-        self.conditions(alloc, &when.conditions)?;
-        self.word(alloc, b"end")
-    }
-
-    #[cycle(print_list)]
-    fn conditions(&mut self, alloc: Global, conditions: &Conditions) -> Result<(), AllocError>
-        ensures exact { OnOk result (self.new ≡ spec.print_conditions (conditions_of conditions.now) self.old) }
-    {
+        self.symbol(alloc, opening, line)?;
         self.condition(alloc, &conditions.first)?;
         for condition in conditions.more.items() {
             self.word(alloc, b"else")?;
             self.condition(alloc, condition)?;
         }
-        Ok(())
+        self.word(alloc, b"end")
     }
 
     #[cycle(print_list)]

@@ -1,23 +1,24 @@
 //! Printing of constants, types and lists of variables.
 
-ghost use Rattle.std.specs.Prelude.{◌≡◌, OnOk};
+ghost use Rattle.std.specs.Prelude.{◌≡◌, None, OnOk};
 ghost use Rattle.edi_tree.specs.Sequences.{items_of};
+ghost use Rattle.edi_tree.specs.Spelled.{name_mark};
 ghost use Rattle.edi_tree.specs.View.{const_list_of, group_of, groups_of, names, type_decl_of, var_list_of};
 ghost use Rattle.edi_tree.specs.Printing as spec;
-ghost use Rattle.edi_tree.specs.declared.types.TypeDecl.TheVariants as type_decl;
 
 use crate::constants::{ConstDecl, ConstList, Constant};
 use crate::names::{Name, Names};
 use crate::printer::Printer;
-use crate::types::{Array, Enum, Group, Groups, Record, Set, TypeDecl, VarList};
+use crate::types::{Array, Group, Groups, TypeDecl, VarList};
 use std::alloc::{AllocError, Global};
 
 impl Printer {
-    // The further names of a list, each behind a comma.
-    fn names(&mut self, alloc: Global, list: &Names) -> Result<(), AllocError>
-        ensures exact { OnOk result (self.new ≡ spec.print_names (names (items_of list.now)) self.old) }
+    // The names of a list, with commas between them.
+    fn names(&mut self, alloc: Global, first: &Name, more: &Names) -> Result<(), AllocError>
+        ensures exact { OnOk result (self.new ≡ spec.print_names (names (items_of more.now)) (spec.put (name_mark first.now) self.old)) }
     {
-        for name in list.items() {
+        self.name(alloc, first)?;
+        for name in more.items() {
             self.word(alloc, b",")?;
             self.name(alloc, name)?;
         }
@@ -63,43 +64,29 @@ impl Printer {
     pub(crate) fn group(&mut self, alloc: Global, group: &Group) -> Result<(), AllocError>
         ensures exact { OnOk result (self.new ≡ spec.print_group (group_of group.now) self.old) }
     {
-        self.name(alloc, &group.first)?;
-        self.names(alloc, &group.more)?;
+        self.names(alloc, &group.first, &group.more)?;
         self.word(alloc, b":")?;
         self.name(alloc, &group.type_name)
     }
 
-    // The further groups of a list, each behind a semicolon.
-    fn groups(&mut self, alloc: Global, groups: &Groups) -> Result<(), AllocError>
-        ensures exact { OnOk result (self.new ≡ spec.print_groups (groups_of groups.now) self.old) }
+    // The groups of a list, with semicolons between them.
+    fn groups(&mut self, alloc: Global, first: &Group, more: &Groups) -> Result<(), AllocError>
+        ensures exact { OnOk result (self.new ≡ spec.print_groups (groups_of more.now) (spec.print_group (group_of first.now) self.old)) }
     {
-        for group in groups.items() {
+        self.group(alloc, first)?;
+        for group in more.items() {
             self.word(alloc, b";")?;
             self.group(alloc, group)?;
         }
         Ok(())
     }
 
-    fn enumeration(&mut self, alloc: Global, decl: &Enum) -> Result<(), AllocError>
-        ensures exact { OnOk result (self.new ≡ spec.print_type_decl (type_decl_of (type_decl.Enum decl.now)) self.old) }
+    // The word with which a declaration of a type begins, and the name.
+    fn declared(&mut self, alloc: Global, word: &[u8], name: &Name) -> Result<(), AllocError>
+        ensures exact { OnOk result (self.new ≡ spec.put (name_mark name.now) (spec.put_text word.now None self.old)) }
     {
-        self.word(alloc, b"enum")?;
-        self.name(alloc, &decl.name)?;
-        self.word(alloc, b"(")?;
-        self.name(alloc, &decl.first)?;
-        self.names(alloc, &decl.more)?;
-        self.word(alloc, b")")
-    }
-
-    fn record(&mut self, alloc: Global, decl: &Record) -> Result<(), AllocError>
-        ensures exact { OnOk result (self.new ≡ spec.print_type_decl (type_decl_of (type_decl.Record decl.now)) self.old) }
-    {
-        self.word(alloc, b"record")?;
-        self.name(alloc, &decl.name)?;
-        self.word(alloc, b"(")?;
-        self.group(alloc, &decl.first)?;
-        self.groups(alloc, &decl.more)?;
-        self.word(alloc, b")")
+        self.word(alloc, word)?;
+        self.name(alloc, name)
     }
 
     fn name_in_parentheses(&mut self, alloc: Global, name: &Name) -> Result<(), AllocError>
@@ -121,31 +108,31 @@ impl Printer {
         self.word(alloc, b"]")
     }
 
-    fn array(&mut self, alloc: Global, decl: &Array) -> Result<(), AllocError>
-        ensures exact { OnOk result (self.new ≡ spec.print_type_decl (type_decl_of (type_decl.Array decl.now)) self.old) }
-    {
-        self.word(alloc, b"array")?;
-        self.name(alloc, &decl.name)?;
-        self.bounds(alloc, decl)?;
-        self.name_in_parentheses(alloc, &decl.element)
-    }
-
-    fn set(&mut self, alloc: Global, decl: &Set) -> Result<(), AllocError>
-        ensures exact { OnOk result (self.new ≡ spec.print_type_decl (type_decl_of (type_decl.Set decl.now)) self.old) }
-    {
-        self.word(alloc, b"set")?;
-        self.name(alloc, &decl.name)?;
-        self.name_in_parentheses(alloc, &decl.base)
-    }
-
     pub(crate) fn type_decl(&mut self, alloc: Global, decl: &TypeDecl) -> Result<(), AllocError>
         ensures exact { OnOk result (self.new ≡ spec.print_type_decl (type_decl_of decl.now) self.old) }
     {
         match decl {
-            TypeDecl::Enum(decl) => self.enumeration(alloc, decl),
-            TypeDecl::Record(decl) => self.record(alloc, decl),
-            TypeDecl::Array(decl) => self.array(alloc, decl),
-            TypeDecl::Set(decl) => self.set(alloc, decl),
+            TypeDecl::Enum(decl) => {
+                self.declared(alloc, b"enum", &decl.name)?;
+                self.word(alloc, b"(")?;
+                self.names(alloc, &decl.first, &decl.more)?;
+                self.word(alloc, b")")
+            }
+            TypeDecl::Record(decl) => {
+                self.declared(alloc, b"record", &decl.name)?;
+                self.word(alloc, b"(")?;
+                self.groups(alloc, &decl.first, &decl.more)?;
+                self.word(alloc, b")")
+            }
+            TypeDecl::Array(decl) => {
+                self.declared(alloc, b"array", &decl.name)?;
+                self.bounds(alloc, decl)?;
+                self.name_in_parentheses(alloc, &decl.element)
+            }
+            TypeDecl::Set(decl) => {
+                self.declared(alloc, b"set", &decl.name)?;
+                self.name_in_parentheses(alloc, &decl.base)
+            }
         }
     }
 
@@ -153,7 +140,6 @@ impl Printer {
         ensures exact { OnOk result (self.new ≡ spec.print_var_list (var_list_of list.now) self.old) }
     {
         self.word(alloc, b"var")?;
-        self.group(alloc, &list.first)?;
-        self.groups(alloc, &list.more)
+        self.groups(alloc, &list.first, &list.more)
     }
 }
