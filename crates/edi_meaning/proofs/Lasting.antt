@@ -41,12 +41,9 @@ IsOver outcome.standstill n = ⊥
 IsOver (outcome.bad address) n = ⊥
 
 pub own_over : (e : Ending) (n : ℕ) → IsOver e n → IsOwn e
-own_over outcome.done n h = tt
-own_over (outcome.halted line) n h = tt
-own_over (outcome.failed c line) n h = tt
-own_over outcome.turns n h = tt
 own_over outcome.standstill n h = h
 own_over (outcome.bad address) n h = h
+own_over e n h = tt
 
 pub spent_over : (e : Ending) (n : ℕ) → IsOver e n → e ≡ outcome.turns → n ≡ 0
 spent_over outcome.done n h e = absurd (cc)

@@ -71,6 +71,11 @@ module _ (unit : ProgramUnit) (p : Name) (size : ℕ) (store : Store) where
   if_pure true f g p q = record { result = p.result; is = p.is }
   if_pure false f g p q = record { result = q.result; is = q.is }
 
+  -- a run and what comes behind it, neither of which calls a function
+  both_pure : {A B : Type 0} (a b : Bool) (f : Deeper → World → Evaluation A) (g : A → Deeper → World → Evaluation B) → (a ≡ false → Pure store f)
+      → (b ≡ false → (x : A) → Pure store (g x)) → (a || b) ≡ false → Pure store (λ deeper w. f deeper w >>= λ x w. g x deeper w)
+  both_pure a b f g p q h = then_run store f g (p (no_left a b h)) (q (no_right a b h))
+
   load_pure : (v : Place) → Pure store (λ deeper w. designated unit p size deeper v w)
       → Pure store (λ deeper w. designated unit p size deeper v w >>= λ d w. gives (get w.store d.at) w)
   load_pure v q = then_run store (λ deeper w. designated unit p size deeper v w) (λ d deeper w. gives (get w.store d.at) w) q
@@ -91,9 +96,8 @@ module _ (unit : ProgramUnit) (p : Name) (size : ℕ) (store : Store) where
         (expression_pure e h) (λ v. pure store (negation v))
     expression_pure (tree.sign_of e line) h = then_run store (λ deeper w. expression unit p size deeper e w) (λ v deeper w. in_range line (sign v) w)
         (expression_pure e h) (λ v. range_pure store line (sign v))
-    expression_pure (tree.chain e ls) h =
-        then_run store (λ deeper w. expression unit p size deeper e w) (λ v deeper w. linked unit p size deeper v ls w)
-        (expression_pure e (no_left (calls e) (links_call ls) h)) (λ v. linked_pure v ls (no_right (calls e) (links_call ls) h))
+    expression_pure (tree.chain e ls) h = both_pure (calls e) (links_call ls) (λ deeper w. expression unit p size deeper e w)
+        (λ v deeper w. linked unit p size deeper v ls w) (expression_pure e) (λ h v. linked_pure v ls h) h
     expression_pure (tree.make of es line) h =
         if_pure (is_set_shape (shape_at unit.types of)) (λ deeper w. members_of unit p size deeper [] es line w >>= λ set w. gives (members set) w)
         (λ deeper w. expressions unit p size deeper es w >>= λ vs w. gives (compound (values vs)) w)
@@ -125,9 +129,8 @@ module _ (unit : ProgramUnit) (p : Name) (size : ℕ) (store : Store) where
 
     linked_pure : (v : Value) (ls : Links) → links_call ls ≡ false → Pure store (λ deeper w. linked unit p size deeper v ls w)
     linked_pure v tree.no_link h = pure store v
-    linked_pure v (tree.link_then l ls) h =
-        then_run store (λ deeper w. operated unit p size deeper v l w) (λ v deeper w. linked unit p size deeper v ls w)
-        (operated_pure v l (no_left (link_calls l) (links_call ls) h)) (λ v. linked_pure v ls (no_right (link_calls l) (links_call ls) h))
+    linked_pure v (tree.link_then l ls) h = both_pure (link_calls l) (links_call ls) (λ deeper w. operated unit p size deeper v l w)
+        (λ v deeper w. linked unit p size deeper v ls w) (operated_pure v l) (λ h v. linked_pure v ls h) h
 
     operated_pure : (v : Value) (l : Link) → link_calls l ≡ false → Pure store (λ deeper w. operated unit p size deeper v l w)
     operated_pure v (tree.link o e line) h =
@@ -140,9 +143,8 @@ module _ (unit : ProgramUnit) (p : Name) (size : ℕ) (store : Store) where
 
     parts_pure : (d : Designated) (ps : Parts) → parts_call ps ≡ false → Pure store (λ deeper w. parts unit p size deeper d ps w)
     parts_pure d tree.no_part h = pure store d
-    parts_pure d (tree.part_then q qs) h =
-        then_run store (λ deeper w. part unit p size deeper d q w) (λ d deeper w. parts unit p size deeper d qs w)
-        (part_pure d q (no_left (part_calls q) (parts_call qs) h)) (λ d. parts_pure d qs (no_right (part_calls q) (parts_call qs) h))
+    parts_pure d (tree.part_then q qs) h = both_pure (part_calls q) (parts_call qs) (λ deeper w. part unit p size deeper d q w)
+        (λ d deeper w. parts unit p size deeper d qs w) (part_pure d q) (λ h d. parts_pure d qs h) h
 
     part_pure : (d : Designated) (q : Part) → part_calls q ≡ false → Pure store (λ deeper w. part unit p size deeper d q w)
     part_pure d (tree.field n) h = pure store _

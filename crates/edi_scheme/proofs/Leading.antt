@@ -101,17 +101,15 @@ module _ (words : List ℕ) (types : List Shape) (blocks : List Block) (headings
         let right = at + code_length (decision o 0) in
         let end = right + expression_length types blocks b e in
         let onward = end + code_length (operation types t o line) in
-        let c1 = decision o onward in
         let c2 = expression_code types blocks entry b right e in
         let c3 = operation types t o line in
         let c4 = links_code types blocks entry b onward (operator_type o t) ls in
-        let h2 = covers_back (Good words) c1 (c2 ++ (c3 ++ c4)) at _ (long.decision_length o onward) h in
-        let h3 = covers_back (Good words) c2 (c3 ++ c4) right _ (long.expression_is_long types blocks entry b e right) h2 in
-        let h4 = covers_back (Good words) c3 c4 end _ (long_of c3) h3 in
+        let e2 = long.expression_is_long types blocks entry b e right in
+        let h2 = covers_back (Good words) (decision o onward) (c2 ++ (c3 ++ c4)) at _ (long.decision_length o onward) h in
+        let h4 = covers_back (Good words) c3 c4 end _ (long_of c3) (covers_back (Good words) c2 (c3 ++ c4) right _ e2 h2) in
         leads_append words _ (long.decision_length o onward) (decision_leads words o at onward (omega arith) (covers_start (Good words) c4 onward h4))
-        (leads_append words _ (long.expression_is_long types blocks entry b e right)
-        (expression_leads e right k.1 (covers_front (Good words) c2 (c3 ++ c4) right h2))
-        (leads_append words _ (long_of c3) (leads_plain words end (operation_plain types t o line)) (links_lead (operator_type o t) ls onward k.2 h4)))
+        (behind c2 (c3 ++ c4) right _ e2 (expression_leads e right k.1)
+        (behind c3 c4 end _ (long_of c3) (λ h. leads_plain words end (operation_plain types t o line)) (links_lead (operator_type o t) ls onward k.2)) h2)
 
     place_leads : (p : Place) (at : ℕ) → PlaceFits types blocks headings b p → Covers (Good words) (place_code types blocks entry b at p) at
         → Leads words (place_code types blocks entry b at p) at

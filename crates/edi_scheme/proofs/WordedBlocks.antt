@@ -46,13 +46,10 @@ module _ (unit : ProgramUnit) (fits : Fits unit) (parts : HaveParts unit.types) 
   abbrev blocks : List Block
   blocks = unit.blocks
 
-  abbrev limit : ℕ
-  limit = entry unit.types unit.blocks (length unit.blocks)
-
-  limited : limit < 2 ^ 32
+  limited : entry types blocks (length blocks) < 2 ^ 32
   limited = let long = (blocks_are_long types blocks (length blocks)).is in omega (arith, small, long)
 
-  entries : (n : ℕ) → n < length blocks → entry types blocks n ≤ limit
+  entries : (n : ℕ) → n < length blocks → entry types blocks n ≤ entry types blocks (length blocks)
   entries n h = entry_later types blocks n (length blocks) (omega (arith, h))
 
   frame_words : (n : ℕ) → n < length blocks → Words (words_of (entry_of types (block_at blocks n))) × Words (words_of (return_of types (block_at blocks n)))
@@ -73,6 +70,7 @@ module _ (unit : ProgramUnit) (fits : Fits unit) (parts : HaveParts unit.types) 
       let at = entry types blocks n in
       let list = acts_length types blocks n (block_at blocks n).body in
       let frame = frame_words n h in
+      let limit = entry types blocks (length blocks) in
       let body = acts_small types fits.table parts fits.shapes blocks fits.headings fits.fits_blocks (entry types blocks) limit limited entries n h
       (block_at blocks n).body in
       let last = entry_later types blocks (suc n) (length blocks) (omega (arith, h)) in
