@@ -68,12 +68,13 @@ few_marks t slot s h = omega (arith, h.counted, marked_few t (slot ∷ ready_slo
 
 -- the same stretch of the same activity
 pub stretches_same : (words store : List ℕ) (live live' left : ℕ) (first : Bool) (a b : Activity) (old new : Option State) (pause : Pause)
-    (now : State → Running) (c : Bool) → live ≡ live' → a ≡ b →
-    WhereTold old new (λ s t. Stretches words live first (running_in store a s left) false pause (now t) c)
+    (now : State → Running) (c d : Bool) → live ≡ live' → a ≡ b → d ≡ false →
+    WhereTold old new (λ s t. Stretches words live first (running_in store a s left) d pause (now t) c)
     → WhereTold old new (λ s t. Stretches words live' first (running_in store b s left) false pause (now t) c)
-stretches_same words store live live' left first a b old new pause now c e f h =
+stretches_same words store live live' left first a b old new pause now c d e f k h =
     subst (λ x. WhereTold old new (λ s t. Stretches words live' first (running_in store x s left) false pause (now t) c)) f
-    (subst (λ n. WhereTold old new (λ s t. Stretches words n first (running_in store a s left) false pause (now t) c)) e h)
+    (subst (λ n. WhereTold old new (λ s t. Stretches words n first (running_in store a s left) false pause (now t) c)) e
+    (subst (λ x. WhereTold old new (λ s t. Stretches words live first (running_in store a s left) x pause (now t) c)) k h))
 
 -- the process goes on as its entry says
 runs : (m : Machine) (store : List ℕ) (s : State) (left : ℕ) (process : Process) (forks : ℕ) → m.memory ≡ store → m.system ≡ s → m.turns ≡ left →

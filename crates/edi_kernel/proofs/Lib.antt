@@ -6,6 +6,7 @@ pub mod Deaths
 pub mod Lists
 pub mod Effects
 pub mod Steps
+pub mod Phases
 pub mod Stretches
 pub mod Walks
 pub mod Switches

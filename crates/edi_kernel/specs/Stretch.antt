@@ -1,5 +1,5 @@
 -- Words of contracts. What a taken process does until it gives way: a stretch of steps of the one activity.
-use Rattle.std.specs.Prelude.{◌≡◌, ℕ, zero, suc, ◌+◌, ◌-◌, ◌<◌, ◌≤◌, ◌⊎◌, Bool, true, false, ◌&&◌, nat_eq, List, length, Option, Some, None, ⊤}
+use Rattle.std.specs.Prelude.{◌≡◌, ℕ, zero, suc, ◌+◌, ◌-◌, ◌<◌, ◌≤◌, ◌⊎◌, Bool, true, false, ◌&&◌, ◌||◌, nat_eq, List, length, Option, Some, None, ⊤}
 use Rattle.edi_told.specs.Faults.{CountRose}
 use Rattle.edi_calls.specs.declared.ends.Outside.{Outside}
 use Rattle.edi_calls.specs.declared.kinds.Cause.{Cause}
@@ -23,6 +23,7 @@ use Rattle.edi_kernel.specs.declared.ends.Ending.{Ending}
 use Rattle.edi_kernel.specs.declared.ends.Ending.TheVariants as ending
 use Rattle.edi_kernel.specs.declared.stretch.Pause.{Pause}
 use Rattle.edi_kernel.specs.declared.stretch.Pause.TheVariants as pause
+use Rattle.edi_kernel.specs.declared.stretch.Progress.{Progress}
 
 -- the activity with the memory, the system and the turns that are left
 abbrev pub running_in : List ℕ → Activity → State → ℕ → Running
@@ -116,6 +117,31 @@ abbrev pub clears_after : StepEnd → (before after : ℕ) → Bool
 clears_after end.On before after = nat_eq before 1 && nat_eq after 0
 clears_after (end.Turn kind) before after = goes_on kind
 clears_after end before after = false
+
+-- whether marks were taken away, of an activity that goes on: as it is noted, or at the end of the phase in which it began
+abbrev pub cleared_by : (noted phase : Bool) → (held : ℕ) → Bool
+cleared_by noted phase held = noted || (phase && nat_eq held 0)
+
+abbrev pub cleared_in : Progress → Bool
+cleared_in p = cleared_by p.cleared p.phase p.activity.held
+
+-- the same of an activity that may pause: then it is noted
+abbrev pub cleared_of : Option Pause → (noted phase : Bool) → (held : ℕ) → Bool
+cleared_of None noted phase held = cleared_by noted phase held
+cleared_of (Some pause) noted phase held = noted
+
+abbrev pub cleared_at : Option Pause → Progress → Bool
+cleared_at result p = cleared_of result p.cleared p.phase p.activity.held
+
+-- what is noted after an instruction that ended so, before which the activity held so many phases and calls
+abbrev pub noted_after : StepEnd → (noted phase : Bool) → (held : ℕ) → Bool
+noted_after end.On noted phase held = noted
+noted_after (end.Turn kind) noted phase held = goes_on kind || cleared_by noted phase held
+noted_after end noted phase held = cleared_by noted phase held
+
+-- an activity that is in a phase began in it, where no marks are noted as taken away
+abbrev pub IsInPhase : Progress → Type 0
+IsInPhase p = p.activity.held ≡ 1 → (p.cleared || p.phase) ≡ true
 
 -- ---- what the code does is what the definition says
 

@@ -194,10 +194,12 @@ impl KernelState {
         ensures lasts { CallsLast C.faults C.references C.leads calls.old calls.new }
         ensures ordered { IsOrdered result.1.activity }
     {
+        let activity = self.table.resume(slot);
         let mut progress = Progress {
-            activity: self.table.resume(slot),
+            activity,
             left,
             cleared: false,
+            phase: activity.held == 1,
         };
         let live = self.table.live();
         let pause = advance(&mut self.store, &mut progress, code, live, slot == 0, calls);

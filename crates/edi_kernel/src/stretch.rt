@@ -10,13 +10,16 @@ ghost use Rattle.edi_kernel.specs.Stretch.{
   CallsLast,
   Falls,
   OneStep,
+  IsInPhase,
   IsNoStandstill,
   Spends,
   Stretches,
-  clears_after,
+  cleared_at,
+  cleared_in,
   failure_of,
   is_standstill,
   left_after,
+  noted_after,
   pause_by,
   pause_of,
   running_in,
@@ -38,12 +41,14 @@ pub(crate) enum Pause {
 }
 
 /// What changes while a process goes on: its activity, the turns that are left, and whether anything has happened that
-/// takes all marks away.
+/// takes all marks away. While the process goes on the end of the critical phase in which it began is not noted, so that
+/// the path of an instruction is short: that `phase` is over is seen in `held`.
 #[derive(Clone, Copy)]
 pub(crate) struct Progress {
     pub(crate) activity: Activity,
     pub(crate) left: u64,
     pub(crate) cleared: bool,
+    pub(crate) phase: bool,
 }
 
 /// How a program ends that fails for this cause at this line, or halts there.
@@ -99,19 +104,47 @@ fn turns_after(end: StepEnd, left: u64) -> u64
     }
 }
 
-/// Whether an instruction that ended so takes the marks away, where `held` was `before` and is `after`: a turn of a
-/// process that goes on does, and so does the end of a critical phase.
-fn clears(end: StepEnd, before: u16, after: u16) -> bool
-    ensures { result ≡ clears_after end before after }
+/// Whether marks are noted as taken away after an instruction that ended so, before which `held` was so great and they were
+/// noted as `cleared`: a turn of a process that goes on takes them away, and so did the end of its phase.
+#[inline(always)]
+fn cleared_after(end: StepEnd, cleared: bool, phase: bool, held: u16) -> bool
+    ensures { result ≡ noted_after end cleared phase held }
 {
     match end {
-        StepEnd::On => before == 1 && after == 0,
+        StepEnd::On => cleared,
         StepEnd::Turn(TurnKind::Enter | TurnKind::End | TurnKind::Loop) => true,
-        _ => false,
+        _ => cleared || (phase && held == 0),
     }
 }
 
+/// What follows from an instruction that ended so: whether the process pauses, the turns that are left, and whether marks are
+/// noted as taken away.
+#[inline(always)]
+fn follow(
+    end: StepEnd,
+    left: u64,
+    cleared: bool,
+    phase: bool,
+    held: u16,
+) -> (Option<Pause>, u64, bool)
+    ensures pause { result.0 ≡ pause_of end left }
+    ensures standstill { IsNoStandstill result.0 }
+    ensures left { result.1 ≡ left_after end left }
+    ensures cleared { result.2 ≡ noted_after end cleared phase held }
+{
+    if let StepEnd::On = end {
+        return (None, left, cleared);
+    }
+    let pause = pause_after(end, left);
+    (
+        pause,
+        turns_after(end, left),
+        cleared_after(end, cleared, phase, held),
+    )
+}
+
 /// Executes one instruction, and tells whether the process pauses.
+#[inline(always)]
 fn instruct<C: Calls>(
     store: &mut Store,
     progress: &mut Progress,
@@ -123,9 +156,11 @@ fn instruct<C: Calls>(
     requires working { C.failed calls.old None }
     requires live { live ≤ 32 }
     requires ordered { IsOrdered progress.old.activity }
+    requires phase { IsInPhase progress.old }
     ensures exact { WhereTold (C.state calls.old) (C.state calls.new) (λ s t.
-        OneStep code.now.words live first (running_in store.old progress.old.activity s progress.old.left) progress.old.cleared
-        result (running_in store.new progress.new.activity t progress.new.left) progress.new.cleared) }
+        OneStep code.now.words live first (running_in store.old progress.old.activity s progress.old.left) (cleared_in progress.old)
+        result (running_in store.new progress.new.activity t progress.new.left) (cleared_at result progress.new)) }
+    ensures phase { result ≡ None → IsInPhase progress.new }
     ensures standstill { IsNoStandstill result }
     ensures allowed { Allows result code.now.words live first (local_of store.new progress.new.activity) }
     ensures falls { Falls result code.now.words progress.old.left progress.old.activity.pc progress.new.left progress.new.activity.pc }
@@ -139,13 +174,14 @@ fn instruct<C: Calls>(
 {
     let held = progress.activity.held;
     let end = step(store, &mut progress.activity, code, live, first, calls);
-    let pause = pause_after(end, progress.left);
-    progress.left = turns_after(end, progress.left);
-    progress.cleared |= clears(end, held, progress.activity.held);
+    let (pause, left, cleared) = follow(end, progress.left, progress.cleared, progress.phase, held);
+    progress.left = left;
+    progress.cleared = cleared;
     pause
 }
 
 /// Executes instructions until the process pauses.
+#[inline(always)]
 pub(crate) fn advance<C: Calls>(
     store: &mut Store,
     progress: &mut Progress,
@@ -157,8 +193,9 @@ pub(crate) fn advance<C: Calls>(
     requires working { C.failed calls.old None }
     requires live { live ≤ 32 }
     requires ordered { IsOrdered progress.old.activity }
+    requires phase { IsInPhase progress.old }
     ensures exact { WhereTold (C.state calls.old) (C.state calls.new) (λ s t.
-        Stretches code.now.words live first (running_in store.old progress.old.activity s progress.old.left) progress.old.cleared
+        Stretches code.now.words live first (running_in store.old progress.old.activity s progress.old.left) (cleared_in progress.old)
         result (running_in store.new progress.new.activity t progress.new.left) progress.new.cleared) }
     ensures standstill { is_standstill result ≡ false }
     ensures allowed { Allows (Some result) code.now.words live first (local_of store.new progress.new.activity) }

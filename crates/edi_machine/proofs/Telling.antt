@@ -1,12 +1,12 @@
 -- What a step's answer tells of its effect.
 use Rattle.std.proofs.Common.{◌≡◌, ℕ, ◌+◌, Bool, true, false, nat_eq, if◌then◌else◌, List, drop, Option, Some, None, refl, sym, ap, ap₂, subst, ◌∙◌, inl, inr}
-use Rattle.std.specs.Prelude.{◌&&◌}
+use Rattle.std.specs.Prelude.{◌&&◌, ◌⊎◌, ⊤}
 use Rattle.std.proofs.lemmas.Bool.{cases_eq, ne_eqb}
 use Rattle.edi_calls.specs.State.{State}
 use Rattle.edi_target.specs.Op.{Instruction, Branch, is_allowed}
 use Rattle.edi_target.specs.Fetch.{fetch}
 use Rattle.edi_target.specs.Decode.{decode, if_allowed, shaped}
-use Rattle.edi_target.specs.Effect.{Local, Effect, entering, leaving, looping, arriving, again, forking, exiting, finishing, goes, released, asks, due}
+use Rattle.edi_target.specs.Effect.{Local, Effect, forking, goes, released, asks, due}
 use Rattle.edi_target.specs.Effect.{fails, bad}
 use Rattle.edi_target.specs.Mach.{answer_at, effect_at}
 use Rattle.edi_machine.specs.declared.ends.TurnKind.TheVariants as kind
@@ -17,7 +17,7 @@ use Rattle.edi_machine.specs.Starts.{IsFork, branches_at}
 use Rattle.edi_machine.specs.Steps.{CanFork, Forks, Takes, effect_of, ends_phase, is_released}
 use Rattle.edi_machine.proofs.Laws.{Lawful, each_law}
 
-never_both : (n : ℕ) → (nat_eq n 1 && nat_eq n 0) ≡ false
+pub never_both : (n : ℕ) → (nat_eq n 1 && nat_eq n 0) ≡ false
 never_both n =
     elim (cases_eq n 1) [
       | inl one ↦ rw one refl
@@ -29,10 +29,10 @@ answer_held None answer l = refl
 answer_held (Some address) answer l = refl
 
 -- held went from one number to another
-went : (before after : ℕ) → after ≡ before → (nat_eq before 1 && nat_eq after 0) ≡ false
+pub went : (before after : ℕ) → after ≡ before → (nat_eq before 1 && nat_eq after 0) ≡ false
 went before after same = ap (λ (n : ℕ). nat_eq before 1 && nat_eq n 0) same ∙ never_both before
 
-ended : (before after : ℕ) → before ≡ 1 → after ≡ 0 → (nat_eq before 1 && nat_eq after 0) ≡ true
+pub ended : (before after : ℕ) → before ≡ 1 → after ≡ 0 → (nat_eq before 1 && nat_eq after 0) ≡ true
 ended before after one none = ap₂ (λ (m n : ℕ). nat_eq m 1 && nat_eq n 0) one none
 
 -- an activity that goes on with held gone from 1 to 0 has ended a phase, and no other has
@@ -47,6 +47,25 @@ phase_told words at end.On (fails c line) before after old new takes law = absur
 phase_told words at end.On bad before after old new takes law = absurd takes
 phase_told words at answer (released l) before after old new takes law = absurd takes
 phase_told words at answer e before after old new takes law = refl
+
+-- an activity that goes on has as many phases and calls as before, or has ended its phase
+abbrev pub StaysHeld : StepEnd → (before after : ℕ) → Type 0
+StaysHeld end.On before after = (after ≡ before) ⊎ ((before ≡ 1) × (after ≡ 0))
+StaysHeld answer before after = ⊤
+
+stays_held : (words : List ℕ) (at : ℕ) (answer : StepEnd) (e : Effect) (before after : Local) (old new : Option State) → Takes e answer before after old new
+    → Lawful words at before.held e → StaysHeld answer before.held after.held
+stays_held words at end.On (goes l) before after old new takes law = inl (ap (λ (m : Local). m.held) takes ∙ law)
+stays_held words at end.On (released l) before after old new takes law = inr (law.0, ap (λ (m : Local). m.held) takes ∙ law.1)
+stays_held words at end.On (asks number arguments address line l) before after old new takes law =
+    inl (ap (λ (m : Local). m.held) takes.2 ∙ answer_held address takes.0 l ∙ law)
+stays_held words at end.On (due turn l) before after old new takes law = absurd takes
+stays_held words at end.On (fails c line) before after old new takes law = absurd takes
+stays_held words at end.On bad before after old new takes law = absurd takes
+stays_held words at (end.Turn k) e before after old new takes law = tt
+stays_held words at (end.Fail c line) e before after old new takes law = tt
+stays_held words at (end.Bad pc) e before after old new takes law = tt
+stays_held words at end.Fault e before after old new takes law = tt
 
 -- a fork is that of the COBEGIN here
 pub forks_here : (words : List ℕ) (at held : ℕ) (e : Effect) → Lawful words at held e → Forks e words at
@@ -107,6 +126,10 @@ module _ (code words : List ℕ) (live : ℕ) (is_first : Bool) (l : Local) (sam
   phase_of_step answer after old new takes =
       phase_told words l.pc answer (effect_of words live is_first l) l after old new takes law
       ∙ ap (λ (ws : List ℕ). is_released (effect_of ws live is_first l)) same
+
+  pub held_of_step : (answer : StepEnd) (after : Local) (old new : Option State) → Takes (effect_of words live is_first l) answer l after old new
+      → StaysHeld answer l.held after.held
+  held_of_step answer after old new takes = stays_held words l.pc answer (effect_of words live is_first l) l after old new takes law
 
   pub branches_of_step : (answer : StepEnd) (after : Local) (old new : Option State) → Takes (effect_of words live is_first l) answer l after old new
       → CanFork answer code after

@@ -1,6 +1,6 @@
 -- A stretch is one more instruction, until the last.
-use Rattle.std.proofs.Common.{arith}
-use Rattle.edi_kernel.specs.Stretch.{running_in}
+use Rattle.std.proofs.Common.{arith, refl}
+use Rattle.edi_kernel.specs.Stretch.{cleared_in, running_in}
 use Rattle.edi_kernel.proofs.Stretches.{lasts_on, told_more, told_last, spends_less}
 use Rattle.edi_kernel.proofs.stretch.advance.Goals as goal
 
@@ -10,7 +10,7 @@ returns-in-Some-clause-exact g c =
     (λ s. running_in c.args.store.now c.args.progress.now.activity s c.args.progress.now.left)
     (λ s. running_in c.stretch.store c.stretch.progress.activity s c.stretch.progress.left)
     (λ s. running_in c.instruct.new.store c.instruct.new.progress.activity s c.instruct.new.progress.left)
-    c.args.progress.now.cleared c.stretch.progress.cleared c.instruct.new.progress.cleared
+    (cleared_in c.args.progress.now) (cleared_in c.stretch.progress) c.instruct.new.progress.cleared
     _ (g.C.Calls.state c.stretch.calls) _ c.in-Some.pause c.stretch.invariant.reached c.in-Some.ensures.exact
 
 pub stretch-preserved : goal.stretch-preserved
@@ -20,11 +20,12 @@ stretch-preserved g c = record {
       (λ s. running_in c.args.store.now c.args.progress.now.activity s c.args.progress.now.left)
       (λ s. running_in c.stretch.store c.stretch.progress.activity s c.stretch.progress.left)
       (λ s. running_in c.instruct.new.store c.instruct.new.progress.activity s c.instruct.new.progress.left)
-      c.args.progress.now.cleared c.stretch.progress.cleared c.instruct.new.progress.cleared
+      (cleared_in c.args.progress.now) (cleared_in c.stretch.progress) (cleared_in c.instruct.new.progress)
       _ (g.C.Calls.state c.stretch.calls) _ c.stretch.invariant.reached c.in_default.ensures.exact;
   working = c.in_default.ensures.blame;
   lasts = lasts_on g.C.Calls.faults g.C.Calls.references g.C.Calls.leads _ _ _ c.stretch.invariant.lasts c.in_default.ensures.lasts;
   ordered = c.in_default.ensures.ordered;
+  phase = c.in_default.ensures.phase refl;
   less = omega (arith, c.in_default.ensures.less, c.stretch.invariant.less);
 }
 
