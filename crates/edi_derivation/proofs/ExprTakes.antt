@@ -24,7 +24,7 @@ use Rattle.edi_derivation.specs.Parts.{with_args, selected, relation_elements, a
 use Rattle.edi_derivation.specs.Fits.{Items, Fit}
 use Rattle.edi_derivation.proofs.Builds.{value_of, line_in, couple, factor_with}
 use Rattle.edi_derivation.proofs.Stands.{name_is, chars_is, chars_on}
-use Rattle.edi_derivation.proofs.Reading.{done, past, past_end, past_part, takes, takes_parts, takes_behind, takes_kept, Takes}
+use Rattle.edi_derivation.proofs.Reading.{done, past, past_end, past_part, takes, takes_parts, takes_behind, takes_kept, takes_within, Takes}
 
 pub relation_takes : (t : Relation × ℕ) (es : List Element) (items : Items) → Fit (relation_elements t es) items → Takes g.Relation t es items
 relation_takes (relation.Equal, line) es items h = takes_kept g.Relation 0 h.2 h.3 h.4 (couple relation.Equal) (λ P made. ((Some h.0, tt), refl, made))
@@ -67,18 +67,15 @@ string_takes (c ∷ d ∷ more) line es items h = takes g.Factor 2 (past h.2 (ap
 
 mutual
   pub expr_takes : (t : Expr) (es : List Element) (items : Items) → Fit (expr_elements t es) items → Takes g.Expr t es items
-  expr_takes (expr s c) es items h = takes_parts g.Expr 0 (simple_takes s (comparison_elements c es) items h) (comparison_takes c es)
-      (λ P made. ((s, (c, tt)), refl, made))
+  expr_takes (expr s c) es items h = takes_parts g.Expr 0 (simple_takes s _ items h) (comparison_takes c es) (λ P made. ((s, (c, tt)), refl, made))
 
   pub comparison_takes : (t : Comparison) (es : List Element) (items : Items) → Fit (comparison_elements t es) items → Takes g.Comparison t es items
-  comparison_takes (compared r line s) es items h = takes_parts g.Comparison 0 (relation_takes (r, line) (simple_elements s es) items h) (simple_takes s es)
+  comparison_takes (compared r line s) es items h = takes_parts g.Comparison 0 (relation_takes (r, line) _ items h) (simple_takes s es)
       (λ P made. (((r, line), (s, tt)), refl, made))
-  comparison_takes no_comparison es items h =
-      takes g.Comparison 1 (done h) (λ P made. (tt, refl, made))
+  comparison_takes no_comparison es items h = takes g.Comparison 1 (done h) (λ P made. (tt, refl, made))
 
   pub exprs_takes : (t : Exprs) (es : List Element) (items : Items) → Fit (exprs_elements t es) items → Takes g.Exprs t es items
-  exprs_takes (next_expr e more) es items h = takes_behind g.Exprs 0 h.2 (ap kind_of h.3.0) (expr_takes e (exprs_elements more es) h.1 h.4)
-      (exprs_takes more es)
+  exprs_takes (next_expr e more) es items h = takes_behind g.Exprs 0 h.2 (ap kind_of h.3.0) (expr_takes e _ h.1 h.4) (exprs_takes more es)
       (λ P made. ((Some h.0, (e, (more, tt))), refl, made))
   exprs_takes no_expr es items h = takes g.Exprs 1 (done h) (λ P made. (tt, refl, made))
 
@@ -88,29 +85,24 @@ mutual
       takes g.Simple 0 (past_part p1 (past_part p2 (past_part p3 (done p3.fits)))) (λ P made. ((s, (t, (ts, tt))), refl, made))
 
   pub addend_takes : (t : Addend) (es : List Element) (items : Items) → Fit (addend_elements t es) items → Takes g.Addend t es items
-  addend_takes (addend o line t) es items h = takes_parts g.Addend 0 (addition_takes (o, line) (term_elements t es) items h) (term_takes t es)
+  addend_takes (addend o line t) es items h = takes_parts g.Addend 0 (addition_takes (o, line) _ items h) (term_takes t es)
       (λ P made. (((o, line), (t, tt)), refl, made))
 
   pub addends_takes : (t : Addends) (es : List Element) (items : Items) → Fit (addends_elements t es) items → Takes g.Addends t es items
-  addends_takes (next_addend t ts) es items h = takes_parts g.Addends 0 (addend_takes t (addends_elements ts es) items h) (addends_takes ts es)
-      (λ P made. ((t, (ts, tt)), refl, made))
+  addends_takes (next_addend t ts) es items h = takes_parts g.Addends 0 (addend_takes t _ items h) (addends_takes ts es) (λ P made. ((t, (ts, tt)), refl, made))
   addends_takes no_addend es items h = takes g.Addends 1 (done h) (λ P made. (tt, refl, made))
 
   pub term_takes : (t : Term) (es : List Element) (items : Items) → Fit (term_elements t es) items → Takes g.Term t es items
-  term_takes (term f fs) es items h = takes_parts g.Term 0 (factor_takes f (multipliers_elements fs es) items h) (multipliers_takes fs es)
-      (λ P made. ((f, (fs, tt)), refl, made))
+  term_takes (term f fs) es items h = takes_parts g.Term 0 (factor_takes f _ items h) (multipliers_takes fs es) (λ P made. ((f, (fs, tt)), refl, made))
 
   pub multiplier_takes : (t : Multiplier) (es : List Element) (items : Items) → Fit (multiplier_elements t es) items → Takes g.Multiplier t es items
-  multiplier_takes (multiplier o line f) es items h = takes_parts g.Multiplier 0 (multiplication_takes (o, line) (factor_elements f es) items h)
-      (factor_takes f es)
+  multiplier_takes (multiplier o line f) es items h = takes_parts g.Multiplier 0 (multiplication_takes (o, line) _ items h) (factor_takes f es)
       (λ P made. (((o, line), (f, tt)), refl, made))
 
   pub multipliers_takes : (t : Multipliers) (es : List Element) (items : Items) → Fit (multipliers_elements t es) items → Takes g.Multipliers t es items
-  multipliers_takes (next_multiplier f fs) es items h = takes_parts g.Multipliers 0 (multiplier_takes f (multipliers_elements fs es) items h)
-      (multipliers_takes fs es)
+  multipliers_takes (next_multiplier f fs) es items h = takes_parts g.Multipliers 0 (multiplier_takes f _ items h) (multipliers_takes fs es)
       (λ P made. ((f, (fs, tt)), refl, made))
-  multipliers_takes no_multiplier es items h =
-      takes g.Multipliers 1 (done h) (λ P made. (tt, refl, made))
+  multipliers_takes no_multiplier es items h = takes g.Multipliers 1 (done h) (λ P made. (tt, refl, made))
 
   pub factor_takes : (t : Factor) (es : List Element) (items : Items) → Fit (factor_elements t es) items → Takes g.Factor t es items
   factor_takes (numeral v) es items h = takes g.Factor 0 (past h.2 (ap kind_of h.3.0) (done h.4))
@@ -135,11 +127,8 @@ mutual
       (λ P made. ((Some h.0, (Some h.4.0, (ss, tt))), ap (λ z. variable_factor (variable (root.Val z) ss)) (name_is n h.4.0 h.4.3), made))
 
   pub args_takes : (t : Args) (es : List Element) (items : Items) → Fit (args_elements t es) items → Takes g.Args t es items
-  args_takes (args e more) es items h = let p1 = expr_takes e (exprs_elements more (word is.Close ∷ level_end ∷ es)) h.1 h.4 in
-      let p2 = exprs_takes more (word is.Close ∷ level_end ∷ es) p1.rest p1.fits in
-      takes g.Args 0 (past h.2 (ap kind_of h.3.0)
-      (past_part p1 (past_part p2 (past p2.fits.2 (ap kind_of p2.fits.3.0) (past_end p2.fits.4.1 (done p2.fits.4.2))))))
-      (λ P made. ((Some h.0, (e, (more, (Some p2.fits.0, tt)))), refl, made))
+  args_takes (args e more) es items h = takes_within g.Args 0 is.Close h.2 (ap kind_of h.3.0) (expr_takes e _ h.1 h.4)
+      (exprs_takes more (word is.Close ∷ level_end ∷ es)) (λ c P made. ((Some h.0, (e, (more, (c, tt)))), refl, made))
 
   pub selector_takes : (t : Selector) (es : List Element) (items : Items) → Fit (selector_elements t es) items → Takes g.Selector t es items
   selector_takes (field line n) es items h = takes g.Selector 0 (past h.2 (ap kind_of h.3.0) (past h.4.2 (ap kind_of h.4.3.0) (done h.4.4)))
@@ -149,6 +138,6 @@ mutual
       (λ P made. ((Some h.0, (e, (Some p1.fits.0, tt))), ap (λ z. index z e) (sym h.3.1), made))
 
   pub selectors_takes : (t : Selectors) (es : List Element) (items : Items) → Fit (selectors_elements t es) items → Takes g.Selectors t es items
-  selectors_takes (next_selector s ss) es items h = takes_parts g.Selectors 0 (selector_takes s (selectors_elements ss es) items h) (selectors_takes ss es)
+  selectors_takes (next_selector s ss) es items h = takes_parts g.Selectors 0 (selector_takes s _ items h) (selectors_takes ss es)
       (λ P made. ((s, (ss, tt)), refl, made))
   selectors_takes no_selector es items h = takes g.Selectors 1 (done h) (λ P made. (tt, refl, made))

@@ -54,8 +54,7 @@ mutual
   member_takes (item_member i) es items h = takes_part g.Member 2 (item_takes i es items h) (λ P made. ((i, tt), refl, made))
 
   pub members_takes : (t : Members) (es : List Element) (items : Items) → Fit (members_elements t es) items → Takes g.Members t es items
-  members_takes (next_member m ms) es items h = takes_parts g.Members 0 (member_takes m (members_elements ms es) items h) (members_takes ms es)
-      (λ P made. ((m, (ms, tt)), refl, made))
+  members_takes (next_member m ms) es items h = takes_parts g.Members 0 (member_takes m _ items h) (members_takes ms es) (λ P made. ((m, (ms, tt)), refl, made))
   members_takes no_member es items h = takes g.Members 1 (done h) (λ P made. (tt, refl, made))
 
   pub declaration_takes : (t : Declaration) (es : List Element) (items : Items) → Fit (declaration_elements t es) items → Takes g.Declaration t es items
@@ -63,21 +62,18 @@ mutual
   declaration_takes (item_declaration i) es items h = takes_part g.Declaration 1 (item_takes i es items h) (λ P made. ((i, tt), refl, made))
 
   pub declarations_takes : (t : Declarations) (es : List Element) (items : Items) → Fit (declarations_elements t es) items → Takes g.Declarations t es items
-  declarations_takes (next_declaration d ds) es items h = takes_parts g.Declarations 0 (declaration_takes d (declarations_elements ds es) items h)
-      (declarations_takes ds es)
+  declarations_takes (next_declaration d ds) es items h = takes_parts g.Declarations 0 (declaration_takes d _ items h) (declarations_takes ds es)
       (λ P made. ((d, (ds, tt)), refl, made))
-  declarations_takes no_declaration es items h =
-      takes g.Declarations 1 (done h) (λ P made. (tt, refl, made))
+  declarations_takes no_declaration es items h = takes g.Declarations 1 (done h) (λ P made. (tt, refl, made))
 
 pub global_takes : (t : Global) (es : List Element) (items : Items) → Fit (global_elements t es) items → Takes g.Global t es items
 global_takes (const_global l) es items h = takes_part g.Global 0 (const_list_takes l es items h) (λ P made. ((l, tt), refl, made))
 global_takes (type_global d) es items h = takes_part g.Global 1 (type_decl_takes d es items h) (λ P made. ((d, tt), refl, made))
 
 pub globals_takes : (t : Globals) (es : List Element) (items : Items) → Fit (globals_elements t es) items → Takes g.Globals t es items
-globals_takes (next_global gr gs) es items h = takes_parts g.Globals 0 (global_takes gr (globals_elements gs es) items h) (globals_takes gs es)
+globals_takes (next_global gr gs) es items h = takes_parts g.Globals 0 (global_takes gr _ items h) (globals_takes gs es)
     (λ P made. ((gr, (gs, tt)), refl, made))
 globals_takes no_global es items h = takes g.Globals 1 (done h) (λ P made. (tt, refl, made))
 
 pub program_takes : (t : Program) (es : List Element) (items : Items) → Fit (program_elements t es) items → Takes g.Program t es items
-program_takes (program gs p) es items h = takes_parts g.Program 0 (globals_takes gs (procedure_elements p es) items h) (procedure_takes p es)
-    (λ P made. ((gs, (p, tt)), refl, made))
+program_takes (program gs p) es items h = takes_parts g.Program 0 (globals_takes gs _ items h) (procedure_takes p es) (λ P made. ((gs, (p, tt)), refl, made))

@@ -4,7 +4,7 @@ use Rattle.edi_lex.specs.declared.symbol.Symbol.{Symbol}
 use Rattle.edi_lex.specs.declared.symbol.Mark.{Mark}
 use Rattle.edi_tree.specs.Spelled.{on}
 use Rattle.edi_tree.specs.Spells.{StandsAsMark}
-use Rattle.edi_tree.specs.Levels.{Element}
+use Rattle.edi_tree.specs.Levels.{Element, level_end, word}
 use Rattle.edi_grammar.specs.Grammar as item
 use Rattle.edi_grammar.specs.Grammar.{Part, token, part, closing}
 use Rattle.edi_grammar.specs.Trees.{join, Built, Reads}
@@ -91,6 +91,18 @@ pub takes_behind : (k : Sort) (i : ℕ) {a : ℕ} {j l : Sort} {u : Tree j} {v :
     → Built (Option Mark) Tree k (rules k) (build k) i t P)
     → Takes k t es items
 takes_behind k i e is p then built = let q = then p.rest p.fits in takes k i (past e is (past_part p (past_part q (done q.fits)))) built
+
+-- by a rule that is a symbol, two parts and a word, and ends its level
+pub takes_within : (k : Sort) (i : ℕ) (w : Symbol) {a : ℕ} {j l : Sort} {u : Tree j} {v : Tree l} {before es : List Element} {items mid : Items} {m : Mark}
+    {t : Tree k} → items ≡ item.mark (Some m) ∷ mid → kind_of m.symbol ≡ a → Takes j u before mid
+    → ((rest : Items) → Fit before rest → Takes l v (word w ∷ level_end ∷ es) rest)
+    → ((c : Option Mark) (P : (x : List (Part Sort)) → Ts x → Type 0)
+    → P (token a ∷ part j ∷ part l ∷ token (kind_of w) ∷ item.level_end ∷ []) (Some m, (u, (v, (c, tt))))
+    → Built (Option Mark) Tree k (rules k) (build k) i t P)
+    → Takes k t es items
+takes_within k i w e is p then built = let q = then p.rest p.fits in
+    takes k i (past e is (past_part p (past_part q (past q.fits.2 (ap kind_of q.fits.3.0) (past_end q.fits.4.1 (done q.fits.4.2))))))
+    (built (Some q.fits.0))
 
 -- by a rule that is one symbol, of which the line is kept
 pub takes_kept : (k : Sort) (i : ℕ) {s : Symbol} {line : ℕ} {es : List Element} {items mid : Items} {m : Mark} → items ≡ item.mark (Some m) ∷ mid

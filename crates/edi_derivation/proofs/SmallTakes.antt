@@ -18,7 +18,7 @@ use Rattle.edi_derivation.specs.Fits.{Items, Fit}
 use Rattle.edi_derivation.proofs.Builds.{value_of, line_in, name_in}
 use Rattle.edi_derivation.proofs.Stands.{name_is, char_is}
 use Rattle.edi_derivation.proofs.Splits.{heading_split}
-use Rattle.edi_derivation.proofs.Reading.{done, past, past_end, past_part, takes, takes_part, takes_behind, Takes}
+use Rattle.edi_derivation.proofs.Reading.{done, past, past_end, past_part, takes, takes_part, takes_behind, takes_within, Takes}
 
 pub names_takes : (t : Names) (es : List Element) (items : Items) → Fit (names_elements t es) items → Takes g.Names t es items
 names_takes (next_name n ns) es items h = let p1 = names_takes ns es h.4.1 h.4.4 in
@@ -56,8 +56,7 @@ const_decls_takes (next_const_decl d ds) es items h = takes_behind g.ConstDecls 
 const_decls_takes no_const_decl es items h = takes g.ConstDecls 1 (done h) (λ P made. (tt, refl, made))
 
 pub const_list_takes : (t : ConstList) (es : List Element) (items : Items) → Fit (const_list_elements t es) items → Takes g.ConstList t es items
-const_list_takes (const_list d ds) es items h = takes_behind g.ConstList 0 h.2 (ap kind_of h.3.0) (const_decl_takes d (const_decls_elements ds es) h.1 h.4)
-    (const_decls_takes ds es)
+const_list_takes (const_list d ds) es items h = takes_behind g.ConstList 0 h.2 (ap kind_of h.3.0) (const_decl_takes d _ h.1 h.4) (const_decls_takes ds es)
     (λ P made. ((Some h.0, (d, (ds, tt))), refl, made))
 
 pub group_takes : (t : Group) (es : List Element) (items : Items) → Fit (group_elements t es) items → Takes g.Group t es items
@@ -72,8 +71,7 @@ group_takes (group n ns t) es items h = let p1 = names_takes ns (word is.Colon �
     ))
 
 pub groups_takes : (t : Groups) (es : List Element) (items : Items) → Fit (groups_elements t es) items → Takes g.Groups t es items
-groups_takes (next_group gr gs) es items h = takes_behind g.Groups 0 h.2 (ap kind_of h.3.0) (group_takes gr (groups_elements gs es) h.1 h.4)
-    (groups_takes gs es)
+groups_takes (next_group gr gs) es items h = takes_behind g.Groups 0 h.2 (ap kind_of h.3.0) (group_takes gr _ h.1 h.4) (groups_takes gs es)
     (λ P made. ((Some h.0, (gr, (gs, tt))), refl, made))
 groups_takes no_group es items h = takes g.Groups 1 (done h) (λ P made. (tt, refl, made))
 
@@ -133,8 +131,7 @@ type_decl_takes (set_decl n b) es items h = takes g.TypeDecl 3
     ))
 
 pub var_list_takes : (t : VarList) (es : List Element) (items : Items) → Fit (var_list_elements t es) items → Takes g.VarList t es items
-var_list_takes (var_list gr gs) es items h = takes_behind g.VarList 0 h.2 (ap kind_of h.3.0) (group_takes gr (groups_elements gs es) h.1 h.4)
-    (groups_takes gs es)
+var_list_takes (var_list gr gs) es items h = takes_behind g.VarList 0 h.2 (ap kind_of h.3.0) (group_takes gr _ h.1 h.4) (groups_takes gs es)
     (λ P made. ((Some h.0, (gr, (gs, tt))), refl, made))
 
 pub result_takes : (t : Option Name) (es : List Element) (items : Items) → Fit (result_elements t es) items → Takes g.Result t es items
@@ -144,20 +141,16 @@ result_takes None es items h = takes g.Result 1 (done h) (λ P made. (tt, refl, 
 
 mutual
   pub head_takes : (t : Heading) (es : List Element) (items : Items) → Fit (head_elements t es) items → Takes g.Head t es items
-  head_takes (heading n ps r) es items h = takes_behind g.Head 0 h.2 (ap kind_of h.3.0) (params_takes ps (result_elements r es) h.1 h.4) (result_takes r es)
+  head_takes (heading n ps r) es items h = takes_behind g.Head 0 h.2 (ap kind_of h.3.0) (params_takes ps _ h.1 h.4) (result_takes r es)
       (λ P made. ((Some h.0, (ps, (r, tt))), ap (λ z. heading z ps r) (name_is n h.0 h.3), made))
 
   pub params_takes : (t : Params) (es : List Element) (items : Items) → Fit (params_elements t es) items → Takes g.Params t es items
-  params_takes (params p ps) es items h = let p1 = param_takes p (more_params_elements ps (word is.Close ∷ level_end ∷ es)) h.1 h.4 in
-      let p2 = more_params_takes ps (word is.Close ∷ level_end ∷ es) p1.rest p1.fits in
-      takes g.Params 0 (past h.2 (ap kind_of h.3.0)
-      (past_part p1 (past_part p2 (past p2.fits.2 (ap kind_of p2.fits.3.0) (past_end p2.fits.4.1 (done p2.fits.4.2))))))
-      (λ P made. ((Some h.0, (p, (ps, (Some p2.fits.0, tt)))), refl, made))
+  params_takes (params p ps) es items h = takes_within g.Params 0 is.Close h.2 (ap kind_of h.3.0) (param_takes p _ h.1 h.4)
+      (more_params_takes ps (word is.Close ∷ level_end ∷ es)) (λ c P made. ((Some h.0, (p, (ps, (c, tt)))), refl, made))
   params_takes no_params es items h = takes g.Params 1 (done h) (λ P made. (tt, refl, made))
 
   pub more_params_takes : (t : MoreParams) (es : List Element) (items : Items) → Fit (more_params_elements t es) items → Takes g.MoreParams t es items
-  more_params_takes (next_param p ps) es items h = takes_behind g.MoreParams 0 h.2 (ap kind_of h.3.0) (param_takes p (more_params_elements ps es) h.1 h.4)
-      (more_params_takes ps es)
+  more_params_takes (next_param p ps) es items h = takes_behind g.MoreParams 0 h.2 (ap kind_of h.3.0) (param_takes p _ h.1 h.4) (more_params_takes ps es)
       (λ P made. ((Some h.0, (p, (ps, tt))), refl, made))
   more_params_takes no_param es items h = takes g.MoreParams 1 (done h) (λ P made. (tt, refl, made))
 

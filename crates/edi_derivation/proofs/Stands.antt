@@ -38,8 +38,10 @@ none_is_end a s e = absurd (by a e) where
   by a e = cc
 
 -- a symbol that is the only one of its kind
-pub word_at : (w : Symbol) (a : ℕ) → ((text : List ℕ) (c : ℕ) (v : ℤ) → symbol_no (symbols_with text c v) (suc a) ≡ Some w) → (o : Option Mark)
-    → kind_at o ≡ suc a → StandsAt (just w) o
+abbrev pub IsOnly : Symbol → ℕ → Type 0
+IsOnly w a = (text : List ℕ) (c : ℕ) (v : ℤ) → symbol_no (symbols_with text c v) (suc a) ≡ Some w
+
+pub word_at : (w : Symbol) (a : ℕ) → IsOnly w a → (o : Option Mark) → kind_at o ≡ suc a → StandsAt (just w) o
 word_at w a only None e = none_is_end a (just w) e
 word_at w a only (Some m) e = (
   m,
@@ -51,8 +53,7 @@ word_at w a only (Some m) e = (
   ),
 )
 
-pub kept_at : (w : Symbol) (a : ℕ) → ((text : List ℕ) (c : ℕ) (v : ℤ) → symbol_no (symbols_with text c v) (suc a) ≡ Some w) → (o : Option Mark)
-    → kind_at o ≡ suc a → StandsAt (on w (line_in o)) o
+pub kept_at : (w : Symbol) (a : ℕ) → IsOnly w a → (o : Option Mark) → kind_at o ≡ suc a → StandsAt (on w (line_in o)) o
 kept_at w a only None e = none_is_end a (on w 0) e
 kept_at w a only (Some m) e = (
   m,

@@ -27,15 +27,13 @@ after_takes alone es items h = takes g.After 2 (done h) (λ P made. (tt, refl, m
 
 mutual
   pub list_takes : (t : StatementList) (es : List Element) (items : Items) → Fit (list_elements t es) items → Takes g.StatementList t es items
-  list_takes (list s ss) es items h = takes_parts g.StatementList 0 (statement_takes s (statements_elements ss es) items h) (statements_takes ss es)
+  list_takes (list s ss) es items h = takes_parts g.StatementList 0 (statement_takes s _ items h) (statements_takes ss es)
       (λ P made. ((s, (ss, tt)), refl, made))
 
   pub statements_takes : (t : Statements) (es : List Element) (items : Items) → Fit (statements_elements t es) items → Takes g.Statements t es items
-  statements_takes (next_statement s ss) es items h = takes_behind g.Statements 0 h.2 (ap kind_of h.3.0)
-      (statement_takes s (statements_elements ss es) h.1 h.4) (statements_takes ss es)
+  statements_takes (next_statement s ss) es items h = takes_behind g.Statements 0 h.2 (ap kind_of h.3.0) (statement_takes s _ h.1 h.4) (statements_takes ss es)
       (λ P made. ((Some h.0, (s, (ss, tt))), refl, made))
-  statements_takes no_statement es items h =
-      takes g.Statements 1 (done h) (λ P made. (tt, refl, made))
+  statements_takes no_statement es items h = takes g.Statements 1 (done h) (λ P made. (tt, refl, made))
 
   pub statement_takes : (t : Statement) (es : List Element) (items : Items) → Fit (statement_elements t es) items → Takes g.Statement t es items
   statement_takes skip es items h = takes g.Statement 0 (past h.2 (ap kind_of h.3.0) (done h.4)) (λ P made. ((Some h.0, tt), refl, made))
@@ -73,7 +71,7 @@ mutual
       (λ P made. ((Some h.0, (b, (bs, tt))), ap (λ z. cobegin z b bs) (sym h.3.1), made))
 
   pub conditions_takes : (t : Conditions) (es : List Element) (items : Items) → Fit (conditions_elements t es) items → Takes g.Conditions t es items
-  conditions_takes (conditions c cs) es items h = takes_parts g.Conditions 0 (condition_takes c (else_elements cs es) items h) (else_takes cs es)
+  conditions_takes (conditions c cs) es items h = takes_parts g.Conditions 0 (condition_takes c _ items h) (else_takes cs es)
       (λ P made. ((c, (cs, tt)), refl, made))
 
   pub condition_takes : (t : Condition) (es : List Element) (items : Items) → Fit (condition_elements t es) items → Takes g.Condition t es items
@@ -83,7 +81,7 @@ mutual
       (λ P made. ((e, (Some p1.fits.0, (l, tt))), ap (λ z. condition e z l) (sym p1.fits.3.1), made))
 
   pub else_takes : (t : Else) (es : List Element) (items : Items) → Fit (else_elements t es) items → Takes g.Else t es items
-  else_takes (next_else c cs) es items h = takes_behind g.Else 0 h.2 (ap kind_of h.3.0) (condition_takes c (else_elements cs es) h.1 h.4) (else_takes cs es)
+  else_takes (next_else c cs) es items h = takes_behind g.Else 0 h.2 (ap kind_of h.3.0) (condition_takes c _ h.1 h.4) (else_takes cs es)
       (λ P made. ((Some h.0, (c, (cs, tt))), refl, made))
   else_takes no_else es items h = takes g.Else 1 (done h) (λ P made. (tt, refl, made))
 
@@ -93,8 +91,7 @@ mutual
       (λ P made. ((c, (Some p1.fits.0, (l, tt))), ap (λ z. branch c z l) (sym p1.fits.3.1), made))
 
   pub branches_takes : (t : Branches) (es : List Element) (items : Items) → Fit (open_branches t es) items → Takes g.Branches t es items
-  branches_takes (next_branch line b bs) es items h = takes_behind g.Branches 0 h.2 (ap kind_of h.3.0) (branch_takes b (open_branches bs es) h.1 h.4)
-      (branches_takes bs es)
+  branches_takes (next_branch line b bs) es items h = takes_behind g.Branches 0 h.2 (ap kind_of h.3.0) (branch_takes b _ h.1 h.4) (branches_takes bs es)
       (λ P made. ((Some h.0, (b, (bs, tt))), ap (λ z. next_branch z b bs) (sym h.3.1), made))
   branches_takes (no_branch line) es items h =
       takes g.Branches 1 (past h.2 (ap kind_of h.3.0) (done h.4)) (λ P made. ((Some h.0, tt), ap (λ z. no_branch z) (sym h.3.1), made))
