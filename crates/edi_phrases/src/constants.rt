@@ -12,9 +12,10 @@ ghost use Rattle.edi_grammar.specs.Rules as g;
 ghost use Rattle.edi_derivation.specs.Parts.{code_elements};
 
 use crate::names::{eat_numeral, parse_name};
-use crate::stop::{Parsed, Stop, at, eat, expect, open};
+use crate::separated;
+use crate::stop::{Parsed, Stop, at, expect, open};
 use edi_lex::{Mark, Symbol};
-use edi_tree::{Char, ConstDecl, ConstDecls, ConstList, Constant, Sequence};
+use edi_tree::{Char, ConstDecl, ConstDecls, ConstList, Constant};
 use std::alloc::Global;
 
 /// The string of one character in front, and the marks behind it.
@@ -101,14 +102,12 @@ fn parse_const_decls<'a>(alloc: Global, marks: &'a [Mark], level: u16) -> Parsed
     ensures halts { IfErr result (λ e. HaltsAt g.ConstDecls level marks.now e) }
     ensures shorter { IfOk result (λ r. length r.1.now ≤ length marks.now) }
 {
-    let mut decls = Vec::new(alloc);
-    let mut rest = marks;
-    while let Some((_, behind_semicolon)) = eat(rest, &Symbol::Semicolon) {
-        let (decl, behind) = parse_const_decl(alloc, behind_semicolon, level)?;
-        decls.push(decl)?;
-        rest = behind;
-    }
-    Ok((Sequence::from_vec(decls), rest))
+    separated!(
+        alloc,
+        marks,
+        Semicolon,
+        |behind| parse_const_decl(alloc, behind, level)
+    )
 }
 
 /// `"const" ConstDecl { ";" ConstDecl }`, and the marks behind it.

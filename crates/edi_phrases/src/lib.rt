@@ -4,6 +4,7 @@
 #![tactic(auto)]
 
 mod constants;
+mod macros;
 mod names;
 mod stop;
 mod types;

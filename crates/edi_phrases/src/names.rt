@@ -10,9 +10,10 @@ ghost use Rattle.edi_tree.specs.Levels.{group_elements, groups_elements, names_e
 ghost use Rattle.edi_grammar.specs.Kinds as kind;
 ghost use Rattle.edi_grammar.specs.Rules as g;
 
-use crate::stop::{Parsed, Stop, eat, expect};
-use edi_lex::{Mark, Symbol, Text};
-use edi_tree::{Group, Groups, Name, Names, Sequence};
+use crate::stop::{Parsed, expect};
+use crate::{separated, text_here};
+use edi_lex::{Mark, Symbol};
+use edi_tree::{Group, Groups, Name, Names};
 use std::alloc::Global;
 
 /// Whether a name is in front.
@@ -31,15 +32,7 @@ pub fn parse_name<'a>(alloc: Global, marks: &'a [Mark]) -> Parsed<'a, Name>
     ensures shorter { IfOk result (λ r. length r.1.now < length marks.now) }
     ensures none { IfErr result (λ e. Lacks kind.Name marks.now e) }
 {
-    let Some((first, rest)) = marks.split_first() else {
-        return Err(Stop::Fault(marks));
-    };
-    let Symbol::Name(text) = &first.symbol else {
-        return Err(Stop::Fault(marks));
-    };
-    let text = Text::from_slice(alloc, text.as_slice())?;
-    let line = first.line;
-    Ok((Name { text, line }, rest))
+    text_here!(alloc, marks, Name)
 }
 
 /// The numeral in front, and the marks behind it.
@@ -61,14 +54,7 @@ pub fn parse_names<'a>(alloc: Global, marks: &'a [Mark], level: u16) -> Parsed<'
     ensures halts { IfErr result (λ e. HaltsAt g.Names level marks.now e) }
     ensures shorter { IfOk result (λ r. length r.1.now ≤ length marks.now) }
 {
-    let mut names = Vec::new(alloc);
-    let mut rest = marks;
-    while let Some((_, behind_comma)) = eat(rest, &Symbol::Comma) {
-        let (name, behind) = parse_name(alloc, behind_comma)?;
-        names.push(name)?;
-        rest = behind;
-    }
-    Ok((Sequence::from_vec(names), rest))
+    separated!(alloc, marks, Comma, |behind| parse_name(alloc, behind))
 }
 
 /// `Name { "," Name } ":" Name`, and the marks behind it.
@@ -97,12 +83,10 @@ pub fn parse_groups<'a>(alloc: Global, marks: &'a [Mark], level: u16) -> Parsed<
     ensures halts { IfErr result (λ e. HaltsAt g.Groups level marks.now e) }
     ensures shorter { IfOk result (λ r. length r.1.now ≤ length marks.now) }
 {
-    let mut groups = Vec::new(alloc);
-    let mut rest = marks;
-    while let Some((_, behind_semicolon)) = eat(rest, &Symbol::Semicolon) {
-        let (group, behind) = parse_group(alloc, behind_semicolon, level)?;
-        groups.push(group)?;
-        rest = behind;
-    }
-    Ok((Sequence::from_vec(groups), rest))
+    separated!(
+        alloc,
+        marks,
+        Semicolon,
+        |behind| parse_group(alloc, behind, level)
+    )
 }

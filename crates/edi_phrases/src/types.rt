@@ -9,9 +9,10 @@ ghost use Rattle.edi_grammar.specs.Kinds as kind;
 ghost use Rattle.edi_grammar.specs.Rules as g;
 ghost use Rattle.edi_grammar.specs.Edison as sets;
 
+use crate::by_front;
 use crate::constants::parse_constant;
 use crate::names::{parse_group, parse_groups, parse_name, parse_names};
-use crate::stop::{Parsed, Stop, at, expect, open};
+use crate::stop::{Parsed, Stop, expect, open};
 use edi_lex::{Mark, Symbol};
 use edi_tree::{Array, Enum, Name, Record, Set, TypeDecl, VarList};
 use std::alloc::Global;
@@ -145,16 +146,13 @@ pub fn parse_type_decl<'a>(alloc: Global, marks: &'a [Mark], level: u16) -> Pars
     ensures halts { IfErr result (λ e. HaltsAt g.TypeDecl level marks.now e) }
     ensures shorter { IfOk result (λ r. length r.1.now < length marks.now) }
 {
-    if at(marks, &Symbol::Enum) {
-        return parse_enum(alloc, marks, level);
-    }
-    if at(marks, &Symbol::Record) {
-        return parse_record(alloc, marks, level);
-    }
-    if at(marks, &Symbol::Array) {
-        return parse_array(alloc, marks, level);
-    }
-    parse_set(alloc, marks, level)
+    by_front!(
+        alloc, marks, level,
+        Enum => parse_enum,
+        Record => parse_record,
+        Array => parse_array,
+        _ => parse_set
+    )
 }
 
 /// `"var" Group { ";" Group }`, and the marks behind it.

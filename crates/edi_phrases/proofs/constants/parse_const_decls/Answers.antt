@@ -10,18 +10,18 @@ use Rattle.edi_phrases.proofs.Moves.{at_exit, into, written}
 use Rattle.edi_phrases.proofs.Pushes.{separated, separated_halts}
 use Rattle.edi_phrases.proofs.constants.parse_const_decls.Goals as goal
 
-pub returns-in_err-decl-clause-halts : goal.returns-in_err-decl-clause-halts
-returns-in_err-decl-clause-halts c = at_exit _ c.from_residual.ensures.1 (separated_halts g.ConstDecls g.ConstDecl is.Semicolon refl refl
-    c.loop-behind_semicolon.invariant.goes c.in-Some.ensures.found c.in_err-decl.ensures.halts)
+pub returns-in_err-item-clause-halts : goal.returns-in_err-item-clause-halts
+returns-in_err-item-clause-halts c = at_exit _ c.from_residual.ensures.1 (separated_halts g.ConstDecls g.ConstDecl is.Semicolon refl refl
+    c.loop-behind.invariant.goes c.in-Some.ensures.found c.in_err-item.ensures.halts)
 
-pub loop-behind_semicolon-preserved : goal.loop-behind_semicolon-preserved
-loop-behind_semicolon-preserved c = record {
+pub loop-behind-preserved : goal.loop-behind-preserved
+loop-behind-preserved c = record {
   goes = separated g.ConstDecls g.ConstDecl is.Semicolon elements.const_decl_elements (λ l. elements.const_decls_elements (view.const_decls l)) (λ es. refl) (λ x l es. refl) refl refl
-      c.loop-behind_semicolon.decls.items c.push.new.self.items c.in_ok-decl.decl (search rules) c.loop-behind_semicolon.invariant.goes c.in-Some.ensures.found
-      c.in_ok-decl.ensures.passes;
-  shorter = omega (arith, c.loop-behind_semicolon.invariant.shorter, c.in-Some.ensures.shorter, c.in_ok-decl.ensures.shorter);
+      c.loop-behind.items.items c.push.new.self.items c.in_ok-item.item (search rules) c.loop-behind.invariant.goes c.in-Some.ensures.found
+      c.in_ok-item.ensures.passes;
+  shorter = omega (arith, c.loop-behind.invariant.shorter, c.in-Some.ensures.shorter, c.in_ok-item.ensures.shorter);
 }
 
 pub returns-clause-passes : goal.returns-clause-passes
-returns-clause-passes c = written (into ([]) (c.loop-behind_semicolon.invariant.goes) (rw (ne_eqb (front _) kind.Semicolon c.in_default.ensures.none) refl))
+returns-clause-passes c = written (into ([]) (c.loop-behind.invariant.goes) (rw (ne_eqb (front _) kind.Semicolon c.in_default.ensures.none) refl))
     (λ es. ap (λ l. elements.const_decls_elements (view.const_decls l) es) (sym c.from_vec.ensures.exact))

@@ -5,8 +5,8 @@ use Rattle.edi_grammar.specs.Rules as g
 use Rattle.edi_phrases.proofs.Pushes.{Repeats}
 use Rattle.edi_phrases.proofs.names.parse_groups.Given as goal
 
-abbrev pub invariant-loop-behind_semicolon : goal.invariant-loop-behind_semicolon
-invariant-loop-behind_semicolon l = Repeats g.Groups l.fn.level (groups_elements (groups (map group_of l.groups.items))) l.marks l.rest
+abbrev pub invariant-loop-behind : goal.invariant-loop-behind
+invariant-loop-behind l = Repeats g.Groups l.fn.level (groups_elements (groups (map group_of l.items.items))) l.marks l.rest
 
-abbrev pub decreases-loop-behind_semicolon : goal.decreases-loop-behind_semicolon
-decreases-loop-behind_semicolon l = length l.rest
+abbrev pub decreases-loop-behind : goal.decreases-loop-behind
+decreases-loop-behind l = length l.rest

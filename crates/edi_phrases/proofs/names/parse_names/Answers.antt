@@ -19,20 +19,20 @@ use Rattle.edi_phrases.proofs.names.parse_names.Goals as goal
 names_comma : rule_at edison g.Names kind.Comma ≡ Some (token kind.Comma ∷ token kind.Name ∷ part g.Names ∷ [])
 names_comma = refl
 
-pub returns-in_err-name-clause-halts : goal.returns-in_err-name-clause-halts
-returns-in_err-name-clause-halts c = at_exit _ c.from_residual.ensures.1 (lacks (over_front g.Names is.Comma (just is.Comma) names_comma refl (refl, tt)
-    c.loop-behind_comma.invariant.goes c.in-Some.ensures.found) c.in_err-name.ensures.none)
+pub returns-in_err-item-clause-halts : goal.returns-in_err-item-clause-halts
+returns-in_err-item-clause-halts c = at_exit _ c.from_residual.ensures.1 (lacks (over_front g.Names is.Comma (just is.Comma) names_comma refl (refl, tt)
+    c.loop-behind.invariant.goes c.in-Some.ensures.found) c.in_err-item.ensures.none)
 
-pub loop-behind_comma-preserved : goal.loop-behind_comma-preserved
-loop-behind_comma-preserved c = record {
+pub loop-behind-preserved : goal.loop-behind-preserved
+loop-behind-preserved c = record {
   goes = written
-      (over_mark (name_mark c.in_ok-name.name) (at_line (is.Name c.in_ok-name.name.text) c.in_ok-name.name.line)
-      (over_front g.Names is.Comma (just is.Comma) names_comma refl (refl, tt) c.loop-behind_comma.invariant.goes c.in-Some.ensures.found) c.in_ok-name.ensures.found refl refl
+      (over_mark (name_mark c.in_ok-item.item) (at_line (is.Name c.in_ok-item.item.text) c.in_ok-item.item.line)
+      (over_front g.Names is.Comma (just is.Comma) names_comma refl (refl, tt) c.loop-behind.invariant.goes c.in-Some.ensures.found) c.in_ok-item.ensures.found refl refl
       (refl, refl)) (one_more (λ x es. elements.word is.Comma ∷ elements.named x ∷ es) (λ l. elements.names_elements (view.names l)) (λ es. refl) (λ x l es. refl)
-      c.loop-behind_comma.names.items c.push.new.self.items c.in_ok-name.name (search rules));
-  shorter = omega (arith, c.loop-behind_comma.invariant.shorter, c.in-Some.ensures.shorter, c.in_ok-name.ensures.shorter);
+      c.loop-behind.items.items c.push.new.self.items c.in_ok-item.item (search rules));
+  shorter = omega (arith, c.loop-behind.invariant.shorter, c.in-Some.ensures.shorter, c.in_ok-item.ensures.shorter);
 }
 
 pub returns-clause-passes : goal.returns-clause-passes
-returns-clause-passes c = written (into ([]) (c.loop-behind_comma.invariant.goes) (rw (ne_eqb (front _) kind.Comma c.in_default.ensures.none) refl))
+returns-clause-passes c = written (into ([]) (c.loop-behind.invariant.goes) (rw (ne_eqb (front _) kind.Comma c.in_default.ensures.none) refl))
     (λ es. ap (λ l. elements.names_elements (view.names l) es) (sym c.from_vec.ensures.exact))

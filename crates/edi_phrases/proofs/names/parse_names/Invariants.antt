@@ -5,8 +5,8 @@ use Rattle.edi_grammar.specs.Rules as g
 use Rattle.edi_phrases.proofs.Pushes.{Repeats}
 use Rattle.edi_phrases.proofs.names.parse_names.Given as goal
 
-abbrev pub invariant-loop-behind_comma : goal.invariant-loop-behind_comma
-invariant-loop-behind_comma l = Repeats g.Names l.fn.level (names_elements (names l.names.items)) l.marks l.rest
+abbrev pub invariant-loop-behind : goal.invariant-loop-behind
+invariant-loop-behind l = Repeats g.Names l.fn.level (names_elements (names l.items.items)) l.marks l.rest
 
-abbrev pub decreases-loop-behind_comma : goal.decreases-loop-behind_comma
-decreases-loop-behind_comma l = length l.rest
+abbrev pub decreases-loop-behind : goal.decreases-loop-behind
+decreases-loop-behind l = length l.rest

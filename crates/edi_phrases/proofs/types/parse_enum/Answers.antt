@@ -1,21 +1,14 @@
-use Rattle.std.proofs.Common.{List, [], ◌∷◌, refl, arith}
+use Rattle.std.proofs.Common.{refl, arith}
 use Rattle.edi_lex.specs.declared.symbol.Symbol.TheVariants as is
 use Rattle.edi_tree.specs.Spelled.{just, name_mark}
-use Rattle.edi_grammar.specs.Grammar as item
-use Rattle.edi_grammar.specs.Grammar.{Part, token, part}
-use Rattle.edi_grammar.specs.Kinds as kind
 use Rattle.edi_grammar.specs.Rules as g
-use Rattle.edi_grammar.specs.Rules.{Sort}
 use Rattle.edi_phrases.specs.Words.{at_line}
 use Rattle.edi_phrases.proofs.Moves.{at_exit, over_mark, over_end, over_part, lacks, halts}
 use Rattle.edi_phrases.proofs.Heads.{decl_rule, within}
 use Rattle.edi_phrases.proofs.types.parse_enum.Goals as goal
 
-abbrev inner : List (Part Sort)
-inner = token kind.Name ∷ part g.Names ∷ token kind.Close ∷ item.level_end ∷ []
-
 pub returns-in_err-name-clause-halts : goal.returns-in_err-name-clause-halts
-returns-in_err-name-clause-halts c = at_exit _ c.from_residual.ensures.1 (c.in_err-name.ensures.halts.at g.TypeDecl inner (decl_rule _ c.requires.chosen)
+returns-in_err-name-clause-halts c = at_exit _ c.from_residual.ensures.1 (c.in_err-name.ensures.halts.at g.TypeDecl _ (decl_rule _ c.requires.chosen)
     (omega arith))
 
 pub returns-in_err-first-clause-halts : goal.returns-in_err-first-clause-halts
