@@ -1,6 +1,7 @@
-use Rattle.std.proofs.Common.{rules, ◌∷◌, ◌∙◌, [], map, ap, refl, sym, arith, ◌≡◌, Some}
+use Rattle.std.proofs.Common.{rules, ℕ, List, ◌∷◌, ◌∙◌, ◌<◌, [], map, ap, refl, sym, arith, ◌≡◌, Some}
 use Rattle.std.proofs.lemmas.Bool.{ne_eqb, eqb-true}
 use Rattle.edi_lex.specs.declared.symbol.Symbol.TheVariants as is
+use Rattle.edi_lex.specs.declared.symbol.Mark.{Mark}
 use Rattle.edi_tree.specs.Spelled.{just, name_mark}
 use Rattle.edi_tree.specs.Levels as elements
 use Rattle.edi_tree.specs.View as view
@@ -12,6 +13,7 @@ use Rattle.edi_grammar.specs.Kind.{front}
 use Rattle.edi_grammar.specs.Rules as g
 use Rattle.edi_grammar.specs.Edison.{edison}
 use Rattle.edi_phrases.specs.Words.{at_line}
+use Rattle.edi_phrases.specs.Parses.{Goes}
 use Rattle.edi_phrases.proofs.Moves.{at_exit, waits, over_mark, over_end, over_part, into, written, lacks, refused, halts, alone_halts, alone_passes}
 use Rattle.edi_phrases.proofs.Opened.{over_front, open_front}
 use Rattle.edi_headings.proofs.Pushes as push
@@ -32,6 +34,11 @@ moreparams_semicolon = refl
 
 head_name : rule_at edison g.Head kind.Name ≡ Some (token kind.Name ∷ part g.Params ∷ part g.Result ∷ [])
 head_name = refl
+
+-- over the `(` of some parameters
+some_opened : {n line : ℕ} {p q : List Mark} → p ≡ at_line is.Open line ∷ q → n < 64
+    → Goes g.Params n (λ es. elements.word is.Open ∷ es) (part g.Param ∷ part g.MoreParams ∷ token kind.Close ∷ item.level_end ∷ []) p q
+some_opened found room = open_front g.Params is.Open (just is.Open) params_open (omega (arith, room)) (refl, tt) (waits g.Params _ _) found
 
 pub parse_param-returns-in_err-group-clause-halts : goal.parse_param-returns-in_err-group-clause-halts
 parse_param-returns-in_err-group-clause-halts t c = at_exit _ c.from_residual.ensures.1 (halts (over_front g.Param is.Var (just is.Var) param_var refl
@@ -72,16 +79,13 @@ parse_some_params-returns-in_err-behind_open-clause-halts t c = at_exit _ c.from
 
 pub parse_some_params-returns-in_err-first-clause-halts : goal.parse_some_params-returns-in_err-first-clause-halts
 parse_some_params-returns-in_err-first-clause-halts t c = at_exit _ c.from_residual-in_err-first.ensures.1
-    (halts (open_front g.Params is.Open (just is.Open) params_open (omega (arith, c.in_ok-behind_open.ensures.room)) (refl, tt) (waits g.Params _ _)
-    c.in_ok-behind_open.ensures.found) (omega arith) c.in_err-first.ensures.halts)
+    (halts (some_opened c.in_ok-behind_open.ensures.found c.in_ok-behind_open.ensures.room) (omega arith) c.in_err-first.ensures.halts)
 
 pub parse_some_params-loop-behind_semicolon-init : goal.parse_some_params-loop-behind_semicolon-init
 parse_some_params-loop-behind_semicolon-init t c =
     record {
       some = search rules;
-      goes = written
-          (over_part (open_front g.Params is.Open (just is.Open) params_open (omega (arith, c.in_ok-behind_open.ensures.room)) (refl, tt) (waits g.Params _ _)
-          c.in_ok-behind_open.ensures.found) c.in_ok-first.ensures.passes (omega arith))
+      goes = written (over_part (some_opened c.in_ok-behind_open.ensures.found c.in_ok-behind_open.ensures.room) c.in_ok-first.ensures.passes (omega arith))
           (push.open_params_first view.param_of c.push.new.self.items c.in_ok-first.first (search rules));
       shorter = search rules;
     }
