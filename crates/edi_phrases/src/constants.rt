@@ -102,12 +102,7 @@ fn parse_const_decls<'a>(alloc: Global, marks: &'a [Mark], level: u16) -> Parsed
     ensures halts { IfErr result (λ e. HaltsAt g.ConstDecls level marks.now e) }
     ensures shorter { IfOk result (λ r. length r.1.now ≤ length marks.now) }
 {
-    separated!(
-        alloc,
-        marks,
-        Semicolon,
-        |behind| parse_const_decl(alloc, behind, level)
-    )
+    separated!(alloc, marks, Semicolon => |behind| parse_const_decl(alloc, behind, level))
 }
 
 /// `"const" ConstDecl { ";" ConstDecl }`, and the marks behind it.

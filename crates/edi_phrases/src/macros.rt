@@ -4,7 +4,7 @@
 /// none is there the function stops. The list is in this memory.
 #[macro_export]
 macro_rules! separated {
-    ($alloc:expr, $marks:expr, $separator:ident, |$behind:ident| $read:expr) => {{
+    ($alloc:expr, $marks:expr, $separator:ident => |$behind:ident| $read:expr) => {{
         let mut items = Vec::new($alloc);
         let mut rest = $marks;
         while let Some((_, $behind)) = $crate::eat(rest, &edi_lex::Symbol::$separator) {

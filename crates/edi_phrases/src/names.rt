@@ -54,7 +54,7 @@ pub fn parse_names<'a>(alloc: Global, marks: &'a [Mark], level: u16) -> Parsed<'
     ensures halts { IfErr result (λ e. HaltsAt g.Names level marks.now e) }
     ensures shorter { IfOk result (λ r. length r.1.now ≤ length marks.now) }
 {
-    separated!(alloc, marks, Comma, |behind| parse_name(alloc, behind))
+    separated!(alloc, marks, Comma => |behind| parse_name(alloc, behind))
 }
 
 /// `Name { "," Name } ":" Name`, and the marks behind it.
@@ -83,10 +83,5 @@ pub fn parse_groups<'a>(alloc: Global, marks: &'a [Mark], level: u16) -> Parsed<
     ensures halts { IfErr result (λ e. HaltsAt g.Groups level marks.now e) }
     ensures shorter { IfOk result (λ r. length r.1.now ≤ length marks.now) }
 {
-    separated!(
-        alloc,
-        marks,
-        Semicolon,
-        |behind| parse_group(alloc, behind, level)
-    )
+    separated!(alloc, marks, Semicolon => |behind| parse_group(alloc, behind, level))
 }

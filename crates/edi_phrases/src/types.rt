@@ -146,13 +146,7 @@ pub fn parse_type_decl<'a>(alloc: Global, marks: &'a [Mark], level: u16) -> Pars
     ensures halts { IfErr result (λ e. HaltsAt g.TypeDecl level marks.now e) }
     ensures shorter { IfOk result (λ r. length r.1.now < length marks.now) }
 {
-    by_front!(
-        alloc, marks, level,
-        Enum => parse_enum,
-        Record => parse_record,
-        Array => parse_array,
-        _ => parse_set
-    )
+    by_front!(alloc, marks, level, Enum => parse_enum, Record => parse_record, Array => parse_array, _ => parse_set)
 }
 
 /// `"var" Group { ";" Group }`, and the marks behind it.
